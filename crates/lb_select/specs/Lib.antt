@@ -1,0 +1,6 @@
+pub mod Backends
+pub mod Draws
+pub mod Identity
+pub mod Refusals
+pub mod Seen
+pub mod Walks
