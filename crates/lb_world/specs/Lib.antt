@@ -1,0 +1,4 @@
+pub mod Answers
+pub mod History
+pub mod Meanings
+pub mod Selecting
