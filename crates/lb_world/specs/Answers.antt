@@ -11,8 +11,8 @@ use Rattle.lb_select.specs.declared.refusal.Refusal.TheVariants as refusal
 use Rattle.lb_world.specs.Selecting.{SelectsServed}
 use Rattle.lb_world.specs.History.{History, Made, Entered, SlotEvent, names, present, made, config, registries, gates, groups, generations, newest_of, members_of, newest, members, events, served, flight, ready, retired, entries, readers_in, extras}
 use Rattle.lb_world.specs.Meanings.{Meaning}
-use Rattle.lb_world.specs.declared.step.Step.{Step}
-use Rattle.lb_world.specs.declared.step.Step.TheVariants as step
+use Rattle.lb_world.specs.Steps.{StepView}
+use Rattle.lb_world.specs.Steps as step
 use Rattle.lb_world.specs.declared.answer.Answer.{Answer}
 use Rattle.lb_world.specs.declared.answer.Answer.TheVariants as answer
 
@@ -99,8 +99,8 @@ pub record Selection : Type 0 where
   pub words : List ℕ
 
 module _ {C : Type 0} where
-  abbrev pub selection : Step C → Option Selection
-  selection (step.Select group slot key limit words) = Some (record { key = key.items; limit = limit; words = words.items })
+  abbrev pub selection : StepView C → Option Selection
+  selection (step.select group slot key limit words) = Some (record { key = key; limit = limit; words = words })
   selection st = None
 
   -- how many slots a group has
@@ -110,31 +110,31 @@ module _ {C : Type 0} where
 
 module _ {C : Type 0} (meaning : Meaning C) where
   -- the right answer to a step that is no selection
-  abbrev pub answer_after : History C → Step C → Answer
-  answer_after h (step.Registry key) = answer.Registry (registries h)
-  answer_after h step.Gate = answer.Gate (gates h)
-  answer_after h (step.Group registry gate configs) =
+  abbrev pub answer_after : History C → StepView C → Answer
+  answer_after h (step.registry key) = answer.Registry (registries h)
+  answer_after h step.gate = answer.Gate (gates h)
+  answer_after h (step.group registry gate configs) =
       unless_refused
-      (earlier (no_such (nat_lt registry (registries h) && nat_lt gate (gates h))) (least (map (meaning.refusal []) configs.items)))
+      (earlier (no_such (nat_lt registry (registries h) && nat_lt gate (gates h))) (least (map (meaning.refusal []) configs)))
       (answer.Group (groups h))
-  answer_after h (step.Update group now backends) =
-      if has_refused backends.items then refuse refusal.InvalidAddress
+  answer_after h (step.update group now backends) =
+      if has_refused backends then refuse refusal.InvalidAddress
       else group_update (made group h)
-          (update_answer (newest group h) (same_members (present backends.items) (members group (newest group h) h)))
-  answer_after h (step.Ask group slot now) =
+          (update_answer (newest group h) (same_members (present backends) (members group (newest group h) h)))
+  answer_after h (step.ask group slot now) =
       at_slot (config group slot h)
       (λ c. ask_answer (flight (events group slot h)) (served (events group slot h)) (newest group h) (extras (gate_number (made group h)) h))
-  answer_after h (step.Build group slot now) =
+  answer_after h (step.build group slot now) =
       at_slot (config group slot h)
       (λ c. build_answer (flight (events group slot h)) (ready (events group slot h)) (λ n. meaning.refusal (members group n h) c))
-  answer_after h (step.Publish group slot) = at_slot (config group slot h) (λ c. publish_answer (ready (events group slot h)))
-  answer_after h (step.Enter group slot) =
+  answer_after h (step.publish group slot) = at_slot (config group slot h) (λ c. publish_answer (ready (events group slot h)))
+  answer_after h (step.enter group slot) =
       at_slot (config group slot h)
       (λ c. enter_answer (readers_in group slot (served (events group slot h)) h) (length (entries h)))
-  answer_after h (step.Leave reader) = leave_answer (slice_get (entries h) reader)
-  answer_after h (step.Destroy group slot) =
+  answer_after h (step.leave reader) = leave_answer (slice_get (entries h) reader)
+  answer_after h (step.destroy group slot) =
       at_slot (config group slot h) (λ c. destroy_answer (retired (events group slot h)) (λ n. readers_in group slot n h))
-  answer_after h (step.Select group slot key limit words) = answer.NoBackend
+  answer_after h (step.select group slot key limit words) = answer.NoBackend
 
   -- what comes in its place where memory is refused: nothing else, where the step takes none
   abbrev pub without_memory : Answer → Answer
@@ -159,7 +159,7 @@ module _ {C : Type 0} (meaning : Meaning C) where
       MatchOption (config g s h) (u ≡ t) (λ c. Selected (members g (served (events g s h)) h) c sel t a u)
 
   -- how far a step moved the counter of what a slot serves: a publication brings a new one at 0, a selection draws
-  abbrev pub Moved : ℕ → ℕ → History C → Step C → Answer → ℕ → ℕ → Type 0
+  abbrev pub Moved : ℕ → ℕ → History C → StepView C → Answer → ℕ → ℕ → Type 0
   Moved g s h st (answer.Published n) t u = u ≡ 0
   Moved g s h st a t u = MatchOption (selection st) (u ≡ t) (λ sel. SelectedAt g s h sel t a u)
 
@@ -176,9 +176,9 @@ module _ {C : Type 0} (meaning : Meaning C) where
           (λ c. (t : ℕ) × (u : ℕ) × HasDrawn g s h t × Selected (members g (served (events g s h)) h) c sel t a u))
 
   -- a is a right answer to the step after this history
-  abbrev pub Answers : History C → Step C → Answer → Type 0
-  Answers h (step.Select group slot key limit words) a =
-      SelectAnswers h group slot (record { key = key.items; limit = limit; words = words.items }) a
+  abbrev pub Answers : History C → StepView C → Answer → Type 0
+  Answers h (step.select group slot key limit words) a =
+      SelectAnswers h group slot (record { key = key; limit = limit; words = words }) a
   Answers h st a = (a ≡ answer_after h st) ⊎ (a ≡ without_memory (answer_after h st))
 
   -- every answer is right after what came before it

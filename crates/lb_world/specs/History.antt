@@ -3,14 +3,14 @@
 use Rattle.std.specs.Prelude.{ℕ, ◌+◌, ◌-◌, Bool, true, false, ◌&&◌, ◌==◌, List, [], ◌∷◌, ◌++◌, Option, Some, None, if◌then◌else◌, slice_get, slice_set, count_by, filter_map}
 use Rattle.lb_select.specs.Backends.{Member}
 use Rattle.lb_select.specs.Memberships.{set_of}
-use Rattle.lb_world.specs.declared.step.Step.{Step}
-use Rattle.lb_world.specs.declared.step.Step.TheVariants as step
+use Rattle.lb_world.specs.Steps.{StepView}
+use Rattle.lb_world.specs.Steps as step
 use Rattle.lb_world.specs.declared.answer.Answer.{Answer}
 use Rattle.lb_world.specs.declared.answer.Answer.TheVariants as answer
 
 -- steps with their answers, the last first
 abbrev pub History : Type 0 → Type 0
-History C = List (Step C × Answer)
+History C = List (StepView C × Answer)
 
 -- what a group was made with
 pub record Made (C : Type 0) : Type 0 where
@@ -38,53 +38,53 @@ present backends = filter_map (λ b. b) backends
 
 module _ {C : Type 0} where
   -- whether a step is at that slot of that group
-  abbrev pub names : ℕ → ℕ → Step C → Bool
-  names g s (step.Ask group slot now) = group == g && slot == s
-  names g s (step.Build group slot now) = group == g && slot == s
-  names g s (step.Publish group slot) = group == g && slot == s
-  names g s (step.Enter group slot) = group == g && slot == s
-  names g s (step.Destroy group slot) = group == g && slot == s
-  names g s (step.Select group slot key limit words) = group == g && slot == s
+  abbrev pub names : ℕ → ℕ → StepView C → Bool
+  names g s (step.ask group slot now) = group == g && slot == s
+  names g s (step.build group slot now) = group == g && slot == s
+  names g s (step.publish group slot) = group == g && slot == s
+  names g s (step.enter group slot) = group == g && slot == s
+  names g s (step.destroy group slot) = group == g && slot == s
+  names g s (step.select group slot key limit words) = group == g && slot == s
   names g s st = false
 
   -- the group of a step at a slot
-  abbrev pub group_in : Step C → ℕ
-  group_in (step.Ask group slot now) = group
-  group_in (step.Build group slot now) = group
-  group_in (step.Publish group slot) = group
-  group_in (step.Enter group slot) = group
-  group_in (step.Destroy group slot) = group
-  group_in (step.Select group slot key limit words) = group
+  abbrev pub group_in : StepView C → ℕ
+  group_in (step.ask group slot now) = group
+  group_in (step.build group slot now) = group
+  group_in (step.publish group slot) = group
+  group_in (step.enter group slot) = group
+  group_in (step.destroy group slot) = group
+  group_in (step.select group slot key limit words) = group
   group_in st = 0
 
   -- the slot of a step at a slot
-  abbrev pub slot_in : Step C → ℕ
-  slot_in (step.Ask group slot now) = slot
-  slot_in (step.Build group slot now) = slot
-  slot_in (step.Publish group slot) = slot
-  slot_in (step.Enter group slot) = slot
-  slot_in (step.Destroy group slot) = slot
-  slot_in (step.Select group slot key limit words) = slot
+  abbrev pub slot_in : StepView C → ℕ
+  slot_in (step.ask group slot now) = slot
+  slot_in (step.build group slot now) = slot
+  slot_in (step.publish group slot) = slot
+  slot_in (step.enter group slot) = slot
+  slot_in (step.destroy group slot) = slot
+  slot_in (step.select group slot key limit words) = slot
   slot_in st = 0
 
   -- the reader that a step lets leave
-  abbrev pub reader_in : Step C → ℕ
-  reader_in (step.Leave reader) = reader
+  abbrev pub reader_in : StepView C → ℕ
+  reader_in (step.leave reader) = reader
   reader_in st = 0
 
   -- whether a step updates that group
-  abbrev pub updates : ℕ → Step C → Bool
-  updates g (step.Update group now backends) = group == g
+  abbrev pub updates : ℕ → StepView C → Bool
+  updates g (step.update group now backends) = group == g
   updates g st = false
 
   -- the backends that an update lists
-  abbrev pub listed : Step C → List Member
-  listed (step.Update group now backends) = present backends.items
+  abbrev pub listed : StepView C → List Member
+  listed (step.update group now backends) = present backends
   listed st = []
 
   -- what a step makes a group with
-  abbrev pub made_by : Step C → Option (Made C)
-  made_by (step.Group registry gate configs) = Some (record { registry = registry; gate = gate; configs = configs.items })
+  abbrev pub made_by : StepView C → Option (Made C)
+  made_by (step.group registry gate configs) = Some (record { registry = registry; gate = gate; configs = configs })
   made_by st = None
 
 -- what an answer at a slot says that happened there

@@ -2,3 +2,4 @@ pub mod Answers
 pub mod History
 pub mod Meanings
 pub mod Selecting
+pub mod Steps
