@@ -1,6 +1,10 @@
 pub mod Backends
 pub mod Draws
+pub mod Expanded
+pub mod Fnv
 pub mod Identity
 pub mod Refusals
 pub mod Seen
+pub mod WalkLaws
 pub mod Walks
+pub mod Weights
