@@ -44,7 +44,7 @@ pub Each-words :
     → ((key : List ℕ) (ds : List Draw) (w : ℕ) → gives_word key ds w → Each P ds)
     → (key : List ℕ) (words : List ℕ) (draws : List Draw) → Words gives_word key words draws → Each P draws
 Each-words gives_word P each key [] draws h = none_drawn P draws h
-Each-words gives_word P each key (word ∷ words) draws (now, (later, (whole, (gave, rest)))) =
+Each-words gives_word P each key (word ∷ words) draws (now, later, whole, gave, rest) =
     let Q : List Draw → Type 0 = λ x. Each P x in
     subst Q (sym whole) (Each-append P now later (each key now word gave) (Each-words gives_word P each (to_le_bytes w64 word) words later rest))
 
@@ -54,9 +54,14 @@ words_drawn :
     → ((key : List ℕ) (ds : List Draw) (w : ℕ) → gives_word key ds w → words_in ds ≤ 1)
     → (key : List ℕ) (words : List ℕ) (draws : List Draw) → Words gives_word key words draws → words_in draws ≤ length words
 words_drawn gives_word one key [] draws h = omega (arith, ap words_in h)
-words_drawn gives_word one key (word ∷ words) draws (now, (later, (whole, (gave, rest)))) =
-    omega (arith, ap words_in whole, words_in-append now later, one key now word gave,
-      words_drawn gives_word one (to_le_bytes w64 word) words later rest)
+words_drawn gives_word one key (word ∷ words) draws (now, later, whole, gave, rest) =
+    omega (
+      arith,
+      ap words_in whole,
+      words_in-append now later,
+      one key now word gave,
+      words_drawn gives_word one (to_le_bytes w64 word) words later rest,
+    )
 
 -- the words of a walk are as many as its candidates, and one where there are none
 words_counted :

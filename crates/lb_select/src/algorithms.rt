@@ -11,6 +11,7 @@ use crate::words::WordSource;
 
 // the parameters of FNV-1a for 64 bits
 const OFFSET_BASIS: u64 = 0xcbf29ce484222325;
+
 const PRIME: u64 = 0x100000001b3;
 
 /// The key's hash by FNV-1a of 64 bits. Nothing is drawn, so a key always has the same words.
@@ -29,8 +30,10 @@ pub struct Random;
 fn fnv_of(key: &[u8]) -> u64
     ensures { result ≡ fnv key.now }
 {
-    key.iter()
-        .fold(OFFSET_BASIS, |hash, byte| (hash ^ u64::from(*byte)).wrapping_mul(PRIME))
+    key.iter().fold(
+        OFFSET_BASIS,
+        |hash, byte| (hash ^ u64::from(*byte)).wrapping_mul(PRIME),
+    )
 }
 
 impl SelectionAlgorithm for FnvHasher {

@@ -5,6 +5,7 @@
 pub mod algorithms;
 pub mod backend;
 pub mod refusal;
+pub mod selection;
 pub mod walk;
 pub mod weighted;
 pub mod words;
