@@ -1,2 +1,3 @@
 pub mod Clones
+pub mod Shares
 pub mod WeightLemmas

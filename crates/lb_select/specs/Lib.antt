@@ -5,6 +5,7 @@ pub mod Fnv
 pub mod Identity
 pub mod Refusals
 pub mod Seen
+pub mod Shares
 pub mod WalkLaws
 pub mod Walks
 pub mod Weights

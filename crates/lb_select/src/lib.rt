@@ -4,6 +4,7 @@
 
 pub mod algorithms;
 pub mod backend;
+pub mod fairness;
 pub mod refusal;
 pub mod selection;
 pub mod walk;
