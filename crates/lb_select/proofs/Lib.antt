@@ -1,1 +1,3 @@
 pub mod Clones
+pub mod Shares
+pub mod WeightLemmas
