@@ -1,3 +1,4 @@
+pub mod AddressTexts
 pub mod Clones
 pub mod Shares
 pub mod WeightLemmas

@@ -3,6 +3,7 @@
 #![tactic(auto)]
 
 pub mod algorithms;
+mod address;
 pub mod backend;
 pub mod fairness;
 pub mod refusal;
