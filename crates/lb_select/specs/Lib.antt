@@ -3,4 +3,5 @@ pub mod Draws
 pub mod Identity
 pub mod Refusals
 pub mod Seen
+pub mod Unique
 pub mod Walks

@@ -4,5 +4,6 @@
 
 pub mod backend;
 pub mod refusal;
+pub mod unique;
 pub mod walk;
 pub mod words;
