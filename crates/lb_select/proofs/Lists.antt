@@ -33,7 +33,7 @@ module _ {B : Type 0} (same : B → B → Bool) where
   firsts-old before [] x old = let e : list_any (same x) before ≡ true = rw append-nil at old in rw e
   firsts-old before (y ∷ ys) x old =
       let step : firsts same (before ++ y ∷ []) (ys ++ x ∷ []) ≡ firsts same (before ++ y ∷ []) ys
-          = firsts-old (before ++ y ∷ []) ys x (rw append_assoc old) in
+      = firsts-old (before ++ y ∷ []) ys x (rw append_assoc old) in
       rw step
 
   -- and one that is new comes last
@@ -42,7 +42,7 @@ module _ {B : Type 0} (same : B → B → Bool) where
   firsts-new before [] x new = let e : list_any (same x) before ≡ false = rw append-nil at new in rw e
   firsts-new before (y ∷ ys) x new =
       let step : firsts same (before ++ y ∷ []) (ys ++ x ∷ []) ≡ firsts same (before ++ y ∷ []) ys ++ x ∷ []
-          = firsts-new (before ++ y ∷ []) ys x (rw append_assoc new) in
+      = firsts-new (before ++ y ∷ []) ys x (rw append_assoc new) in
       let b = list_any (same y) before in
       let f = firsts same (before ++ y ∷ []) ys in
       rw step (elim b as (λ v. (if v then f ++ x ∷ [] else y ∷ (f ++ x ∷ [])) ≡ (if v then f else y ∷ f) ++ x ∷ []) [ true ↦ refl | false ↦ refl ])
@@ -60,7 +60,7 @@ module _ {B : Type 0} (same : B → B → Bool) where
   distinct-repeats xs [] each = ap (distinct same) (append-nil xs)
   distinct-repeats xs (y ∷ ys) each =
       let kept = Each-weaker (λ z. list_any (same z) xs ≡ true) (λ z. list_any (same z) (xs ++ y ∷ []) ≡ true)
-          (λ (z : B) (h : list_any (same z) xs ≡ true). list_any-append (same z) xs (y ∷ []) ∙ or-true (list_any (same z) xs) _ h) ys each.1 in
+      (λ (z : B) (h : list_any (same z) xs ≡ true). list_any-append (same z) xs (y ∷ []) ∙ or-true (list_any (same z) xs) _ h) ys each.1 in
       ap (distinct same) (sym (append_assoc {A = B} xs (y ∷ []) ys)) ∙ distinct-repeats (xs ++ y ∷ []) ys kept ∙ distinct-old xs y each.0
 
   -- two of one kind are found among the same candidates
@@ -75,10 +75,10 @@ module _ {B : Type 0} (same : B → B → Bool) where
       → list_any (same q) (xs ++ y ∷ []) ≡ list_any (same q) xs
   any-repeat equiv xs y old q =
       let last : list_any (same q) (xs ++ y ∷ []) ≡ (list_any (same q) xs || list_any (same q) (y ∷ []))
-          = list_any-append (same q) xs (y ∷ []) in
+      = list_any-append (same q) xs (y ∷ []) in
       let found : same q y ≡ true → list_any (same q) xs ≡ true = λ e. any-same equiv q y e xs ∙ old in
       last ∙ elim (same q y) as (λ v. (v ≡ true → list_any (same q) xs ≡ true) → (list_any (same q) xs || (v || false)) ≡ list_any (same q) xs)
-          [ true ↦ (λ h. rw (h refl)) | false ↦ (λ h. elim (list_any (same q) xs) as (λ a. (a || false) ≡ a) [ true ↦ refl | false ↦ refl ]) ] found
+      [ true ↦ (λ h. rw (h refl)) | false ↦ (λ h. elim (list_any (same q) xs) as (λ a. (a || false) ≡ a) [ true ↦ refl | false ↦ refl ]) ] found
 
   -- and so do repeats
   pub any-repeats : IsEquivalence same → (xs ys : List B) → Each (λ y. list_any (same y) xs ≡ true) ys → (q : B)
@@ -86,5 +86,5 @@ module _ {B : Type 0} (same : B → B → Bool) where
   any-repeats equiv xs [] each q = ap (list_any (same q)) (append-nil xs)
   any-repeats equiv xs (y ∷ ys) each q =
       let kept = Each-weaker (λ z. list_any (same z) xs ≡ true) (λ z. list_any (same z) (xs ++ y ∷ []) ≡ true)
-          (λ (z : B) (h : list_any (same z) xs ≡ true). list_any-append (same z) xs (y ∷ []) ∙ or-true (list_any (same z) xs) _ h) ys each.1 in
+      (λ (z : B) (h : list_any (same z) xs ≡ true). list_any-append (same z) xs (y ∷ []) ∙ or-true (list_any (same z) xs) _ h) ys each.1 in
       ap (list_any (same q)) (sym (append_assoc {A = B} xs (y ∷ []) ys)) ∙ any-repeats equiv (xs ++ y ∷ []) ys kept q ∙ any-repeat equiv xs y each.0 q

@@ -1,5 +1,5 @@
 -- The unique walk: first occurrences among the first candidates, and what a turn of `get_next` does.
-use Rattle.std.specs.Prelude.{◌≡◌, ◌⊎◌, ℕ, ◌+◌, ◌<◌, ◌≤◌, Bool, true, List, [], ◌∷◌, ◌++◌, length, if◌then◌else◌, Option, Some, None, Result, Ok, Err}
+use Rattle.std.specs.Prelude.{◌≡◌, ◌⊎◌, ◌+◌, ◌<◌, ◌≤◌, Bool, true, List, [], ◌∷◌, ◌++◌, length, if◌then◌else◌, Option, Some, None, Result, Ok, Err}
 use Rattle.std.specs.List.{list_any}
 use Rattle.std.specs.BTreeSet.{contains}
 use Rattle.lb_select.specs.declared.refusal.Refusal.{Refusal}
@@ -39,14 +39,14 @@ abbrev pub Gave :
 Gave walk u n ds bs (Ok (Some b)) =
     Continues walk u.iter ds bs n.iter
     × ((skipped : List Member) × (bs ≡ skipped ++ b ∷ [])
-        × ((cs : List Member) → StandsAt u cs
-            → StandsAt n (cs ++ bs)
-            × (distinct same_member (cs ++ skipped) ≡ distinct same_member cs)
-            × (distinct same_member (cs ++ bs) ≡ distinct same_member cs ++ b ∷ [])))
+    × ((cs : List Member) → StandsAt u cs
+    → StandsAt n (cs ++ bs)
+    × (distinct same_member (cs ++ skipped) ≡ distinct same_member cs)
+    × (distinct same_member (cs ++ bs) ≡ distinct same_member cs ++ b ∷ [])))
 Gave walk u n ds bs (Ok None) =
     ((cs : List Member) → StandsAt u cs → StandsAt n (cs ++ bs) × (distinct same_member (cs ++ bs) ≡ distinct same_member cs))
     × ((walk u.iter ds bs true × walk n.iter [] [] true)
-        ⊎ ((n.max_iterations ≤ n.steps) × ((b : Member) × Continues walk u.iter ds (bs ++ b ∷ []) n.iter)))
+    ⊎ ((n.max_iterations ≤ n.steps) × ((b : Member) × Continues walk u.iter ds (bs ++ b ∷ []) n.iter)))
 Gave walk u n ds bs (Err e) =
     (e ≡ OutOfMemory)
     × (0 < length bs)
