@@ -11,11 +11,12 @@ use Rattle.std.proofs.lemmas.Cmp.{eq_by_cmp_equiv}
 use Rattle.std.proofs.lemmas.List.Folds.{list_any-append}
 use Rattle.lb_select.specs.declared.refusal.Refusal.{Refusal}
 use Rattle.lb_select.specs.declared.refusal.Refusal.TheVariants.{OutOfMemory}
+use Rattle.lb_select.specs.declared.unique.SeenBackends.{SeenBackends}
 use Rattle.lb_select.specs.declared.unique.UniqueIterator.{UniqueIterator}
 use Rattle.lb_select.specs.Backends.{Member, member_cmp, same_member}
 use Rattle.lb_select.specs.Draws.{Draw, Gives}
 use Rattle.lb_select.specs.Walks.{Continues, IsStep}
-use Rattle.lb_select.specs.Unique.{distinct, has_seen, StandsAt, IsTurn}
+use Rattle.lb_select.specs.Unique.{distinct, has_backend, has_seen, with_kept, StandsAt, IsTurn}
 use Rattle.lb_select.proofs.Lists.{append-nil, Each-push, Each-weaker, distinct-new, distinct-repeats, any-repeats}
 
 -- backends are in one order, so identity is an equivalence
@@ -57,6 +58,20 @@ seen_more s n b updates q =
     let back : same_member b q ≡ same_member q b = same_equiv.symm b q in
     rw (here, back) (elim (same_member q b) as (λ v. cond v true (contains member_cmp s q) ≡ (contains member_cmp s q || v))
     [ true ↦ sym (or-true-right (contains member_cmp s q)) | false ↦ sym (or-false (contains member_cmp s q)) ])
+
+-- the backend that came last goes into the set, and nothing else changes
+pub placed : (s : SeenBackends) (n : BTreeSet Member) (taken after : Option Member) (b : Member)
+    → taken ≡ s.last → taken ≡ Some b → after ≡ None → Updates member_cmp s.set n b true
+    → (q : Member) → has_backend (record { set = n; last = after }) q ≡ has_backend s q
+placed s n taken after b was is empty updates q =
+    let last : s.last ≡ Some b = sym was ∙ is in
+    let more : contains member_cmp n q ≡ (contains member_cmp s.set q || same_member q b) = seen_more s.set n b updates q in
+    rw (empty, last) (or-false (contains member_cmp n q) ∙ more)
+
+-- a backend that comes last, where no other does, is seen beside what was seen
+pub kept_more : (s : SeenBackends) (b : Member) → s.last ≡ None
+    → (q : Member) → has_backend (record s { last = Some b }) q ≡ (has_backend s q || same_member q b)
+kept_more s b place q = rw place (ap (λ v. v || same_member q b) (sym (or-false (contains member_cmp s.set q))))
 
 -- what is found in a list with one more at its end
 any-push : {B : Type 0} (p : B → Bool) (xs : List B) (x : B) → list_any p (xs ++ x ∷ []) ≡ (list_any p xs || p x)
@@ -186,44 +201,51 @@ module _ {I S : Type 0} (gives : S → Draw → S → Type 0) (walk : I → List
     );
   }
 
-  -- or at a new backend, which is then seen beside what was seen before
-  pub turn_found : {u : UniqueIterator I} {s : S} {n : UniqueIterator I} {t : S} (b : Member) (m : UniqueIterator I) (v : S)
-      → Turning u s n t → IsStep gives walk n.iter t (Some b) m.iter v → has_seen n b ≡ false → n.steps < n.max_iterations
-      → m.steps ≡ n.steps + 1 → m.max_iterations ≡ n.max_iterations → ((q : Member) → has_seen m q ≡ (has_seen n q || same_member q b))
-      → IsTurn gives walk u s (Ok (Some b)) m v
-  turn_found {u} {s} {n} {t} b m v p step new room counted limit more = record {
+  -- or at a new backend, which is then the one that came last
+  pub turn_found : {u : UniqueIterator I} {s : S} {n : UniqueIterator I} {t : S} (b : Member) (j : I) (seen : SeenBackends) (v : S)
+      → Turning u s n t → IsStep gives walk n.iter t (Some b) j v → has_seen n b ≡ false → n.steps < n.max_iterations
+      → ((q : Member) → has_backend seen q ≡ has_seen n q) → seen.last ≡ None
+      → IsTurn gives walk u s (Ok (Some b)) (with_kept (record n { iter = j; steps = n.steps + 1; seen = seen }) (Ok (Some b))) v
+  turn_found {u} {s} {n} {t} b j seen v p step new room same place = record {
     draws = p.draws ++ step.0;
     passed = p.passed ++ b ∷ [];
     drawn = Gives-append gives s t v p.draws step.0 p.drawn step.1;
-    limit = limit ∙ p.limit;
+    limit = p.limit;
     gave =
+        let m : UniqueIterator I = record n { iter = j; steps = n.steps + 1; seen = record seen { last = Some b } } in
         let l : length (p.passed ++ b ∷ []) ≡ length p.passed + 1 = length-append p.passed (b ∷ []) in
         let c = p.counted in
-        let sum : m.steps ≡ u.steps + length (p.passed ++ b ∷ []) = omega arith in (
-          Continues-append walk u.iter n.iter m.iter p.draws step.0 p.passed (b ∷ []) p.goes step.2,
+        let limit = p.limit in
+        let sum : n.steps + 1 ≡ u.steps + length (p.passed ++ b ∷ []) = omega arith in (
+          Continues-append walk u.iter n.iter j p.draws step.0 p.passed (b ∷ []) p.goes step.2,
           (
             p.passed,
             refl,
-            λ cs stands. stands_new u m cs p.passed b (limit ∙ p.limit) sum (λ h. omega arith)
-                (λ q. more q ∙ ap (λ x. x || same_member q b) (p.kept q)) p.repeats (sym (p.kept b) ∙ new) stands,
+            λ cs stands. stands_new u m cs p.passed b p.limit sum (λ h. omega arith)
+                (λ q. kept_more seen b place q ∙ ap (λ x. x || same_member q b) (same q ∙ p.kept q)) p.repeats (sym (p.kept b) ∙ new) stands,
           ),
         );
   }
 
-  -- or is refused there
-  pub turn_refused : {u : UniqueIterator I} {s : S} {n : UniqueIterator I} {t : S} (b : Member) (m : UniqueIterator I) (v : S) (r : Result (Option Member) Refusal)
-      → Turning u s n t → IsStep gives walk n.iter t (Some b) m.iter v → n.steps < n.max_iterations
-      → m.steps ≡ n.steps + 1 → m.max_iterations ≡ n.max_iterations → ((q : Member) → has_seen m q ≡ has_seen n q)
-      → IsErrAnd r (λ e. e ≡ OutOfMemory) → IsTurn gives walk u s r m v
-  turn_refused b m v (Ok o) p step room counted limit same refused = absurd refused
-  turn_refused {u} {s} {n} {t} b m v (Err e) p step room counted limit same refused = record {
+  -- or is refused there, with nothing new seen
+  pub turn_refused : {u : UniqueIterator I} {s : S} {n : UniqueIterator I} {t : S} (b : Member) (j : I) (seen : SeenBackends) (v : S) (r : Result (Option Member) Refusal)
+      → Turning u s n t → IsStep gives walk n.iter t (Some b) j v → n.steps < n.max_iterations
+      → ((q : Member) → has_backend seen q ≡ has_seen n q) → IsErrAnd r (λ e. e ≡ OutOfMemory)
+      → IsTurn gives walk u s r (with_kept (record n { iter = j; steps = n.steps + 1; seen = seen }) r) v
+  turn_refused b j seen v (Ok o) p step room same refused = absurd refused
+  turn_refused {u} {s} {n} {t} b j seen v (Err e) p step room same refused = record {
     draws = p.draws ++ step.0;
     passed = p.passed ++ b ∷ [];
     drawn = Gives-append gives s t v p.draws step.0 p.drawn step.1;
-    limit = limit ∙ p.limit;
+    limit = p.limit;
     gave =
         let l : length (p.passed ++ b ∷ []) ≡ length p.passed + 1 = length-append p.passed (b ∷ []) in
-        let c = p.counted in
-        let goes = Continues-append walk u.iter n.iter m.iter p.draws step.0 p.passed (b ∷ []) p.goes step.2 in
-        (refused, omega arith, goes, λ q. same q ∙ p.kept q, omega arith, omega arith);
+        let c = p.counted in (
+          refused,
+          omega arith,
+          Continues-append walk u.iter n.iter j p.draws step.0 p.passed (b ∷ []) p.goes step.2,
+          λ q. same q ∙ p.kept q,
+          omega arith,
+          omega arith,
+        );
   }

@@ -1,9 +1,10 @@
 -- The unique walk: first occurrences among the first candidates, and what a turn of `get_next` does.
-use Rattle.std.specs.Prelude.{◌≡◌, ◌⊎◌, ◌+◌, ◌<◌, ◌≤◌, Bool, true, List, [], ◌∷◌, ◌++◌, length, if◌then◌else◌, Option, Some, None, Result, Ok, Err}
+use Rattle.std.specs.Prelude.{◌≡◌, ◌⊎◌, ◌+◌, ◌<◌, ◌≤◌, Bool, true, false, ◌||◌, List, [], ◌∷◌, ◌++◌, length, if◌then◌else◌, Option, Some, None, Result, Ok, Err}
 use Rattle.std.specs.List.{list_any}
 use Rattle.std.specs.BTreeSet.{contains}
 use Rattle.lb_select.specs.declared.refusal.Refusal.{Refusal}
 use Rattle.lb_select.specs.declared.refusal.Refusal.TheVariants.{OutOfMemory}
+use Rattle.lb_select.specs.declared.unique.SeenBackends.{SeenBackends}
 use Rattle.lb_select.specs.declared.unique.UniqueIterator.{UniqueIterator}
 use Rattle.lb_select.specs.Backends.{Member, member_cmp, same_member}
 use Rattle.lb_select.specs.Draws.{Draw, Gives}
@@ -20,9 +21,24 @@ module _ {B : Type 0} (same : B → B → Bool) where
   abbrev pub distinct : List B → List B
   distinct xs = firsts [] xs
 
--- whether a backend of this identity was found before
+-- whether a backend of this identity is the one that came last
+abbrev pub is_last : Option Member → Member → Bool
+is_last None q = false
+is_last (Some b) q = same_member q b
+
+-- whether a backend of this identity came already: it is in the set, or came last
+abbrev pub has_backend : SeenBackends → Member → Bool
+has_backend s q = contains member_cmp s.set q || is_last s.last q
+
+-- the same of the backends that a unique walk has seen
 abbrev pub has_seen : {I : Type 0} → UniqueIterator I → Member → Bool
-has_seen u q = contains member_cmp u.seen q
+has_seen u q = has_backend u.seen q
+
+-- the unique walk with what it found taken back as the one that came last
+abbrev pub with_kept : {I : Type 0} → UniqueIterator I → Result (Option Member) Refusal → UniqueIterator I
+with_kept u (Ok (Some b)) = record u { seen = record (u.seen) { last = Some b } }
+with_kept u (Ok None) = u
+with_kept u (Err e) = u
 
 -- the unique walk has gone past exactly these candidates
 pub record StandsAt {I : Type 0} (u : UniqueIterator I) (cs : List Member) : Type 0 where
