@@ -9,5 +9,6 @@ pub mod Refusals
 pub mod Seen
 pub mod Shares
 pub mod WalkLaws
+pub mod Unique
 pub mod Walks
 pub mod Weights

@@ -8,6 +8,7 @@ pub mod backend;
 pub mod fairness;
 pub mod refusal;
 pub mod selection;
+pub mod unique;
 pub mod walk;
 pub mod weighted;
 pub mod words;
