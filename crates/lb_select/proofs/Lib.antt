@@ -1,3 +1,4 @@
 pub mod Clones
+pub mod Determined
 pub mod Shares
 pub mod WeightLemmas

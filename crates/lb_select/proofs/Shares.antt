@@ -140,7 +140,7 @@ module _ {K : Type 0} {R : K → K → Ordering} (total : IsTotalOrder R) where
       (cases_order i j)
 
 -- an element of a list by its index
-contained : (ms : List Member) (m : Member) → Contains ms m → (i : ℕ) × (slice_get ms i ≡ Some m)
+pub contained : (ms : List Member) (m : Member) → Contains ms m → (i : ℕ) × (slice_get ms i ≡ Some m)
 contained ms m (i, within, e) = (i, slice_get-get_or ms i m within ∙ ap Some e)
 
 -- the interval of an index ends where the next begins
@@ -156,6 +156,18 @@ sums_rise [] (suc i) j le = omega arith
 sums_rise (x ∷ xs) (suc i) zero le = absurd (omega arith)
 sums_rise (x ∷ xs) (suc i) (suc j) le =
     omega (arith, sum_by-cons (λ c. c.weight) x (take i xs), sum_by-cons (λ c. c.weight) x (take j xs), sums_rise xs i j (omega arith))
+
+-- a place is in one interval
+pub one_interval : (ms : List Member) (place i j : ℕ) → HoldsPlace ms place i → HoldsPlace ms place j → i ≡ j
+one_interval ms place i j h k =
+    ⊎_elim
+    (λ e. e)
+    (λ apart.
+    absurd (⊎_elim
+    (λ (lt : i < j). omega (arith, sums_rise ms (i + 1) j (omega arith), h.below, k.from))
+    (λ (gt : j < i). omega (arith, sums_rise ms (j + 1) i (omega arith), k.below, h.from))
+    apart))
+    (cases_order i j)
 
 -- a backend is the first choice of a word exactly where its interval holds the place
 chosen_inside :
