@@ -1,6 +1,6 @@
 -- A walk's draws determine its words, and its words its candidates.
-use Rattle.std.specs.Prelude.{◌≡◌, ℕ, suc, ◌+◌, ◌-◌, ◌%◌, ◌<◌, ◌≤◌, Bool, List, [], ◌∷◌, ◌++◌, length, Some, refl}
-use Rattle.std.proofs.Common.{arith, sym, ap, subst, subst₂, ◌∙◌, ◌⊎◌, inl, inr, ⊎_elim, w64}
+use Rattle.std.specs.Prelude.{◌≡◌, ℕ, ◌-◌, ◌%◌, List, [], ◌∷◌, ◌++◌, length, refl}
+use Rattle.std.proofs.Common.{arith, sym, ap, subst, subst₂, ◌∙◌, w64}
 use Rattle.std.specs.Int.{to_le_bytes}
 use Rattle.std.specs.List.{AllZip, slice_get}
 use Rattle.std.specs.List.Sorted.{IsStrictlySortedBy}
@@ -9,7 +9,7 @@ use Rattle.std.proofs.lemmas.Slice.Zip.{AllZip-long}
 use Rattle.lb_select.specs.Backends.{Member, member_cmp}
 use Rattle.lb_select.specs.Draws.{Draw, ticket, random}
 use Rattle.lb_select.specs.Fnv.{fnv}
-use Rattle.lb_select.specs.Weights.{Words, total_weight, HoldsPlace, IsFirstChoice, IsFallback, AreCandidates, IsWeightedWalk}
+use Rattle.lb_select.specs.Weights.{Words, total_weight, IsFirstChoice, IsFallback, AreCandidates}
 use Rattle.lb_select.specs.Shares.{WalksAreDetermined}
 use Rattle.lb_select.proofs.WeightLemmas.{member_cmp_total, smaller_count}
 use Rattle.lb_select.proofs.Shares.{contained, one_interval}

@@ -1,6 +1,6 @@
 -- Exact shares and full coverage. Both count how many of consecutive words fall, modulo a number, into an interval.
-use Rattle.std.specs.Prelude.{◌≡◌, ℕ, zero, suc, ◌+◌, ◌-◌, ◌%◌, ◌^◌, ◌<◌, ◌≤◌, Bool, true, false, ◌&&◌, List, [], ◌∷◌, ◌++◌, map, length, take, get_or, Option, Some, None, cond, Contains, sum_by, count_by, refl}
-use Rattle.std.proofs.Common.{arith, sym, ap, subst, ◌∙◌, ◌⊎◌, inl, inr, ⊎_elim, leb, ltb, is_lt, is_eq, Ordering, Less, Equal, Greater, mod-lt, mod-eq_of_lt, true≢false}
+use Rattle.std.specs.Prelude.{◌≡◌, ℕ, zero, suc, ◌+◌, ◌-◌, ◌%◌, ◌<◌, ◌≤◌, Bool, true, false, ◌&&◌, List, [], ◌∷◌, length, take, Some, cond, Contains, count_by, refl}
+use Rattle.std.proofs.Common.{arith, sym, ap, subst, ◌∙◌, ◌⊎◌, inl, inr, ⊎_elim, leb, ltb, is_eq, Ordering, Less, mod-lt, mod-eq_of_lt, true≢false}
 use Rattle.std.proofs.Math.Nat.{add-mod_right}
 use Rattle.std.specs.List.{AllByRecursion as Each, AllZip, slice_get}
 use Rattle.std.specs.List.Sorted.{IsStrictlySortedBy}
@@ -12,7 +12,6 @@ use Rattle.std.proofs.lemmas.Cmp.{tied_itself}
 use Rattle.std.proofs.lemmas.List.Sums.{sum_by-cons, sum_by_more, sum_by-take-le}
 use Rattle.std.proofs.lemmas.Option.{slice_get-get_or, get_or_from_slice_get, same_Some, none-some, slice_get_within}
 use Rattle.lb_select.specs.Backends.{Member, member_cmp, same_member}
-use Rattle.lb_select.specs.Draws.{Draw, ticket, Gives, CoreGives}
 use Rattle.lb_select.specs.Weights.{total_weight, HoldsPlace, IsFirstChoice, IsFallback, AreCandidates}
 use Rattle.rand_core.specs.Stream.{Stream}
 use Rattle.lb_select.specs.Shares.{words_from, AreExactShares, VisitsAll, TicketsAreConsecutive}
