@@ -3,10 +3,12 @@
 #![tactic(auto)]
 
 pub mod algorithms;
+mod address;
 pub mod backend;
 pub mod fairness;
 pub mod refusal;
 pub mod selection;
+pub mod unique;
 pub mod walk;
 pub mod weighted;
 pub mod words;
