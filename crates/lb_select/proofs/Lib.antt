@@ -1,5 +1,6 @@
 pub mod AddressTexts
 pub mod Clones
+pub mod Determined
 pub mod Shares
 pub mod WeightLemmas
 pub mod Lists
