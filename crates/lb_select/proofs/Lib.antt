@@ -1,6 +1,8 @@
+pub mod AddressRoundTrip
 pub mod AddressTexts
 pub mod Clones
 pub mod Determined
+pub mod SameBackends
 pub mod Shares
 pub mod WeightLemmas
 pub mod Lists
