@@ -1,3 +1,4 @@
 pub mod Clones
 pub mod Lists
+pub mod Searches
 pub mod Turns

@@ -4,6 +4,7 @@
 
 pub mod backend;
 pub mod refusal;
+pub mod select;
 pub mod unique;
 pub mod walk;
 pub mod words;
