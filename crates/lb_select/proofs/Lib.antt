@@ -1,4 +1,5 @@
 pub mod Clones
+pub mod Laws
 pub mod Lists
 pub mod Searches
 pub mod Turns
