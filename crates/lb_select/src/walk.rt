@@ -62,7 +62,7 @@ pub trait BackendIter: Drop {
 pub trait BackendSelection: Drop {
     type Iter: BackendIter;
 
-    type Config;
+    type Config: Drop;
 
     // the set, the configuration, the key; the draws, the first candidates, whether the walk ended
     ghost walks: { List Member → Self.Config → List ℕ → List Draw → List Member → Bool → Type 0 };
