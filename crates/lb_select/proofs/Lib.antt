@@ -5,5 +5,9 @@ pub mod Determined
 pub mod SameBackends
 pub mod Shares
 pub mod WeightLemmas
+pub mod Laws
 pub mod Lists
+pub mod Searches
+pub mod Shares
 pub mod Turns
+pub mod WeightLemmas

@@ -8,8 +8,9 @@ pub mod Memberships
 pub mod Refusals
 pub mod SameBackend
 pub mod Seen
+pub mod Selections
 pub mod Shares
-pub mod WalkLaws
 pub mod Unique
+pub mod WalkLaws
 pub mod Walks
 pub mod Weights
