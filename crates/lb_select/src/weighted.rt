@@ -159,8 +159,8 @@ impl<H: SelectionAlgorithm> Weighted<H> {
 }
 
 impl<H: SelectionAlgorithm> WeightedIterator<H> {
-    // The index of the next candidate.
-    fn advance<W: WordSource>(&mut self, words: &mut W) -> Option<usize>
+    /// The index of the next candidate in the set's order, for a walk of several kinds; `None` where no backend has a weight.
+    pub fn advance<W: WordSource>(&mut self, words: &mut W) -> Option<usize>
         ensures step { IsStep W.gives (λ i. IsWeightedRest H.gives_word i.first (arc_value i.backend) i.word) self.old words.old (option_and_then (slice_get (arc_value self.old.backend)) result) self.new words.new }
         ensures backend { arc_value self.new.backend ≡ arc_value self.old.backend }
     {
@@ -173,6 +173,13 @@ impl<H: SelectionAlgorithm> WeightedIterator<H> {
         }
         self.word = self.backend.draw(words, &self.word.to_le_bytes());
         Some(self.backend.fallback(self.word))
+    }
+
+    /// The backend of that index in the set's order.
+    pub fn backend(&self, index: Option<usize>) -> Option<&Backend>
+        ensures { option_copied result ≡ option_and_then (slice_get (arc_value self.now.backend)) index }
+    {
+        self.backend.get(index)
     }
 }
 
