@@ -7,6 +7,7 @@ pub mod algorithms;
 pub mod backend;
 pub mod fairness;
 pub mod refusal;
+pub mod select;
 pub mod selection;
 pub mod unique;
 pub mod walk;
