@@ -96,6 +96,8 @@ fn add_member(
 }
 
 impl<H: SelectionAlgorithm> Weighted<H> {
+    // The selector of a set. What else can refuse is tested before any memory is taken, and the lists get their whole
+    // room at once, so that a total beyond all memory is refused without filling any of it.
     fn of_set(alloc: Global, backends: &BTreeSet<Backend>) -> Result<Self, Refusal>
         ensures { Refuses (weighted_refusal backends.now.keys) (λ s. s ≡ backends.now.keys) result }
     {
