@@ -6,6 +6,7 @@ pub mod Fnv
 pub mod Identity
 pub mod Memberships
 pub mod Refusals
+pub mod SameBackend
 pub mod Seen
 pub mod Selections
 pub mod Shares

@@ -219,7 +219,7 @@ impl<H: SelectionAlgorithm> BackendSelection for Weighted<H> {
         backends: &BTreeSet<Backend>,
         _config: &(),
     ) -> Result<Self, Refusal> {
-        Weighted::of_set(alloc, backends)
+        Self::build(alloc, backends)
     }
 
     fn iter<W: WordSource>(
