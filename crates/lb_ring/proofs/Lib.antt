@@ -1,1 +1,4 @@
+pub mod Arranging
 pub mod Crcs
+pub mod Lists
+pub mod Ranks

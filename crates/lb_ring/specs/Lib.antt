@@ -1,1 +1,4 @@
+pub mod Circle
 pub mod Crc
+pub mod Rings
+pub mod Sorted

@@ -3,3 +3,5 @@
 #![tactic(auto)]
 
 pub mod crc;
+mod points;
+pub mod ring;
