@@ -1,4 +1,5 @@
 pub mod Arranging
 pub mod Crcs
 pub mod Lists
+pub mod Owners
 pub mod Ranks

@@ -1,10 +1,10 @@
 -- Lists in rising order: what comes before an element, the list cut in two and put together the other way round.
-use Rattle.std.proofs.Common.{◌≡◌, ℕ, zero, suc, ◌+◌, ◌<◌, ◌≤◌, ◌⊎◌, inl, inr, ◌↔◌, Bool, true, false, nat_eq, nat_lt, List, [], ◌∷◌, ◌++◌, length, get_or, take, drop, refl, sym, ap, subst, ◌∙◌, arith, add-one}
+use Rattle.std.proofs.Common.{◌≡◌, ℕ, zero, suc, ◌+◌, ◌-◌, ◌<◌, ◌≤◌, ◌⊎◌, inl, inr, ◌↔◌, Bool, true, false, nat_eq, nat_lt, List, [], ◌∷◌, ◌++◌, length, get_or, take, drop, refl, sym, ap, subst, ◌∙◌, arith, add-one}
 use Rattle.std.specs.List.{Contains, IsDistinct, AllByRecursion}
 use Rattle.std.proofs.lemmas.List.{take-append-drop}
 use Rattle.std.proofs.lemmas.List.Elements.{Contains-get_or, Contains-append_cases, Contains-append_left, Contains-append_right}
 use Rattle.std.proofs.lemmas.Bool.Decides.{eqb_tells, leb_tells}
-use Rattle.lb_ring.specs.Sorted.{Rises, none, more}
+use Rattle.lb_ring.specs.Sorted.{Rises, none, more, turned}
 
 module _ {X : Type 0} where
   -- an element of a list is its head or an element of the rest
@@ -92,6 +92,13 @@ module _ {X : Type 0} where
 -- what a test of numbers says
 pub less_tells : (a b : ℕ) → ((nat_lt a b ≡ true) × (a < b)) ⊎ ((nat_lt a b ≡ false) × (b ≤ a))
 less_tells a b = elim (leb_tells (suc a) b) [ inl h ↦ inl (h.0, h.1) | inr h ↦ inr (h.0, omega (arith, h.1)) ]
+
+-- an index that was turned is an index
+pub turned_below : (s r n : ℕ) → s ≤ n → r < n → turned s r n < n
+turned_below s r n w h =
+    elim (less_tells r (n - s)) [
+      inl first ↦ rw first.0 (let l : r < n - s = first.1 in let g : s + r < n = omega arith in g)
+    | inr later ↦ rw later.0 (let g : r - (n - s) < n = omega arith in g) ]
 
 -- the numbers of a rising list are apart
 apart_all : (h : ℕ → ℕ) (x : ℕ) (xs : List ℕ) → ((y : ℕ) → Contains xs y → h x < h y) → AllByRecursion (λ y. nat_eq x y ≡ false) xs

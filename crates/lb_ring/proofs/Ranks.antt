@@ -8,7 +8,7 @@ use Rattle.std.proofs.lemmas.Grind.{get_or_default_zero}
 use Rattle.lb_select.specs.Backends.{Address}
 use Rattle.lb_ring.specs.Circle.{clockwise, Lists, IsExactly, IsPoint, IsNearer, IsPointOf}
 use Rattle.lb_ring.specs.Sorted.{Rises, turned}
-use Rattle.lb_ring.proofs.Lists.{in_take, in_drop, in_parts, rises_cut, rises_left, rises_right, rises_across, rises_append, rises_by, rises_once, before_is_less, less_is_before, less_tells}
+use Rattle.lb_ring.proofs.Lists.{in_take, in_drop, in_parts, rises_cut, rises_left, rises_right, rises_across, rises_append, rises_by, rises_once, before_is_less, less_is_before, less_tells, turned_below}
 
 -- the way to a place that is not below, and to one that is
 pub clockwise_up : (place q : ℕ) → place ≤ q → q < 2 ^ 32 → clockwise place q ≡ q - place
@@ -74,12 +74,6 @@ module _ (ps : List ℕ) (rises : Rises (λ p. p) ps) (small : (q : ℕ) → Con
       | inr later ↦ (let l : length ps - s ≤ r = omega (arith, later.1) in let t : r - (length ps - s) < s = omega arith in
           rw later.0 (get_or-append_right (drop s ps) (take s ps) (length ps - s) r d (length-drop s ps) l ∙ get_or-take s ps (r - (length ps - s)) d t)) ]
 
-  turned_within : (r : ℕ) → r < length ps → turned s r (length ps) < length ps
-  turned_within r h =
-      elim (less_tells r (length ps - s)) [
-        inl first ↦ rw first.0 (let l : r < length ps - s = first.1 in let g : s + r < length ps = omega arith in g)
-      | inr later ↦ rw later.0 (let g : r - (length ps - s) < length ps = omega arith in g) ]
-
   -- the nearer points are those before it
   nearer_before : (r : ℕ) → r < length ps
       → Lists (λ q. Contains ps q × (clockwise place q < clockwise place (get_or ps (turned s r (length ps)) 0))) (take r (around s ps))
@@ -97,7 +91,7 @@ module _ (ps : List ℕ) (rises : Rises (λ p. p) ps) (small : (q : ℕ) → Con
       → 0 < length ps → (j : ℕ) → IsPointOf has place j (get_or ps (turned s (j % length ps) (length ps)) 0)
   point_of_candidate has all only some j =
       let turn : j % length ps < length ps = omega arith in
-      let place_of : turned s (j % length ps) (length ps) < length ps = turned_within (j % length ps) turn in
+      let place_of : turned s (j % length ps) (length ps) < length ps = turned_below s (j % length ps) (length ps) within turn in
       let p = get_or ps (turned s (j % length ps) (length ps)) 0 in
       let before = nearer_before (j % length ps) turn in
       record {

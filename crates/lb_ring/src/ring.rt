@@ -5,7 +5,7 @@ ghost use Rattle.lb_select.specs.Seen.{address_seen};
 ghost use Rattle.lb_ring.specs.Circle.{IsRingOwner};
 ghost use Rattle.lb_ring.specs.Rings.{points_seen, Given, IsRingOf};
 
-use crate::points::{arrange, first_from, turned};
+use crate::points::{arrange, first_from, read_points, turned};
 use lb_select::backend::SocketAddr;
 use lb_select::refusal::Refusal;
 use std::marker::Model;
@@ -36,6 +36,7 @@ impl Ring {
         ensures { IsOkAnd result (λ r. IsRingOf (points_seen points.items) r) }
     {
         let mut points = points;
+        read_points(&points);
         arrange(&mut points);
         Ok(Ring { points })
     }
