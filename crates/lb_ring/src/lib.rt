@@ -3,5 +3,7 @@
 #![tactic(auto)]
 
 pub mod crc;
+mod chain;
+mod fill;
 mod points;
 pub mod ring;
