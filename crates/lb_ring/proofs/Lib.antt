@@ -4,5 +4,7 @@ pub mod Crcs
 pub mod Filling
 pub mod Lists
 pub mod Owners
+pub mod Placing
 pub mod Ranks
 pub mod Standing
+pub mod Walking

@@ -3,5 +3,7 @@ pub mod Choices
 pub mod Circle
 pub mod Crc
 pub mod Placed
+pub mod PlacedSeen
+pub mod RingLaws
 pub mod Rings
 pub mod Sorted

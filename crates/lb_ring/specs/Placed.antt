@@ -4,9 +4,8 @@ use Rattle.std.specs.Prelude.{◌≡◌, ℕ, ◌+◌, ◌*◌, ◌<◌, ◌≤�
 use Rattle.std.specs.List.{Contains, range_with_len}
 use Rattle.lb_select.specs.Backends.{Member}
 use Rattle.lb_select.specs.Draws.{Draw}
-use Rattle.lb_select.specs.Walks.{Continues}
 use Rattle.lb_ring.specs.Chains.{crc_chain, state_chain}
-use Rattle.lb_ring.specs.Choices.{is_internet, points_per_weight, ring_weight, HasPoint, StandsFor}
+use Rattle.lb_ring.specs.Choices.{is_internet, points_per_weight, ring_weight, HasPoint, StandsFor, IsRingWalk}
 use Rattle.lb_ring.specs.Circle.{IsPoint, IsOwner}
 use Rattle.lb_ring.specs.Sorted.{Rises, HasSmallPoints, IsInOrder}
 
@@ -15,6 +14,7 @@ pub record Placed : Type 0 where
   pub members : List Member
   pub owners : List ℕ
   pub points : List (ℕ × ℕ)
+  pub multiple : Option ℕ
 
 -- the backend that an owner's number stands for
 abbrev pub member_at : List Member → List ℕ → ℕ → Option Member
@@ -75,3 +75,13 @@ pub record IsWalkFrom (r : Placed) (at : ℕ) (draws : List Draw) (cs : List Mem
   pub undrawn : draws ≡ []
   pub candidates : YieldsFrom r at cs
   pub end : ended ≡ true → r.points ≡ []
+
+-- one step of an iterator, which draws nothing: the end for good, or a candidate
+abbrev pub IsMove : Placed → ℕ → Option Member → ℕ → Type 0
+IsMove r at given now =
+    MatchOption given (IsWalkFrom r at [] [] true × IsWalkFrom r now [] [] true)
+    (λ b. (es : List Draw) (cs : List Member) (e : Bool) → IsWalkFrom r now es cs e → IsWalkFrom r at es (b ∷ cs) e)
+
+-- an index where the walk of a key begins
+abbrev pub IsStart : Placed → List ℕ → ℕ → Type 0
+IsStart r key at = (es : List Draw) (cs : List Member) (e : Bool) → IsWalkFrom r at es cs e → IsRingWalk r.members key es cs e

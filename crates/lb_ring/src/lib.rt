@@ -5,5 +5,6 @@
 pub mod crc;
 mod chain;
 mod fill;
+pub mod ketama;
 mod points;
 pub mod ring;
