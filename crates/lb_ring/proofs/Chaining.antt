@@ -8,6 +8,7 @@ use Rattle.lb_select.specs.Backends.{Address}
 use Rattle.lb_ring.specs.Crc.{crc, crc_fed, crc_last, crc_byte}
 use Rattle.lb_ring.specs.Chains.{text_chain, state_chain, point_after}
 use Rattle.lb_ring.specs.Placed.{chain_entries}
+use Rattle.lb_ring.proofs.Crcs.{crc_small}
 use Rattle.lb_ring.specs.Sorted.{HasSmallPoints}
 
 pub chain_first : (s : ℕ) → point_after s 0 ≡ state_chain s 0
@@ -59,3 +60,9 @@ pub entries_step : (old mid new : List (ℕ × ℕ)) (s k o p : ℕ) → mid ≡
 entries_step old mid new s k o p a b c =
     c ∙ ap (λ (z : List (ℕ × ℕ)). z ++ (p, o) ∷ []) a ∙ ap (λ (z : ℕ). (old ++ chain_entries s k o) ++ (z, o) ∷ []) b
     ∙ append_assoc old (chain_entries s k o) ((state_chain s k, o) ∷ []) ∙ ap (λ (z : List (ℕ × ℕ)). old ++ z) (sym (entries_more s k o))
+
+-- the points of a chain have 32 bits
+pub chain_small : (text : List ℕ) (k : ℕ) → text_chain text k < 2 ^ 32
+unfolding text_chain
+chain_small text zero = crc_small (text ++ to_le_bytes w32 0)
+chain_small text (suc k) = crc_small (text ++ to_le_bytes w32 (text_chain text k))

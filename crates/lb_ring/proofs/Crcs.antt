@@ -1,9 +1,9 @@
 -- The table of CRCs: to shift bits out is linear, so what the low byte of a state becomes can be looked up.
-use Rattle.std.proofs.Common.{◌≡◌, ℕ, zero, suc, ◌+◌, ◌*◌, ◌/◌, ◌%◌, ◌^◌, ◌<◌, ◌≤◌, ◌⊎◌, inl, inr, ◌==◌, ◌&&◌, Bool, true, false, List, [], ◌∷◌, length, get_or, refl, sym, ap, ◌∙◌, arith, eqb, add-zero, zero-add}
+use Rattle.std.proofs.Common.{◌≡◌, ℕ, zero, suc, ◌+◌, ◌*◌, ◌/◌, ◌%◌, ◌^◌, ◌<◌, ◌≤◌, ◌⊎◌, inl, inr, ◌==◌, ◌&&◌, Bool, true, false, List, [], ◌∷◌, length, get_or, refl, sym, ap, ◌∙◌, arith, eqb, add-zero, zero-add, lit<}
 use Rattle.std.specs.Prelude.{bit_xor}
 use Rattle.std.proofs.lemmas.Bool.{eqb-true}
 use Rattle.std.specs.Int.Bits.{xor_shr, xor_mod, xor_comm, xor_assoc, xor_self, xor_zero_r, xor_zero_l, xor_shifted, xor_block, xor_lt}
-use Rattle.lb_ring.specs.Crc.{polynomial, crc_bit, crc_bits, crc_byte}
+use Rattle.lb_ring.specs.Crc.{polynomial, crc, crc_bit, crc_bits, crc_byte, crc_fed}
 use Rattle.lb_ring.specs.declared.crc.TheConstants.{TABLE}
 
 -- a bit that is 0 goes, and a bit that is 1 brings the polynomial in
@@ -87,7 +87,8 @@ split_state state byte h =
 byte_split : (state byte : ℕ) → byte < 256 → crc_byte state byte ≡ bit_xor (crc_bits (bit_xor (state % 256) byte)) (state / 256)
 unfolding crc_byte
 byte_split state byte h =
-    ap crc_bits (split_state state byte h) ∙ bits_linear (state / 256 * 256) (bit_xor (state % 256) byte)
+    let e : byte % 256 ≡ byte = omega arith in
+    ap (λ z. crc_bits (bit_xor state z)) e ∙ ap crc_bits (split_state state byte h) ∙ bits_linear (state / 256 * 256) (bit_xor (state % 256) byte)
     ∙ ap (λ x. bit_xor x (crc_bits (bit_xor (state % 256) byte))) (bits_back (state / 256))
     ∙ xor_comm (state / 256) (crc_bits (bit_xor (state % 256) byte))
 
@@ -121,3 +122,27 @@ pub step_by_table : (state byte : ℕ) → byte < 256 → bit_xor (get_or TABLE 
 step_by_table state byte h =
     ap (λ x. bit_xor x (state / 256)) (table_row (bit_xor (state % 256) byte) (xor_lt 8 (state % 256) byte (omega arith) h))
     ∙ sym (byte_split state byte h)
+
+-- a state keeps its 32 bits
+bit_small : (n : ℕ) → n < 2 ^ 32 → crc_bit n < 2 ^ 32
+bit_small n h =
+    elim (bit_cases n) [
+      inl even ↦ rw (even_bit n even) (let g : n / 2 < 2 ^ 32 = omega arith in g)
+    | inr odd ↦ rw (odd_bit n odd) (xor_lt 32 (n / 2) polynomial (omega arith) (lit< tt)) ]
+
+bits_small : (n : ℕ) → n < 2 ^ 32 → crc_bits n < 2 ^ 32
+unfolding crc_bits
+bits_small n h = bit_small _ (bit_small _ (bit_small _ (bit_small _ (bit_small _ (bit_small _ (bit_small _ (bit_small n h)))))))
+
+byte_small : (state byte : ℕ) → state < 2 ^ 32 → crc_byte state byte < 2 ^ 32
+unfolding crc_byte
+byte_small state byte h = bits_small (bit_xor state (byte % 256)) (xor_lt 32 state (byte % 256) h (omega arith))
+
+fed_small : (state : ℕ) (bytes : List ℕ) → state < 2 ^ 32 → crc_fed state bytes < 2 ^ 32
+fed_small state [] h = h
+fed_small state (b ∷ bytes) h = fed_small (crc_byte state b) bytes (byte_small state b h)
+
+-- so a CRC has 32 bits
+pub crc_small : (bytes : List ℕ) → crc bytes < 2 ^ 32
+unfolding crc
+crc_small bytes = xor_lt 32 (crc_fed 0xFFFFFFFF bytes) 0xFFFFFFFF (fed_small 0xFFFFFFFF bytes (lit< tt)) (lit< tt)

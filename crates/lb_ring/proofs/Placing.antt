@@ -29,7 +29,7 @@ decide a b Greater e = inr (λ s. let P : Address → Type 0 = λ z. address_cmp
     let u : address_cmp a a ≡ Equal = tied_itself address_total a in absurd (cc))
 
 -- whether two addresses are one
-same_or_not : (a b : Address) → (a ≡ b) ⊎ (a ≢ b)
+pub same_or_not : (a b : Address) → (a ≡ b) ⊎ (a ≢ b)
 same_or_not a b = decide a b (address_cmp a b) refl
 
 -- among the backends of an address one is the heaviest

@@ -15,9 +15,9 @@ crc_bit n = if n % 2 == 1 then bit_xor (n / 2) polynomial else n / 2
 unfoldable pub crc_bits : ℕ → ℕ
 crc_bits n = crc_bit (crc_bit (crc_bit (crc_bit (crc_bit (crc_bit (crc_bit (crc_bit n)))))))
 
--- the state after one more byte
+-- the state after one more byte, which counts by its eight bits
 unfoldable pub crc_byte : ℕ → ℕ → ℕ
-crc_byte state byte = crc_bits (bit_xor state byte)
+crc_byte state byte = crc_bits (bit_xor state (byte % 256))
 
 -- the state after more bytes
 abbrev pub crc_fed : ℕ → List ℕ → ℕ

@@ -5,5 +5,6 @@ pub mod Crc
 pub mod Placed
 pub mod PlacedSeen
 pub mod RingLaws
+pub mod Removal
 pub mod Rings
 pub mod Sorted

@@ -3,8 +3,8 @@
 ghost use Rattle.std.specs.Prelude.{◌≡◌, List, ℕ};
 ghost use Rattle.lb_ring.specs.Crc.{crc, crc_byte, crc_fed, crc_last};
 
-/// The state before the first byte.
-pub const START: u32 = 0xffff_ffff;
+// The state before the first byte.
+pub(crate) const START: u32 = 0xffff_ffff;
 
 // What eight zero bits make of each low byte of a state.
 static TABLE: [u32; 256] = [
@@ -50,8 +50,8 @@ fn fed_byte(state: u32, byte: u8) -> u32
     TABLE[low] ^ (state >> 8)
 }
 
-/// The state after more bytes.
-pub fn fed(state: u32, bytes: &[u8]) -> u32
+// The state after more bytes.
+pub(crate) fn fed(state: u32, bytes: &[u8]) -> u32
     ensures { result ≡ crc_fed state bytes.now }
 {
     bytes
@@ -59,14 +59,14 @@ pub fn fed(state: u32, bytes: &[u8]) -> u32
         .fold(state, |state, byte| fed_byte(state, *byte))
 }
 
-/// The CRC of what a state was fed from `START` on.
-pub fn finished(state: u32) -> u32
+// The CRC of what a state was fed from `START` on.
+pub(crate) fn finished(state: u32) -> u32
     ensures { result ≡ crc_last state }
 {
     state ^ START
 }
 
-/// The CRC-32 of some bytes.
+/// The CRC-32 of some bytes, as IEEE 802.3 has it.
 pub fn crc32(bytes: &[u8]) -> u32
     ensures { result ≡ crc bytes.now }
 {

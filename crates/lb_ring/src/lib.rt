@@ -6,5 +6,6 @@ pub mod crc;
 mod chain;
 mod fill;
 pub mod ketama;
+pub mod laws;
 mod points;
 pub mod ring;
