@@ -1,11 +1,12 @@
 //! The gate of selector rebuilds: it gives out one permit at a time, and a permit goes with each extra selector until that selector is destroyed.
 //! The permit carries the only writing seat of the gate's word, so two permits of one gate cannot both exist, whichever threads hold them.
-ghost use Rattle.std.specs.Prelude.{◌≡◌, ◌≢◌, true, false, IfOk, IfSome, IfNone};
+ghost use Rattle.std.specs.Prelude.{◌≡◌, ◌≢◌, true, false, IfOk, IfErr, IfSome, IfNone};
 ghost use Rattle.lb_rebuild.specs.Gate.{gate};
 
 use crate::gate_rule::{Mark, OneWriter, Says};
 use atomic_table::{Seat, Table};
-use std::alloc::{AllocError, Global};
+use lb_select::refusal::Refusal;
+use std::alloc::Global;
 use std::marker::Model;
 
 /// The right to one extra selector, from the grant of a gate until it is given back to the same gate.
@@ -57,9 +58,10 @@ impl GateCore {
     ///
     /// # Errors
     ///
-    /// `AllocError` where the memory for the gate's word is refused.
-    pub fn new(alloc: Global) -> Result<GateCore, AllocError>
-        ensures { IfOk result (λ g. g.out ≡ false) }
+    /// `OutOfMemory` where the memory for the gate's word is refused.
+    pub fn new(alloc: Global) -> Result<GateCore, Refusal>
+        ensures free { IfOk result (λ g. g.out ≡ false) }
+        ensures refused { IfErr result (λ e. e ≡ Refusal.OutOfMemory) }
     {
         let (table, seat) = Table::of_words(alloc, &[0], &())?;
         Ok(GateCore {
