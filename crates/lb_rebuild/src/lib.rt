@@ -4,3 +4,6 @@
 
 pub mod gate;
 mod gate_rule;
+pub mod group;
+pub mod job;
+pub mod slot;
