@@ -64,13 +64,28 @@ pub(crate) struct Slot<S: BackendSelection> {
     pub(crate) stage: Stage<S>,
 }
 
+impl<S: BackendSelection> Retired<S> {
+    /// Drops the selector, and gives the permit that is to be reported.
+    pub fn destroy(self) -> Permit
+        ensures { result ≡ self.permit }
+    {
+        let Retired {
+            slot: _,
+            serving: _,
+            readers: _,
+            permit,
+        } = self;
+        permit
+    }
+}
+
 /// An entry into the selector that a slot served then. It is to be given back to the slot, and cannot be dropped.
 ///
 /// Contracts see the slot, the generation, and of which members and with which configuration the selector was built.
 pub struct Reader<S: BackendSelection> {
-    slot: usize,
-    generation: u64,
-    selector: Arc<S>,
+    pub(crate) slot: usize,
+    pub(crate) generation: u64,
+    pub(crate) selector: Arc<S>,
 }
 
 impl<S: BackendSelection> Model for Reader<S> {
