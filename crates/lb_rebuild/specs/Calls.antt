@@ -1,10 +1,8 @@
 -- What the calls on a slot and on a group do: relations by cases on the answer, between what contracts see before and after.
-use Rattle.std.specs.Prelude.{◌≡◌, ◌≢◌, ◌<◌, ◌+◌, ◌-◌, ◌^◌, ◌==◌, ◌&&◌, ◌⊎◌, ℕ, Bool, true, false, not, List, [], slice_get, Option, Some, None, Result, Ok, Err, IsSome, MatchOption, if◌then◌else◌}
-use Rattle.std.specs.Option.{IsSomeAnd}
-use Rattle.lb_select.specs.Refusals.{Refuses}
+use Rattle.std.specs.Prelude.{◌≡◌, ◌<◌, ◌+◌, ◌-◌, ◌==◌, ◌&&◌, ◌⊎◌, ℕ, Bool, true, false, not, slice_get, Option, Some, None, Result, Ok, Err, IsSome, MatchOption, if◌then◌else◌}
 use Rattle.lb_select.specs.declared.refusal.Refusal.{Refusal}
 use Rattle.lb_select.specs.declared.refusal.Refusal.TheVariants as refusal
-use Rattle.lb_rebuild.specs.Gate.{GateId, GateView, gate}
+use Rattle.lb_rebuild.specs.Gate.{GateView, gate}
 use Rattle.lb_rebuild.specs.Views.{StageView, free, flight, retired, taken_out, OrderView, Task, ServingView, RetiredView, ReaderView, SlotView, GroupView, with_slot, is_flying}
 use Rattle.lb_rebuild.specs.declared.slot.Ask.{Ask}
 use Rattle.lb_rebuild.specs.declared.slot.Ask.TheVariants.{Building, Nothing, Busy, Job}

@@ -59,8 +59,10 @@ impl<S: BackendSelection> GroupCore<S> {
         ensures some { IfSome result (λ n. (slot < length self.now.slots) × (n ≡ slice_index (served_list self.now.slots) slot)) }
         ensures none { IfNone result (length self.now.slots ≤ slot) }
     {
-        let place = self.slots.get(slot)?;
-        let serving = &place.serving;
+        if slot >= self.slots.len() {
+            return None;
+        }
+        let serving = &self.slots[slot].serving;
         Some(serving.generation)
     }
 
@@ -158,9 +160,9 @@ impl<S: BackendSelection> GroupCore<S> {
         ensures group { DestroyedIn self.old slot self.new }
         ensures gate { gate.new ≡ gate_view self.old.gate false }
     {
+        gate.give_back(permit);
         if slot < self.slots.len() {
             self.slots[slot].report();
         }
-        gate.give_back(permit);
     }
 }
