@@ -1,5 +1,8 @@
 pub mod Calls
 pub mod Gate
 pub mod GateRule
+pub mod Groups
 pub mod Kept
+pub mod Least
+pub mod Memberships
 pub mod Views

@@ -1,11 +1,12 @@
 //! A slot of a group: the selector that it serves to its readers, the order that waits, and at most one extra selector.
 //! An extra is a build in flight, a retired selector, or one that was taken out to be destroyed.
-ghost use Rattle.std.specs.Prelude.{◌≡◌, ◌<◌, ◌⊎◌, ℕ, IfOk, IfErr, OnErr};
+ghost use Rattle.std.specs.Prelude.{◌≡◌, ◌+◌, ◌<◌, ◌⊎◌, ℕ, IfOk, IfErr, OnErr};
 ghost use Rattle.lb_rebuild.specs.Gate.{GateId};
 ghost use Rattle.lb_rebuild.specs.Kept.{IsWithoutPermit};
 
 use crate::gate::{GateCore, Permit};
 use crate::job::{Built, Job, Order};
+use crate::schedule::SlotTurn;
 use lb_select::refusal::Refusal;
 use lb_select::walk::BackendSelection;
 use std::marker::Model;
@@ -119,8 +120,33 @@ pub enum Told {
 }
 
 impl<S: BackendSelection> Slot<S> {
+    ghost use Rattle.lb_rebuild.specs.Groups.{turn_of};
     ghost use Rattle.lb_rebuild.specs.Calls.{AskedAt, PublishedAt, failed_slot, reader_of, enter_refusal, entered_slot, readers_at, left_slot, TakenAt, reported_stage};
     ghost use Rattle.lb_rebuild.specs.Kept.{slot_view, IsKept, HoldsOf};
+
+    // Whether it is busy with an earlier membership.
+    pub(crate) fn turn(&self) -> SlotTurn
+        ensures { result ≡ turn_of (slot_view self.now) }
+    {
+        match &self.stage {
+            Stage::Flight(_) => SlotTurn::Running,
+            Stage::Free | Stage::Retired(_) | Stage::TakenOut(_) => {
+                if self.waiting.is_some() {
+                    SlotTurn::Running
+                } else {
+                    SlotTurn::Start
+                }
+            }
+        }
+    }
+
+    // Lets an order of the next generation wait, in the place of an earlier one.
+    pub(crate) fn order(&mut self, order: Order<S::Config>)
+        ensures slot { slot_view self.new ≡ record (slot_view self.old) { waiting = Some order } }
+        ensures kept { (id : GateId) (newest : ℕ) → IsKept id newest self.old → order.generation ≡ newest + 1 → IsKept id (newest + 1) self.new }
+    {
+        self.waiting = Some(order);
+    }
 
     // Asks for the build that the slot needs next.
     pub(crate) fn ask(&mut self, slot: usize, gate: &mut GateCore) -> Ask<S>
