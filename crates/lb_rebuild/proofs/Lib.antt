@@ -2,3 +2,4 @@ pub mod Apart
 pub mod Causes
 pub mod GateStores
 pub mod Groups
+pub mod Orders

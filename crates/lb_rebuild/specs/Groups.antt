@@ -1,4 +1,4 @@
--- A group at its start, and after a new membership.
+-- A group after a new membership.
 use Rattle.std.specs.Prelude.{◌≡◌, ◌≢◌, ◌+◌, ◌⊎◌, ℕ, Bool, true, false, MatchBool, List, [], map, is_some, ◌||◌, Option, Some, None, Result, Ok, Err, if◌then◌else◌}
 use Rattle.lb_select.specs.Backends.{Member}
 use Rattle.lb_select.specs.declared.refusal.Refusal.{Refusal}
@@ -10,29 +10,18 @@ use Rattle.lb_rebuild.specs.declared.schedule.SlotTurn.{SlotTurn}
 use Rattle.lb_rebuild.specs.declared.schedule.SlotTurn.TheVariants.{Running, Start}
 use Rattle.lb_rebuild.specs.declared.schedule.Scheduled.{Scheduled}
 
--- a slot at its start serves a selector of no backends, of generation 0
-abbrev pub fresh_slot : {C : Type 0} → C → SlotView C
-fresh_slot c =
-    record {
-      serving = record { generation = 0; members = []; config = c; tickets = 0 };
-      readers = 0;
-      config = c;
-      waiting = None;
-      stage = free
-    }
-
--- a group at its start, with a slot for each configuration
-abbrev pub fresh_group : {C : Type 0} → GateId → List C → GroupView C
-fresh_group id configs = record { gate = id; newest = 0; current = []; slots = map fresh_slot configs }
-
 -- whether a slot was busy with an earlier membership: its build was in flight, or its order waited
 abbrev pub turn_of : {C : Type 0} → SlotView C → SlotTurn
 turn_of x = if is_flying x.stage || is_some x.waiting then Running else Start
 
+-- a slot's order for this membership
+abbrev pub order_for : {C : Type 0} → ℕ → List Member → SlotView C → OrderView C
+order_for generation members x = record { generation = generation; members = members; config = x.config }
+
 -- the slot with an order for this membership
 abbrev pub ordered : {C : Type 0} → ℕ → List Member → SlotView C → SlotView C
 ordered generation members x =
-    record x { waiting = Some (record { generation = generation; members = members; config = x.config }) }
+    record x { waiting = Some (order_for generation members x) }
 
 -- The same membership changes nothing; a new one is the next generation, and each slot gets an order for it. It is refused
 -- where no generation is left, or else for memory, and then nothing changes.

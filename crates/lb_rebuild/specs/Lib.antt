@@ -1,4 +1,5 @@
 pub mod Calls
+pub mod Fresh
 pub mod Gate
 pub mod GateRule
 pub mod Groups

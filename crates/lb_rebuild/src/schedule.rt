@@ -1,12 +1,12 @@
 //! A new membership of a group: whether it differs from the newest, and an order for each slot.
 //! What takes memory is made here before anything changes.
-ghost use Rattle.std.specs.Prelude.{◌≡◌, map, IfOk};
+ghost use Rattle.std.specs.Prelude.{◌≡◌, map, length, IfOk};
 ghost use Rattle.std.specs.Arc.{arc_value};
 ghost use Rattle.lb_rebuild.specs.Memberships.{same_members as are_same, are_among};
 ghost use Rattle.std.specs.List.{list_any};
 ghost use Rattle.lb_select.specs.Backends.{same_member};
-ghost use Rattle.lb_rebuild.specs.Groups.{turn_of};
-ghost use Rattle.lb_rebuild.specs.Kept.{slot_view};
+ghost use Rattle.lb_rebuild.specs.Groups.{turn_of, order_for};
+ghost use Rattle.lb_rebuild.specs.Kept.{slot_view, AreOrdered};
 
 use crate::job::Order;
 use crate::slot::Slot;
@@ -86,4 +86,39 @@ pub(crate) fn turns_of<S: BackendSelection>(
         turns.push(slot.turn())?;
     }
     Ok(turns)
+}
+
+// An order for each slot, of a membership that is to be the newest.
+pub(crate) fn orders_for<S: BackendSelection>(
+    alloc: Global,
+    slots: &[Slot<S>],
+    generation: u64,
+    members: &Arc<BTreeSet<Backend>>,
+) -> Result<Vec<Order<S::Config>>, AllocError>
+    ensures { IfOk result (λ orders. orders.items ≡ map (λ x. order_for generation (arc_value members.now).keys (slot_view x)) slots.now) }
+{
+    let mut orders = Vec::new(alloc);
+    for slot in slots {
+        let order = Order {
+            generation,
+            members: members.clone()?,
+            config: slot.config.clone()?,
+        };
+        orders.push(order)?;
+    }
+    Ok(orders)
+}
+
+// Lets the orders wait, each in its slot.
+pub(crate) fn hand_out<S: BackendSelection>(
+    slots: &mut Vec<Slot<S>>,
+    mut orders: Vec<Order<S::Config>>,
+)
+    requires { length orders.items ≡ length slots.old.items }
+    ensures { AreOrdered slots.old.items orders.items slots.new.items }
+{
+    while let Some(order) = orders.pop() {
+        let slot = orders.len();
+        slots[slot].order(order);
+    }
 }
