@@ -3,3 +3,4 @@ pub mod Causes
 pub mod GateStores
 pub mod Groups
 pub mod Orders
+pub mod Scheduling

@@ -26,7 +26,11 @@ use std::marker::Model;
 use std::snapshot::Snapshot;
 use std::sync::Arc;
 
-/// A group.
+/// A group of slots, each of which serves one selector, and gets the next one by way of a job, a build and a publication.
+///
+/// Contracts see the gate, the newest generation with its members, and the slots. A group that is dropped with a retired
+/// selector in it keeps the permit of that selector for good.
+#[derive(Drop)]
 pub struct GroupCore<S: BackendSelection> {
     gate: Snapshot<GateCore>,
     newest: u64,
