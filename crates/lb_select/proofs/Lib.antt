@@ -1,1 +1,13 @@
+pub mod AddressRoundTrip
+pub mod AddressTexts
 pub mod Clones
+pub mod Determined
+pub mod SameBackends
+pub mod Shares
+pub mod WeightLemmas
+pub mod Laws
+pub mod Lists
+pub mod Searches
+pub mod Shares
+pub mod Turns
+pub mod WeightLemmas
