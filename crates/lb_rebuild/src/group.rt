@@ -8,7 +8,7 @@ ghost use Rattle.lb_rebuild.specs.Fresh.{fresh_group};
 ghost use Rattle.lb_rebuild.specs.Groups.{ScheduledIn};
 ghost use Rattle.lb_rebuild.specs.Kept.{AreFresh};
 ghost use Rattle.lb_rebuild.specs.Least.{least};
-ghost use Rattle.lb_rebuild.specs.Memberships.{same_members};
+ghost use Rattle.lb_select.specs.Memberships.{same_members};
 ghost use Rattle.lb_rebuild.specs.Views.{served_list, with_slot};
 ghost use Rattle.lb_rebuild.specs.Calls.{Asked, PublishedIn, FailedIn, EnteredIn, TakenIn, DestroyedIn, readers_at, left_slot};
 

@@ -5,6 +5,7 @@
 pub mod gate;
 mod gate_rule;
 pub mod group;
+pub mod handed;
 pub mod job;
 mod least;
 pub mod schedule;
