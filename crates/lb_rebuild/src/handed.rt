@@ -7,6 +7,7 @@ use std::marker::Model;
 /// A source of words: a counter that wraps at 2^64, and random words that somebody drew before.
 ///
 /// Contracts see the next ticket and the random words that are left.
+#[derive(Drop)]
 pub struct HandedWords<'a> {
     tickets: u64,
     rest: &'a [u64],

@@ -1,6 +1,10 @@
 //! A slot of a group: the selector that it serves to its readers, the order that waits, and at most one extra selector.
 //! An extra is a build in flight, a retired selector, or one that was taken out to be destroyed.
-ghost use Rattle.std.specs.Prelude.{◌≡◌, true, [], ◌+◌, ◌<◌, ◌⊎◌, ℕ, IfOk, IfErr, OnErr};
+ghost use Rattle.std.specs.Prelude.{◌≡◌, Bool, true, [], ◌+◌, ◌<◌, ◌⊎◌, ℕ, IfOk, IfErr, OnErr};
+ghost use Rattle.std.specs.Arc.{arc_value};
+ghost use Rattle.std.specs.Fn.{FnReturnsAt};
+ghost use Rattle.lb_select.specs.Backends.{Member, same_member};
+ghost use Rattle.lb_select.specs.Selections.{Selects};
 ghost use Rattle.lb_rebuild.specs.Gate.{GateId};
 ghost use Rattle.lb_rebuild.specs.Kept.{IsWithoutPermit};
 
@@ -12,6 +16,7 @@ use lb_select::backend::Backend;
 use lb_select::refusal::Refusal;
 use lb_select::select::select;
 use lb_select::walk::BackendSelection;
+use lb_select::words::WordSource;
 use std::alloc::Global;
 use std::collections::BTreeSet;
 use std::marker::Model;
@@ -290,7 +295,7 @@ impl<S: BackendSelection> Slot<S> {
             return Err(Refusal::NotEnoughWords);
         }
         let mut words = HandedWords::new(serving.tickets, random);
-        let answer = select(alloc, &serving.selector, key, &mut words, limit, &every);
+        let answer = first(alloc, &serving.selector, key, &mut words, limit, &every);
         serving.tickets = words.tickets();
         answer
     }
@@ -403,6 +408,22 @@ fn clear<S: BackendSelection>(stage: &mut Stage<S>)
         Stage::Retired(_retired) => unreachable!(),
         Stage::Free | Stage::Flight(_) | Stage::TakenOut(_) => {}
     }
+}
+
+// A selection where each backend is accepted.
+fn first<S: BackendSelection, W: WordSource, F: Fn(&Backend) -> bool>(
+    alloc: Global,
+    selector: &Arc<S>,
+    key: &[u8],
+    words: &mut W,
+    limit: usize,
+    accept: &F,
+) -> Result<Option<Backend>, Refusal>
+    requires call { F.IsAlwaysCallable accept.now }
+    requires all { (b : Member) (a : Bool) → FnReturnsAt F.Fn accept.now b a → a ≡ true }
+    ensures { Selects same_member (λ b a. a ≡ true) limit W.gives (S.walks (S.members (arc_value selector.now)) (S.built_with (arc_value selector.now)) key.now) words.old result words.new }
+{
+    select(alloc, selector, key, words, limit, accept)
 }
 
 // Accepts each backend.
