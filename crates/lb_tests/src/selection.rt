@@ -100,7 +100,7 @@ fn random_words_select(rt: HostRuntime) -> Result<(), Fail> {
     let mut core = words();
     let found = select(alloc, &selector, b"k", &mut core, 3, &|_: &Backend| true)?;
     assert_eq!(rt; found.is_some(), true);
-    let shared = SharedWords::new();
+    let shared = SharedWords::new(Pcg64::new(3, 4));
     let mut lent = shared.lend(&rt);
     let found = select(alloc, &selector, b"k", &mut lent, 3, &|_: &Backend| true)?;
     assert_eq!(rt; found.is_some(), true);
