@@ -2,12 +2,11 @@
 //! It takes no arguments; everything that matters is in the library.
 #![tactic(auto)]
 
-use lb_script::counted::Counted;
-use lb_script::run::run_script;
+use pingora_load_balancing::script::{Counted, run_script};
+use std::env;
 use std::io::{self, BufWriter, Write};
 use std::process::ExitCode;
 use std::rt::Env;
-use std::{env, fmt};
 
 const BAD_ARGUMENTS: &[u8] = b"error 0 BadArguments\n";
 const OUT_OF_MEMORY: &[u8] = b"error 1 OutOfMemory\n";
