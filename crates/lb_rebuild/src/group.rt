@@ -15,9 +15,11 @@ ghost use Rattle.lb_rebuild.specs.Views.{served_list, with_slot};
 ghost use Rattle.lb_rebuild.specs.Calls.{Asked, PublishedIn, Rises, FailedIn, EnteredIn, TakenIn, DestroyedIn, readers_at, left_slot};
 
 use crate::gate::{GateCore, Permit};
-use crate::least::least_refusal;
-use crate::schedule::{Scheduled, hand_out, lists_members, orders_for, same_members as is_same, turns_of};
 use crate::job::{Built, Job};
+use crate::least::least_refusal;
+use crate::schedule::{
+    Scheduled, hand_out, lists_members, orders_for, same_members as is_same, turns_of,
+};
 use crate::slot::{Ask, Reader, Retired, Slot, Told};
 use lb_select::backend::Backend;
 use lb_select::refusal::Refusal;
