@@ -1,5 +1,5 @@
 -- Orders are handed out to the slots from the last one on.
-use Rattle.std.proofs.Common.{◌≡◌, ◌<◌, ◌≤◌, ◌+◌, ℕ, zero, suc, List, [], ◌∷◌, ◌++◌, map, length, get_or, set, refl, sym, ap, subst, ◌∙◌, arith, Some, length-append, length-set, get_or-set_same, get_or-set_other, All}
+use Rattle.std.proofs.Common.{◌≡◌, ◌<◌, ◌≤◌, ◌+◌, ℕ, zero, suc, List, [], ◌∷◌, ◌++◌, map, length, get_or, set, refl, sym, ap, subst, ◌∙◌, arith, length-append, length-set, get_or-set_same, get_or-set_other}
 use Rattle.std.proofs.lemmas.List.{get_or_default}
 use Rattle.std.proofs.Math.ListN.{get_or-map}
 use mathlib.Core.Logic.{dite}
@@ -7,7 +7,7 @@ use native.Mathlib.Decide.{ℕ_discrete}
 use Rattle.lb_select.specs.Backends.{Member}
 use Rattle.lb_rebuild.specs.Gate.{GateId}
 use Rattle.lb_rebuild.specs.Views.{OrderView, SlotView}
-use Rattle.lb_rebuild.specs.Kept.{slot_view, IsKept, AllKept, IsOrdered, AreOrdered}
+use Rattle.lb_rebuild.specs.Kept.{slot_view, AllKept, IsOrdered, AreOrdered}
 use Rattle.lb_rebuild.specs.Groups.{ordered, order_for}
 use Rattle.lb_rebuild.specs.declared.slot.Slot.{Slot}
 
@@ -35,13 +35,13 @@ module _ {S I C : Type 0} where
     few = omega arith;
     front = λ k o l. refl;
     rest = λ k d l. refl;
-    done = λ k d o l m. absurd (omega arith)
+    done = λ k d o l m. absurd (omega arith);
   }
 
   pub hands_last : (xs : List (Slot S I C)) (all left : List (OrderView C)) (ys : List (Slot S I C)) → HandsOut xs all left ys → length left ≡ 0 → AreOrdered xs all ys
   hands_last xs all left ys h none = record {
     count = h.count;
-    each = λ k d o l. h.done k d o (omega arith) l
+    each = λ k d o l. h.done k d o (omega arith) l;
   }
 
   -- one order more is handed out
@@ -59,7 +59,7 @@ module _ {S I C : Type 0} where
             dite (ℕ_discrete k m)
             (λ at. here k d e at)
             (λ apart. subst (λ (z : Slot S I C). IsOrdered (get_or xs k d) (get_or all k e) z) (sym (get_or-set_other ys m k y d apart))
-            (h.done k d e (omega (arith, size, low, apart, place)) high))
+            (h.done k d e (omega (arith, size, low, apart, place)) high));
       }
     where
       here : (k : ℕ) (d : Slot S I C) (e : OrderView C) → k ≡ m → IsOrdered (get_or xs k d) (get_or all k e) (get_or (set ys m y) k d)
@@ -69,7 +69,7 @@ module _ {S I C : Type 0} where
           let within : m < length left = omega (arith, size, place) in
           let slot : x ≡ get_or xs m d = is ∙ get_or_default ys m x d inside ∙ h.rest m d within in
           let order_is : o ≡ get_or all m e =
-              sym (last_at fewer o e) ∙ ap (λ (j : ℕ). get_or (fewer ++ o ∷ []) j e) (sym place) ∙ ap (λ (z : List (OrderView C)). get_or z m e) (sym split) ∙ h.front m e within in
+          sym (last_at fewer o e) ∙ ap (λ (j : ℕ). get_or (fewer ++ o ∷ []) j e) (sym place) ∙ ap (λ (z : List (OrderView C)). get_or z m e) (sym split) ∙ h.front m e within in
           let set_is : y ≡ get_or (set ys m y) m d = sym (get_or-set_same ys m y d inside) in
           subst (λ (j : ℕ). IsOrdered (get_or xs j d) (get_or all j e) (get_or (set ys m y) j d)) (sym at)
           (subst (λ (u : Slot S I C). IsOrdered u (get_or all m e) (get_or (set ys m y) m d)) slot

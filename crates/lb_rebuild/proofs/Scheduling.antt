@@ -30,14 +30,14 @@ module _ {S I C : Type 0} where
       × (group_of id m members ys ≡ record { gate = v.gate; newest = v.newest + 1; current = members; slots = map (ordered (v.newest + 1) members) v.slots }))
   scheduled id n m old members xs ys turns v e next other are all =
       let views : map slot_view ys ≡ map (ordered (n + 1) members) (map slot_view xs) =
-          ordered_views xs ys m members all ∙ ap (λ (k : ℕ). map (ordered k members) (map slot_view xs)) next in
+      ordered_views xs ys m members all ∙ ap (λ (k : ℕ). map (ordered k members) (map slot_view xs)) next in
       let group : group_of id m members ys ≡ record { gate = id; newest = n + 1; current = members; slots = map (ordered (n + 1) members) (map slot_view xs) } =
-          ap (λ (k : ℕ). group_of id k members ys) next
-          ∙ ap (λ (l : List (SlotView C)). record { gate = id; newest = n + 1; current = members; slots = l }) views in
+      ap (λ (k : ℕ). group_of id k members ys) next
+      ∙ ap (λ (l : List (SlotView C)). record { gate = id; newest = n + 1; current = members; slots = l }) views in
       subst (λ (w : GroupView C). MatchBool (same_members members w.current)
-        ((m ≡ w.newest) × (true ≡ false) × (turns ≡ []) × (group_of id m members ys ≡ w))
-        ((m ≡ w.newest + 1) × (true ≡ true) × (turns ≡ map turn_of w.slots)
-        × (group_of id m members ys ≡ record { gate = w.gate; newest = w.newest + 1; current = members; slots = map (ordered (w.newest + 1) members) w.slots })))
+      ((m ≡ w.newest) × (true ≡ false) × (turns ≡ []) × (group_of id m members ys ≡ w))
+      ((m ≡ w.newest + 1) × (true ≡ true) × (turns ≡ map turn_of w.slots)
+      × (group_of id m members ys ≡ record { gate = w.gate; newest = w.newest + 1; current = members; slots = map (ordered (w.newest + 1) members) w.slots })))
       e
       (rw other (next, refl, are ∙ turns-map xs, group))
 
@@ -45,5 +45,5 @@ module _ {S I C : Type 0} where
   pub fresh_more : (xs : List (Slot S I C)) (configs : List C) (x : Slot S I C) (c : C) → AreFresh xs configs → IsFresh c x → AreFresh (xs ++ x ∷ []) (configs ++ c ∷ [])
   fresh_more xs configs x c all one = record {
     views = map-append slot_view xs (x ∷ []) ∙ ap (λ (l : List (SlotView C)). l ++ slot_view x ∷ []) all.views ∙ ap (λ (v : SlotView C). map fresh_slot configs ++ v ∷ []) one.view ∙ sym (map-append fresh_slot configs (c ∷ []));
-    kept = λ id. All-push (IsKept id 0) xs x (all.kept id) (one.kept id)
+    kept = λ id. All-push (IsKept id 0) xs x (all.kept id) (one.kept id);
   }

@@ -1,5 +1,5 @@
 -- A selection in which each backend is accepted, from the words to the slot.
-use Rattle.std.proofs.Common.{◌≡◌, ◌&&◌, ℕ, Bool, true, false, nat_le, MatchBool, List, [], ◌∷◌, length, refl, sym, ap, subst, ◌∙◌, Option, Some, None, Result, Ok, Err, take}
+use Rattle.std.proofs.Common.{◌≡◌, ◌&&◌, ℕ, Bool, true, false, nat_le, MatchBool, List, [], ◌∷◌, length, ap, subst, Option, Some, None, Result, Ok, Err, take}
 use Rattle.std.specs.List.{AllByRecursion as Each}
 use Rattle.lb_select.specs.Backends.{Member, same_member}
 use Rattle.lb_select.specs.Draws.{Draw}
@@ -38,9 +38,9 @@ module _ {C : Type 0} (random : List Member → C → Bool) (walks : List Member
       → SelectedAt random walks key limit words x r (record x { serving = record { generation = st.generation; members = st.members; config = st.config; tickets = m } })
   selected key limit words x st r s t m is enough begins drawn answer =
       let found : Selects same_member (λ b a. a ≡ true) limit HandedGives (walks st.members st.config key) (record { tickets = st.tickets; words = words }) r t =
-          subst (λ (h : Handed). Selects same_member (λ b a. a ≡ true) limit HandedGives (walks st.members st.config key) h r t) begins answer in
+      subst (λ (h : Handed). Selects same_member (λ b a. a ≡ true) limit HandedGives (walks st.members st.config key) h r t) begins answer in
       let Here : ServingView C → Type 0 = λ z. MatchBool (random z.members z.config && nat_le (length words) limit)
-          ((r ≡ Err NotEnoughWords) × (record x { serving = record st { tickets = m } } ≡ x))
-          ((u : Handed) × Selects same_member (λ b a. a ≡ true) limit HandedGives (walks z.members z.config key) (record { tickets = z.tickets; words = words }) r u
-          × (record x { serving = record st { tickets = m } } ≡ record x { serving = record z { tickets = u.tickets } })) in
+      ((r ≡ Err NotEnoughWords) × (record x { serving = record st { tickets = m } } ≡ x))
+      ((u : Handed) × Selects same_member (λ b a. a ≡ true) limit HandedGives (walks z.members z.config key) (record { tickets = z.tickets; words = words }) r u
+      × (record x { serving = record st { tickets = m } } ≡ record x { serving = record z { tickets = u.tickets } })) in
       subst Here is (rw enough (t, found, ap (λ (k : ℕ). record x { serving = record st { tickets = k } }) drawn))

@@ -11,7 +11,7 @@ fresh_slot c =
       readers = 0;
       config = c;
       waiting = None;
-      stage = free
+      stage = free;
     }
 
 -- a group at its start, with a slot for each configuration

@@ -1,10 +1,9 @@
 -- A group after a new membership.
-use Rattle.std.specs.Prelude.{◌≡◌, ◌≢◌, ◌+◌, ◌⊎◌, ℕ, Bool, true, false, MatchBool, List, [], map, is_some, ◌||◌, Option, Some, None, Result, Ok, Err, if◌then◌else◌}
+use Rattle.std.specs.Prelude.{◌≡◌, ◌≢◌, ◌+◌, ◌⊎◌, ℕ, true, false, MatchBool, List, [], map, is_some, ◌||◌, Some, Result, Ok, Err, if◌then◌else◌}
 use Rattle.lb_select.specs.Backends.{Member}
 use Rattle.lb_select.specs.declared.refusal.Refusal.{Refusal}
 use Rattle.lb_select.specs.declared.refusal.Refusal.TheVariants.{GenerationsExhausted, OutOfMemory}
-use Rattle.lb_rebuild.specs.Gate.{GateId}
-use Rattle.lb_rebuild.specs.Views.{StageView, free, ServingView, OrderView, SlotView, GroupView, is_flying}
+use Rattle.lb_rebuild.specs.Views.{OrderView, SlotView, GroupView, is_flying}
 use Rattle.lb_select.specs.Memberships.{same_members}
 use Rattle.lb_rebuild.specs.declared.schedule.SlotTurn.{SlotTurn}
 use Rattle.lb_rebuild.specs.declared.schedule.SlotTurn.TheVariants.{Running, Start}

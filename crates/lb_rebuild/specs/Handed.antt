@@ -1,6 +1,5 @@
 -- Words that are handed in: a counter that the walks over one selector share, and random words for one selection.
-use Rattle.std.specs.Prelude.{◌≡◌, ◌+◌, ◌%◌, ◌^◌, ◌==◌, ℕ, List, [], ◌∷◌}
-use Rattle.lb_select.specs.Backends.{Member}
+use Rattle.std.specs.Prelude.{◌≡◌, ◌+◌, ◌%◌, ◌^◌, ℕ, List, [], ◌∷◌}
 use Rattle.lb_select.specs.Draws.{Draw, ticket, random, load}
 
 -- the next ticket, and the random words that are left

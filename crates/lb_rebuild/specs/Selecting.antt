@@ -6,7 +6,7 @@ use Rattle.lb_select.specs.Selections.{Selects}
 use Rattle.lb_select.specs.declared.refusal.Refusal.{Refusal}
 use Rattle.lb_select.specs.declared.refusal.Refusal.TheVariants.{NotEnoughWords}
 use Rattle.lb_rebuild.specs.Handed.{Handed, HandedGives}
-use Rattle.lb_rebuild.specs.Views.{ServingView, SlotView, GroupView, with_slot}
+use Rattle.lb_rebuild.specs.Views.{SlotView, GroupView, with_slot}
 
 -- the slot with another number of tickets drawn from what it serves
 abbrev pub drawn_slot : {C : Type 0} → SlotView C → ℕ → SlotView C
@@ -22,7 +22,7 @@ SelectedAt random walks key limit words x r y =
     ((r ≡ Err NotEnoughWords) × (y ≡ x))
     ((t : Handed)
     × Selects same_member (λ b a. a ≡ true) limit HandedGives (walks x.serving.members x.serving.config key)
-        (record { tickets = x.serving.tickets; words = words }) r t
+    (record { tickets = x.serving.tickets; words = words }) r t
     × (y ≡ drawn_slot x t.tickets))
 
 -- a slot that is not there selects nothing

@@ -3,11 +3,11 @@
 ghost use Rattle.std.specs.Prelude.{◌≡◌, [], map};
 ghost use Rattle.lb_rebuild.specs.Least.{least, earlier as earlier_of, memory_apart};
 
+use lb_select::backend::Backend;
 use lb_select::refusal::Refusal;
 use lb_select::walk::BackendSelection;
 use std::alloc::Global;
 use std::collections::BTreeSet;
-use lb_select::backend::Backend;
 
 /// The least cause for which one of these configurations gives no selector over the empty set, or `None` where each gives one
 /// once memory is there. It builds each selector and drops it.

@@ -7,6 +7,6 @@ mod gate_rule;
 pub mod group;
 pub mod handed;
 pub mod job;
-mod least;
+pub mod least;
 pub mod schedule;
 pub mod slot;

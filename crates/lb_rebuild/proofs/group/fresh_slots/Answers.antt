@@ -1,6 +1,5 @@
 -- One slot more, for one configuration more.
 use Rattle.std.proofs.Common.{◌≡◌, [], ap, ◌∙◌}
-use Rattle.lb_rebuild.specs.Kept.{AreFresh, IsFresh}
 use Rattle.lb_rebuild.proofs.Scheduling.{fresh_more}
 use Rattle.lb_rebuild.proofs.group.fresh_slots.Goals as goal
 

@@ -1,6 +1,5 @@
 -- One cause more of those that are left.
-use Rattle.std.proofs.Common.{◌≡◌, [], ap, ◌∙◌, arith}
-use Rattle.lb_rebuild.specs.Least.{memory_apart}
+use Rattle.std.proofs.Common.{[], arith}
 use Rattle.lb_rebuild.proofs.Causes.{at_end, one_more}
 use Rattle.lb_rebuild.proofs.least.least_refusal.Goals as goal
 

@@ -1,11 +1,9 @@
 -- Each slot has its order, of the generation that is the newest from then on.
-use Rattle.std.proofs.Common.{◌≡◌, ◌+◌, ◌∙◌, List, false, map, sym, ap, subst}
+use Rattle.std.proofs.Common.{◌≡◌, ◌+◌, ◌∙◌, false, map, sym, ap}
 use Rattle.std.specs.Arc.{arc_value}
-use Rattle.lb_select.specs.Backends.{Member}
-use Rattle.lb_rebuild.specs.Views.{GroupView}
 use Rattle.lb_select.specs.Memberships.{same_members}
 use Rattle.lb_rebuild.specs.Groups.{turn_of}
-use Rattle.lb_rebuild.specs.Kept.{slot_view, AllKept, AreOrdered}
+use Rattle.lb_rebuild.specs.Kept.{slot_view, AreOrdered}
 use Rattle.lb_rebuild.proofs.Orders.{orders_of, ordered_kept}
 use Rattle.lb_rebuild.proofs.Scheduling.{scheduled}
 use Rattle.lb_rebuild.proofs.group.GroupCore.schedule.Goals as goal
@@ -37,6 +35,6 @@ returns g c =
     let orders : c.in_ok-orders.orders.items ≡ orders_of c.in-Some.generation c.args.discovered.keys xs = rw (← slots, ← members) made in
     let all : AreOrdered xs (orders_of c.in-Some.generation c.args.discovered.keys xs) ys = rw (← orders) handed in
     let other : same_members c.args.discovered.keys (arc_value c.self.inside.current).keys ≡ false =
-        ap (λ (t : _). same_members c.args.discovered.keys t.keys) (sym c.deref.ensures) ∙ sym c.same_members.ensures ∙ c.if-same_members.false in
+    ap (λ (t : _). same_members c.args.discovered.keys t.keys) (sym c.deref.ensures) ∙ sym c.same_members.ensures ∙ c.if-same_members.false in
     let turns : c.in_ok-turns.turns.items ≡ map (λ (x : _). turn_of (slot_view x)) xs = rw (← c.deref-2.ensures.value) c.in_ok-turns.ensures in
     rw members (scheduled c.self.inside.gate.value.id n c.in-Some.generation (arc_value c.self.inside.current).keys c.args.discovered.keys xs ys c.in_ok-turns.turns.items c.args.self.now c.self.view_is next other turns all)
