@@ -102,9 +102,6 @@ not_less a b h =
       | inr t ↦ t.1
     ]
 
-not_below_from : (o : Ordering) → o ≡ Greater → is_lt o ≡ false
-not_below_from o e = ap is_lt e
-
 module _ (ms : List Member) (order : IsStrictlySortedBy member_cmp ms) (owners : List ℕ) (points kept : List (ℕ × ℕ))
     (h : IsFilled ms (length ms) owners points) (a : IsArranged nat_cmp points kept) where
   -- an address that has a point: it is marked, with the number of who stands for the address

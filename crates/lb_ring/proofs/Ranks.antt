@@ -17,10 +17,6 @@ clockwise_up place q h l = omega arith
 pub clockwise_round : (place q : ℕ) → q < place → place < 2 ^ 32 → clockwise place q ≡ q + 2 ^ 32 - place
 clockwise_round place q h l = omega arith
 
--- lists of the same numbers
-pub lists_same : (P Q : ℕ → Type 0) (xs : List ℕ) → Lists P xs → ((q : ℕ) → P q → Q q) → ((q : ℕ) → Q q → P q) → Lists Q xs
-lists_same P Q xs l to from = record { once = l.once; all = λ q h. l.all q (from q h); only = λ q m. to q (l.only q m) }
-
 -- a list that begins at some element and goes on from the first
 abbrev pub around : ℕ → List ℕ → List ℕ
 around s ps = drop s ps ++ take s ps

@@ -156,16 +156,6 @@ module _ (r : Placed) (place : IsPlaced r.members r.owners r.points) (key : List
     end = λ h. no_point (w.end h);
   }
 
--- a step of an iterator
-pub moves_on : (r : Placed) (at now : ℕ) (given : Option Member) → now ≡ index_here r at + 1 → (m : Member) → given ≡ Some m → member_here r at ≡ Some m → IsMove r at given now
-moves_on r at now given e m g h =
-    let P : Option Member → Type 0 = λ o. IsMove r at o now in
-    let Q : ℕ → Type 0 = λ n. IsMove r at (Some m) n in
-    subst P (sym g) (subst Q (sym e) (λ es cs f w. record { undrawn = w.undrawn; candidates = (h, w.candidates); end = w.end }))
-
-pub moves_nowhere : (r : Placed) (at now : ℕ) → r.points ≡ [] → IsMove r at None now
-moves_nowhere r at now e = (record { undrawn = refl; candidates = tt; end = λ h. e }, record { undrawn = refl; candidates = tt; end = λ h. e })
-
 -- what a read of a list lends
 got : (xs : List ℕ) (i : ℕ) (o : Option (Bor ℕ)) → IsGetResult xs i i o → (b : ℕ) → slice_get xs i ≡ Some b → option_copied o ≡ Some b
 got xs i None h b e = let l : i < length xs = get_inside xs i b e in let m : length xs ≤ i = h.3 in absurd (omega arith)
