@@ -1,10 +1,8 @@
 -- The points of a chain, one after another.
-use Rattle.std.proofs.Common.{◌≡◌, ℕ, zero, suc, ◌+◌, ◌^◌, ◌<◌, List, [], ◌∷◌, ◌++◌, map, refl, sym, ap, subst, ◌∙◌, arith, add-one, append_assoc, ◌⊎◌, inl, inr}
-use Rattle.std.specs.Prelude.{fold}
+use Rattle.std.proofs.Common.{◌≡◌, ℕ, zero, suc, ◌+◌, ◌^◌, ◌<◌, List, [], ◌∷◌, ◌++◌, map, refl, sym, ap, subst, ◌∙◌, arith, add-one, append_assoc, inl, inr}
 use Rattle.std.specs.Int.{w32, to_le_bytes}
-use Rattle.std.specs.List.{Contains, range_with_len}
+use Rattle.std.specs.List.{range_with_len}
 use Rattle.std.proofs.lemmas.List.Elements.{Contains-push_cases}
-use Rattle.lb_select.specs.Backends.{Address}
 use Rattle.lb_ring.specs.Crc.{crc, crc_fed, crc_last, crc_byte}
 use Rattle.lb_ring.specs.Chains.{text_chain, state_chain, point_after}
 use Rattle.lb_ring.specs.Placed.{chain_entries}
@@ -39,8 +37,9 @@ entries_more s k o =
 pub small_push : (xs : List (ℕ × ℕ)) (p o : ℕ) → HasSmallPoints xs → p < 2 ^ 32 → HasSmallPoints (xs ++ (p, o) ∷ [])
 small_push xs p o h l = λ e m.
     elim (Contains-push_cases xs (p, o) e m) [
-      inl old ↦ h e old
-    | inr new ↦ (let P : (ℕ × ℕ) → Type 0 = λ z. z.0 < 2 ^ 32 in subst P new l) ]
+      | inl old ↦ h e old
+      | inr new ↦ (let P : (ℕ × ℕ) → Type 0 = λ z. z.0 < 2 ^ 32 in subst P new l)
+    ]
 
 fed_append : (s : ℕ) (xs ys : List ℕ) → crc_fed s (xs ++ ys) ≡ crc_fed (crc_fed s xs) ys
 fed_append s [] ys = refl

@@ -1,8 +1,8 @@
 -- The table of CRCs: to shift bits out is linear, so what the low byte of a state becomes can be looked up.
-use Rattle.std.proofs.Common.{◌≡◌, ℕ, zero, suc, ◌+◌, ◌*◌, ◌/◌, ◌%◌, ◌^◌, ◌<◌, ◌≤◌, ◌⊎◌, inl, inr, ◌==◌, ◌&&◌, Bool, true, false, List, [], ◌∷◌, length, get_or, refl, sym, ap, ◌∙◌, arith, eqb, add-zero, zero-add, lit<}
+use Rattle.std.proofs.Common.{◌≡◌, ℕ, zero, suc, ◌+◌, ◌*◌, ◌/◌, ◌%◌, ◌^◌, ◌<◌, ◌⊎◌, inl, inr, ◌==◌, ◌&&◌, Bool, true, false, List, [], ◌∷◌, length, get_or, refl, sym, ap, ◌∙◌, arith, add-zero, zero-add, lit<}
 use Rattle.std.specs.Prelude.{bit_xor}
 use Rattle.std.proofs.lemmas.Bool.{eqb-true}
-use Rattle.std.specs.Int.Bits.{xor_shr, xor_mod, xor_comm, xor_assoc, xor_self, xor_zero_r, xor_zero_l, xor_shifted, xor_block, xor_lt}
+use Rattle.std.specs.Int.Bits.{xor_shr, xor_mod, xor_comm, xor_assoc, xor_self, xor_zero_r, xor_shifted, xor_block, xor_lt}
 use Rattle.lb_ring.specs.Crc.{polynomial, crc, crc_bit, crc_bits, crc_byte, crc_fed}
 use Rattle.lb_ring.specs.declared.crc.TheConstants.{TABLE}
 
@@ -57,8 +57,9 @@ both_odd a b p q =
 bit_linear : (a b : ℕ) → crc_bit (bit_xor a b) ≡ bit_xor (crc_bit a) (crc_bit b)
 bit_linear a b =
     elim (bit_cases a) [
-      inl p ↦ elim (bit_cases b) [ inl q ↦ both_even a b p q | inr q ↦ second_odd a b p q ]
-    | inr p ↦ elim (bit_cases b) [ inl q ↦ first_odd a b p q | inr q ↦ both_odd a b p q ] ]
+      | inl p ↦ elim (bit_cases b) [ inl q ↦ both_even a b p q | inr q ↦ second_odd a b p q ]
+      | inr p ↦ elim (bit_cases b) [ inl q ↦ first_odd a b p q | inr q ↦ both_odd a b p q ]
+    ]
 
 -- so is it to shift eight out
 bits_linear : (a b : ℕ) → crc_bits (bit_xor a b) ≡ bit_xor (crc_bits a) (crc_bits b)
@@ -127,8 +128,9 @@ step_by_table state byte h =
 bit_small : (n : ℕ) → n < 2 ^ 32 → crc_bit n < 2 ^ 32
 bit_small n h =
     elim (bit_cases n) [
-      inl even ↦ rw (even_bit n even) (let g : n / 2 < 2 ^ 32 = omega arith in g)
-    | inr odd ↦ rw (odd_bit n odd) (xor_lt 32 (n / 2) polynomial (omega arith) (lit< tt)) ]
+      | inl even ↦ rw (even_bit n even) (let g : n / 2 < 2 ^ 32 = omega arith in g)
+      | inr odd ↦ rw (odd_bit n odd) (xor_lt 32 (n / 2) polynomial (omega arith) (lit< tt))
+    ]
 
 bits_small : (n : ℕ) → n < 2 ^ 32 → crc_bits n < 2 ^ 32
 unfolding crc_bits

@@ -1,23 +1,22 @@
 -- The backends of a set, one after another, and the points that they add.
-use Rattle.std.proofs.Common.{◌≡◌, ◌≢◌, ℕ, zero, suc, ◌+◌, ◌*◌, ◌^◌, ◌<◌, ◌≤◌, ◌⊎◌, inl, inr, Bool, true, false, cond, List, [], ◌∷◌, ◌++◌, length, take, map, get_or, refl, sym, ap, subst, ◌∙◌, arith, length-append, zero-add}
-use Rattle.std.specs.Prelude.{Some, None, Option, slice_get, option_and_then, sum_by}
+use Rattle.std.proofs.Common.{◌≡◌, ℕ, zero, suc, ◌+◌, ◌*◌, ◌<◌, ◌≤◌, ◌⊎◌, inl, inr, true, cond, List, [], ◌∷◌, ◌++◌, length, take, map, refl, sym, ap, subst, ◌∙◌, arith, length-append, zero-add}
+use Rattle.std.specs.Prelude.{Some, None, Option, slice_get, option_and_then}
 use Rattle.std.specs.List.{Contains, range_with_len}
-use Rattle.std.proofs.lemmas.Option.{get_or_from_slice_get, slice_get-get_or, same_Some}
+use Rattle.std.proofs.lemmas.Option.{same_Some}
 use Rattle.std.proofs.lemmas.List.Sums.{sum_by-append}
 use Rattle.std.proofs.lemmas.List.Elements.{Contains-push, Contains-push_cases, Contains-append_left, Contains-append_right, Contains-append_cases}
-use Rattle.lb_select.specs.Backends.{Address, Member}
+use Rattle.lb_select.specs.Backends.{Member}
 use Rattle.lb_select.specs.Seen.{inet_seen}
 use Rattle.lb_select.specs.declared.backend.InetAddr.{InetAddr}
 use Rattle.lb_select.specs.declared.backend.InetAddr.TheVariants.{V4, V6}
 use Rattle.lb_ring.specs.Chains.{address_text, crc_chain, state_chain}
 use Rattle.lb_ring.specs.Crc.{crc_fed}
-use Rattle.lb_ring.specs.Choices.{is_internet, ring_weight, points_per_weight, StandsFor}
+use Rattle.lb_ring.specs.Choices.{is_internet, ring_weight, points_per_weight}
 use Rattle.lb_ring.specs.Placed.{member_at, Bears, IsOfChain, IsFilled, chain_entries}
-use Rattle.lb_ring.specs.Sorted.{Rises, none, more, HasSmallPoints}
+use Rattle.lb_ring.specs.Sorted.{none, more, HasSmallPoints}
 use Rattle.lb_ring.proofs.Chaining.{chain_of_state}
 use Rattle.lb_ring.proofs.Lists.{here, there, head_or_rest, nothing_in_none, rises_append, less_tells}
 use Rattle.lb_ring.proofs.Owners.{in_map, of_map}
-use Rattle.lb_ring.proofs.Standing.{get_inside, contains_at, at_contained}
 
 -- reading a list to which one element was added
 pub get_front : {X : Type 0} (xs ys : List X) (i : ℕ) (x : X) → slice_get xs i ≡ Some x → slice_get (xs ++ ys) i ≡ Some x
@@ -55,8 +54,9 @@ of_range : (a n q : ℕ) → Contains (range_with_len a n) q → q < a + n
 of_range a zero q m = absurd (nothing_in_none q m)
 of_range a (suc n) q m =
     elim (head_or_rest a (range_with_len (a + 1) n) q m) [
-      inl e ↦ omega arith
-    | inr t ↦ (let l : q < a + 1 + n = of_range (a + 1) n q t in omega arith) ]
+      | inl e ↦ omega arith
+      | inr t ↦ (let l : q < a + 1 + n = of_range (a + 1) n q t in omega arith)
+    ]
 
 pub to_range : (n k : ℕ) → k < n → Contains (range_with_len 0 n) k
 to_range n k h = let e : 0 + k ≡ k = omega arith in let P : ℕ → Type 0 = λ z. Contains (range_with_len 0 n) z in subst P e (in_range 0 n k h)
@@ -92,8 +92,9 @@ module _ (ms : List Member) (i : ℕ) (owners : List ℕ) (points : List (ℕ ×
     few = (let a : length owners ≤ ring_weight (take i ms) = h.few in let e = weight_up in omega arith);
     bearing = λ b c. (let l : b < i = (h.bearing b c).0 in let g : b < i + 1 = omega arith in g, (h.bearing b c).1);
     all = λ b n l bears. elim (less_tells b i) [
-        inl before ↦ h.all b n before.1 bears
-      | inr after ↦ (let le : i ≤ b = after.1 in let e : b ≡ i = omega arith in let P : ℕ → Type 0 = λ x. Bears ms x n in absurd (none_here n (subst P e bears))) ];
+      | inl before ↦ h.all b n before.1 bears
+      | inr after ↦ (let le : i ≤ b = after.1 in let e : b ≡ i = omega arith in let P : ℕ → Type 0 = λ x. Bears ms x n in absurd (none_here n (subst P e bears)))
+    ];
     small = h.small;
     given = h.given;
     whole = h.whole;
@@ -130,34 +131,38 @@ module _ (ms : List Member) (i : ℕ) (owners : List ℕ) (points : List (ℕ ×
     pub filled_more : HasSmallPoints (points ++ added) → IsFilled ms (i + 1) (owners ++ i ∷ []) (points ++ added)
     filled_more small = record {
       upwards = rises_append (λ b. b) owners (i ∷ []) h.upwards (more (λ y c. absurd (nothing_in_none y c)) none)
-        (λ x y p q. elim (head_or_rest i [] y q) [
-            inl e ↦ (let l : x < i = (h.bearing x p).0 in let g : x < y = omega arith in g)
-          | inr t ↦ absurd (nothing_in_none y t) ]);
+          (λ x y p q. elim (head_or_rest i [] y q) [
+            | inl e ↦ (let l : x < i = (h.bearing x p).0 in let g : x < y = omega arith in g)
+            | inr t ↦ absurd (nothing_in_none y t)
+          ]);
       few = (let a : length owners ≤ ring_weight (take i ms) = h.few in
-        let e : ring_weight (take (i + 1) ms) ≡ ring_weight (take i ms) + m.weight = weight_up ∙ ap (λ b. ring_weight (take i ms) + cond b m.weight 0) bears.internet in
-        let w : 0 < m.weight = bears.weighs in
-        let l : length (owners ++ i ∷ []) ≡ length owners + 1 = length-append owners (i ∷ []) in omega arith);
+          let e : ring_weight (take (i + 1) ms) ≡ ring_weight (take i ms) + m.weight = weight_up ∙ ap (λ b. ring_weight (take i ms) + cond b m.weight 0) bears.internet in
+          let w : 0 < m.weight = bears.weighs in
+          let l : length (owners ++ i ∷ []) ≡ length owners + 1 = length-append owners (i ∷ []) in omega arith);
       bearing = λ b c. elim (Contains-push_cases owners i b c) [
-          inl old ↦ (let l : b < i = (h.bearing b old).0 in let g : b < i + 1 = omega arith in g, (h.bearing b old).1)
-        | inr new ↦ (let P : ℕ → Type 0 = λ x. (x < i + 1) × ((n : Member) × Bears ms x n) in subst P new (let g : i < i + 1 = omega arith in g, (m, bears))) ];
+        | inl old ↦ (let l : b < i = (h.bearing b old).0 in let g : b < i + 1 = omega arith in g, (h.bearing b old).1)
+        | inr new ↦ (let P : ℕ → Type 0 = λ x. (x < i + 1) × ((n : Member) × Bears ms x n) in subst P new (let g : i < i + 1 = omega arith in g, (m, bears)))
+      ];
       all = λ b n l bears'. elim (less_tells b i) [
-          inl before ↦ Contains-append_left owners (i ∷ []) b (h.all b n before.1 bears')
-        | inr after ↦ (let le : i ≤ b = after.1 in let e : i ≡ b = omega arith in let P : ℕ → Type 0 = λ x. Contains (owners ++ i ∷ []) x in subst P e (Contains-push owners i)) ];
+        | inl before ↦ Contains-append_left owners (i ∷ []) b (h.all b n before.1 bears')
+        | inr after ↦ (let le : i ≤ b = after.1 in let e : i ≡ b = omega arith in let P : ℕ → Type 0 = λ x. Contains (owners ++ i ∷ []) x in subst P e (Contains-push owners i))
+      ];
       small = small;
       given = λ e c. elim (Contains-append_cases points added e c) [ inl old ↦ old_owner e (h.given e old) | inr new ↦ new_owner e new ];
       whole = λ number n k o l.
-        let b = and_then_parts (slice_get ms) (slice_get (owners ++ i ∷ []) number) n o in
-        elim (get_pushed owners i number b.0 b.1) [
-          inl old ↦ Contains-append_left points added (crc_chain n.address k, number) (h.whole number n k (ap (option_and_then (slice_get ms)) old ∙ b.2) l)
-        | inr new ↦ (
-            let P : ℕ → Type 0 = λ x. slice_get ms x ≡ Some n in
-            let one : m ≡ n = same_Some m n (sym at ∙ subst P (sym new.1) b.2) in
-            let within : k < points_per_weight * m.weight = subst (λ (z : Member). k < points_per_weight * z.weight) (sym one) l in
-            let f : ℕ → ℕ × ℕ = λ q. (crc_chain m.address q, length owners) in
-            let c : Contains added (crc_chain m.address k, length owners) = in_map f (range_with_len 0 (points_per_weight * m.weight)) k (to_range (points_per_weight * m.weight) k within) in
-            let Q : ℕ → Type 0 = λ x. Contains (points ++ added) (crc_chain m.address k, x) in
-            let R : Member → Type 0 = λ z. Contains (points ++ added) (crc_chain z.address k, number) in
-            subst R one (subst Q (sym new.0) (Contains-append_right points added (crc_chain m.address k, length owners) c))) ];
+          let b = and_then_parts (slice_get ms) (slice_get (owners ++ i ∷ []) number) n o in
+          elim (get_pushed owners i number b.0 b.1) [
+            | inl old ↦ Contains-append_left points added (crc_chain n.address k, number) (h.whole number n k (ap (option_and_then (slice_get ms)) old ∙ b.2) l)
+            | inr new ↦ (
+                let P : ℕ → Type 0 = λ x. slice_get ms x ≡ Some n in
+                let one : m ≡ n = same_Some m n (sym at ∙ subst P (sym new.1) b.2) in
+                let within : k < points_per_weight * m.weight = subst (λ (z : Member). k < points_per_weight * z.weight) (sym one) l in
+                let f : ℕ → ℕ × ℕ = λ q. (crc_chain m.address q, length owners) in
+                let c : Contains added (crc_chain m.address k, length owners) = in_map f (range_with_len 0 (points_per_weight * m.weight)) k (to_range (points_per_weight * m.weight) k within) in
+                let Q : ℕ → Type 0 = λ x. Contains (points ++ added) (crc_chain m.address k, x) in
+                let R : Member → Type 0 = λ z. Contains (points ++ added) (crc_chain z.address k, number) in
+                subst R one (subst Q (sym new.0) (Contains-append_right points added (crc_chain m.address k, length owners) c)))
+          ];
     }
 
 map_same : {X Y : Type 0} (f g : X → Y) (xs : List X) → ((x : X) → f x ≡ g x) → map f xs ≡ map g xs
@@ -173,8 +178,8 @@ filled_chain ms i owners points h m at bears state count number s c n small =
     let g : ℕ → ℕ × ℕ = λ k. (crc_chain m.address k, length owners) in
     let point : (k : ℕ) → state_chain state k ≡ crc_chain m.address k = λ k. ap (λ t. state_chain t k) s ∙ chain_of_state (address_text m.address) k in
     let same : chain_entries state count number ≡ map g (range_with_len 0 (points_per_weight * m.weight)) =
-        ap (λ q. map (f q) (range_with_len 0 count)) n ∙ ap (λ r. map (f (length owners)) (range_with_len 0 r)) c
-        ∙ map_same (f (length owners)) g (range_with_len 0 (points_per_weight * m.weight)) (λ k. ap (λ p. (p, length owners)) (point k)) in
+    ap (λ q. map (f q) (range_with_len 0 count)) n ∙ ap (λ r. map (f (length owners)) (range_with_len 0 r)) c
+    ∙ map_same (f (length owners)) g (range_with_len 0 (points_per_weight * m.weight)) (λ k. ap (λ p. (p, length owners)) (point k)) in
     let P : List (ℕ × ℕ) → Type 0 = λ es. HasSmallPoints (points ++ es) in
     let Q : List (ℕ × ℕ) → Type 0 = λ es. IsFilled ms (i + 1) (owners ++ i ∷ []) (points ++ es) in
     subst Q (sym same) (filled_more ms i owners points h m at bears (subst P same small))

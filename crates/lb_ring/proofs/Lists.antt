@@ -1,5 +1,5 @@
 -- Lists in rising order: what comes before an element, the list cut in two and put together the other way round.
-use Rattle.std.proofs.Common.{◌≡◌, ℕ, zero, suc, ◌+◌, ◌-◌, ◌<◌, ◌≤◌, ◌⊎◌, inl, inr, ◌↔◌, Bool, true, false, nat_eq, nat_lt, List, [], ◌∷◌, ◌++◌, length, get_or, take, drop, refl, sym, ap, subst, ◌∙◌, arith, add-one}
+use Rattle.std.proofs.Common.{◌≡◌, ℕ, zero, suc, ◌+◌, ◌-◌, ◌<◌, ◌≤◌, ◌⊎◌, inl, inr, true, false, nat_eq, nat_lt, List, [], ◌∷◌, ◌++◌, length, get_or, take, drop, refl, sym, ap, subst, ◌∙◌, arith}
 use Rattle.std.specs.List.{Contains, IsDistinct, AllByRecursion}
 use Rattle.std.proofs.lemmas.List.{take-append-drop}
 use Rattle.std.proofs.lemmas.List.Elements.{Contains-get_or, Contains-append_cases, Contains-append_left, Contains-append_right}
@@ -64,8 +64,9 @@ module _ {X : Type 0} where
     rises_across [] ys r x y p q = absurd (nothing_in_none x p)
     rises_across (z ∷ xs) ys r x y p q =
         elim (head_or_rest z xs x p) [
-          inl e ↦ (let P : X → Type 0 = λ w. f w < f y in subst P e (first_below z (xs ++ ys) r y (Contains-append_right xs ys y q)))
-        | inr m ↦ rises_across xs ys (rest_rises z (xs ++ ys) r) x y m q ]
+          | inl e ↦ (let P : X → Type 0 = λ w. f w < f y in subst P e (first_below z (xs ++ ys) r y (Contains-append_right xs ys y q)))
+          | inr m ↦ rises_across xs ys (rest_rises z (xs ++ ys) r) x y m q
+        ]
 
     pub rises_cut : (n : ℕ) (xs : List X) → Rises f xs → Rises f (take n xs ++ drop n xs)
     rises_cut n xs r = let P : List X → Type 0 = λ zs. Rises f zs in subst P (sym (take-append-drop n xs)) r
@@ -75,12 +76,15 @@ module _ {X : Type 0} where
     one_at [] r x y p q e = absurd (nothing_in_none x p)
     one_at (z ∷ xs) r x y p q e =
         elim (head_or_rest z xs x p) [
-          inl a ↦ elim (head_or_rest z xs y q) [
-              inl b ↦ sym a ∙ b
-            | inr b ↦ (let l : f z < f y = first_below z xs r y b in let same : f z ≡ f x = ap f a in absurd (omega arith)) ]
-        | inr a ↦ elim (head_or_rest z xs y q) [
-              inl b ↦ (let l : f z < f x = first_below z xs r x a in let same : f z ≡ f y = ap f b in absurd (omega arith))
-            | inr b ↦ one_at xs (rest_rises z xs r) x y a b e ] ]
+          | inl a ↦ elim (head_or_rest z xs y q) [
+            | inl b ↦ sym a ∙ b
+            | inr b ↦ (let l : f z < f y = first_below z xs r y b in let same : f z ≡ f x = ap f a in absurd (omega arith))
+          ]
+          | inr a ↦ elim (head_or_rest z xs y q) [
+            | inl b ↦ (let l : f z < f x = first_below z xs r x a in let same : f z ≡ f y = ap f b in absurd (omega arith))
+            | inr b ↦ one_at xs (rest_rises z xs r) x y a b e
+          ]
+        ]
 
   -- another measure that rises with the first
   pub rises_by : (f g : X → ℕ) (xs : List X) → Rises f xs → ((x y : X) → Contains xs x → Contains xs y → f x < f y → g x < g y) → Rises g xs
@@ -97,16 +101,20 @@ less_tells a b = elim (leb_tells (suc a) b) [ inl h ↦ inl (h.0, h.1) | inr h �
 pub turned_below : (s r n : ℕ) → s ≤ n → r < n → turned s r n < n
 turned_below s r n w h =
     elim (less_tells r (n - s)) [
-      inl first ↦ rw first.0 (let l : r < n - s = first.1 in let g : s + r < n = omega arith in g)
-    | inr later ↦ rw later.0 (let g : r - (n - s) < n = omega arith in g) ]
+      | inl first ↦ rw first.0 (let l : r < n - s = first.1 in let g : s + r < n = omega arith in g)
+      | inr later ↦ rw later.0 (let g : r - (n - s) < n = omega arith in g)
+    ]
 
 -- the numbers of a rising list are apart
 apart_all : (h : ℕ → ℕ) (x : ℕ) (xs : List ℕ) → ((y : ℕ) → Contains xs y → h x < h y) → AllByRecursion (λ y. nat_eq x y ≡ false) xs
 apart_all h x [] below = tt
-apart_all h x (y ∷ ys) below =
-    (elim (eqb_tells x y) [
-        inl same ↦ (let l : h x < h y = below y (here y ys) in let e : h x ≡ h y = ap h same.1 in absurd (omega arith))
-      | inr other ↦ other.0 ], apart_all h x ys (λ z m. below z (there y ys z m)))
+apart_all h x (y ∷ ys) below = (
+  elim (eqb_tells x y) [
+    | inl same ↦ (let l : h x < h y = below y (here y ys) in let e : h x ≡ h y = ap h same.1 in absurd (omega arith))
+    | inr other ↦ other.0
+  ],
+  apart_all h x ys (λ z m. below z (there y ys z m)),
+)
 
 pub rises_once : (h : ℕ → ℕ) (xs : List ℕ) → Rises h xs → IsDistinct nat_eq xs
 unfolding IsDistinct
@@ -120,17 +128,20 @@ before_is_less h (k ∷ ks) s zero l q m = absurd (nothing_in_none q m)
 before_is_less h (k ∷ ks) s (suc r) l q m =
     let w : r < length ks = omega arith in
     elim (head_or_rest k (take r ks) q m) [
-      inl e ↦ (let P : ℕ → Type 0 = λ x. h x < h (get_or ks r 0) in subst P e (first_below h k ks s (get_or ks r 0) (Contains-get_or ks r 0 w)))
-    | inr t ↦ before_is_less h ks (rest_rises h k ks s) r w q t ]
+      | inl e ↦ (let P : ℕ → Type 0 = λ x. h x < h (get_or ks r 0) in subst P e (first_below h k ks s (get_or ks r 0) (Contains-get_or ks r 0 w)))
+      | inr t ↦ before_is_less h ks (rest_rises h k ks s) r w q t
+    ]
 
 pub less_is_before : (h : ℕ → ℕ) (ks : List ℕ) → Rises h ks → (r : ℕ) → r < length ks → (q : ℕ) → Contains ks q → h q < h (get_or ks r 0) → Contains (take r ks) q
 less_is_before h [] s r l q m b = absurd (omega arith)
 less_is_before h (k ∷ ks) s zero l q m b =
     elim (head_or_rest k ks q m) [
-      inl e ↦ (let same : h k ≡ h q = ap h e in absurd (omega arith))
-    | inr t ↦ (let f : h k < h q = first_below h k ks s q t in absurd (omega arith)) ]
+      | inl e ↦ (let same : h k ≡ h q = ap h e in absurd (omega arith))
+      | inr t ↦ (let f : h k < h q = first_below h k ks s q t in absurd (omega arith))
+    ]
 less_is_before h (k ∷ ks) s (suc r) l q m b =
     let w : r < length ks = omega arith in
     elim (head_or_rest k ks q m) [
-      inl e ↦ (let P : ℕ → Type 0 = λ x. Contains (k ∷ take r ks) x in subst P e (here k (take r ks)))
-    | inr t ↦ there k (take r ks) q (less_is_before h ks (rest_rises h k ks s) r w q t b) ]
+      | inl e ↦ (let P : ℕ → Type 0 = λ x. Contains (k ∷ take r ks) x in subst P e (here k (take r ks)))
+      | inr t ↦ there k (take r ks) q (less_is_before h ks (rest_rises h k ks s) r w q t b)
+    ]

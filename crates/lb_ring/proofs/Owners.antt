@@ -1,5 +1,5 @@
 -- Candidates and owners by the entries of a ring in order.
-use Rattle.std.proofs.Common.{◌≡◌, ℕ, zero, suc, ◌+◌, ◌%◌, ◌^◌, ◌<◌, ◌≤◌, ◌⊎◌, inl, inr, ◌↔◌, Bool, true, false, List, [], ◌∷◌, length, map, get_or, refl, sym, ap, subst, ◌∙◌, arith, rules}
+use Rattle.std.proofs.Common.{◌≡◌, ℕ, ◌%◌, ◌^◌, ◌<◌, ◌≤◌, inl, inr, false, List, [], ◌∷◌, length, map, get_or, refl, sym, ap, subst, ◌∙◌, arith, rules}
 use Rattle.std.specs.List.{Contains}
 use Rattle.std.specs.Cmp.{IsTotalOrder}
 use Rattle.std.specs.Cmp.Rules.{comparing}
@@ -12,7 +12,7 @@ use Rattle.std.specs.declared.cmp.Ordering.TheVariants.{Less, Equal, Greater}
 use Rattle.std.specs.Ordering.{is_lt, ordering_reverse}
 use Rattle.lb_select.specs.Backends.{Address, address_cmp}
 use Rattle.lb_select.specs.Identity.{address_same}
-use Rattle.lb_ring.specs.Circle.{IsPoint, IsOwner, IsPointOf, IsRingOwner}
+use Rattle.lb_ring.specs.Circle.{IsPoint, IsPointOf, IsRingOwner}
 use Rattle.lb_ring.specs.Rings.{Given, IsRingOf}
 use Rattle.lb_ring.specs.Sorted.{Rises, none, more, point_of, turned, IsArranged, SplitsAt, IsInOrder}
 use Rattle.lb_ring.proofs.Lists.{here, there, head_or_rest, nothing_in_none, first_below, rest_rises, one_at, turned_below}
@@ -39,15 +39,17 @@ module _ {X Y : Type 0} (f : X → Y) where
   in_map [] x m = absurd (nothing_in_none x m)
   in_map (y ∷ xs) x m =
       elim (head_or_rest y xs x m) [
-        inl same ↦ (let P : X → Type 0 = λ z. Contains (f y ∷ map f xs) (f z) in subst P same (here (f y) (map f xs)))
-      | inr later ↦ there (f y) (map f xs) (f x) (in_map xs x later) ]
+        | inl same ↦ (let P : X → Type 0 = λ z. Contains (f y ∷ map f xs) (f z) in subst P same (here (f y) (map f xs)))
+        | inr later ↦ there (f y) (map f xs) (f x) (in_map xs x later)
+      ]
 
   pub of_map : (xs : List X) (y : Y) → Contains (map f xs) y → (x : X) × Contains xs x × (f x ≡ y)
   of_map [] y m = absurd (nothing_in_none y m)
   of_map (x ∷ xs) y m =
       elim (head_or_rest (f x) (map f xs) y m) [
-        inl same ↦ (x, here x xs, same)
-      | inr later ↦ (let w = of_map xs y later in (w.0, there x xs w.0 w.1, w.2)) ]
+        | inl same ↦ (x, here x xs, same)
+        | inr later ↦ (let w = of_map xs y later in (w.0, there x xs w.0 w.1, w.2))
+      ]
 
 rises_points : {T : Type 0} (es : List (ℕ × T)) → Rises (point_of {T = T}) es → Rises (λ p. p) (map (point_of {T = T}) es)
 rises_points {T} [] r = none
@@ -66,16 +68,16 @@ module _ {T : Type 0} (es : List (ℕ × T)) (order : IsInOrder es) (place : ℕ
       let any : 0 < length ps = omega arith in
       let small : (q : ℕ) → Contains ps q → q < 2 ^ 32 = λ q m. let w = of_map (point_of {T = T}) es q m in let P : ℕ → Type 0 = λ z. z < 2 ^ 32 in subst P w.2 (order.small w.0 w.1) in
       let below : (k : ℕ) → k < s → get_or ps k 0 < place = λ k h.
-          (let l : k < length es = omega arith in let z : 0 ≤ k = omega arith in
-          let P : ℕ → Type 0 = λ x. x < place in subst P (sym (get_or-map (point_of {T = T}) es k d 0 l)) (split.below k d z h)) in
+      (let l : k < length es = omega arith in let z : 0 ≤ k = omega arith in
+      let P : ℕ → Type 0 = λ x. x < place in subst P (sym (get_or-map (point_of {T = T}) es k d 0 l)) (split.below k d z h)) in
       let above : (k : ℕ) → s ≤ k → k < length ps → place ≤ get_or ps k 0 = λ k h l.
-          (let l' : k < length es = omega arith in
-          let P : ℕ → Type 0 = λ x. place ≤ x in subst P (sym (get_or-map (point_of {T = T}) es k d 0 l')) (split.above k d h l')) in
+      (let l' : k < length es = omega arith in
+      let P : ℕ → Type 0 = λ x. place ≤ x in subst P (sym (get_or-map (point_of {T = T}) es k d 0 l')) (split.above k d h l')) in
       let found : IsPointOf has place j (get_or ps (turned s (j % length ps) (length ps)) 0) =
-          point_of_candidate ps (rises_points es order.rises) small place low s inside below above has
-          (λ q p. let w = all q p in let P : ℕ → Type 0 = λ z. Contains ps z in subst P w.2 (in_map (point_of {T = T}) es w.0 w.1))
-          (λ q m. let w = of_map (point_of {T = T}) es q m in let P : ℕ → Type 0 = λ z. IsPoint has z in subst P w.2 (only w.0 w.1))
-          any j in
+      point_of_candidate ps (rises_points es order.rises) small place low s inside below above has
+      (λ q p. let w = all q p in let P : ℕ → Type 0 = λ z. Contains ps z in subst P w.2 (in_map (point_of {T = T}) es w.0 w.1))
+      (λ q m. let w = of_map (point_of {T = T}) es q m in let P : ℕ → Type 0 = λ z. IsPoint has z in subst P w.2 (only w.0 w.1))
+      any j in
       let turn : j % length es < length es = omega arith in
       let where' : turned s (j % length es) (length es) < length es = turned_below s (j % length es) (length es) within turn in
       let P : ℕ → Type 0 = λ m. IsPointOf has place j (get_or ps (turned s (j % m) m) 0) in
@@ -101,18 +103,19 @@ module _ {T : Type 0} (see : T → Address) where
       let turn : j % length es < length es = omega arith in
       let where' : at < length es = turned_below s (j % length es) (length es) within turn in
       let e : ℕ × T = get_or es at d in
-      let in' : Contains es e = Contains-get_or es at d where' in
-      (e.0,
+      let in' : Contains es e = Contains-get_or es at d where' in (
+        e.0,
         candidate_at es order place low s within split d (Given (map seen es))
-          (λ q p. let w = entry_of_point es q p.0 p.1 in (w.0, w.1, w.2)) (λ f m. (see f.1, in_map seen es f m)) some j,
+            (λ q p. let w = entry_of_point es q p.0 p.1 in (w.0, w.1, w.2)) (λ f m. (see f.1, in_map seen es f m)) some j,
         record {
           has_it = in_map seen es e in';
           least = λ b m.
-            let w = entry_of_point es e.0 b m in
-            let same : w.0 ≡ e = one_at (point_of {T = T}) es order.rises w.0 e w.1 in' w.2 in
-            let equal : see e.1 ≡ b = ap (λ (z : ℕ × T). see z.1) (sym same) ∙ w.3 in
-            let P : Address → Type 0 = λ z. is_lt (address_cmp z (see e.1)) ≡ false in subst P equal (not_below_itself (see e.1));
-        })
+              let w = entry_of_point es e.0 b m in
+              let same : w.0 ≡ e = one_at (point_of {T = T}) es order.rises w.0 e w.1 in' w.2 in
+              let equal : see e.1 ≡ b = ap (λ (z : ℕ × T). see z.1) (sym same) ∙ w.3 in
+              let P : Address → Type 0 = λ z. is_lt (address_cmp z (see e.1)) ≡ false in subst P equal (not_below_itself (see e.1));
+        },
+      )
 
   -- what is kept of entries makes a ring of them
   pub ring_of_kept : (cmp : T → T → Ordering) (tie : (x y : T) → cmp x y ≡ address_cmp (see x) (see y)) (given kept : List (ℕ × T))
@@ -120,26 +123,28 @@ module _ {T : Type 0} (see : T → Address) where
   ring_of_kept cmp tie given kept h = record {
     points = λ p. (
       (λ w. let e = entry_of_point kept p w.0 w.1 in
-        (see e.0.1, (let P : ℕ → Type 0 = λ z. Contains (map seen given) (z, see e.0.1) in subst P e.2 (in_map seen given e.0 (h.given_too e.0 e.1))))),
+          (see e.0.1, (let P : ℕ → Type 0 = λ z. Contains (map seen given) (z, see e.0.1) in subst P e.2 (in_map seen given e.0 (h.given_too e.0 e.1))))),
       (λ w. let e = entry_of_point given p w.0 w.1 in let k = h.least e.0 e.1 in
-        (see k.0.1, (let P : ℕ → Type 0 = λ z. Contains (map seen kept) (z, see k.0.1) in subst P (k.2 ∙ e.2) (in_map seen kept k.0 k.1)))));
+          (see k.0.1, (let P : ℕ → Type 0 = λ z. Contains (map seen kept) (z, see k.0.1) in subst P (k.2 ∙ e.2) (in_map seen kept k.0 k.1)))),
+    );
     owners = λ p a. (
       (λ m. let e = entry_of_point kept p a m in record {
         has_it = subst (λ (z : ℕ × Address). Contains (map seen given) z) (pair_same (seen e.0) p a e.2 e.3) (in_map seen given e.0 (h.given_too e.0 e.1));
         least = λ b n.
-          let f = entry_of_point given p b n in
-          let k = h.least f.0 f.1 in
-          let same : k.0 ≡ e.0 = one_at (point_of {T = T}) kept h.rises k.0 e.0 k.1 e.1 (k.2 ∙ f.2 ∙ sym e.2) in
-          let test : is_lt (address_cmp (see f.0.1) (see k.0.1)) ≡ false = ap is_lt (sym (tie f.0.1 k.0.1)) ∙ k.3 in
-          let P : Address → Address → Type 0 = λ y z. is_lt (address_cmp y z) ≡ false in
-          subst (P b) (ap (λ (z : ℕ × T). see z.1) same ∙ e.3) (subst (λ (y : Address). P y (see k.0.1)) f.3 test);
+            let f = entry_of_point given p b n in
+            let k = h.least f.0 f.1 in
+            let same : k.0 ≡ e.0 = one_at (point_of {T = T}) kept h.rises k.0 e.0 k.1 e.1 (k.2 ∙ f.2 ∙ sym e.2) in
+            let test : is_lt (address_cmp (see f.0.1) (see k.0.1)) ≡ false = ap is_lt (sym (tie f.0.1 k.0.1)) ∙ k.3 in
+            let P : Address → Address → Type 0 = λ y z. is_lt (address_cmp y z) ≡ false in
+            subst (P b) (ap (λ (z : ℕ × T). see z.1) same ∙ e.3) (subst (λ (y : Address). P y (see k.0.1)) f.3 test);
       }),
       (λ o.
-        let e = entry_of_point given p a o.has_it in
-        let k = h.least e.0 e.1 in
-        let P : Address → Address → Type 0 = λ y z. is_lt (address_cmp y z) ≡ false in
-        let up : is_lt (address_cmp a (see k.0.1)) ≡ false = subst (λ (y : Address). P y (see k.0.1)) e.3 (ap is_lt (sym (tie e.0.1 k.0.1)) ∙ k.3) in
-        let down : is_lt (address_cmp (see k.0.1) a) ≡ false = o.least (see k.0.1)
+          let e = entry_of_point given p a o.has_it in
+          let k = h.least e.0 e.1 in
+          let P : Address → Address → Type 0 = λ y z. is_lt (address_cmp y z) ≡ false in
+          let up : is_lt (address_cmp a (see k.0.1)) ≡ false = subst (λ (y : Address). P y (see k.0.1)) e.3 (ap is_lt (sym (tie e.0.1 k.0.1)) ∙ k.3) in
+          let down : is_lt (address_cmp (see k.0.1) a) ≡ false = o.least (see k.0.1)
           (subst (λ (z : ℕ). Contains (map seen given) (z, see k.0.1)) (k.2 ∙ e.2) (in_map seen given k.0 (h.given_too k.0 k.1))) in
-        subst (λ (z : ℕ × Address). Contains (map seen kept) z) (pair_same (seen k.0) p a (k.2 ∙ e.2) (sym (neither_below a (see k.0.1) up down))) (in_map seen kept k.0 k.1)));
+          subst (λ (z : ℕ × Address). Contains (map seen kept) z) (pair_same (seen k.0) p a (k.2 ∙ e.2) (sym (neither_below a (see k.0.1) up down))) (in_map seen kept k.0 k.1)),
+    );
   }

@@ -1,6 +1,6 @@
 -- A circle of 2 ^ 32 places with points on it. Each point has one or more addresses; the least of them owns it.
 -- A walk goes clockwise from a place, point after point, for ever.
-use Rattle.std.specs.Prelude.{◌≡◌, ℕ, ◌+◌, ◌-◌, ◌%◌, ◌^◌, ◌<◌, ◌↔◌, Bool, false, nat_eq, List, length}
+use Rattle.std.specs.Prelude.{◌≡◌, ℕ, ◌+◌, ◌-◌, ◌%◌, ◌^◌, ◌<◌, false, nat_eq, List, length}
 use Rattle.std.specs.List.{Contains, IsDistinct}
 use Rattle.std.specs.Ordering.{is_lt}
 use Rattle.lb_select.specs.Backends.{Address, address_cmp}

@@ -1,6 +1,6 @@
 -- CRC-32 bit by bit (the checksum of IEEE 802.3 in its reflected form): a state of 32 bits goes through the bits of a text,
 -- each byte's lowest bit first.
-use Rattle.std.specs.Prelude.{◌≡◌, ℕ, ◌/◌, ◌%◌, ◌==◌, bit_xor, List, [], ◌∷◌, fold, codes, if◌then◌else◌, refl}
+use Rattle.std.specs.Prelude.{◌≡◌, ℕ, ◌/◌, ◌%◌, ◌==◌, bit_xor, List, fold, codes, if◌then◌else◌, refl}
 
 -- the generator x^32 + x^26 + x^23 + x^22 + x^16 + x^12 + x^11 + x^10 + x^8 + x^7 + x^5 + x^4 + x^2 + x + 1, its highest
 -- power left out and its bits reflected

@@ -1,6 +1,6 @@
 -- A built selector: the backends of its set in order, the indexes of those that have points, and the points upwards, each with
 -- the number of its owner among these.
-use Rattle.std.specs.Prelude.{◌≡◌, ℕ, ◌+◌, ◌*◌, ◌<◌, ◌≤◌, nat_lt, Bool, true, List, [], ◌∷◌, ◌++◌, length, take, map, ⊤, Option, Some, None, MatchOption, slice_get, option_and_then, if◌then◌else◌}
+use Rattle.std.specs.Prelude.{◌≡◌, ℕ, ◌+◌, ◌*◌, ◌<◌, ◌≤◌, nat_lt, Bool, true, List, [], ◌∷◌, length, take, map, ⊤, Option, Some, MatchOption, slice_get, option_and_then, if◌then◌else◌}
 use Rattle.std.specs.List.{Contains, range_with_len}
 use Rattle.lb_select.specs.Backends.{Member}
 use Rattle.lb_select.specs.Draws.{Draw}
@@ -24,7 +24,7 @@ member_at ms owners number = option_and_then (slice_get ms) (slice_get owners nu
 pub record IsPlaced (ms : List Member) (owners : List ℕ) (points : List (ℕ × ℕ)) : Type 0 where
   pub order : IsInOrder points
   pub yields : (e : ℕ × ℕ) → Contains points e
-    → (m : Member) × (member_at ms owners e.1 ≡ Some m) × IsOwner (HasPoint crc_chain ms) e.0 m.address × StandsFor ms m.address m
+      → (m : Member) × (member_at ms owners e.1 ≡ Some m) × IsOwner (HasPoint crc_chain ms) e.0 m.address × StandsFor ms m.address m
   pub whole : (p : ℕ) → IsPoint (HasPoint crc_chain ms) p → (e : ℕ × ℕ) × Contains points e × (e.0 ≡ p)
 
 -- the backend at an index has points, and no heavier one has its address
@@ -51,7 +51,7 @@ pub record IsFilled (ms : List Member) (done : ℕ) (owners : List ℕ) (points 
   pub small : HasSmallPoints points
   pub given : (e : ℕ × ℕ) → Contains points e → IsOfChain ms owners e
   pub whole : (number : ℕ) (m : Member) (k : ℕ) → member_at ms owners number ≡ Some m → k < points_per_weight * m.weight
-    → Contains points (crc_chain m.address k, number)
+      → Contains points (crc_chain m.address k, number)
 
 -- the first points of a chain, with their owner's number
 abbrev pub chain_entries : ℕ → ℕ → ℕ → List (ℕ × ℕ)

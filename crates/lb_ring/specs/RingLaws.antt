@@ -1,6 +1,6 @@
 -- What every walk over a ring keeps to: nothing is drawn, and what has ended gives nothing more.
-use Rattle.std.specs.Prelude.{◌≡◌, ℕ, ◌≤◌, max, Bool, true, false, List, [], ◌∷◌, length, Option, Some, None, refl, slice_get, option_and_then}
-use Rattle.std.proofs.Common.{sym, ap, subst, ◌∙◌, arith}
+use Rattle.std.specs.Prelude.{◌≡◌, ℕ, ◌≤◌, max, Bool, true, false, List, [], ◌∷◌, length, Some, None, refl, slice_get, option_and_then}
+use Rattle.std.proofs.Common.{subst, arith}
 use Rattle.std.specs.List.{AllByRecursion as Each}
 use Rattle.lb_select.specs.Backends.{Member}
 use Rattle.lb_select.specs.Draws.{Draw, IsNotRandom, words_in}

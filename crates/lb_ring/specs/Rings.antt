@@ -1,5 +1,5 @@
 -- What a ring holds: of the points that were given, each once, with the least address that has it.
-use Rattle.std.specs.Prelude.{◌≡◌, ℕ, ◌<◌, ◌^◌, ◌↔◌, List, map}
+use Rattle.std.specs.Prelude.{ℕ, ◌↔◌, List, map}
 use Rattle.std.specs.List.{Contains}
 use Rattle.lb_select.specs.Backends.{Address}
 use Rattle.lb_select.specs.Seen.{address_seen}

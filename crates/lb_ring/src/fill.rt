@@ -97,11 +97,7 @@ fn add_backend(
 }
 
 // The points of all backends, not yet in order.
-pub(crate) fn marks_of(
-    alloc: Global,
-    list: &[Backend],
-    weight: usize,
-) -> Result<Marks, AllocError>
+pub(crate) fn marks_of(alloc: Global, list: &[Backend], weight: usize) -> Result<Marks, AllocError>
     requires ordered { IsStrictlySortedBy member_cmp list.now }
     requires all { weight ≡ ring_weight list.now }
     requires light { points_per_weight * weight < 2 ^ 32 }

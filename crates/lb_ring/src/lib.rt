@@ -2,8 +2,8 @@
 //! the first point at or above its own place.
 #![tactic(auto)]
 
-pub mod crc;
 mod chain;
+pub mod crc;
 mod fill;
 pub mod ketama;
 pub mod laws;

@@ -1,5 +1,4 @@
-use Rattle.std.proofs.Common.{◌≡◌, length, arith, ℕ}
-use Rattle.lb_ring.specs.Placed.{IsFilled}
+use Rattle.std.proofs.Common.{◌≡◌, length, arith}
 use Rattle.lb_ring.proofs.Filling.{filled_none}
 use Rattle.lb_ring.proofs.fill.marks_of.Goals as goal
 

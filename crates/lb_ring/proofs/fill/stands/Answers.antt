@@ -1,4 +1,4 @@
-use Rattle.std.proofs.Common.{rules, refl, arith, ◌≡◌, ◌+◌, ◌∙◌, ap, sym, IsTrue}
+use Rattle.std.proofs.Common.{rules, refl, ◌≡◌, ◌+◌, ◌∙◌, ap, sym}
 use Rattle.std.specs.Prelude.{slice_get, Some}
 use Rattle.std.proofs.lemmas.Option.{slice_get_read, same_Some}
 use Rattle.lb_select.specs.Backends.{Member, address_cmp}
@@ -13,8 +13,8 @@ returns-in-Some c = λ m h.
     let next : slice_get c.args.list.now (c.args.index + 1) ≡ Some c.in-Some.next.now = slice_get_read _ _ _ _ refl c.in-Some.ensures.lookup.3.0 c.in-Some.ensures.lookup.1 in
     let tested : c.cmp.result ≡ address_cmp (address_seen c.this.inside.addr) (address_seen c.next.inside.addr) = search rules in
     let seen : c.cmp.result ≡ address_cmp m.address c.in-Some.next.now.address =
-        tested ∙ ap (λ a. address_cmp a (address_seen c.next.inside.addr)) (ap (λ (z : Member). z.address) (c.this.view_is ∙ this))
-        ∙ ap (address_cmp m.address) (ap (λ (z : Member). z.address) c.next.view_is) in
+    tested ∙ ap (λ a. address_cmp a (address_seen c.next.inside.addr)) (ap (λ (z : Member). z.address) (c.this.view_is ∙ this))
+    ∙ ap (address_cmp m.address) (ap (λ (z : Member). z.address) c.next.view_is) in
     stands_test c.args.list.now c.requires.ordered c.args.index m c.in-Some.next.now h next c.cmp.result seen c.ne.result c.ne.ensures
 
 pub returns-in-None : goal.returns-in-None

@@ -1,7 +1,6 @@
-use Rattle.std.proofs.Common.{◌<◌, ◌^◌, ◌≤◌, ◌≡◌, length, arith}
+use Rattle.std.proofs.Common.{◌<◌, ◌^◌, ◌≡◌, arith}
 use Rattle.lb_ring.specs.Crc.{crc}
 use Rattle.lb_ring.specs.PlacedSeen.{placed_seen}
-use Rattle.lb_ring.specs.Sorted.{SplitsAt}
 use Rattle.lb_ring.proofs.Walking.{starts_so}
 use Rattle.lb_ring.proofs.ketama.KetamaHashing.start_of.Goals as goal
 

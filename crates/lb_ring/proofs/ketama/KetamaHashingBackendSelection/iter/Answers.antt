@@ -1,4 +1,4 @@
-use Rattle.std.proofs.Common.{refl, [], sym, subst}
+use Rattle.std.proofs.Common.{refl, []}
 use Rattle.lb_ring.proofs.ketama.KetamaHashingBackendSelection.iter.Goals as goal
 
 pub returns : goal.returns

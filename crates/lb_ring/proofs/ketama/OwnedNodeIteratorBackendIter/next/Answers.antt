@@ -1,4 +1,4 @@
-use Rattle.std.proofs.Common.{refl, [], sym, ap, ◌∙◌}
+use Rattle.std.proofs.Common.{refl, []}
 use Rattle.lb_ring.proofs.ketama.OwnedNodeIteratorBackendIter.next.Goals as goal
 
 pub returns : goal.returns

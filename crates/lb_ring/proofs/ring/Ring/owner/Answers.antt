@@ -11,4 +11,4 @@ returns c =
     let some : 0 < length c.as_slice-points.result.now = omega arith in
     rw (← c.self.view_is, ← v, c.turned-at.ensures.value)
     (owner_at address_seen c.as_slice-points.result.now order c.args.place (omega arith) c.first_from.result
-      c.first_from.ensures.within c.first_from.ensures.splits some c.args.j c.index-points-at.result)
+    c.first_from.ensures.within c.first_from.ensures.splits some c.args.j c.index-points-at.result)
