@@ -1,0 +1,32 @@
+-- Lemmas on what calls did to the known bytes of a reader and a writer.
+use Rattle.std.proofs.Common.{◌≡◌, ℕ, ◌+◌, ◌-◌, ◌≤◌, List, [], ◌∷◌, ◌++◌, Option, None, Some, refl, sym, ap, ◌∙◌, subst, length, take, drop, take-append-drop, length-drop, arith}
+use Rattle.std.proofs.Math.Seq.{take-add}
+use Rattle.std.proofs.lemmas.List.{take_all}
+use Rattle.std.specs.Io.KnownBytes.{Keeps, Appends, Consumes}
+use Rattle.std.proofs.KnownBytes.{Appends-trans, Appends-kept, Appends-nil}
+use Rattle.lb_script.specs.Stream.{AppendsFront}
+
+-- `&bytes[at..]` is what is left after the first `at` bytes
+pub rest_is : (bytes : List ℕ) (at : ℕ) → take (length bytes - at) (drop at bytes) ≡ drop at bytes
+rest_is bytes at = take_all (length bytes - at) (drop at bytes) (omega (arith, length-drop at bytes))
+
+-- after the first `at` bytes the next n of the rest were written
+pub put_more : (a b c : Option (List ℕ)) (bytes : List ℕ) (at n : ℕ) → Appends a b (take at bytes)
+    → Appends b c (take n (take (length bytes - at) (drop at bytes))) → Appends a c (take (at + n) bytes)
+put_more a b c bytes at n before after =
+    let joined : take at bytes ++ take n (take (length bytes - at) (drop at bytes)) ≡ take (at + n) bytes =
+    rw (rest_is bytes at) (sym (take-add at n bytes)) in
+    subst (Appends a c) joined (Appends-trans a b c _ _ before after)
+
+-- how many bytes were written in all
+pub put_within : (bytes : List ℕ) (at n : ℕ) → at ≤ length bytes
+    → n ≤ length (take (length bytes - at) (drop at bytes)) → at + n ≤ length bytes
+put_within bytes at n within more =
+    let left : n ≤ length (drop at bytes) = rw (rest_is bytes at) at more in
+    omega (arith, length-drop at bytes)
+
+-- after the first `at` bytes nothing more was written
+pub put_part : (a b c : Option (List ℕ)) (bytes : List ℕ) (at : ℕ) → Appends a b (take at bytes)
+    → Keeps b c → AppendsFront a c bytes
+put_part a b c bytes at before kept =
+    (take at bytes, drop at bytes, sym (take-append-drop at bytes), Appends-kept a b c _ before kept)

@@ -1,0 +1,3 @@
+pub mod Stream
+pub mod Counted
+pub mod Lines

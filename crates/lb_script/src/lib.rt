@@ -1,0 +1,6 @@
+//! Reads a script of steps line by line and writes one answer for each line.
+//! It stands on any reader and any writer, and takes no memory but for the line that it reads.
+#![tactic(auto)]
+
+pub mod counted;
+pub mod lines;
