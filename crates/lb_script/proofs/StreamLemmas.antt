@@ -4,7 +4,7 @@ use Rattle.std.proofs.Math.Seq.{take-add}
 use Rattle.std.proofs.lemmas.List.{take_all}
 use Rattle.std.specs.Io.KnownBytes.{Keeps, Appends, Consumes}
 use Rattle.std.proofs.KnownBytes.{Appends-trans, Appends-kept, Appends-nil}
-use Rattle.lb_script.specs.Stream.{AppendsFront}
+use Rattle.lb_script.specs.Stream.{AppendsFront, OnBytes}
 
 -- `&bytes[at..]` is what is left after the first `at` bytes
 pub rest_is : (bytes : List ℕ) (at : ℕ) → take (length bytes - at) (drop at bytes) ≡ drop at bytes
@@ -30,3 +30,10 @@ pub put_part : (a b c : Option (List ℕ)) (bytes : List ℕ) (at : ℕ) → App
     → Keeps b c → AppendsFront a c bytes
 put_part a b c bytes at before kept =
     (take at bytes, drop at bytes, sym (take-append-drop at bytes), Appends-kept a b c _ before kept)
+
+-- what was known of the bytes stays known where they stay as they were
+pub OnBytes-kept : (P : List ℕ → List ℕ → Type 0) (a b c : Option (List ℕ)) → OnBytes a b P → Keeps b c → OnBytes a c P
+OnBytes-kept P None b c p kept = tt
+OnBytes-kept P (Some x) None c p kept = absurd p
+OnBytes-kept P (Some x) (Some y) None p kept = absurd kept
+OnBytes-kept P (Some x) (Some y) (Some z) p kept = subst (P x) (sym kept) p

@@ -2,5 +2,6 @@
 //! It stands on any reader and any writer, and takes no memory but for the line that it reads.
 #![tactic(auto)]
 
+pub mod ahead;
 pub mod counted;
 pub mod lines;

@@ -1,11 +1,14 @@
 //! One line of a stream, up to its line feed and within a limit.
 //! What came instead of a line is told apart: the end, a line too long, a failed read, no memory.
-ghost use Rattle.std.specs.Prelude.{◌≡◌, ◌≢◌, ◌≤◌, true, vec_len};
+ghost use Rattle.std.specs.Prelude.{◌≡◌, ◌≢◌, ◌≤◌, true, length, vec_len};
+ghost use Rattle.std.specs.Io.KnownBytes.{prepend_known};
 ghost use Rattle.lb_script.specs.Counted.{inner_of, has_failed};
-ghost use Rattle.lb_script.specs.Lines.{Finds};
+ghost use Rattle.lb_script.specs.Lines.{Finds, first_line};
 ghost use Rattle.lb_script.specs.Stream.{OnBytes};
 
+use crate::ahead::ReadAhead;
 use crate::counted::Counted;
+use memchr::memchr;
 use std::io::Read;
 
 /// The most bytes that a line may have, its line feed not counted.
@@ -28,26 +31,50 @@ pub enum Found {
 
 /// Reads the next line into `line`, without its line feed, over what `line` held before.
 ///
-/// At any answer but `Found::Line`, what `line` then holds has no meaning. The reader is asked for one byte
-/// at a time, so that no byte after the line is read: over a device it belongs in a `BufReader`.
-pub fn read_line<R: Read>(reader: &mut Counted<R>, line: &mut Vec<u8>) -> Found
-    ensures found { OnBytes (R.remaining (inner_of reader.old)) (R.remaining (inner_of reader.new)) (Finds result line.new.items) }
+/// The stream is what `ahead` holds and then what `reader` has left. At any answer but `Found::Line`, what
+/// `line` then holds has no meaning. A read is asked for only where `ahead` holds no whole line.
+pub fn read_line<R: Read>(
+    reader: &mut Counted<R>,
+    ahead: &mut ReadAhead,
+    line: &mut Vec<u8>,
+) -> Found
+    ensures found { OnBytes (prepend_known ahead.old (R.remaining (inner_of reader.old))) (prepend_known ahead.new (R.remaining (inner_of reader.new))) (Finds result line.new.items) }
     ensures short { result ≡ Found.Line → vec_len line.new ≤ LINE_LIMIT }
     ensures failed { result ≡ Found.Failed → has_failed reader.new ≡ true }
     ensures kept { result ≢ Found.Failed → has_failed reader.new ≡ has_failed reader.old }
 {
     line.clear();
-    while line.len() <= LINE_LIMIT {
-        match reader.next_byte() {
-            Ok(Some(b'\n')) => return Found::Line,
-            Ok(Some(byte)) => match line.push(byte) {
-                Ok(()) => {}
-                Err(_) => return Found::NoMemory,
-            },
-            Ok(None) if line.is_empty() => return Found::End,
-            Ok(None) => return Found::Line,
+    loop {
+        match ahead.fill(reader) {
+            Ok(true) => {}
+            Ok(false) if line.is_empty() => return Found::End,
+            Ok(false) => return Found::Line,
             Err(_) => return Found::Failed,
         }
+        let held = ahead.held();
+        let count = feed_place(held);
+        if count > LINE_LIMIT - line.len() {
+            return Found::TooLong;
+        }
+        match line.extend_from_slice(&held[..count]) {
+            Ok(()) => {}
+            Err(_) => return Found::NoMemory,
+        }
+        if count < held.len() {
+            ahead.consume(count + 1);
+            return Found::Line;
+        }
+        ahead.consume(count);
     }
-    Found::TooLong
+}
+
+// How many bytes stand before the first line feed.
+fn feed_place(bytes: &[u8]) -> usize
+    ensures place { result ≡ length (first_line bytes.now) }
+    ensures within { result ≤ length bytes.now }
+{
+    match memchr(b'\n', bytes) {
+        Some(place) => place,
+        None => bytes.len(),
+    }
 }
