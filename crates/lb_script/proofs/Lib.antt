@@ -1,3 +1,4 @@
 pub mod AheadLemmas
 pub mod LinesLemmas
 pub mod StreamLemmas
+pub mod WordsLemmas

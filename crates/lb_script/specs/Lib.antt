@@ -1,3 +1,4 @@
 pub mod Stream
 pub mod Counted
 pub mod Lines
+pub mod Words

@@ -5,3 +5,4 @@
 pub mod ahead;
 pub mod counted;
 pub mod lines;
+pub mod words;
