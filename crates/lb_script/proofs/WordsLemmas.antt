@@ -24,7 +24,7 @@ pub words_whole : (line : List ℕ) → IsSplitOnceResult 32 line None → words
 words_whole line h =
     let other = split_parts 32 line None h (lit< tt) in
     slice_split_none (λ byte. byte == 32) line
-        (All-from_get_or (λ byte. (byte == 32) ≡ false) line 0 (λ i within. byte_other (get_or line i 0) (other i within)))
+    (All-from_get_or (λ byte. (byte == 32) ≡ false) line 0 (λ i within. byte_other (get_or line i 0) (other i within)))
 
 -- what is left of a line, seen as its words
 pub words_seen : (rest : Option (Bor (List ℕ))) (line : Bor (List ℕ)) (seen : List (List ℕ)) → words_left rest ≡ seen

@@ -1,4 +1,5 @@
 pub mod Stream
 pub mod Counted
 pub mod Lines
+pub mod Numbers
 pub mod Words

@@ -5,4 +5,5 @@
 pub mod ahead;
 pub mod counted;
 pub mod lines;
+pub mod numbers;
 pub mod words;
