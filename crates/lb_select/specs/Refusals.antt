@@ -1,0 +1,60 @@
+-- Refusals: their numbers, and what it is for a call to be refused exactly for its cause.
+use Rattle.std.specs.Prelude.{◌≡◌, ◌⊎◌, ℕ, List, [], ◌∷◌, codes, nat_le, if◌then◌else◌, Option, Some, None, Result, Ok, Err}
+use Rattle.lb_select.specs.declared.refusal.Refusal.{Refusal}
+use Rattle.lb_select.specs.declared.refusal.Refusal.TheVariants.{InvalidAddress, Discovery, TooManyBackends, WeightTooLarge, TooManyPoints, HealthCheckSet, GenerationsExhausted, GroupCancelled, NoSuch, OutOfMemory, StillRead, NothingInFlight, NothingBuilt, NothingRetired, NoSuchReader, NotEnoughWords, NumbersExhausted}
+
+-- the number of a refusal
+abbrev pub refusal_number : Refusal → ℕ
+refusal_number InvalidAddress = 1
+refusal_number Discovery = 2
+refusal_number TooManyBackends = 3
+refusal_number WeightTooLarge = 4
+refusal_number TooManyPoints = 5
+refusal_number HealthCheckSet = 6
+refusal_number GenerationsExhausted = 7
+refusal_number GroupCancelled = 8
+refusal_number NoSuch = 9
+refusal_number OutOfMemory = 10
+refusal_number (StillRead n) = 11
+refusal_number NothingInFlight = 12
+refusal_number NothingBuilt = 13
+refusal_number NothingRetired = 14
+refusal_number NoSuchReader = 15
+refusal_number NotEnoughWords = 16
+refusal_number NumbersExhausted = 17
+
+-- the name of a refusal, without what it carries
+abbrev pub refusal_name : Refusal → List ℕ
+refusal_name InvalidAddress = codes "InvalidAddress"
+refusal_name Discovery = codes "Discovery"
+refusal_name TooManyBackends = codes "TooManyBackends"
+refusal_name WeightTooLarge = codes "WeightTooLarge"
+refusal_name TooManyPoints = codes "TooManyPoints"
+refusal_name HealthCheckSet = codes "HealthCheckSet"
+refusal_name GenerationsExhausted = codes "GenerationsExhausted"
+refusal_name GroupCancelled = codes "GroupCancelled"
+refusal_name NoSuch = codes "NoSuch"
+refusal_name OutOfMemory = codes "OutOfMemory"
+refusal_name (StillRead n) = codes "StillRead"
+refusal_name NothingInFlight = codes "NothingInFlight"
+refusal_name NothingBuilt = codes "NothingBuilt"
+refusal_name NothingRetired = codes "NothingRetired"
+refusal_name NoSuchReader = codes "NoSuchReader"
+refusal_name NotEnoughWords = codes "NotEnoughWords"
+refusal_name NumbersExhausted = codes "NumbersExhausted"
+
+-- a call with at most one cause to refuse: it is refused for it, and for memory only where there is none
+abbrev pub Refuses : {T : Type 0} → Option Refusal → (T → Type 0) → Result T Refusal → Type 0
+Refuses cause made (Ok t) = (cause ≡ None) × made t
+Refuses cause made (Err e) = (cause ≡ Some e) ⊎ ((cause ≡ None) × (e ≡ OutOfMemory))
+
+-- of two causes, where they stand, the one of the least number
+abbrev pub earlier : Option Refusal → Option Refusal → Option Refusal
+earlier None b = b
+earlier (Some a) None = Some a
+earlier (Some a) (Some b) = Some (if nat_le (refusal_number a) (refusal_number b) then a else b)
+
+-- of many causes the one of the least number
+abbrev pub least : List (Option Refusal) → Option Refusal
+least [] = None
+least (c ∷ cs) = earlier c (least cs)

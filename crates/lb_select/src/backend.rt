@@ -1,0 +1,153 @@
+//! Backends: an address, a weight, and what a user attaches to them.
+//! A backend is compared, ordered and hashed by address and weight alone: that pair is its identity.
+ghost use Rattle.std.specs.Prelude.{◌≡◌, IfOk, IfErr, map};
+ghost use Rattle.std.specs.Cmp.{partial_order_from_own_ties};
+ghost use Rattle.std.specs.Cmp.Rules.{comparing};
+ghost use Rattle.std.specs.Ordering.{as_partial_cmp};
+ghost use Rattle.std.proofs.Common.{rules};
+ghost use Rattle.lb_select.specs.Backends.{Member, member_cmp, same_member, member_hash};
+ghost use Rattle.lb_select.specs.Seen.{address_seen, entries_seen};
+ghost use Rattle.lb_select.specs.Identity.{hash_alike};
+
+use std::alloc::AllocError;
+use std::cmp::Ordering;
+use std::collections::BTreeMap;
+use std::hash::{Hash, Hasher};
+use std::marker::Model;
+
+/// An internet address with its port: four or sixteen octets, the most significant first. IPv4 comes before IPv6, then the
+/// octets decide, then the port.
+#[derive(Clone, Copy, Debug, PartialEq, Eq, PartialOrd, Ord, Hash)]
+pub enum InetAddr {
+    V4([u8; 4], u16),
+    V6([u8; 16], u16),
+}
+
+/// Where a backend is reached: an internet address or the path of a Unix socket. Internet addresses come first; paths order
+/// by their bytes.
+#[derive(Debug, Drop, PartialEq, Eq, PartialOrd, Ord, Hash)]
+pub enum SocketAddr {
+    Inet(InetAddr),
+    Unix(String),
+}
+
+/// What a user attaches to a backend, by name. It has no part in a backend's identity.
+pub type Ext = BTreeMap<String, Vec<u8>>;
+
+/// A backend: its address, its weight (0 or more; a share of the traffic against the sum of all weights), and what a user
+/// attached to it.
+#[derive(Debug, Drop)]
+pub struct Backend {
+    pub addr: SocketAddr,
+    pub weight: usize,
+    pub ext: Ext,
+}
+
+impl Model for Backend {
+    ghost use Rattle.lb_select.specs.Backends.{Member};
+
+    ghost Value = { Member };
+
+    ghost use Rattle.lb_select.specs.Seen.{member_seen};
+
+    ghost view = { member_seen };
+}
+
+impl Clone for SocketAddr {
+    ghost is_clone = { λ a b. address_seen b ≡ address_seen a };
+
+    fn clone(&self) -> Result<SocketAddr, AllocError> {
+        match self {
+            SocketAddr::Inet(inet) => Ok(SocketAddr::Inet(*inet)),
+            SocketAddr::Unix(path) => Ok(SocketAddr::Unix(path.clone()?)),
+        }
+    }
+}
+
+// A map's clone has the same entries, each with a clone of its value.
+fn clone_ext(ext: &Ext) -> Result<Ext, AllocError>
+    ensures { IfOk result (λ r. entries_seen r.entries ≡ entries_seen ext.now.entries) }
+{
+    let copy = ext.clone()?;
+    Ok(copy)
+}
+
+impl Clone for Backend {
+    ghost is_clone = { λ b c. c ≡ b };
+
+    fn clone(&self) -> Result<Backend, AllocError> {
+        let addr = self.addr.clone()?;
+        let ext = clone_ext(&self.ext)?;
+        Ok(Backend {
+            addr,
+            weight: self.weight,
+            ext,
+        })
+    }
+}
+
+impl PartialEq for Backend {
+    ghost eq = { same_member };
+
+    ghost laws = { Prim.search (comparing, rules) depth 9 };
+
+    fn eq(&self, other: &Backend) -> bool {
+        self.cmp(other) == Ordering::Equal
+    }
+}
+
+impl Eq for Backend {
+    ghost laws = { Prim.search (comparing, rules) depth 9 };
+}
+
+impl PartialOrd for Backend {
+    ghost partial_cmp = { as_partial_cmp member_cmp };
+
+    ghost laws = { partial_order_from_own_ties (Prim.search (comparing, rules) depth 9) (Prim.search (comparing, rules) depth 9) };
+
+    fn partial_cmp(&self, other: &Backend) -> Option<Ordering> {
+        Some(self.cmp(other))
+    }
+}
+
+impl Ord for Backend {
+    ghost cmp = { member_cmp };
+
+    ghost total = { Prim.search (comparing, rules) depth 9 };
+
+    ghost matches_partial_cmp = { Prim.search (comparing, rules) depth 9 };
+
+    ghost matches_eq = { Prim.search (comparing, rules) depth 9 };
+
+    fn cmp(&self, other: &Backend) -> Ordering {
+        self.addr
+            .cmp(&other.addr)
+            .then(self.weight.cmp(&other.weight))
+    }
+}
+
+impl Hash for Backend {
+    ghost hash_input = { member_hash };
+
+    ghost respects_eq = { hash_alike };
+
+    fn hash<H: Hasher>(&self, state: &mut H) {
+        match &self.addr {
+            SocketAddr::Inet(InetAddr::V4(octets, port)) => {
+                state.write_u8(4);
+                state.write(octets);
+                state.write_u16(*port);
+            }
+            SocketAddr::Inet(InetAddr::V6(octets, port)) => {
+                state.write_u8(6);
+                state.write(octets);
+                state.write_u16(*port);
+            }
+            SocketAddr::Unix(path) => {
+                state.write_u8(0);
+                state.write(path.as_bytes());
+            }
+        }
+        state.write_usize(self.weight);
+    }
+}

@@ -1,0 +1,8 @@
+//! Selection of backends: what a backend is, words that a walk draws, selectors that walk over a set, and the unique walk.
+//! A walk's meaning is one relation between the draws that were made and the first candidates that came.
+#![tactic(auto)]
+
+pub mod backend;
+pub mod refusal;
+pub mod walk;
+pub mod words;

@@ -1,0 +1,67 @@
+//! Sources of the words that walks draw: tickets of a counter, random words of a generator.
+//! What a source may give is one relation over draws, so that a walk is told by the list of its draws.
+ghost use Rattle.std.specs.Prelude.{◌≡◌, ℕ, ⊤};
+ghost use Rattle.lb_select.specs.Backends.{Member};
+ghost use Rattle.lb_select.specs.Draws.{Draw, ticket, random, CoreGives};
+
+use rand_core::Rng;
+
+/// A source of words for walks over one selector.
+pub trait WordSource {
+    ghost gives: { Self → Draw → Self → Type 0 };
+
+    /// The next ticket: a number of a counter that all walks over the selector share.
+    fn ticket(&mut self) -> u64
+        ensures { gives self.old (ticket result) self.new };
+
+    /// The next random word.
+    fn random(&mut self) -> u64
+        ensures { gives self.old (random result) self.new };
+}
+
+/// A counter from 0 that wraps at 2^64, and a generator. Its words are exactly those to come: the tickets 0, 1, 2 and so
+/// on, and what the generator answers.
+#[derive(Drop)]
+pub struct CoreWords<R: Drop> {
+    pub tickets: u64,
+    pub generator: R,
+}
+
+impl<R: Rng + Drop> CoreWords<R> {
+    /// A source whose counter is at 0 and whose random words are the generator's.
+    pub fn new(generator: R) -> Self
+        ensures tickets { result.tickets ≡ 0 }
+        ensures generator { result.generator ≡ generator }
+    {
+        CoreWords {
+            tickets: 0,
+            generator,
+        }
+    }
+}
+
+impl<R: Rng + Drop> WordSource for CoreWords<R> {
+    ghost gives = { CoreGives (λ w. w.tickets) (λ w. R.stream w.generator) (λ (w : _) (m : Member). 0) };
+
+    fn ticket(&mut self) -> u64 {
+        let ticket = self.tickets;
+        self.tickets = ticket.wrapping_add(1);
+        ticket
+    }
+
+    fn random(&mut self) -> u64 {
+        self.generator.next_u64()
+    }
+}
+
+impl<W: WordSource> WordSource for &mut W {
+    ghost gives = { λ a d b. W.gives a.now d b.now };
+
+    fn ticket(&mut self) -> u64 {
+        (**self).ticket()
+    }
+
+    fn random(&mut self) -> u64 {
+        (**self).random()
+    }
+}

@@ -1,0 +1,5 @@
+pub mod Answers
+pub mod History
+pub mod Meanings
+pub mod Selecting
+pub mod Steps

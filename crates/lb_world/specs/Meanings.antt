@@ -1,0 +1,17 @@
+-- What a world's selectors mean: their walks, why a build of one is refused, and whether their walks draw random words.
+use Rattle.std.specs.Prelude.{ℕ, Bool, List, Option}
+use Rattle.lb_select.specs.Backends.{Member}
+use Rattle.lb_select.specs.Draws.{Draw}
+use Rattle.lb_select.specs.declared.refusal.Refusal.{Refusal}
+
+-- of a set and a configuration: the walks for a key, the least cause to refuse a build, whether random words may be drawn
+pub record Meaning (C : Type 0) : Type 1 where
+  pub walks : List Member → C → List ℕ → List Draw → List Member → Bool → Type 0
+  pub refusal : List Member → C → Option Refusal
+  pub random : List Member → C → Bool
+
+-- the meaning with these parts
+abbrev pub meaning :
+    {C : Type 0} → (List Member → C → List ℕ → List Draw → List Member → Bool → Type 0)
+    → (List Member → C → Option Refusal) → (List Member → C → Bool) → Meaning C
+meaning walks refusal random = record { walks = walks; refusal = refusal; random = random }
