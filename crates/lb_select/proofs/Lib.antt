@@ -1,1 +1,2 @@
+pub mod AddressTexts
 pub mod Clones

@@ -1,3 +1,4 @@
+pub mod AddressText
 pub mod Backends
 pub mod Draws
 pub mod Identity

@@ -2,6 +2,7 @@
 //! A walk's meaning is one relation between the draws that were made and the first candidates that came.
 #![tactic(auto)]
 
+mod address;
 pub mod backend;
 pub mod refusal;
 pub mod walk;
