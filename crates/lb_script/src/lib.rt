@@ -3,7 +3,11 @@
 #![tactic(auto)]
 
 pub mod ahead;
+pub mod backends;
 pub mod counted;
+pub mod error;
+pub mod kinds;
 pub mod lines;
 pub mod numbers;
+pub mod parse;
 pub mod words;
