@@ -1,2 +1,3 @@
+pub mod AddressRoundTrip
 pub mod AddressTexts
 pub mod Clones
