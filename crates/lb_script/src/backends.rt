@@ -12,7 +12,7 @@ use std::alloc::Global;
 
 /// The backends that the words spell, each `None` where its address is refused. Memory is taken.
 pub fn backends(alloc: Global, words: Words<'_>) -> Result<Vec<Option<Backend>>, ScriptError>
-    ensures { Reads (λ listed. listed.items) (backends_of words) result }
+    ensures { Reads (λ listed. listed.items) (backends_of words.entry) result }
 {
     let mut listed = Vec::new(alloc);
     for word in words {

@@ -18,7 +18,7 @@ pub const SLOT_LIMIT: u64 = 1024;
 
 // A step whose words are read without memory, by its first word.
 fn plain_step(first: &str, words: Words<'_>) -> Option<Step<Kind>>
-    ensures { option_map step_seen result ≡ plain_step_of first.now words }
+    ensures { option_map step_seen result ≡ plain_step_of first.now words.entry }
 {
     if first == "ask" {
         let ((group, slot), now) = slot_moment(words)?;
@@ -51,7 +51,7 @@ fn plain_step(first: &str, words: Words<'_>) -> Option<Step<Kind>>
 }
 
 fn registry(mut words: Words<'_>) -> Option<Step<Kind>>
-    ensures { option_map step_seen result ≡ registry_of words }
+    ensures { option_map step_seen result ≡ registry_of words.entry }
 {
     let key = words.next()?;
     let rest = words.next();
@@ -63,7 +63,7 @@ fn registry(mut words: Words<'_>) -> Option<Step<Kind>>
 }
 
 fn gate(mut words: Words<'_>) -> Option<Step<Kind>>
-    ensures { option_map step_seen result ≡ gate_of words }
+    ensures { option_map step_seen result ≡ gate_of words.entry }
 {
     match words.next() {
         None => Some(Step::Gate),
@@ -73,7 +73,7 @@ fn gate(mut words: Words<'_>) -> Option<Step<Kind>>
 
 // A group and a slot.
 fn slot(mut words: Words<'_>) -> Option<(u64, u64)>
-    ensures { result ≡ slot_of words }
+    ensures { result ≡ slot_of words.entry }
 {
     let group = number(words.next()?)?;
     let slot = number(words.next()?)?;
@@ -85,7 +85,7 @@ fn slot(mut words: Words<'_>) -> Option<(u64, u64)>
 
 // A group, a slot and a moment.
 fn slot_moment(mut words: Words<'_>) -> Option<((u64, u64), u128)>
-    ensures { result ≡ slot_moment_of words }
+    ensures { result ≡ slot_moment_of words.entry }
 {
     let group = number(words.next()?)?;
     let slot = number(words.next()?)?;
@@ -98,7 +98,7 @@ fn slot_moment(mut words: Words<'_>) -> Option<((u64, u64), u128)>
 
 // One number.
 fn lone(mut words: Words<'_>) -> Option<u64>
-    ensures { result ≡ lone_of words }
+    ensures { result ≡ lone_of words.entry }
 {
     let value = number(words.next()?)?;
     match words.next() {
