@@ -1,5 +1,5 @@
 -- What a line of a script asks for. Its first word says which kind of step it is, and the words after it are the step's own.
-use Rattle.std.specs.Prelude.{◌≡◌, ℕ, ◌^◌, Bool, false, ◌||◌, ◌==◌, List, [], ◌∷◌, codes, length, slice_index, Option, Some, None, option_map, Result, Ok, Err, ⊤, if◌then◌else◌, bytes_eq, replicate}
+use Rattle.std.specs.Prelude.{◌≡◌, ℕ, ◌^◌, Bool, false, ◌||◌, ◌==◌, List, [], ◌∷◌, codes, length, slice_index, Option, Some, None, option_map, Result, Ok, Err, ⊤, if◌then◌else◌, bytes_eq, replicate, nat_le}
 use Rattle.std.specs.Str.{is_utf8}
 use Rattle.lb_select.specs.AddressText.{address_of_text, bare_member}
 use Rattle.lb_select.specs.Backends.{Member}
@@ -26,8 +26,12 @@ small word = number_of (2 ^ 64) word
 abbrev pub moment : List ℕ → Option ℕ
 moment word = number_of (2 ^ 128) word
 
+abbrev pub at_most : ℕ → Option ℕ → Option ℕ
+at_most most None = None
+at_most most (Some n) = if nat_le n most then Some n else None
+
 abbrev pub count : List ℕ → Option ℕ
-count word = number_of 1025 word
+count word = at_most 1024 (small word)
 
 -- the kind of selector that a word names
 abbrev pub kind_of : List ℕ → Option Kind
@@ -89,21 +93,30 @@ abbrev pub gate_of : List (List ℕ) → Option (StepView Kind)
 gate_of [] = Some step.gate
 gate_of (word ∷ words) = None
 
+abbrev pub group_parts_of : List (List ℕ) → Option ((ℕ × ℕ) × (Kind × ℕ))
+group_parts_of (registry ∷ gate ∷ kind ∷ slots ∷ []) =
+    both (both (small registry) (small gate)) (both (kind_of kind) (count slots))
+group_parts_of words = None
+
 abbrev pub group_of : List (List ℕ) → Option (StepView Kind)
-group_of (registry ∷ gate ∷ kind ∷ slots ∷ []) =
-    option_map (λ p. step.group p.0.0 p.0.1 (replicate p.1.1 p.1.0)) (both (both (small registry) (small gate)) (both (kind_of kind) (count slots)))
-group_of words = None
+group_of words = option_map (λ p. step.group p.0.0 p.0.1 (replicate p.1.1 p.1.0)) (group_parts_of words)
 
 abbrev pub update_of : List (List ℕ) → Option (StepView Kind)
 update_of (group ∷ now ∷ backends) =
     option_map (λ p. step.update p.0.0 p.0.1 p.1) (both (both (small group) (moment now)) (backends_of backends))
 update_of words = None
 
-abbrev pub select_of : List (List ℕ) → Option (StepView Kind)
-select_of (group ∷ slot ∷ key ∷ limit ∷ []) =
+abbrev pub keyed : ((ℕ × ℕ) × ℕ) → List ℕ → (ℕ × ℕ) × (List ℕ × ℕ)
+keyed p key = (p.0, (key, p.1))
+
+abbrev pub select_parts_of : List (List ℕ) → Option ((ℕ × ℕ) × (List ℕ × ℕ))
+select_parts_of (group ∷ slot ∷ key ∷ limit ∷ []) =
     if length key == 0 then None else
-    option_map (λ p. step.select p.0.0 p.0.1 key p.1 []) (both (both (small group) (small slot)) (small limit))
-select_of words = None
+    option_map (λ p. keyed p key) (both (both (small group) (small slot)) (small limit))
+select_parts_of words = None
+
+abbrev pub select_of : List (List ℕ) → Option (StepView Kind)
+select_of words = option_map (λ p. step.select p.0.0 p.0.1 p.1.0 p.1.1 []) (select_parts_of words)
 
 -- a step whose words are read without memory, by its first word
 abbrev pub plain_step_of : List ℕ → List (List ℕ) → Option (StepView Kind)
