@@ -1,4 +1,5 @@
 pub mod AheadLemmas
+pub mod BackendsLemmas
 pub mod LinesLemmas
 pub mod NumbersLemmas
 pub mod StreamLemmas

@@ -1,7 +1,7 @@
 //! Backends as a script spells them: an address, a slash and a weight.
 //! An address that can't be one is told apart from a word that no backend is spelled as.
 ghost use Rattle.std.specs.Prelude.{◌≡◌, option_map};
-ghost use Rattle.lb_script.specs.StepLines.{Reads, backend_of, backends_of, is_marked};
+ghost use Rattle.lb_script.specs.StepLines.{Reads, backend_of, backends_of, divided, is_marked};
 
 use crate::error::ScriptError;
 use crate::numbers::number;
@@ -28,7 +28,7 @@ fn backend(alloc: Global, word: &str) -> Result<Option<Backend>, ScriptError>
     if is_marked(word.as_bytes()) {
         return Err(ScriptError::BadLine);
     }
-    let Some((address, weight)) = word.rsplit_once('/') else {
+    let Some((address, weight)) = divide(word) else {
         return Err(ScriptError::BadLine);
     };
     if address == "unix:" {
@@ -41,6 +41,16 @@ fn backend(alloc: Global, word: &str) -> Result<Option<Backend>, ScriptError>
         Ok(backend) => Ok(Some(backend)),
         Err(Refusal::OutOfMemory) => Err(ScriptError::OutOfMemory),
         Err(_) => Ok(None),
+    }
+}
+
+// The word before its last slash, and after it.
+fn divide(word: &str) -> Option<(&str, &str)>
+    ensures { option_map (λ p. (p.0.now, p.1.now)) result ≡ divided word.now }
+{
+    match word.rsplit_once('/') {
+        Some((address, weight)) => Some((address, weight)),
+        None => None,
     }
 }
 
