@@ -2,5 +2,6 @@ pub mod AheadLemmas
 pub mod BackendsLemmas
 pub mod LinesLemmas
 pub mod NumbersLemmas
+pub mod ParseLemmas
 pub mod StreamLemmas
 pub mod WordsLemmas

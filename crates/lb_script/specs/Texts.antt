@@ -1,5 +1,5 @@
 -- What a script's answers and its last line are written as, each without its line feed.
-use Rattle.std.specs.Prelude.{ℕ, List, codes, decimal, ◌++◌}
+use Rattle.std.specs.Prelude.{ℕ, List, [], codes, decimal, ◌++◌}
 use Rattle.lb_select.specs.AddressText.{member_text}
 use Rattle.lb_select.specs.Refusals.{refusal_number, refusal_name}
 use Rattle.lb_select.specs.declared.refusal.Refusal.{Refusal}
@@ -21,9 +21,12 @@ abbrev pub error_text : ℕ → ScriptError → List ℕ
 error_text line e = codes "error " ++ decimal line ++ codes " " ++ script_error_name e
 
 -- the number and the name of a refusal; for readers that are in, their number too
+abbrev pub readers_text : Refusal → List ℕ
+readers_text (StillRead n) = codes " " ++ decimal n
+readers_text r = []
+
 abbrev pub refusal_text : Refusal → List ℕ
-refusal_text (StillRead n) = codes "11 StillRead " ++ decimal n
-refusal_text r = decimal (refusal_number r) ++ codes " " ++ refusal_name r
+refusal_text r = decimal (refusal_number r) ++ codes " " ++ refusal_name r ++ readers_text r
 
 abbrev pub answer_text : Answer → List ℕ
 answer_text (answer.Registry n) = codes "registry " ++ decimal n

@@ -10,4 +10,5 @@ pub mod kinds;
 pub mod lines;
 pub mod numbers;
 pub mod parse;
+pub mod texts;
 pub mod words;
