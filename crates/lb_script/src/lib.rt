@@ -10,5 +10,7 @@ pub mod kinds;
 pub mod lines;
 pub mod numbers;
 pub mod parse;
+mod session;
 pub mod texts;
 pub mod words;
+mod world;
