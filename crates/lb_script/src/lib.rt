@@ -10,6 +10,7 @@ pub mod kinds;
 pub mod lines;
 pub mod numbers;
 pub mod parse;
+pub mod run;
 mod session;
 pub mod texts;
 pub mod words;
