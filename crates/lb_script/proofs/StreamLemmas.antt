@@ -1,5 +1,5 @@
 -- Lemmas on what calls did to the known bytes of a reader and a writer.
-use Rattle.std.proofs.Common.{◌≡◌, ℕ, ◌+◌, ◌-◌, ◌≤◌, List, [], ◌∷◌, ◌++◌, Option, None, Some, refl, sym, ap, ◌∙◌, subst, length, take, drop, take-append-drop, length-drop, arith}
+use Rattle.std.proofs.Common.{◌≡◌, ℕ, ◌+◌, ◌-◌, ◌≤◌, List, [], ◌∷◌, ◌++◌, Option, None, Some, Result, Ok, Err, OnErr, refl, sym, ap, ◌∙◌, subst, append_assoc, length, take, drop, take-append-drop, length-drop, arith}
 use Rattle.std.proofs.Math.Seq.{take-add}
 use Rattle.std.proofs.lemmas.List.{take_all}
 use Rattle.std.specs.Io.KnownBytes.{Keeps, Appends, Consumes}
@@ -37,3 +37,22 @@ OnBytes-kept P None b c p kept = tt
 OnBytes-kept P (Some x) None c p kept = absurd p
 OnBytes-kept P (Some x) (Some y) None p kept = absurd kept
 OnBytes-kept P (Some x) (Some y) (Some z) p kept = subst (P x) (sym kept) p
+
+-- a fact that holds in any case
+pub on_err : {T E P : Type 0} (r : Result T E) → P → OnErr r P
+on_err (Ok x) p = tt
+on_err (Err e) p = p
+
+-- a front of some bytes is a front of more
+pub front_more : (a b : Option (List ℕ)) (bytes more : List ℕ) → AppendsFront a b bytes → AppendsFront a b (bytes ++ more)
+front_more a b bytes more h = (h.0, h.1 ++ more, ap (λ l. l ++ more) h.2 ∙ append_assoc h.0 h.1 more, h.3)
+
+-- a front after bytes that were written
+pub front_after : (a b c : Option (List ℕ)) (bytes more : List ℕ) → Appends a b bytes → AppendsFront b c more
+    → AppendsFront a c (bytes ++ more)
+front_after a b c bytes more p h =
+    (bytes ++ h.0, h.1, ap (λ l. bytes ++ l) h.2 ∙ sym (append_assoc bytes h.0 h.1), Appends-trans a b c bytes h.0 p h.3)
+
+-- all of some bytes is a front of more
+pub front_whole : (a b : Option (List ℕ)) (bytes more : List ℕ) → Appends a b bytes → AppendsFront a b (bytes ++ more)
+front_whole a b bytes more p = (bytes, more, refl, p)
