@@ -3,5 +3,6 @@ pub mod BackendsLemmas
 pub mod LinesLemmas
 pub mod NumbersLemmas
 pub mod ParseLemmas
+pub mod RunLemmas
 pub mod StreamLemmas
 pub mod WordsLemmas

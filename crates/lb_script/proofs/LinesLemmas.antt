@@ -5,7 +5,7 @@ use Rattle.std.proofs.lemmas.List.{take_all}
 use Rattle.memchr.specs.Find.{IsFirstByte, is_byte}
 use Rattle.std.specs.Io.KnownBytes.{prepend_known}
 use Rattle.lb_script.specs.Stream.{OnBytes}
-use Rattle.lb_script.specs.Lines.{first_line, after_line}
+use Rattle.lb_script.specs.Lines.{lines_of, first_line, after_line}
 
 -- what the bytes of an unfinished line are: whatever follows them, they stand at the front of the first line
 pub record IsFront (line : List ℕ) : Type 0 where
@@ -178,3 +178,19 @@ front_goes_on line held count front place all =
 pub grown_by : (grown line held shown : List ℕ) (count : ℕ) → grown ≡ line ++ take count shown → shown ≡ held
     → grown ≡ line ++ take count held
 grown_by grown line held shown count is same = is ∙ ap (λ bytes. line ++ take count bytes) same
+
+-- a text that isn't empty has a first line
+pub lines_cons : (xs : List ℕ) → xs ≢ [] → lines_of xs ≡ first_line xs ∷ lines_of (after_line xs)
+lines_cons [] some = absurd (some refl)
+lines_cons (x ∷ []) some = by_first (λ xs. lines_of xs ≡ first_line xs ∷ lines_of (after_line xs)) x []
+    (λ h. rw h refl) (λ h. rw h refl)
+lines_cons (x ∷ y ∷ ys) some = by_first (λ xs. lines_of xs ≡ first_line xs ∷ lines_of (after_line xs)) x (y ∷ ys)
+    (λ h. rw h refl)
+    (λ h.
+    let rest : lines_of (y ∷ ys) ≡ first_line (y ∷ ys) ∷ lines_of (after_line (y ∷ ys)) = lines_cons (y ∷ ys) (λ e. cc) in
+    rw (h, rest) refl)
+
+-- nothing has no long line
+pub first_of_none : (xs : List ℕ) → xs ≡ [] → 16777216 < length (first_line xs) → ⊥
+first_of_none xs none long =
+    let short : length (first_line xs) ≡ 0 = ap (λ l. length (first_line l)) none in omega arith
