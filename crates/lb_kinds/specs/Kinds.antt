@@ -6,9 +6,11 @@ use Rattle.lb_select.specs.Draws.{Draw, ticket, IsNotRandom, words_in}
 use Rattle.lb_select.specs.Fnv.{fnv}
 use Rattle.lb_select.specs.Weights.{IsWeightedWalk, weighted_refusal}
 use Rattle.lb_select.specs.WalkLaws.{none_drawn, ticket_drawn, no_word, one_ticket, Each-words, few_words}
+use Rattle.lb_ring.specs.Choices.{IsRingWalk, ring_refusal}
+use Rattle.lb_ring.specs.RingLaws.{walk_undrawn, walk_few_words}
 use Rattle.lb_select.specs.declared.refusal.Refusal.{Refusal}
 use Rattle.lb_kinds.specs.declared.kinds.Kind.{Kind}
-use Rattle.lb_kinds.specs.declared.kinds.Kind.TheVariants.{Fnv, RoundRobin}
+use Rattle.lb_kinds.specs.declared.kinds.Kind.TheVariants.{Fnv, RoundRobin, Ketama}
 
 -- the word of a key is its hash, and nothing is drawn
 abbrev pub hash_word : List ℕ → List Draw → ℕ → Type 0
@@ -22,11 +24,13 @@ ticket_word key ds w = ds ≡ ticket w ∷ []
 abbrev pub kind_walks : List Member → Kind → List ℕ → List Draw → List Member → Bool → Type 0
 kind_walks ms Fnv = IsWeightedWalk hash_word ms
 kind_walks ms RoundRobin = IsWeightedWalk ticket_word ms
+kind_walks ms Ketama = IsRingWalk ms
 
 -- why a build of a kind is refused
 abbrev pub kind_refusal : List Member → Kind → Option Refusal
 kind_refusal ms Fnv = weighted_refusal ms
 kind_refusal ms RoundRobin = weighted_refusal ms
+kind_refusal ms Ketama = ring_refusal ms
 
 -- no kind draws a random word
 pub kind_undrawn :
@@ -36,6 +40,7 @@ kind_undrawn ms Fnv never key ds cs e h =
     Each-words hash_word IsNotRandom (λ key ds w h. none_drawn IsNotRandom ds h.0) key (h.word ∷ h.later) ds h.drawn
 kind_undrawn ms RoundRobin never key ds cs e h =
     Each-words ticket_word IsNotRandom (λ key ds w h. ticket_drawn w ds h) key (h.word ∷ h.later) ds h.drawn
+kind_undrawn ms Ketama never key ds cs e h = walk_undrawn ms key ds cs e h
 
 -- a walk draws as many words as it has candidates, and one where there are none
 pub kind_few_words :
@@ -43,3 +48,4 @@ pub kind_few_words :
     → kind_walks ms kind key ds cs e → words_in ds ≤ max 1 (length cs)
 kind_few_words ms Fnv key ds cs e h = few_words hash_word (λ key ds w h. no_word ds h.0) ms key ds cs e h
 kind_few_words ms RoundRobin key ds cs e h = few_words ticket_word (λ key ds w h. one_ticket w ds h) ms key ds cs e h
+kind_few_words ms Ketama key ds cs e h = walk_few_words ms key ds cs e h

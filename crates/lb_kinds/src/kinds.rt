@@ -10,6 +10,8 @@ ghost use Rattle.lb_select.specs.Weights.{weighted_refusal};
 ghost use Rattle.lb_kinds.specs.Kinds.{kind_walks, kind_refusal, kind_undrawn, kind_few_words};
 ghost use Rattle.lb_kinds.specs.Chosen.{members_chosen, kind_chosen, chosen_walk, members_walked, chosen_starts, chosen_ends};
 
+use lb_ring::ketama::{KetamaHashing, OwnedNodeIterator};
+use lb_select::algorithms;
 use lb_select::algorithms::FnvHasher;
 use lb_select::backend::Backend;
 use lb_select::refusal::Refusal;
@@ -17,7 +19,6 @@ use lb_select::selection::{FNVHash, RoundRobin};
 use lb_select::walk::{BackendIter, BackendSelection};
 use lb_select::weighted::WeightedIterator;
 use lb_select::words::WordSource;
-use lb_select::{algorithms, weighted};
 use std::alloc::Global;
 use std::collections::BTreeSet;
 use std::sync::Arc;
@@ -29,6 +30,8 @@ pub enum Kind {
     Fnv,
     /// Weighted, in turn.
     RoundRobin,
+    /// By the points of a Ketama ring.
+    Ketama,
 }
 
 /// A selector of one of the kinds.
@@ -36,6 +39,7 @@ pub enum Kind {
 pub enum Chosen {
     Fnv(Arc<FNVHash>),
     RoundRobin(Arc<RoundRobin>),
+    Ketama(Arc<KetamaHashing>),
 }
 
 /// A walk of a selector of one of the kinds.
@@ -43,6 +47,7 @@ pub enum Chosen {
 pub enum ChosenIterator {
     Fnv(WeightedIterator<FnvHasher>),
     RoundRobin(WeightedIterator<algorithms::RoundRobin>),
+    Ketama(OwnedNodeIterator),
 }
 
 impl ChosenIterator {
@@ -54,6 +59,7 @@ impl ChosenIterator {
         match self {
             ChosenIterator::Fnv(walk) => walk.advance(words),
             ChosenIterator::RoundRobin(walk) => walk.advance(words),
+            ChosenIterator::Ketama(walk) => walk.advance(),
         }
     }
 
@@ -64,6 +70,7 @@ impl ChosenIterator {
         match self {
             ChosenIterator::Fnv(walk) => walk.backend(index),
             ChosenIterator::RoundRobin(walk) => walk.backend(index),
+            ChosenIterator::Ketama(walk) => walk.backend(index),
         }
     }
 }
@@ -124,6 +131,11 @@ impl BackendSelection for Chosen {
                 let selector = Arc::new(alloc, selector)?;
                 Ok(Chosen::RoundRobin(selector))
             }
+            Kind::Ketama => {
+                let selector = KetamaHashing::build(alloc, backends)?;
+                let selector = Arc::new(alloc, selector)?;
+                Ok(Chosen::Ketama(selector))
+            }
         }
     }
 
@@ -141,6 +153,10 @@ impl BackendSelection for Chosen {
             Chosen::RoundRobin(selector) => {
                 let walk = RoundRobin::iter(selector, key, words)?;
                 Ok(ChosenIterator::RoundRobin(walk))
+            }
+            Chosen::Ketama(selector) => {
+                let walk = KetamaHashing::iter(selector, key, words)?;
+                Ok(ChosenIterator::Ketama(walk))
             }
         }
     }

@@ -118,14 +118,21 @@ impl KetamaHashing {
 }
 
 impl OwnedNodeIterator {
-    // Goes one point on; the index of its backend.
-    fn advance(&mut self) -> Option<usize>
+    /// Goes one point on, for a walk of several kinds; the index in the set's order of its backend, `None` on a ring without points.
+    pub fn advance(&mut self) -> Option<usize>
         ensures step { IsMove (arc_value self.old.ring) self.old.at (option_and_then (slice_get (arc_value self.old.ring).members) result) self.new.at }
         ensures ring { arc_value self.new.ring ≡ arc_value self.old.ring }
     {
         let index = self.ring.owner_at(self.at)?;
         self.at = self.ring.index_of(self.at) + 1;
         Some(index)
+    }
+
+    /// The backend of that index in the set's order.
+    pub fn backend(&self, index: Option<usize>) -> Option<&Backend>
+        ensures { option_copied result ≡ option_and_then (slice_get (arc_value self.now.ring).members) index }
+    {
+        self.ring.get(index)
     }
 }
 

@@ -8,7 +8,7 @@ use Rattle.lb_world.specs.Steps.{StepView, step_seen}
 use Rattle.lb_world.specs.declared.step.Step.{Step}
 use Rattle.std.specs.Prelude.{Result}
 use Rattle.lb_script.specs.declared.error.ScriptError.{ScriptError}
-use Rattle.lb_script.specs.declared.kinds.Kind.{Kind}
+use Rattle.lb_kinds.specs.declared.kinds.Kind.{Kind}
 use Rattle.lb_script.specs.StepLines.{Reads, step_of, step_of_words}
 use Rattle.lb_script.specs.Words.{words_of}
 

@@ -8,7 +8,7 @@ use Rattle.lb_world.specs.Meanings.{Meaning}
 use Rattle.lb_script.specs.StandIn.{WorldView}
 use Rattle.lb_script.specs.declared.error.ScriptError.{ScriptError}
 use Rattle.lb_script.specs.declared.error.ScriptError.TheVariants.{BadLine, LineTooLong, Read, OutOfMemory}
-use Rattle.lb_script.specs.declared.kinds.Kind.{Kind}
+use Rattle.lb_kinds.specs.declared.kinds.Kind.{Kind}
 use Rattle.lb_script.specs.Lines.{lines_of, first_line, after_line, onto}
 use Rattle.lb_script.specs.Output.{IsOutput, ends, answered, bad_line, too_long, no_memory, read_fails, accepted, HasLine, Wrote, WroteFront}
 use Rattle.lb_script.specs.Session.{Holds, AnsweredLine, AnswersNext}

@@ -8,7 +8,7 @@ use Rattle.lb_world.specs.declared.answer.Answer.{Answer}
 use Rattle.lb_script.specs.StandIn.{WorldView, Stands}
 use Rattle.lb_script.specs.declared.error.ScriptError.{ScriptError}
 use Rattle.lb_script.specs.declared.error.ScriptError.TheVariants.{BadLine, LineTooLong, Read, OutOfMemory}
-use Rattle.lb_script.specs.declared.kinds.Kind.{Kind}
+use Rattle.lb_kinds.specs.declared.kinds.Kind.{Kind}
 use Rattle.lb_script.specs.Lines.{first_line, after_line}
 use Rattle.lb_script.specs.Output.{accepted}
 use Rattle.lb_script.specs.Texts.{answer_text}

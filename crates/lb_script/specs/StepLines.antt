@@ -8,8 +8,8 @@ use Rattle.lb_world.specs.Steps.{StepView}
 use Rattle.lb_world.specs.Steps as step
 use Rattle.lb_script.specs.declared.error.ScriptError.{ScriptError}
 use Rattle.lb_script.specs.declared.error.ScriptError.TheVariants.{BadLine, LineTooLong, Read, OutOfMemory}
-use Rattle.lb_script.specs.declared.kinds.Kind.{Kind}
-use Rattle.lb_script.specs.declared.kinds.Kind.TheVariants.{Fnv, RoundRobin, Ketama}
+use Rattle.lb_kinds.specs.declared.kinds.Kind.{Kind}
+use Rattle.lb_kinds.specs.declared.kinds.Kind.TheVariants.{Fnv, RoundRobin, Ketama}
 use Rattle.lb_script.specs.Numbers.{number_of}
 use Rattle.lb_script.specs.Words.{words_of}
 

@@ -6,7 +6,6 @@ pub mod ahead;
 pub mod backends;
 pub mod counted;
 pub mod error;
-pub mod kinds;
 pub mod lines;
 pub mod numbers;
 pub mod parse;

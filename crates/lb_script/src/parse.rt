@@ -6,9 +6,9 @@ ghost use Rattle.lb_world.specs.Steps.{step_seen};
 
 use crate::backends::backends;
 use crate::error::ScriptError;
-use crate::kinds::Kind;
 use crate::numbers::{number, wide_number};
 use crate::words::Words;
+use lb_kinds::kinds::Kind;
 use lb_world::step::{HealthKey, Step};
 use std::alloc::Global;
 use std::str;

@@ -10,9 +10,9 @@ ghost use Rattle.lb_script.specs.Texts.{error_text};
 
 use crate::counted::Counted;
 use crate::error::ScriptError;
-use crate::kinds::Kind;
 use crate::session::Session;
 use itoa::Buffer;
+use lb_kinds::kinds::Kind;
 use lb_select::walk::BackendSelection;
 use std::alloc::Global;
 use std::io;

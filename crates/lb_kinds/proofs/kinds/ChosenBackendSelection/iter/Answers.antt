@@ -7,3 +7,6 @@ returns-in_ok-walk-in-Fnv g c = rw (sym c.deref-chosen.ensures ∙ c.in-Fnv.is) 
 
 pub returns-in_ok-walk-in-RoundRobin : goal.returns-in_ok-walk-in-RoundRobin
 returns-in_ok-walk-in-RoundRobin g c = rw (sym c.deref-chosen.ensures ∙ c.in-RoundRobin.is) c.in_ok-walk-in-RoundRobin.ensures
+
+pub returns-in_ok-walk-in-Ketama : goal.returns-in_ok-walk-in-Ketama
+returns-in_ok-walk-in-Ketama g c = rw (sym c.deref-chosen.ensures ∙ c.in-Ketama.is) c.in_ok-walk-in-Ketama.ensures
