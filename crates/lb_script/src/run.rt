@@ -12,7 +12,7 @@ use crate::counted::Counted;
 use crate::error::ScriptError;
 use crate::session::Session;
 use itoa::Buffer;
-use lb_kinds::kinds::Kind;
+use lb_kinds::kinds::{Chosen, Kind};
 use lb_select::walk::BackendSelection;
 use std::alloc::Global;
 use std::io;
@@ -24,7 +24,27 @@ use std::io::{Read, Write};
 /// number from 1 and a name: `BadLine` where it is none that a script may have there, `LineTooLong` where it has more than
 /// 16777216 bytes, `OutOfMemory` where memory was refused at it, and `Read` where a read failed. Nothing is read after that.
 /// Where a write failed, what was written is a beginning of such a text.
-pub fn run_script<S, R, W>(alloc: Global, reader: &mut Counted<R>, writer: &mut Counted<W>) -> u8
+pub fn run_script<R, W>(alloc: Global, reader: &mut Counted<R>, writer: &mut Counted<W>) -> u8
+where
+    R: Read,
+    W: Write,
+    requires fresh_reader { has_failed reader.old ≡ false }
+    requires fresh_writer { has_failed writer.old ≡ false }
+    ensures whole { has_failed writer.new ≡ false → IfSome (R.remaining (inner_of reader.old)) (λ script.
+        Wrote (meaning ⟦<Chosen as BackendSelection>⟧.walks ⟦<Chosen as BackendSelection>⟧.refusal ⟦<Chosen as BackendSelection>⟧.may_draw_random) (has_failed reader.new) script (W.contents (inner_of writer.old)) (W.contents (inner_of writer.new)) result) }
+    ensures part { has_failed writer.new ≡ true → IfSome (R.remaining (inner_of reader.old)) (λ script.
+        WroteFront (meaning ⟦<Chosen as BackendSelection>⟧.walks ⟦<Chosen as BackendSelection>⟧.refusal ⟦<Chosen as BackendSelection>⟧.may_draw_random) (has_failed reader.new) script (W.contents (inner_of writer.old)) (W.contents (inner_of writer.new))) }
+    ensures failed { has_failed writer.new ≡ true → result ≡ 1 }
+{
+    run_script_with::<Chosen, R, W>(alloc, reader, writer)
+}
+
+/// The same over any selector that is configured by a kind.
+pub fn run_script_with<S, R, W>(
+    alloc: Global,
+    reader: &mut Counted<R>,
+    writer: &mut Counted<W>,
+) -> u8
 where
     S: BackendSelection<Config = Kind>,
     R: Read,
