@@ -1,4 +1,4 @@
-use Rattle.std.proofs.Common.{◌+◌, ◌≤◌, ◌∙◌, sym, ap, subst, drop, length, slice_range}
+use Rattle.std.proofs.Common.{◌≤◌, ◌∙◌, sym, ap, subst, drop, length, slice_range}
 use Rattle.lb_script.proofs.AheadLemmas.{range_after}
 use Rattle.lb_script.proofs.ahead.ReadAhead.consume.Goals as goal
 

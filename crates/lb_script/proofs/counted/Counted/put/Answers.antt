@@ -1,5 +1,5 @@
-use Rattle.std.proofs.Common.{rules, ◌+◌, ◌≤◌, arith}
-use Rattle.lb_script.specs.Counted.{inner_of, has_failed}
+use Rattle.std.proofs.Common.{rules}
+use Rattle.lb_script.specs.Counted.{inner_of}
 use Rattle.lb_script.proofs.StreamLemmas.{put_more, put_part, put_within}
 use Rattle.lb_script.proofs.counted.Counted.put.Goals as goal
 

@@ -1,4 +1,4 @@
-use Rattle.std.proofs.Common.{rules, ◌≡◌, [], ◌∷◌, ◌∙◌, sym}
+use Rattle.std.proofs.Common.{rules, ◌≡◌, [], ◌∷◌, ◌∙◌}
 use Rattle.lb_script.specs.Words.{words_of}
 use Rattle.lb_script.proofs.WordsLemmas.{words_cut, words_whole, words_seen}
 use Rattle.lb_script.proofs.words.WordsIterator.next.Goals as goal
