@@ -1,5 +1,10 @@
 pub mod Answers
 pub mod History
+pub mod Lawful
 pub mod Meanings
 pub mod Selecting
+pub mod Quiet
+pub mod Sound
+pub mod Stands
 pub mod Steps
+pub mod Views

@@ -1,0 +1,78 @@
+-- What the calls on a slot and on a group do: relations by cases on the answer, between what contracts see before and after.
+use Rattle.std.specs.Prelude.{◌≡◌, ◌≢◌, ◌<◌, ◌+◌, ◌-◌, ◌^◌, ◌==◌, ◌&&◌, ◌⊎◌, ℕ, Bool, true, false, not, List, [], slice_get, Option, Some, None, Result, Ok, Err, IsSome, MatchOption, if◌then◌else◌}
+use Rattle.std.specs.Option.{IsSomeAnd}
+use Rattle.lb_select.specs.Refusals.{Refuses}
+use Rattle.lb_select.specs.declared.refusal.Refusal.{Refusal}
+use Rattle.lb_select.specs.declared.refusal.Refusal.TheVariants as refusal
+use Rattle.lb_rebuild.specs.Gate.{GateId, GateView, gate}
+use Rattle.lb_rebuild.specs.Views.{StageView, free, flight, retired, taken_out, OrderView, Task, ServingView, RetiredView, ReaderView, SlotView, GroupView, with_slot, is_flying}
+use Rattle.lb_rebuild.specs.declared.slot.Ask.{Ask}
+use Rattle.lb_rebuild.specs.declared.slot.Ask.TheVariants.{Building, Nothing, Busy, Job}
+use Rattle.lb_rebuild.specs.declared.slot.Told.{Told}
+use Rattle.lb_rebuild.specs.declared.slot.Told.TheVariants.{Published, Abandoned}
+
+-- nothing stands in the slot beside what it serves
+abbrev pub is_free : StageView → Bool
+is_free free = true
+is_free (flight n) = false
+is_free (retired n readers) = false
+is_free (taken_out n) = false
+
+-- the build of that generation is in flight
+abbrev pub is_flight_of : ℕ → StageView → Bool
+is_flight_of n free = false
+is_flight_of n (flight m) = m == n
+is_flight_of n (retired m readers) = false
+is_flight_of n (taken_out m) = false
+
+-- what a job or a built selector was ordered as
+abbrev pub order_of : {C : Type 0} → Task C → OrderView C
+order_of j = record { generation = j.generation; members = j.members; config = j.config }
+
+-- An asked slot that isn't free answers why; a job is the order that waited, with the permit of a gate that was free.
+abbrev pub AskedAt : {S I C : Type 0} → ℕ → SlotView C → GateView → Ask S I C → SlotView C → GateView → Type 0
+AskedAt slot x g Building y h = (is_flying x.stage ≡ true) × (y ≡ x) × (h ≡ g)
+AskedAt slot x g Nothing y h = (is_flying x.stage ≡ false) × (x.waiting ≡ None) × (y ≡ x) × (h ≡ g)
+AskedAt slot x g Busy y h =
+    (is_flying x.stage ≡ false) × IsSome x.waiting × ((is_free x.stage && not g.out) ≡ false) × (y ≡ x) × (h ≡ g)
+AskedAt slot x g (Job j) y h =
+    (x.stage ≡ free) × (g.out ≡ false) × (x.waiting ≡ Some (order_of j)) × (j.slot ≡ slot) × (j.permit ≡ g.id)
+    × (y ≡ record x { waiting = None; stage = flight j.generation }) × (h ≡ gate g.id true)
+
+-- The group is asked at one of its slots; there is no such slot otherwise, and then nothing changes.
+abbrev pub Asked : {S I C : Type 0} → GroupView C → ℕ → GateView → Result (Ask S I C) Refusal → GroupView C → GateView → Type 0
+Asked v slot g (Ok a) w h =
+    (x : _) × (y : _) × (slice_get v.slots slot ≡ Some x) × AskedAt slot x g a y h × (w ≡ with_slot v slot y)
+Asked v slot g (Err e) w h = (e ≡ refusal.NoSuch) × (slice_get v.slots slot ≡ None) × (w ≡ v) × (h ≡ g)
+
+-- a built selector, served from now on
+abbrev pub serving_of : {C : Type 0} → Task C → ServingView C
+serving_of b = record { generation = b.generation; members = b.members; config = b.config; tickets = 0 }
+
+-- A selector whose build is in flight is served, and what was served before is retired with its readers; any other is retired at once.
+abbrev pub PublishedAt : {C : Type 0} → Task C → SlotView C → Told → SlotView C → Type 0
+PublishedAt b x (Published n) y =
+    (n ≡ b.generation) × (x.stage ≡ flight n)
+    × (y ≡ record x { serving = serving_of b; readers = 0; stage = retired x.serving.generation x.readers })
+PublishedAt b x (Abandoned n) y =
+    (n ≡ b.generation) × (is_flight_of n x.stage ≡ false) × (y ≡ record x { stage = retired n 0 })
+
+abbrev pub PublishedIn : {C : Type 0} → GroupView C → Task C → Told → GroupView C → Type 0
+PublishedIn v b told w =
+    (x : _) × (y : _) × (slice_get v.slots b.slot ≡ Some x) × PublishedAt b x told y × (w ≡ with_slot v b.slot y)
+
+-- the order of a job that failed waits again, where it is of the newest generation and none waits
+abbrev pub put_back : {C : Type 0} → ℕ → Task C → Option (OrderView C) → Option (OrderView C)
+put_back newest j (Some o) = Some o
+put_back newest j None = if j.generation == newest then Some (order_of j) else None
+
+-- a failed build is in flight no more; a job that isn't in flight changes nothing
+abbrev pub failed_slot : {C : Type 0} → ℕ → Task C → SlotView C → SlotView C
+failed_slot newest j x =
+    if is_flight_of j.generation x.stage
+    then record x { waiting = put_back newest j x.waiting; stage = free }
+    else x
+
+abbrev pub FailedIn : {C : Type 0} → GroupView C → Task C → GroupView C → Type 0
+FailedIn v j w =
+    MatchOption (slice_get v.slots j.slot) (w ≡ v) (λ x. w ≡ with_slot v j.slot (failed_slot v.newest j x))

@@ -1,0 +1,56 @@
+-- What the type of a group keeps of each of its slots.
+use Rattle.std.specs.Prelude.{◌≡◌, ◌<◌, ◌≤◌, ℕ, List, All, Option, Some, None, IfSome}
+use Rattle.std.specs.Arc.{arc_value}
+use Rattle.lb_rebuild.specs.Gate.{GateId}
+use Rattle.lb_rebuild.specs.Views.{StageView, OrderView, SlotView, free, flight, retired, taken_out, flight_number}
+use Rattle.lb_rebuild.specs.declared.slot.Slot.{Slot}
+use Rattle.lb_rebuild.specs.declared.slot.Stage.{Stage}
+use Rattle.lb_rebuild.specs.declared.slot.Stage.TheVariants as stage
+
+-- the stage, as contracts see it
+abbrev pub stage_view : {S I C : Type 0} → Stage S I C → StageView
+stage_view stage.Free = free
+stage_view (stage.Flight n) = flight n
+stage_view (stage.Retired r) = retired r.generation r.readers
+stage_view (stage.TakenOut n) = taken_out n
+
+-- the slot, as contracts see it
+abbrev pub slot_view : {S I C : Type 0} → Slot S I C → SlotView C
+slot_view x = record { serving = x.serving; readers = x.readers; config = arc_value x.config; waiting = x.waiting; stage = stage_view x.stage }
+
+-- a retired selector holds a permit of this gate
+abbrev pub HoldsOf : {S I C : Type 0} → GateId → Stage S I C → Type 0
+HoldsOf gate stage.Free = Unit {0}
+HoldsOf gate (stage.Flight n) = Unit {0}
+HoldsOf gate (stage.Retired r) = r.permit ≡ gate
+HoldsOf gate (stage.TakenOut n) = Unit {0}
+
+-- no retired selector, so that no permit stands there
+abbrev pub IsWithoutPermit : {S I C : Type 0} → Stage S I C → Type 0
+IsWithoutPermit stage.Free = Unit {0}
+IsWithoutPermit (stage.Flight n) = Unit {0}
+IsWithoutPermit (stage.Retired r) = ⊥
+IsWithoutPermit (stage.TakenOut n) = Unit {0}
+
+-- what is in flight is later than what is served, and not later than the newest
+abbrev pub StageFits : ℕ → ℕ → StageView → Type 0
+StageFits newest served free = Unit {0}
+StageFits newest served (flight n) = (served < n) × (n ≤ newest)
+StageFits newest served (retired n readers) = Unit {0}
+StageFits newest served (taken_out n) = Unit {0}
+
+-- a waiting order is of the newest generation, which is neither served nor in flight
+pub record IsDue {C : Type 0} (newest served flown : ℕ) (o : OrderView C) : Type 0 where
+  pub newest_is : o.generation ≡ newest
+  pub unserved : served < newest
+  pub unflown : flown < newest
+
+-- served is not past the newest, the stage fits, what waits is due, and a retired selector holds a permit of the group's gate
+pub record IsKept {S I C : Type 0} (gate : GateId) (newest : ℕ) (x : Slot S I C) : Type 0 where
+  pub served_in : x.serving.generation ≤ newest
+  pub fits : StageFits newest x.serving.generation (stage_view x.stage)
+  pub waiting : IfSome x.waiting (IsDue newest x.serving.generation (flight_number (stage_view x.stage)))
+  pub permit : HoldsOf gate x.stage
+
+abbrev pub AllKept : {S I C : Type 0} → GateId → ℕ → List (Slot S I C) → Type 0
+AllKept gate newest slots = All (IsKept gate newest) slots

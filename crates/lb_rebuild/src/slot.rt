@@ -1,0 +1,211 @@
+//! A slot of a group: the selector that it serves to its readers, the order that waits, and at most one extra selector.
+//! An extra is a build in flight, a retired selector, or one that was taken out to be destroyed.
+ghost use Rattle.std.specs.Prelude.{◌≡◌, ℕ};
+ghost use Rattle.lb_rebuild.specs.Gate.{GateId};
+ghost use Rattle.lb_rebuild.specs.Kept.{IsWithoutPermit};
+
+use crate::gate::{GateCore, Permit};
+use crate::job::{Built, Job, Order};
+use lb_select::walk::BackendSelection;
+use std::marker::Model;
+use std::mem;
+use std::sync::Arc;
+
+// A selector with the generation that it was built for, and the words drawn from its counter so far.
+#[derive(Drop)]
+pub(crate) struct Serving<S: BackendSelection> {
+    pub(crate) generation: u64,
+    pub(crate) selector: Arc<S>,
+    pub(crate) tickets: u64,
+}
+
+impl<S: BackendSelection> Model for Serving<S> {
+    ghost use Rattle.std.specs.Arc.{arc_value};
+    ghost use Rattle.lb_rebuild.specs.Views.{ServingView};
+
+    ghost Value = { ServingView S.Config };
+
+    ghost view = { λ s. record { generation = s.generation; members = S.members (arc_value s.selector); config = S.built_with (arc_value s.selector); tickets = s.tickets } };
+}
+
+/// A selector that is no longer served, with the readers that are left in it and the permit of the extra selector that it is.
+///
+/// It cannot be dropped. Contracts see its slot, its generation, its readers, and of which gate the permit is.
+pub struct Retired<S: BackendSelection> {
+    slot: usize,
+    serving: Serving<S>,
+    readers: u64,
+    permit: Permit,
+}
+
+impl<S: BackendSelection> Model for Retired<S> {
+    ghost use Rattle.lb_rebuild.specs.Views.{RetiredView};
+
+    ghost Value = { RetiredView };
+
+    ghost view = { λ r. record { slot = r.slot; generation = r.serving.generation; readers = r.readers; permit = r.permit } };
+}
+
+// What stands in a slot beside what it serves.
+pub(crate) enum Stage<S: BackendSelection> {
+    Free,
+    Flight(u64),
+    Retired(Retired<S>),
+    TakenOut(u64),
+}
+
+// A slot. Its order waits for a permit.
+pub(crate) struct Slot<S: BackendSelection> {
+    pub(crate) config: Arc<S::Config>,
+    pub(crate) serving: Serving<S>,
+    pub(crate) readers: u64,
+    pub(crate) waiting: Option<Order<S::Config>>,
+    pub(crate) stage: Stage<S>,
+}
+
+/// What a slot that was asked for its next build answers. The answer holds a job where there is one, so it cannot be dropped.
+pub enum Ask<S: BackendSelection> {
+    /// A build of the slot is in flight.
+    Building,
+    /// The slot serves the newest generation.
+    Nothing,
+    /// The gate's permit is out, or the slot still has a selector that is not reported destroyed.
+    Busy,
+    /// The slot's build of the newest generation, with the permit.
+    Job(Job<S>),
+}
+
+/// What became of a selector that was built.
+#[derive(Clone, Copy, Debug, PartialEq, Eq)]
+pub enum Told {
+    /// The slot serves it, and this is its generation.
+    Published(u64),
+    /// It is retired without having been served, and this is its generation.
+    Abandoned(u64),
+}
+
+impl<S: BackendSelection> Slot<S> {
+    ghost use Rattle.lb_rebuild.specs.Calls.{AskedAt, PublishedAt, failed_slot};
+    ghost use Rattle.lb_rebuild.specs.Kept.{slot_view, IsKept, HoldsOf};
+
+    // Asks for the build that the slot needs next.
+    pub(crate) fn ask(&mut self, slot: usize, gate: &mut GateCore) -> Ask<S>
+        ensures asked { AskedAt slot (slot_view self.old) gate.old result (slot_view self.new) gate.new }
+        ensures kept { (id : GateId) (newest : ℕ) → IsKept id newest self.old → IsKept id newest self.new }
+    {
+        if let Stage::Flight(_) = &self.stage {
+            return Ask::Building;
+        }
+        if self.waiting.is_none() {
+            return Ask::Nothing;
+        }
+        let Stage::Free = &self.stage else {
+            return Ask::Busy;
+        };
+        let Some(permit) = gate.grant() else {
+            return Ask::Busy;
+        };
+        let Some(order) = self.waiting.take() else {
+            unreachable!();
+        };
+        fill(&mut self.stage, Stage::Flight(order.generation));
+        Ask::Job(Job {
+            slot,
+            order,
+            permit,
+        })
+    }
+
+    // Serves a selector whose build is in flight, and retires any other.
+    pub(crate) fn publish(&mut self, built: Built<S>) -> Told
+        requires { HoldsOf built.permit self.old.stage }
+        ensures told { PublishedAt built (slot_view self.old) result (slot_view self.new) }
+        ensures kept { (id : GateId) (newest : ℕ) → built.permit ≡ id → IsKept id newest self.old → IsKept id newest self.new }
+    {
+        let Built {
+            slot,
+            order,
+            selector,
+            mut permit,
+        } = built;
+        let generation = order.generation;
+        let serving = Serving {
+            generation,
+            selector,
+            tickets: 0,
+        };
+        match mem::replace(&mut self.stage, Stage::Free) {
+            Stage::Retired(mut retired) => {
+                Permit::apart(&mut retired.permit, &mut permit);
+                unreachable!()
+            }
+            Stage::Flight(flight) if flight == generation => {
+                let before = mem::replace(&mut self.serving, serving);
+                let readers = mem::replace(&mut self.readers, 0);
+                let retired = Retired {
+                    slot,
+                    serving: before,
+                    readers,
+                    permit,
+                };
+                fill(&mut self.stage, Stage::Retired(retired));
+                Told::Published(generation)
+            }
+            Stage::Free | Stage::Flight(_) | Stage::TakenOut(_) => {
+                let retired = Retired {
+                    slot,
+                    serving,
+                    readers: 0,
+                    permit,
+                };
+                fill(&mut self.stage, Stage::Retired(retired));
+                Told::Abandoned(generation)
+            }
+        }
+    }
+
+    // Ends the flight of a job that failed, and lets its order wait again where it is of the newest generation.
+    pub(crate) fn fail(&mut self, newest: u64, job: Job<S>) -> Permit
+        ensures permit { result ≡ job.permit }
+        ensures slot { slot_view self.new ≡ failed_slot newest job (slot_view self.old) }
+        ensures kept { (id : GateId) → IsKept id newest self.old → IsKept id newest self.new }
+    {
+        let Job {
+            slot: _,
+            order,
+            permit,
+        } = job;
+        let Stage::Flight(flight) = &self.stage else {
+            return permit;
+        };
+        if *flight == order.generation {
+            clear(&mut self.stage);
+            if order.generation == newest && self.waiting.is_none() {
+                self.waiting = Some(order);
+            }
+        }
+        permit
+    }
+}
+
+// Puts something where nothing stands.
+fn fill<S: BackendSelection>(stage: &mut Stage<S>, next: Stage<S>)
+    requires { stage.old ≡ Stage.Free }
+    ensures { stage.new ≡ next }
+{
+    let before = mem::replace(stage, next);
+    let Stage::Free = before else {
+        unreachable!();
+    };
+}
+
+// Ends what holds no permit.
+fn clear<S: BackendSelection>(stage: &mut Stage<S>)
+    requires { IsWithoutPermit stage.old }
+    ensures { stage.new ≡ Stage.Free }
+{
+    match mem::replace(stage, Stage::Free) {
+        Stage::Retired(_retired) => unreachable!(),
+        Stage::Free | Stage::Flight(_) | Stage::TakenOut(_) => {}
+    }
+}
