@@ -1,1 +1,4 @@
 pub mod Effects
+pub mod Frames
+pub mod Places
+pub mod Sums
