@@ -1,4 +1,6 @@
 pub mod Effects
 pub mod Frames
 pub mod Places
+pub mod Permits
+pub mod SoundPlaces
 pub mod Sums
