@@ -1,5 +1,9 @@
 -- What a step does at one slot, and that the world after it is sound and stands for the longer history.
-use Rattle.std.specs.Prelude.{◌≡◌, ◌⊎◌, ℕ, ◌+◌, Bool, true, false, ◌&&◌, ◌==◌, List, ◌∷◌, Option, Some, None, slice_get, count_by}
+use Rattle.std.proofs.Common.{inl, inr, refl, sym, ap, ◌∙◌, arith}
+use Rattle.std.specs.Prelude.{◌≡◌, ◌⊎◌, ℕ, ◌+◌, ◌<◌, Bool, true, false, ◌&&◌, ◌==◌, List, ◌∷◌, length, Option, Some, None, slice_get, count_by}
+use Rattle.std.proofs.lemmas.Bool.{cases_eq, eq-eqb, ne_eqb}
+use Rattle.std.proofs.lemmas.List.{length-set}
+use Rattle.std.proofs.lemmas.Option.{slice_get_within, same_Some}
 use Rattle.lb_rebuild.specs.Views.{SlotView, GroupView}
 use Rattle.lb_world.specs.Steps.{StepView}
 use Rattle.lb_world.specs.declared.answer.Answer.{Answer}
@@ -7,9 +11,13 @@ use Rattle.lb_world.specs.Meanings.{Meaning}
 use Rattle.lb_world.specs.History.{History, Entered, names, group_in, events, entries, reads, bit, grants, fails, destroys}
 use Rattle.lb_world.specs.Answers.{Answers, selection}
 use Rattle.lb_world.specs.Quiet.{is_quiet, is_inert, is_counted}
-use Rattle.lb_world.specs.Views.{WorkView, PlaceView, EntryView, WorldView, changed, is_out, held}
+use Rattle.lb_world.specs.Views.{WorkView, PlaceView, EntryView, WorldView, changed, is_out, is_out_at, with_out, held, with_place}
 use Rattle.lb_world.specs.Sound.{IsPlaceSound, IsSound}
 use Rattle.lb_world.specs.Stands.{SlotTells, Stands}
+use Rattle.lb_world.proofs.Places.{get_same, get_other, get_set, none_set, found}
+use Rattle.lb_world.proofs.Permits.{bit_le, length_out, out_same, out_other, out_id, holders_own, holders_else}
+use Rattle.lb_world.proofs.PlaceCases.{place_cases, bound_kept}
+use Rattle.lb_world.proofs.SoundPlaces.{place_moved}
 
 -- that place is there in the world, with its group
 pub record IsPlaced {C : Type 0} (w : WorldView C) (g s : ℕ) (e : EntryView C) (p : PlaceView C) : Type 0 where
@@ -38,11 +46,84 @@ module _ {C : Type 0} (M : Meaning C) where
     pub permits : held now + bit (is_out w e.gate) ≡ held was + bit out
     pub counts : bit (fails a) + bit (destroys a) + held now ≡ held was + bit (grants a)
 
+  -- H permits are held, and the gate's is out where b says so; the place's W become N, and so the gate's as o says
+  owed : (H2 H W N : ℕ) (b o : Bool) → H2 + W ≡ H + N → H ≡ bit b → N + bit b ≡ W + bit o → H2 ≡ bit o
+  owed H2 H W N b o moved held_as paid = omega arith
+
+  -- a reader of an entry is at a slot that is there
+  bounded :
+      (w : WorldView C) (g s : ℕ) (e : EntryView C) (was : PlaceView C) → IsSound w → IsPlaced w g s e was → (r : Entered)
+      → ((t : ℕ) × (slice_get w.readers t ≡ Some (Some r))) ⊎ ((r.group ≡ g) × (r.slot ≡ s))
+      → (r.group < length w.groups) × ((e2 : EntryView C) → slice_get w.groups r.group ≡ Some e2 → r.slot < length e2.core.slots)
+  bounded w g s e was sound placed r where_from =
+      elim where_from [
+        inl k ↦ sound.entries_in k.0 r k.1
+      | inr k ↦
+          let l : r.group < length w.groups = rw k.0 (slice_get_within w.groups g e placed.group_at) in
+          let at_s : s < length e.core.slots = slice_get_within e.core.slots s was.slot placed.slot_at in
+          (l, λ e2 m. rw (k.1, same_Some e2 e (sym m ∙ ap (slice_get w.groups) k.0 ∙ placed.group_at)) at_s)
+      ]
+
   pub step_sound :
       (w : WorldView C) (h : History C) (g s : ℕ) (e : EntryView C) (was now : PlaceView C) (out : Bool) (readers : List (Option Entered))
       (st : StepView C) (a : Answer)
       → IsSound w → IsPlaced w g s e was → Effect w h g s e was now out readers st a → IsSound (changed w g e s now out readers)
-  step_sound w h g s e was now out readers st a sound placed effect = ?
+  step_sound w h g s e was now out readers st a sound placed effect =
+      let in_gates : e.gate < length w.gates = sound.gates_in g e placed.group_at in
+      record {
+        gates_in =
+            λ g2 e2 m.
+            elim (get_set w.groups g g2 e (with_place e s now) e2 placed.group_at m) [
+              inl k ↦ rw (k.1, length_out w.gates e.gate out) in_gates
+            | inr k ↦ rw (length_out w.gates e.gate out) (sound.gates_in g2 e2 k.1)
+            ];
+        ids =
+            λ g2 e2 y m r.
+            let z = out_id w.gates e.gate e2.gate out y r in
+            elim (get_set w.groups g g2 e (with_place e s now) e2 placed.group_at m) [
+              inl k ↦
+                rw k.1 (sym z.2 ∙ sound.ids g e z.0 placed.group_at (sym (ap (λ (v : EntryView C). slice_get w.gates v.gate) k.1) ∙ z.1))
+            | inr k ↦ sym z.2 ∙ sound.ids g2 e2 z.0 k.1 z.1
+            ];
+        works_in =
+            λ g2 e2 m.
+            elim (get_set w.groups g g2 e (with_place e s now) e2 placed.group_at m) [
+              inl k ↦
+                rw k.1
+                (length-set e.works s now.work ∙ sound.works_in g e placed.group_at ∙ sym (length-set e.core.slots s now.slot))
+            | inr k ↦ sound.works_in g2 e2 k.1
+            ];
+        places =
+            place_cases w.groups g s e was now (λ g2 s2 core p. IsPlaceSound readers g2 s2 core p)
+            placed.group_at placed.slot_at placed.work_at
+            (place_moved readers readers g s e.core _ now (λ n. refl) effect.sound)
+            (λ g2 e2 s2 x k ys m hx hk off.
+              place_moved w.readers readers g2 s2 e2.core ys _ (λ n. effect.others g2 s2 n off) (sound.places g2 e2 s2 x k m hx hk));
+        ledger =
+            λ a2 l.
+            let l2 : a2 < length w.gates = omega (arith, length_out w.gates e.gate out) in
+            elim (cases_eq e.gate a2) [
+              inl q ↦
+                let o : is_out_at (slice_get (with_out w.gates e.gate out) a2) ≡ out =
+                  rw (← q) (out_same w.gates e.gate out in_gates) in
+                let b : is_out w e.gate ≡ is_out w a2 = rw q refl in
+                let was_out = sound.ledger a2 l2 in
+                owed _ _ _ _ _ _
+                (holders_own a2 w.groups g e s was now q placed.group_at placed.slot_at placed.work_at)
+                was_out (rw b at effect.permits)
+                ∙ ap bit (sym o)
+            | inr n ↦
+                holders_else a2 w.groups g e s now n placed.group_at
+                ∙ sound.ledger a2 l2
+                ∙ ap (λ z. bit (is_out_at z)) (sym (out_other w.gates e.gate a2 out (λ q. n (sym q))))
+            ];
+        entries_in =
+            λ t r m.
+            let from : ((t2 : ℕ) × (slice_get w.readers t2 ≡ Some (Some r))) ⊎ ((r.group ≡ g) × (r.slot ≡ s)) =
+              elim (effect.entries_in t r m) [ inl k ↦ inl (t, k) | inr k ↦ inr k ] in
+            let old = bounded w g s e was sound placed r from in
+            (rw (length-set w.groups g (with_place e s now)) old.0, bound_kept w.groups g s e now r.slot r.group placed.group_at old.1);
+      }
 
   pub step_stands :
       (w : WorldView C) (h : History C) (g s : ℕ) (e : EntryView C) (was now : PlaceView C) (out : Bool) (readers : List (Option Entered))
