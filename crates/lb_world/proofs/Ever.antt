@@ -60,18 +60,18 @@ module _ {C : Type 0} (M : Meaning C) where
   there_or_bare : (w : WorldView C) (h : History C) → IsSound w → Tells w h → (g s : ℕ) → (events g s h ≡ []) ⊎ IsThere w g s
   there_or_bare w h sound tells g s =
       elim (there w.groups g) [
-        inl n ↦ inl (tells.unslotted g s (ap (λ m. config_in m s) (tells.unmade g n))).0
-      | inr e ↦
-          elim (there e.0.core.slots s) [
-            inl n ↦
-              let m = tells.made_is g e.0 e.1 in
-              let l : length m.0.configs ≤ s = omega (arith, past e.0.core.slots s n) in
-              inl (tells.unslotted g s (ap (λ m. config_in m s) m.1 ∙ slice_get_past m.0.configs s l)).0
-          | inr x ↦
-              let l : s < length e.0.works = omega (arith, slice_get_within e.0.core.slots s x.0 x.1, sound.works_in g e.0 e.1) in
-              let k = found e.0.works s l in
-              inr (record { e = e.0; x = x.0; k = k.0; group_at = e.1; slot_at = x.1; work_at = k.1 })
-          ]
+        | inl n ↦ inl (tells.unslotted g s (ap (λ m. config_in m s) (tells.unmade g n))).0
+        | inr e ↦
+            elim (there e.0.core.slots s) [
+              | inl n ↦
+                  let m = tells.made_is g e.0 e.1 in
+                  let l : length m.0.configs ≤ s = omega (arith, past e.0.core.slots s n) in
+                  inl (tells.unslotted g s (ap (λ m. config_in m s) m.1 ∙ slice_get_past m.0.configs s l)).0
+              | inr x ↦
+                  let l : s < length e.0.works = omega (arith, slice_get_within e.0.core.slots s x.0 x.1, sound.works_in g e.0 e.1) in
+                  let k = found e.0.works s l in
+                  inr (record { e = e.0; x = x.0; k = k.0; group_at = e.1; slot_at = x.1; work_at = k.1 })
+            ]
       ]
 
   in_order : (w : WorldView C) (h : History C) → IsSound w → Tells w h → InOrder h
@@ -80,21 +80,21 @@ module _ {C : Type 0} (M : Meaning C) where
         served_in =
             λ g s.
             elim (there_or_bare w h sound tells g s) [
-              inl n ↦ rw n (omega arith)
-            | inr p ↦
-                let t = tells.slots_tell g p.e s p.x p.k p.group_at p.slot_at p.work_at in
-                let f = sound.places g p.e s p.x p.k p.group_at p.slot_at p.work_at in
-                rw (t.serves, tells.newest_is g p.e p.group_at) f.served_in
+              | inl n ↦ rw n (omega arith)
+              | inr p ↦
+                  let t = tells.slots_tell g p.e s p.x p.k p.group_at p.slot_at p.work_at in
+                  let f = sound.places g p.e s p.x p.k p.group_at p.slot_at p.work_at in
+                  rw (t.serves, tells.newest_is g p.e p.group_at) f.served_in
             ];
         flight_in =
             λ g s n flies.
             elim (there_or_bare w h sound tells g s) [
-              inl b ↦ absurd (none-some n (sym (ap flight b) ∙ flies))
-            | inr p ↦
-                let t = tells.slots_tell g p.e s p.x p.k p.group_at p.slot_at p.work_at in
-                let f = sound.places g p.e s p.x p.k p.group_at p.slot_at p.work_at in
-                rw (t.serves, tells.newest_is g p.e p.group_at)
-                (flight_fits p.x.stage p.x.serving.generation n p.e.core.newest (sym t.flies ∙ flies) f.fits)
+              | inl b ↦ absurd (none-some n (sym (ap flight b) ∙ flies))
+              | inr p ↦
+                  let t = tells.slots_tell g p.e s p.x p.k p.group_at p.slot_at p.work_at in
+                  let f = sound.places g p.e s p.x p.k p.group_at p.slot_at p.work_at in
+                  rw (t.serves, tells.newest_is g p.e p.group_at)
+                  (flight_fits p.x.stage p.x.serving.generation n p.e.core.newest (sym t.flies ∙ flies) f.fits)
             ];
       }
 

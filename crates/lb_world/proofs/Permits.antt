@@ -45,8 +45,8 @@ out_id zs a b out y h = id_in (slice_get zs a) refl h
     id_in None e h = (y, h, refl)
     id_in (Some z) e h =
         elim (get_set zs a b z (record z { out = out }) y e h) [
-          inl k ↦ (z, ap (slice_get zs) k.0 ∙ e, sym (ap (λ (v : GateView). v.id) k.1))
-        | inr k ↦ (y, k.1, refl)
+          | inl k ↦ (z, ap (slice_get zs) k.0 ∙ e, sym (ap (λ (v : GateView). v.id) k.1))
+          | inr k ↦ (y, k.1, refl)
         ]
 
 module _ {C : Type 0} where

@@ -35,16 +35,16 @@ module _ {C : Type 0} (groups : List (EntryView C)) (g s : ℕ) (e : EntryView C
       → P g s2 (with_slot e.core s now.slot) (record { slot = x; work = k })
   in_group at_e at_x at_k here others s2 x k hx hk =
       elim (get_set e.core.slots s s2 was.slot now.slot x at_x hx) [
-        inl i ↦
-          elim (get_set e.works s s2 was.work now.work k at_k hk) [
-            inl j ↦ rw (i.0, i.1, j.1) here
-          | inr j ↦ absurd (j.0 i.0)
-          ]
-      | inr i ↦
-          elim (get_set e.works s s2 was.work now.work k at_k hk) [
-            inl j ↦ absurd (i.0 j.0)
-          | inr j ↦ others g e s2 x k (slice_set e.core.slots s now.slot) at_e i.1 j.1 (other_slot g g s s2 i.0)
-          ]
+        | inl i ↦
+            elim (get_set e.works s s2 was.work now.work k at_k hk) [
+              | inl j ↦ rw (i.0, i.1, j.1) here
+              | inr j ↦ absurd (j.0 i.0)
+            ]
+        | inr i ↦
+            elim (get_set e.works s s2 was.work now.work k at_k hk) [
+              | inl j ↦ absurd (i.0 j.0)
+              | inr j ↦ others g e s2 x k (slice_set e.core.slots s now.slot) at_e i.1 j.1 (other_slot g g s s2 i.0)
+            ]
       ]
 
   pub place_cases :
@@ -56,8 +56,8 @@ module _ {C : Type 0} (groups : List (EntryView C)) (g s : ℕ) (e : EntryView C
       → P g2 s2 e2.core (record { slot = x; work = k })
   place_cases at_e at_x at_k here others g2 e2 s2 x k m hx hk =
       elim (get_set groups g g2 e (with_place e s now) e2 at_e m) [
-        inl i ↦ rw (i.0, i.1) (in_group at_e at_x at_k here others s2 x k (rw i.1 at hx) (rw i.1 at hk))
-      | inr i ↦ others g2 e2 s2 x k e2.core.slots i.1 hx hk (other_group g g2 s s2 i.0)
+        | inl i ↦ rw (i.0, i.1) (in_group at_e at_x at_k here others s2 x k (rw i.1 at hx) (rw i.1 at hk))
+        | inr i ↦ others g2 e2 s2 x k e2.core.slots i.1 hx hk (other_group g g2 s s2 i.0)
       ]
 
 module _ {C : Type 0} (groups : List (EntryView C)) (g s : ℕ) (e : EntryView C) (now : PlaceView C) where
@@ -68,6 +68,6 @@ module _ {C : Type 0} (groups : List (EntryView C)) (g s : ℕ) (e : EntryView C
       → (e2 : EntryView C) → slice_get (slice_set groups g (with_place e s now)) g2 ≡ Some e2 → b < length e2.core.slots
   bound_kept b g2 at_e bound e2 m =
       elim (get_set groups g g2 e (with_place e s now) e2 at_e m) [
-        inl i ↦ rw (i.1, length-set e.core.slots s now.slot) (bound e (ap (slice_get groups) i.0 ∙ at_e))
-      | inr i ↦ bound e2 i.1
+        | inl i ↦ rw (i.1, length-set e.core.slots s now.slot) (bound e (ap (slice_get groups) i.0 ∙ at_e))
+        | inr i ↦ bound e2 i.1
       ]

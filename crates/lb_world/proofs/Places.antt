@@ -26,8 +26,8 @@ module _ {X : Type 0} where
       → ((j ≡ i) × (z ≡ y)) ⊎ ((j ≡ i → ⊥) × (slice_get xs j ≡ Some z))
   get_set xs i j x y z h r =
       elim (cases_eq j i) [
-        inl e ↦ inl (e, same_Some z y (sym r ∙ ap (slice_get (slice_set xs i y)) e ∙ get_same xs i x y h))
-      | inr n ↦ inr (n, sym (get_other xs i j y n) ∙ r)
+        | inl e ↦ inl (e, same_Some z y (sym r ∙ ap (slice_get (slice_set xs i y)) e ∙ get_same xs i x y h))
+        | inr n ↦ inr (n, sym (get_other xs i j y n) ∙ r)
       ]
 
   -- an element that is there
@@ -61,8 +61,8 @@ module _ {X : Type 0} where
   get_push (a ∷ xs) zero y z h = inr (omega arith, h)
   get_push (a ∷ xs) (suc j) y z h =
       elim (get_push xs j y z h) [
-        inl e ↦ inl (ap suc e.0, e.1)
-      | inr e ↦ inr (omega arith, e.1)
+        | inl e ↦ inl (ap suc e.0, e.1)
+        | inr e ↦ inr (omega arith, e.1)
       ]
 
   -- what was there stays when one is added at the end
