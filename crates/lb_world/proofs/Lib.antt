@@ -1,1 +1,9 @@
+pub mod Ever
 pub mod Effects
+pub mod Frames
+pub mod PlaceCases
+pub mod Places
+pub mod Permits
+pub mod SlotFrames
+pub mod SoundPlaces
+pub mod Sums
