@@ -1,5 +1,6 @@
 pub mod Ever
 pub mod Effects
+pub mod EntrySteps
 pub mod Frames
 pub mod PlaceCases
 pub mod Places

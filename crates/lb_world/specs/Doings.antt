@@ -5,11 +5,16 @@ use Rattle.lb_select.specs.declared.refusal.Refusal.{Refusal}
 use Rattle.lb_select.specs.declared.refusal.Refusal.TheVariants as refusal
 use Rattle.lb_rebuild.specs.Gate.{GateId, GateView, gate}
 use Rattle.lb_rebuild.specs.Views.{StageView, free, flight, retired, OrderView, Task, ServingView, ReaderView, SlotView, GroupView, is_flying}
-use Rattle.lb_rebuild.specs.Calls.{is_free, put_back, serving_of, fresh_group}
+use Rattle.lb_rebuild.specs.Calls.{is_free, put_back, serving_of}
 use Rattle.lb_world.specs.declared.answer.Answer.{Answer}
 use Rattle.lb_world.specs.declared.answer.Answer.TheVariants as answer
 use Rattle.lb_world.specs.Views.{WorkView, nothing, building, ready, PlaceView, EntryView, with_place, task_of}
 use Rattle.lb_world.specs.Sound.{WorkFits}
+
+-- why a retired selector isn't destroyed: none is there, or readers are left in it
+abbrev pub StageKeeps : StageView → Refusal → Type 0
+StageKeeps (retired n readers) r = (0 < readers) × (r ≡ refusal.StillRead readers)
+StageKeeps stage r = r ≡ refusal.NothingRetired
 
 module _ {C : Type 0} where
   -- that place is there, with this slot and this work
@@ -19,13 +24,8 @@ module _ {C : Type 0} where
 
   -- what a group's places keep, so that each step finds what it needs
   pub record AgreesAt (e : EntryView C) : Type 0 where
-    pub works_in : (s : ℕ) (x : SlotView C) → slice_get e.core.slots s ≡ Some x → (k : WorkView C) × (slice_get e.works s ≡ Some k)
+    pub works_in : length e.works ≡ length e.core.slots
     pub agrees : (s : ℕ) (x : SlotView C) (k : WorkView C) → IsAt e s x k → WorkFits e.core s x k
-
-  -- a group that was just made
-  abbrev pub fresh_entry : ℕ → ℕ → GateId → List C → EntryView C
-  fresh_entry registry number id configs =
-      record { registry = registry; gate = number; core = fresh_group id configs; works = replicate (length configs) nothing }
 
   -- nothing changed
   abbrev pub Same : EntryView C → GateView → EntryView C → GateView → Type 0
@@ -90,11 +90,6 @@ module _ {C : Type 0} where
       × (n ≡ t.generation)
       × (e' ≡ with_place e s (record { slot = record x { serving = serving_of t; readers = 0; stage = retired x.serving.generation x.readers }; work = nothing }))
   DidPublish e s a e' = ⊥
-
-  -- why a retired selector isn't destroyed: none is there, or readers are left in it
-  abbrev pub StageKeeps : StageView → Refusal → Type 0
-  StageKeeps (retired n readers) r = (0 < readers) × (r ≡ refusal.StillRead readers)
-  StageKeeps stage r = r ≡ refusal.NothingRetired
 
   abbrev pub DidDestroy : EntryView C → ℕ → GateView → Answer → EntryView C → GateView → Type 0
   DidDestroy e s z (answer.Refused r) e' z' =

@@ -1,10 +1,9 @@
 //! A group in a world: its core with the numbers of its registry and its gate, and what the world holds for each of its slots.
 //! A job and a built selector lie here between the steps that ask, build and publish.
-ghost use Rattle.std.specs.Prelude.{◌≡◌, [], map, MatchOption};
-ghost use Rattle.lb_select.specs.Refusals.{Refuses, least};
+ghost use Rattle.std.specs.Prelude.{◌≡◌, MatchOption};
 ghost use Rattle.lb_world.specs.Views.{nothing, building, ready};
 ghost use Rattle.lb_world.specs.Works.{work_view};
-ghost use Rattle.lb_world.specs.Doings.{fresh_entry, AgreesAt, DidAsk, DidBuild, DidPublish, DidDestroy, IsNotBuilding, IsNotReady};
+ghost use Rattle.lb_world.specs.Doings.{AgreesAt, DidAsk, DidBuild, DidPublish, DidDestroy, IsNotBuilding, IsNotReady};
 
 use crate::answer::Answer;
 use lb_rebuild::gate::GateCore;
@@ -89,40 +88,6 @@ impl<S: BackendSelection> Held<S> {
 }
 
 impl<S: BackendSelection> Entry<S> {
-    // A group at that registry and over that gate, with a slot for each configuration. Refused for memory alone.
-    pub(crate) fn new(alloc: Global, registry: u64, number: usize, gate: &GateCore, configs: Vec<S::Config>) -> Result<Entry<S>, Refusal>
-        ensures { Refuses (least (map (S.refusal []) configs.items)) (λ e. e ≡ fresh_entry registry number gate.now.id configs.items) result }
-    {
-        let count = configs.len();
-        let core = GroupCore::new(alloc, gate, configs)?;
-        let mut works = Vec::with_capacity(alloc, count)?;
-        for _ in 0..count {
-            works.push_reserved(Place {
-                work: Work::Nothing,
-            });
-        }
-        Ok(Entry {
-            registry,
-            gate: number,
-            core,
-            works,
-        })
-    }
-
-    // Lets the group go with the world, and what is held for its slots.
-    pub(crate) fn close(self) {
-        let Entry {
-            registry: _,
-            gate: _,
-            core: _,
-            mut works,
-        } = self;
-        while let Some(place) = works.pop() {
-            place.close();
-        }
-        works.destroy_empty();
-    }
-
     // The number of its gate.
     pub(crate) fn gate(&self) -> usize
         ensures { result ≡ self.now.gate }

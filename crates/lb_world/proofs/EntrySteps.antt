@@ -1,0 +1,206 @@
+-- What the calls on a group's core and on what is held make of an entry, as the steps at one slot say it.
+use Rattle.std.specs.Prelude.{◌≡◌, ◌⊎◌, ◌<◌, ◌≤◌, ℕ, Bool, true, false, not, ◌&&◌, List, length, Option, Some, None, IsSome, Result, Ok, Err, slice_get, slice_set, slice_index_or, refl}
+use Rattle.std.proofs.Common.{sym, ap, ◌∙◌, subst, inl, inr}
+use Rattle.std.proofs.lemmas.Option.{get_or_from_slice_get, slice_get_within}
+use Rattle.std.proofs.lemmas.List.{set-get_or}
+use Rattle.lb_world.proofs.Places.{found, past}
+use Rattle.lb_select.specs.Backends.{Member}
+use Rattle.lb_select.specs.declared.refusal.Refusal.{Refusal}
+use Rattle.lb_select.specs.declared.refusal.Refusal.TheVariants as refusal
+use Rattle.lb_rebuild.specs.Gate.{GateId, GateView, gate}
+use Rattle.lb_rebuild.specs.Views.{StageView, free, flight, retired, taken_out, OrderView, Task, SlotView, GroupView, with_slot, is_flying}
+use Rattle.lb_rebuild.specs.Calls.{is_free, is_flight_of, Asked, AskedAt, order_of, put_back, FailedIn, PublishedIn, serving_of}
+use Rattle.lb_rebuild.specs.declared.slot.Told.TheVariants as told
+use Rattle.lb_rebuild.specs.declared.slot.Ask.{Ask}
+use Rattle.lb_rebuild.specs.declared.slot.Ask.TheVariants as asks
+use Rattle.lb_world.specs.Views.{WorkView, nothing, building, ready, EntryView, with_place, flight_of}
+use Rattle.lb_world.specs.Sound.{WorkFits, TaskFits}
+use Rattle.lb_world.specs.Doings.{IsAt, AgreesAt, NoSlot, DidAsk, DidBuild, DidPublish, IsNotBuilding, IsNotReady, job_of}
+use Rattle.lb_world.specs.declared.answer.Answer.TheVariants as answer
+
+-- what was there, written again, changes nothing
+pub set_here : {X : Type 0} (xs : List X) (i : ℕ) (x : X) → slice_get xs i ≡ Some x → slice_set xs i x ≡ xs
+set_here xs i x at = ap (λ v. slice_set xs i v) (sym (get_or_from_slice_get xs i x x at)) ∙ set-get_or xs i x
+
+-- what an index gave is there
+pub found_here : {X : Type 0} (xs : List X) (i : ℕ) (x k : X) → x ≡ slice_index_or xs i x → slice_get xs i ≡ Some k → x ≡ k
+found_here xs i x k e at = e ∙ get_or_from_slice_get xs i k x at
+
+-- an empty stage has no flight
+pub unflown : (stage : StageView) → stage ≡ free → flight_of stage ≡ None
+unflown stage e = ap flight_of e
+
+module _ {C : Type 0} where
+  -- nothing is held for a slot without a flight
+  pub unheld : (core : GroupView C) (s : ℕ) (x : SlotView C) (k : WorkView C) → WorkFits core s x k → flight_of x.stage ≡ None → k ≡ nothing
+  unheld core s x nothing fits none = refl
+  unheld core s x (building t) fits none = let e = fits.flies in absurd (cc)
+  unheld core s x (ready t) fits none = let e = fits.flies in absurd (cc)
+
+  -- a slot that is there has its place
+  pub placed : (e : EntryView C) (s : ℕ) (x : SlotView C) → AgreesAt e → slice_get e.core.slots s ≡ Some x → (k : WorkView C) × IsAt e s x k
+  placed e s x agrees at =
+      let within : s < length e.works = rw agrees.works_in (slice_get_within e.core.slots s x at) in
+      let w = found e.works s within in (w.0, record { slot_at = at; work_at = w.1 })
+
+  -- and a place that is there has its slot
+  pub slotted :
+      (e : EntryView C) (s : ℕ) (k : WorkView C) → AgreesAt e → s < length e.works → k ≡ slice_index_or e.works s k
+      → (x : SlotView C) × IsAt e s x k
+  slotted e s k agrees within read =
+      let x = found e.core.slots s (rw (← agrees.works_in) within) in
+      let w = found e.works s within in
+      let same : k ≡ w.0 = found_here e.works s k w.0 read w.1 in
+      (x.0, record { slot_at = x.1; work_at = w.1 ∙ ap (λ v. Some v) (sym same) })
+
+  -- what lies at the place of a slot whose stage is empty
+  pub free_place :
+      (e : EntryView C) (s : ℕ) (x : SlotView C) (k : WorkView C) → AgreesAt e
+      → slice_get e.core.slots s ≡ Some x → x.stage ≡ free → k ≡ slice_index_or e.works s k → k ≡ nothing
+  free_place e s x k agrees at empty read =
+      let p = placed e s x agrees at in
+      found_here e.works s k p.0 read p.1.work_at
+      ∙ unheld e.core s x p.0 (agrees.agrees s x p.0 p.1) (unflown x.stage empty)
+
+module _ {C : Type 0} (S I : Type 0) where
+  pub asked_refused :
+      (e : EntryView C) (s : ℕ) (z : GateView) (r : Refusal) (core : GroupView C) (z2 : GateView)
+      → Asked {S = S} {I = I} e.core s z (Err r) core z2 → DidAsk e s z (answer.Refused r) (record e { core = core }) z2
+  asked_refused e s z r core z2 h = ((h.0, h.1), (ap (λ v. record e { core = v }) h.2, h.3))
+
+  pub asked_building :
+      (e : EntryView C) (s : ℕ) (z : GateView) (core : GroupView C) (z2 : GateView) → AgreesAt e
+      → Asked {S = S} {I = I} e.core s z (Ok asks.Building) core z2 → DidAsk e s z answer.Building (record e { core = core }) z2
+  asked_building e s z core z2 agrees (x, y, at, (flies, kept, gates), core_is) =
+      let p = placed e s x agrees at in
+      let same : core ≡ e.core = core_is ∙ ap (λ v. with_slot e.core s v) kept ∙ ap (λ l. record e.core { slots = l }) (set_here e.core.slots s x at) in
+      ((x, p.0, p.1, flies), (ap (λ v. record e { core = v }) same, gates))
+
+  pub asked_nothing :
+      (e : EntryView C) (s : ℕ) (z : GateView) (core : GroupView C) (z2 : GateView) → AgreesAt e
+      → Asked {S = S} {I = I} e.core s z (Ok asks.Nothing) core z2 → DidAsk e s z answer.Idle (record e { core = core }) z2
+  asked_nothing e s z core z2 agrees (x, y, at, (unflying, unwaiting, kept, gates), core_is) =
+      let p = placed e s x agrees at in
+      let same : core ≡ e.core = core_is ∙ ap (λ v. with_slot e.core s v) kept ∙ ap (λ l. record e.core { slots = l }) (set_here e.core.slots s x at) in
+      ((x, p.0, p.1, unflying, unwaiting), (ap (λ v. record e { core = v }) same, gates))
+
+  pub asked_busy :
+      (e : EntryView C) (s : ℕ) (z : GateView) (core : GroupView C) (z2 : GateView) → AgreesAt e
+      → Asked {S = S} {I = I} e.core s z (Ok asks.Busy) core z2 → DidAsk e s z answer.Busy (record e { core = core }) z2
+  asked_busy e s z core z2 agrees (x, y, at, (unflying, waits, taken, kept, gates), core_is) =
+      let p = placed e s x agrees at in
+      let same : core ≡ e.core = core_is ∙ ap (λ v. with_slot e.core s v) kept ∙ ap (λ l. record e.core { slots = l }) (set_here e.core.slots s x at) in
+      ((x, p.0, p.1, unflying, waits, taken), (ap (λ v. record e { core = v }) same, gates))
+
+  -- a job's place is empty, and the job is that of the order
+  pub asked_free :
+      (e : EntryView C) (s : ℕ) (z : GateView) (j : Task C) (core : GroupView C) (z2 : GateView) (k : WorkView C) → AgreesAt e
+      → Asked {S = S} {I = I} e.core s z (Ok (asks.Job j)) core z2 → k ≡ slice_index_or e.works s k → k ≡ nothing
+  asked_free e s z j core z2 k agrees (x, y, at, asked, core_is) read = free_place e s x k agrees at asked.0 read
+
+  pub asked_job :
+      (e : EntryView C) (s : ℕ) (z : GateView) (j : Task C) (core : GroupView C) (z2 : GateView) → AgreesAt e → z.id ≡ e.core.gate
+      → Asked {S = S} {I = I} e.core s z (Ok (asks.Job j)) core z2
+      → DidAsk e s z (answer.Build j.generation) (record e { core = core; works = slice_set e.works s (building j) }) z2
+  asked_job e s z j core z2 agrees same (x, y, at, (empty, home, waits, slot_is, permit_is, made, gates), core_is) =
+      let p = placed e s x agrees at in
+      let job_is : j ≡ job_of e s (order_of j) =
+          ap (λ v. record j { slot = v }) slot_is ∙ ap (λ v. record { slot = s; generation = j.generation; members = j.members; config = j.config; permit = v }) (permit_is ∙ same) in
+      (x, p.0, order_of j, p.1, refl, empty, waits, home,
+          ap (λ v. record e { core = v; works = slice_set e.works s (building j) }) (core_is ∙ ap (λ v. with_slot e.core s v) made)
+          ∙ ap (λ v. record e { core = with_slot e.core s (record x { waiting = None; stage = flight j.generation }); works = slice_set e.works s (building v) }) job_is,
+          gates)
+
+module _ {C : Type 0} where
+  -- a place that was read and written again as it was
+  pub unwritten :
+      (e : EntryView C) (s : ℕ) (k k2 : WorkView C) → AgreesAt e → s < length e.works → k ≡ slice_index_or e.works s k → k2 ≡ k
+      → record e { works = slice_set e.works s k2 } ≡ e
+  unwritten e s k k2 agrees within read same =
+      let p = slotted e s k agrees within read in
+      ap (λ v. record e { works = slice_set e.works s v }) same ∙ ap (λ l. record e { works = l }) (set_here e.works s k p.1.work_at)
+
+  -- the task that is held for a slot
+  pub task_here :
+      (e : EntryView C) (s : ℕ) (k : WorkView C) (t : Task C) → AgreesAt e → s < length e.works → k ≡ slice_index_or e.works s k
+      → (k ≡ building t) ⊎ (k ≡ ready t) → (x : SlotView C) × IsAt e s x k × TaskFits e.core s x t
+  task_here e s k t agrees within read (inl same) =
+      let p = slotted e s k agrees within read in
+      let fits = agrees.agrees s p.0 k p.1 in
+      (p.0, p.1, rw same at fits)
+  task_here e s k t agrees within read (inr same) =
+      let p = slotted e s k agrees within read in
+      let fits = agrees.agrees s p.0 k p.1 in
+      (p.0, p.1, rw same at fits)
+
+  -- a slot of a task in hand is there
+  pub task_slot : (e : EntryView C) (s : ℕ) (t : Task C) → AgreesAt e → s < length e.works → t.slot ≡ s → t.slot < length e.core.slots
+  task_slot e s t agrees within same = rw (same, ← agrees.works_in) within
+
+  -- the flight of a task is the stage's
+  pub flight_is : (stage : StageView) (n : ℕ) → flight_of stage ≡ Some n → stage ≡ flight n
+  flight_is free n e = absurd (cc)
+  flight_is (flight m) n e = let same : m ≡ n = (cc) in ap (λ v. flight v) same
+  flight_is (retired m readers) n e = absurd (cc)
+  flight_is (taken_out m) n e = absurd (cc)
+
+  pub not_ready :
+      (e : EntryView C) (s : ℕ) (k k2 : WorkView C) → AgreesAt e → s < length e.works → k ≡ slice_index_or e.works s k
+      → IsNotReady k → k2 ≡ k → DidPublish e s (answer.Refused refusal.NothingBuilt) (record e { works = slice_set e.works s k2 })
+  not_ready e s k k2 agrees within read unready same =
+      let p = slotted e s k agrees within read in
+      (inr (refl, (p.0, k, p.1, unready)), unwritten e s k k2 agrees within read same)
+
+  pub not_building :
+      (cause : List Member → C → Option Refusal) (e : EntryView C) (s : ℕ) (z : GateView) (k k2 : WorkView C)
+      → AgreesAt e → s < length e.works → k ≡ slice_index_or e.works s k
+      → IsNotBuilding k → k2 ≡ k → DidBuild cause e s z (answer.Refused refusal.NothingInFlight) (record e { works = slice_set e.works s k2 }) z
+  not_building cause e s z k k2 agrees within read unbuilding same =
+      let p = slotted e s k agrees within read in
+      (inr (refl, (p.0, k, p.1, unbuilding)), (unwritten e s k k2 agrees within read same, refl))
+
+  pub did_build :
+      (cause : List Member → C → Option Refusal) (e : EntryView C) (s : ℕ) (z : GateView) (k k2 : WorkView C) (t b : Task C)
+      → AgreesAt e → s < length e.works → k ≡ slice_index_or e.works s k → k ≡ building t
+      → cause t.members t.config ≡ None → b ≡ t → k2 ≡ ready b
+      → DidBuild cause e s z (answer.Built t.generation) (record e { works = slice_set e.works s k2 }) z
+  did_build cause e s z k k2 t b agrees within read is_building fine same made =
+      let p = slotted e s k agrees within read in
+      (p.0, t, rw is_building at p.1, refl, fine,
+          ap (λ v. record e { works = slice_set e.works s v }) (made ∙ ap (λ v. ready v) same)
+          ∙ ap (λ l. record e { core = record e.core { slots = l }; works = slice_set e.works s (ready t) }) (sym (set_here e.core.slots s p.0 p.1.slot_at)),
+          refl)
+
+  pub did_fail :
+      (cause : List Member → C → Option Refusal) (e : EntryView C) (s : ℕ) (z z2 : GateView) (k k2 : WorkView C) (t j : Task C) (r : Refusal) (core : GroupView C)
+      → AgreesAt e → s < length e.works → k ≡ slice_index_or e.works s k → k ≡ building t
+      → (cause t.members t.config ≡ Some r) ⊎ ((cause t.members t.config ≡ None) × (r ≡ refusal.OutOfMemory)) → j ≡ t → k2 ≡ nothing
+      → FailedIn e.core j core → z.id ≡ e.core.gate → z2 ≡ gate e.core.gate false
+      → DidBuild cause e s z (answer.BuildFailed t.generation r) (record e { core = core; works = slice_set e.works s k2 }) z2
+  did_fail cause e s z z2 k k2 t j r core agrees within read is_building why same empty done ids out =
+      let p = task_here e s k t agrees within read (inl is_building) in
+      let there : slice_get e.core.slots j.slot ≡ Some p.0 = rw (same, p.2.slot_is) p.1.slot_at in
+      let made = rw there at done in
+      let flies : is_flight_of j.generation p.0.stage ≡ true = rw (same, flight_is p.0.stage t.generation p.2.flies) (eqb-refl t.generation) in
+      let made2 = rw flies at made in
+      (p.0, t, rw is_building at p.1, refl, why,
+          ap (λ v. record e { core = v; works = slice_set e.works s k2 }) (rw (same, p.2.slot_is) at made2)
+          ∙ ap (λ v. record e { core = with_slot e.core s (record p.0 { waiting = put_back e.core.newest t p.0.waiting; stage = free }); works = slice_set e.works s v }) empty,
+          out ∙ ap (λ v. gate v false) (sym ids))
+
+  pub did_publish :
+      (e : EntryView C) (s : ℕ) (k k2 : WorkView C) (t : Task C) (n : ℕ) (core : GroupView C)
+      → AgreesAt e → s < length e.works → k ≡ slice_index_or e.works s k → k ≡ ready t → k2 ≡ nothing
+      → PublishedIn e.core t (told.Published n) core
+      → DidPublish e s (answer.Published n) (record e { core = core; works = slice_set e.works s k2 })
+  did_publish e s k k2 t n core agrees within read is_ready empty (x, y, at, done, core_is) =
+      let p = task_here e s k t agrees within read (inr is_ready) in
+      let here : slice_get e.core.slots s ≡ Some x = rw p.2.slot_is at at in
+      let same : x ≡ p.0 = let both = p.1.slot_at in (cc) in
+      ?
+
+  pub not_abandoned :
+      (e : EntryView C) (s : ℕ) (k : WorkView C) (t : Task C) (n : ℕ) (core : GroupView C)
+      → AgreesAt e → s < length e.works → k ≡ slice_index_or e.works s k → k ≡ ready t
+      → PublishedIn e.core t (told.Abandoned n) core → ⊥
+  not_abandoned e s k t n core agrees within read is_ready (x, y, at, done, core_is) = ?
