@@ -60,7 +60,7 @@ module _ {C : Type 0} where
       (omega (arith, sum_set slot_holds e.core.slots s was.slot now.slot x, sum_set work_holds e.works s was.work now.work k))
 
   -- it holds none of another gate
-  held_else : (a : ℕ) (e : EntryView C) → (e.gate ≡ a → ⊥) → held_by a e ≡ 0
+  pub held_else : (a : ℕ) (e : EntryView C) → (e.gate ≡ a → ⊥) → held_by a e ≡ 0
   held_else a e n = rw (ne_eqb e.gate a n)
 
   -- the permits of the gate, after a place of a group on it was written

@@ -76,3 +76,8 @@ module _ {X : Type 0} where
   none_push [] j y h = refl
   none_push (a ∷ xs) zero y h = absurd (none-some a (sym h))
   none_push (a ∷ xs) (suc j) y h = none_push xs j y h
+
+  -- the one that was added is there
+  pub get_last : (xs : List X) (y : X) → slice_get (xs ++ y ∷ []) (length xs) ≡ Some y
+  get_last [] y = refl
+  get_last (a ∷ xs) y = get_last xs y
