@@ -1,6 +1,7 @@
 pub mod Ever
 pub mod Effects
 pub mod Frames
+pub mod GroupMade
 pub mod Makers
 pub mod PlaceCases
 pub mod Places
