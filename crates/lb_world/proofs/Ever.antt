@@ -16,7 +16,7 @@ use Rattle.lb_world.proofs.Permits.{bit_le}
 use Rattle.lb_world.proofs.Places.{there, found, past}
 
 -- what is in flight is later than what is served, and not past the newest
-flight_fits : (x : StageView) (m n newest : ℕ) → flight_of x ≡ Some n → StageFits x m newest → (m < n) × (n ≤ newest)
+pub flight_fits : (x : StageView) (m n newest : ℕ) → flight_of x ≡ Some n → StageFits x m newest → (m < n) × (n ≤ newest)
 flight_fits free m n newest e f = absurd (none-some n e)
 flight_fits (flying k) m n newest e f = let same : k ≡ n = cc in (omega arith, omega arith)
 flight_fits (retired k r) m n newest e f = absurd (none-some n e)

@@ -2,6 +2,7 @@ pub mod Ever
 pub mod Effects
 pub mod Frames
 pub mod GroupMade
+pub mod GroupUpdated
 pub mod Makers
 pub mod PlaceCases
 pub mod Places
