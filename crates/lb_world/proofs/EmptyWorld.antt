@@ -1,10 +1,8 @@
 -- A world that nothing was made in is sound, and stands for the history of no step.
-use Rattle.std.proofs.Common.{◌≡◌, ℕ, ◌+◌, List, [], refl, arith}
-use Rattle.std.specs.Prelude.{Option, Some, None}
+use Rattle.std.proofs.Common.{[], refl, arith}
 use Rattle.std.proofs.lemmas.Option.{none-some}
 use Rattle.lb_world.specs.Meanings.{Meaning}
-use Rattle.lb_world.specs.History.{History}
-use Rattle.lb_world.specs.Views.{EntryView, WorldView}
+use Rattle.lb_world.specs.Views.{WorldView}
 use Rattle.lb_world.specs.Lawful.{InOrder}
 use Rattle.lb_world.specs.Sound.{IsSound}
 use Rattle.lb_world.specs.Stands.{Stands}

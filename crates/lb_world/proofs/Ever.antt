@@ -1,12 +1,12 @@
 -- One extra at each gate, and generations in order, follow from what a sound world holds and what the history tells of it.
-use Rattle.std.proofs.Common.{◌≡◌, ◌⊎◌, inl, inr, ℕ, ◌+◌, ◌<◌, ◌≤◌, Bool, List, [], ◌∷◌, length, refl, sym, ap, arith, ◌∙◌}
-use Rattle.std.specs.Prelude.{Option, Some, None, slice_get}
+use Rattle.std.proofs.Common.{◌≡◌, ◌⊎◌, inl, inr, ℕ, ◌+◌, ◌<◌, ◌≤◌, [], ◌∷◌, length, sym, ap, arith, ◌∙◌}
+use Rattle.std.specs.Prelude.{Some, None, slice_get}
 use Rattle.std.proofs.lemmas.Option.{slice_get_within, slice_get_past, none-some}
-use Rattle.lb_rebuild.specs.Views.{StageView, free, flight as flying, retired, taken_out, SlotView, GroupView}
+use Rattle.lb_rebuild.specs.Views.{StageView, free, flight as flying, retired, taken_out, SlotView}
 use Rattle.lb_world.specs.Steps.{StepView}
 use Rattle.lb_world.specs.declared.answer.Answer.{Answer}
 use Rattle.lb_world.specs.Meanings.{Meaning}
-use Rattle.lb_world.specs.History.{History, Made, made, config, config_in, registries, gates, groups, generations, newest, members, events, served, flight, entries, bit, count_on, grants, fails, destroys}
+use Rattle.lb_world.specs.History.{History, Made, made, config, config_in, registries, gates, groups, generations, newest, members, events, flight, entries, count_on, grants, fails, destroys}
 use Rattle.lb_world.specs.Answers.{IsRun, HasDrawn}
 use Rattle.lb_world.specs.Views.{WorkView, EntryView, WorldView, is_out, flight_of, holders}
 use Rattle.lb_world.specs.Lawful.{Always, OneExtra, InOrder}

@@ -1,13 +1,12 @@
 -- A group's membership changes: the world after it is sound and stands for the longer history.
-use Rattle.std.proofs.Common.{◌≡◌, ◌⊎◌, inl, inr, ℕ, ◌+◌, ◌<◌, ◌≤◌, max, Bool, List, [], ◌∷◌, map, length, refl, sym, ap, arith, ◌∙◌}
-use Rattle.std.specs.Prelude.{Option, Some, None, slice_get, slice_set, ◌==◌}
+use Rattle.std.proofs.Common.{◌≡◌, inl, inr, ℕ, ◌+◌, ◌<◌, ◌≤◌, max, List, ◌∷◌, map, length, refl, sym, ap, arith, ◌∙◌}
+use Rattle.std.specs.Prelude.{Option, Some, slice_get, slice_set}
 use Rattle.std.proofs.lemmas.Bool.{cases_eq, eq-eqb, ne_eqb, lt-ltb}
 use Rattle.std.proofs.lemmas.List.{length-set, length-map}
 use Rattle.std.proofs.lemmas.Option.{none-some}
 use Rattle.lb_select.specs.Backends.{Member}
 use Rattle.lb_select.specs.Memberships.{set_of}
-use Rattle.lb_rebuild.specs.Gate.{GateId, GateView}
-use Rattle.lb_rebuild.specs.Views.{StageView, free, flight as flying, retired, taken_out, Task, OrderView, SlotView, GroupView, flight_number, due_order}
+use Rattle.lb_rebuild.specs.Views.{StageView, free, flight as flying, retired, taken_out, Task, SlotView, GroupView, flight_number}
 use Rattle.lb_world.specs.Steps.{StepView}
 use Rattle.lb_world.specs.Steps as step
 use Rattle.lb_world.specs.declared.answer.Answer.{Answer}
@@ -15,7 +14,7 @@ use Rattle.lb_world.specs.declared.answer.Answer.TheVariants as answer
 use Rattle.lb_world.specs.Meanings.{Meaning}
 use Rattle.lb_world.specs.History.{History, Entered, present, made, generations, newest_of, members_of, grants, fails, destroys}
 use Rattle.lb_world.specs.Answers.{Answers}
-use Rattle.lb_world.specs.Views.{WorkView, nothing, building, ready, PlaceView, EntryView, WorldView, task_of, flight_of, slot_holds, held_by, holders}
+use Rattle.lb_world.specs.Views.{WorkView, nothing, building, ready, EntryView, WorldView, task_of, slot_holds, held_by, holders}
 use Rattle.lb_world.specs.Sound.{StageFits, TaskFits, WorkFits, IsPlaceSound, IsSound}
 use Rattle.lb_world.specs.Stands.{SlotTells, Stands}
 use Rattle.lb_world.proofs.Places.{get_set, get_map, none_set}
@@ -123,42 +122,43 @@ module _ {C : Type 0} where
         gates_in =
             λ g2 e2 m.
             elim (get_set w.groups g g2 e (updated e ms) e2 at_g m) [
-              inl k ↦ rw k.1 (sound.gates_in g e at_g)
-            | inr k ↦ sound.gates_in g2 e2 k.1
+              | inl k ↦ rw k.1 (sound.gates_in g e at_g)
+              | inr k ↦ sound.gates_in g2 e2 k.1
             ];
         ids =
             λ g2 e2 z m r.
             elim (get_set w.groups g g2 e (updated e ms) e2 at_g m) [
-              inl k ↦ rw k.1 (sound.ids g e z at_g (ap (λ (v : EntryView C). slice_get w.gates v.gate) (sym k.1) ∙ r))
-            | inr k ↦ sound.ids g2 e2 z k.1 r
+              | inl k ↦ rw k.1 (sound.ids g e z at_g (ap (λ (v : EntryView C). slice_get w.gates v.gate) (sym k.1) ∙ r))
+              | inr k ↦ sound.ids g2 e2 z k.1 r
             ];
         works_in =
             λ g2 e2 m.
             elim (get_set w.groups g g2 e (updated e ms) e2 at_g m) [
-              inl k ↦ rw k.1 (sound.works_in g e at_g ∙ sym (length-map e.core.slots (due_again (e.core.newest + 1) ms)))
-            | inr k ↦ sound.works_in g2 e2 k.1
+              | inl k ↦ rw k.1 (sound.works_in g e at_g ∙ sym (length-map e.core.slots (due_again (e.core.newest + 1) ms)))
+              | inr k ↦ sound.works_in g2 e2 k.1
             ];
         places =
             λ g2 e2 s x k m hx hk.
             elim (get_set w.groups g g2 e (updated e ms) e2 at_g m) [
-              inl q ↦
-                rw (q.0, q.1)
-                (place_in_group w.readers g s e ms x k
+              | inl q ↦
+                  rw (q.0, q.1)
+                  (place_in_group w.readers g s e ms x k
                   (λ y hy. sound.places g e s y k at_g hy (ap (λ (v : EntryView C). slice_get v.works s) (sym q.1) ∙ hk))
                   (ap (λ (v : EntryView C). slice_get v.core.slots s) (sym q.1) ∙ hx))
-            | inr q ↦ sound.places g2 e2 s x k q.1 hx hk
+              | inr q ↦ sound.places g2 e2 s x k q.1 hx hk
             ];
         ledger = λ b l. holders_updated b w.groups g e ms at_g ∙ sound.ledger b l;
         entries_in =
             λ t r m.
-            let old = sound.entries_in t r m in
-            (rw (length-set w.groups g (updated e ms)) old.0,
+            let old = sound.entries_in t r m in (
+              rw (length-set w.groups g (updated e ms)) old.0,
               λ e2 q.
-              elim (get_set w.groups g r.group e (updated e ms) e2 at_g q) [
-                inl k ↦
-                  rw (k.1, length-map e.core.slots (due_again (e.core.newest + 1) ms)) (old.1 e (ap (slice_get w.groups) k.0 ∙ at_g))
-              | inr k ↦ old.1 e2 k.1
-              ]);
+                  elim (get_set w.groups g r.group e (updated e ms) e2 at_g q) [
+                    | inl k ↦
+                        rw (k.1, length-map e.core.slots (due_again (e.core.newest + 1) ms)) (old.1 e (ap (slice_get w.groups) k.0 ∙ at_g))
+                    | inr k ↦ old.1 e2 k.1
+                  ],
+            );
       }
 
 -- the members of a generation after a later one was added
@@ -209,7 +209,7 @@ module _ {C : Type 0} (M : Meaning C) where
       (x : SlotView C) (k : WorkView C)
       → g ≡ g2 → IsPlaceSound readers g2 s core (record { slot = x; work = k }) → SlotTells M h g2 s (record { slot = x; work = k })
       → SlotTells M ((step.update g now backends, answer.Generation (core.newest + 1)) ∷ h) g2 s
-        (record { slot = due_again (core.newest + 1) (set_of (present backends)) x; work = k })
+      (record { slot = due_again (core.newest + 1) (set_of (present backends)) x; work = k })
   slot_updated h g g2 now s backends core readers x k e f t =
       let n = core.newest + 1 in
       let ms = set_of (present backends) in
@@ -217,13 +217,13 @@ module _ {C : Type 0} (M : Meaning C) where
       let all = generations_new h g g2 now n backends e in
       tells_due (event ∷ h) g2 s n ms x k
       (slot_frame M h (event ∷ h) g2 s (record { slot = x; work = k })
-        refl refl
-        (ap (λ es. members_of es x.serving.generation) all
-          ∙ members_older n x.serving.generation ms (generations g2 h) (omega (arith, f.served_in)))
-        (λ j q.
-          ap (λ es. members_of es j.generation) all
-          ∙ members_older n j.generation ms (generations g2 h) (omega (arith, task_at core s x k j f.fits f.agrees q)))
-        (x.serving.tickets, t.drawn, refl) t)
+      refl refl
+      (ap (λ es. members_of es x.serving.generation) all
+      ∙ members_older n x.serving.generation ms (generations g2 h) (omega (arith, f.served_in)))
+      (λ j q.
+      ap (λ es. members_of es j.generation) all
+      ∙ members_older n j.generation ms (generations g2 h) (omega (arith, task_at core s x k j f.fits f.agrees q)))
+      (x.serving.tickets, t.drawn, refl) t)
 
   slot_in_group :
       (h : History C) (g g2 now s : ℕ) (backends : List (Option Member)) (core : GroupView C) (readers : List (Option Entered))
@@ -243,7 +243,7 @@ module _ {C : Type 0} (M : Meaning C) where
       → IsSound w → Stands M w h → slice_get w.groups g ≡ Some e
       → Answers M h (step.update g now backends) (answer.Generation (e.core.newest + 1))
       → Tells M (with_update w g e (set_of (present backends)))
-        ((step.update g now backends, answer.Generation (e.core.newest + 1)) ∷ h)
+      ((step.update g now backends, answer.Generation (e.core.newest + 1)) ∷ h)
   update_tells w h g now backends e sound stands at_g right =
       let n = e.core.newest + 1 in
       let ms = set_of (present backends) in
@@ -257,63 +257,68 @@ module _ {C : Type 0} (M : Meaning C) where
         made_is =
             λ g2 e2 m.
             elim (get_set w.groups g g2 e (updated e ms) e2 at_g m) [
-              inl k ↦
-                let d = stands.made_is g e at_g in
-                (d.0, ap (λ i. made i h) k.0 ∙ d.1, d.2 ∙ ap (λ (v : EntryView C). v.gate) (sym k.1),
-                  d.3 ∙ sym (length-map e.core.slots (due_again n ms)) ∙ ap (λ (v : EntryView C). length v.core.slots) (sym k.1))
-            | inr k ↦ stands.made_is g2 e2 k.1
+              | inl k ↦
+                  let d = stands.made_is g e at_g in (
+                    d.0,
+                    ap (λ i. made i h) k.0 ∙ d.1,
+                    d.2 ∙ ap (λ (v : EntryView C). v.gate) (sym k.1),
+                    d.3 ∙ sym (length-map e.core.slots (due_again n ms)) ∙ ap (λ (v : EntryView C). length v.core.slots) (sym k.1),
+                  )
+              | inr k ↦ stands.made_is g2 e2 k.1
             ];
         newest_is =
             λ g2 e2 m.
             elim (get_set w.groups g g2 e (updated e ms) e2 at_g m) [
-              inl k ↦
-                ap newest_of (generations_new h g g2 now n backends (sym k.0)) ∙ ap (λ (v : EntryView C). v.core.newest) (sym k.1)
-            | inr k ↦ ap newest_of (generations_else h g g2 now n backends (λ q. k.0 (sym q))) ∙ stands.newest_is g2 e2 k.1
+              | inl k ↦
+                  ap newest_of (generations_new h g g2 now n backends (sym k.0)) ∙ ap (λ (v : EntryView C). v.core.newest) (sym k.1)
+              | inr k ↦ ap newest_of (generations_else h g g2 now n backends (λ q. k.0 (sym q))) ∙ stands.newest_is g2 e2 k.1
             ];
         members_are =
             λ g2 e2 m.
             elim (get_set w.groups g g2 e (updated e ms) e2 at_g m) [
-              inl k ↦
-                ap (λ es. members_of es e2.core.newest) (generations_new h g g2 now n backends (sym k.0))
-                ∙ members_new n e2.core.newest ms (generations g2 h) (ap (λ (v : EntryView C). v.core.newest) (sym k.1))
-                ∙ ap (λ (v : EntryView C). v.core.current) (sym k.1)
-            | inr k ↦
-                ap (λ es. members_of es e2.core.newest) (generations_else h g g2 now n backends (λ q. k.0 (sym q)))
-                ∙ stands.members_are g2 e2 k.1
+              | inl k ↦
+                  ap (λ es. members_of es e2.core.newest) (generations_new h g g2 now n backends (sym k.0))
+                  ∙ members_new n e2.core.newest ms (generations g2 h) (ap (λ (v : EntryView C). v.core.newest) (sym k.1))
+                  ∙ ap (λ (v : EntryView C). v.core.current) (sym k.1)
+              | inr k ↦
+                  ap (λ es. members_of es e2.core.newest) (generations_else h g g2 now n backends (λ q. k.0 (sym q)))
+                  ∙ stands.members_are g2 e2 k.1
             ];
         slots_tell =
             λ g2 e2 s x k m hx hk.
             elim (get_set w.groups g g2 e (updated e ms) e2 at_g m) [
-              inl q ↦
-                let at_g2 = ap (slice_get w.groups) q.0 ∙ at_g in
-                let hk2 = ap (λ (v : EntryView C). slice_get v.works s) (sym q.1) ∙ hk in
-                slot_in_group h g g2 now s backends e.core w.readers x k (sym q.0)
-                (λ y hy. sound.places g2 e s y k at_g2 hy hk2)
-                (λ y hy. stands.slots_tell g2 e s y k at_g2 hy hk2)
-                (ap (λ (v : EntryView C). slice_get v.core.slots s) (sym q.1) ∙ hx)
-            | inr q ↦
-                let t = stands.slots_tell g2 e2 s x k q.1 hx hk in
-                let same = generations_else h g g2 now n backends (λ z. q.0 (sym z)) in
-                slot_frame M h ((st, answer.Generation n) ∷ h) g2 s (record { slot = x; work = k })
-                refl refl (ap (λ es. members_of es x.serving.generation) same) (λ j z. ap (λ es. members_of es j.generation) same)
-                (x.serving.tickets, t.drawn, refl) t
+              | inl q ↦
+                  let at_g2 = ap (slice_get w.groups) q.0 ∙ at_g in
+                  let hk2 = ap (λ (v : EntryView C). slice_get v.works s) (sym q.1) ∙ hk in
+                  slot_in_group h g g2 now s backends e.core w.readers x k (sym q.0)
+                  (λ y hy. sound.places g2 e s y k at_g2 hy hk2)
+                  (λ y hy. stands.slots_tell g2 e s y k at_g2 hy hk2)
+                  (ap (λ (v : EntryView C). slice_get v.core.slots s) (sym q.1) ∙ hx)
+              | inr q ↦
+                  let t = stands.slots_tell g2 e2 s x k q.1 hx hk in
+                  let same = generations_else h g g2 now n backends (λ z. q.0 (sym z)) in
+                  slot_frame M h ((st, answer.Generation n) ∷ h) g2 s (record { slot = x; work = k })
+                  refl refl (ap (λ es. members_of es x.serving.generation) same) (λ j z. ap (λ es. members_of es j.generation) same)
+                  (x.serving.tickets, t.drawn, refl) t
             ];
         ungrouped =
             λ g2 none.
             elim (cases_eq g g2) [
-              inl q ↦ absurd (none-some _ (sym none ∙ ap (λ i. made i h) (sym q) ∙ (stands.made_is g e at_g).1))
-            | inr q ↦ generations_else h g g2 now n backends q ∙ stands.ungrouped g2 none
+              | inl q ↦ absurd (none-some _ (sym none ∙ ap (λ i. made i h) (sym q) ∙ (stands.made_is g e at_g).1))
+              | inr q ↦ generations_else h g g2 now n backends q ∙ stands.ungrouped g2 none
             ];
         unslotted = λ g2 s none. let b = stands.unslotted g2 s none in (b.0, (0, b.1, refl));
         entries_are = stands.entries_are;
         ledger =
             λ a.
-            omega
-            (arith, stands.ledger a,
+            omega (
+              arith,
+              stands.ledger a,
               count_no grants a h st (answer.Generation n) refl,
               count_no fails a h st (answer.Generation n) refl,
               count_no destroys a h st (answer.Generation n) refl,
-              holders_updated a w.groups g e ms at_g);
+              holders_updated a w.groups g e ms at_g,
+            );
       }
 
   -- a group's membership changes: the next generation, which each slot awaits
@@ -322,7 +327,7 @@ module _ {C : Type 0} (M : Meaning C) where
       → IsSound w → Stands M w h → slice_get w.groups g ≡ Some e
       → Answers M h (step.update g now backends) (answer.Generation (e.core.newest + 1))
       → Stands M (with_update w g e (set_of (present backends)))
-        ((step.update g now backends, answer.Generation (e.core.newest + 1)) ∷ h)
+      ((step.update g now backends, answer.Generation (e.core.newest + 1)) ∷ h)
   update_stands w h g now backends e sound stands at_g right =
       stands_next M (with_update w g e (set_of (present backends))) h (step.update g now backends)
       (answer.Generation (e.core.newest + 1)) (update_sound w g e (set_of (present backends)) sound at_g)

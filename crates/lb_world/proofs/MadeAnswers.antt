@@ -1,5 +1,5 @@
 -- The right answers to the steps that make a registry, a gate or a group or update one, by what the world holds.
-use Rattle.std.proofs.Common.{◌≡◌, ◌⊎◌, inl, inr, ℕ, ◌+◌, ◌<◌, ◌≤◌, ◌^◌, Bool, true, false, ◌&&◌, List, [], map, length, refl, sym, ap, ◌∙◌}
+use Rattle.std.proofs.Common.{◌≡◌, inl, inr, ℕ, ◌+◌, ◌<◌, ◌≤◌, ◌^◌, true, false, ◌&&◌, List, [], map, length, refl, sym, ap, ◌∙◌}
 use Rattle.std.specs.Prelude.{Option, Some, None, slice_get, nat_lt}
 use Rattle.std.proofs.lemmas.Bool.{lt-ltb, le-ltb}
 use Rattle.lb_select.specs.Backends.{Member}
@@ -10,11 +10,10 @@ use Rattle.lb_select.specs.declared.refusal.Refusal.TheVariants as refusal
 use Rattle.lb_world.specs.Steps.{StepView}
 use Rattle.lb_world.specs.Steps as step
 use Rattle.lb_world.specs.declared.step.HealthKey.{HealthKey}
-use Rattle.lb_world.specs.declared.answer.Answer.{Answer}
 use Rattle.lb_world.specs.declared.answer.Answer.TheVariants as answer
 use Rattle.lb_world.specs.Meanings.{Meaning}
-use Rattle.lb_world.specs.History.{History, present, registries, gates, groups, made, newest, members}
-use Rattle.lb_world.specs.Answers.{Answers, answer_after, without_memory, unless_refused, no_such, has_refused, group_update, update_answer}
+use Rattle.lb_world.specs.History.{History, present}
+use Rattle.lb_world.specs.Answers.{Answers, answer_after, without_memory, unless_refused, no_such, has_refused, update_answer}
 use Rattle.lb_world.specs.Views.{EntryView, WorldView}
 use Rattle.lb_world.specs.Stands.{Stands}
 
@@ -27,7 +26,7 @@ module _ {C : Type 0} (M : Meaning C) where
   group_after :
       (w : WorldView C) (h : History C) (registry gate : ℕ) (configs : List C) → Stands M w h
       → answer_after M h (step.group registry gate configs)
-        ≡ unless_refused (group_refusal w registry gate configs) (answer.Group (length w.groups))
+      ≡ unless_refused (group_refusal w registry gate configs) (answer.Group (length w.groups))
   group_after w h registry gate configs stands = rw (stands.registries_are, stands.gates_are, stands.groups_are)
 
   -- the answer to an update where the addresses are good, by the newest generation and whether the members are the same
@@ -61,8 +60,8 @@ module _ {C : Type 0} (M : Meaning C) where
   group_memory w h registry gate configs stands free =
       inr
       (sym
-        (ap (without_memory M)
-          (group_after w h registry gate configs stands ∙ ap (λ c. unless_refused c (answer.Group (length w.groups))) free)))
+      (ap (without_memory M)
+      (group_after w h registry gate configs stands ∙ ap (λ c. unless_refused c (answer.Group (length w.groups))) free)))
 
   -- else it is refused for its cause
   pub group_refused :
@@ -108,8 +107,8 @@ module _ {C : Type 0} (M : Meaning C) where
   update_changed w h g now backends e stands good at_g changed l =
       inl
       (sym
-        (update_after w h g now backends e stands good at_g
-          ∙ ap (update_answer e.core.newest) changed ∙ update_newer e.core.newest l))
+      (update_after w h g now backends e stands good at_g
+      ∙ ap (update_answer e.core.newest) changed ∙ update_newer e.core.newest l))
 
   pub update_memory :
       (w : WorldView C) (h : History C) (g now : ℕ) (backends : List (Option Member)) (e : EntryView C) → Stands M w h
@@ -119,9 +118,9 @@ module _ {C : Type 0} (M : Meaning C) where
   update_memory w h g now backends e stands good at_g changed l =
       inr
       (sym
-        (ap (without_memory M)
-          (update_after w h g now backends e stands good at_g
-            ∙ ap (update_answer e.core.newest) changed ∙ update_newer e.core.newest l)))
+      (ap (without_memory M)
+      (update_after w h g now backends e stands good at_g
+      ∙ ap (update_answer e.core.newest) changed ∙ update_newer e.core.newest l)))
 
   -- no generation comes after the last
   pub update_exhausted :
@@ -132,5 +131,5 @@ module _ {C : Type 0} (M : Meaning C) where
   update_exhausted w h g now backends e stands good at_g changed l =
       inl
       (sym
-        (update_after w h g now backends e stands good at_g
-          ∙ ap (update_answer e.core.newest) changed ∙ rw (le-ltb (e.core.newest + 1) (2 ^ 64) l)))
+      (update_after w h g now backends e stands good at_g
+      ∙ ap (update_answer e.core.newest) changed ∙ rw (le-ltb (e.core.newest + 1) (2 ^ 64) l)))

@@ -1,26 +1,23 @@
 -- A registry or a gate is made: the world after it is sound and stands for the longer history.
-use Rattle.std.proofs.Common.{◌≡◌, ◌⊎◌, inl, inr, ℕ, ◌+◌, ◌<◌, Bool, false, List, [], ◌∷◌, ◌++◌, length, refl, sym, ap, arith, ◌∙◌}
-use Rattle.std.specs.Prelude.{Option, Some, None, slice_get}
+use Rattle.std.proofs.Common.{◌≡◌, inl, inr, ℕ, ◌+◌, ◌<◌, false, List, [], ◌∷◌, ◌++◌, length, refl, sym, ap, arith, ◌∙◌}
+use Rattle.std.specs.Prelude.{Some, slice_get}
 use Rattle.std.proofs.lemmas.Bool.{cases_eq}
 use Rattle.std.proofs.lemmas.List.{length_push}
-use Rattle.std.proofs.lemmas.Option.{slice_get_within, slice_get_past}
-use Rattle.lb_rebuild.specs.Gate.{GateId, GateView, gate}
-use Rattle.lb_rebuild.specs.Views.{SlotView, GroupView}
+use Rattle.lb_rebuild.specs.Gate.{GateId, gate}
 use Rattle.lb_world.specs.Steps.{StepView}
 use Rattle.lb_world.specs.Steps as step
 use Rattle.lb_world.specs.declared.step.HealthKey.{HealthKey}
-use Rattle.lb_world.specs.declared.answer.Answer.{Answer}
 use Rattle.lb_world.specs.declared.answer.Answer.TheVariants as answer
 use Rattle.lb_world.specs.Meanings.{Meaning}
 use Rattle.lb_world.specs.History.{History, grants, fails, destroys, bit}
 use Rattle.lb_world.specs.Views.{EntryView, WorldView, is_out_at, held_by, holders}
-use Rattle.lb_world.specs.Sound.{IsPlaceSound, IsSound}
-use Rattle.lb_world.specs.Stands.{SlotTells, Stands}
+use Rattle.lb_world.specs.Sound.{IsSound}
+use Rattle.lb_world.specs.Stands.{Stands}
 use Rattle.lb_world.proofs.Places.{found, get_push, get_kept, get_last}
 use Rattle.lb_world.proofs.Sums.{sum_none}
 use Rattle.lb_world.proofs.Permits.{held_else}
 use Rattle.lb_world.proofs.SlotFrames.{slot_frame, count_no}
-use Rattle.lb_world.proofs.Ever.{Tells, stands_next}
+use Rattle.lb_world.proofs.Ever.{stands_next}
 
 module _ {C : Type 0} where
   -- the world with one registry more
@@ -55,21 +52,21 @@ module _ {C : Type 0} where
         ids =
             λ g e z m r.
             elim (get_push w.gates e.gate (gate id false) z r) [
-              inl k ↦ let l : e.gate < length w.gates = sound.gates_in g e m in absurd (omega (arith, k.0))
-            | inr k ↦ sound.ids g e z m k.1
+              | inl k ↦ let l : e.gate < length w.gates = sound.gates_in g e m in absurd (omega (arith, k.0))
+              | inr k ↦ sound.ids g e z m k.1
             ];
         works_in = sound.works_in;
         places = sound.places;
         ledger =
             λ a l.
             elim (cases_eq a (length w.gates)) [
-              inl q ↦
-                rw (q, get_last)
-                (holders_none (length w.gates) w.groups (λ g e m k. let in_gates = sound.gates_in g e m in absurd (omega (arith, k))))
-            | inr n ↦
-                let old : a < length w.gates = omega (arith, length_push w.gates (gate id false)) in
-                let z = found w.gates a old in
-                sound.ledger a old ∙ ap (λ o. bit (is_out_at o)) (z.1 ∙ sym (get_kept w.gates a (gate id false) z.0 z.1))
+              | inl q ↦
+                  rw (q, get_last)
+                  (holders_none (length w.gates) w.groups (λ g e m k. let in_gates = sound.gates_in g e m in absurd (omega (arith, k))))
+              | inr n ↦
+                  let old : a < length w.gates = omega (arith, length_push w.gates (gate id false)) in
+                  let z = found w.gates a old in
+                  sound.ledger a old ∙ ap (λ o. bit (is_out_at o)) (z.1 ∙ sym (get_kept w.gates a (gate id false) z.0 z.1))
             ];
         entries_in = sound.entries_in;
       }
@@ -98,11 +95,13 @@ module _ {C : Type 0} (M : Meaning C) where
         entries_are = stands.entries_are;
         ledger =
             λ a.
-            omega
-            (arith, stands.ledger a,
+            omega (
+              arith,
+              stands.ledger a,
               count_no grants a h (step.registry key) (answer.Registry w.registries) refl,
               count_no fails a h (step.registry key) (answer.Registry w.registries) refl,
-              count_no destroys a h (step.registry key) (answer.Registry w.registries) refl);
+              count_no destroys a h (step.registry key) (answer.Registry w.registries) refl,
+            );
       })
       stands.extras_ever stands.order_ever
 
@@ -129,10 +128,12 @@ module _ {C : Type 0} (M : Meaning C) where
         entries_are = stands.entries_are;
         ledger =
             λ a.
-            omega
-            (arith, stands.ledger a,
+            omega (
+              arith,
+              stands.ledger a,
               count_no grants a h step.gate (answer.Gate (length w.gates)) refl,
               count_no fails a h step.gate (answer.Gate (length w.gates)) refl,
-              count_no destroys a h step.gate (answer.Gate (length w.gates)) refl);
+              count_no destroys a h step.gate (answer.Gate (length w.gates)) refl,
+            );
       })
       stands.extras_ever stands.order_ever

@@ -1,12 +1,11 @@
 -- The gates and the permits that groups hold, after one place was written.
-use Rattle.std.proofs.Common.{◌≡◌, ◌⊎◌, inl, inr, ℕ, ◌+◌, ◌<◌, ◌≤◌, Bool, true, false, List, length, refl, sym, ap, arith, ◌∙◌}
-use Rattle.std.specs.Prelude.{Option, Some, None, slice_get, slice_set, sum_by, ◌==◌, if◌then◌else◌}
-use Rattle.std.proofs.lemmas.Bool.{cases_eq, eq-eqb, ne_eqb}
+use Rattle.std.proofs.Common.{◌≡◌, inl, inr, ℕ, ◌+◌, ◌<◌, ◌≤◌, Bool, true, false, List, length, refl, sym, ap, arith, ◌∙◌}
+use Rattle.std.specs.Prelude.{Option, Some, None, slice_get, slice_set}
+use Rattle.std.proofs.lemmas.Bool.{eq-eqb, ne_eqb}
 use Rattle.std.proofs.lemmas.List.{length-set}
 use Rattle.lb_rebuild.specs.Gate.{GateView}
-use Rattle.lb_rebuild.specs.Views.{SlotView, GroupView}
 use Rattle.lb_world.specs.History.{bit}
-use Rattle.lb_world.specs.Views.{WorkView, PlaceView, EntryView, with_place, with_out, out_in, is_out_at, slot_holds, work_holds, held, held_by, holders}
+use Rattle.lb_world.specs.Views.{PlaceView, EntryView, with_place, with_out, out_in, is_out_at, slot_holds, work_holds, held, held_by, holders}
 use Rattle.lb_world.proofs.Places.{get_same, get_other, get_set, found}
 use Rattle.lb_world.proofs.Sums.{sum_set}
 

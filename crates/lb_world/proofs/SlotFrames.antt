@@ -1,13 +1,13 @@
 -- What is told of a slot stays told where its events, its group's making and its memberships stay; and the counts of a gate.
-use Rattle.std.proofs.Common.{◌≡◌, ℕ, ◌+◌, Bool, true, false, ◌&&◌, List, [], ◌∷◌, refl, ap, arith, ◌∙◌}
-use Rattle.std.specs.Prelude.{Option, Some, None, ◌==◌}
+use Rattle.std.proofs.Common.{◌≡◌, ℕ, ◌+◌, Bool, true, false, ◌&&◌, ◌∷◌, refl, ap, arith, ◌∙◌}
+use Rattle.std.specs.Prelude.{Some, None}
 use Rattle.std.proofs.lemmas.Bool.{false≢true, eq-eqb, ne_eqb}
 use Rattle.lb_rebuild.specs.Views.{Task}
 use Rattle.lb_world.specs.Steps.{StepView}
 use Rattle.lb_world.specs.declared.answer.Answer.{Answer}
 use Rattle.lb_world.specs.declared.answer.Answer.TheVariants as answer
 use Rattle.lb_world.specs.Meanings.{Meaning}
-use Rattle.lb_world.specs.History.{History, Made, names, group_in, made, config, config_in, generations, members, members_of, events, served, flight, ready, retired, is_on, bit, count_on, grants, fails, destroys}
+use Rattle.lb_world.specs.History.{History, Made, names, group_in, made, config, config_in, members, members_of, events, served, flight, ready, retired, is_on, bit, count_on, grants, fails, destroys}
 use Rattle.lb_world.specs.Answers.{HasDrawn, selection}
 use Rattle.lb_world.specs.Quiet.{is_quiet, is_inert, is_counted}
 use Rattle.lb_world.specs.Views.{PlaceView, task_of}
