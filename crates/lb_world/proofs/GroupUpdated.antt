@@ -23,11 +23,11 @@ use Rattle.lb_world.proofs.SlotFrames.{slot_frame, count_no}
 use Rattle.lb_world.proofs.Ever.{Tells, stands_next, flight_fits}
 
 -- a stage that fits still does when the newest generation rises
-later : (x : StageView) (served n : ℕ) → StageFits x served n → StageFits x served (n + 1)
-later free served n f = tt
-later (flying k) served n f = (f.0, omega arith)
-later (retired k r) served n f = (f.0, omega arith)
-later (taken_out k) served n f = f
+fits_later : (x : StageView) (served n : ℕ) → StageFits x served n → StageFits x served (n + 1)
+fits_later free served n f = tt
+fits_later (flying k) served n f = (f.0, omega arith)
+fits_later (retired k r) served n f = (f.0, omega arith)
+fits_later (taken_out k) served n f = f
 
 flight_in : (x : StageView) (served n : ℕ) → StageFits x served n → flight_number x ≤ n
 flight_in free served n f = omega arith
@@ -89,7 +89,7 @@ module _ {C : Type 0} where
       let waits : max x.serving.generation (flight_number x.stage) < core.newest + 1 = omega (arith, f.served_in) in
       record {
         served_in = omega (arith, f.served_in);
-        fits = later x.stage x.serving.generation core.newest f.fits;
+        fits = fits_later x.stage x.serving.generation core.newest f.fits;
         waits_as = rw (lt-ltb (max x.serving.generation (flight_number x.stage)) (core.newest + 1) waits);
         built_as = f.built_as;
         agrees = work_updated core ms s x k f.fits f.agrees;
