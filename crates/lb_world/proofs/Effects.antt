@@ -1,21 +1,20 @@
 -- What a step does at one slot, and that the world after it is sound and stands for the longer history.
 use Rattle.std.proofs.Common.{inl, inr, refl, sym, ap, ◌∙◌, arith}
 use Rattle.std.specs.Prelude.{◌≡◌, ◌⊎◌, ℕ, ◌+◌, ◌<◌, Bool, true, false, ◌&&◌, ◌==◌, List, ◌∷◌, length, Option, Some, None, slice_get, slice_set, count_by}
-use Rattle.std.proofs.lemmas.Bool.{cases_eq, eq-eqb, ne_eqb}
+use Rattle.std.proofs.lemmas.Bool.{cases_eq}
 use Rattle.std.proofs.lemmas.List.{length-set}
 use Rattle.std.proofs.lemmas.Option.{slice_get_within, same_Some, none-some}
-use Rattle.lb_rebuild.specs.Views.{SlotView, GroupView}
 use Rattle.lb_world.specs.Steps.{StepView}
 use Rattle.lb_world.specs.declared.answer.Answer.{Answer}
 use Rattle.lb_world.specs.Meanings.{Meaning}
-use Rattle.lb_world.specs.History.{History, Entered, names, group_in, made, config, config_in, generations, newest_of, members_of, events, entries, reads, bit, count_on, grants, fails, destroys}
+use Rattle.lb_world.specs.History.{History, Entered, names, group_in, made, config, config_in, newest_of, members_of, entries, reads, bit, count_on, grants, fails, destroys}
 use Rattle.lb_world.specs.Answers.{Answers, selection}
 use Rattle.lb_world.specs.Quiet.{is_quiet, is_inert, is_counted}
-use Rattle.lb_world.specs.Views.{WorkView, PlaceView, EntryView, WorldView, changed, is_out, is_out_at, with_out, held, holders, with_place}
+use Rattle.lb_world.specs.Views.{PlaceView, EntryView, WorldView, changed, is_out, is_out_at, with_out, held, holders, with_place}
 use Rattle.lb_world.specs.Sound.{IsPlaceSound, IsSound}
 use Rattle.lb_world.specs.Stands.{SlotTells, Stands}
-use Rattle.lb_world.proofs.Places.{get_same, get_other, get_set, none_set, found}
-use Rattle.lb_world.proofs.Permits.{bit_le, length_out, out_same, out_other, out_id, holders_own, holders_else}
+use Rattle.lb_world.proofs.Places.{get_set, none_set}
+use Rattle.lb_world.proofs.Permits.{length_out, out_same, out_other, out_id, holders_own, holders_else}
 use Rattle.lb_world.proofs.PlaceCases.{place_cases, bound_kept, other_slot, other_group}
 use Rattle.lb_world.proofs.SoundPlaces.{place_moved}
 use Rattle.lb_world.proofs.SlotFrames.{slot_off, slot_inert, grants_counted, fails_counted, destroys_counted, count_own, count_else, count_no}

@@ -1,12 +1,12 @@
 -- One extra at each gate, and generations in order, follow from what a sound world holds and what the history tells of it.
-use Rattle.std.proofs.Common.{◌≡◌, ◌⊎◌, inl, inr, ℕ, ◌+◌, ◌<◌, ◌≤◌, Bool, List, [], ◌∷◌, length, refl, sym, ap, arith, ◌∙◌}
-use Rattle.std.specs.Prelude.{Option, Some, None, slice_get}
+use Rattle.std.proofs.Common.{◌≡◌, ◌⊎◌, inl, inr, ℕ, ◌+◌, ◌<◌, ◌≤◌, [], ◌∷◌, length, sym, ap, arith, ◌∙◌}
+use Rattle.std.specs.Prelude.{Some, None, slice_get}
 use Rattle.std.proofs.lemmas.Option.{slice_get_within, slice_get_past, none-some}
-use Rattle.lb_rebuild.specs.Views.{StageView, free, flight as flying, retired, taken_out, SlotView, GroupView}
+use Rattle.lb_rebuild.specs.Views.{StageView, free, flight as flying, retired, taken_out, SlotView}
 use Rattle.lb_world.specs.Steps.{StepView}
 use Rattle.lb_world.specs.declared.answer.Answer.{Answer}
 use Rattle.lb_world.specs.Meanings.{Meaning}
-use Rattle.lb_world.specs.History.{History, Made, made, config, config_in, registries, gates, groups, generations, newest, members, events, served, flight, entries, bit, count_on, grants, fails, destroys}
+use Rattle.lb_world.specs.History.{History, Made, made, config, config_in, registries, gates, groups, generations, newest, members, events, flight, entries, count_on, grants, fails, destroys}
 use Rattle.lb_world.specs.Answers.{IsRun, HasDrawn}
 use Rattle.lb_world.specs.Views.{WorkView, EntryView, WorldView, is_out, flight_of, holders}
 use Rattle.lb_world.specs.Lawful.{Always, OneExtra, InOrder}
@@ -16,7 +16,7 @@ use Rattle.lb_world.proofs.Permits.{bit_le}
 use Rattle.lb_world.proofs.Places.{there, found, past}
 
 -- what is in flight is later than what is served, and not past the newest
-flight_fits : (x : StageView) (m n newest : ℕ) → flight_of x ≡ Some n → StageFits x m newest → (m < n) × (n ≤ newest)
+pub flight_fits : (x : StageView) (m n newest : ℕ) → flight_of x ≡ Some n → StageFits x m newest → (m < n) × (n ≤ newest)
 flight_fits free m n newest e f = absurd (none-some n e)
 flight_fits (flying k) m n newest e f = let same : k ≡ n = cc in (omega arith, omega arith)
 flight_fits (retired k r) m n newest e f = absurd (none-some n e)

@@ -1,13 +1,13 @@
 -- What an event leaves of a history's observables: one at another slot, one whose answer makes nothing new, one whose answer
 -- changes nothing.
-use Rattle.std.proofs.Common.{◌≡◌, ℕ, ◌+◌, Bool, true, false, ◌&&◌, List, [], ◌∷◌, refl}
-use Rattle.std.specs.Prelude.{Option, Some, None, if◌then◌else◌, MatchBool, MatchOption}
+use Rattle.std.proofs.Common.{◌≡◌, ℕ, Bool, true, false, ◌∷◌, refl}
+use Rattle.std.specs.Prelude.{None, if◌then◌else◌, MatchBool}
 use Rattle.std.proofs.lemmas.Bool.{false≢true}
 use Rattle.lb_world.specs.Steps.{StepView}
 use Rattle.lb_world.specs.declared.answer.Answer.{Answer}
 use Rattle.lb_world.specs.declared.answer.Answer.TheVariants as answer
 use Rattle.lb_world.specs.Meanings.{Meaning}
-use Rattle.lb_world.specs.History.{History, registries, gates, groups, made, generations, events, event_of, entries, names, bit, grants, fails, destroys}
+use Rattle.lb_world.specs.History.{History, registries, gates, groups, made, generations, events, event_of, entries, names, grants, fails, destroys}
 use Rattle.lb_world.specs.Answers.{HasDrawn, Moved, selection}
 use Rattle.lb_world.specs.Quiet.{is_quiet, is_inert}
 

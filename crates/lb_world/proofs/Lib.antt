@@ -1,7 +1,12 @@
+pub mod EmptyWorld
 pub mod Ever
 pub mod Effects
 pub mod EntrySteps
 pub mod Frames
+pub mod GroupMade
+pub mod GroupUpdated
+pub mod MadeAnswers
+pub mod Makers
 pub mod PlaceCases
 pub mod Places
 pub mod Permits

@@ -1,12 +1,11 @@
 -- The gates and the permits that groups hold, after one place was written.
-use Rattle.std.proofs.Common.{◌≡◌, ◌⊎◌, inl, inr, ℕ, ◌+◌, ◌<◌, ◌≤◌, Bool, true, false, List, length, refl, sym, ap, arith, ◌∙◌}
-use Rattle.std.specs.Prelude.{Option, Some, None, slice_get, slice_set, sum_by, ◌==◌, if◌then◌else◌}
-use Rattle.std.proofs.lemmas.Bool.{cases_eq, eq-eqb, ne_eqb}
+use Rattle.std.proofs.Common.{◌≡◌, inl, inr, ℕ, ◌+◌, ◌<◌, ◌≤◌, Bool, true, false, List, length, refl, sym, ap, arith, ◌∙◌}
+use Rattle.std.specs.Prelude.{Option, Some, None, slice_get, slice_set}
+use Rattle.std.proofs.lemmas.Bool.{eq-eqb, ne_eqb}
 use Rattle.std.proofs.lemmas.List.{length-set}
 use Rattle.lb_rebuild.specs.Gate.{GateView}
-use Rattle.lb_rebuild.specs.Views.{SlotView, GroupView}
 use Rattle.lb_world.specs.History.{bit}
-use Rattle.lb_world.specs.Views.{WorkView, PlaceView, EntryView, with_place, with_out, out_in, is_out_at, slot_holds, work_holds, held, held_by, holders}
+use Rattle.lb_world.specs.Views.{PlaceView, EntryView, with_place, with_out, out_in, is_out_at, slot_holds, work_holds, held, held_by, holders}
 use Rattle.lb_world.proofs.Places.{get_same, get_other, get_set, found}
 use Rattle.lb_world.proofs.Sums.{sum_set}
 
@@ -60,7 +59,7 @@ module _ {C : Type 0} where
       (omega (arith, sum_set slot_holds e.core.slots s was.slot now.slot x, sum_set work_holds e.works s was.work now.work k))
 
   -- it holds none of another gate
-  held_else : (a : ℕ) (e : EntryView C) → (e.gate ≡ a → ⊥) → held_by a e ≡ 0
+  pub held_else : (a : ℕ) (e : EntryView C) → (e.gate ≡ a → ⊥) → held_by a e ≡ 0
   held_else a e n = rw (ne_eqb e.gate a n)
 
   -- the permits of the gate, after a place of a group on it was written

@@ -1,9 +1,9 @@
 -- Elements of a list after one of them was written, and after one was added at the end.
-use Rattle.std.proofs.Common.{◌≡◌, ◌≢◌, ◌⊎◌, inl, inr, ℕ, zero, suc, ◌+◌, ◌<◌, ◌≤◌, List, [], ◌∷◌, ◌++◌, length, refl, sym, ap, arith, ◌∙◌}
-use Rattle.std.specs.Prelude.{Option, Some, None, slice_get, slice_set}
+use Rattle.std.proofs.Common.{◌≡◌, ◌⊎◌, inl, inr, ℕ, zero, suc, ◌<◌, ◌≤◌, List, [], ◌∷◌, ◌++◌, map, replicate, length, refl, sym, ap, arith, ◌∙◌}
+use Rattle.std.specs.Prelude.{Some, None, slice_get, slice_set}
 use Rattle.std.proofs.lemmas.Bool.{cases_eq}
 use Rattle.std.proofs.lemmas.List.{length-set}
-use Rattle.std.proofs.lemmas.Option.{slice_get_within, slice_get_past, same_Some, none-some}
+use Rattle.std.proofs.lemmas.Option.{slice_get_past, same_Some, none-some}
 
 module _ {X : Type 0} where
   -- what was written is there
@@ -76,3 +76,21 @@ module _ {X : Type 0} where
   none_push [] j y h = refl
   none_push (a ∷ xs) zero y h = absurd (none-some a (sym h))
   none_push (a ∷ xs) (suc j) y h = none_push xs j y h
+
+  -- the one that was added is there
+  pub get_last : (xs : List X) (y : X) → slice_get (xs ++ y ∷ []) (length xs) ≡ Some y
+  get_last [] y = refl
+  get_last (a ∷ xs) y = get_last xs y
+
+-- an element of a list that was made element by element
+pub get_map :
+    {X Y : Type 0} (f : X → Y) (xs : List X) (i : ℕ) (y : Y) → slice_get (map f xs) i ≡ Some y → (x : X) × (slice_get xs i ≡ Some x) × (y ≡ f x)
+get_map f [] i y h = absurd (none-some y h)
+get_map f (x ∷ xs) zero y h = (x, refl, sym (same_Some (f x) y h))
+get_map f (x ∷ xs) (suc i) y h = get_map f xs i y h
+
+-- one of a list of equal elements
+pub get_replicate : {X : Type 0} (n : ℕ) (x : X) (i : ℕ) (y : X) → slice_get (replicate n x) i ≡ Some y → y ≡ x
+get_replicate zero x i y h = absurd (none-some y h)
+get_replicate (suc n) x zero y h = sym (same_Some x y h)
+get_replicate (suc n) x (suc i) y h = get_replicate n x i y h

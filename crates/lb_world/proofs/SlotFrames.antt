@@ -1,13 +1,13 @@
 -- What is told of a slot stays told where its events, its group's making and its memberships stay; and the counts of a gate.
-use Rattle.std.proofs.Common.{◌≡◌, ℕ, ◌+◌, Bool, true, false, ◌&&◌, List, [], ◌∷◌, refl, ap, arith, ◌∙◌}
-use Rattle.std.specs.Prelude.{Option, Some, None, ◌==◌}
+use Rattle.std.proofs.Common.{◌≡◌, ℕ, ◌+◌, Bool, true, false, ◌&&◌, ◌∷◌, refl, ap, arith, ◌∙◌}
+use Rattle.std.specs.Prelude.{Some, None}
 use Rattle.std.proofs.lemmas.Bool.{false≢true, eq-eqb, ne_eqb}
 use Rattle.lb_rebuild.specs.Views.{Task}
 use Rattle.lb_world.specs.Steps.{StepView}
 use Rattle.lb_world.specs.declared.answer.Answer.{Answer}
 use Rattle.lb_world.specs.declared.answer.Answer.TheVariants as answer
 use Rattle.lb_world.specs.Meanings.{Meaning}
-use Rattle.lb_world.specs.History.{History, Made, names, group_in, made, config, config_in, generations, members, members_of, events, served, flight, ready, retired, is_on, bit, count_on, grants, fails, destroys}
+use Rattle.lb_world.specs.History.{History, Made, names, group_in, made, config, config_in, members, members_of, events, served, flight, ready, retired, is_on, bit, count_on, grants, fails, destroys}
 use Rattle.lb_world.specs.Answers.{HasDrawn, selection}
 use Rattle.lb_world.specs.Quiet.{is_quiet, is_inert, is_counted}
 use Rattle.lb_world.specs.Views.{PlaceView, task_of}
@@ -74,30 +74,30 @@ destroys_counted answer.Destroyed e = refl
 destroys_counted a e = absurd (false≢true e)
 
 module _ {C : Type 0} where
-  own :
+  bit_on :
       (t : Bool) (a : ℕ) (h : History C) (st : StepView C) (g : ℕ) (m : Made C)
       → (t ≡ true → group_in st ≡ g) → made g h ≡ Some m → m.gate ≡ a → bit (t && is_on a (made (group_in st) h)) ≡ bit t
-  own true a h st g m at_group at_made on_gate = rw (at_group refl, at_made, eq-eqb m.gate a on_gate)
-  own false a h st g m at_group at_made on_gate = refl
+  bit_on true a h st g m at_group at_made on_gate = rw (at_group refl, at_made, eq-eqb m.gate a on_gate)
+  bit_on false a h st g m at_group at_made on_gate = refl
 
   -- an answer to a step of a group on the gate counts
   pub count_own :
       (p : Answer → Bool) (a : ℕ) (h : History C) (st : StepView C) (b : Answer) (g : ℕ) (m : Made C)
       → (p b ≡ true → group_in st ≡ g) → made g h ≡ Some m → m.gate ≡ a → count_on p a ((st, b) ∷ h) ≡ bit (p b) + count_on p a h
-  count_own p a h st b g m at_group at_made on_gate = ap (λ n. n + count_on p a h) (own (p b) a h st g m at_group at_made on_gate)
+  count_own p a h st b g m at_group at_made on_gate = ap (λ n. n + count_on p a h) (bit_on (p b) a h st g m at_group at_made on_gate)
 
-  else :
+  bit_off :
       (t : Bool) (a : ℕ) (h : History C) (st : StepView C) (g : ℕ) (m : Made C)
       → (t ≡ true → group_in st ≡ g) → made g h ≡ Some m → (m.gate ≡ a → ⊥) → bit (t && is_on a (made (group_in st) h)) ≡ 0
-  else true a h st g m at_group at_made off_gate = rw (at_group refl, at_made, ne_eqb m.gate a off_gate)
-  else false a h st g m at_group at_made off_gate = refl
+  bit_off true a h st g m at_group at_made off_gate = rw (at_group refl, at_made, ne_eqb m.gate a off_gate)
+  bit_off false a h st g m at_group at_made off_gate = refl
 
   -- one to a step of a group on another gate doesn't
   pub count_else :
       (p : Answer → Bool) (a : ℕ) (h : History C) (st : StepView C) (b : Answer) (g : ℕ) (m : Made C)
       → (p b ≡ true → group_in st ≡ g) → made g h ≡ Some m → (m.gate ≡ a → ⊥) → count_on p a ((st, b) ∷ h) ≡ count_on p a h
   count_else p a h st b g m at_group at_made off_gate =
-      let z : bit (p b && is_on a (made (group_in st) h)) ≡ 0 = else (p b) a h st g m at_group at_made off_gate in omega arith
+      let z : bit (p b && is_on a (made (group_in st) h)) ≡ 0 = bit_off (p b) a h st g m at_group at_made off_gate in omega arith
 
   -- nor does an answer that isn't counted
   pub count_no :

@@ -1,6 +1,6 @@
 -- A place stays sound while its group's gate, newest generation and members and its readers stay.
-use Rattle.std.proofs.Common.{◌≡◌, ℕ, List, refl, ◌∙◌}
-use Rattle.std.specs.Prelude.{Option, Some, None, count_by}
+use Rattle.std.proofs.Common.{◌≡◌, ℕ, List, ◌∙◌}
+use Rattle.std.specs.Prelude.{Option, count_by}
 use Rattle.lb_rebuild.specs.Views.{Task, SlotView, GroupView}
 use Rattle.lb_world.specs.History.{Entered, reads}
 use Rattle.lb_world.specs.Views.{WorkView, nothing, building, ready, PlaceView}
