@@ -1,1 +1,3 @@
 pub mod Effects
+pub mod KindFacts
+pub mod KindAsk

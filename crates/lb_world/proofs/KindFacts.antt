@@ -1,0 +1,68 @@
+-- Facts that every kind of step at a slot needs: what the place's permit says of the gate, and what the history tells of it.
+use Rattle.std.proofs.Common.{◌≡◌, ◌<◌, ◌≤◌, ℕ, ◌+◌, Bool, true, false, ◌&&◌, ◌==◌, List, Option, Some, None, slice_get, sum_by, length, MatchBool, refl, sym, ap, ◌∙◌, arith}
+use Rattle.std.proofs.lemmas.Bool.{eq-eqb, and_from}
+use Rattle.std.proofs.lemmas.List.Sums.{get_or-le-sum_by}
+use Rattle.std.proofs.lemmas.Option.{slice_get_within, get_or_from_slice_get, none-some}
+use Rattle.lb_rebuild.specs.Views.{SlotView, GroupView}
+use Rattle.lb_world.specs.Meanings.{Meaning}
+use Rattle.lb_world.specs.History.{History, made, bit, extras}
+use Rattle.lb_world.specs.Answers.{gate_number}
+use Rattle.lb_world.specs.Views.{WorkView, nothing, building, ready, PlaceView, EntryView, WorldView, is_out, slot_holds, work_holds, held, held_by, flight_of}
+use Rattle.lb_world.specs.Sound.{WorkFits, IsPlaceSound, IsSound}
+use Rattle.lb_world.specs.Stands.{SlotTells, Stands}
+use Rattle.lb_world.proofs.Effects.{IsPlaced}
+
+-- a slot is itself
+pub here : (g s : ℕ) → (g == g && s == s) ≡ true
+here g s = and_from _ _ (eq-eqb g g refl) (eq-eqb s s refl)
+
+pub either_way : {P : Type 0} (b : Bool) → P → MatchBool b P P
+either_way true p = p
+either_way false p = p
+
+pub element_le_sum : {X : Type 0} (f : X → ℕ) (xs : List X) (i : ℕ) (x : X) → slice_get xs i ≡ Some x → f x ≤ sum_by f xs
+element_le_sum f xs i x e = rw (get_or_from_slice_get xs i x x e) at (get_or-le-sum_by f xs i x (slice_get_within xs i x e))
+
+-- where nothing is in flight, nothing is held for the slot
+pub nothing_held : {C : Type 0} (core : GroupView C) (s : ℕ) (x : SlotView C) (k : WorkView C)
+    → WorkFits core s x k → flight_of x.stage ≡ None → k ≡ nothing
+nothing_held core s x nothing fits none = refl
+nothing_held core s x (building t) fits none = absurd (none-some _ (sym none ∙ fits.flies))
+nothing_held core s x (ready t) fits none = absurd (none-some _ (sym none ∙ fits.flies))
+
+module _ {C : Type 0} where
+  -- a place of the world is sound
+  pub place_sound : (w : WorldView C) (g s : ℕ) (e : EntryView C) (p : PlaceView C)
+      → IsSound w → IsPlaced w g s e p → IsPlaceSound w.readers g s e.core p
+  place_sound w g s e p sound placed = sound.places g e s p.slot p.work placed.group_at placed.slot_at placed.work_at
+
+  -- a permit that a place holds is out
+  pub held_le_out : (w : WorldView C) (g s : ℕ) (e : EntryView C) (p : PlaceView C)
+      → IsSound w → IsPlaced w g s e p → held p ≤ bit (is_out w e.gate)
+  held_le_out w g s e p sound placed =
+      let a = element_le_sum slot_holds e.core.slots s p.slot placed.slot_at in
+      let b = element_le_sum work_holds e.works s p.work placed.work_at in
+      let all = element_le_sum (held_by e.gate) w.groups g e placed.group_at in
+      let mine = rw (eq-eqb e.gate e.gate refl) at all in
+      let out = sound.ledger e.gate (sound.gates_in g e placed.group_at) in
+      omega arith
+
+module _ {C : Type 0} (M : Meaning C) where
+  -- what the history tells of a place
+  pub place_told : (w : WorldView C) (h : History C) (g s : ℕ) (e : EntryView C) (p : PlaceView C)
+      → Stands M w h → IsPlaced w g s e p → SlotTells M h g s p
+  place_told w h g s e p stands placed = stands.slots_tell g e s p.slot p.work placed.group_at placed.slot_at placed.work_at
+
+  -- the extras of a gate are its permit that is out
+  pub extras_are : (w : WorldView C) (h : History C) (a : ℕ)
+      → IsSound w → Stands M w h → a < length w.gates → extras a h ≡ bit (is_out w a)
+  extras_are w h a sound stands within =
+      let told = stands.ledger a in
+      let out = sound.ledger a within in
+      omega arith
+
+  pub extras_at : (w : WorldView C) (h : History C) (g : ℕ) (e : EntryView C)
+      → IsSound w → Stands M w h → slice_get w.groups g ≡ Some e → extras (gate_number (made g h)) h ≡ bit (is_out w e.gate)
+  extras_at w h g e sound stands at_group =
+      let m = stands.made_is g e at_group in
+      rw (ap gate_number m.1 ∙ m.2) (extras_are w h e.gate sound stands (sound.gates_in g e at_group))
