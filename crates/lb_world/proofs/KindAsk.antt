@@ -1,6 +1,6 @@
 -- A build that is granted to a slot.
 use Rattle.std.proofs.Common.{◌≡◌, ◌<◌, ◌≤◌, inl, ℕ, List, ◌∷◌, Bool, true, false, cond, Option, Some, None, max, nat_lt, refl, sym, ap, ◌∙◌, subst, arith}
-use Rattle.std.proofs.lemmas.Bool.{lt-ltb, le-ltb, ltb-true}
+use Rattle.std.proofs.lemmas.Bool.{lt-ltb, ltb-true}
 use Rattle.std.proofs.lemmas.Option.{cond_some, same_Some, none-some}
 use Rattle.lb_rebuild.specs.Views.{StageView, free, flight, OrderView, Task, SlotView, GroupView, flight_number, waits, due_order}
 use Rattle.lb_world.specs.Steps as step
@@ -12,7 +12,7 @@ use Rattle.lb_world.specs.Views.{WorkView, nothing, building, ready, PlaceView, 
 use Rattle.lb_world.specs.Sound.{TaskFits, IsPlaceSound, IsSound}
 use Rattle.lb_world.specs.Stands.{SlotTells, Stands}
 use Rattle.lb_world.proofs.Effects.{IsPlaced, Effect}
-use Rattle.lb_world.proofs.KindFacts.{here, either_way, nothing_held, place_sound, place_told, extras_at}
+use Rattle.lb_world.proofs.KindFacts.{here, either_way, nothing_held, none_due, place_sound, place_told, extras_at}
 
 -- an order that is due is of the newest membership, which is neither served nor in flight
 pub record IsDueOrder {C : Type 0} (v : GroupView C) (x : SlotView C) (o : OrderView C) : Type 0 where
@@ -33,10 +33,6 @@ due_is {C} v x o e =
       members_is = ap (λ (y : OrderView C). y.members) (sym both.1);
       config_is = ap (λ (y : OrderView C). y.config) (sym both.1);
     }
-
--- a slot without an order that waits, where the newest generation is in flight
-pub none_due : {C : Type 0} (v : GroupView C) (x : SlotView C) → v.newest ≤ flight_number x.stage → due_order v x ≡ None
-none_due v x past = rw (le-ltb (max x.serving.generation (flight_number x.stage)) v.newest (omega arith))
 
 module _ {C : Type 0} where
   -- the order as a task of this slot

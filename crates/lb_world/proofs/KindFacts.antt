@@ -1,9 +1,9 @@
 -- Facts that every kind of step at a slot needs: what the place's permit says of the gate, and what the history tells of it.
-use Rattle.std.proofs.Common.{◌≡◌, ◌<◌, ◌≤◌, ℕ, ◌+◌, Bool, true, false, ◌&&◌, ◌==◌, List, Option, Some, None, slice_get, sum_by, length, MatchBool, refl, sym, ap, ◌∙◌, arith}
-use Rattle.std.proofs.lemmas.Bool.{eq-eqb, and_from}
+use Rattle.std.proofs.Common.{◌≡◌, ◌<◌, ◌≤◌, ℕ, ◌+◌, Bool, true, false, ◌&&◌, ◌==◌, List, Option, Some, None, slice_get, sum_by, length, MatchBool, max, refl, sym, ap, ◌∙◌, arith}
+use Rattle.std.proofs.lemmas.Bool.{eq-eqb, lt-ltb, le-ltb, and_from}
 use Rattle.std.proofs.lemmas.List.Sums.{get_or-le-sum_by}
-use Rattle.std.proofs.lemmas.Option.{slice_get_within, get_or_from_slice_get, none-some}
-use Rattle.lb_rebuild.specs.Views.{SlotView, GroupView}
+use Rattle.std.proofs.lemmas.Option.{slice_get_within, get_or_from_slice_get, none-some, same_Some}
+use Rattle.lb_rebuild.specs.Views.{StageView, free, flight, retired, taken_out, SlotView, GroupView, flight_number, due_order}
 use Rattle.lb_world.specs.Meanings.{Meaning}
 use Rattle.lb_world.specs.History.{History, made, bit, extras}
 use Rattle.lb_world.specs.Answers.{gate_number}
@@ -20,6 +20,10 @@ pub either_way : {P : Type 0} (b : Bool) → P → MatchBool b P P
 either_way true p = p
 either_way false p = p
 
+pub bit_le : (b : Bool) → bit b ≤ 1
+bit_le true = omega arith
+bit_le false = omega arith
+
 pub element_le_sum : {X : Type 0} (f : X → ℕ) (xs : List X) (i : ℕ) (x : X) → slice_get xs i ≡ Some x → f x ≤ sum_by f xs
 element_le_sum f xs i x e = rw (get_or_from_slice_get xs i x x e) at (get_or-le-sum_by f xs i x (slice_get_within xs i x e))
 
@@ -29,6 +33,28 @@ pub nothing_held : {C : Type 0} (core : GroupView C) (s : ℕ) (x : SlotView C) 
 nothing_held core s x nothing fits none = refl
 nothing_held core s x (building t) fits none = absurd (none-some _ (sym none ∙ fits.flies))
 nothing_held core s x (ready t) fits none = absurd (none-some _ (sym none ∙ fits.flies))
+
+-- the stage of a build in flight
+pub flying : (stage : StageView) (n : ℕ) → flight_of stage ≡ Some n → stage ≡ flight n
+flying free n e = absurd (none-some _ e)
+flying (flight m) n e = ap flight (same_Some _ _ e)
+flying (retired m readers) n e = absurd (none-some _ e)
+flying (taken_out m) n e = absurd (none-some _ e)
+
+-- the order that is due goes by the latest generation that is served or in flight, and by the configuration
+pub same_due : {C : Type 0} (v : GroupView C) (x y : SlotView C)
+    → max x.serving.generation (flight_number x.stage) ≡ max y.serving.generation (flight_number y.stage) → x.config ≡ y.config
+    → due_order v x ≡ due_order v y
+same_due v x y late config = rw (late, config)
+
+-- none is due where the newest generation is in flight
+pub none_due : {C : Type 0} (v : GroupView C) (x : SlotView C) → v.newest ≤ flight_number x.stage → due_order v x ≡ None
+none_due v x past = rw (le-ltb (max x.serving.generation (flight_number x.stage)) v.newest (omega arith))
+
+-- one of the newest membership is due where that is neither served nor in flight
+pub one_due : {C : Type 0} (v : GroupView C) (x : SlotView C) → x.serving.generation < v.newest → flight_number x.stage < v.newest
+    → due_order v x ≡ Some (record { generation = v.newest; members = v.current; config = x.config })
+one_due v x unserved unflown = rw (lt-ltb (max x.serving.generation (flight_number x.stage)) v.newest (omega arith))
 
 module _ {C : Type 0} where
   -- a place of the world is sound

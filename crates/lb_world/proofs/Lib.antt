@@ -1,3 +1,5 @@
 pub mod Effects
 pub mod KindFacts
 pub mod KindAsk
+pub mod KindPublish
+pub mod KindBuild
