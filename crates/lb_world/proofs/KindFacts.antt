@@ -34,6 +34,15 @@ nothing_held core s x nothing fits none = refl
 nothing_held core s x (building t) fits none = absurd (none-some _ (sym none ∙ fits.flies))
 nothing_held core s x (ready t) fits none = absurd (none-some _ (sym none ∙ fits.flies))
 
+-- what is held for a slot fits it as long as its flight and its configuration stay
+pub work_fits_as : {C : Type 0} (core : GroupView C) (s : ℕ) (x y : SlotView C) (k : WorkView C)
+    → flight_of y.stage ≡ flight_of x.stage → y.config ≡ x.config → WorkFits core s x k → WorkFits core s y k
+work_fits_as core s x y nothing flies config fits = flies ∙ fits
+work_fits_as core s x y (building t) flies config fits =
+    record { flies = flies ∙ fits.flies; slot_is = fits.slot_is; permit_is = fits.permit_is; config_is = fits.config_is ∙ sym config; current_is = fits.current_is }
+work_fits_as core s x y (ready t) flies config fits =
+    record { flies = flies ∙ fits.flies; slot_is = fits.slot_is; permit_is = fits.permit_is; config_is = fits.config_is ∙ sym config; current_is = fits.current_is }
+
 -- the stage of a build in flight
 pub flying : (stage : StageView) (n : ℕ) → flight_of stage ≡ Some n → stage ≡ flight n
 flying free n e = absurd (none-some _ e)

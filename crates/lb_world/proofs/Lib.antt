@@ -3,3 +3,6 @@ pub mod KindFacts
 pub mod KindAsk
 pub mod KindPublish
 pub mod KindBuild
+pub mod KindLists
+pub mod KindEnter
+pub mod KindLeave
