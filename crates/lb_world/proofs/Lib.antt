@@ -6,3 +6,5 @@ pub mod KindBuild
 pub mod KindLists
 pub mod KindEnter
 pub mod KindLeave
+pub mod KindDestroy
+pub mod KindSelect
