@@ -131,3 +131,16 @@ module _ {C : Type 0} (M : Meaning C) where
             (λ a. bit (fails a) + bit (destroys a) + held (record { slot = drawn_slot x u; work = k }) ≡ held (record { slot = x; work = k }) + bit (grants a))
             r (omega arith) (λ b. omega arith) (λ e. omega arith);
       }
+
+  -- likewise, with the answer and with what was asked for as they stand
+  pub selection_answered :
+      (w : WorldView C) (h : History C) (g s u : ℕ) (e : EntryView C) (x : SlotView C) (k : WorkView C)
+      (key : List ℕ) (limit : ℕ) (words : List ℕ) (a : Answer)
+      → IsSound w → Stands M w h → IsPlaced w g s e (record { slot = x; work = k })
+      → Selected M x.serving.members x.config (record { key = key; limit = limit; words = words }) x.serving.tickets a u
+      → Effect M w h g s e (record { slot = x; work = k }) (record { slot = drawn_slot x u; work = k }) (is_out w e.gate) w.readers
+      (step.select g s key limit words) a
+  selection_answered w h g s u e x k key limit words a sound stands placed selected =
+      let sel : Selection = record { key = key; limit = limit; words = words } in
+      rw selected.1
+      (selection_made w h g s u e x k sel selected.0 sound stands placed (selected.0, refl, selected.2))

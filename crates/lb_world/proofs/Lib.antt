@@ -8,3 +8,4 @@ pub mod KindEnter
 pub mod KindLeave
 pub mod KindDestroy
 pub mod KindSelect
+pub mod KindInert
