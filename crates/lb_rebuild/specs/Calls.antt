@@ -1,10 +1,8 @@
 -- What the calls on a slot and on a group do: relations by cases on the answer, between what contracts see before and after.
-use Rattle.std.specs.Prelude.{◌≡◌, ◌≢◌, ◌<◌, ◌+◌, ◌-◌, ◌^◌, ◌==◌, ◌&&◌, ◌⊎◌, ℕ, Bool, true, false, not, List, [], slice_get, Option, Some, None, Result, Ok, Err, IsSome, MatchOption, if◌then◌else◌}
-use Rattle.std.specs.Option.{IsSomeAnd}
-use Rattle.lb_select.specs.Refusals.{Refuses}
+use Rattle.std.specs.Prelude.{◌≡◌, ◌<◌, ◌+◌, ◌-◌, ◌==◌, ◌&&◌, ◌⊎◌, ℕ, Bool, true, false, not, slice_get, Option, Some, None, Result, Ok, Err, IsSome, MatchOption, if◌then◌else◌}
 use Rattle.lb_select.specs.declared.refusal.Refusal.{Refusal}
 use Rattle.lb_select.specs.declared.refusal.Refusal.TheVariants as refusal
-use Rattle.lb_rebuild.specs.Gate.{GateId, GateView, gate}
+use Rattle.lb_rebuild.specs.Gate.{GateView, gate}
 use Rattle.lb_rebuild.specs.Views.{StageView, free, flight, retired, taken_out, OrderView, Task, ServingView, RetiredView, ReaderView, SlotView, GroupView, with_slot, is_flying}
 use Rattle.lb_rebuild.specs.declared.slot.Ask.{Ask}
 use Rattle.lb_rebuild.specs.declared.slot.Ask.TheVariants.{Building, Nothing, Busy, Job}
@@ -76,3 +74,78 @@ failed_slot newest j x =
 abbrev pub FailedIn : {C : Type 0} → GroupView C → Task C → GroupView C → Type 0
 FailedIn v j w =
     MatchOption (slice_get v.slots j.slot) (w ≡ v) (λ x. w ≡ with_slot v j.slot (failed_slot v.newest j x))
+
+-- what a reader that enters a slot gets
+abbrev pub reader_of : {C : Type 0} → ℕ → SlotView C → ReaderView C
+reader_of slot x = record { slot = slot; generation = x.serving.generation; members = x.serving.members; config = x.serving.config }
+
+-- why nobody can enter, memory apart: there is no such slot, or its readers are at the greatest number
+abbrev pub enter_refusal : {C : Type 0} → Option (SlotView C) → Option Refusal
+enter_refusal None = Some refusal.NoSuch
+enter_refusal (Some x) = if x.readers == 18446744073709551615 then Some refusal.NumbersExhausted else None
+
+-- the slot with one reader more
+abbrev pub entered_slot : {C : Type 0} → SlotView C → SlotView C
+entered_slot x = record x { readers = x.readers + 1 }
+
+abbrev pub EnteredIn : {C : Type 0} → GroupView C → ℕ → Result (ReaderView C) Refusal → GroupView C → Type 0
+EnteredIn v slot (Ok r) w =
+    (x : _) × (slice_get v.slots slot ≡ Some x) × (x.readers < 18446744073709551615) × (r ≡ reader_of slot x)
+    × (w ≡ with_slot v slot (entered_slot x))
+EnteredIn v slot (Err e) w =
+    ((enter_refusal (slice_get v.slots slot) ≡ Some e) ⊎ ((enter_refusal (slice_get v.slots slot) ≡ None) × (e ≡ refusal.OutOfMemory)))
+    × (w ≡ v)
+
+-- the readers of that generation that are left in a retired selector
+abbrev pub retired_readers : ℕ → StageView → ℕ
+retired_readers n free = 0
+retired_readers n (flight m) = 0
+retired_readers n (retired m readers) = if m == n then readers else 0
+retired_readers n (taken_out m) = 0
+
+-- how many readers of that generation are in the slot
+abbrev pub readers_at : {C : Type 0} → SlotView C → ℕ → ℕ
+readers_at x n = if x.serving.generation == n then x.readers else retired_readers n x.stage
+
+-- one reader of that generation less
+abbrev pub left_stage : ℕ → StageView → StageView
+left_stage n free = free
+left_stage n (flight m) = flight m
+left_stage n (retired m readers) = if m == n then retired m (readers - 1) else retired m readers
+left_stage n (taken_out m) = taken_out m
+
+abbrev pub left_slot : {C : Type 0} → ℕ → SlotView C → SlotView C
+left_slot n x =
+    if x.serving.generation == n
+    then record x { readers = x.readers - 1 }
+    else record x { stage = left_stage n x.stage }
+
+-- why no retired selector can be taken out: none is there, or readers are left in it
+abbrev pub StageRefuses : StageView → Refusal → Type 0
+StageRefuses free e = e ≡ refusal.NothingRetired
+StageRefuses (flight n) e = e ≡ refusal.NothingRetired
+StageRefuses (retired n readers) e = (0 < readers) × (e ≡ refusal.StillRead readers)
+StageRefuses (taken_out n) e = e ≡ refusal.NothingRetired
+
+-- a selector that no reader is left in goes out of the slot
+abbrev pub TakenAt : {C : Type 0} → ℕ → SlotView C → Result RetiredView Refusal → SlotView C → Type 0
+TakenAt slot x (Ok r) y =
+    (x.stage ≡ retired r.generation 0) × (r.readers ≡ 0) × (r.slot ≡ slot) × (y ≡ record x { stage = taken_out r.generation })
+TakenAt slot x (Err e) y = StageRefuses x.stage e × (y ≡ x)
+
+abbrev pub TakenIn : {C : Type 0} → GroupView C → ℕ → Result RetiredView Refusal → GroupView C → Type 0
+TakenIn v slot (Ok r) w =
+    (x : _) × (y : _) × (slice_get v.slots slot ≡ Some x) × TakenAt slot x (Ok r) y × (r.permit ≡ v.gate) × (w ≡ with_slot v slot y)
+TakenIn v slot (Err e) w =
+    MatchOption (slice_get v.slots slot) (e ≡ refusal.NoSuch) (λ x. StageRefuses x.stage e) × (w ≡ v)
+
+-- a report of a destruction ends what was taken out, and nothing else
+abbrev pub reported_stage : StageView → StageView
+reported_stage free = free
+reported_stage (flight n) = flight n
+reported_stage (retired n readers) = retired n readers
+reported_stage (taken_out n) = free
+
+abbrev pub DestroyedIn : {C : Type 0} → GroupView C → ℕ → GroupView C → Type 0
+DestroyedIn v slot w =
+    MatchOption (slice_get v.slots slot) (w ≡ v) (λ x. w ≡ with_slot v slot (record x { stage = reported_stage x.stage }))

@@ -1,5 +1,5 @@
 -- What the type of a group keeps of each of its slots.
-use Rattle.std.specs.Prelude.{◌≡◌, ◌<◌, ◌≤◌, ℕ, List, All, Option, Some, None, IfSome}
+use Rattle.std.specs.Prelude.{◌≡◌, ◌<◌, ◌≤◌, ℕ, List, All, IfSome}
 use Rattle.std.specs.Arc.{arc_value}
 use Rattle.lb_rebuild.specs.Gate.{GateId}
 use Rattle.lb_rebuild.specs.Views.{StageView, OrderView, SlotView, free, flight, retired, taken_out, flight_number}

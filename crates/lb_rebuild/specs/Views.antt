@@ -1,5 +1,5 @@
 -- What contracts see of a group, of its slots, and of the values that go through other hands.
-use Rattle.std.specs.Prelude.{◌≡◌, ◌<◌, ℕ, Bool, true, false, max, nat_lt, List, [], map, slice_get, slice_set, Option, Some, None, if◌then◌else◌}
+use Rattle.std.specs.Prelude.{ℕ, Bool, true, false, max, nat_lt, List, map, slice_set, Option, Some, None, if◌then◌else◌}
 use Rattle.lb_select.specs.Backends.{Member}
 use Rattle.lb_rebuild.specs.Gate.{GateId}
 

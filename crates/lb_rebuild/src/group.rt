@@ -1,8 +1,13 @@
 //! A group of slots.
-ghost use Rattle.std.specs.Prelude.{◌≡◌};
+ghost use Rattle.std.specs.Prelude.{◌≡◌, ◌<◌, ◌≤◌, length, slice_get, slice_index, IfSome, IfNone, false};
+ghost use Rattle.std.specs.Option.{IsSomeAnd};
+ghost use Rattle.lb_rebuild.specs.Gate.{gate as gate_view};
+ghost use Rattle.lb_rebuild.specs.Views.{served_list, with_slot};
+ghost use Rattle.lb_rebuild.specs.Calls.{Asked, PublishedIn, FailedIn, EnteredIn, TakenIn, DestroyedIn, readers_at, left_slot};
 
-use crate::gate::GateCore;
-use crate::slot::{Slot};
+use crate::gate::{GateCore, Permit};
+use crate::job::{Built, Job};
+use crate::slot::{Ask, Reader, Retired, Slot, Told};
 use lb_select::backend::Backend;
 use lb_select::refusal::Refusal;
 use lb_select::walk::BackendSelection;
@@ -32,4 +37,132 @@ impl<S: BackendSelection> Model for GroupCore<S> {
     ghost view = { λ g. record { gate = g.gate.value.id; newest = g.newest; current = (arc_value g.current).keys; slots = map slot_view g.slots.items } };
 
     ghost invariant = { λ g. AllKept g.gate.value.id g.newest g.slots.items };
+}
+
+impl<S: BackendSelection> GroupCore<S> {
+    /// The newest generation; 0 before the first membership.
+    pub fn newest(&self) -> u64
+        ensures { result ≡ self.now.newest }
+    {
+        self.newest
+    }
+
+    /// How many slots the group has.
+    pub fn slot_count(&self) -> usize
+        ensures { result ≡ length self.now.slots }
+    {
+        self.slots.len()
+    }
+
+    /// The generation that a slot serves, or `None` where no such slot is there.
+    pub fn served(&self, slot: usize) -> Option<u64>
+        ensures some { IfSome result (λ n. (slot < length self.now.slots) × (n ≡ slice_index (served_list self.now.slots) slot)) }
+        ensures none { IfNone result (length self.now.slots ≤ slot) }
+    {
+        if slot >= self.slots.len() {
+            return None;
+        }
+        let serving = &self.slots[slot].serving;
+        Some(serving.generation)
+    }
+
+    /// Asks for the build that a slot needs next. It takes no memory.
+    ///
+    /// # Errors
+    ///
+    /// `NoSuch` where no such slot is there.
+    pub fn ask(&mut self, slot: usize, gate: &mut GateCore) -> Result<Ask<S>, Refusal>
+        requires { gate.old.id ≡ self.old.gate }
+        ensures { Asked self.old slot gate.old result self.new gate.new }
+    {
+        if slot >= self.slots.len() {
+            return Err(Refusal::NoSuch);
+        }
+        Ok(self.slots[slot].ask(slot, gate))
+    }
+
+    /// Ends the flight of a job that failed, and gives its permit back. The job's order waits again where its generation is
+    /// still the newest.
+    pub fn fail(&mut self, job: Job<S>, gate: &mut GateCore)
+        requires permit { job.permit ≡ self.old.gate }
+        requires gate { gate.old.id ≡ self.old.gate }
+        ensures group { FailedIn self.old job self.new }
+        ensures gate { gate.new ≡ gate_view self.old.gate false }
+    {
+        let newest = self.newest;
+        let slot = job.slot();
+        if slot >= self.slots.len() {
+            gate.give_back(job.into_permit());
+            return;
+        }
+        let permit = self.slots[slot].fail(newest, job);
+        gate.give_back(permit);
+    }
+
+    /// Serves a selector whose build is in flight, and retires what its slot served before, with its readers. A selector that
+    /// is not in flight any more is retired at once.
+    pub fn publish(&mut self, built: Built<S>) -> Told
+        requires permit { built.permit ≡ self.old.gate }
+        requires slot { built.slot < length self.old.slots }
+        ensures { PublishedIn self.old built result self.new }
+    {
+        let slot = built.slot();
+        self.slots[slot].publish(built)
+    }
+
+    /// Enters the selector that a slot serves.
+    ///
+    /// # Errors
+    ///
+    /// `NoSuch` where no such slot is there; `NumbersExhausted` where its readers are at 18446744073709551615; `OutOfMemory`
+    /// where neither holds and memory is refused. Nothing changes then.
+    pub fn enter(&mut self, slot: usize) -> Result<Reader<S>, Refusal>
+        ensures { EnteredIn self.old slot result self.new }
+    {
+        if slot >= self.slots.len() {
+            return Err(Refusal::NoSuch);
+        }
+        self.slots[slot].enter(slot)
+    }
+
+    /// Gives an entry back to its slot.
+    pub fn leave(&mut self, reader: Reader<S>)
+        requires { IsSomeAnd (slice_get self.old.slots reader.slot) (λ x. 0 < readers_at x reader.generation) }
+        ensures { IsSomeAnd (slice_get self.old.slots reader.slot) (λ x. self.new ≡ with_slot self.old reader.slot (left_slot reader.generation x)) }
+    {
+        let Reader {
+            slot,
+            generation,
+            selector: _,
+        } = reader;
+        self.slots[slot].leave(generation);
+    }
+
+    /// Takes a retired selector out of its slot, to be destroyed and then reported. It takes no memory.
+    ///
+    /// # Errors
+    ///
+    /// `NoSuch` where no such slot is there; `StillRead` with the number of readers that are left in it; `NothingRetired`
+    /// where no retired selector is there. Nothing changes then.
+    pub fn take_retired(&mut self, slot: usize) -> Result<Retired<S>, Refusal>
+        ensures { TakenIn self.old slot result self.new }
+    {
+        if slot >= self.slots.len() {
+            return Err(Refusal::NoSuch);
+        }
+        self.slots[slot].take_retired(slot)
+    }
+
+    /// The report that the selector which was taken out of that slot is destroyed; its permit goes back to the gate.
+    pub fn destroyed(&mut self, slot: usize, permit: Permit, gate: &mut GateCore)
+        requires permit { permit ≡ self.old.gate }
+        requires gate { gate.old.id ≡ self.old.gate }
+        ensures group { DestroyedIn self.old slot self.new }
+        ensures gate { gate.new ≡ gate_view self.old.gate false }
+    {
+        gate.give_back(permit);
+        if slot < self.slots.len() {
+            self.slots[slot].report();
+        }
+    }
 }

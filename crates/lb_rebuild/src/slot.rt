@@ -1,11 +1,12 @@
 //! A slot of a group: the selector that it serves to its readers, the order that waits, and at most one extra selector.
 //! An extra is a build in flight, a retired selector, or one that was taken out to be destroyed.
-ghost use Rattle.std.specs.Prelude.{◌≡◌, ℕ};
+ghost use Rattle.std.specs.Prelude.{◌≡◌, ◌<◌, ◌⊎◌, ℕ, IfOk, IfErr, OnErr};
 ghost use Rattle.lb_rebuild.specs.Gate.{GateId};
 ghost use Rattle.lb_rebuild.specs.Kept.{IsWithoutPermit};
 
 use crate::gate::{GateCore, Permit};
 use crate::job::{Built, Job, Order};
+use lb_select::refusal::Refusal;
 use lb_select::walk::BackendSelection;
 use std::marker::Model;
 use std::mem;
@@ -63,6 +64,39 @@ pub(crate) struct Slot<S: BackendSelection> {
     pub(crate) stage: Stage<S>,
 }
 
+impl<S: BackendSelection> Retired<S> {
+    /// Drops the selector, and gives the permit that is to be reported.
+    pub fn destroy(self) -> Permit
+        ensures { result ≡ self.permit }
+    {
+        let Retired {
+            slot: _,
+            serving: _,
+            readers: _,
+            permit,
+        } = self;
+        permit
+    }
+}
+
+/// An entry into the selector that a slot served then. It is to be given back to the slot, and cannot be dropped.
+///
+/// Contracts see the slot, the generation, and of which members and with which configuration the selector was built.
+pub struct Reader<S: BackendSelection> {
+    pub(crate) slot: usize,
+    pub(crate) generation: u64,
+    pub(crate) selector: Arc<S>,
+}
+
+impl<S: BackendSelection> Model for Reader<S> {
+    ghost use Rattle.std.specs.Arc.{arc_value};
+    ghost use Rattle.lb_rebuild.specs.Views.{ReaderView};
+
+    ghost Value = { ReaderView S.Config };
+
+    ghost view = { λ r. record { slot = r.slot; generation = r.generation; members = S.members (arc_value r.selector); config = S.built_with (arc_value r.selector) } };
+}
+
 /// What a slot that was asked for its next build answers. The answer holds a job where there is one, so it cannot be dropped.
 pub enum Ask<S: BackendSelection> {
     /// A build of the slot is in flight.
@@ -85,7 +119,7 @@ pub enum Told {
 }
 
 impl<S: BackendSelection> Slot<S> {
-    ghost use Rattle.lb_rebuild.specs.Calls.{AskedAt, PublishedAt, failed_slot};
+    ghost use Rattle.lb_rebuild.specs.Calls.{AskedAt, PublishedAt, failed_slot, reader_of, enter_refusal, entered_slot, readers_at, left_slot, TakenAt, reported_stage};
     ghost use Rattle.lb_rebuild.specs.Kept.{slot_view, IsKept, HoldsOf};
 
     // Asks for the build that the slot needs next.
@@ -185,6 +219,76 @@ impl<S: BackendSelection> Slot<S> {
             }
         }
         permit
+    }
+
+    // One reader more of the selector that is served.
+    pub(crate) fn enter(&mut self, slot: usize) -> Result<Reader<S>, Refusal>
+        ensures ok { IfOk result (λ r. (slot_view self.old).readers < 18446744073709551615 × (r ≡ reader_of slot (slot_view self.old))
+            × (slot_view self.new ≡ entered_slot (slot_view self.old))) }
+        ensures err { IfErr result (λ e. (enter_refusal (Some (slot_view self.old)) ≡ Some e)
+            ⊎ ((enter_refusal (Some (slot_view self.old)) ≡ None) × (e ≡ Refusal.OutOfMemory))) }
+        ensures same { OnErr result (slot_view self.new ≡ slot_view self.old) }
+        ensures kept { (id : GateId) (newest : ℕ) → IsKept id newest self.old → IsKept id newest self.new }
+    {
+        if self.readers == u64::MAX {
+            return Err(Refusal::NumbersExhausted);
+        }
+        let serving = &self.serving;
+        let selector = Arc::try_clone(&serving.selector)?;
+        let generation = serving.generation;
+        self.readers += 1;
+        Ok(Reader {
+            slot,
+            generation,
+            selector,
+        })
+    }
+
+    // One reader less of that generation.
+    pub(crate) fn leave(&mut self, generation: u64)
+        requires { 0 < readers_at (slot_view self.old) generation }
+        ensures slot { slot_view self.new ≡ left_slot generation (slot_view self.old) }
+        ensures kept { (id : GateId) (newest : ℕ) → IsKept id newest self.old → IsKept id newest self.new }
+    {
+        if self.serving.generation == generation {
+            self.readers -= 1;
+            return;
+        }
+        if let Stage::Retired(retired) = &mut self.stage {
+            retired.readers -= 1;
+        }
+    }
+
+    // Takes the retired selector out, once no reader is left in it.
+    pub(crate) fn take_retired(&mut self, slot: usize) -> Result<Retired<S>, Refusal>
+        ensures taken { TakenAt slot (slot_view self.old) result (slot_view self.new) }
+        ensures permit { IfOk result (λ r. HoldsOf r.permit self.old.stage) }
+        ensures kept { (id : GateId) (newest : ℕ) → IsKept id newest self.old → IsKept id newest self.new }
+    {
+        let Stage::Retired(retired) = &self.stage else {
+            return Err(Refusal::NothingRetired);
+        };
+        if retired.readers > 0 {
+            return Err(Refusal::StillRead(retired.readers));
+        }
+        let generation = retired.serving.generation;
+        match mem::replace(&mut self.stage, Stage::TakenOut(generation)) {
+            Stage::Retired(mut retired) => {
+                retired.slot = slot;
+                Ok(retired)
+            }
+            Stage::Free | Stage::Flight(_) | Stage::TakenOut(_) => unreachable!(),
+        }
+    }
+
+    // The selector that was taken out is destroyed.
+    pub(crate) fn report(&mut self)
+        ensures slot { slot_view self.new ≡ record (slot_view self.old) { stage = reported_stage (slot_view self.old).stage } }
+        ensures kept { (id : GateId) (newest : ℕ) → IsKept id newest self.old → IsKept id newest self.new }
+    {
+        if let Stage::TakenOut(_) = &self.stage {
+            clear(&mut self.stage);
+        }
     }
 }
 

@@ -1,7 +1,14 @@
+pub mod AddressText
 pub mod Backends
 pub mod Draws
+pub mod Expanded
+pub mod Fnv
 pub mod Identity
 pub mod Memberships
 pub mod Refusals
 pub mod Seen
+pub mod Shares
+pub mod WalkLaws
+pub mod Unique
 pub mod Walks
+pub mod Weights

@@ -1,17 +1,23 @@
 //! Backends: an address, a weight, and what a user attaches to them.
 //! A backend is compared, ordered and hashed by address and weight alone: that pair is its identity.
-ghost use Rattle.std.specs.Prelude.{◌≡◌, IfOk, IfErr, map};
+ghost use Rattle.std.specs.Prelude.{◌≡◌, IfOk, IfErr, MatchResult, Some, map, option_map};
+ghost use Rattle.std.specs.Option.{ok_or};
 ghost use Rattle.std.specs.Cmp.{partial_order_from_own_ties};
 ghost use Rattle.std.specs.Cmp.Rules.{comparing};
 ghost use Rattle.std.specs.Ordering.{as_partial_cmp};
 ghost use Rattle.std.proofs.Common.{rules};
-ghost use Rattle.lb_select.specs.Backends.{Member, member_cmp, same_member, member_hash};
+ghost use Rattle.lb_select.specs.AddressText.{IsInternetText, internet_of_text, bare_member, path_refusal, member_text};
+ghost use Rattle.lb_select.specs.Backends.{Address, unix, Member, member_cmp, same_member, member_hash};
+ghost use Rattle.lb_select.specs.Refusals.{Refuses};
+ghost use Rattle.lb_select.specs.declared.refusal.Refusal.TheVariants.{InvalidAddress};
 ghost use Rattle.lb_select.specs.Seen.{address_seen, entries_seen};
 ghost use Rattle.lb_select.specs.Identity.{hash_alike};
 
-use std::alloc::AllocError;
+use crate::refusal::Refusal;
+use std::alloc::{AllocError, Global};
 use std::cmp::Ordering;
 use std::collections::BTreeMap;
+use std::fmt;
 use std::hash::{Hash, Hasher};
 use std::marker::Model;
 
@@ -51,6 +57,67 @@ impl Model for Backend {
     ghost use Rattle.lb_select.specs.Seen.{member_seen};
 
     ghost view = { member_seen };
+}
+
+impl Backend {
+    /// A backend of weight 1 at an internet address, with nothing attached. Refused as `new_with_weight`.
+    pub fn new(alloc: Global, addr: &str) -> Result<Backend, Refusal>
+        ensures made { result ≡ ok_or (option_map (bare_member 1) (internet_of_text addr.now)) InvalidAddress }
+        ensures spelled { MatchResult result (λ b. IsInternetText addr.now b.address) (λ _. (a : Address) → ¬ (IsInternetText addr.now a)) }
+    {
+        Backend::new_with_weight(alloc, addr, 1)
+    }
+
+    /// A backend of this weight at an internet address, with nothing attached. The text is read as a
+    /// `std::net::SocketAddr`. Refused `InvalidAddress` where std refuses it or its scope id is not 0; no memory is taken.
+    pub fn new_with_weight(alloc: Global, addr: &str, weight: usize) -> Result<Backend, Refusal>
+        ensures made { result ≡ ok_or (option_map (bare_member weight) (internet_of_text addr.now)) InvalidAddress }
+        ensures spelled { MatchResult result (λ b. IsInternetText addr.now b.address) (λ _. (a : Address) → ¬ (IsInternetText addr.now a)) }
+    {
+        let inet = addr.parse::<InetAddr>()?;
+        Ok(Backend::bare(alloc, SocketAddr::Inet(inet), weight))
+    }
+
+    /// A backend of this weight at the Unix socket of this path, with nothing attached. Refused `InvalidAddress` for the
+    /// empty path, and `OutOfMemory` where there is no room for a path.
+    pub fn unix(alloc: Global, path: &str, weight: usize) -> Result<Backend, Refusal>
+        ensures { Refuses (path_refusal path.now) (λ b. b ≡ bare_member weight (unix path.now)) result }
+    {
+        if path.is_empty() {
+            return Err(Refusal::InvalidAddress);
+        }
+        let path = path.to_string(alloc)?;
+        Ok(Backend::bare(alloc, SocketAddr::Unix(path), weight))
+    }
+
+    // A backend with nothing attached.
+    fn bare(alloc: Global, addr: SocketAddr, weight: usize) -> Backend
+        ensures { result ≡ bare_member weight (address_seen addr) }
+    {
+        Backend {
+            addr,
+            weight,
+            ext: Ext::new(alloc),
+        }
+    }
+
+    /// What makes two backends the same: the address and the weight.
+    pub fn identity(&self) -> (&SocketAddr, usize)
+        ensures address { address_seen result.0.now ≡ self.now.address }
+        ensures weight { result.1 ≡ self.now.weight }
+    {
+        (&self.addr, self.weight)
+    }
+}
+
+impl fmt::Display for Backend {
+    ghost output = { λ b. Some (member_text b) };
+
+    fn fmt<W: fmt::Write>(&self, f: &mut fmt::Formatter<W>) -> fmt::Result {
+        let addr = &self.addr;
+        let weight = self.weight;
+        write!(f, "{addr}/{weight}")
+    }
 }
 
 impl Clone for SocketAddr {

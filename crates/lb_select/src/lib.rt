@@ -2,7 +2,13 @@
 //! A walk's meaning is one relation between the draws that were made and the first candidates that came.
 #![tactic(auto)]
 
+pub mod algorithms;
+mod address;
 pub mod backend;
+pub mod fairness;
 pub mod refusal;
+pub mod selection;
+pub mod unique;
 pub mod walk;
+pub mod weighted;
 pub mod words;

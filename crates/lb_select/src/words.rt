@@ -5,6 +5,9 @@ ghost use Rattle.lb_select.specs.Backends.{Member};
 ghost use Rattle.lb_select.specs.Draws.{Draw, ticket, random, CoreGives};
 
 use rand_core::Rng;
+use rand_pcg::Pcg64;
+use std::sync::atomic::{AtomicU64, Ordering};
+use std::sync::{Mutex, Wait};
 
 /// A source of words for walks over one selector.
 pub trait WordSource {
@@ -63,5 +66,47 @@ impl<W: WordSource> WordSource for &mut W {
 
     fn random(&mut self) -> u64 {
         (**self).random()
+    }
+}
+
+/// Words for walks on many threads: a counter from 0 that wraps at 2^64, of which each ticket takes one number, and a
+/// generator behind a lock. Who gets which word depends on how the threads run.
+#[derive(Drop)]
+pub struct SharedWords {
+    tickets: AtomicU64,
+    generator: Mutex<Pcg64>,
+}
+
+impl SharedWords {
+    /// A source whose counter is at 0 and whose random words are the generator's.
+    pub fn new(generator: Pcg64) -> Self {
+        SharedWords {
+            tickets: AtomicU64::new(0),
+            generator: Mutex::new(generator),
+        }
+    }
+
+    /// The source for one walk. A random word may wait, through `rt`, for a walk that draws at the same time.
+    pub fn lend<'a, R: Wait>(&'a self, rt: &'a R) -> LentWords<'a, R> {
+        LentWords { words: self, rt }
+    }
+}
+
+/// Shared words in the hands of one walk. Other walks draw from them too, so a draw may give any word.
+#[derive(Drop)]
+pub struct LentWords<'a, R> {
+    words: &'a SharedWords,
+    rt: &'a R,
+}
+
+impl<'a, R: Wait> WordSource for LentWords<'a, R> {
+    ghost gives = { λ _ _ _. ⊤ };
+
+    fn ticket(&mut self) -> u64 {
+        self.words.tickets.fetch_add(1, Ordering::SeqCst)
+    }
+
+    fn random(&mut self) -> u64 {
+        self.words.generator.lock(self.rt).next_u64()
     }
 }

@@ -1,4 +1,12 @@
+pub mod Ever
 pub mod Effects
+pub mod Frames
+pub mod PlaceCases
+pub mod Places
+pub mod Permits
+pub mod SlotFrames
+pub mod SoundPlaces
+pub mod Sums
 pub mod KindFacts
 pub mod KindAsk
 pub mod KindPublish

@@ -1,0 +1,59 @@
+-- The texts of addresses and backends: what is written for each, and which address a text spells.
+-- Internet addresses are written and read as Rust's std::net::SocketAddr is, whose IPv6 text is that of RFC 5952.
+use Rattle.std.specs.Prelude.{◌≡◌, ℕ, Bool, List, [], ◌∷◌, ◌++◌, codes, decimal, drop, take, length, nat_lt, bytes_eq, ◌&&◌, ◌==◌, if◌then◌else◌, Option, Some, None}
+use Rattle.std.specs.declared.net.socket_addr.SocketAddr.{SocketAddr}
+use Rattle.std.specs.declared.net.socket_addr.SocketAddr.TheVariants.{V4, V6}
+use Rattle.std.specs.Net.Addr.{ipv4_octets, ipv6_octets, octets_of, segments_of}
+use Rattle.std.specs.Net.Socket.{v4_ip, v4_port, v6_ip, v6_port, v6_scope_id}
+use Rattle.std.specs.Net.Text.{ipv4_text, ipv6_text}
+use Rattle.std.specs.Net.Grammar.{IsSocketText}
+use Rattle.std.specs.Net.Reader.{read_socket_v4, read_socket_v6, whole_value, map_or}
+use Rattle.lb_select.specs.declared.refusal.Refusal.{Refusal}
+use Rattle.lb_select.specs.declared.refusal.Refusal.TheVariants.{InvalidAddress}
+use Rattle.lb_select.specs.Backends.{Address, ipv4, ipv6, unix, Member}
+
+-- `a.b.c.d:port`; `[..]:port` with the groups of RFC 5952, and ::ffff:a.b.c.d for a mapped address; `unix:` and the path
+abbrev pub address_text : Address → List ℕ
+address_text (ipv4 octets port) = ipv4_text octets ++ codes ":" ++ decimal port
+address_text (ipv6 octets port) = codes "[" ++ ipv6_text (segments_of octets) ++ codes "]:" ++ decimal port
+address_text (unix path) = codes "unix:" ++ path
+
+-- the address, a slash and the weight
+abbrev pub member_text : Member → List ℕ
+member_text m = address_text m.address ++ codes "/" ++ decimal m.weight
+
+-- how an address of std is seen, with none for one that has a scope
+abbrev pub socket_seen : SocketAddr → Option Address
+socket_seen (V4 s) = Some (ipv4 (ipv4_octets (v4_ip s)) (v4_port s))
+socket_seen (V6 s) = if v6_scope_id s == 0 then Some (ipv6 (ipv6_octets (v6_ip s)) (v6_port s)) else None
+
+-- the text spells this internet address, by the grammar that std parses
+abbrev pub IsInternetText : List ℕ → Address → Type 0
+IsInternetText text a = (s : SocketAddr) × IsSocketText text s × (socket_seen s ≡ Some a)
+
+-- the address of an IPv6 socket without a scope: its segments, port, flow information and scope are given
+abbrev pub without_scope : List ℕ × ℕ × ℕ × ℕ → Option Address
+without_scope p = if p.3 == 0 then Some (ipv6 (octets_of p.0) p.1) else None
+
+-- the internet address that the whole text spells, if it spells one
+unfoldable pub internet_of_text : List ℕ → Option Address
+internet_of_text text =
+    map_or (whole_value (read_socket_v4 text)) (map_or (whole_value (read_socket_v6 text)) None without_scope)
+    (λ p. Some (ipv4 p.0 p.1))
+
+-- the text begins with `unix:` and goes on
+abbrev pub names_path : List ℕ → Bool
+names_path text = nat_lt 5 (length text) && bytes_eq (take 5 text) (codes "unix:")
+
+-- the address that the text spells: a path of one byte or more after `unix:`, or an internet address
+abbrev pub address_of_text : List ℕ → Option Address
+address_of_text text = if names_path text then Some (unix (drop 5 text)) else internet_of_text text
+
+-- a backend at an address, with nothing attached
+abbrev pub bare_member : ℕ → Address → Member
+bare_member weight address = record { address = address; weight = weight; ext = [] }
+
+-- the empty path is no address
+abbrev pub path_refusal : List ℕ → Option Refusal
+path_refusal [] = Some InvalidAddress
+path_refusal (c ∷ path) = None

@@ -1,0 +1,25 @@
+//! What weights come to over a whole turn of words: laws of weighted selection, over its definitions alone.
+//! Each is a function that does nothing; its contract is the law.
+ghost use Rattle.lb_select.specs.Backends.{Member};
+ghost use Rattle.lb_select.specs.Shares.{WeightsAreExact, AllAreVisited, TicketsAreConsecutive};
+
+use crate::words::CoreWords;
+use rand_core::Rng;
+
+/// Over as many consecutive words as the weights sum to, each backend of a set is the first choice exactly as often as
+/// its weight says.
+pub fn weights_are_exact()
+    ensures { WeightsAreExact }
+{}
+
+/// The first choice of a word, and the fallbacks of as many words after it as there are backends, are among them every
+/// backend of a set whose weights sum to more than 0.
+pub fn all_are_visited()
+    ensures { AllAreVisited }
+{}
+
+/// The tickets of `CoreWords` are consecutive words as long as its counter does not wrap at 2^64: so a round of walks by
+/// `RoundRobin` gives exact shares, and one walk visits every backend.
+pub fn tickets_are_consecutive<R: Rng + Drop>()
+    ensures { TicketsAreConsecutive {S = CoreWords R} (λ w. w.tickets) (λ w. R.stream w.generator) (λ (w : _) (m : Member). 0) }
+{}
