@@ -13,3 +13,13 @@ pub mod Permits
 pub mod SlotFrames
 pub mod SoundPlaces
 pub mod Sums
+pub mod KindFacts
+pub mod KindAsk
+pub mod KindPublish
+pub mod KindBuild
+pub mod KindLists
+pub mod KindEnter
+pub mod KindLeave
+pub mod KindDestroy
+pub mod KindSelect
+pub mod KindInert
