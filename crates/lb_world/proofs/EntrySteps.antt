@@ -1,8 +1,9 @@
 -- What the calls on a group's core and on what is held make of an entry, as the steps at one slot say it.
 use Rattle.std.specs.Prelude.{◌≡◌, ◌⊎◌, ◌<◌, ◌≤◌, ℕ, Bool, true, false, not, ◌&&◌, List, length, Option, Some, None, IsSome, Result, Ok, Err, slice_get, slice_set, slice_index_or, refl}
 use Rattle.std.proofs.Common.{sym, ap, ◌∙◌, subst, inl, inr}
-use Rattle.std.proofs.lemmas.Option.{get_or_from_slice_get, slice_get_within}
+use Rattle.std.proofs.lemmas.Option.{get_or_from_slice_get, slice_get_within, same_Some}
 use Rattle.std.proofs.lemmas.List.{set-get_or}
+use Rattle.std.proofs.lemmas.Bool.{eq-eqb, both_ways}
 use Rattle.lb_world.proofs.Places.{found, past}
 use Rattle.lb_select.specs.Backends.{Member}
 use Rattle.lb_select.specs.declared.refusal.Refusal.{Refusal}
@@ -29,6 +30,13 @@ found_here xs i x k e at = e ∙ get_or_from_slice_get xs i k x at
 -- an empty stage has no flight
 pub unflown : (stage : StageView) → stage ≡ free → flight_of stage ≡ None
 unflown stage e = ap flight_of e
+
+-- the flight of a task is the stage's
+pub flight_is : (stage : StageView) (n : ℕ) → flight_of stage ≡ Some n → stage ≡ flight n
+flight_is free n e = absurd (cc)
+flight_is (flight m) n e = let same : m ≡ n = (cc) in ap (λ v. flight v) same
+flight_is (retired m readers) n e = absurd (cc)
+flight_is (taken_out m) n e = absurd (cc)
 
 module _ {C : Type 0} where
   -- nothing is held for a slot without a flight
@@ -126,23 +134,14 @@ module _ {C : Type 0} where
       → (k ≡ building t) ⊎ (k ≡ ready t) → (x : SlotView C) × IsAt e s x k × TaskFits e.core s x t
   task_here e s k t agrees within read (inl same) =
       let p = slotted e s k agrees within read in
-      let fits = agrees.agrees s p.0 k p.1 in
-      (p.0, p.1, rw same at fits)
+      (p.0, p.1, subst (λ v. WorkFits e.core s p.0 v) same (agrees.agrees s p.0 k p.1))
   task_here e s k t agrees within read (inr same) =
       let p = slotted e s k agrees within read in
-      let fits = agrees.agrees s p.0 k p.1 in
-      (p.0, p.1, rw same at fits)
+      (p.0, p.1, subst (λ v. WorkFits e.core s p.0 v) same (agrees.agrees s p.0 k p.1))
 
   -- a slot of a task in hand is there
   pub task_slot : (e : EntryView C) (s : ℕ) (t : Task C) → AgreesAt e → s < length e.works → t.slot ≡ s → t.slot < length e.core.slots
   task_slot e s t agrees within same = rw (same, ← agrees.works_in) within
-
-  -- the flight of a task is the stage's
-  pub flight_is : (stage : StageView) (n : ℕ) → flight_of stage ≡ Some n → stage ≡ flight n
-  flight_is free n e = absurd (cc)
-  flight_is (flight m) n e = let same : m ≡ n = (cc) in ap (λ v. flight v) same
-  flight_is (retired m readers) n e = absurd (cc)
-  flight_is (taken_out m) n e = absurd (cc)
 
   pub not_ready :
       (e : EntryView C) (s : ℕ) (k k2 : WorkView C) → AgreesAt e → s < length e.works → k ≡ slice_index_or e.works s k
@@ -166,7 +165,7 @@ module _ {C : Type 0} where
       → DidBuild cause e s z (answer.Built t.generation) (record e { works = slice_set e.works s k2 }) z
   did_build cause e s z k k2 t b agrees within read is_building fine same made =
       let p = slotted e s k agrees within read in
-      (p.0, t, rw is_building at p.1, refl, fine,
+      (p.0, t, subst (λ v. IsAt e s p.0 v) is_building p.1, refl, fine,
           ap (λ v. record e { works = slice_set e.works s v }) (made ∙ ap (λ v. ready v) same)
           ∙ ap (λ l. record e { core = record e.core { slots = l }; works = slice_set e.works s (ready t) }) (sym (set_here e.core.slots s p.0 p.1.slot_at)),
           refl)
@@ -181,9 +180,9 @@ module _ {C : Type 0} where
       let p = task_here e s k t agrees within read (inl is_building) in
       let there : slice_get e.core.slots j.slot ≡ Some p.0 = rw (same, p.2.slot_is) p.1.slot_at in
       let made = rw there at done in
-      let flies : is_flight_of j.generation p.0.stage ≡ true = rw (same, flight_is p.0.stage t.generation p.2.flies) (eqb-refl t.generation) in
+      let flies : is_flight_of j.generation p.0.stage ≡ true = rw (same, flight_is p.0.stage t.generation p.2.flies) (eq-eqb t.generation t.generation refl) in
       let made2 = rw flies at made in
-      (p.0, t, rw is_building at p.1, refl, why,
+      (p.0, t, subst (λ v. IsAt e s p.0 v) is_building p.1, refl, why,
           ap (λ v. record e { core = v; works = slice_set e.works s k2 }) (rw (same, p.2.slot_is) at made2)
           ∙ ap (λ v. record e { core = with_slot e.core s (record p.0 { waiting = put_back e.core.newest t p.0.waiting; stage = free }); works = slice_set e.works s v }) empty,
           out ∙ ap (λ v. gate v false) (sym ids))
@@ -193,14 +192,24 @@ module _ {C : Type 0} where
       → AgreesAt e → s < length e.works → k ≡ slice_index_or e.works s k → k ≡ ready t → k2 ≡ nothing
       → PublishedIn e.core t (told.Published n) core
       → DidPublish e s (answer.Published n) (record e { core = core; works = slice_set e.works s k2 })
-  did_publish e s k k2 t n core agrees within read is_ready empty (x, y, at, done, core_is) =
+  did_publish e s k k2 t n core agrees within read is_ready empty (x, y, at, (number, flies, made), core_is) =
       let p = task_here e s k t agrees within read (inr is_ready) in
-      let here : slice_get e.core.slots s ≡ Some x = rw p.2.slot_is at at in
-      let same : x ≡ p.0 = let both = p.1.slot_at in (cc) in
-      ?
+      let here : slice_get e.core.slots s ≡ Some x = ap (slice_get e.core.slots) (sym p.2.slot_is) ∙ at in
+      let same : p.0 ≡ x = same_Some p.0 x (sym p.1.slot_at ∙ here) in
+      let place : IsAt e s x (ready t) = record { slot_at = here; work_at = p.1.work_at ∙ ap (λ v. Some v) is_ready } in
+      (x, t, place, number,
+          ap (λ v. record e { core = v; works = slice_set e.works s k2 }) (core_is ∙ ap (λ v. with_slot e.core t.slot v) made ∙ ap (λ i. with_slot e.core i _) p.2.slot_is)
+          ∙ ap (λ v. record e { core = with_slot e.core s (record x { serving = serving_of t; readers = 0; stage = retired x.serving.generation x.readers }); works = slice_set e.works s v }) empty)
 
+  -- what is built for a slot is in flight there
   pub not_abandoned :
       (e : EntryView C) (s : ℕ) (k : WorkView C) (t : Task C) (n : ℕ) (core : GroupView C)
       → AgreesAt e → s < length e.works → k ≡ slice_index_or e.works s k → k ≡ ready t
       → PublishedIn e.core t (told.Abandoned n) core → ⊥
-  not_abandoned e s k t n core agrees within read is_ready (x, y, at, done, core_is) = ?
+  not_abandoned e s k t n core agrees within read is_ready (x, y, at, (number, unflown, made), core_is) =
+      let p = task_here e s k t agrees within read (inr is_ready) in
+      let same : p.0 ≡ x = same_Some p.0 x (sym p.1.slot_at ∙ ap (slice_get e.core.slots) (sym p.2.slot_is) ∙ at) in
+      let stage : x.stage ≡ flight t.generation = ap (λ (v : SlotView C). v.stage) (sym same) ∙ flight_is p.0.stage t.generation p.2.flies in
+      let flies : is_flight_of n x.stage ≡ true =
+          ap (λ v. is_flight_of n v) stage ∙ eq-eqb t.generation n (sym number) in
+      both_ways (is_flight_of n x.stage) flies unflown
