@@ -10,7 +10,7 @@ use Rattle.lb_select.specs.declared.refusal.Refusal.{Refusal}
 use Rattle.lb_select.specs.declared.refusal.Refusal.TheVariants as refusal
 use Rattle.lb_rebuild.specs.Gate.{GateId, GateView, gate}
 use Rattle.lb_rebuild.specs.Views.{StageView, free, flight, retired, taken_out, OrderView, Task, SlotView, GroupView, with_slot, is_flying}
-use Rattle.lb_rebuild.specs.Calls.{is_free, is_flight_of, Asked, AskedAt, order_of, put_back, FailedIn, PublishedIn, serving_of}
+use Rattle.lb_rebuild.specs.Calls.{is_free, is_flight_of, Asked, AskedAt, order_of, put_back, failed_slot, FailedIn, PublishedIn, serving_of}
 use Rattle.lb_rebuild.specs.declared.slot.Told.TheVariants as told
 use Rattle.lb_rebuild.specs.declared.slot.Ask.{Ask}
 use Rattle.lb_rebuild.specs.declared.slot.Ask.TheVariants as asks
@@ -178,12 +178,15 @@ module _ {C : Type 0} where
       → DidBuild cause e s z (answer.BuildFailed t.generation r) (record e { core = core; works = slice_set e.works s k2 }) z2
   did_fail cause e s z z2 k k2 t j r core agrees within read is_building why same empty done ids out =
       let p = task_here e s k t agrees within read (inl is_building) in
-      let there : slice_get e.core.slots j.slot ≡ Some p.0 = rw (same, p.2.slot_is) p.1.slot_at in
-      let made = rw there at done in
-      let flies : is_flight_of j.generation p.0.stage ≡ true = rw (same, flight_is p.0.stage t.generation p.2.flies) (eq-eqb t.generation t.generation refl) in
-      let made2 = rw flies at made in
+      let there : slice_get e.core.slots t.slot ≡ Some p.0 = ap (slice_get e.core.slots) p.2.slot_is ∙ p.1.slot_at in
+      let ended : FailedIn e.core t core = subst (λ v. FailedIn e.core v core) same done in
+      let made : core ≡ with_slot e.core t.slot (failed_slot e.core.newest t p.0) = rw there at ended in
+      let flies : is_flight_of t.generation p.0.stage ≡ true =
+          ap (λ v. is_flight_of t.generation v) (flight_is p.0.stage t.generation p.2.flies) ∙ eq-eqb t.generation t.generation refl in
+      let slot_is : failed_slot e.core.newest t p.0 ≡ record p.0 { waiting = put_back e.core.newest t p.0.waiting; stage = free } = rw flies in
       (p.0, t, subst (λ v. IsAt e s p.0 v) is_building p.1, refl, why,
-          ap (λ v. record e { core = v; works = slice_set e.works s k2 }) (rw (same, p.2.slot_is) at made2)
+          ap (λ v. record e { core = v; works = slice_set e.works s k2 }) (made ∙ ap (λ v. with_slot e.core t.slot v) slot_is)
+          ∙ ap (λ i. record e { core = with_slot e.core i (record p.0 { waiting = put_back e.core.newest t p.0.waiting; stage = free }); works = slice_set e.works s k2 }) p.2.slot_is
           ∙ ap (λ v. record e { core = with_slot e.core s (record p.0 { waiting = put_back e.core.newest t p.0.waiting; stage = free }); works = slice_set e.works s v }) empty,
           out ∙ ap (λ v. gate v false) (sym ids))
 
@@ -198,7 +201,7 @@ module _ {C : Type 0} where
       let same : p.0 ≡ x = same_Some p.0 x (sym p.1.slot_at ∙ here) in
       let place : IsAt e s x (ready t) = record { slot_at = here; work_at = p.1.work_at ∙ ap (λ v. Some v) is_ready } in
       (x, t, place, number,
-          ap (λ v. record e { core = v; works = slice_set e.works s k2 }) (core_is ∙ ap (λ v. with_slot e.core t.slot v) made ∙ ap (λ i. with_slot e.core i _) p.2.slot_is)
+          ap (λ v. record e { core = v; works = slice_set e.works s k2 }) (core_is ∙ ap (λ v. with_slot e.core t.slot v) made ∙ ap (λ i. with_slot e.core i (record x { serving = serving_of t; readers = 0; stage = retired x.serving.generation x.readers })) p.2.slot_is)
           ∙ ap (λ v. record e { core = with_slot e.core s (record x { serving = serving_of t; readers = 0; stage = retired x.serving.generation x.readers }); works = slice_set e.works s v }) empty)
 
   -- what is built for a slot is in flight there
@@ -212,4 +215,4 @@ module _ {C : Type 0} where
       let stage : x.stage ≡ flight t.generation = ap (λ (v : SlotView C). v.stage) (sym same) ∙ flight_is p.0.stage t.generation p.2.flies in
       let flies : is_flight_of n x.stage ≡ true =
           ap (λ v. is_flight_of n v) stage ∙ eq-eqb t.generation n (sym number) in
-      both_ways (is_flight_of n x.stage) flies unflown
+      both_ways (is_flight_of n x.stage) unflown flies
