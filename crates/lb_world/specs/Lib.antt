@@ -1,5 +1,12 @@
 pub mod Answers
+pub mod Doings
 pub mod History
+pub mod Lawful
 pub mod Meanings
+pub mod Quiet
 pub mod Selecting
+pub mod Sound
+pub mod Stands
 pub mod Steps
+pub mod Views
+pub mod Works

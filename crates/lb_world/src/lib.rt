@@ -3,4 +3,5 @@
 #![tactic(auto)]
 
 pub mod answer;
+mod entry;
 pub mod step;
