@@ -1,22 +1,22 @@
 -- What the calls on a group's core and on what is held make of an entry, as the steps at one slot say it.
-use Rattle.std.specs.Prelude.{◌≡◌, ◌⊎◌, ◌<◌, ◌≤◌, ℕ, Bool, true, false, not, ◌&&◌, List, length, Option, Some, None, IsSome, Result, Ok, Err, slice_get, slice_set, slice_index_or, refl}
+use Rattle.std.specs.Prelude.{◌≡◌, ◌⊎◌, ◌<◌, ◌≤◌, ℕ, Bool, true, false, not, ◌&&◌, List, [], ◌∷◌, zero, suc, length, Option, Some, None, IsSome, Result, Ok, Err, slice_get, slice_set, slice_index_or, refl}
 use Rattle.std.proofs.Common.{sym, ap, ◌∙◌, subst, inl, inr}
 use Rattle.std.proofs.lemmas.Option.{get_or_from_slice_get, slice_get_within, same_Some}
 use Rattle.std.proofs.lemmas.List.{set-get_or}
 use Rattle.std.proofs.lemmas.Bool.{eq-eqb, both_ways}
-use Rattle.lb_world.proofs.Places.{found, past}
+use Rattle.lb_world.proofs.Places.{found, there, get_same}
 use Rattle.lb_select.specs.Backends.{Member}
 use Rattle.lb_select.specs.declared.refusal.Refusal.{Refusal}
 use Rattle.lb_select.specs.declared.refusal.Refusal.TheVariants as refusal
 use Rattle.lb_rebuild.specs.Gate.{GateId, GateView, gate}
-use Rattle.lb_rebuild.specs.Views.{StageView, free, flight, retired, taken_out, OrderView, Task, SlotView, GroupView, with_slot, is_flying}
-use Rattle.lb_rebuild.specs.Calls.{is_free, is_flight_of, Asked, AskedAt, order_of, put_back, failed_slot, FailedIn, PublishedIn, serving_of}
+use Rattle.lb_rebuild.specs.Views.{StageView, free, flight, retired, taken_out, OrderView, Task, RetiredView, SlotView, GroupView, with_slot, is_flying}
+use Rattle.lb_rebuild.specs.Calls.{is_free, is_flight_of, Asked, AskedAt, order_of, put_back, failed_slot, FailedIn, PublishedIn, StageRefuses, TakenIn, DestroyedIn, serving_of}
 use Rattle.lb_rebuild.specs.declared.slot.Told.TheVariants as told
 use Rattle.lb_rebuild.specs.declared.slot.Ask.{Ask}
 use Rattle.lb_rebuild.specs.declared.slot.Ask.TheVariants as asks
 use Rattle.lb_world.specs.Views.{WorkView, nothing, building, ready, EntryView, with_place, flight_of}
 use Rattle.lb_world.specs.Sound.{WorkFits, TaskFits}
-use Rattle.lb_world.specs.Doings.{IsAt, AgreesAt, NoSlot, DidAsk, DidBuild, DidPublish, IsNotBuilding, IsNotReady, job_of}
+use Rattle.lb_world.specs.Doings.{IsAt, AgreesAt, NoSlot, DidAsk, StageKeeps, DidBuild, DidPublish, DidDestroy, IsNotBuilding, IsNotReady, job_of}
 use Rattle.lb_world.specs.declared.answer.Answer.TheVariants as answer
 
 -- what was there, written again, changes nothing
@@ -37,6 +37,19 @@ flight_is free n e = absurd (cc)
 flight_is (flight m) n e = let same : m ≡ n = (cc) in ap (λ v. flight v) same
 flight_is (retired m readers) n e = absurd (cc)
 flight_is (taken_out m) n e = absurd (cc)
+
+-- a retired selector that isn't taken out stays
+stage_keeps : (stage : StageView) (r : Refusal) → StageRefuses stage r → StageKeeps stage r
+stage_keeps free r why = why
+stage_keeps (flight n) r why = why
+stage_keeps (retired n readers) r why = why
+stage_keeps (taken_out n) r why = why
+
+-- a place that is written twice holds what was written last
+set_twice : {X : Type 0} (xs : List X) (i : ℕ) (x y : X) → slice_set (slice_set xs i x) i y ≡ slice_set xs i y
+set_twice [] i x y = refl
+set_twice (a ∷ xs) zero x y = refl
+set_twice (a ∷ xs) (suc i) x y = ap (λ l. a ∷ l) (set_twice xs i x y)
 
 module _ {C : Type 0} where
   -- nothing is held for a slot without a flight
@@ -216,3 +229,33 @@ module _ {C : Type 0} where
       let flies : is_flight_of n x.stage ≡ true =
           ap (λ v. is_flight_of n v) stage ∙ eq-eqb t.generation n (sym number) in
       both_ways (is_flight_of n x.stage) unflown flies
+
+  pub did_not_destroy :
+      (e : EntryView C) (s : ℕ) (z : GateView) (r : Refusal) (core : GroupView C) → AgreesAt e
+      → TakenIn e.core s (Err r) core → DidDestroy e s z (answer.Refused r) (record e { core = core }) z
+  did_not_destroy e s z r core agrees refused =
+      let same : record e { core = core } ≡ e = ap (λ v. record e { core = v }) refused.1 in
+      elim (there e.core.slots s) [
+        | inl none ↦
+            let why : r ≡ refusal.NoSuch = rw none at refused.0 in (inl (why, none), (same, refl))
+        | inr some ↦
+            let p = placed e s some.0 agrees some.1 in
+            let why : StageRefuses some.0.stage r = rw some.1 at refused.0 in
+            (inr (some.0, p.0, p.1, stage_keeps some.0.stage r why), (same, refl))
+      ]
+
+  pub did_destroy :
+      (e : EntryView C) (s : ℕ) (z z2 : GateView) (r : RetiredView) (taken core : GroupView C) → AgreesAt e → z.id ≡ e.core.gate
+      → TakenIn e.core s (Ok r) taken → DestroyedIn taken s core → z2 ≡ gate taken.gate false
+      → DidDestroy e s z answer.Destroyed (record e { core = core }) z2
+  did_destroy e s z z2 r taken core agrees ids (x, y, at, (stage, none_left, slot_is, out), permit_is, taken_is) ended home =
+      let p = placed e s x agrees at in
+      let made : taken ≡ with_slot e.core s (record x { stage = taken_out r.generation }) = taken_is ∙ ap (λ v. with_slot e.core s v) out in
+      let after : DestroyedIn (with_slot e.core s (record x { stage = taken_out r.generation })) s core = subst (λ v. DestroyedIn v s core) made ended in
+      let put : slice_get (slice_set e.core.slots s (record x { stage = taken_out r.generation })) s ≡ Some (record x { stage = taken_out r.generation }) = get_same e.core.slots s x _ at in
+      let core_is : core ≡ with_slot (with_slot e.core s (record x { stage = taken_out r.generation })) s (record x { stage = free }) = rw put at after in
+      let works : slice_set e.works s p.0 ≡ e.works = set_here e.works s p.0 p.1.work_at in
+      (x, p.0, r.generation, p.1, stage,
+          ap (λ v. record e { core = v }) (core_is ∙ ap (λ l. record e.core { slots = l }) (set_twice e.core.slots s _ _))
+          ∙ ap (λ l. record e { core = with_slot e.core s (record x { stage = free }); works = l }) (sym works),
+          home ∙ ap (λ (v : GroupView C). gate v.gate false) made ∙ ap (λ v. gate v false) (sym ids))
