@@ -3,6 +3,7 @@ pub mod Effects
 pub mod EmptyWorld
 pub mod EntrySteps
 pub mod Ever
+pub mod Founding
 pub mod Frames
 pub mod GroupMade
 pub mod GroupUpdated

@@ -62,10 +62,10 @@ impl<S: BackendSelection> World<S> {
             → Stands (meaning S.walks S.refusal S.may_draw_random) self.new ((seen.registry key, result) ∷ h) }
     {
         let number = self.registries.len() as u64;
-        match self.registries.push(key) {
-            Ok(()) => Answer::Registry(number),
-            Err(_) => Answer::Refused(Refusal::OutOfMemory),
-        }
+        let Ok(()) = self.registries.push(key) else {
+            return Answer::Refused(Refusal::OutOfMemory);
+        };
+        Answer::Registry(number)
     }
 
     fn gate(&mut self) -> Answer
@@ -76,10 +76,10 @@ impl<S: BackendSelection> World<S> {
         let Ok(gate) = GateCore::new(self.alloc) else {
             return Answer::Refused(Refusal::OutOfMemory);
         };
-        match self.gates.push(gate) {
-            Ok(()) => Answer::Gate(number),
-            Err(_) => Answer::Refused(Refusal::OutOfMemory),
-        }
+        let Ok(()) = self.gates.push(gate) else {
+            return Answer::Refused(Refusal::OutOfMemory);
+        };
+        Answer::Gate(number)
     }
 
     fn ask(&mut self, group: u64, slot: u64, now: u128) -> Answer
