@@ -6,6 +6,7 @@ pub mod EntryReaders
 pub mod EntrySteps
 pub mod EntryUpdates
 pub mod Ever
+pub mod Founding
 pub mod Frames
 pub mod GroupMade
 pub mod GroupUpdated
