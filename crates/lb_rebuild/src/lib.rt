@@ -2,6 +2,7 @@
 //! Everything here is plain data and steps on it; threads and locks come above.
 #![tactic(auto)]
 
+mod close;
 pub mod gate;
 mod gate_rule;
 pub mod group;

@@ -5,7 +5,7 @@ use Rattle.std.proofs.KnownBytes.{Appends-nil, Appends-trans}
 use Rattle.lb_world.specs.Answers.{Answers}
 use Rattle.lb_world.specs.History.{History}
 use Rattle.lb_world.specs.Meanings.{Meaning}
-use Rattle.lb_script.specs.StandIn.{WorldView}
+use Rattle.lb_world.specs.Views.{WorldView}
 use Rattle.lb_script.specs.declared.error.ScriptError.{ScriptError}
 use Rattle.lb_script.specs.declared.error.ScriptError.TheVariants.{BadLine, LineTooLong, Read, OutOfMemory}
 use Rattle.lb_kinds.specs.declared.kinds.Kind.{Kind}

@@ -3,7 +3,6 @@ pub mod Lines
 pub mod Numbers
 pub mod Output
 pub mod Session
-pub mod StandIn
 pub mod StepLines
 pub mod Stream
 pub mod Texts

@@ -5,7 +5,8 @@ use Rattle.lb_world.specs.History.{History, registries}
 use Rattle.lb_world.specs.Meanings.{Meaning}
 use Rattle.lb_world.specs.Steps.{StepView}
 use Rattle.lb_world.specs.declared.answer.Answer.{Answer}
-use Rattle.lb_script.specs.StandIn.{WorldView, Stands}
+use Rattle.lb_world.specs.Stands.{Stands}
+use Rattle.lb_world.specs.Views.{WorldView}
 use Rattle.lb_script.specs.declared.error.ScriptError.{ScriptError}
 use Rattle.lb_script.specs.declared.error.ScriptError.TheVariants.{BadLine, LineTooLong, Read, OutOfMemory}
 use Rattle.lb_kinds.specs.declared.kinds.Kind.{Kind}

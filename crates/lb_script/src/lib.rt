@@ -13,4 +13,3 @@ pub mod run;
 mod session;
 pub mod texts;
 pub mod words;
-mod world;

@@ -16,7 +16,7 @@ use crate::error::ScriptError;
 use crate::lines::{Found, read_line};
 use crate::parse::parse;
 use crate::texts::push_answer;
-use crate::world::World;
+use lb_world::world::World;
 use lb_kinds::kinds::Kind;
 use lb_select::walk::BackendSelection;
 use lb_world::answer::Answer;
