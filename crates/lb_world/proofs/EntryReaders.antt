@@ -58,17 +58,19 @@ module _ {C : Type 0} where
   pub did_not_enter :
       (e : EntryView C) (s : ℕ) (r : Refusal) (core : GroupView C) → AgreesAt e
       → EnteredIn e.core s (Err r) core → DidEnter e s (Err r) (record e { core = core })
-  did_not_enter e s r core agrees (why, same) =
-      (elim (there e.core.slots s) [
-        | inl none ↦
-            elim (rw none at why) [
-              | inl cause ↦ inl (sym (same_Some _ _ cause), none)
-              | inr lacking ↦ absurd (none-some _ (sym lacking.0))
-            ]
-        | inr some ↦
-            let p = placed e s some.0 agrees some.1 in
-            inr (some.0, p.0, p.1, why_not some.0 r (rw some.1 at why))
-      ], ap (λ v. record e { core = v }) same)
+  did_not_enter e s r core agrees (why, same) = (
+    elim (there e.core.slots s) [
+      | inl none ↦
+          elim (rw none at why) [
+            | inl cause ↦ inl (sym (same_Some _ _ cause), none)
+            | inr lacking ↦ absurd (none-some _ (sym lacking.0))
+          ]
+      | inr some ↦
+          let p = placed e s some.0 agrees some.1 in
+          inr (some.0, p.0, p.1, why_not some.0 r (rw some.1 at why))
+    ],
+    ap (λ v. record e { core = v }) same,
+  )
 
   -- both answers
   pub entered :

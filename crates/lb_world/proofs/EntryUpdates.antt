@@ -75,7 +75,14 @@ module _ {C : Type 0} (walks : List Member → C → List ℕ → List Draw → 
             let at = rw some.1 at selected in
             let p = placed e s x agrees some.1 in
             let drawn = served_from x at.0 key limit words r at.1 in
-            inr
-            (x, p.0, drawn.0, r, p.1, refl, drawn.1,
-            slot_written e s x (drawn_slot x drawn.0) p.0 core p.1 (at.2 ∙ ap (λ v. with_slot e.core s v) drawn.2))
+            inr (
+              x,
+              p.0,
+              drawn.0,
+              r,
+              p.1,
+              refl,
+              drawn.1,
+              slot_written e s x (drawn_slot x drawn.0) p.0 core p.1 (at.2 ∙ ap (λ v. with_slot e.core s v) drawn.2),
+            )
       ]
