@@ -3,6 +3,7 @@ use Rattle.std.proofs.Common.{◌≡◌, ◌<◌, inl, inr, ℕ, ◌+◌, ◌-�
 use Rattle.std.proofs.lemmas.Bool.{eq-eqb, lt-ltb}
 use Rattle.std.proofs.lemmas.Option.{same_Some}
 use Rattle.lb_rebuild.specs.Views.{SlotView}
+use Rattle.lb_rebuild.specs.Calls.{entered_slot}
 use Rattle.lb_world.specs.Steps as step
 use Rattle.lb_world.specs.declared.answer.Answer.TheVariants as answer
 use Rattle.lb_world.specs.Meanings.{Meaning}
@@ -20,10 +21,6 @@ abbrev pub entry_of : {C : Type 0} → ℕ → ℕ → SlotView C → Entered
 entry_of g s x = record { group = g; slot = s; generation = x.serving.generation }
 
 module _ {C : Type 0} where
-  -- the slot with one reader more
-  abbrev pub entered_slot : SlotView C → SlotView C
-  entered_slot x = record x { readers = x.readers + 1 }
-
   pub entered_sound :
       (readers : List (Option Entered)) (g s : ℕ) (e : EntryView C) (x : SlotView C) (k : WorkView C)
       → IsPlaceSound readers g s e.core (record { slot = x; work = k })

@@ -4,6 +4,8 @@ use Rattle.std.proofs.lemmas.Bool.{eq-eqb, ne_eqb, false≢true}
 use Rattle.std.proofs.lemmas.Bool.Decides.{eqb_tells, nat_tests}
 use Rattle.std.proofs.lemmas.Option.{none-some, same_Some}
 use Rattle.lb_rebuild.specs.Views.{StageView, free, flight, retired, taken_out, SlotView, flight_number}
+use Rattle.lb_rebuild.specs.Calls.{left_stage, left_slot}
+use Rattle.lb_rebuild.specs.Calls as calls
 use Rattle.lb_world.specs.Steps as step
 use Rattle.lb_world.specs.declared.answer.Answer.TheVariants as answer
 use Rattle.lb_world.specs.Meanings.{Meaning}
@@ -16,18 +18,15 @@ use Rattle.lb_world.proofs.Effects.{IsPlaced, Effect}
 use Rattle.lb_world.proofs.KindFacts.{element_le_sum, work_fits_as, same_due, place_sound, place_told}
 use Rattle.lb_world.proofs.KindLists.{set_get, count_set, reads_here, reads_no_other, one_less}
 
--- one reader of that generation less
-abbrev pub left_stage : ℕ → StageView → StageView
-left_stage n free = free
-left_stage n (flight m) = flight m
-left_stage n (retired m readers) = if m == n then retired m (readers - 1) else retired m readers
-left_stage n (taken_out m) = taken_out m
+retired_as : (stage : StageView) (n : ℕ) → calls.retired_readers n stage ≡ retired_readers stage n
+retired_as free n = refl
+retired_as (flight m) n = refl
+retired_as (retired m readers) n = refl
+retired_as (taken_out m) n = refl
 
-abbrev pub left_slot : {C : Type 0} → ℕ → SlotView C → SlotView C
-left_slot n x =
-    if x.serving.generation == n
-    then record x { readers = x.readers - 1 }
-    else record x { stage = left_stage n x.stage }
+-- the readers of a generation, as the calls on a slot count them
+pub readers_as : {C : Type 0} (x : SlotView C) (n : ℕ) → calls.readers_at x n ≡ readers_at x n
+readers_as x n = ap (λ (m : ℕ). if x.serving.generation == n then x.readers else m) (retired_as x.stage n)
 
 -- the slot y is the slot x with one reader of that generation less
 pub record IsFewer {C : Type 0} (x y : SlotView C) (n : ℕ) : Type 0 where
@@ -148,6 +147,13 @@ module _ {C : Type 0} (M : Meaning C) where
       let one = element_le_sum (λ y. cond (reads g s r.generation y) 1 0) w.readers t (Some r) at_t in
       let mine = rw (reads_here r g s r.generation group slot, eq-eqb r.generation r.generation refl) at one in
       omega arith
+
+  -- so the slot may let it leave
+  pub reader_may_leave : (w : WorldView C) (g s t : ℕ) (e : EntryView C) (p : PlaceView C) (r : Entered)
+      → IsSound w → IsPlaced w g s e p → slice_get w.readers t ≡ Some (Some r) → r.group ≡ g → r.slot ≡ s
+      → 0 < calls.readers_at p.slot r.generation
+  reader_may_leave w g s t e p r sound placed at_t group slot =
+      rw (readers_as p.slot r.generation) (reader_is_in w g s t e p r sound placed at_t group slot)
 
   pub reader_left :
       (w : WorldView C) (h : History C) (g s t : ℕ) (e : EntryView C) (x : SlotView C) (k : WorkView C) (r : Entered)

@@ -5,6 +5,7 @@ pub mod Ever
 pub mod Frames
 pub mod GroupMade
 pub mod GroupUpdated
+pub mod KindAbsent
 pub mod KindAsk
 pub mod KindBuild
 pub mod KindDestroy
