@@ -3,15 +3,14 @@ use Rattle.std.proofs.Common.{◌≡◌, ℕ, Bool, true, false, ◌&&◌, ◌==
 use Rattle.std.proofs.lemmas.Bool.{and_parts, eqb-true}
 use Rattle.lb_select.specs.Backends.{Member}
 use Rattle.lb_select.specs.declared.refusal.Refusal.{Refusal}
-use Rattle.lb_world.specs.Steps.{StepView}
 use Rattle.lb_world.specs.Steps as step
 use Rattle.lb_world.specs.Meanings.{Meaning}
-use Rattle.lb_world.specs.History.{History, made, config, config_in, newest_of, members_of, generations, events, event_of, added, entries, names, grants, fails, destroys}
+use Rattle.lb_world.specs.History.{History, config, config_in, newest_of, members_of, events, entries, grants, fails, destroys}
 use Rattle.lb_world.specs.Quiet.{is_quiet}
 use Rattle.lb_world.specs.Answers.{Answers, HasDrawn, Moved, select_answer}
 use Rattle.lb_world.specs.Views.{WorldView}
 use Rattle.lb_world.specs.Sound.{IsSound}
-use Rattle.lb_world.specs.Stands.{SlotTells, Stands}
+use Rattle.lb_world.specs.Stands.{Stands}
 use Rattle.lb_world.proofs.Frames.{same_if, registries_quiet, gates_quiet, groups_quiet, made_quiet, generations_quiet}
 use Rattle.lb_world.proofs.SlotFrames.{slot_frame, count_no}
 use Rattle.lb_world.proofs.Ever.{Tells, stands_next}
@@ -83,6 +82,7 @@ module _ {C : Type 0} (M : Meaning C) (h : History C) (g s : ℕ) (key : List �
             );
       }
 
+  -- the world stands for the longer history as it is
   pub absent_stands : (w : WorldView C)
       → IsSound w → Stands M w h → config g s h ≡ None → Answers M h (step.select g s key limit words) (select_answer r)
       → Stands M w ((step.select g s key limit words, select_answer r) ∷ h)
