@@ -7,4 +7,6 @@ pub mod gate;
 mod gate_rule;
 pub mod group;
 pub mod job;
+mod least;
+pub mod schedule;
 pub mod slot;

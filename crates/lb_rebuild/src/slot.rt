@@ -1,13 +1,17 @@
 //! A slot of a group: the selector that it serves to its readers, the order that waits, and at most one extra selector.
 //! An extra is a build in flight, a retired selector, or one that was taken out to be destroyed.
-ghost use Rattle.std.specs.Prelude.{◌≡◌, ◌<◌, ◌⊎◌, ℕ, IfOk, IfErr, OnErr};
+ghost use Rattle.std.specs.Prelude.{◌≡◌, [], ◌+◌, ◌<◌, ◌⊎◌, ℕ, IfOk, IfErr, OnErr};
 ghost use Rattle.lb_rebuild.specs.Gate.{GateId};
 ghost use Rattle.lb_rebuild.specs.Kept.{IsWithoutPermit};
 
 use crate::gate::{GateCore, Permit};
 use crate::job::{Built, Job, Order};
+use crate::schedule::SlotTurn;
+use lb_select::backend::Backend;
 use lb_select::refusal::Refusal;
 use lb_select::walk::BackendSelection;
+use std::alloc::Global;
+use std::collections::BTreeSet;
 use std::marker::Model;
 use std::mem;
 use std::sync::Arc;
@@ -119,8 +123,54 @@ pub enum Told {
 }
 
 impl<S: BackendSelection> Slot<S> {
+    ghost use Rattle.lb_rebuild.specs.Groups.{turn_of};
     ghost use Rattle.lb_rebuild.specs.Calls.{AskedAt, PublishedAt, failed_slot, reader_of, enter_refusal, entered_slot, readers_at, left_slot, TakenAt, reported_stage};
-    ghost use Rattle.lb_rebuild.specs.Kept.{slot_view, IsKept, HoldsOf};
+    ghost use Rattle.lb_rebuild.specs.Kept.{slot_view, IsFresh, IsKept, IsOrdered, HoldsOf};
+
+    // A slot that serves a selector of generation 0 over these backends, of which there are none.
+    pub(crate) fn fresh(
+        alloc: Global,
+        backends: &BTreeSet<Backend>,
+        config: S::Config,
+    ) -> Result<Slot<S>, Refusal>
+        ensures { IfOk result (λ x. (backends.now.keys ≡ []) → IsFresh config x) }
+    {
+        let selector = S::build_with_config(alloc, backends, &config)?;
+        Ok(Slot {
+            config: Arc::new(alloc, config)?,
+            serving: Serving {
+                generation: 0,
+                selector: Arc::new(alloc, selector)?,
+                tickets: 0,
+            },
+            readers: 0,
+            waiting: None,
+            stage: Stage::Free,
+        })
+    }
+
+    // Whether it is busy with an earlier membership.
+    pub(crate) fn turn(&self) -> SlotTurn
+        ensures { result ≡ turn_of (slot_view self.now) }
+    {
+        match &self.stage {
+            Stage::Flight(_) => SlotTurn::Running,
+            Stage::Free | Stage::Retired(_) | Stage::TakenOut(_) => {
+                if self.waiting.is_some() {
+                    SlotTurn::Running
+                } else {
+                    SlotTurn::Start
+                }
+            }
+        }
+    }
+
+    // Lets an order of the next generation wait, in the place of an earlier one.
+    pub(crate) fn order(&mut self, order: Order<S::Config>)
+        ensures { IsOrdered self.old order self.new }
+    {
+        self.waiting = Some(order);
+    }
 
     // Asks for the build that the slot needs next.
     pub(crate) fn ask(&mut self, slot: usize, gate: &mut GateCore) -> Ask<S>
@@ -288,6 +338,23 @@ impl<S: BackendSelection> Slot<S> {
     {
         if let Stage::TakenOut(_) = &self.stage {
             clear(&mut self.stage);
+        }
+    }
+}
+
+impl<S: BackendSelection> Drop for Slot<S> {
+    // The gate of a retired selector that is dropped here never grants again.
+    fn drop(self) {
+        let Slot {
+            config: _,
+            serving: _,
+            readers: _,
+            waiting: _,
+            stage,
+        } = self;
+        match stage {
+            Stage::Retired(retired) => retired.destroy().spend(),
+            Stage::Free | Stage::Flight(_) | Stage::TakenOut(_) => {}
         }
     }
 }

@@ -1,3 +1,4 @@
+pub mod Done
 pub mod Effects
 pub mod EmptyWorld
 pub mod EntrySteps

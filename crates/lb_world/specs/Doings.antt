@@ -1,11 +1,11 @@
 -- What the steps do at one slot of one group: relations by cases on the answer, between what is seen before and after.
-use Rattle.std.specs.Prelude.{◌≡◌, ◌≢◌, ◌<◌, ◌⊎◌, ◌&&◌, ℕ, Bool, true, false, not, List, length, replicate, Option, Some, None, IsSome, Result, Ok, Err, slice_get}
+use Rattle.std.specs.Prelude.{◌≡◌, ◌≢◌, ◌<◌, ◌+◌, ◌-◌, ◌^◌, ◌⊎◌, ◌&&◌, ℕ, Bool, true, false, not, List, length, replicate, Option, Some, None, IsSome, Result, Ok, Err, slice_get}
 use Rattle.lb_select.specs.Backends.{Member}
 use Rattle.lb_select.specs.declared.refusal.Refusal.{Refusal}
 use Rattle.lb_select.specs.declared.refusal.Refusal.TheVariants as refusal
 use Rattle.lb_rebuild.specs.Gate.{GateId, GateView, gate}
 use Rattle.lb_rebuild.specs.Views.{StageView, free, flight, retired, OrderView, Task, ServingView, ReaderView, SlotView, GroupView, is_flying}
-use Rattle.lb_rebuild.specs.Calls.{is_free, put_back, serving_of}
+use Rattle.lb_rebuild.specs.Calls.{is_free, put_back, serving_of, readers_at, left_slot}
 use Rattle.lb_world.specs.declared.answer.Answer.{Answer}
 use Rattle.lb_world.specs.declared.answer.Answer.TheVariants as answer
 use Rattle.lb_world.specs.Views.{WorkView, nothing, building, ready, PlaceView, EntryView, with_place, task_of}
@@ -98,3 +98,25 @@ module _ {C : Type 0} where
       (x : SlotView C) × (k : WorkView C) × (n : ℕ) × IsAt e s x k × (x.stage ≡ retired n 0)
       × (e' ≡ with_place e s (record { slot = record x { stage = free }; work = k })) × (z' ≡ gate z.id false)
   DidDestroy e s z a e' z' = ⊥
+
+  -- a reader entered what the slot serves, or nobody did: there is no such slot, its readers are at the greatest number, or
+  -- memory was refused
+  abbrev pub DidEnter : EntryView C → ℕ → Result (ReaderView C) Refusal → EntryView C → Type 0
+  DidEnter e s (Ok r) e' =
+      (x : SlotView C) × (k : WorkView C) × IsAt e s x k
+      × (x.readers < 2 ^ 64 - 1) × (r.slot ≡ s) × (r.generation ≡ x.serving.generation)
+      × (e' ≡ with_place e s (record { slot = record x { readers = x.readers + 1 }; work = k }))
+  DidEnter e s (Err r) e' =
+      (NoSlot e s r
+          ⊎ ((x : SlotView C) × (k : WorkView C) × IsAt e s x k
+              × (((r ≡ refusal.NumbersExhausted) × (x.readers ≡ 2 ^ 64 - 1)) ⊎ ((r ≡ refusal.OutOfMemory) × (x.readers < 2 ^ 64 - 1)))))
+      × (e' ≡ e)
+
+  -- a reader of that generation is in the slot
+  abbrev pub IsInside : EntryView C → ℕ → ℕ → Type 0
+  IsInside e s n = (x : SlotView C) × (slice_get e.core.slots s ≡ Some x) × (0 < readers_at x n)
+
+  -- a reader of that generation left the slot
+  abbrev pub DidLeave : EntryView C → ℕ → ℕ → EntryView C → Type 0
+  DidLeave e s n e' =
+      (x : SlotView C) × (k : WorkView C) × IsAt e s x k × (e' ≡ with_place e s (record { slot = left_slot n x; work = k }))

@@ -3,7 +3,7 @@
 ghost use Rattle.std.specs.Prelude.{◌≡◌, MatchOption};
 ghost use Rattle.lb_world.specs.Views.{nothing, building, ready};
 ghost use Rattle.lb_world.specs.Works.{work_view};
-ghost use Rattle.lb_world.specs.Doings.{AgreesAt, DidAsk, DidBuild, DidPublish, DidDestroy, IsNotBuilding, IsNotReady};
+ghost use Rattle.lb_world.specs.Doings.{AgreesAt, DidAsk, DidBuild, DidPublish, DidDestroy, DidEnter, IsInside, DidLeave, IsNotBuilding, IsNotReady};
 
 use crate::answer::Answer;
 use lb_rebuild::gate::GateCore;
@@ -173,6 +173,23 @@ impl<S: BackendSelection> Entry<S> {
                 Answer::Destroyed
             }
         }
+    }
+
+    // Lets a reader enter what the slot serves.
+    pub(crate) fn enter(&mut self, slot: usize) -> Result<Reader<S>, Refusal>
+        requires agrees { AgreesAt self.old }
+        ensures { DidEnter self.old slot result self.new }
+    {
+        self.core.enter(slot)
+    }
+
+    // Lets a reader leave its slot.
+    pub(crate) fn leave(&mut self, reader: Reader<S>)
+        requires inside { IsInside self.old reader.slot reader.generation }
+        requires agrees { AgreesAt self.old }
+        ensures { DidLeave self.old reader.slot reader.generation self.new }
+    {
+        self.core.leave(reader);
     }
 }
 
