@@ -6,6 +6,7 @@ pub mod Ever
 pub mod Frames
 pub mod GroupMade
 pub mod GroupUpdated
+pub mod Held
 pub mod KindAbsent
 pub mod KindAsk
 pub mod KindBuild
@@ -17,6 +18,9 @@ pub mod KindLeave
 pub mod KindLists
 pub mod KindPublish
 pub mod KindSelect
+pub mod LawAnswers
+pub mod LawSelect
+pub mod Laws
 pub mod MadeAnswers
 pub mod Makers
 pub mod Permits
