@@ -4,3 +4,4 @@ pub mod GateStores
 pub mod Groups
 pub mod Orders
 pub mod Scheduling
+pub mod Selecting

@@ -8,7 +8,7 @@ use Rattle.lb_rebuild.specs.Views.{SlotView, GroupView}
 use Rattle.lb_rebuild.specs.Fresh.{fresh_slot}
 use Rattle.lb_rebuild.specs.Kept.{slot_view, IsKept, IsFresh, AreFresh, AreOrdered}
 use Rattle.lb_rebuild.specs.Groups.{ordered, turn_of}
-use Rattle.lb_rebuild.specs.Memberships.{same_members}
+use Rattle.lb_select.specs.Memberships.{same_members}
 use Rattle.lb_rebuild.specs.declared.slot.Slot.{Slot}
 use Rattle.lb_rebuild.specs.declared.schedule.SlotTurn.{SlotTurn}
 use Rattle.lb_rebuild.proofs.Groups.{group_of}

@@ -5,7 +5,7 @@ use Rattle.lb_select.specs.declared.refusal.Refusal.{Refusal}
 use Rattle.lb_select.specs.declared.refusal.Refusal.TheVariants.{GenerationsExhausted, OutOfMemory}
 use Rattle.lb_rebuild.specs.Gate.{GateId}
 use Rattle.lb_rebuild.specs.Views.{StageView, free, ServingView, OrderView, SlotView, GroupView, is_flying}
-use Rattle.lb_rebuild.specs.Memberships.{same_members}
+use Rattle.lb_select.specs.Memberships.{same_members}
 use Rattle.lb_rebuild.specs.declared.schedule.SlotTurn.{SlotTurn}
 use Rattle.lb_rebuild.specs.declared.schedule.SlotTurn.TheVariants.{Running, Start}
 use Rattle.lb_rebuild.specs.declared.schedule.Scheduled.{Scheduled}

@@ -3,7 +3,9 @@ pub mod Fresh
 pub mod Gate
 pub mod GateRule
 pub mod Groups
+pub mod Handed
 pub mod Kept
 pub mod Least
 pub mod Memberships
+pub mod Selecting
 pub mod Views

@@ -1,4 +1,5 @@
-//! A group of slots.
+//! A group: a membership of backends in numbered generations, and slots that each serve one selector built from it.
+//! A call tests all that it can refuse for before it changes anything; builds run elsewhere, between `ask` and `publish`.
 ghost use Rattle.std.specs.Prelude.{◌≡◌, [], map, not, IfOk, ◌<◌, ◌≤◌, length, slice_get, slice_index, IfSome, IfNone, false};
 ghost use Rattle.std.specs.Option.{IsSomeAnd};
 ghost use Rattle.std.specs.Arc.{arc_value};
@@ -8,9 +9,10 @@ ghost use Rattle.lb_rebuild.specs.Fresh.{fresh_group};
 ghost use Rattle.lb_rebuild.specs.Groups.{ScheduledIn};
 ghost use Rattle.lb_rebuild.specs.Kept.{AreFresh};
 ghost use Rattle.lb_rebuild.specs.Least.{least};
-ghost use Rattle.lb_rebuild.specs.Memberships.{same_members};
+ghost use Rattle.lb_select.specs.Memberships.{same_members};
+ghost use Rattle.lb_rebuild.specs.Selecting.{SelectedIn};
 ghost use Rattle.lb_rebuild.specs.Views.{served_list, with_slot};
-ghost use Rattle.lb_rebuild.specs.Calls.{Asked, PublishedIn, FailedIn, EnteredIn, TakenIn, DestroyedIn, readers_at, left_slot};
+ghost use Rattle.lb_rebuild.specs.Calls.{Asked, PublishedIn, Rises, FailedIn, EnteredIn, TakenIn, DestroyedIn, readers_at, left_slot};
 
 use crate::gate::{GateCore, Permit};
 use crate::least::least_refusal;
@@ -191,7 +193,8 @@ impl<S: BackendSelection> GroupCore<S> {
     pub fn publish(&mut self, built: Built<S>) -> Told
         requires permit { built.permit ≡ self.old.gate }
         requires slot { built.slot < length self.old.slots }
-        ensures { PublishedIn self.old built result self.new }
+        ensures told { PublishedIn self.old built result self.new }
+        ensures rises { Rises self.old built result }
     {
         let slot = built.slot();
         self.slots[slot].publish(built)
@@ -223,6 +226,30 @@ impl<S: BackendSelection> GroupCore<S> {
             selector: _,
         } = reader;
         self.slots[slot].leave(generation);
+    }
+
+    /// Selects from what a slot serves: the first candidate of the selector's walk for `key`, among the first `limit`. Tickets
+    /// go on from those that earlier selections drew; random words are the ones handed in. A slot that is not there selects
+    /// nothing.
+    ///
+    /// # Errors
+    ///
+    /// `NotEnoughWords` where walks over the selector may draw random words and at most `limit` of them are handed in, and
+    /// then nothing changes; `OutOfMemory`, and then at most `limit + 1` words are drawn.
+    pub fn select(
+        &mut self,
+        alloc: Global,
+        slot: usize,
+        key: &[u8],
+        limit: usize,
+        random: &[u64],
+    ) -> Result<Option<Backend>, Refusal>
+        ensures { SelectedIn S.may_draw_random S.walks self.old slot key.now limit random.now result self.new }
+    {
+        if slot >= self.slots.len() {
+            return Ok(None);
+        }
+        self.slots[slot].select(alloc, key, limit, random)
     }
 
     /// Takes a retired selector out of its slot, to be destroyed and then reported. It takes no memory.

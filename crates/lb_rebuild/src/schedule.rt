@@ -2,7 +2,8 @@
 //! What takes memory is made here before anything changes.
 ghost use Rattle.std.specs.Prelude.{◌≡◌, map, length, IfOk};
 ghost use Rattle.std.specs.Arc.{arc_value};
-ghost use Rattle.lb_rebuild.specs.Memberships.{same_members as are_same, are_among};
+ghost use Rattle.lb_select.specs.Memberships.{same_members as are_same};
+ghost use Rattle.lb_rebuild.specs.Memberships.{are_among};
 ghost use Rattle.std.specs.List.{list_any};
 ghost use Rattle.lb_select.specs.Backends.{same_member};
 ghost use Rattle.lb_rebuild.specs.Groups.{turn_of, order_for};

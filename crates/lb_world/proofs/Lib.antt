@@ -1,7 +1,10 @@
 pub mod Done
+pub mod DoneMore
 pub mod Effects
 pub mod EmptyWorld
+pub mod EntryReaders
 pub mod EntrySteps
+pub mod EntryUpdates
 pub mod Ever
 pub mod Frames
 pub mod GroupMade
@@ -26,6 +29,7 @@ pub mod Makers
 pub mod Permits
 pub mod PlaceCases
 pub mod Places
+pub mod SelectAbsent
 pub mod SlotFrames
 pub mod SoundPlaces
 pub mod Sums

@@ -3,7 +3,7 @@ use Rattle.std.proofs.Common.{◌≡◌, ◌+◌, ◌∙◌, List, false, map, s
 use Rattle.std.specs.Arc.{arc_value}
 use Rattle.lb_select.specs.Backends.{Member}
 use Rattle.lb_rebuild.specs.Views.{GroupView}
-use Rattle.lb_rebuild.specs.Memberships.{same_members}
+use Rattle.lb_select.specs.Memberships.{same_members}
 use Rattle.lb_rebuild.specs.Groups.{turn_of}
 use Rattle.lb_rebuild.specs.Kept.{slot_view, AllKept, AreOrdered}
 use Rattle.lb_rebuild.proofs.Orders.{orders_of, ordered_kept}

@@ -26,10 +26,10 @@ pub unreachable-requires : goal.unreachable-requires
 unreachable-requires g c =
     let agrees = rw (← c.self.view_is) at c.requires.agrees in
     let within : c.args.slot < length c.self.inside.works.items = omega (arith, c.len.ensures) in
-    not_abandoned _ _ _ _ _ _ agrees within c.index_mut-place.ensures.value c.in-Some.ensures.0 c.in-Abandoned.ensures
+    not_abandoned _ _ _ _ _ _ agrees within c.index_mut-place.ensures.value c.in-Some.ensures.0 c.in-Abandoned.ensures.told
 
 pub returns : goal.returns
 returns g c =
     let agrees = rw (← c.self.view_is) at c.requires.agrees in
     let within : c.args.slot < length c.self.inside.works.items = omega (arith, c.len.ensures) in
-    rw (← c.self.view_is) (did_publish _ _ _ _ _ _ _ agrees within c.index_mut-place.ensures.value c.in-Some.ensures.0 c.in-Some.ensures.1 c.in-Published.ensures)
+    rw (← c.self.view_is) (did_publish _ _ _ _ _ _ _ agrees within c.index_mut-place.ensures.value c.in-Some.ensures.0 c.in-Some.ensures.1 c.in-Published.ensures.told)
