@@ -1,6 +1,6 @@
 -- The permits that a world's groups hold are as many as the slots with a build in flight or a retired selector.
-use Rattle.std.proofs.Common.{◌≡◌, ℕ, suc, ◌+◌, Bool, true, false, ◌||◌, ◌==◌, cond, List, [], ◌∷◌, length, refl, sym, ap, ◌∙◌, arith}
-use Rattle.std.specs.Prelude.{Option, Some, None, is_some, slice_get}
+use Rattle.std.proofs.Common.{◌≡◌, ℕ, suc, ◌+◌, ◌||◌, cond, List, [], ◌∷◌, length, refl, arith}
+use Rattle.std.specs.Prelude.{Some, is_some, slice_get}
 use Rattle.std.specs.List.{sum_by, range_with_len}
 use Rattle.std.proofs.lemmas.List.Sums.{sum_by-cons}
 use Rattle.lb_rebuild.specs.Views.{StageView, free, flight, retired, taken_out, SlotView, GroupView}

@@ -1,5 +1,5 @@
 -- Which answers come to which steps: a publication to the order to publish alone, a destruction to the order to destroy alone.
-use Rattle.std.proofs.Common.{◌≡◌, ◌⊎◌, inl, inr, ℕ, ◌+◌, ◌-◌, ◌^◌, ◌<◌, Bool, true, false, ◌==◌, ◌&&◌, if◌then◌else◌, List, [], length, map, refl, sym, ap, ◌∙◌, arith}
+use Rattle.std.proofs.Common.{◌≡◌, ◌⊎◌, inl, inr, ℕ, ◌+◌, ◌-◌, ◌^◌, ◌<◌, Bool, true, false, ◌==◌, ◌&&◌, if◌then◌else◌, [], length, map, refl, sym, ap, ◌∙◌, arith}
 use Rattle.std.specs.Prelude.{Option, Some, None, Result, Ok, Err, MatchOption, slice_get, nat_lt}
 use Rattle.std.proofs.lemmas.Bool.{false≢true, and_parts, eqb-true}
 use Rattle.std.proofs.lemmas.Bool.Decides.{nat_tests}
@@ -14,7 +14,7 @@ use Rattle.lb_world.specs.declared.answer.Answer.{Answer}
 use Rattle.lb_world.specs.declared.answer.Answer.TheVariants as answer
 use Rattle.lb_world.specs.Meanings.{Meaning}
 use Rattle.lb_world.specs.History.{History, Made, Entered, names, present, registries, gates, groups, made, config, config_in, newest, members, events, served, flight, ready, retired, entries, readers_in, extras}
-use Rattle.lb_world.specs.Answers.{Answers, Selection, SelectAnswers, Selected, answer_after, without_memory, refuse, unless_refused, no_such, has_refused, gate_number, at_slot, update_answer, group_update, ask_answer, built_or_failed, build_answer, publish_answer, enter_answer, leave_answer, destroy_answer, select_answer}
+use Rattle.lb_world.specs.Answers.{Answers, Selection, SelectAnswers, answer_after, without_memory, refuse, unless_refused, no_such, has_refused, gate_number, at_slot, update_answer, group_update, ask_answer, built_or_failed, build_answer, publish_answer, enter_answer, leave_answer, destroy_answer, select_answer}
 use Rattle.lb_world.specs.Lawful.{DestroysExactly}
 
 module _ {C : Type 0} where
@@ -125,27 +125,27 @@ module _ {C : Type 0} (M : Meaning C) where
       let st : StepView C = step.group r z configs in
       either_fits st a (answer_after M h st)
       (unless_fits st (earlier (no_such (nat_lt r (registries h) && nat_lt z (gates h))) (least (map (M.refusal []) configs)))
-          (answer.Group (groups h)) refl)
+      (answer.Group (groups h)) refl)
       right
   step_fits h (step.update g now backends) a right =
       let st : StepView C = step.update g now backends in
       let same : Bool = same_members (present backends) (members g (newest g h) h) in
       either_fits st a (answer_after M h st)
       (if_fits st (has_refused backends) (refuse refusal.InvalidAddress) (group_update (made g h) (update_answer (newest g h) same))
-          refl (update_fits st (made g h) (newest g h) same))
+      refl (update_fits st (made g h) (newest g h) same))
       right
   step_fits h (step.ask g s now) a right =
       let st : StepView C = step.ask g s now in
       let more : ℕ = extras (gate_number (made g h)) h in
       either_fits st a (answer_after M h st)
       (slot_fits st (config g s h) (λ c. ask_answer (flight (events g s h)) (served (events g s h)) (newest g h) more)
-          (λ c. ask_fits st (flight (events g s h)) (served (events g s h)) (newest g h) more))
+      (λ c. ask_fits st (flight (events g s h)) (served (events g s h)) (newest g h) more))
       right
   step_fits h (step.build g s now) a right =
       let st : StepView C = step.build g s now in
       either_fits st a (answer_after M h st)
       (slot_fits st (config g s h) (λ c. build_answer (flight (events g s h)) (ready (events g s h)) (λ n. M.refusal (members g n h) c))
-          (λ c. build_fits st (flight (events g s h)) (ready (events g s h)) (λ n. M.refusal (members g n h) c)))
+      (λ c. build_fits st (flight (events g s h)) (ready (events g s h)) (λ n. M.refusal (members g n h) c)))
       right
   step_fits h (step.publish g s) a right =
       let st : StepView C = step.publish g s in
@@ -165,7 +165,7 @@ module _ {C : Type 0} (M : Meaning C) where
       let st : StepView C = step.destroy g s in
       either_fits st a (answer_after M h st)
       (slot_fits st (config g s h) (λ c. destroy_answer (retired (events g s h)) (λ n. readers_in g s n h))
-          (λ c. destroy_fits st (retired (events g s h)) (λ n. readers_in g s n h) refl))
+      (λ c. destroy_fits st (retired (events g s h)) (λ n. readers_in g s n h) refl))
       right
   step_fits h (step.select g s key limit words) a right =
       select_fits (step.select g s key limit words) h g s (record { key = key; limit = limit; words = words }) a right
@@ -231,6 +231,7 @@ read_when (Some c) (Some m) readers n e = by_test (readers m == 0) refl e
   where
     some_read : (k : ℕ) → (k == 0) ≡ false → 0 < k
     some_read k is = grind (arith, nat_tests)
+
     by_test : (b : Bool) → (readers m == 0) ≡ b
         → (if b then answer.Destroyed else refuse (refusal.StillRead (readers m))) ≡ answer.Refused (refusal.StillRead n)
         → (0 < n) × ((m2 : ℕ) × (Some m ≡ Some m2) × (readers m2 ≡ n))

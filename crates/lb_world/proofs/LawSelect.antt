@@ -1,20 +1,17 @@
 -- A selection that isn't refused answers the first accepted backend among the distinct of the first candidates.
-use Rattle.std.proofs.Common.{◌≡◌, ◌⊎◌, inl, inr, ℕ, ◌+◌, ◌<◌, ◌≤◌, Bool, true, false, List, [], ◌∷◌, ◌++◌, length, refl, sym, ap, ◌∙◌, arith}
-use Rattle.std.specs.Prelude.{Option, Some, None, Result, Ok, Err, MatchOption, MatchBool, ◌&&◌, nat_le}
+use Rattle.std.proofs.Common.{◌≡◌, inl, inr, ℕ, Bool, true, false, List, refl, sym, ◌∙◌, arith}
+use Rattle.std.specs.Prelude.{Option, Some, None, Result, Ok, Err, MatchOption, MatchBool}
 use Rattle.lb_select.specs.Backends.{Member, same_member}
 use Rattle.lb_select.specs.Draws.{Draw}
-use Rattle.lb_select.specs.Selections.{IsAnswer, IsWalked, Selects}
+use Rattle.lb_select.specs.Selections.{IsAnswer, Selects}
 use Rattle.lb_select.specs.declared.refusal.Refusal.{Refusal}
 use Rattle.lb_select.proofs.Laws.{first_accepted as first_found}
-use Rattle.lb_select.proofs.Lists.{append-nil}
 use Rattle.lb_rebuild.specs.Handed.{Handed, HandedGives}
-use Rattle.lb_world.specs.Steps.{StepView}
 use Rattle.lb_world.specs.declared.answer.Answer.{Answer}
 use Rattle.lb_world.specs.declared.answer.Answer.TheVariants as answer
 use Rattle.lb_world.specs.Meanings.{Meaning}
-use Rattle.lb_world.specs.Selecting.{SelectsServed}
 use Rattle.lb_world.specs.History.{History, made, config, members, served, events}
-use Rattle.lb_world.specs.Answers.{Selection, SelectAnswers, Selected, HasDrawn, select_answer}
+use Rattle.lb_world.specs.Answers.{SelectAnswers, HasDrawn, select_answer}
 use Rattle.lb_world.specs.Lawful.{accepted, selected, AreEnough, IsFirstAccepted}
 use Rattle.lb_world.proofs.LawAnswers.{match_config}
 
@@ -43,9 +40,9 @@ enough_drawn limit cs ended (Some b) answered = tt
 -- what a selection found is the first that is accepted
 found_first : (walks : List Draw → List Member → Bool → Type 0) (b : Bool) (limit : ℕ) (words : List ℕ) (t : ℕ) (r : Option Member) (A : Refusal) (u : ℕ)
     → MatchBool b ((Ok r ≡ Err A) × (u ≡ t))
-        ((left : Handed)
-        × Selects same_member (λ b a. a ≡ true) limit HandedGives walks (record { tickets = t; words = words }) (Ok r) left
-        × (u ≡ left.tickets))
+    ((left : Handed)
+    × Selects same_member (λ b a. a ≡ true) limit HandedGives walks (record { tickets = t; words = words }) (Ok r) left
+    × (u ≡ left.tickets))
     → IsFirstAccepted walks limit words t r
 found_first walks true limit words t r A u h = let clash = h.0 in absurd (cc)
 found_first walks false limit words t r A u h =
@@ -59,7 +56,7 @@ found_first walks false limit words t r A u h =
       left = h.0;
       drawn = h.1.2.drawn;
       walked = h.1.2.walked;
-      first = rw append-nil at (first_found same_member accepted limit cs ended r [] answered (λ over. refl));
+      first = λ more over. first_found same_member accepted limit cs ended r more answered over;
       enough = enough_drawn limit cs ended r answered;
     }
 
@@ -68,7 +65,7 @@ module _ {C : Type 0} (M : Meaning C) where
       (h : History C) (g s : ℕ) (key : List ℕ) (limit : ℕ) (words : List ℕ) (a : Answer) (r : Option Member)
       → SelectAnswers M h g s (record { key = key; limit = limit; words = words }) a → a ≡ selected r
       → MatchOption (config g s h) (r ≡ None)
-          (λ c. (t : ℕ) × HasDrawn M g s h t × IsFirstAccepted (M.walks (members g (served (events g s h)) h) c key) limit words t r)
+      (λ c. (t : ℕ) × HasDrawn M g s h t × IsFirstAccepted (M.walks (members g (served (events g s h)) h) c key) limit words t r)
   selection_first h g s key limit words a r right is =
       elim (match_config (made g h) s _ _ _ right) [
         | inl none ↦

@@ -1,17 +1,15 @@
 -- The promises over histories: each follows from what a world that stands for a history knows of it.
-use Rattle.std.proofs.Common.{◌≡◌, ◌⊎◌, inl, inr, ℕ, ◌<◌, ◌≤◌, Bool, true, false, ◌==◌, ◌∷◌, [], List, length, if◌then◌else◌, refl, sym, ap, ◌∙◌, arith}
-use Rattle.std.specs.Prelude.{Option, Some, None, Result, Ok, Err, slice_get, MatchOption}
-use Rattle.std.proofs.lemmas.Bool.{false≢true, and_parts, eqb-true, lt-ltb}
-use Rattle.std.proofs.lemmas.Option.{none-some}
+use Rattle.std.proofs.Common.{◌≡◌, inl, inr, ℕ, ◌<◌, ◌≤◌, Bool, true, false, ◌∷◌, [], List, if◌then◌else◌, refl, ap, ◌∙◌, arith}
+use Rattle.std.proofs.lemmas.Bool.{lt-ltb}
 use Rattle.lb_world.specs.Steps.{StepView}
 use Rattle.lb_world.specs.Steps as step
 use Rattle.lb_world.specs.declared.answer.Answer.{Answer}
 use Rattle.lb_world.specs.declared.answer.Answer.TheVariants as answer
 use Rattle.lb_world.specs.Meanings.{Meaning}
-use Rattle.lb_world.specs.History.{History, SlotEvent, names, event_of, added, config, made, events, served, flight, ready, retired, newest, readers_in, extras}
+use Rattle.lb_world.specs.History.{History, SlotEvent, names, event_of, added, events, served, newest}
 use Rattle.lb_world.specs.Answers.{Answers, IsRun, answer_after, without_memory}
 use Rattle.lb_world.specs.Views.{WorldView}
-use Rattle.lb_world.specs.Lawful.{Always, EachStep, OneExtra, ExtrasAre, InOrder, Waits, or_zero, NewestServed, NeverFalls, FreeGateGrants, ReadersExact, FirstAccepted}
+use Rattle.lb_world.specs.Lawful.{Always, EachStep, OneExtra, ExtrasAre, InOrder, NewestServed, NeverFalls, FreeGateGrants, ReadersExact, FirstAccepted}
 use Rattle.lb_world.specs.Stands.{Stands}
 use Rattle.lb_world.proofs.LawAnswers.{published_ready, destruction, step_destroys}
 use Rattle.lb_world.proofs.LawSelect.{selection_first}

@@ -1,5 +1,5 @@
 -- What holds of a history after every step, in the words of the promises.
-use Rattle.std.specs.Prelude.{◌≡◌, ◌<◌, ◌≤◌, ◌==◌, ◌⊎◌, ◌||◌, ℕ, Bool, true, false, max, List, [], ◌∷◌, length, take, sum_by, count_by, find, Option, Some, None, is_some, MatchOption, if◌then◌else◌}
+use Rattle.std.specs.Prelude.{◌≡◌, ◌<◌, ◌≤◌, ◌==◌, ◌⊎◌, ◌||◌, ℕ, Bool, true, max, List, [], ◌∷◌, ◌++◌, length, take, sum_by, count_by, find, Option, Some, None, is_some, MatchOption, if◌then◌else◌}
 use Rattle.std.specs.List.{range_with_len}
 use Rattle.lb_select.specs.Backends.{Member, same_member}
 use Rattle.lb_select.specs.Draws.{Draw, Gives}
@@ -11,7 +11,7 @@ use Rattle.lb_world.specs.Steps as step
 use Rattle.lb_world.specs.declared.answer.Answer.{Answer}
 use Rattle.lb_world.specs.declared.answer.Answer.TheVariants as answer
 use Rattle.lb_world.specs.Meanings.{Meaning}
-use Rattle.lb_world.specs.History.{History, SlotEvent, names, made, config, served, flight, ready, retired, events, newest, members, gates, groups, is_on, readers_in, extras}
+use Rattle.lb_world.specs.History.{History, names, made, config, served, flight, ready, retired, events, newest, members, gates, groups, is_on, readers_in, extras}
 use Rattle.lb_world.specs.Answers.{gate_number, slots_of, HasDrawn}
 
 -- a number, or 0 where there is none
@@ -110,8 +110,9 @@ abbrev pub AreEnough : ℕ → List Member → Bool → Option Member → Type 0
 AreEnough limit cs ended None = (limit < length cs) ⊎ (ended ≡ true)
 AreEnough limit cs ended (Some b) = Unit {0}
 
--- A walk with these draws, its tickets from t on and its random words from those handed in, gave these candidates; r is the
--- first accepted backend among the distinct of the first `limit` of them.
+-- A walk with these draws, its tickets from t on and its random words from those handed in, gave these candidates. However it
+-- would have gone on, r is the first accepted backend among the distinct of its first `limit` candidates, or None where none
+-- of them is accepted.
 pub record IsFirstAccepted (walks : List Draw → List Member → Bool → Type 0) (limit : ℕ) (words : List ℕ) (t : ℕ) (r : Option Member) : Type 0 where
   pub draws : List Draw
   pub candidates : List Member
@@ -119,7 +120,7 @@ pub record IsFirstAccepted (walks : List Draw → List Member → Bool → Type 
   pub left : Handed
   pub drawn : Gives HandedGives (record { tickets = t; words = words }) draws left
   pub walked : walks draws candidates ended
-  pub first : find accepted (distinct same_member (take limit candidates)) ≡ r
+  pub first : (more : List Member) → (ended ≡ true → more ≡ []) → find accepted (distinct same_member (take limit (candidates ++ more))) ≡ r
   pub enough : AreEnough limit candidates ended r
 
 module _ {C : Type 0} (M : Meaning C) where
@@ -129,5 +130,5 @@ module _ {C : Type 0} (M : Meaning C) where
   FirstAccepted h (step.select g s key limit words) a =
       (r : Option Member) → a ≡ selected r
       → MatchOption (config g s h) (r ≡ None)
-          (λ c. (t : ℕ) × HasDrawn M g s h t × IsFirstAccepted (M.walks (members g (served (events g s h)) h) c key) limit words t r)
+      (λ c. (t : ℕ) × HasDrawn M g s h t × IsFirstAccepted (M.walks (members g (served (events g s h)) h) c key) limit words t r)
   FirstAccepted h st a = Unit {0}
