@@ -2,6 +2,7 @@ pub mod Apart
 pub mod Causes
 pub mod GateStores
 pub mod Groups
+pub mod Listed
 pub mod Orders
 pub mod Scheduling
 pub mod Selecting

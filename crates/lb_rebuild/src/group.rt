@@ -1,6 +1,6 @@
 //! A group: a membership of backends in numbered generations, and slots that each serve one selector built from it.
 //! A call tests all that it can refuse for before it changes anything; builds run elsewhere, between `ask` and `publish`.
-ghost use Rattle.std.specs.Prelude.{◌≡◌, [], map, not, IfOk, ◌<◌, ◌≤◌, length, slice_get, slice_index, IfSome, IfNone, false};
+ghost use Rattle.std.specs.Prelude.{◌≡◌, [], map, not, IfOk, ◌<◌, ◌≤◌, length, slice_get, slice_index, IfSome, IfNone, false, filter_map};
 ghost use Rattle.std.specs.Option.{IsSomeAnd};
 ghost use Rattle.std.specs.Arc.{arc_value};
 ghost use Rattle.lb_select.specs.Refusals.{Refuses};
@@ -86,10 +86,10 @@ impl<S: BackendSelection> GroupCore<S> {
         }
     }
 
-    /// Whether this list of backends has other backends than the newest membership, by identity. It takes no memory, and
-    /// compares each backend with each.
-    pub fn differs(&self, backends: &[Backend]) -> bool
-        ensures { result ≡ not (same_members backends.now self.now.current) }
+    /// Whether this list has other backends than the newest membership, by identity; `None` stands for no backend. It takes no
+    /// memory, and compares each backend with each.
+    pub fn differs(&self, backends: &[Option<Backend>]) -> bool
+        ensures { result ≡ not (same_members (filter_map (λ b. b) backends.now) self.now.current) }
     {
         !lists_members(backends, &self.current)
     }

@@ -1,10 +1,10 @@
 //! A new membership of a group: whether it differs from the newest, and an order for each slot.
 //! What takes memory is made here before anything changes.
-ghost use Rattle.std.specs.Prelude.{◌≡◌, map, length, IfOk};
+ghost use Rattle.std.specs.Prelude.{◌≡◌, ◌&&◌, map, length, IfOk};
 ghost use Rattle.std.specs.Arc.{arc_value};
 ghost use Rattle.lb_select.specs.Memberships.{same_members as are_same};
-ghost use Rattle.lb_rebuild.specs.Memberships.{are_among};
-ghost use Rattle.std.specs.List.{list_any};
+ghost use Rattle.lb_rebuild.specs.Memberships.{are_among, none_or, some_and};
+ghost use Rattle.std.specs.List.{list_all, list_any};
 ghost use Rattle.lb_select.specs.Backends.{same_member};
 ghost use Rattle.lb_rebuild.specs.Groups.{turn_of, order_for};
 ghost use Rattle.lb_rebuild.specs.Kept.{slot_view, AreOrdered};
@@ -44,9 +44,10 @@ pub(crate) fn same_members(discovered: &BTreeSet<Backend>, current: &BTreeSet<Ba
     is_subset(discovered, current) && is_subset(current, discovered)
 }
 
-// The same of a list, without memory.
-pub(crate) fn lists_members(backends: &[Backend], current: &BTreeSet<Backend>) -> bool
-    ensures { result ≡ are_same backends.now current.now.keys }
+// The same of a list, without memory; `None` stands for no backend.
+pub(crate) fn lists_members(backends: &[Option<Backend>], current: &BTreeSet<Backend>) -> bool
+    ensures { result ≡ (list_all (none_or (λ x. list_any (same_member x) current.now.keys)) backends.now
+        && list_all (λ y. list_any (some_and (same_member y)) backends.now) current.now.keys) }
 {
     holds_all(current, backends) && lists_all(backends, current)
 }
@@ -57,22 +58,40 @@ fn is_subset(backends: &BTreeSet<Backend>, others: &BTreeSet<Backend>) -> bool
     backends.iter().all(|backend| others.contains(backend))
 }
 
-fn holds_all(others: &BTreeSet<Backend>, backends: &[Backend]) -> bool
-    ensures { result ≡ are_among backends.now others.now.keys }
+fn holds_all(others: &BTreeSet<Backend>, backends: &[Option<Backend>]) -> bool
+    ensures { result ≡ list_all (none_or (λ x. list_any (same_member x) others.now.keys)) backends.now }
 {
-    backends.iter().all(|backend| others.contains(backend))
+    backends.iter().all(|place| holds(others, place))
 }
 
-fn lists_all(others: &[Backend], backends: &BTreeSet<Backend>) -> bool
-    ensures { result ≡ are_among backends.now.keys others.now }
+fn holds(others: &BTreeSet<Backend>, place: &Option<Backend>) -> bool
+    ensures { result ≡ none_or (λ x. list_any (same_member x) others.now.keys) place.now }
+{
+    match place {
+        Some(backend) => others.contains(backend),
+        None => true,
+    }
+}
+
+fn lists_all(others: &[Option<Backend>], backends: &BTreeSet<Backend>) -> bool
+    ensures { result ≡ list_all (λ y. list_any (some_and (same_member y)) others.now) backends.now.keys }
 {
     backends.iter().all(|backend| lists(others, backend))
 }
 
-fn lists(others: &[Backend], backend: &Backend) -> bool
-    ensures { result ≡ list_any (same_member backend.now) others.now }
+fn lists(others: &[Option<Backend>], backend: &Backend) -> bool
+    ensures { result ≡ list_any (some_and (same_member backend.now)) others.now }
 {
-    others.iter().any(|other| backend == other)
+    others.iter().any(|place| is_backend(place, backend))
+}
+
+fn is_backend(place: &Option<Backend>, backend: &Backend) -> bool
+    ensures { result ≡ some_and (same_member backend.now) place.now }
+{
+    match place {
+        Some(other) => backend == other,
+        None => false,
+    }
 }
 
 // What a new membership does to each slot.
