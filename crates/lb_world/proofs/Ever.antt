@@ -2,15 +2,15 @@
 use Rattle.std.proofs.Common.{◌≡◌, ◌⊎◌, inl, inr, ℕ, ◌+◌, ◌<◌, ◌≤◌, [], ◌∷◌, length, sym, ap, arith, ◌∙◌}
 use Rattle.std.specs.Prelude.{Some, None, slice_get}
 use Rattle.std.proofs.lemmas.Option.{slice_get_within, slice_get_past, none-some}
-use Rattle.lb_rebuild.specs.Views.{StageView, free, flight as flying, retired, taken_out, SlotView}
+use Rattle.lb_rebuild.specs.Views.{StageView, free, flight as flying, retired, taken_out, SlotView, GroupView}
 use Rattle.lb_world.specs.Steps.{StepView}
 use Rattle.lb_world.specs.declared.answer.Answer.{Answer}
 use Rattle.lb_world.specs.Meanings.{Meaning}
-use Rattle.lb_world.specs.History.{History, Made, made, config, config_in, registries, gates, groups, generations, newest, members, events, flight, entries, count_on, grants, fails, destroys}
+use Rattle.lb_world.specs.History.{History, Made, made, config, config_in, registries, gates, groups, generations, newest, members, events, flight, ready, entries, count_on, grants, fails, destroys}
 use Rattle.lb_world.specs.Answers.{IsRun, HasDrawn}
-use Rattle.lb_world.specs.Views.{WorkView, EntryView, WorldView, is_out, flight_of, holders}
+use Rattle.lb_world.specs.Views.{WorkView, nothing, building, ready as held_built, EntryView, WorldView, is_out, flight_of, ready_of, holders}
 use Rattle.lb_world.specs.Lawful.{Always, OneExtra, InOrder}
-use Rattle.lb_world.specs.Sound.{StageFits, IsSound}
+use Rattle.lb_world.specs.Sound.{StageFits, WorkFits, IsSound}
 use Rattle.lb_world.specs.Stands.{SlotTells, Stands}
 use Rattle.lb_world.proofs.Permits.{bit_le}
 use Rattle.lb_world.proofs.Places.{there, found, past}
@@ -21,6 +21,14 @@ flight_fits free m n newest e f = absurd (none-some n e)
 flight_fits (flying k) m n newest e f = let same : k ≡ n = cc in (omega arith, omega arith)
 flight_fits (retired k r) m n newest e f = absurd (none-some n e)
 flight_fits (taken_out k) m n newest e f = absurd (none-some n e)
+
+-- what is held built is in flight
+ready_fits :
+    {C : Type 0} (core : GroupView C) (s : ℕ) (x : SlotView C) (k : WorkView C) (n : ℕ)
+    → ready_of k ≡ Some n → WorkFits core s x k → flight_of x.stage ≡ Some n
+ready_fits core s x nothing n e f = absurd (none-some n e)
+ready_fits core s x (building t) n e f = absurd (none-some n e)
+ready_fits core s x (held_built t) n e f = f.flies ∙ e
 
 module _ {C : Type 0} (M : Meaning C) where
   -- what the history tells of the world now
@@ -95,6 +103,15 @@ module _ {C : Type 0} (M : Meaning C) where
                   let f = sound.places g p.e s p.x p.k p.group_at p.slot_at p.work_at in
                   rw (t.serves, tells.newest_is g p.e p.group_at)
                   (flight_fits p.x.stage p.x.serving.generation n p.e.core.newest (sym t.flies ∙ flies) f.fits)
+            ];
+        ready_in =
+            λ g s n built.
+            elim (there_or_bare w h sound tells g s) [
+              | inl b ↦ absurd (none-some n (sym (ap ready b) ∙ built))
+              | inr p ↦
+                  let t = tells.slots_tell g p.e s p.x p.k p.group_at p.slot_at p.work_at in
+                  let f = sound.places g p.e s p.x p.k p.group_at p.slot_at p.work_at in
+                  t.flies ∙ ready_fits p.e.core s p.x p.k n (sym t.builds ∙ built) f.agrees
             ];
       }
 

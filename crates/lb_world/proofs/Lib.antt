@@ -17,11 +17,13 @@ pub mod KindLeave
 pub mod KindLists
 pub mod KindPublish
 pub mod KindSelect
+pub mod Laws
 pub mod MadeAnswers
 pub mod Makers
 pub mod Permits
 pub mod PlaceCases
 pub mod Places
+pub mod Promises
 pub mod SlotFrames
 pub mod SoundPlaces
 pub mod Sums
