@@ -31,6 +31,16 @@ pub map_length : {X Y : Type 0} (f : X → Y) (xs : List X) → length (map f xs
 map_length f [] = refl
 map_length f (x ∷ xs) = let rest = map_length f xs in omega arith
 
+pub map_same : {X : Type 0} (xs : List X) → map (λ x. x) xs ≡ xs
+map_same [] = refl
+map_same (x ∷ xs) = ap (λ l. x ∷ l) (map_same xs)
+
+-- what an answer that publishes nothing makes of what is served
+pub not_fallen :
+    (es : List SlotEvent) (a : Answer) → ((n : ℕ) → a ≡ answer.Published n → served es ≤ n) → served es ≤ served (added (event_of a) es)
+not_fallen es (answer.Published n) raised = raised n refl
+not_fallen es a raised = omega arith
+
 module _ {C : Type 0} where
   always_now : (P : History C → Type 0) (h : History C) → Always P h → P h
   always_now P [] now = now
@@ -40,12 +50,6 @@ module _ {C : Type 0} where
   pub always_more : (P Q : History C → Type 0) → ((h : History C) → P h → Q h) → (h : History C) → Always P h → Always Q h
   always_more P Q more [] now = more [] now
   always_more P Q more (e ∷ h) ever = (more (e ∷ h) ever.0, always_more P Q more h ever.1)
-
-  -- what an answer that publishes nothing makes of what is served
-  pub not_fallen :
-      (es : List SlotEvent) (a : Answer) → ((n : ℕ) → a ≡ answer.Published n → served es ≤ n) → served es ≤ served (added (event_of a) es)
-  not_fallen es (answer.Published n) raised = raised n refl
-  not_fallen es a raised = omega arith
 
 module _ {C : Type 0} (M : Meaning C) where
   -- a fact of each step of a run, from the answer's being right and the order before it

@@ -19,7 +19,7 @@ use Rattle.lb_world.specs.Stands.{Stands}
 use Rattle.lb_world.proofs.Laws.{each_right, always_more, not_fallen}
 
 -- whether an answer says that something was published
-is_published : Answer → Bool
+abbrev is_published : Answer → Bool
 is_published (answer.Published n) = true
 is_published a = false
 
@@ -29,8 +29,8 @@ unpublished_if false x y no_x no_y = no_y
 
 module _ {C : Type 0} where
   unpublished_slot : (o : Option C) (f : C → Answer) → ((c : C) → is_published (f c) ≡ false) → is_published (at_slot o f) ≡ false
-  unpublished_slot None f no = refl
-  unpublished_slot (Some c) f no = no c
+  unpublished_slot None f each = refl
+  unpublished_slot (Some c) f each = each c
 
 
 unpublished_ask : (f : Option ℕ) (s n e : ℕ) → is_published (ask_answer f s n e) ≡ false
@@ -85,8 +85,8 @@ module _ {C : Type 0} (M : Meaning C) where
   not_published :
       (x : Answer) (n : ℕ) → is_published x ≡ false
       → (answer.Published n ≡ x) ⊎ (answer.Published n ≡ without_memory M x) → ⊥
-  not_published x n no (inl e) = both_ways (is_published x) no (sym (ap is_published e))
-  not_published x n no (inr e) = both_ways (is_published x) no (sym (unpublished_memory x) ∙ sym (ap is_published e))
+  not_published x n unsaid (inl e) = both_ways (is_published x) unsaid (sym (ap is_published e))
+  not_published x n unsaid (inr e) = both_ways (is_published x) unsaid (sym (unpublished_memory x) ∙ sym (ap is_published e))
 
   published_at :
       (o : Option C) (r : Option ℕ) (n : ℕ)
@@ -117,7 +117,7 @@ module _ {C : Type 0} (M : Meaning C) where
   published_ready h (step.select group slot key limit words) g s n right named =
       absurd (neither (made group h) _ _ (λ e. both_ways true (sym (ap is_published e)) refl)
       (λ m at_slot. neither (slice_get m.configs slot) _ _ (λ e. both_ways true (sym (ap is_published e)) refl)
-      (λ c d. both_ways true (sym (unpublished_select d.3.0) ∙ sym (ap is_published d.3.1)) refl) at_slot) right)
+      (λ c d. both_ways true (ap is_published d.3.1 ∙ unpublished_select d.3.0) refl) at_slot) right)
   published_ready h (step.publish group slot) g s n right named =
       let here = and_parts (group == g) (slot == s) named in
       let same_group : group ≡ g = eqb-true group g here.0 in
@@ -177,19 +177,19 @@ module _ {C : Type 0} (M : Meaning C) where
   first_in :
       (k : Option C) (a : Answer) (D : ℕ → Type 0) (W : C → ℕ → Result (Option Member) Refusal → ℕ → Type 0)
       → MatchOption k (a ≡ answer.NoBackend)
-      (λ c. (t : ℕ) × (u : ℕ) × D t × (r : Result (Option Member) Refusal) × (a ≡ select_answer r) × W c t r u)
+      (λ c. (t : ℕ) × (u : ℕ) × D t × ((r : Result (Option Member) Refusal) × (a ≡ select_answer r) × W c t r u))
       → is_refused a ≡ false
       → MatchOption k (a ≡ answer.NoBackend)
       (λ c. (o : Option Member) × (a ≡ select_answer (Ok o)) × (t : ℕ) × (u : ℕ) × D t × W c t (Ok o) u)
   first_in None a D W right answered = right
-  first_in (Some c) a D W (t, u, drawn, r, is, selects) answered = answered_by a D (W c) t u r drawn is selects answered
+  first_in (Some c) a D W (t, u, drawn, (r, is, selects)) answered = answered_by a D (W c) t u r drawn is selects answered
 
   first_of :
       (o : Option (Made C)) (s : ℕ) (a : Answer) (D : ℕ → Type 0) (W : C → ℕ → Result (Option Member) Refusal → ℕ → Type 0)
       → MatchOption o (a ≡ refuse refusal.NoSuch)
       (λ m.
       MatchOption (slice_get m.configs s) (a ≡ answer.NoBackend)
-      (λ c. (t : ℕ) × (u : ℕ) × D t × (r : Result (Option Member) Refusal) × (a ≡ select_answer r) × W c t r u))
+      (λ c. (t : ℕ) × (u : ℕ) × D t × ((r : Result (Option Member) Refusal) × (a ≡ select_answer r) × W c t r u)))
       → is_refused a ≡ false
       → MatchOption (config_in o s) (a ≡ answer.NoBackend)
       (λ c. (o : Option Member) × (a ≡ select_answer (Ok o)) × (t : ℕ) × (u : ℕ) × D t × W c t (Ok o) u)
