@@ -30,6 +30,7 @@ pub mod Makers
 pub mod Permits
 pub mod PlaceCases
 pub mod Places
+pub mod Runs
 pub mod SameSets
 pub mod SelectAbsent
 pub mod SlotFrames

@@ -7,6 +7,7 @@ ghost use Rattle.lb_rebuild.specs.Least.{least};
 ghost use Rattle.lb_world.specs.Views.{nothing, building, ready};
 ghost use Rattle.lb_world.specs.Answers.{select_answer};
 ghost use Rattle.lb_world.specs.Works.{work_view};
+ghost use Rattle.lb_world.specs.History.{present};
 ghost use Rattle.lb_world.specs.Doings.{AgreesAt, DidAsk, DidBuild, DidPublish, DidDestroy, DidEnter, IsInside, DidLeave, fresh_entry, DidUpdate, DidSelect, IsNotBuilding, IsNotReady};
 
 use crate::answer::Answer;
@@ -151,8 +152,8 @@ impl<S: BackendSelection> Entry<S> {
     }
 
     // Whether this list is another membership than the newest. It takes no memory.
-    pub(crate) fn differs(&self, backends: &[Backend]) -> bool
-        ensures { result ≡ not (same_members backends.now self.now.core.current) }
+    pub(crate) fn differs(&self, backends: &[Option<Backend>]) -> bool
+        ensures { result ≡ not (same_members (present backends.now) self.now.core.current) }
     {
         self.core.differs(backends)
     }

@@ -1,11 +1,15 @@
 //! The world: tables of registries, gates, groups and readers, and one method for each kind of step.
 //! Its contract is over histories alone; what lies in the tables is no part of it.
 ghost use Rattle.std.specs.Prelude.{◌≡◌, List, [], ◌∷◌, IfOk, IfErr, OnErr, vec_len, map};
-ghost use Rattle.lb_world.specs.History.{History};
+ghost use Rattle.lb_world.specs.History.{History, after};
 ghost use Rattle.lb_world.specs.Meanings.{meaning};
 ghost use Rattle.lb_world.specs.Steps as seen;
 ghost use Rattle.lb_world.specs.Steps.{step_seen};
 ghost use Rattle.lb_world.specs.Stands.{Stands};
+ghost use Rattle.lb_world.specs.Lawful.{Always, EachStep, FirstAccepted, NewestServed, NeverFalls, FreeGateGrants, OneExtra, ExtrasAre, ReadersExact};
+
+mod groups;
+mod readers;
 
 use crate::answer::Answer;
 use crate::entry::{Entry, Held, Place, Work};
@@ -43,6 +47,28 @@ impl<S: BackendSelection> Model for World<S> {
     ghost invariant = { λ w. IsFounded (meaning S.walks S.refusal S.may_draw_random) (world_view w) };
 }
 
+impl<S: BackendSelection> Drop for World<S> {
+    fn drop(self) {
+        let World {
+            alloc: _,
+            registries: _,
+            gates: _,
+            mut groups,
+            mut readers,
+        } = self;
+        while let Some(place) = readers.pop() {
+            if let Some(held) = place {
+                held.close();
+            }
+        }
+        readers.destroy_empty();
+        while let Some(entry) = groups.pop() {
+            entry.close();
+        }
+        groups.destroy_empty();
+    }
+}
+
 impl<S: BackendSelection> World<S> {
     /// A world without anything. It takes no memory.
     pub fn new(alloc: Global) -> Self
@@ -55,6 +81,77 @@ impl<S: BackendSelection> World<S> {
             groups: Vec::new(alloc),
             readers: Vec::new(alloc),
         }
+    }
+
+    /// Takes one step, and answers it as the definitions do after any history that the world stands for. A refused step leaves
+    /// everything as it was, save that a selection refused for memory may have drawn words.
+    pub fn step(&mut self, step: Step<S::Config>) -> Answer
+        ensures { (h : History S.Config) → Stands (meaning S.walks S.refusal S.may_draw_random) self.old h
+            → Stands (meaning S.walks S.refusal S.may_draw_random) self.new ((step_seen step, result) ∷ h) }
+    {
+        match step {
+            Step::Registry(key) => self.registry(key),
+            Step::Gate => self.gate(),
+            Step::Group {
+                registry,
+                gate,
+                configs,
+            } => self.group(registry, gate, configs),
+            Step::Update {
+                group,
+                now,
+                backends,
+            } => self.update(group, now, backends),
+            Step::Ask { group, slot, now } => self.ask(group, slot, now),
+            Step::Build { group, slot, now } => self.build(group, slot, now),
+            Step::Publish { group, slot } => self.publish(group, slot),
+            Step::Enter { group, slot } => self.enter(group, slot),
+            Step::Leave { reader } => self.leave(reader),
+            Step::Destroy { group, slot } => self.destroy(group, slot),
+            Step::Select {
+                group,
+                slot,
+                key,
+                limit,
+                words,
+            } => self.select(group, slot, key, limit, words),
+        }
+    }
+
+    /// Takes the steps in their order, and answers each. Room for all answers is made before the first step is taken.
+    ///
+    /// # Errors
+    ///
+    /// `OutOfMemory` where the memory for the answers is refused; then no step was taken.
+    pub fn run(&mut self, steps: Vec<Step<S::Config>>) -> Result<Vec<Answer>, Refusal>
+        ensures run { IfOk result (λ answers. (h : History S.Config) → Stands (meaning S.walks S.refusal S.may_draw_random) self.old h
+            → Stands (meaning S.walks S.refusal S.may_draw_random) self.new (after h (map step_seen steps.items) answers.items)) }
+        ensures each { IfOk result (λ answers. vec_len answers ≡ vec_len steps) }
+
+        // Of the whole history, whatever it was before.
+        ensures first_accepted { IfOk result (λ answers. (h : History S.Config) → Stands (meaning S.walks S.refusal S.may_draw_random) self.old h
+            → EachStep (FirstAccepted (meaning S.walks S.refusal S.may_draw_random)) (after h (map step_seen steps.items) answers.items)) }
+        ensures newest_served { IfOk result (λ answers. (h : History S.Config) → Stands (meaning S.walks S.refusal S.may_draw_random) self.old h
+            → Always NewestServed (after h (map step_seen steps.items) answers.items)) }
+        ensures served_never_falls { IfOk result (λ answers. (h : History S.Config) → Stands (meaning S.walks S.refusal S.may_draw_random) self.old h
+            → EachStep NeverFalls (after h (map step_seen steps.items) answers.items)) }
+        ensures free_gate_grants { IfOk result (λ answers. (h : History S.Config) → Stands (meaning S.walks S.refusal S.may_draw_random) self.old h
+            → EachStep FreeGateGrants (after h (map step_seen steps.items) answers.items)) }
+        ensures one_extra { IfOk result (λ answers. (h : History S.Config) → Stands (meaning S.walks S.refusal S.may_draw_random) self.old h
+            → Always OneExtra (after h (map step_seen steps.items) answers.items)) }
+        ensures extras_are { IfOk result (λ answers. (h : History S.Config) → Stands (meaning S.walks S.refusal S.may_draw_random) self.old h
+            → Always ExtrasAre (after h (map step_seen steps.items) answers.items)) }
+        ensures readers_exact { IfOk result (λ answers. (h : History S.Config) → Stands (meaning S.walks S.refusal S.may_draw_random) self.old h
+            → EachStep ReadersExact (after h (map step_seen steps.items) answers.items)) }
+
+        // Where the answers have no room, no step was taken.
+        ensures err { IfErr result (λ r. (r ≡ Refusal.OutOfMemory) × (self.new ≡ self.old)) }
+    {
+        let mut answers = Vec::with_capacity(self.alloc, steps.len())?;
+        for step in steps {
+            answers.push_reserved(self.step(step));
+        }
+        Ok(answers)
     }
 
     fn registry(&mut self, key: HealthKey) -> Answer
