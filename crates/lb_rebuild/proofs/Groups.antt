@@ -1,5 +1,5 @@
 -- One slot of a group is changed: what contracts see of the group then, and what its type keeps.
-use Rattle.std.proofs.Common.{arith, suc, ◌≡◌, ◌<◌, ◌≤◌, ℕ, List, [], ◌∷◌, map, length, get_or, set, refl, sym, ap, subst, ◌∙◌, Some, None, slice_get, option_map, Result, Ok, Err, IfOk, IfErr, OnErr, ◌⊎◌, inl, inr}
+use Rattle.std.proofs.Common.{arith, Option, suc, Bool, ◌≡◌, ◌<◌, ◌≤◌, ℕ, List, [], ◌∷◌, map, length, get_or, set, refl, sym, ap, subst, ◌∙◌, Some, None, slice_get, option_map, Result, Ok, Err, IfOk, IfErr, OnErr, ◌⊎◌, inl, inr}
 use Rattle.std.specs.Option.{IsSomeAnd}
 use Rattle.std.proofs.lemmas.List.{map-set, get_or-map}
 use Rattle.std.proofs.Math.Seq.{map-set_same}
@@ -9,13 +9,23 @@ use Rattle.lb_select.specs.Backends.{Member}
 use Rattle.lb_select.specs.declared.refusal.Refusal.{Refusal}
 use Rattle.lb_select.specs.declared.refusal.Refusal.TheVariants.{OutOfMemory}
 use Rattle.lb_rebuild.specs.Gate.{GateId}
-use Rattle.lb_rebuild.specs.Views.{SlotView, GroupView, ReaderView, RetiredView, Task, retired, with_slot, served_list}
-use Rattle.lb_rebuild.specs.Kept.{slot_view, stage_view, IsKept, AllKept, HoldsOf}
-use Rattle.lb_rebuild.specs.Calls.{reader_of, enter_refusal, entered_slot, EnteredIn, TakenAt, TakenIn, left_slot, failed_slot, FailedIn, reported_stage, DestroyedIn, PublishedAt, PublishedIn}
+use Rattle.lb_rebuild.specs.Views.{SlotView, GroupView, StageView, ReaderView, RetiredView, Task, free, flight, retired, taken_out, with_slot, served_list}
+use Rattle.lb_rebuild.specs.Kept.{slot_view, stage_view, IsKept, AllKept, HoldsOf, StageFits}
+use Rattle.lb_rebuild.specs.Calls.{reader_of, enter_refusal, entered_slot, EnteredIn, TakenAt, TakenIn, left_slot, failed_slot, FailedIn, reported_stage, DestroyedIn, PublishedAt, PublishedIn, Rises}
+use Rattle.lb_rebuild.specs.Selecting.{SelectedAt, SelectedIn}
+use Rattle.lb_select.specs.Draws.{Draw}
 use Rattle.lb_rebuild.specs.declared.slot.Slot.{Slot}
 use Rattle.lb_rebuild.specs.declared.slot.Stage.{Stage}
 use Rattle.lb_rebuild.specs.declared.slot.Told.{Told}
+use Rattle.lb_rebuild.specs.declared.slot.Told.TheVariants.{Published, Abandoned}
 use Rattle.lb_rebuild.specs.declared.slot.Stage.TheVariants.{Free, Flight, Retired, TakenOut}
+
+-- a flight's generation is above what is served, and not past the newest
+flight_fits : (newest served m : ℕ) (s : StageView) → s ≡ flight m → StageFits newest served s → (served < m) × (m ≤ newest)
+flight_fits newest served m free e fits = absurd (cc)
+flight_fits newest served m (flight k) e fits = let same : k ≡ m = cc in (omega (arith, same, fits.0), omega (arith, same, fits.1))
+flight_fits newest served m (retired k readers) e fits = absurd (cc)
+flight_fits newest served m (taken_out k) e fits = absurd (cc)
 
 module _ {S I C : Type 0} where
   -- a group with these slots
@@ -175,3 +185,26 @@ module _ {S I C : Type 0} where
   inside_of id n ms xs i v e h =
       let at : i < length (map slot_view xs) = subst (λ (w : GroupView C). i < length w.slots) (sym e) h in
       omega (arith, at, length_views xs)
+
+  -- what was selected from the slot was selected from the group
+  pub selected_in : (random : List Member → C → Bool) (walks : List Member → C → List ℕ → List Draw → List Member → Bool → Type 0)
+      (key : List ℕ) (limit : ℕ) (words : List ℕ) (r : Result (Option Member) Refusal)
+      (id : GateId) (n : ℕ) (ms : List Member) (xs : List (Slot S I C)) (i : ℕ) (x y : Slot S I C) (v : GroupView C)
+      → group_of id n ms xs ≡ v → i < length xs → x ≡ get_or xs i x → SelectedAt random walks key limit words (slot_view x) r (slot_view y)
+      → SelectedIn random walks v i key limit words r (group_of id n ms (set xs i y))
+  selected_in random walks key limit words r id n ms xs i x y v e h is at =
+      let there = at_slot id n ms xs i x y v e h is in
+      rw there.0 (slot_view y, at, there.1)
+
+  -- a publication is of a later generation than what was served
+  pub rises : (id : GateId) (n : ℕ) (ms : List Member) (xs : List (Slot S I C)) (i : ℕ) (x y : Slot S I C) (v : GroupView C) (b : Task C) (told : Told)
+      → group_of id n ms xs ≡ v → i ≡ b.slot → i < length xs → x ≡ get_or xs i x → AllKept id n xs → PublishedAt b (slot_view x) told (slot_view y)
+      → Rises v b told
+  rises id n ms xs i x y v b (Published m) e place h is all to =
+      let kept = kept_at id n xs i x h is all in
+      let newest : n ≡ v.newest = ap (λ (w : GroupView C). w.newest) e in
+      let served = served_at id n ms xs i x v e h is in
+      let bounds = flight_fits n x.serving.generation m (slot_view x).stage to.1 kept.fits in
+      let at : x.serving.generation ≡ get_or (served_list v.slots) b.slot 0 = served.1 ∙ ap (λ (k : ℕ). get_or (served_list v.slots) k 0) place in
+      (omega (arith, at, bounds.0), omega (arith, newest, bounds.1))
+  rises id n ms xs i x y v b (Abandoned m) e place h is all to = tt

@@ -1,9 +1,9 @@
 -- What the calls on a slot and on a group do: relations by cases on the answer, between what contracts see before and after.
-use Rattle.std.specs.Prelude.{◌≡◌, ◌<◌, ◌+◌, ◌-◌, ◌==◌, ◌&&◌, ◌⊎◌, ℕ, Bool, true, false, not, slice_get, Option, Some, None, Result, Ok, Err, IsSome, MatchOption, if◌then◌else◌}
+use Rattle.std.specs.Prelude.{◌≡◌, ◌≤◌, slice_index, ◌<◌, ◌+◌, ◌-◌, ◌==◌, ◌&&◌, ◌⊎◌, ℕ, Bool, true, false, not, slice_get, Option, Some, None, Result, Ok, Err, IsSome, MatchOption, if◌then◌else◌}
 use Rattle.lb_select.specs.declared.refusal.Refusal.{Refusal}
 use Rattle.lb_select.specs.declared.refusal.Refusal.TheVariants as refusal
 use Rattle.lb_rebuild.specs.Gate.{GateView, gate}
-use Rattle.lb_rebuild.specs.Views.{StageView, free, flight, retired, taken_out, OrderView, Task, ServingView, RetiredView, ReaderView, SlotView, GroupView, with_slot, is_flying}
+use Rattle.lb_rebuild.specs.Views.{StageView, free, flight, retired, taken_out, OrderView, Task, ServingView, RetiredView, ReaderView, SlotView, GroupView, with_slot, served_list, is_flying}
 use Rattle.lb_rebuild.specs.declared.slot.Ask.{Ask}
 use Rattle.lb_rebuild.specs.declared.slot.Ask.TheVariants.{Building, Nothing, Busy, Job}
 use Rattle.lb_rebuild.specs.declared.slot.Told.{Told}
@@ -58,6 +58,11 @@ PublishedAt b x (Abandoned n) y =
 abbrev pub PublishedIn : {C : Type 0} → GroupView C → Task C → Told → GroupView C → Type 0
 PublishedIn v b told w =
     (x : _) × (y : _) × (slice_get v.slots b.slot ≡ Some x) × PublishedAt b x told y × (w ≡ with_slot v b.slot y)
+
+-- what is served rises at each publication, and is never past the newest
+abbrev pub Rises : {C : Type 0} → GroupView C → Task C → Told → Type 0
+Rises v b (Published n) = (slice_index (served_list v.slots) b.slot < n) × (n ≤ v.newest)
+Rises v b (Abandoned n) = Unit {0}
 
 -- the order of a job that failed waits again, where it is of the newest generation and none waits
 abbrev pub put_back : {C : Type 0} → ℕ → Task C → Option (OrderView C) → Option (OrderView C)

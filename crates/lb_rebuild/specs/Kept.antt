@@ -1,7 +1,8 @@
 -- What the type of a group keeps of each of its slots.
-use Rattle.std.specs.Prelude.{◌≡◌, ◌<◌, ◌≤◌, ℕ, List, All, IfSome}
+use Rattle.std.specs.Prelude.{◌≡◌, map, ◌+◌, Some, length, slice_index_or, ◌<◌, ◌≤◌, ℕ, List, All, IfSome}
 use Rattle.std.specs.Arc.{arc_value}
 use Rattle.lb_rebuild.specs.Gate.{GateId}
+use Rattle.lb_rebuild.specs.Fresh.{fresh_slot}
 use Rattle.lb_rebuild.specs.Views.{StageView, OrderView, SlotView, free, flight, retired, taken_out, flight_number}
 use Rattle.lb_rebuild.specs.declared.slot.Slot.{Slot}
 use Rattle.lb_rebuild.specs.declared.slot.Stage.{Stage}
@@ -54,3 +55,23 @@ pub record IsKept {S I C : Type 0} (gate : GateId) (newest : ℕ) (x : Slot S I 
 
 abbrev pub AllKept : {S I C : Type 0} → GateId → ℕ → List (Slot S I C) → Type 0
 AllKept gate newest slots = All (IsKept gate newest) slots
+
+-- y is the slot x with the order o waiting, and y keeps what the type asks once the newest generation is the order's
+pub record IsOrdered {S I C : Type 0} (x : Slot S I C) (o : OrderView C) (y : Slot S I C) : Type 0 where
+  pub view : slot_view y ≡ record (slot_view x) { waiting = Some o }
+  pub kept : (id : GateId) (newest : ℕ) → IsKept id newest x → o.generation ≡ newest + 1 → IsKept id (newest + 1) y
+
+-- each order waits in the slot of its place
+pub record AreOrdered {S I C : Type 0} (xs : List (Slot S I C)) (os : List (OrderView C)) (ys : List (Slot S I C)) : Type 0 where
+  pub count : length ys ≡ length xs
+  pub each : (k : ℕ) (d : Slot S I C) (o : OrderView C) → k < length xs → IsOrdered (slice_index_or xs k d) (slice_index_or os k o) (slice_index_or ys k d)
+
+-- a slot at its start, which the type of every group keeps
+pub record IsFresh {S I C : Type 0} (c : C) (x : Slot S I C) : Type 0 where
+  pub view : slot_view x ≡ fresh_slot c
+  pub kept : (id : GateId) → IsKept id 0 x
+
+-- a slot at its start for each configuration
+pub record AreFresh {S I C : Type 0} (xs : List (Slot S I C)) (configs : List C) : Type 0 where
+  pub views : map slot_view xs ≡ map fresh_slot configs
+  pub kept : (id : GateId) → AllKept id 0 xs

@@ -1,11 +1,22 @@
-//! A group of slots.
-ghost use Rattle.std.specs.Prelude.{◌≡◌, ◌<◌, ◌≤◌, length, slice_get, slice_index, IfSome, IfNone, false};
+//! A group: a membership of backends in numbered generations, and slots that each serve one selector built from it.
+//! A call tests all that it can refuse for before it changes anything; builds run elsewhere, between `ask` and `publish`.
+ghost use Rattle.std.specs.Prelude.{◌≡◌, [], map, not, IfOk, ◌<◌, ◌≤◌, length, slice_get, slice_index, IfSome, IfNone, false};
 ghost use Rattle.std.specs.Option.{IsSomeAnd};
+ghost use Rattle.std.specs.Arc.{arc_value};
+ghost use Rattle.lb_select.specs.Refusals.{Refuses};
 ghost use Rattle.lb_rebuild.specs.Gate.{gate as gate_view};
+ghost use Rattle.lb_rebuild.specs.Fresh.{fresh_group};
+ghost use Rattle.lb_rebuild.specs.Groups.{ScheduledIn};
+ghost use Rattle.lb_rebuild.specs.Kept.{AreFresh};
+ghost use Rattle.lb_rebuild.specs.Least.{least};
+ghost use Rattle.lb_select.specs.Memberships.{same_members};
+ghost use Rattle.lb_rebuild.specs.Selecting.{SelectedIn};
 ghost use Rattle.lb_rebuild.specs.Views.{served_list, with_slot};
-ghost use Rattle.lb_rebuild.specs.Calls.{Asked, PublishedIn, FailedIn, EnteredIn, TakenIn, DestroyedIn, readers_at, left_slot};
+ghost use Rattle.lb_rebuild.specs.Calls.{Asked, PublishedIn, Rises, FailedIn, EnteredIn, TakenIn, DestroyedIn, readers_at, left_slot};
 
 use crate::gate::{GateCore, Permit};
+use crate::least::least_refusal;
+use crate::schedule::{Scheduled, hand_out, lists_members, orders_for, same_members as is_same, turns_of};
 use crate::job::{Built, Job};
 use crate::slot::{Ask, Reader, Retired, Slot, Told};
 use lb_select::backend::Backend;
@@ -17,7 +28,11 @@ use std::marker::Model;
 use std::snapshot::Snapshot;
 use std::sync::Arc;
 
-/// A group.
+/// A group of slots, each of which serves one selector, and gets the next one by way of a job, a build and a publication.
+///
+/// Contracts see the gate, the newest generation with its members, and the slots. A group that is dropped with a retired
+/// selector in it keeps the permit of that selector for good.
+#[derive(Drop)]
 pub struct GroupCore<S: BackendSelection> {
     gate: Snapshot<GateCore>,
     newest: u64,
@@ -40,6 +55,80 @@ impl<S: BackendSelection> Model for GroupCore<S> {
 }
 
 impl<S: BackendSelection> GroupCore<S> {
+    /// A group of one slot for each configuration, whose extra selectors `gate` allows one at a time. Each slot serves a selector
+    /// over no backends.
+    ///
+    /// # Errors
+    ///
+    /// The least cause for which one of the configurations gives no selector over no backends; `OutOfMemory` where there is
+    /// none and memory is refused.
+    pub fn new(
+        alloc: Global,
+        gate: &GateCore,
+        configs: Vec<S::Config>,
+    ) -> Result<GroupCore<S>, Refusal>
+        ensures { Refuses (least (map (S.refusal []) configs.items)) (λ g. g ≡ fresh_group gate.now.id configs.items) result }
+    {
+        if let Some(refusal) = least_refusal::<S>(alloc, &configs) {
+            return Err(refusal);
+        }
+        // Every configuration gives a selector, so what is refused from here on is memory.
+        match fresh_slots(alloc, configs) {
+            Ok((current, slots)) => Ok(GroupCore {
+                gate: Snapshot::of(gate),
+                newest: 0,
+                current,
+                slots,
+            }),
+            Err(_) => Err(Refusal::OutOfMemory),
+        }
+    }
+
+    /// Whether this list of backends has other backends than the newest membership, by identity. It takes no memory, and
+    /// compares each backend with each.
+    pub fn differs(&self, backends: &[Backend]) -> bool
+        ensures { result ≡ not (same_members backends.now self.now.current) }
+    {
+        !lists_members(backends, &self.current)
+    }
+
+    /// Makes this membership the newest where it has other backends than the newest one, and gives each slot an order for
+    /// it. The same membership changes nothing: the attachments of the backends stay those of the first.
+    ///
+    /// # Errors
+    ///
+    /// `GenerationsExhausted` where the membership is another one and the newest generation is 18446744073709551615;
+    /// `OutOfMemory` where it is another one, a generation is left, and memory is refused. Nothing changes then.
+    pub fn schedule(
+        &mut self,
+        alloc: Global,
+        discovered: BTreeSet<Backend>,
+    ) -> Result<Scheduled, Refusal>
+        ensures { ScheduledIn self.old discovered.keys result self.new }
+    {
+        if is_same(&discovered, &self.current) {
+            return Ok(Scheduled {
+                generation: self.newest,
+                changed: false,
+                turns: Vec::new(alloc),
+            });
+        }
+        let Some(generation) = self.newest.checked_add(1) else {
+            return Err(Refusal::GenerationsExhausted);
+        };
+        let members = Arc::new(alloc, discovered)?;
+        let turns = turns_of(alloc, &self.slots)?;
+        let orders = orders_for(alloc, &self.slots, generation, &members)?;
+        hand_out(&mut self.slots, orders);
+        self.newest = generation;
+        self.current = members;
+        Ok(Scheduled {
+            generation,
+            changed: true,
+            turns,
+        })
+    }
+
     /// The newest generation; 0 before the first membership.
     pub fn newest(&self) -> u64
         ensures { result ≡ self.now.newest }
@@ -104,7 +193,8 @@ impl<S: BackendSelection> GroupCore<S> {
     pub fn publish(&mut self, built: Built<S>) -> Told
         requires permit { built.permit ≡ self.old.gate }
         requires slot { built.slot < length self.old.slots }
-        ensures { PublishedIn self.old built result self.new }
+        ensures told { PublishedIn self.old built result self.new }
+        ensures rises { Rises self.old built result }
     {
         let slot = built.slot();
         self.slots[slot].publish(built)
@@ -138,6 +228,30 @@ impl<S: BackendSelection> GroupCore<S> {
         self.slots[slot].leave(generation);
     }
 
+    /// Selects from what a slot serves: the first candidate of the selector's walk for `key`, among the first `limit`. Tickets
+    /// go on from those that earlier selections drew; random words are the ones handed in. A slot that is not there selects
+    /// nothing.
+    ///
+    /// # Errors
+    ///
+    /// `NotEnoughWords` where walks over the selector may draw random words and at most `limit` of them are handed in, and
+    /// then nothing changes; `OutOfMemory`, and then at most `limit + 1` words are drawn.
+    pub fn select(
+        &mut self,
+        alloc: Global,
+        slot: usize,
+        key: &[u8],
+        limit: usize,
+        random: &[u64],
+    ) -> Result<Option<Backend>, Refusal>
+        ensures { SelectedIn S.may_draw_random S.walks self.old slot key.now limit random.now result self.new }
+    {
+        if slot >= self.slots.len() {
+            return Ok(None);
+        }
+        self.slots[slot].select(alloc, key, limit, random)
+    }
+
     /// Takes a retired selector out of its slot, to be destroyed and then reported. It takes no memory.
     ///
     /// # Errors
@@ -165,4 +279,19 @@ impl<S: BackendSelection> GroupCore<S> {
             self.slots[slot].report();
         }
     }
+}
+
+// No backends, and a slot over them for each configuration.
+fn fresh_slots<S: BackendSelection>(
+    alloc: Global,
+    configs: Vec<S::Config>,
+) -> Result<(Arc<BTreeSet<Backend>>, Vec<Slot<S>>), Refusal>
+    ensures { IfOk result (λ r. ((arc_value r.0).keys ≡ []) × AreFresh r.1.items configs.items) }
+{
+    let empty = Arc::new(alloc, BTreeSet::new(alloc))?;
+    let mut slots = Vec::new(alloc);
+    for config in configs {
+        slots.push(Slot::fresh(alloc, &empty, config)?)?;
+    }
+    Ok((empty, slots))
 }

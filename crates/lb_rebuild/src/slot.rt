@@ -1,13 +1,24 @@
 //! A slot of a group: the selector that it serves to its readers, the order that waits, and at most one extra selector.
 //! An extra is a build in flight, a retired selector, or one that was taken out to be destroyed.
-ghost use Rattle.std.specs.Prelude.{◌≡◌, ◌<◌, ◌⊎◌, ℕ, IfOk, IfErr, OnErr};
+ghost use Rattle.std.specs.Prelude.{◌≡◌, Bool, true, [], ◌+◌, ◌<◌, ◌⊎◌, ℕ, IfOk, IfErr, OnErr};
+ghost use Rattle.std.specs.Arc.{arc_value};
+ghost use Rattle.std.specs.Fn.{FnReturnsAt};
+ghost use Rattle.lb_select.specs.Backends.{Member, same_member};
+ghost use Rattle.lb_select.specs.Selections.{Selects};
 ghost use Rattle.lb_rebuild.specs.Gate.{GateId};
 ghost use Rattle.lb_rebuild.specs.Kept.{IsWithoutPermit};
 
 use crate::gate::{GateCore, Permit};
+use crate::handed::HandedWords;
 use crate::job::{Built, Job, Order};
+use crate::schedule::SlotTurn;
+use lb_select::backend::Backend;
 use lb_select::refusal::Refusal;
+use lb_select::select::select;
 use lb_select::walk::BackendSelection;
+use lb_select::words::WordSource;
+use std::alloc::Global;
+use std::collections::BTreeSet;
 use std::marker::Model;
 use std::mem;
 use std::sync::Arc;
@@ -119,8 +130,55 @@ pub enum Told {
 }
 
 impl<S: BackendSelection> Slot<S> {
+    ghost use Rattle.lb_rebuild.specs.Groups.{turn_of};
+    ghost use Rattle.lb_rebuild.specs.Selecting.{SelectedAt};
     ghost use Rattle.lb_rebuild.specs.Calls.{AskedAt, PublishedAt, failed_slot, reader_of, enter_refusal, entered_slot, readers_at, left_slot, TakenAt, reported_stage};
-    ghost use Rattle.lb_rebuild.specs.Kept.{slot_view, IsKept, HoldsOf};
+    ghost use Rattle.lb_rebuild.specs.Kept.{slot_view, IsFresh, IsKept, IsOrdered, HoldsOf};
+
+    // A slot that serves a selector of generation 0 over these backends, of which there are none.
+    pub(crate) fn fresh(
+        alloc: Global,
+        backends: &BTreeSet<Backend>,
+        config: S::Config,
+    ) -> Result<Slot<S>, Refusal>
+        ensures { IfOk result (λ x. (backends.now.keys ≡ []) → IsFresh config x) }
+    {
+        let selector = S::build_with_config(alloc, backends, &config)?;
+        Ok(Slot {
+            config: Arc::new(alloc, config)?,
+            serving: Serving {
+                generation: 0,
+                selector: Arc::new(alloc, selector)?,
+                tickets: 0,
+            },
+            readers: 0,
+            waiting: None,
+            stage: Stage::Free,
+        })
+    }
+
+    // Whether it is busy with an earlier membership.
+    pub(crate) fn turn(&self) -> SlotTurn
+        ensures { result ≡ turn_of (slot_view self.now) }
+    {
+        match &self.stage {
+            Stage::Flight(_) => SlotTurn::Running,
+            Stage::Free | Stage::Retired(_) | Stage::TakenOut(_) => {
+                if self.waiting.is_some() {
+                    SlotTurn::Running
+                } else {
+                    SlotTurn::Start
+                }
+            }
+        }
+    }
+
+    // Lets an order of the next generation wait, in the place of an earlier one.
+    pub(crate) fn order(&mut self, order: Order<S::Config>)
+        ensures { IsOrdered self.old order self.new }
+    {
+        self.waiting = Some(order);
+    }
 
     // Asks for the build that the slot needs next.
     pub(crate) fn ask(&mut self, slot: usize, gate: &mut GateCore) -> Ask<S>
@@ -221,6 +279,27 @@ impl<S: BackendSelection> Slot<S> {
         permit
     }
 
+    // Selects from what is served; each backend is accepted.
+    pub(crate) fn select(
+        &mut self,
+        alloc: Global,
+        key: &[u8],
+        limit: usize,
+        random: &[u64],
+    ) -> Result<Option<Backend>, Refusal>
+        ensures selected { SelectedAt S.may_draw_random S.walks key.now limit random.now (slot_view self.old) result (slot_view self.new) }
+        ensures kept { (id : GateId) (newest : ℕ) → IsKept id newest self.old → IsKept id newest self.new }
+    {
+        let serving = &mut self.serving;
+        if serving.selector.draws_random() && random.len() <= limit {
+            return Err(Refusal::NotEnoughWords);
+        }
+        let mut words = HandedWords::new(serving.tickets, random);
+        let answer = first(alloc, &serving.selector, key, &mut words, limit, &every);
+        serving.tickets = words.tickets();
+        answer
+    }
+
     // One reader more of the selector that is served.
     pub(crate) fn enter(&mut self, slot: usize) -> Result<Reader<S>, Refusal>
         ensures ok { IfOk result (λ r. (slot_view self.old).readers < 18446744073709551615 × (r ≡ reader_of slot (slot_view self.old))
@@ -292,6 +371,23 @@ impl<S: BackendSelection> Slot<S> {
     }
 }
 
+impl<S: BackendSelection> Drop for Slot<S> {
+    // The gate of a retired selector that is dropped here never grants again.
+    fn drop(self) {
+        let Slot {
+            config: _,
+            serving: _,
+            readers: _,
+            waiting: _,
+            stage,
+        } = self;
+        match stage {
+            Stage::Retired(retired) => retired.destroy().spend(),
+            Stage::Free | Stage::Flight(_) | Stage::TakenOut(_) => {}
+        }
+    }
+}
+
 // Puts something where nothing stands.
 fn fill<S: BackendSelection>(stage: &mut Stage<S>, next: Stage<S>)
     requires { stage.old ≡ Stage.Free }
@@ -312,4 +408,27 @@ fn clear<S: BackendSelection>(stage: &mut Stage<S>)
         Stage::Retired(_retired) => unreachable!(),
         Stage::Free | Stage::Flight(_) | Stage::TakenOut(_) => {}
     }
+}
+
+// A selection where each backend is accepted.
+fn first<S: BackendSelection, W: WordSource, F: Fn(&Backend) -> bool>(
+    alloc: Global,
+    selector: &Arc<S>,
+    key: &[u8],
+    words: &mut W,
+    limit: usize,
+    accept: &F,
+) -> Result<Option<Backend>, Refusal>
+    requires call { F.IsAlwaysCallable accept.now }
+    requires all { (b : Member) (a : Bool) → FnReturnsAt F.Fn accept.now b a → a ≡ true }
+    ensures { Selects same_member (λ b a. a ≡ true) limit W.gives (S.walks (S.members (arc_value selector.now)) (S.built_with (arc_value selector.now)) key.now) words.old result words.new }
+{
+    select(alloc, selector, key, words, limit, accept)
+}
+
+// Accepts each backend.
+fn every(_backend: &Backend) -> bool
+    ensures { result ≡ true }
+{
+    true
 }

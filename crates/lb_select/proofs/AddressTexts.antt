@@ -1,5 +1,5 @@
 -- What std's parser makes of a text is what `internet_of_text` finds in it.
-use Rattle.std.proofs.Common.{◌≡◌, ℕ, List, [], ◌∷◌, Option, Some, None, refl, sym, ◌∙◌, subst, length, arith, ne_eqb, append-nil, lit≤, option_map, ok_or, Result, Ok, Err}
+use Rattle.std.proofs.Common.{◌≡◌, ℕ, List, [], ◌∷◌, Option, Some, None, refl, sym, ◌∙◌, subst, length, arith, ne_eqb, append-nil, lit≤, option_map, ok_or, Result, Ok, Err, codes, get_or, ◌^◌, ◌<◌, lt-ltb, le-ltb, ap, ◌+◌, ◌*◌, ◌/◌, ◌%◌, suc, ◌++◌, false, inl}
 use Rattle.std.specs.Result.{result_map_both}
 use Rattle.std.specs.declared.net.socket_addr.SocketAddrV4.{SocketAddrV4}
 use Rattle.std.specs.declared.net.socket_addr.SocketAddrV6.{SocketAddrV6}
@@ -7,11 +7,17 @@ use Rattle.std.specs.declared.net.socket_addr.SocketAddr.{SocketAddr}
 use Rattle.std.specs.declared.net.socket_addr.SocketAddr.TheVariants.{V4, V6}
 use Rattle.std.specs.Net.Grammar.{IsSocketText, IsSocketV4Text, IsSocketV6Text}
 use Rattle.std.specs.Net.Reader.{Read, read_ipv4, read_socket_v4, read_socket_v6, whole_value, map_or}
+use Rattle.std.specs.Net.Addr.{octets_of, segments_of}
+use Rattle.std.specs.Str.Pattern.{StripsPrefix, FindsTextPrefix}
+use Rattle.std.proofs.lemmas.Str.Pattern.{starts_text}
 use Rattle.std.proofs.lemmas.Option.{none-some, same_Some}
 use Rattle.std.proofs.NetLemmas.Ipv4.{read_ipv4_none}
 use Rattle.std.proofs.NetLemmas.Sockets.{read_socket_v4_complete, read_socket_v4_sound, read_socket_v6_complete, read_socket_v6_sound}
-use Rattle.lb_select.specs.Backends.{Address, ipv4}
-use Rattle.lb_select.specs.AddressText.{socket_seen, without_scope, internet_of_text, IsInternetText}
+use Rattle.lb_select.specs.Backends.{Address, ipv4, unix, Member}
+use Rattle.lb_select.specs.AddressText.{socket_seen, without_scope, internet_of_text, IsInternetText, path_of_text, address_of_text, bare_member, path_refusal, address_refusal}
+use Rattle.lb_select.specs.Refusals.{Refuses}
+use Rattle.lb_select.specs.declared.refusal.Refusal.{Refusal}
+use Rattle.lb_select.specs.declared.refusal.Refusal.TheVariants.{InvalidAddress}
 
 -- a value or an error, seen through a function
 pub map_ok_or : {A B E : Type 0} (f : A → B) (e : E) (o : Option A) → result_map_both f (λ x. x) (ok_or o e) ≡ ok_or (option_map f o) e
@@ -83,3 +89,45 @@ internet_unread text none = go (internet_of_text text) refl
     go : (o : Option Address) → internet_of_text text ≡ o → internet_of_text text ≡ None
     go None e = e
     go (Some a) e = let (s, h, seen) = internet_found text a e in absurd (none s h)
+
+-- an even number of octets are the octets of their segments
+pub octets_back : (o : List ℕ) → length o % 2 ≡ 0 → ((k : ℕ) → get_or o k 0 < 2 ^ 8) → octets_of (segments_of o) ≡ o
+octets_back [] even fits = refl
+octets_back (a ∷ []) even fits = absurd (omega arith)
+octets_back (a ∷ b ∷ rest) even fits =
+    let low : b < 256 = omega (arith, fits 1) in
+    let later = octets_back rest (omega arith) (λ k. fits (suc (suc k))) in
+    let first : (a * 256 + b) / 256 ≡ a = omega arith in
+    let second : (a * 256 + b) % 256 ≡ b = omega arith in
+    rw (first, second, later)
+
+-- a text with `unix:` before a path
+path_split : (text path : List ℕ) → StripsPrefix (FindsTextPrefix (codes "unix:")) text path → text ≡ codes "unix:" ++ path
+path_split text path h = h.1.1 ∙ ap (λ t. codes "unix:" ++ t) (sym h.2)
+
+-- what follows `unix:` in a text
+pub path_named : (text path : List ℕ) → StripsPrefix (FindsTextPrefix (codes "unix:")) text path → 0 < length path → path_of_text text ≡ Some path
+unfolding path_of_text
+path_named text path h some = rw (path_split text path h, lt-ltb 5 (length (codes "unix:" ++ path)) (omega arith))
+
+pub path_empty : (text path : List ℕ) → StripsPrefix (FindsTextPrefix (codes "unix:")) text path → length path ≡ 0 → path_of_text text ≡ None
+unfolding path_of_text
+path_empty text path h none = rw (path_split text path h, le-ltb 5 (length (codes "unix:" ++ path)) (omega arith))
+
+pub path_lacking : (text : List ℕ) → FindsTextPrefix (codes "unix:") text None → path_of_text text ≡ None
+unfolding path_of_text
+path_lacking text h = rw (← starts_text false (codes "unix:") text h)
+
+-- a backend at a path is refused for memory alone
+pub refuses_path : (text path : List ℕ) (weight : ℕ) (r : Result Member Refusal) → path_of_text text ≡ Some path → 0 < length path → Refuses (path_refusal path) (λ b. b ≡ bare_member weight (unix path)) r → Refuses (address_refusal (address_of_text text)) (λ b. option_map (bare_member weight) (address_of_text text) ≡ Some b) r
+refuses_path text [] weight r e some h = absurd (omega arith)
+refuses_path text (c ∷ path) weight (Ok b) e some h = rw e (refl, ap Some (sym h.1))
+refuses_path text (c ∷ path) weight (Err d) e some h = rw e h
+
+-- a backend at an internet address is refused exactly where there is none
+at_internet : (weight : ℕ) (o : Option Address) (r : Result Member Refusal) → r ≡ ok_or (option_map (bare_member weight) o) InvalidAddress → Refuses (address_refusal o) (λ b. option_map (bare_member weight) o ≡ Some b) r
+at_internet weight None r h = rw h (inl refl)
+at_internet weight (Some a) r h = rw h (refl, refl)
+
+pub refuses_internet : (text : List ℕ) (weight : ℕ) (r : Result Member Refusal) → path_of_text text ≡ None → r ≡ ok_or (option_map (bare_member weight) (internet_of_text text)) InvalidAddress → Refuses (address_refusal (address_of_text text)) (λ b. option_map (bare_member weight) (address_of_text text) ≡ Some b) r
+refuses_internet text weight r e h = rw e (at_internet weight (internet_of_text text) r h)

@@ -1,6 +1,6 @@
 -- Exact shares and full coverage. Both count how many of consecutive words fall, modulo a number, into an interval.
-use Rattle.std.specs.Prelude.{◌≡◌, ℕ, zero, suc, ◌+◌, ◌-◌, ◌%◌, ◌^◌, ◌<◌, ◌≤◌, Bool, true, false, ◌&&◌, List, [], ◌∷◌, ◌++◌, map, length, take, get_or, Option, Some, None, cond, Contains, sum_by, count_by, refl}
-use Rattle.std.proofs.Common.{arith, sym, ap, subst, ◌∙◌, ◌⊎◌, inl, inr, ⊎_elim, leb, ltb, is_lt, is_eq, Ordering, Less, Equal, Greater, mod-lt, mod-eq_of_lt, true≢false}
+use Rattle.std.specs.Prelude.{◌≡◌, ℕ, zero, suc, ◌+◌, ◌-◌, ◌%◌, ◌<◌, ◌≤◌, Bool, true, false, ◌&&◌, List, [], ◌∷◌, length, take, Some, cond, Contains, count_by, refl}
+use Rattle.std.proofs.Common.{arith, sym, ap, subst, ◌∙◌, ◌⊎◌, inl, inr, ⊎_elim, leb, ltb, is_eq, Ordering, Less, mod-lt, mod-eq_of_lt, true≢false}
 use Rattle.std.proofs.Math.Nat.{add-mod_right}
 use Rattle.std.specs.List.{AllByRecursion as Each, AllZip, slice_get}
 use Rattle.std.specs.List.Sorted.{IsStrictlySortedBy}
@@ -12,7 +12,6 @@ use Rattle.std.proofs.lemmas.Cmp.{tied_itself}
 use Rattle.std.proofs.lemmas.List.Sums.{sum_by-cons, sum_by_more, sum_by-take-le}
 use Rattle.std.proofs.lemmas.Option.{slice_get-get_or, get_or_from_slice_get, same_Some, none-some, slice_get_within}
 use Rattle.lb_select.specs.Backends.{Member, member_cmp, same_member}
-use Rattle.lb_select.specs.Draws.{Draw, ticket, Gives, CoreGives}
 use Rattle.lb_select.specs.Weights.{total_weight, HoldsPlace, IsFirstChoice, IsFallback, AreCandidates}
 use Rattle.rand_core.specs.Stream.{Stream}
 use Rattle.lb_select.specs.Shares.{words_from, AreExactShares, VisitsAll, TicketsAreConsecutive}
@@ -140,7 +139,7 @@ module _ {K : Type 0} {R : K → K → Ordering} (total : IsTotalOrder R) where
       (cases_order i j)
 
 -- an element of a list by its index
-contained : (ms : List Member) (m : Member) → Contains ms m → (i : ℕ) × (slice_get ms i ≡ Some m)
+pub contained : (ms : List Member) (m : Member) → Contains ms m → (i : ℕ) × (slice_get ms i ≡ Some m)
 contained ms m (i, within, e) = (i, slice_get-get_or ms i m within ∙ ap Some e)
 
 -- the interval of an index ends where the next begins
@@ -156,6 +155,18 @@ sums_rise [] (suc i) j le = omega arith
 sums_rise (x ∷ xs) (suc i) zero le = absurd (omega arith)
 sums_rise (x ∷ xs) (suc i) (suc j) le =
     omega (arith, sum_by-cons (λ c. c.weight) x (take i xs), sum_by-cons (λ c. c.weight) x (take j xs), sums_rise xs i j (omega arith))
+
+-- a place is in one interval
+pub one_interval : (ms : List Member) (place i j : ℕ) → HoldsPlace ms place i → HoldsPlace ms place j → i ≡ j
+one_interval ms place i j h k =
+    ⊎_elim
+    (λ e. e)
+    (λ apart.
+    absurd (⊎_elim
+    (λ (lt : i < j). omega (arith, sums_rise ms (i + 1) j (omega arith), h.below, k.from))
+    (λ (gt : j < i). omega (arith, sums_rise ms (j + 1) i (omega arith), k.below, h.from))
+    apart))
+    (cases_order i j)
 
 -- a backend is the first choice of a word exactly where its interval holds the place
 chosen_inside :

@@ -1,19 +1,19 @@
 -- Weighted candidates by index: the entry of the expanded list is the first choice, and on a sorted list the rank of a
 -- backend is its index.
-use Rattle.std.specs.Prelude.{◌≡◌, ℕ, zero, suc, ◌+◌, ◌%◌, ◌<◌, ◌≤◌, Bool, true, false, List, [], ◌∷◌, ◌++◌, length, take, get_or, Option, Some, None, cond, Contains, sum_by, count_by, refl}
-use Rattle.std.proofs.Common.{arith, rules, sym, ap, subst, ◌∙◌, w64, is_lt, Ordering, Less, Equal, Greater}
+use Rattle.std.specs.Prelude.{◌≡◌, ℕ, zero, suc, ◌+◌, ◌%◌, ◌<◌, Bool, true, false, List, [], ◌∷◌, ◌++◌, length, get_or, Some, cond, count_by, refl}
+use Rattle.std.proofs.Common.{arith, rules, ap, subst, ◌∙◌, w64, is_lt, Ordering, Less}
 use Rattle.std.specs.Int.{to_le_bytes}
-use Rattle.std.specs.List.{AllByRecursion as Each, AllZip, slice_get}
+use Rattle.std.specs.List.{AllByRecursion as Each, slice_get}
 use Rattle.std.specs.List.Sorted.{IsStrictlySortedBy}
 use Rattle.std.specs.Cmp.{IsTotalOrder}
 use Rattle.std.specs.Cmp.Rules.{comparing}
 use Rattle.std.specs.Ordering.{ordering_reverse}
 use Rattle.std.proofs.lemmas.Cmp.{tied_itself}
 use Rattle.std.proofs.lemmas.List.Sums.{sum_by-cons}
-use Rattle.std.proofs.lemmas.Option.{slice_get-get_or, get_or_from_slice_get, same_Some, none-some, slice_get_within}
+use Rattle.std.proofs.lemmas.Option.{slice_get-get_or, get_or_from_slice_get, same_Some, none-some}
 use Rattle.lb_select.specs.Backends.{Member, member_cmp}
 use Rattle.lb_select.specs.Draws.{Draw}
-use Rattle.lb_select.specs.Weights.{Words, total_weight, HoldsPlace, IsFirstChoice, IsFallback, AreCandidates, RestCandidates, IsWeightedRest}
+use Rattle.lb_select.specs.Weights.{total_weight, HoldsPlace, IsFirstChoice, IsFallback, IsWeightedRest}
 
 -- backends are in a total order
 pub member_cmp_total : IsTotalOrder member_cmp

@@ -1,10 +1,14 @@
 -- The texts of addresses and backends: what is written for each, and which address a text spells.
 -- Internet addresses are written and read as Rust's std::net::SocketAddr is, whose IPv6 text is that of RFC 5952.
-use Rattle.std.specs.Prelude.{◌≡◌, ℕ, Bool, List, [], ◌∷◌, ◌++◌, codes, decimal, drop, take, length, nat_lt, bytes_eq, ◌&&◌, ◌==◌, if◌then◌else◌, Option, Some, None}
+use Rattle.std.specs.Prelude.{◌≡◌, ℕ, List, [], ◌∷◌, ◌++◌, codes, decimal, drop, length, nat_lt, ◌&&◌, ◌==◌, eqb, if◌then◌else◌, Option, Some, None, Result, IsOkAnd, IsSomeAnd}
+use Rattle.std.specs.List.{starts_with}
+use Rattle.std.specs.Result.{IsErrAnd}
+use Rattle.std.specs.declared.iter.Once.{Once}
+use Rattle.std.specs.Iterator.Adapters.{once_item}
 use Rattle.std.specs.declared.net.socket_addr.SocketAddr.{SocketAddr}
 use Rattle.std.specs.declared.net.socket_addr.SocketAddr.TheVariants.{V4, V6}
 use Rattle.std.specs.Net.Addr.{ipv4_octets, ipv6_octets, octets_of, segments_of}
-use Rattle.std.specs.Net.Socket.{v4_ip, v4_port, v6_ip, v6_port, v6_scope_id}
+use Rattle.std.specs.Net.Socket.{v4_ip, v4_port, v6_ip, v6_port, v6_scope_id, socket_flowinfo}
 use Rattle.std.specs.Net.Text.{ipv4_text, ipv6_text}
 use Rattle.std.specs.Net.Grammar.{IsSocketText}
 use Rattle.std.specs.Net.Reader.{read_socket_v4, read_socket_v6, whole_value, map_or}
@@ -41,13 +45,13 @@ internet_of_text text =
     map_or (whole_value (read_socket_v4 text)) (map_or (whole_value (read_socket_v6 text)) None without_scope)
     (λ p. Some (ipv4 p.0 p.1))
 
--- the text begins with `unix:` and goes on
-abbrev pub names_path : List ℕ → Bool
-names_path text = nat_lt 5 (length text) && bytes_eq (take 5 text) (codes "unix:")
+-- the path that the text names: one byte or more after `unix:`
+unfoldable pub path_of_text : List ℕ → Option (List ℕ)
+path_of_text text = if starts_with eqb text (codes "unix:") && nat_lt 5 (length text) then Some (drop 5 text) else None
 
--- the address that the text spells: a path of one byte or more after `unix:`, or an internet address
+-- the address that the text spells: a path or an internet address
 abbrev pub address_of_text : List ℕ → Option Address
-address_of_text text = if names_path text then Some (unix (drop 5 text)) else internet_of_text text
+address_of_text text = map_or (path_of_text text) (internet_of_text text) (λ path. Some (unix path))
 
 -- a backend at an address, with nothing attached
 abbrev pub bare_member : ℕ → Address → Member
@@ -57,3 +61,14 @@ bare_member weight address = record { address = address; weight = weight; ext = 
 abbrev pub path_refusal : List ℕ → Option Refusal
 path_refusal [] = Some InvalidAddress
 path_refusal (c ∷ path) = None
+
+-- a text that spells no address is none
+abbrev pub address_refusal : Option Address → Option Refusal
+address_refusal None = Some InvalidAddress
+address_refusal (Some address) = None
+
+-- the one socket address of an internet address comes, without flow information; a path has none
+abbrev pub GivesSocket : Address → Result (Once SocketAddr) Refusal → Type 0
+GivesSocket (ipv4 octets port) r = IsOkAnd r (λ it. IsSomeAnd (once_item it) (λ s. socket_seen s ≡ Some (ipv4 octets port)))
+GivesSocket (ipv6 octets port) r = IsOkAnd r (λ it. IsSomeAnd (once_item it) (λ s. (socket_seen s ≡ Some (ipv6 octets port)) × (socket_flowinfo s ≡ 0)))
+GivesSocket (unix path) r = IsErrAnd r (λ e. e ≡ InvalidAddress)

@@ -6,9 +6,11 @@ pub mod Fnv
 pub mod Identity
 pub mod Memberships
 pub mod Refusals
+pub mod SameBackend
 pub mod Seen
+pub mod Selections
 pub mod Shares
-pub mod WalkLaws
 pub mod Unique
+pub mod WalkLaws
 pub mod Walks
 pub mod Weights

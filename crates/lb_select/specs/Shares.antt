@@ -1,13 +1,13 @@
 -- Shares of a weighted selector: over a whole turn of consecutive words each backend is chosen exactly its weight times,
 -- and no backend escapes a walk whose words are consecutive. Words are consecutive where they are tickets of a counter
--- that does not wrap.
-use Rattle.std.specs.Prelude.{◌≡◌, ℕ, zero, suc, ◌+◌, ◌^◌, ◌<◌, ◌≤◌, List, [], ◌∷◌, map, length, Contains, count_by}
+-- that does not wrap. And a walk's draws leave no choice: they determine its candidates.
+use Rattle.std.specs.Prelude.{◌≡◌, ℕ, Bool, zero, suc, ◌+◌, ◌^◌, ◌<◌, ◌≤◌, List, [], ◌∷◌, map, length, Contains, count_by}
 use Rattle.std.specs.List.{AllZip}
 use Rattle.std.specs.List.Sorted.{IsStrictlySortedBy}
 use Rattle.rand_core.specs.Stream.{Stream}
 use Rattle.lb_select.specs.Backends.{Member, member_cmp, same_member}
 use Rattle.lb_select.specs.Draws.{Draw, ticket, Gives, CoreGives}
-use Rattle.lb_select.specs.Weights.{total_weight, IsFirstChoice, AreCandidates}
+use Rattle.lb_select.specs.Weights.{total_weight, IsFirstChoice, AreCandidates, IsWeightedWalk}
 
 -- a word and those after it, each one more than the one before; so many in all
 abbrev pub words_from : ℕ → ℕ → List ℕ
@@ -43,3 +43,10 @@ abbrev pub TicketsAreConsecutive : {S : Type 0} → (S → ℕ) → (S → Strea
 TicketsAreConsecutive {S} tickets stream load_of =
     (s t : S) (ws : List ℕ) → Gives (CoreGives tickets stream load_of) s (map ticket ws) t → tickets s + length ws ≤ 2 ^ 64
     → ws ≡ words_from (tickets s) (length ws)
+
+-- two walks over one set with the same key and the same draws give the same candidates, as far as both go
+abbrev pub WalksAreDetermined : (List ℕ → List Draw → ℕ → Type 0) → Type 0
+WalksAreDetermined gives_word =
+    (ms : List Member) → IsStrictlySortedBy member_cmp ms → (key : List ℕ) (draws : List Draw) (cs bs : List Member) (e f : Bool)
+    → IsWeightedWalk gives_word ms key draws cs e → IsWeightedWalk gives_word ms key draws bs f → length cs ≡ length bs
+    → cs ≡ bs

@@ -1,12 +1,12 @@
 -- The laws that the algorithms and the weighted selector owe: which draws are random, how many words a walk draws, and
 -- that a walk that is over gives nothing more.
 use Rattle.std.specs.Prelude.{◌≡◌, ℕ, ◌+◌, ◌≤◌, max, Bool, true, false, List, [], ◌∷◌, ◌++◌, length, refl}
-use Rattle.std.proofs.Common.{arith, sym, ap, subst, ◌∙◌, w64}
+use Rattle.std.proofs.Common.{arith, sym, ap, subst, w64}
 use Rattle.std.specs.Int.{to_le_bytes}
-use Rattle.std.specs.List.{AllByRecursion as Each, AllZip}
+use Rattle.std.specs.List.{AllByRecursion as Each}
 use Rattle.std.proofs.lemmas.Slice.Zip.{AllZip-long}
 use Rattle.lb_select.specs.Backends.{Member}
-use Rattle.lb_select.specs.Draws.{Draw, ticket, random, load, IsNotRandom, is_word, words_in}
+use Rattle.lb_select.specs.Draws.{Draw, ticket, random, IsNotRandom, words_in}
 use Rattle.lb_select.specs.Weights.{Words, total_weight, IsFallback, AreCandidates, RestCandidates, IsWeightedWalk, IsWeightedRest}
 
 -- no draw at all

@@ -1,15 +1,16 @@
 //! Backends: an address, a weight, and what a user attaches to them.
 //! A backend is compared, ordered and hashed by address and weight alone: that pair is its identity.
-ghost use Rattle.std.specs.Prelude.{◌≡◌, IfOk, IfErr, MatchResult, Some, map, option_map};
+ghost use Rattle.std.specs.Prelude.{◌≡◌, ◌↔◌, IsTrue, IfOk, IfErr, MatchResult, Some, None, map, option_map};
 ghost use Rattle.std.specs.Option.{ok_or};
 ghost use Rattle.std.specs.Cmp.{partial_order_from_own_ties};
 ghost use Rattle.std.specs.Cmp.Rules.{comparing};
 ghost use Rattle.std.specs.Ordering.{as_partial_cmp};
 ghost use Rattle.std.proofs.Common.{rules};
-ghost use Rattle.lb_select.specs.AddressText.{IsInternetText, internet_of_text, bare_member, path_refusal, member_text};
+ghost use Rattle.lb_select.specs.AddressText.{IsInternetText, internet_of_text, address_of_text, address_refusal, bare_member, path_of_text, path_refusal, member_text, GivesSocket};
 ghost use Rattle.lb_select.specs.Backends.{Address, unix, Member, member_cmp, same_member, member_hash};
 ghost use Rattle.lb_select.specs.Refusals.{Refuses};
 ghost use Rattle.lb_select.specs.declared.refusal.Refusal.TheVariants.{InvalidAddress};
+ghost use Rattle.lb_select.specs.SameBackend.{identity_of};
 ghost use Rattle.lb_select.specs.Seen.{address_seen, entries_seen};
 ghost use Rattle.lb_select.specs.Identity.{hash_alike};
 
@@ -17,9 +18,9 @@ use crate::refusal::Refusal;
 use std::alloc::{AllocError, Global};
 use std::cmp::Ordering;
 use std::collections::BTreeMap;
-use std::fmt;
 use std::hash::{Hash, Hasher};
 use std::marker::Model;
+use std::{fmt, iter, net};
 
 /// An internet address with its port: four or sixteen octets, the most significant first. IPv4 comes before IPv6, then the
 /// octets decide, then the port.
@@ -90,6 +91,19 @@ impl Backend {
         Ok(Backend::bare(alloc, SocketAddr::Unix(path), weight))
     }
 
+    /// A backend of this weight at the address that the text spells, with nothing attached: `unix:` and a path of one byte or
+    /// more, or a text for `new`. Refused `InvalidAddress` where it spells none, and `OutOfMemory` where there is no room for
+    /// a path.
+    pub fn from_text(alloc: Global, text: &str, weight: usize) -> Result<Backend, Refusal>
+        ensures made { Refuses (address_refusal (address_of_text text.now)) (λ b. option_map (bare_member weight) (address_of_text text.now) ≡ Some b) result }
+        ensures internet { path_of_text text.now ≡ None → result ≡ ok_or (option_map (bare_member weight) (internet_of_text text.now)) InvalidAddress }
+    {
+        match text.strip_prefix("unix:") {
+            Some(path) if !path.is_empty() => Backend::unix(alloc, path, weight),
+            _ => Backend::new_with_weight(alloc, text, weight),
+        }
+    }
+
     // A backend with nothing attached.
     fn bare(alloc: Global, addr: SocketAddr, weight: usize) -> Backend
         ensures { result ≡ bare_member weight (address_seen addr) }
@@ -103,10 +117,27 @@ impl Backend {
 
     /// What makes two backends the same: the address and the weight.
     pub fn identity(&self) -> (&SocketAddr, usize)
-        ensures address { address_seen result.0.now ≡ self.now.address }
-        ensures weight { result.1 ≡ self.now.weight }
+        ensures { (address_seen result.0.now, result.1) ≡ identity_of self.now }
     {
         (&self.addr, self.weight)
+    }
+
+    /// A law: backends are equal exactly where their identities are.
+    pub fn equal_by_identity(&self, other: &Backend)
+        ensures { IsTrue (same_member self.now other.now) ↔ (identity_of self.now ≡ identity_of other.now) }
+    {}
+
+    /// The one socket address of an internet address; nothing is looked up. Refused `InvalidAddress` for a Unix address.
+    pub fn to_socket_addrs<N: net::Net>(
+        &self,
+        _net: &N,
+    ) -> Result<iter::Once<net::SocketAddr>, Refusal>
+        ensures { GivesSocket self.now.address result }
+    {
+        match &self.addr {
+            SocketAddr::Inet(inet) => Ok(iter::once(net::SocketAddr::from(*inet))),
+            SocketAddr::Unix(_) => Err(Refusal::InvalidAddress),
+        }
     }
 }
 

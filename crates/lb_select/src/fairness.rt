@@ -1,8 +1,10 @@
 //! What weights come to over a whole turn of words: laws of weighted selection, over its definitions alone.
 //! Each is a function that does nothing; its contract is the law.
 ghost use Rattle.lb_select.specs.Backends.{Member};
-ghost use Rattle.lb_select.specs.Shares.{WeightsAreExact, AllAreVisited, TicketsAreConsecutive};
+ghost use Rattle.lb_select.specs.Shares.{WeightsAreExact, AllAreVisited, TicketsAreConsecutive, WalksAreDetermined};
 
+use crate::algorithms::{FnvHasher, Random, RoundRobin};
+use crate::walk::SelectionAlgorithm;
 use crate::words::CoreWords;
 use rand_core::Rng;
 
@@ -22,4 +24,12 @@ pub fn all_are_visited()
 /// `RoundRobin` gives exact shares, and one walk visits every backend.
 pub fn tickets_are_consecutive<R: Rng + Drop>()
     ensures { TicketsAreConsecutive {S = CoreWords R} (λ w. w.tickets) (λ w. R.stream w.generator) (λ (w : _) (m : Member). 0) }
+{}
+
+/// A walk's candidates are a function of the set, the key and what was drawn: by hashes of the set and the key alone,
+/// since nothing is drawn.
+pub fn walks_are_determined()
+    ensures hashed { WalksAreDetermined ⟦<FnvHasher as SelectionAlgorithm>⟧.gives_word }
+    ensures in_turn { WalksAreDetermined ⟦<RoundRobin as SelectionAlgorithm>⟧.gives_word }
+    ensures at_random { WalksAreDetermined ⟦<Random as SelectionAlgorithm>⟧.gives_word }
 {}

@@ -2,11 +2,12 @@
 //! A walk's meaning is one relation between the draws that were made and the first candidates that came.
 #![tactic(auto)]
 
-pub mod algorithms;
 mod address;
+pub mod algorithms;
 pub mod backend;
 pub mod fairness;
 pub mod refusal;
+pub mod select;
 pub mod selection;
 pub mod unique;
 pub mod walk;

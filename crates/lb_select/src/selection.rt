@@ -1,5 +1,6 @@
 //! Selection under the upstream crate's names: its traits, its modules, and the weighted selectors by algorithm.
 //! Nothing is defined here beside the names.
+pub use crate::unique::UniqueIterator;
 pub use crate::walk::{BackendIter, BackendSelection, SelectionAlgorithm};
 use crate::weighted::Weighted;
 pub use crate::{algorithms, weighted};

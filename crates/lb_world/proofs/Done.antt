@@ -1,10 +1,10 @@
 -- The world after a step that an entry took: it is sound, and stands for the longer history.
-use Rattle.std.proofs.Common.{inl, inr, sym, ap, ◌∙◌, subst, arith, refl}
-use Rattle.std.specs.Prelude.{◌≡◌, ◌⊎◌, ℕ, ◌<◌, Bool, true, false, not, ◌&&◌, List, ◌∷◌, length, Option, Some, None, slice_get, slice_set}
+use Rattle.std.proofs.Common.{inl, inr, sym, ap, ◌∙◌, subst, refl}
+use Rattle.std.specs.Prelude.{◌≡◌, ℕ, Bool, true, false, not, ◌&&◌, List, ◌∷◌, Option, Some, None, slice_get, slice_set}
 use Rattle.lb_select.specs.declared.refusal.Refusal.{Refusal}
 use Rattle.lb_select.specs.declared.refusal.Refusal.TheVariants as refusal
 use Rattle.lb_rebuild.specs.Gate.{GateView, gate}
-use Rattle.lb_rebuild.specs.Views.{StageView, free, flight, retired, taken_out, Task, SlotView, is_flying}
+use Rattle.lb_rebuild.specs.Views.{StageView, free, flight, retired, taken_out, SlotView}
 use Rattle.lb_rebuild.specs.Calls.{is_free}
 use Rattle.lb_world.specs.Steps.{StepView}
 use Rattle.lb_world.specs.Steps as step
@@ -17,7 +17,7 @@ use Rattle.lb_world.specs.Quiet.{is_inert}
 use Rattle.lb_world.specs.Views.{WorkView, nothing, building, ready, PlaceView, EntryView, WorldView, changed, is_out, is_out_at, out_in, with_place, stage_holds}
 use Rattle.lb_world.specs.Sound.{IsSound}
 use Rattle.lb_world.specs.Stands.{Stands}
-use Rattle.lb_world.specs.Doings.{IsAt, AgreesAt, NoSlot, Same, StageKeeps, IsNotBuilding, IsNotReady, DidAsk, DidBuild, DidPublish, DidDestroy}
+use Rattle.lb_world.specs.Doings.{IsAt, AgreesAt, Same, StageKeeps, IsNotBuilding, IsNotReady, DidAsk, DidBuild, DidPublish, DidDestroy}
 use Rattle.lb_world.proofs.Places.{found}
 use Rattle.lb_world.proofs.EntrySteps.{set_here}
 use Rattle.lb_world.proofs.Effects.{IsPlaced, Effect, step_sound, step_stands, inert_stands}
@@ -44,7 +44,7 @@ module _ {C : Type 0} where
         agrees = λ s x k at. (sound.places g e s x k at_group at.slot_at at.work_at).agrees;
       }
 
-  placed_at :
+  pub placed_at :
       (w : WorldView C) (g s : ℕ) (e : EntryView C) (x : SlotView C) (k : WorkView C)
       → slice_get w.groups g ≡ Some e → IsAt e s x k → IsPlaced w g s e (record { slot = x; work = k })
   placed_at w g s e x k at_group at = record { group_at = at_group; slot_at = at.slot_at; work_at = at.work_at }
@@ -58,7 +58,7 @@ module _ {C : Type 0} where
       ∙ ap (λ v. record w { gates = v; groups = slice_set w.groups g e }) (set_here w.gates a z at_gate)
       ∙ ap (λ v. record w { groups = v }) (set_here w.groups g e at_group)
 
-  entry_here :
+  pub entry_here :
       (w : WorldView C) (g : ℕ) (e e2 : EntryView C)
       → slice_get w.groups g ≡ Some e → e2 ≡ e → with_entry w g e2 ≡ w
   entry_here w g e e2 at_group same = ap (λ v. with_entry w g v) same ∙ ap (λ v. record w { groups = v }) (set_here w.groups g e at_group)
@@ -93,7 +93,7 @@ module _ {C : Type 0} (M : Meaning C) where
       subst (λ v. IsSound v × Stands M v ((st, b) ∷ h)) (sym (both_here w g a e e2 z z2 at_group at_gate same.0 same.1))
       (sound, inert_stands M w h st b sound stands right inert unselected)
 
-  inert_entry :
+  pub inert_entry :
       (w : WorldView C) (h : History C) (g : ℕ) (e e2 : EntryView C) (st : StepView C) (b : Answer)
       → IsSound w → Stands M w h → slice_get w.groups g ≡ Some e → e2 ≡ e
       → Answers M h st b → is_inert b ≡ true → selection st ≡ None
@@ -116,7 +116,7 @@ module _ {C : Type 0} (M : Meaning C) where
       )
 
   -- a step that changes a place and the readers
-  effect_entry :
+  pub effect_entry :
       (w : WorldView C) (h : History C) (g s : ℕ) (e e2 : EntryView C) (was now : PlaceView C) (readers : List (Option Entered))
       (st : StepView C) (b : Answer)
       → IsSound w → Stands M w h → IsPlaced w g s e was

@@ -1,7 +1,10 @@
 pub mod Done
+pub mod DoneMore
 pub mod Effects
 pub mod EmptyWorld
+pub mod EntryReaders
 pub mod EntrySteps
+pub mod EntryUpdates
 pub mod Ever
 pub mod Founding
 pub mod Frames
@@ -24,6 +27,8 @@ pub mod Permits
 pub mod PlaceCases
 pub mod Places
 pub mod Promises
+pub mod SameSets
+pub mod SelectAbsent
 pub mod SlotFrames
 pub mod SoundPlaces
 pub mod Sums

@@ -115,8 +115,8 @@ module _ {C : Type 0} (M : Meaning C) where
   published_ready h (step.destroy group slot) g s n right named =
       absurd (not_published _ n (unpublished_slot (config group slot h) _ (λ c. unpublished_destroy _ _)) right)
   published_ready h (step.select group slot key limit words) g s n right named =
-      absurd (neither (made group h) _ _ (λ e. both_ways true (sym (ap is_published e)) refl)
-      (λ m at_slot. neither (slice_get m.configs slot) _ _ (λ e. both_ways true (sym (ap is_published e)) refl)
+      absurd (neither (made group h) _ _ (λ e. both_ways true (ap is_published e) refl)
+      (λ m at_slot. neither (slice_get m.configs slot) _ _ (λ e. both_ways true (ap is_published e) refl)
       (λ c d. both_ways true (ap is_published d.3.1 ∙ unpublished_select d.3.0) refl) at_slot) right)
   published_ready h (step.publish group slot) g s n right named =
       let here = and_parts (group == g) (slot == s) named in

@@ -1,18 +1,24 @@
 //! A group in a world: its core with the numbers of its registry and its gate, and what the world holds for each of its slots.
 //! A job and a built selector lie here between the steps that ask, build and publish.
-ghost use Rattle.std.specs.Prelude.{◌≡◌, MatchOption};
+ghost use Rattle.std.specs.Prelude.{◌≡◌, [], map, not, length, replicate, IfOk, MatchOption};
+ghost use Rattle.lb_select.specs.Memberships.{same_members};
+ghost use Rattle.lb_select.specs.Refusals.{Refuses};
+ghost use Rattle.lb_rebuild.specs.Least.{least};
 ghost use Rattle.lb_world.specs.Views.{nothing, building, ready};
+ghost use Rattle.lb_world.specs.Answers.{select_answer};
 ghost use Rattle.lb_world.specs.Works.{work_view};
-ghost use Rattle.lb_world.specs.Doings.{AgreesAt, DidAsk, DidBuild, DidPublish, DidDestroy, IsNotBuilding, IsNotReady};
+ghost use Rattle.lb_world.specs.Doings.{AgreesAt, DidAsk, DidBuild, DidPublish, DidDestroy, DidEnter, IsInside, DidLeave, fresh_entry, DidUpdate, DidSelect, IsNotBuilding, IsNotReady};
 
 use crate::answer::Answer;
 use lb_rebuild::gate::GateCore;
 use lb_rebuild::group::GroupCore;
 use lb_rebuild::job::{Built, FailedBuild, Job};
 use lb_rebuild::slot::{Ask, Reader, Told};
+use lb_select::backend::Backend;
 use lb_select::refusal::Refusal;
 use lb_select::walk::BackendSelection;
-use std::alloc::Global;
+use std::alloc::{AllocError, Global};
+use std::collections::BTreeSet;
 use std::marker::Model;
 use std::mem;
 
@@ -88,11 +94,78 @@ impl<S: BackendSelection> Held<S> {
 }
 
 impl<S: BackendSelection> Entry<S> {
+    // A group at that registry and over that gate, with a slot for each configuration. Refused for the least cause, or memory.
+    pub(crate) fn new(
+        alloc: Global,
+        registry: u64,
+        number: usize,
+        gate: &GateCore,
+        configs: Vec<S::Config>,
+    ) -> Result<Entry<S>, Refusal>
+        ensures { Refuses (least (map (S.refusal []) configs.items)) (λ e. e ≡ fresh_entry registry number gate.now.id configs.items) result }
+    {
+        let count = configs.len();
+        let core = GroupCore::new(alloc, gate, configs)?;
+        let works = empty_places(alloc, count)?;
+        Ok(Entry {
+            registry,
+            gate: number,
+            core,
+            works,
+        })
+    }
+
+    // Lets the group go with the world, and what is held for its slots.
+    pub(crate) fn close(self) {
+        let Entry {
+            registry: _,
+            gate: _,
+            core: _,
+            mut works,
+        } = self;
+        while let Some(place) = works.pop() {
+            place.close();
+        }
+        works.destroy_empty();
+    }
+
     // The number of its gate.
     pub(crate) fn gate(&self) -> usize
         ensures { result ≡ self.now.gate }
     {
         self.gate
+    }
+
+    // How many slots it has.
+    pub(crate) fn slot_count(&self) -> usize
+        ensures { result ≡ length self.now.core.slots }
+    {
+        self.core.slot_count()
+    }
+
+    // Its newest generation.
+    pub(crate) fn newest(&self) -> u64
+        ensures { result ≡ self.now.core.newest }
+    {
+        self.core.newest()
+    }
+
+    // Whether this list is another membership than the newest. It takes no memory.
+    pub(crate) fn differs(&self, backends: &[Backend]) -> bool
+        ensures { result ≡ not (same_members backends.now self.now.core.current) }
+    {
+        self.core.differs(backends)
+    }
+
+    // Makes this set of backends the newest membership, where it is another one.
+    pub(crate) fn update(&mut self, alloc: Global, set: BTreeSet<Backend>) -> Answer
+        ensures { DidUpdate self.old set.keys result self.new }
+    {
+        match self.core.schedule(alloc, set) {
+            Err(refusal) => Answer::Refused(refusal),
+            Ok(scheduled) if scheduled.changed => Answer::Generation(scheduled.generation),
+            Ok(scheduled) => Answer::Same(scheduled.generation),
+        }
     }
 
     // Asks the slot for its next build, and holds the job.
@@ -174,6 +247,65 @@ impl<S: BackendSelection> Entry<S> {
             }
         }
     }
+
+    // Lets a reader enter what the slot serves.
+    pub(crate) fn enter(&mut self, slot: usize) -> Result<Reader<S>, Refusal>
+        requires agrees { AgreesAt self.old }
+        ensures { DidEnter self.old slot result self.new }
+    {
+        self.core.enter(slot)
+    }
+
+    // Lets a reader leave its slot.
+    pub(crate) fn leave(&mut self, reader: Reader<S>)
+        requires inside { IsInside self.old reader.slot reader.generation }
+        requires agrees { AgreesAt self.old }
+        ensures { DidLeave self.old reader.slot reader.generation self.new }
+    {
+        self.core.leave(reader);
+    }
+
+    // Selects from what the slot serves.
+    pub(crate) fn select(
+        &mut self,
+        alloc: Global,
+        slot: usize,
+        key: &[u8],
+        limit: usize,
+        words: &[u64],
+    ) -> Answer
+        requires agrees { AgreesAt self.old }
+        ensures { DidSelect S.walks S.may_draw_random self.old slot key.now limit words.now result self.new }
+    {
+        answer_to(self.core.select(alloc, slot, key, limit, words))
+    }
+}
+
+// The answer to a selection.
+fn answer_to(selected: Result<Option<Backend>, Refusal>) -> Answer
+    ensures { result ≡ select_answer selected }
+{
+    match selected {
+        Ok(None) => Answer::NoBackend,
+        Ok(Some(backend)) => Answer::Backend(backend),
+        Err(refusal) => Answer::Refused(refusal),
+    }
+}
+
+// A place for each of so many slots, with nothing held.
+fn empty_places<S: BackendSelection>(
+    alloc: Global,
+    count: usize,
+) -> Result<Vec<Place<S>>, AllocError>
+    ensures { IfOk result (λ places. places.items ≡ replicate count nothing) }
+{
+    let mut places = Vec::with_capacity(alloc, count)?;
+    for _ in 0..count {
+        places.push_reserved(Place {
+            work: Work::Nothing,
+        });
+    }
+    Ok(places)
 }
 
 // Puts work where none is held.

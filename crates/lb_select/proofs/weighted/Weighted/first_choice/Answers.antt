@@ -1,4 +1,4 @@
-use Rattle.std.proofs.Common.{◌<◌, ◌%◌, length, arith, ap}
+use Rattle.std.proofs.Common.{◌<◌, ◌%◌, length, arith}
 use Rattle.lb_select.specs.Weights.{total_weight}
 use Rattle.lb_select.proofs.WeightLemmas.{first_at}
 use Rattle.lb_select.proofs.weighted.Weighted.first_choice.Goals as goal

@@ -1,5 +1,4 @@
-use Rattle.std.proofs.Common.{arith, ◌<◌, length, sym, ap, ◌∙◌, inr}
-use Rattle.lb_world.specs.Doings.{AgreesAt}
+use Rattle.std.proofs.Common.{arith, ◌<◌, length, inr}
 use Rattle.lb_world.proofs.EntrySteps.{not_ready, task_here, task_slot, did_publish, not_abandoned}
 use Rattle.lb_world.proofs.entry.Entry.publish.Goals as goal
 
@@ -26,10 +25,10 @@ pub unreachable-requires : goal.unreachable-requires
 unreachable-requires g c =
     let agrees = rw (← c.self.view_is) at c.requires.agrees in
     let within : c.args.slot < length c.self.inside.works.items = omega (arith, c.len.ensures) in
-    not_abandoned _ _ _ _ _ _ agrees within c.index_mut-place.ensures.value c.in-Some.ensures.0 c.in-Abandoned.ensures
+    not_abandoned _ _ _ _ _ _ agrees within c.index_mut-place.ensures.value c.in-Some.ensures.0 c.in-Abandoned.ensures.told
 
 pub returns : goal.returns
 returns g c =
     let agrees = rw (← c.self.view_is) at c.requires.agrees in
     let within : c.args.slot < length c.self.inside.works.items = omega (arith, c.len.ensures) in
-    rw (← c.self.view_is) (did_publish _ _ _ _ _ _ _ agrees within c.index_mut-place.ensures.value c.in-Some.ensures.0 c.in-Some.ensures.1 c.in-Published.ensures)
+    rw (← c.self.view_is) (did_publish _ _ _ _ _ _ _ agrees within c.index_mut-place.ensures.value c.in-Some.ensures.0 c.in-Some.ensures.1 c.in-Published.ensures.told)

@@ -1,0 +1,39 @@
+//! One selection: the first backend of a walk that is accepted, each looked at once, up to a limit of candidates.
+//! It holds for every selector, every source of words and every function that accepts.
+ghost use Rattle.std.specs.Fn.{FnReturnsAt};
+ghost use Rattle.std.specs.Arc.{arc_value};
+ghost use Rattle.lb_select.specs.Backends.{same_member};
+ghost use Rattle.lb_select.specs.Selections.{Selects};
+
+use crate::backend::Backend;
+use crate::refusal::Refusal;
+use crate::unique::UniqueIterator;
+use crate::walk::BackendSelection;
+use crate::words::WordSource;
+use std::alloc::Global;
+use std::sync::Arc;
+
+/// The first accepted of the distinct backends among the first `limit` candidates of the selector's walk for `key`, or
+/// `None` where none of them is accepted. `accept` is asked once of each, in their order, until it answers true. Refused
+/// for memory alone.
+pub fn select<S: BackendSelection, W: WordSource, F: Fn(&Backend) -> bool>(
+    alloc: Global,
+    selector: &Arc<S>,
+    key: &[u8],
+    words: &mut W,
+    limit: usize,
+    accept: &F,
+) -> Result<Option<Backend>, Refusal>
+    requires { F.IsAlwaysCallable accept.now }
+    ensures { Selects same_member (λ b r. FnReturnsAt F.Fn accept.now b r) limit W.gives (S.walks (S.members (arc_value selector.now)) (S.built_with (arc_value selector.now)) key.now) words.old result words.new }
+{
+    let iter = S::iter(selector, key, words)?;
+    let mut unique = UniqueIterator::new(alloc, iter, limit);
+    while let Some(backend) = unique.find(words)? {
+        if accept(&backend) {
+            return Ok(Some(backend));
+        }
+        unique.keep(backend);
+    }
+    Ok(None)
+}
