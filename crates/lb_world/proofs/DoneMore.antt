@@ -1,13 +1,12 @@
 -- The world after a reader entered or left, after a selection, and after a group was made or updated: it is sound, and stands
 -- for the longer history.
 use Rattle.std.proofs.Common.{inl, inr, sym, ap, ◌∙◌, subst, arith, refl}
-use Rattle.std.specs.Prelude.{◌≡◌, ◌≢◌, ◌⊎◌, ℕ, ◌+◌, ◌-◌, ◌^◌, ◌<◌, ◌≤◌, Bool, true, false, ◌==◌, if◌then◌else◌, List, [], ◌∷◌, ◌++◌, length, count_by, Option, Some, None, Result, Ok, Err, slice_get, slice_set}
+use Rattle.std.specs.Prelude.{◌≡◌, ℕ, ◌-◌, ◌^◌, ◌<◌, ◌≤◌, false, ◌==◌, if◌then◌else◌, List, [], ◌∷◌, ◌++◌, length, count_by, Option, Some, None, Ok, Err, slice_get, slice_set}
 use Rattle.std.proofs.lemmas.List.Sums.{count_by-le-length}
 use Rattle.std.proofs.lemmas.Bool.{eq-eqb}
 use Rattle.lb_select.specs.Backends.{Member}
-use Rattle.lb_select.specs.Memberships.{set_of, same_members}
+use Rattle.lb_select.specs.Memberships.{set_of}
 use Rattle.lb_select.specs.declared.refusal.Refusal.{Refusal}
-use Rattle.lb_select.specs.declared.refusal.Refusal.TheVariants as refusal
 use Rattle.lb_rebuild.specs.Gate.{GateView}
 use Rattle.lb_rebuild.specs.Views.{StageView, free, flight, retired, taken_out, ReaderView, SlotView}
 use Rattle.lb_rebuild.specs.Calls as calls
@@ -16,20 +15,22 @@ use Rattle.lb_world.specs.declared.answer.Answer.{Answer}
 use Rattle.lb_world.specs.declared.answer.Answer.TheVariants as answer
 use Rattle.lb_world.specs.Meanings.{Meaning}
 use Rattle.lb_world.specs.History.{History, Entered, reads, present}
-use Rattle.lb_world.specs.Answers.{Answers, has_refused, select_answer}
+use Rattle.lb_world.specs.Answers.{Answers, has_refused}
 use Rattle.lb_world.specs.Views.{WorkView, PlaceView, EntryView, WorldView, retired_readers, readers_at}
 use Rattle.lb_world.specs.Sound.{IsSound}
 use Rattle.lb_world.specs.Stands.{Stands}
-use Rattle.lb_world.specs.Doings.{IsAt, DidEnter, IsInside, DidLeave, with_members, DidUpdate, DidSelect}
+use Rattle.lb_world.specs.Doings.{IsAt, DidEnter, IsInside, DidLeave, fresh_entry, with_members, DidUpdate, DidSelect}
 use Rattle.lb_world.proofs.Places.{found}
-use Rattle.lb_world.proofs.Effects.{IsPlaced, Effect}
+use Rattle.lb_world.proofs.Effects.{IsPlaced}
 use Rattle.lb_world.proofs.KindFacts.{place_sound}
 use Rattle.lb_world.proofs.KindEnter.{entered_slot, reader_entered}
 use Rattle.lb_world.proofs.KindLeave.{left_slot, reader_left, reader_is_in}
 use Rattle.lb_world.proofs.KindSelect.{drawn_slot, selection_answered}
-use Rattle.lb_world.proofs.KindInert.{no_slot, no_slot_config, enter_no_such, select_no_slot, enter_full, enter_without_memory}
+use Rattle.lb_world.proofs.KindInert.{no_slot, no_slot_config, enter_no_such, select_no_slot, enter_without_memory}
 use Rattle.lb_world.proofs.GroupUpdated.{update_sound, update_stands}
-use Rattle.lb_world.proofs.MadeAnswers.{update_same, update_changed, update_memory, update_exhausted}
+use Rattle.lb_world.proofs.GroupMade.{group_sound, group_stands}
+use Rattle.lb_world.proofs.MadeAnswers.{group_refusal, group_right, update_same, update_changed, update_memory, update_exhausted}
+use Rattle.lb_world.proofs.SameSets.{same_set}
 use Rattle.lb_world.proofs.SelectAbsent.{absent_stands}
 use Rattle.lb_world.proofs.Done.{with_entry, placed_at, entry_here, inert_entry, effect_entry}
 
@@ -143,29 +144,41 @@ module _ {C : Type 0} (M : Meaning C) where
   pub update_done :
       (w : WorldView C) (h : History C) (g now : ℕ) (backends : List (Option Member)) (e : EntryView C) (a : Answer) (e2 : EntryView C)
       → IsSound w → Stands M w h → slice_get w.groups g ≡ Some e → has_refused backends ≡ false → e.core.newest < 2 ^ 64
-      → same_members (set_of (present backends)) e.core.current ≡ same_members (present backends) e.core.current
       → DidUpdate e (set_of (present backends)) a e2
       → IsSound (with_entry w g e2) × Stands M (with_entry w g e2) ((step.update g now backends, a) ∷ h)
-  update_done w h g now backends e (answer.Same n) e2 sound stands at_group good fits set (same, number, kept) =
-      let right = update_same M w h g now backends e stands good at_group (sym set ∙ same) in
+  update_done w h g now backends e (answer.Same n) e2 sound stands at_group good fits (same, number, kept) =
+      let right = update_same M w h g now backends e stands good at_group (sym (same_set (present backends) e.core.current) ∙ same) in
       inert_entry M w h g e e2 _ _ sound stands at_group kept
       (subst (λ v. Answers M h (step.update g now backends) (answer.Same v)) (sym number) right) refl refl
-  update_done w h g now backends e (answer.Generation n) e2 sound stands at_group good fits set (other, number, room, made) =
-      let right = update_changed M w h g now backends e stands good at_group (sym set ∙ other) (subst (λ v. v < 2 ^ 64) number room) in
+  update_done w h g now backends e (answer.Generation n) e2 sound stands at_group good fits (other, number, room, made) =
+      let right = update_changed M w h g now backends e stands good at_group (sym (same_set (present backends) e.core.current) ∙ other) (subst (λ v. v < 2 ^ 64) number room) in
       let done = update_stands M w h g now backends e sound stands at_group right in
-      subst (λ v. IsSound (with_entry w g v) × Stands M (with_entry w g v) ((step.update g now backends, answer.Generation n) ∷ h)) (sym made)
-      (
+      subst (λ v. IsSound (with_entry w g v) × Stands M (with_entry w g v) ((step.update g now backends, answer.Generation n) ∷ h)) (sym made) (
         update_sound w g e (set_of (present backends)) sound at_group,
         subst (λ v. Stands M (with_entry w g (with_members e (set_of (present backends)))) ((step.update g now backends, answer.Generation v) ∷ h)) (sym number) done,
       )
-  update_done w h g now backends e (answer.Refused r) e2 sound stands at_group good fits set (other, inl last, kept) =
+  update_done w h g now backends e (answer.Refused r) e2 sound stands at_group good fits (other, inl last, kept) =
       let at_last = last.0 in
-      let right = update_exhausted M w h g now backends e stands good at_group (sym set ∙ other) (omega arith) in
+      let right = update_exhausted M w h g now backends e stands good at_group (sym (same_set (present backends) e.core.current) ∙ other) (omega arith) in
       inert_entry M w h g e e2 _ _ sound stands at_group kept
       (subst (λ v. Answers M h (step.update g now backends) (answer.Refused v)) (sym last.1) right) refl refl
-  update_done w h g now backends e (answer.Refused r) e2 sound stands at_group good fits set (other, inr lacking, kept) =
+  update_done w h g now backends e (answer.Refused r) e2 sound stands at_group good fits (other, inr lacking, kept) =
       let earlier = lacking.0 in
-      let right = update_memory M w h g now backends e stands good at_group (sym set ∙ other) (omega arith) in
+      let right = update_memory M w h g now backends e stands good at_group (sym (same_set (present backends) e.core.current) ∙ other) (omega arith) in
       inert_entry M w h g e e2 _ _ sound stands at_group kept
       (subst (λ v. Answers M h (step.update g now backends) (answer.Refused v)) (sym lacking.1) right) refl refl
-  update_done w h g now backends e a e2 sound stands at_group good fits set did = absurd did
+  update_done w h g now backends e a e2 sound stands at_group good fits did = absurd did
+
+  -- a group that was made
+  pub group_done :
+      (w : WorldView C) (h : History C) (registry number : ℕ) (z : GateView) (configs : List C) (e : EntryView C)
+      → IsSound w → Stands M w h → slice_get w.gates number ≡ Some z → group_refusal M w registry number configs ≡ None
+      → e ≡ fresh_entry registry number z.id configs
+      → IsSound (record w { groups = w.groups ++ e ∷ [] })
+      × Stands M (record w { groups = w.groups ++ e ∷ [] }) ((step.group registry number configs, answer.Group (length w.groups)) ∷ h)
+  group_done w h registry number z configs e sound stands at_gate free_of_causes made =
+      let right = group_right M w h registry number configs stands free_of_causes in
+      subst
+      (λ v. IsSound (record w { groups = w.groups ++ v ∷ [] })
+      × Stands M (record w { groups = w.groups ++ v ∷ [] }) ((step.group registry number configs, answer.Group (length w.groups)) ∷ h))
+      (sym made) (group_sound w registry number z configs sound at_gate, group_stands M w h registry number z configs sound stands at_gate right)

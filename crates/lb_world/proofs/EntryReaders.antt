@@ -1,5 +1,5 @@
 -- What readers that enter and leave make of an entry.
-use Rattle.std.specs.Prelude.{◌≡◌, ◌≢◌, ◌⊎◌, ◌<◌, ◌-◌, ◌^◌, ℕ, Bool, true, false, List, length, Option, Some, None, Result, Ok, Err, slice_get, slice_set, refl}
+use Rattle.std.specs.Prelude.{◌≡◌, ◌≢◌, ◌⊎◌, ◌-◌, ◌^◌, ℕ, Some, None, Result, Ok, Err, slice_get}
 use Rattle.std.specs.Option.{IsSomeAnd}
 use Rattle.std.proofs.Common.{sym, ap, ◌∙◌, inl, inr}
 use Rattle.std.proofs.lemmas.Option.{same_Some, none-some}
@@ -7,7 +7,7 @@ use Rattle.std.proofs.lemmas.Bool.Decides.{eqb_tells}
 use Rattle.lb_select.specs.declared.refusal.Refusal.{Refusal}
 use Rattle.lb_select.specs.declared.refusal.Refusal.TheVariants as refusal
 use Rattle.lb_rebuild.specs.Views.{ReaderView, SlotView, GroupView, with_slot}
-use Rattle.lb_rebuild.specs.Calls.{EnteredIn, enter_refusal, entered_slot, readers_at, left_slot}
+use Rattle.lb_rebuild.specs.Calls.{EnteredIn, enter_refusal, entered_slot, left_slot}
 use Rattle.lb_world.specs.Views.{WorkView, EntryView, with_place}
 use Rattle.lb_world.specs.Doings.{IsAt, AgreesAt, DidEnter, DidLeave}
 use Rattle.lb_world.proofs.Places.{there}
@@ -58,17 +58,19 @@ module _ {C : Type 0} where
   pub did_not_enter :
       (e : EntryView C) (s : ℕ) (r : Refusal) (core : GroupView C) → AgreesAt e
       → EnteredIn e.core s (Err r) core → DidEnter e s (Err r) (record e { core = core })
-  did_not_enter e s r core agrees (why, same) =
-      (elim (there e.core.slots s) [
-        | inl none ↦
-            elim (rw none at why) [
-              | inl cause ↦ inl (sym (same_Some _ _ cause), none)
-              | inr lacking ↦ absurd (none-some _ (sym lacking.0))
-            ]
-        | inr some ↦
-            let p = placed e s some.0 agrees some.1 in
-            inr (some.0, p.0, p.1, why_not some.0 r (rw some.1 at why))
-      ], ap (λ v. record e { core = v }) same)
+  did_not_enter e s r core agrees (why, same) = (
+    elim (there e.core.slots s) [
+      | inl none ↦
+          elim (rw none at why) [
+            | inl cause ↦ inl (sym (same_Some _ _ cause), none)
+            | inr lacking ↦ absurd (none-some _ (sym lacking.0))
+          ]
+      | inr some ↦
+          let p = placed e s some.0 agrees some.1 in
+          inr (some.0, p.0, p.1, why_not some.0 r (rw some.1 at why))
+    ],
+    ap (λ v. record e { core = v }) same,
+  )
 
   -- both answers
   pub entered :

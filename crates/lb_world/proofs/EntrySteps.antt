@@ -1,5 +1,5 @@
 -- What the calls on a group's core and on what is held make of an entry, as the steps at one slot say it.
-use Rattle.std.specs.Prelude.{◌≡◌, ◌⊎◌, ◌<◌, ◌≤◌, ℕ, Bool, true, false, not, ◌&&◌, List, [], ◌∷◌, zero, suc, length, Option, Some, None, IsSome, Result, Ok, Err, slice_get, slice_set, slice_index_or, refl}
+use Rattle.std.specs.Prelude.{◌≡◌, ◌⊎◌, ◌<◌, ℕ, true, false, List, [], ◌∷◌, zero, suc, length, Option, Some, None, Ok, Err, slice_get, slice_set, slice_index_or, refl}
 use Rattle.std.proofs.Common.{sym, ap, ◌∙◌, subst, inl, inr}
 use Rattle.std.proofs.lemmas.Option.{get_or_from_slice_get, slice_get_within, same_Some}
 use Rattle.std.proofs.lemmas.List.{set-get_or}
@@ -8,15 +8,14 @@ use Rattle.lb_world.proofs.Places.{found, there, get_same}
 use Rattle.lb_select.specs.Backends.{Member}
 use Rattle.lb_select.specs.declared.refusal.Refusal.{Refusal}
 use Rattle.lb_select.specs.declared.refusal.Refusal.TheVariants as refusal
-use Rattle.lb_rebuild.specs.Gate.{GateId, GateView, gate}
-use Rattle.lb_rebuild.specs.Views.{StageView, free, flight, retired, taken_out, OrderView, Task, RetiredView, SlotView, GroupView, with_slot, is_flying}
-use Rattle.lb_rebuild.specs.Calls.{is_free, is_flight_of, Asked, AskedAt, order_of, put_back, failed_slot, FailedIn, PublishedIn, StageRefuses, TakenIn, DestroyedIn, serving_of}
+use Rattle.lb_rebuild.specs.Gate.{GateView, gate}
+use Rattle.lb_rebuild.specs.Views.{StageView, free, flight, retired, taken_out, Task, RetiredView, SlotView, GroupView, with_slot}
+use Rattle.lb_rebuild.specs.Calls.{is_flight_of, Asked, order_of, put_back, failed_slot, FailedIn, PublishedIn, StageRefuses, TakenIn, DestroyedIn, serving_of}
 use Rattle.lb_rebuild.specs.declared.slot.Told.TheVariants as told
-use Rattle.lb_rebuild.specs.declared.slot.Ask.{Ask}
 use Rattle.lb_rebuild.specs.declared.slot.Ask.TheVariants as asks
-use Rattle.lb_world.specs.Views.{WorkView, nothing, building, ready, EntryView, with_place, flight_of}
+use Rattle.lb_world.specs.Views.{WorkView, nothing, building, ready, EntryView, flight_of}
 use Rattle.lb_world.specs.Sound.{WorkFits, TaskFits}
-use Rattle.lb_world.specs.Doings.{IsAt, AgreesAt, NoSlot, DidAsk, StageKeeps, DidBuild, DidPublish, DidDestroy, IsNotBuilding, IsNotReady, job_of}
+use Rattle.lb_world.specs.Doings.{IsAt, AgreesAt, DidAsk, StageKeeps, DidBuild, DidPublish, DidDestroy, IsNotBuilding, IsNotReady, job_of}
 use Rattle.lb_world.specs.declared.answer.Answer.TheVariants as answer
 
 -- what was there, written again, changes nothing
@@ -126,11 +125,19 @@ module _ {C : Type 0} (S I : Type 0) where
   asked_job e s z j core z2 agrees same (x, y, at, (empty, home, waits, slot_is, permit_is, made, gates), core_is) =
       let p = placed e s x agrees at in
       let job_is : j ≡ job_of e s (order_of j) =
-          ap (λ v. record j { slot = v }) slot_is ∙ ap (λ v. record { slot = s; generation = j.generation; members = j.members; config = j.config; permit = v }) (permit_is ∙ same) in
-      (x, p.0, order_of j, p.1, refl, empty, waits, home,
-          ap (λ v. record e { core = v; works = slice_set e.works s (building j) }) (core_is ∙ ap (λ v. with_slot e.core s v) made)
-          ∙ ap (λ v. record e { core = with_slot e.core s (record x { waiting = None; stage = flight j.generation }); works = slice_set e.works s (building v) }) job_is,
-          gates)
+      ap (λ v. record j { slot = v }) slot_is ∙ ap (λ v. record { slot = s; generation = j.generation; members = j.members; config = j.config; permit = v }) (permit_is ∙ same) in (
+        x,
+        p.0,
+        order_of j,
+        p.1,
+        refl,
+        empty,
+        waits,
+        home,
+        ap (λ v. record e { core = v; works = slice_set e.works s (building j) }) (core_is ∙ ap (λ v. with_slot e.core s v) made)
+            ∙ ap (λ v. record e { core = with_slot e.core s (record x { waiting = None; stage = flight j.generation }); works = slice_set e.works s (building v) }) job_is,
+        gates,
+      )
 
 module _ {C : Type 0} where
   -- a place that was read and written again as it was
@@ -177,11 +184,16 @@ module _ {C : Type 0} where
       → cause t.members t.config ≡ None → b ≡ t → k2 ≡ ready b
       → DidBuild cause e s z (answer.Built t.generation) (record e { works = slice_set e.works s k2 }) z
   did_build cause e s z k k2 t b agrees within read is_building fine same made =
-      let p = slotted e s k agrees within read in
-      (p.0, t, subst (λ v. IsAt e s p.0 v) is_building p.1, refl, fine,
-          ap (λ v. record e { works = slice_set e.works s v }) (made ∙ ap (λ v. ready v) same)
-          ∙ ap (λ l. record e { core = record e.core { slots = l }; works = slice_set e.works s (ready t) }) (sym (set_here e.core.slots s p.0 p.1.slot_at)),
-          refl)
+      let p = slotted e s k agrees within read in (
+        p.0,
+        t,
+        subst (λ v. IsAt e s p.0 v) is_building p.1,
+        refl,
+        fine,
+        ap (λ v. record e { works = slice_set e.works s v }) (made ∙ ap (λ v. ready v) same)
+            ∙ ap (λ l. record e { core = record e.core { slots = l }; works = slice_set e.works s (ready t) }) (sym (set_here e.core.slots s p.0 p.1.slot_at)),
+        refl,
+      )
 
   pub did_fail :
       (cause : List Member → C → Option Refusal) (e : EntryView C) (s : ℕ) (z z2 : GateView) (k k2 : WorkView C) (t j : Task C) (r : Refusal) (core : GroupView C)
@@ -195,13 +207,18 @@ module _ {C : Type 0} where
       let ended : FailedIn e.core t core = subst (λ v. FailedIn e.core v core) same done in
       let made : core ≡ with_slot e.core t.slot (failed_slot e.core.newest t p.0) = rw there at ended in
       let flies : is_flight_of t.generation p.0.stage ≡ true =
-          ap (λ v. is_flight_of t.generation v) (flight_is p.0.stage t.generation p.2.flies) ∙ eq-eqb t.generation t.generation refl in
-      let slot_is : failed_slot e.core.newest t p.0 ≡ record p.0 { waiting = put_back e.core.newest t p.0.waiting; stage = free } = rw flies in
-      (p.0, t, subst (λ v. IsAt e s p.0 v) is_building p.1, refl, why,
-          ap (λ v. record e { core = v; works = slice_set e.works s k2 }) (made ∙ ap (λ v. with_slot e.core t.slot v) slot_is)
-          ∙ ap (λ i. record e { core = with_slot e.core i (record p.0 { waiting = put_back e.core.newest t p.0.waiting; stage = free }); works = slice_set e.works s k2 }) p.2.slot_is
-          ∙ ap (λ v. record e { core = with_slot e.core s (record p.0 { waiting = put_back e.core.newest t p.0.waiting; stage = free }); works = slice_set e.works s v }) empty,
-          out ∙ ap (λ v. gate v false) (sym ids))
+      ap (λ v. is_flight_of t.generation v) (flight_is p.0.stage t.generation p.2.flies) ∙ eq-eqb t.generation t.generation refl in
+      let slot_is : failed_slot e.core.newest t p.0 ≡ record p.0 { waiting = put_back e.core.newest t p.0.waiting; stage = free } = rw flies in (
+        p.0,
+        t,
+        subst (λ v. IsAt e s p.0 v) is_building p.1,
+        refl,
+        why,
+        ap (λ v. record e { core = v; works = slice_set e.works s k2 }) (made ∙ ap (λ v. with_slot e.core t.slot v) slot_is)
+            ∙ ap (λ i. record e { core = with_slot e.core i (record p.0 { waiting = put_back e.core.newest t p.0.waiting; stage = free }); works = slice_set e.works s k2 }) p.2.slot_is
+            ∙ ap (λ v. record e { core = with_slot e.core s (record p.0 { waiting = put_back e.core.newest t p.0.waiting; stage = free }); works = slice_set e.works s v }) empty,
+        out ∙ ap (λ v. gate v false) (sym ids),
+      )
 
   pub did_publish :
       (e : EntryView C) (s : ℕ) (k k2 : WorkView C) (t : Task C) (n : ℕ) (core : GroupView C)
@@ -212,10 +229,14 @@ module _ {C : Type 0} where
       let p = task_here e s k t agrees within read (inr is_ready) in
       let here : slice_get e.core.slots s ≡ Some x = ap (slice_get e.core.slots) (sym p.2.slot_is) ∙ at in
       let same : p.0 ≡ x = same_Some p.0 x (sym p.1.slot_at ∙ here) in
-      let place : IsAt e s x (ready t) = record { slot_at = here; work_at = p.1.work_at ∙ ap (λ v. Some v) is_ready } in
-      (x, t, place, number,
-          ap (λ v. record e { core = v; works = slice_set e.works s k2 }) (core_is ∙ ap (λ v. with_slot e.core t.slot v) made ∙ ap (λ i. with_slot e.core i (record x { serving = serving_of t; readers = 0; stage = retired x.serving.generation x.readers })) p.2.slot_is)
-          ∙ ap (λ v. record e { core = with_slot e.core s (record x { serving = serving_of t; readers = 0; stage = retired x.serving.generation x.readers }); works = slice_set e.works s v }) empty)
+      let place : IsAt e s x (ready t) = record { slot_at = here; work_at = p.1.work_at ∙ ap (λ v. Some v) is_ready } in (
+        x,
+        t,
+        place,
+        number,
+        ap (λ v. record e { core = v; works = slice_set e.works s k2 }) (core_is ∙ ap (λ v. with_slot e.core t.slot v) made ∙ ap (λ i. with_slot e.core i (record x { serving = serving_of t; readers = 0; stage = retired x.serving.generation x.readers })) p.2.slot_is)
+            ∙ ap (λ v. record e { core = with_slot e.core s (record x { serving = serving_of t; readers = 0; stage = retired x.serving.generation x.readers }); works = slice_set e.works s v }) empty,
+      )
 
   -- what is built for a slot is in flight there
   pub not_abandoned :
@@ -227,7 +248,7 @@ module _ {C : Type 0} where
       let same : p.0 ≡ x = same_Some p.0 x (sym p.1.slot_at ∙ ap (slice_get e.core.slots) (sym p.2.slot_is) ∙ at) in
       let stage : x.stage ≡ flight t.generation = ap (λ (v : SlotView C). v.stage) (sym same) ∙ flight_is p.0.stage t.generation p.2.flies in
       let flies : is_flight_of n x.stage ≡ true =
-          ap (λ v. is_flight_of n v) stage ∙ eq-eqb t.generation n (sym number) in
+      ap (λ v. is_flight_of n v) stage ∙ eq-eqb t.generation n (sym number) in
       both_ways (is_flight_of n x.stage) unflown flies
 
   pub did_not_destroy :
@@ -254,8 +275,13 @@ module _ {C : Type 0} where
       let after : DestroyedIn (with_slot e.core s (record x { stage = taken_out r.generation })) s core = subst (λ v. DestroyedIn v s core) made ended in
       let put : slice_get (slice_set e.core.slots s (record x { stage = taken_out r.generation })) s ≡ Some (record x { stage = taken_out r.generation }) = get_same e.core.slots s x _ at in
       let core_is : core ≡ with_slot (with_slot e.core s (record x { stage = taken_out r.generation })) s (record x { stage = free }) = rw put at after in
-      let works : slice_set e.works s p.0 ≡ e.works = set_here e.works s p.0 p.1.work_at in
-      (x, p.0, r.generation, p.1, stage,
-          ap (λ v. record e { core = v }) (core_is ∙ ap (λ l. record e.core { slots = l }) (set_twice e.core.slots s _ _))
-          ∙ ap (λ l. record e { core = with_slot e.core s (record x { stage = free }); works = l }) (sym works),
-          home ∙ ap (λ (v : GroupView C). gate v.gate false) made ∙ ap (λ v. gate v false) (sym ids))
+      let works : slice_set e.works s p.0 ≡ e.works = set_here e.works s p.0 p.1.work_at in (
+        x,
+        p.0,
+        r.generation,
+        p.1,
+        stage,
+        ap (λ v. record e { core = v }) (core_is ∙ ap (λ l. record e.core { slots = l }) (set_twice e.core.slots s _ _))
+            ∙ ap (λ l. record e { core = with_slot e.core s (record x { stage = free }); works = l }) (sym works),
+        home ∙ ap (λ (v : GroupView C). gate v.gate false) made ∙ ap (λ v. gate v false) (sym ids),
+      )

@@ -1,21 +1,20 @@
 -- What a new membership, and a selection, make of an entry.
-use Rattle.std.specs.Prelude.{◌≡◌, ◌≢◌, ◌⊎◌, ◌+◌, ◌<◌, ◌-◌, ◌^◌, ◌&&◌, nat_le, ℕ, Bool, true, false, MatchBool, List, length, Option, Some, None, Result, Ok, Err, slice_get, slice_set, refl}
-use Rattle.std.proofs.Common.{sym, ap, ◌∙◌, inl, inr}
+use Rattle.std.specs.Prelude.{◌≡◌, ◌<◌, ◌^◌, ◌&&◌, nat_le, ℕ, Bool, true, false, List, length, Option, Result, Ok, Err, refl}
+use Rattle.std.proofs.Common.{ap, ◌∙◌, inl, inr}
 use Rattle.std.proofs.lemmas.Bool.{cases_Bool, both_ways}
 use Rattle.lb_select.specs.Backends.{Member}
 use Rattle.lb_select.specs.Draws.{Draw}
 use Rattle.lb_select.specs.Memberships.{same_members}
 use Rattle.lb_select.specs.declared.refusal.Refusal.{Refusal}
-use Rattle.lb_select.specs.declared.refusal.Refusal.TheVariants as refusal
 use Rattle.lb_rebuild.specs.Views.{SlotView, GroupView, with_slot}
-use Rattle.lb_rebuild.specs.Groups.{ScheduledIn, ordered}
+use Rattle.lb_rebuild.specs.Groups.{ScheduledIn}
 use Rattle.lb_rebuild.specs.Selecting.{SelectedAt, SelectedIn, drawn_slot}
 use Rattle.lb_rebuild.specs.declared.schedule.Scheduled.{Scheduled}
-use Rattle.lb_world.specs.Views.{WorkView, EntryView, with_place}
+use Rattle.lb_world.specs.Views.{EntryView}
 use Rattle.lb_world.specs.Answers.{select_answer}
 use Rattle.lb_world.specs.Selecting.{SelectsServed}
 use Rattle.lb_world.specs.declared.answer.Answer.TheVariants as answer
-use Rattle.lb_world.specs.Doings.{IsAt, AgreesAt, DidUpdate, DidSelect}
+use Rattle.lb_world.specs.Doings.{AgreesAt, DidUpdate, DidSelect}
 use Rattle.lb_world.proofs.Places.{there}
 use Rattle.lb_world.proofs.EntrySteps.{placed}
 use Rattle.lb_world.proofs.EntryReaders.{slot_written}
@@ -75,7 +74,14 @@ module _ {C : Type 0} (walks : List Member → C → List ℕ → List Draw → 
             let at = rw some.1 at selected in
             let p = placed e s x agrees some.1 in
             let drawn = served_from x at.0 key limit words r at.1 in
-            inr
-            (x, p.0, drawn.0, r, p.1, refl, drawn.1,
-            slot_written e s x (drawn_slot x drawn.0) p.0 core p.1 (at.2 ∙ ap (λ v. with_slot e.core s v) drawn.2))
+            inr (
+              x,
+              p.0,
+              drawn.0,
+              r,
+              p.1,
+              refl,
+              drawn.1,
+              slot_written e s x (drawn_slot x drawn.0) p.0 core p.1 (at.2 ∙ ap (λ v. with_slot e.core s v) drawn.2),
+            )
       ]

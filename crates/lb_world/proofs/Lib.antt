@@ -29,6 +29,7 @@ pub mod Makers
 pub mod Permits
 pub mod PlaceCases
 pub mod Places
+pub mod SameSets
 pub mod SelectAbsent
 pub mod SlotFrames
 pub mod SoundPlaces

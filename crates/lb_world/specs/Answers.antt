@@ -120,7 +120,7 @@ module _ {C : Type 0} (meaning : Meaning C) where
   answer_after h (step.update group now backends) =
       if has_refused backends then refuse refusal.InvalidAddress
       else group_update (made group h)
-          (update_answer (newest group h) (same_members (present backends) (members group (newest group h) h)))
+      (update_answer (newest group h) (same_members (present backends) (members group (newest group h) h)))
   answer_after h (step.ask group slot now) =
       at_slot (config group slot h)
       (λ c. ask_answer (flight (events group slot h)) (served (events group slot h)) (newest group h) (extras (gate_number (made group h)) h))
@@ -173,7 +173,7 @@ module _ {C : Type 0} (meaning : Meaning C) where
   SelectAnswers h g s sel a =
       MatchOption (made g h) (a ≡ refuse refusal.NoSuch)
       (λ m. MatchOption (slice_get m.configs s) (a ≡ answer.NoBackend)
-          (λ c. (t : ℕ) × (u : ℕ) × HasDrawn g s h t × Selected (members g (served (events g s h)) h) c sel t a u))
+      (λ c. (t : ℕ) × (u : ℕ) × HasDrawn g s h t × Selected (members g (served (events g s h)) h) c sel t a u))
 
   -- a is a right answer to the step after this history
   abbrev pub Answers : History C → StepView C → Answer → Type 0

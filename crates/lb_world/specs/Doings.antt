@@ -6,7 +6,7 @@ use Rattle.lb_select.specs.Memberships.{same_members}
 use Rattle.lb_select.specs.declared.refusal.Refusal.{Refusal}
 use Rattle.lb_select.specs.declared.refusal.Refusal.TheVariants as refusal
 use Rattle.lb_rebuild.specs.Gate.{GateId, GateView, gate}
-use Rattle.lb_rebuild.specs.Views.{StageView, free, flight, retired, OrderView, Task, ServingView, ReaderView, SlotView, GroupView, is_flying}
+use Rattle.lb_rebuild.specs.Views.{StageView, free, flight, retired, OrderView, Task, ReaderView, SlotView, is_flying}
 use Rattle.lb_rebuild.specs.Calls.{is_free, put_back, serving_of, readers_at, left_slot}
 use Rattle.lb_rebuild.specs.Fresh.{fresh_group}
 use Rattle.lb_rebuild.specs.Groups.{ordered}
@@ -15,7 +15,7 @@ use Rattle.lb_world.specs.Answers.{select_answer}
 use Rattle.lb_world.specs.Selecting.{SelectsServed}
 use Rattle.lb_world.specs.declared.answer.Answer.{Answer}
 use Rattle.lb_world.specs.declared.answer.Answer.TheVariants as answer
-use Rattle.lb_world.specs.Views.{WorkView, nothing, building, ready, PlaceView, EntryView, with_place, task_of}
+use Rattle.lb_world.specs.Views.{WorkView, nothing, building, ready, EntryView, with_place}
 use Rattle.lb_world.specs.Sound.{WorkFits}
 
 -- why a retired selector isn't destroyed: none is there, or readers are left in it
@@ -52,7 +52,7 @@ module _ {C : Type 0} where
       ((x : SlotView C) × (k : WorkView C) × IsAt e s x k × (is_flying x.stage ≡ false) × (x.waiting ≡ None)) × Same e z e' z'
   DidAsk e s z answer.Busy e' z' =
       ((x : SlotView C) × (k : WorkView C) × IsAt e s x k × (is_flying x.stage ≡ false) × IsSome x.waiting
-          × ((is_free x.stage && not z.out) ≡ false))
+      × ((is_free x.stage && not z.out) ≡ false))
       × Same e z e' z'
   DidAsk e s z (answer.Build n) e' z' =
       (x : SlotView C) × (k : WorkView C) × (o : OrderView C) × IsAt e s x k
@@ -115,8 +115,8 @@ module _ {C : Type 0} where
       × (e' ≡ with_place e s (record { slot = record x { readers = x.readers + 1 }; work = k }))
   DidEnter e s (Err r) e' =
       (NoSlot e s r
-          ⊎ ((x : SlotView C) × (k : WorkView C) × IsAt e s x k
-              × (((r ≡ refusal.NumbersExhausted) × (x.readers ≡ 2 ^ 64 - 1)) ⊎ ((r ≡ refusal.OutOfMemory) × (x.readers ≢ 2 ^ 64 - 1)))))
+      ⊎ ((x : SlotView C) × (k : WorkView C) × IsAt e s x k
+      × (((r ≡ refusal.NumbersExhausted) × (x.readers ≡ 2 ^ 64 - 1)) ⊎ ((r ≡ refusal.OutOfMemory) × (x.readers ≢ 2 ^ 64 - 1)))))
       × (e' ≡ e)
 
   -- a reader of that generation is in the slot
@@ -157,6 +157,6 @@ module _ {C : Type 0} where
   DidSelect walks random e s key limit words a e' =
       ((a ≡ answer.NoBackend) × (slice_get e.core.slots s ≡ None) × (e' ≡ e))
       ⊎ ((x : SlotView C) × (k : WorkView C) × (u : ℕ) × (r : Result (Option Member) Refusal) × IsAt e s x k × (a ≡ select_answer r)
-          × SelectsServed (walks x.serving.members x.serving.config key) (random x.serving.members x.serving.config) limit words
-              x.serving.tickets r u
-          × (e' ≡ with_place e s (record { slot = drawn_slot x u; work = k })))
+      × SelectsServed (walks x.serving.members x.serving.config key) (random x.serving.members x.serving.config) limit words
+      x.serving.tickets r u
+      × (e' ≡ with_place e s (record { slot = drawn_slot x u; work = k })))

@@ -293,7 +293,10 @@ fn answer_to(selected: Result<Option<Backend>, Refusal>) -> Answer
 }
 
 // A place for each of so many slots, with nothing held.
-fn empty_places<S: BackendSelection>(alloc: Global, count: usize) -> Result<Vec<Place<S>>, AllocError>
+fn empty_places<S: BackendSelection>(
+    alloc: Global,
+    count: usize,
+) -> Result<Vec<Place<S>>, AllocError>
     ensures { IfOk result (λ places. places.items ≡ replicate count nothing) }
 {
     let mut places = Vec::with_capacity(alloc, count)?;

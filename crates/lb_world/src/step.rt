@@ -31,17 +31,36 @@ pub enum Step<C: Drop> {
         backends: Vec<Option<Backend>>,
     },
     /// Asks for a build of the group's newest generation in a slot.
-    Ask { group: u64, slot: u64, now: u128 },
+    Ask {
+        group: u64,
+        slot: u64,
+        now: u128,
+    },
     /// Runs the build that was granted.
-    Build { group: u64, slot: u64, now: u128 },
+    Build {
+        group: u64,
+        slot: u64,
+        now: u128,
+    },
     /// Serves what was built, and retires what was served.
-    Publish { group: u64, slot: u64 },
+    Publish {
+        group: u64,
+        slot: u64,
+    },
     /// Enters what a slot serves, as a reader.
-    Enter { group: u64, slot: u64 },
+    Enter {
+        group: u64,
+        slot: u64,
+    },
     /// Lets a reader leave.
-    Leave { reader: u64 },
+    Leave {
+        reader: u64,
+    },
     /// Destroys what a slot retired, once nobody reads it.
-    Destroy { group: u64, slot: u64 },
+    Destroy {
+        group: u64,
+        slot: u64,
+    },
     /// Selects a backend for `key` among the first `limit` candidates. `words` are the random words that the walk may draw:
     /// more than `limit` of them where the selector draws at random, else none is needed.
     Select {
