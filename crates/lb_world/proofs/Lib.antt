@@ -6,6 +6,7 @@ pub mod EntryReaders
 pub mod EntrySteps
 pub mod EntryUpdates
 pub mod Ever
+pub mod Founding
 pub mod Frames
 pub mod GroupMade
 pub mod GroupUpdated
@@ -29,6 +30,7 @@ pub mod Makers
 pub mod Permits
 pub mod PlaceCases
 pub mod Places
+pub mod Runs
 pub mod SameSets
 pub mod SelectAbsent
 pub mod SlotFrames

@@ -245,3 +245,10 @@ module _ {C : Type 0} where
   -- the extras of a gate: the builds granted, less those that failed, less the selectors reported destroyed
   abbrev pub extras : ℕ → History C → ℕ
   extras a h = count_on grants a h - count_on fails a h - count_on destroys a h
+
+module _ {C : Type 0} where
+  -- the history after further steps with these answers, in their order
+  abbrev pub after : History C → List (StepView C) → List Answer → History C
+  after h [] answers = h
+  after h (st ∷ steps) [] = h
+  after h (st ∷ steps) (a ∷ answers) = after ((st, a) ∷ h) steps answers

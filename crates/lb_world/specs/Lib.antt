@@ -1,5 +1,6 @@
 pub mod Answers
 pub mod Doings
+pub mod Founded
 pub mod History
 pub mod Lawful
 pub mod Meanings

@@ -5,3 +5,4 @@
 pub mod answer;
 mod entry;
 pub mod step;
+pub mod world;
