@@ -9,6 +9,7 @@ use Rattle.lb_select.specs.Memberships.{set_of}
 use Rattle.lb_select.specs.declared.refusal.Refusal.{Refusal}
 use Rattle.lb_rebuild.specs.Gate.{GateView}
 use Rattle.lb_rebuild.specs.Views.{StageView, free, flight, retired, taken_out, ReaderView, SlotView}
+use Rattle.lb_rebuild.specs.Calls.{entered_slot, left_slot}
 use Rattle.lb_rebuild.specs.Calls as calls
 use Rattle.lb_world.specs.Steps as step
 use Rattle.lb_world.specs.declared.answer.Answer.{Answer}
@@ -23,8 +24,8 @@ use Rattle.lb_world.specs.Doings.{IsAt, DidEnter, IsInside, DidLeave, fresh_entr
 use Rattle.lb_world.proofs.Places.{found}
 use Rattle.lb_world.proofs.Effects.{IsPlaced}
 use Rattle.lb_world.proofs.KindFacts.{place_sound}
-use Rattle.lb_world.proofs.KindEnter.{entered_slot, reader_entered}
-use Rattle.lb_world.proofs.KindLeave.{left_slot, reader_left, reader_is_in}
+use Rattle.lb_world.proofs.KindEnter.{reader_entered}
+use Rattle.lb_world.proofs.KindLeave.{reader_left, reader_is_in}
 use Rattle.lb_world.proofs.KindSelect.{drawn_slot, selection_answered}
 use Rattle.lb_world.proofs.KindInert.{no_slot, no_slot_config, enter_no_such, select_no_slot, enter_without_memory}
 use Rattle.lb_world.proofs.GroupUpdated.{update_sound, update_stands}

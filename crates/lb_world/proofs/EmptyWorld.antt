@@ -24,7 +24,7 @@ module _ {C : Type 0} where
       }
 
   empty_order : InOrder {C = C} []
-  empty_order = record { served_in = λ g s. omega arith; flight_in = λ g s n e. absurd (none-some n e); ready_in = λ g s n e. absurd (none-some n e) }
+  empty_order = record { served_in = λ g s. omega arith; flight_in = λ g s n e. absurd (none-some n e); ready_in = λ g s n e. absurd (none-some n e); extras_in = λ a. refl }
 
 module _ {C : Type 0} (M : Meaning C) where
   pub empty_stands : Stands M empty_world []

@@ -1,17 +1,18 @@
 -- One extra at each gate, and generations in order, follow from what a sound world holds and what the history tells of it.
-use Rattle.std.proofs.Common.{◌≡◌, ◌⊎◌, inl, inr, ℕ, ◌+◌, ◌<◌, ◌≤◌, [], ◌∷◌, length, sym, ap, arith, ◌∙◌}
+use Rattle.std.proofs.Common.{◌≡◌, ◌⊎◌, inl, inr, ℕ, ◌+◌, ◌<◌, ◌≤◌, ◌==◌, cond, if◌then◌else◌, [], ◌∷◌, length, sym, ap, arith, ◌∙◌}
 use Rattle.std.specs.Prelude.{Some, None, slice_get}
 use Rattle.std.proofs.lemmas.Option.{slice_get_within, slice_get_past, none-some}
 use Rattle.lb_rebuild.specs.Views.{StageView, free, flight as flying, retired, taken_out, SlotView, GroupView}
 use Rattle.lb_world.specs.Steps.{StepView}
 use Rattle.lb_world.specs.declared.answer.Answer.{Answer}
 use Rattle.lb_world.specs.Meanings.{Meaning}
-use Rattle.lb_world.specs.History.{History, Made, made, config, config_in, registries, gates, groups, generations, newest, members, events, flight, ready, entries, count_on, grants, fails, destroys}
+use Rattle.lb_world.specs.History.{History, Made, made, config, config_in, registries, gates, groups, generations, newest, members, events, flight, ready, entries, is_on, count_on, grants, fails, destroys}
 use Rattle.lb_world.specs.Answers.{IsRun, HasDrawn}
-use Rattle.lb_world.specs.Views.{WorkView, nothing, building, ready as held_built, EntryView, WorldView, is_out, flight_of, ready_of, holders}
-use Rattle.lb_world.specs.Lawful.{Always, OneExtra, InOrder}
+use Rattle.lb_world.specs.Views.{WorkView, nothing, building, ready as at_hand, EntryView, WorldView, is_out, flight_of, ready_of, slot_holds, work_holds, held_by, holders}
+use Rattle.lb_world.specs.Lawful.{Always, OneExtra, has_extra, extras_of, extras_on, ExtrasAre, InOrder}
 use Rattle.lb_world.specs.Sound.{StageFits, WorkFits, IsSound}
 use Rattle.lb_world.specs.Stands.{SlotTells, Stands}
+use Rattle.lb_world.proofs.Held.{sum_index, sum_both, held_is}
 use Rattle.lb_world.proofs.Permits.{bit_le}
 use Rattle.lb_world.proofs.Places.{there, found, past}
 
@@ -22,13 +23,12 @@ flight_fits (flying k) m n newest e f = let same : k ≡ n = cc in (omega arith,
 flight_fits (retired k r) m n newest e f = absurd (none-some n e)
 flight_fits (taken_out k) m n newest e f = absurd (none-some n e)
 
--- what is held built is in flight
-ready_fits :
-    {C : Type 0} (core : GroupView C) (s : ℕ) (x : SlotView C) (k : WorkView C) (n : ℕ)
-    → ready_of k ≡ Some n → WorkFits core s x k → flight_of x.stage ≡ Some n
-ready_fits core s x nothing n e f = absurd (none-some n e)
-ready_fits core s x (building t) n e f = absurd (none-some n e)
-ready_fits core s x (held_built t) n e f = f.flies ∙ e
+-- what is built is in flight
+ready_flies : {C : Type 0} (core : GroupView C) (s : ℕ) (x : SlotView C) (k : WorkView C) (n : ℕ)
+    → WorkFits core s x k → ready_of k ≡ Some n → flight_of x.stage ≡ Some n
+ready_flies core s x nothing n fits e = absurd (none-some n e)
+ready_flies core s x (building t) n fits e = absurd (none-some n e)
+ready_flies core s x (at_hand t) n fits e = fits.flies ∙ e
 
 module _ {C : Type 0} (M : Meaning C) where
   -- what the history tells of the world now
@@ -82,6 +82,30 @@ module _ {C : Type 0} (M : Meaning C) where
             ]
       ]
 
+  -- the permits of a gate that a group holds are its slots that have an extra
+  group_held :
+      (w : WorldView C) (h : History C) → IsSound w → Tells w h → (a g : ℕ) (e : EntryView C) → slice_get w.groups g ≡ Some e
+      → held_by a e ≡ (if is_on a (made g h) then extras_of g h else 0)
+  group_held w h sound tells a g e at_group =
+      let m = tells.made_is g e at_group in
+      let places =
+      sum_both slot_holds work_holds (λ s. cond (has_extra g s h) 1 0) e.core.slots e.works 0 (sound.works_in g e at_group)
+      (λ i j x k same at_slot at_work.
+      let there : i ≡ j = omega arith in
+      let t = tells.slots_tell g e i x k at_group at_slot at_work in
+      let f = sound.places g e i x k at_group at_slot at_work in
+      rw (← there) (rw (t.flies, t.retires) (held_is e.core i x k x.serving.generation e.core.newest f.fits f.agrees))) in
+      rw (m.1, m.2, m.3) (ap (λ n. if e.gate == a then n else 0) places)
+
+  -- the extras of a gate are the permits that are held, and so the slots that have one
+  extras_held : (w : WorldView C) (h : History C) → IsSound w → Tells w h → ExtrasAre h
+  extras_held w h sound tells a =
+      let held =
+      sum_index (held_by a) (λ g. if is_on a (made g h) then extras_of g h else 0) w.groups 0
+      (λ i j e same at_group. let there : i ≡ j = omega arith in rw (← there) (group_held w h sound tells a i e at_group)) in
+      let all : holders a w.groups ≡ extras_on a h = rw tells.groups_are held in
+      omega (arith, tells.ledger a)
+
   in_order : (w : WorldView C) (h : History C) → IsSound w → Tells w h → InOrder h
   in_order w h sound tells =
       record {
@@ -111,8 +135,9 @@ module _ {C : Type 0} (M : Meaning C) where
               | inr p ↦
                   let t = tells.slots_tell g p.e s p.x p.k p.group_at p.slot_at p.work_at in
                   let f = sound.places g p.e s p.x p.k p.group_at p.slot_at p.work_at in
-                  t.flies ∙ ready_fits p.e.core s p.x p.k n (sym t.builds ∙ built) f.agrees
+                  t.flies ∙ ready_flies p.e.core s p.x p.k n f.agrees (sym t.builds ∙ built)
             ];
+        extras_in = extras_held w h sound tells;
       }
 
   -- a sound world that the longer history tells of stands for it

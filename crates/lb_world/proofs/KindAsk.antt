@@ -1,18 +1,19 @@
 -- A build that is granted to a slot.
-use Rattle.std.proofs.Common.{◌≡◌, ◌<◌, ◌≤◌, inl, ℕ, List, ◌∷◌, Bool, true, false, cond, Option, Some, None, max, nat_lt, refl, sym, ap, ◌∙◌, subst, arith}
+use Rattle.std.proofs.Common.{◌≡◌, ◌<◌, inl, ℕ, List, ◌∷◌, true, false, Option, Some, None, max, refl, sym, ap, ◌∙◌, arith}
 use Rattle.std.proofs.lemmas.Bool.{lt-ltb, ltb-true}
-use Rattle.std.proofs.lemmas.Option.{cond_some, same_Some, none-some}
-use Rattle.lb_rebuild.specs.Views.{StageView, free, flight, OrderView, Task, SlotView, GroupView, flight_number, waits, due_order}
+use Rattle.std.proofs.lemmas.Option.{cond_some, same_Some}
+use Rattle.lb_rebuild.specs.Views.{free, flight, OrderView, Task, SlotView, GroupView, flight_number, waits, due_order}
 use Rattle.lb_world.specs.Steps as step
 use Rattle.lb_world.specs.declared.answer.Answer.TheVariants as answer
 use Rattle.lb_world.specs.Meanings.{Meaning}
 use Rattle.lb_world.specs.History.{History, Entered, bit}
-use Rattle.lb_world.specs.Answers.{Answers, ask_answer, answer_after}
-use Rattle.lb_world.specs.Views.{WorkView, nothing, building, ready, PlaceView, EntryView, WorldView, is_out, flight_of}
-use Rattle.lb_world.specs.Sound.{TaskFits, IsPlaceSound, IsSound}
+use Rattle.lb_world.specs.Answers.{ask_answer, answer_after}
+use Rattle.lb_world.specs.Views.{WorkView, nothing, building, PlaceView, EntryView, WorldView, is_out, flight_of}
+use Rattle.lb_world.specs.Sound.{IsPlaceSound, IsSound}
 use Rattle.lb_world.specs.Stands.{SlotTells, Stands}
 use Rattle.lb_world.proofs.Effects.{IsPlaced, Effect}
-use Rattle.lb_world.proofs.KindFacts.{here, either_way, nothing_held, none_due, place_sound, place_told, extras_at}
+use Rattle.lb_world.proofs.Frames.{either_way}
+use Rattle.lb_world.proofs.KindFacts.{here, nothing_held, none_due, place_sound, place_told, extras_at}
 
 -- an order that is due is of the newest membership, which is neither served nor in flight
 pub record IsDueOrder {C : Type 0} (v : GroupView C) (x : SlotView C) (o : OrderView C) : Type 0 where
@@ -22,6 +23,7 @@ pub record IsDueOrder {C : Type 0} (v : GroupView C) (x : SlotView C) (o : Order
   pub members_is : o.members ≡ v.current
   pub config_is : o.config ≡ x.config
 
+-- what waits as it is due is such an order
 pub due_is : {C : Type 0} (v : GroupView C) (x : SlotView C) (o : OrderView C) → due_order v x ≡ Some o → IsDueOrder v x o
 due_is {C} v x o e =
     let both = cond_some (waits v.newest x) _ o e in
@@ -43,6 +45,7 @@ module _ {C : Type 0} where
   abbrev pub granted : EntryView C → ℕ → SlotView C → OrderView C → PlaceView C
   granted e s x o = record { slot = record x { stage = flight o.generation; waiting = None }; work = building (task_for e s o) }
 
+  -- it is sound
   pub granted_sound :
       (readers : List (Option Entered)) (g s : ℕ) (e : EntryView C) (x : SlotView C) (k : WorkView C) (o : OrderView C)
       → IsPlaceSound readers g s e.core (record { slot = x; work = k }) → x.stage ≡ free → IsDueOrder e.core x o
@@ -68,6 +71,7 @@ module _ {C : Type 0} (M : Meaning C) where
       let t = place_told M w h g s e p stands placed in
       rw (t.configured, t.flies, t.serves, stands.newest_is g e placed.group_at, extras_at M w h g e sound stands placed.group_at)
 
+  -- the longer history tells it
   pub granted_told :
       (w : WorldView C) (h : History C) (g s now : ℕ) (e : EntryView C) (x : SlotView C) (k : WorkView C) (o : OrderView C)
       → Stands M w h → IsPlaced w g s e (record { slot = x; work = k })
@@ -84,9 +88,10 @@ module _ {C : Type 0} (M : Meaning C) where
         retires = rw (here g s) (rw unused at t.retires);
         tasks = λ u is.
             rw (← same_Some _ _ is, d.generation_is, d.members_is) (stands.members_are g e placed.group_at);
-        drawn = (x.serving.tickets, t.drawn, either_way _ refl);
+        drawn = (x.serving.tickets, t.drawn, either_way _ _ _ refl refl);
       }
 
+  -- an order that waits in a free slot is granted where the permit is at home
   pub ask_granted :
       (w : WorldView C) (h : History C) (g s now : ℕ) (e : EntryView C) (x : SlotView C) (k : WorkView C) (o : OrderView C)
       → IsSound w → Stands M w h → IsPlaced w g s e (record { slot = x; work = k })

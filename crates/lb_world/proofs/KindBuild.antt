@@ -1,27 +1,30 @@
 -- A build that ends: with a selector, or failed.
-use Rattle.std.proofs.Common.{◌≡◌, ◌<◌, ◌≤◌, ◌⊎◌, inl, inr, ℕ, List, ◌∷◌, false, max, nat_lt, Option, Some, None, refl, sym, ap, ◌∙◌, eq-or-lt_of_le, le_of_eq, arith}
-use Rattle.std.proofs.lemmas.Bool.{lt-ltb, le-ltb, eq-eqb, ne_eqb}
-use Rattle.std.proofs.lemmas.Option.{none-some, same_Some}
+use Rattle.std.proofs.Common.{◌≡◌, ◌<◌, ◌≤◌, ◌⊎◌, inl, inr, ℕ, List, ◌∷◌, false, Option, Some, None, refl, sym, ◌∙◌, eq-or-lt_of_le, le_of_eq, arith}
+use Rattle.std.proofs.lemmas.Bool.{eq-eqb}
+use Rattle.std.proofs.lemmas.Option.{none-some}
 use Rattle.lb_select.specs.declared.refusal.Refusal.{Refusal}
 use Rattle.lb_select.specs.declared.refusal.Refusal.TheVariants as refusal
-use Rattle.lb_rebuild.specs.Views.{free, OrderView, Task, SlotView, GroupView, due_order}
-use Rattle.lb_rebuild.specs.Calls.{order_of, put_back}
+use Rattle.lb_rebuild.specs.Views.{free, Task, SlotView, GroupView, due_order}
+use Rattle.lb_rebuild.specs.Calls.{put_back}
 use Rattle.lb_world.specs.Steps as step
 use Rattle.lb_world.specs.declared.answer.Answer.TheVariants as answer
 use Rattle.lb_world.specs.Meanings.{Meaning}
-use Rattle.lb_world.specs.History.{History, Entered, bit, members}
+use Rattle.lb_world.specs.History.{History, Entered, members}
 use Rattle.lb_world.specs.Answers.{answer_after, build_answer, built_or_failed}
 use Rattle.lb_world.specs.Views.{nothing, building, ready, PlaceView, EntryView, WorldView, is_out, flight_of, retired_of, ready_of}
 use Rattle.lb_world.specs.Sound.{TaskFits, IsPlaceSound, IsSound}
 use Rattle.lb_world.specs.Stands.{SlotTells, Stands}
 use Rattle.lb_world.proofs.Effects.{IsPlaced, Effect}
-use Rattle.lb_world.proofs.KindFacts.{here, bit_le, either_way, flying, none_due, one_due, held_le_out, place_sound, place_told}
+use Rattle.lb_world.proofs.Frames.{either_way}
+use Rattle.lb_world.proofs.Permits.{bit_le}
+use Rattle.lb_world.proofs.KindFacts.{here, flying, none_due, one_due, held_le_out, place_sound, place_told}
 
 module _ {C : Type 0} where
   -- the place whose build failed: its order waits again where it is of the newest generation and none waits
   abbrev pub failed_place : EntryView C → SlotView C → Task C → PlaceView C
   failed_place e x t = record { slot = record x { waiting = put_back e.core.newest t x.waiting; stage = free }; work = nothing }
 
+  -- a place whose job is built is sound
   pub built_sound :
       (readers : List (Option Entered)) (g s : ℕ) (e : EntryView C) (x : SlotView C) (t : Task C)
       → IsPlaceSound readers g s e.core (record { slot = x; work = building t })
@@ -49,6 +52,7 @@ module _ {C : Type 0} where
             kept ∙ sym due
       ]
 
+  -- a place whose build failed is sound
   pub failed_sound :
       (readers : List (Option Entered)) (g s : ℕ) (e : EntryView C) (x : SlotView C) (t : Task C)
       → IsPlaceSound readers g s e.core (record { slot = x; work = building t }) → IsPlaceSound readers g s e.core (failed_place e x t)
@@ -83,6 +87,7 @@ module _ {C : Type 0} (M : Meaning C) where
       let told = place_told M w h g s e _ stands placed in
       rw (build_answer_is w h g s now e _ stands placed, p.agrees.flies, told.tasks t refl, p.agrees.config_is)
 
+  -- the longer history tells a place whose job is built
   pub built_told : (h : History C) (g s now : ℕ) (x : SlotView C) (t : Task C)
       → SlotTells M h g s (record { slot = x; work = building t })
       → SlotTells M ((step.build g s now, answer.Built t.generation) ∷ h) g s (record { slot = x; work = ready t })
@@ -95,9 +100,10 @@ module _ {C : Type 0} (M : Meaning C) where
         builds = rw (here g s);
         retires = rw (here g s) told.retires;
         tasks = told.tasks;
-        drawn = (x.serving.tickets, told.drawn, either_way _ refl);
+        drawn = (x.serving.tickets, told.drawn, either_way _ _ _ refl refl);
       }
 
+  -- a job is built where no cause stands against it
   pub job_built :
       (w : WorldView C) (h : History C) (g s now : ℕ) (e : EntryView C) (x : SlotView C) (t : Task C)
       → IsSound w → Stands M w h → IsPlaced w g s e (record { slot = x; work = building t })
@@ -120,6 +126,7 @@ module _ {C : Type 0} (M : Meaning C) where
         counts = omega arith;
       }
 
+  -- the longer history tells a place whose build failed
   pub failed_told : (h : History C) (g s now : ℕ) (e : EntryView C) (x : SlotView C) (t : Task C) (r : Refusal)
       → SlotTells M h g s (record { slot = x; work = building t }) → retired_of x.stage ≡ None
       → SlotTells M ((step.build g s now, answer.BuildFailed t.generation r) ∷ h) g s (failed_place e x t)
@@ -132,7 +139,7 @@ module _ {C : Type 0} (M : Meaning C) where
         builds = rw (here g s) told.builds;
         retires = rw (here g s) (told.retires ∙ unretired);
         tasks = λ u is. absurd (none-some _ is);
-        drawn = (x.serving.tickets, told.drawn, either_way _ refl);
+        drawn = (x.serving.tickets, told.drawn, either_way _ _ _ refl refl);
       }
 
   -- a build fails for its cause, or for want of memory

@@ -1,6 +1,5 @@
 -- A retired selector without readers that is destroyed.
-use Rattle.std.proofs.Common.{◌≡◌, ◌<◌, ◌≤◌, inl, ℕ, ◌+◌, Bool, true, false, ◌==◌, List, ◌∷◌, if◌then◌else◌, Option, Some, None, count_by, refl, sym, ap, ◌∙◌, arith}
-use Rattle.std.proofs.lemmas.Bool.{eq-eqb}
+use Rattle.std.proofs.Common.{◌≡◌, ◌<◌, inl, ℕ, false, ◌==◌, List, ◌∷◌, if◌then◌else◌, Option, count_by, refl, ◌∙◌, arith}
 use Rattle.std.proofs.lemmas.Bool.Decides.{nat_tests}
 use Rattle.lb_rebuild.specs.Views.{free, retired, SlotView}
 use Rattle.lb_world.specs.Steps as step
@@ -8,11 +7,13 @@ use Rattle.lb_world.specs.declared.answer.Answer.TheVariants as answer
 use Rattle.lb_world.specs.Meanings.{Meaning}
 use Rattle.lb_world.specs.History.{History, Entered, readers_in, reads}
 use Rattle.lb_world.specs.Answers.{answer_after, destroy_answer}
-use Rattle.lb_world.specs.Views.{WorkView, nothing, PlaceView, EntryView, WorldView, is_out, flight_of, retired_of}
+use Rattle.lb_world.specs.Views.{WorkView, PlaceView, EntryView, WorldView, is_out, retired_of}
 use Rattle.lb_world.specs.Sound.{IsPlaceSound, IsSound}
 use Rattle.lb_world.specs.Stands.{SlotTells, Stands}
 use Rattle.lb_world.proofs.Effects.{IsPlaced, Effect}
-use Rattle.lb_world.proofs.KindFacts.{here, either_way, bit_le, held_le_out, nothing_held, same_due, place_sound, place_told}
+use Rattle.lb_world.proofs.Frames.{either_way}
+use Rattle.lb_world.proofs.Permits.{bit_le}
+use Rattle.lb_world.proofs.KindFacts.{here, held_le_out, nothing_held, same_due, place_sound, place_told}
 
 -- without readers of the retired generation, what is served has all readers
 none_retired : (served n j readers : ℕ)
@@ -29,6 +30,7 @@ module _ {C : Type 0} where
   abbrev pub freed_slot : SlotView C → SlotView C
   freed_slot x = record x { stage = free }
 
+  -- it is sound
   pub freed_sound :
       (readers : List (Option Entered)) (g s n : ℕ) (e : EntryView C) (x : SlotView C) (k : WorkView C)
       → IsPlaceSound readers g s e.core (record { slot = x; work = k }) → x.stage ≡ retired n 0
@@ -63,6 +65,7 @@ module _ {C : Type 0} (M : Meaning C) where
       let t = place_told M w h g s e p stands placed in
       rw (t.configured, t.retires)
 
+  -- the longer history tells it
   pub freed_told : (h : History C) (g s n : ℕ) (x : SlotView C) (k : WorkView C)
       → SlotTells M h g s (record { slot = x; work = k }) → x.stage ≡ retired n 0
       → SlotTells M ((step.destroy g s, answer.Destroyed) ∷ h) g s (record { slot = freed_slot x; work = k })
@@ -75,9 +78,10 @@ module _ {C : Type 0} (M : Meaning C) where
         builds = rw (here g s) told.builds;
         retires = rw (here g s);
         tasks = told.tasks;
-        drawn = (x.serving.tickets, told.drawn, either_way _ refl);
+        drawn = (x.serving.tickets, told.drawn, either_way _ _ _ refl refl);
       }
 
+  -- what is retired and has no reader is destroyed
   pub retired_destroyed :
       (w : WorldView C) (h : History C) (g s n : ℕ) (e : EntryView C) (x : SlotView C) (k : WorkView C)
       → IsSound w → Stands M w h → IsPlaced w g s e (record { slot = x; work = k })

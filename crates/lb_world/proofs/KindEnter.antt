@@ -3,27 +3,27 @@ use Rattle.std.proofs.Common.{◌≡◌, ◌<◌, inl, inr, ℕ, ◌+◌, ◌-�
 use Rattle.std.proofs.lemmas.Bool.{eq-eqb, lt-ltb}
 use Rattle.std.proofs.lemmas.Option.{same_Some}
 use Rattle.lb_rebuild.specs.Views.{SlotView}
+use Rattle.lb_rebuild.specs.Calls.{entered_slot}
 use Rattle.lb_world.specs.Steps as step
 use Rattle.lb_world.specs.declared.answer.Answer.TheVariants as answer
 use Rattle.lb_world.specs.Meanings.{Meaning}
-use Rattle.lb_world.specs.History.{History, Entered, reads, entries}
+use Rattle.lb_world.specs.History.{History, Entered, reads}
 use Rattle.lb_world.specs.Answers.{answer_after, enter_answer}
 use Rattle.lb_world.specs.Views.{WorkView, PlaceView, EntryView, WorldView, is_out}
 use Rattle.lb_world.specs.Sound.{IsPlaceSound, IsSound}
 use Rattle.lb_world.specs.Stands.{SlotTells, Stands}
 use Rattle.lb_world.proofs.Effects.{IsPlaced, Effect}
-use Rattle.lb_world.proofs.KindFacts.{here, either_way, work_fits_as, place_sound, place_told}
-use Rattle.lb_world.proofs.KindLists.{pushed_get, count_pushed, reads_here, reads_no_other, one_more}
+use Rattle.lb_world.proofs.Frames.{either_way}
+use Rattle.lb_world.proofs.Places.{get_push}
+use Rattle.lb_world.proofs.KindFacts.{here, work_fits_as, place_sound, place_told}
+use Rattle.lb_world.proofs.KindLists.{count_pushed, reads_here, reads_no_other, one_more}
 
 -- the entry of a reader that enters the slot
 abbrev pub entry_of : {C : Type 0} → ℕ → ℕ → SlotView C → Entered
 entry_of g s x = record { group = g; slot = s; generation = x.serving.generation }
 
 module _ {C : Type 0} where
-  -- the slot with one reader more
-  abbrev pub entered_slot : SlotView C → SlotView C
-  entered_slot x = record x { readers = x.readers + 1 }
-
+  -- the slot with one reader more is sound
   pub entered_sound :
       (readers : List (Option Entered)) (g s : ℕ) (e : EntryView C) (x : SlotView C) (k : WorkView C)
       → IsPlaceSound readers g s e.core (record { slot = x; work = k })
@@ -52,6 +52,7 @@ module _ {C : Type 0} (M : Meaning C) where
       rw (eq-eqb served served refl) at ((place_sound w g s e p sound placed).counts served) in
       rw (t.configured, t.serves, stands.entries_are, mine)
 
+  -- the longer history tells it
   pub entered_told : (h : History C) (g s n : ℕ) (x : SlotView C) (k : WorkView C)
       → SlotTells M h g s (record { slot = x; work = k })
       → SlotTells M ((step.enter g s, answer.Reader n) ∷ h) g s (record { slot = entered_slot x; work = k })
@@ -64,9 +65,10 @@ module _ {C : Type 0} (M : Meaning C) where
         builds = rw (here g s) told.builds;
         retires = rw (here g s) told.retires;
         tasks = told.tasks;
-        drawn = (x.serving.tickets, told.drawn, either_way _ refl);
+        drawn = (x.serving.tickets, told.drawn, either_way _ _ _ refl refl);
       }
 
+  -- a reader enters while there are numbers left
   pub reader_entered :
       (w : WorldView C) (h : History C) (g s : ℕ) (e : EntryView C) (x : SlotView C) (k : WorkView C)
       → IsSound w → Stands M w h → IsPlaced w g s e (record { slot = x; work = k })
@@ -90,9 +92,9 @@ module _ {C : Type 0} (M : Meaning C) where
               reads_no_other (entry_of g s x) g s g2 s2 n refl refl other,
             ) (omega arith);
         entries_in = λ t r at_t.
-            elim (pushed_get w.readers (Some (entry_of g s x)) (Some r) t at_t) [
-              | inl old ↦ inl old
-              | inr new ↦ inr (rw (← same_Some _ _ new) (refl, refl))
+            elim (get_push w.readers t (Some (entry_of g s x)) (Some r) at_t) [
+              | inl new ↦ inr (rw (same_Some _ _ new.1) (refl, refl))
+              | inr old ↦ inl old.1
             ];
         permits = refl;
         counts = omega arith;

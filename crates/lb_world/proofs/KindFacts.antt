@@ -1,5 +1,5 @@
 -- Facts that every kind of step at a slot needs: what the place's permit says of the gate, and what the history tells of it.
-use Rattle.std.proofs.Common.{◌≡◌, ◌<◌, ◌≤◌, ℕ, ◌+◌, Bool, true, false, ◌&&◌, ◌==◌, List, Option, Some, None, slice_get, sum_by, length, MatchBool, max, refl, sym, ap, ◌∙◌, arith}
+use Rattle.std.proofs.Common.{◌≡◌, ◌<◌, ◌≤◌, ℕ, true, ◌&&◌, ◌==◌, List, Some, None, slice_get, sum_by, length, max, refl, sym, ap, ◌∙◌, arith}
 use Rattle.std.proofs.lemmas.Bool.{eq-eqb, lt-ltb, le-ltb, and_from}
 use Rattle.std.proofs.lemmas.List.Sums.{get_or-le-sum_by}
 use Rattle.std.proofs.lemmas.Option.{slice_get_within, get_or_from_slice_get, none-some, same_Some}
@@ -15,14 +15,6 @@ use Rattle.lb_world.proofs.Effects.{IsPlaced}
 -- a slot is itself
 pub here : (g s : ℕ) → (g == g && s == s) ≡ true
 here g s = and_from _ _ (eq-eqb g g refl) (eq-eqb s s refl)
-
-pub either_way : {P : Type 0} (b : Bool) → P → MatchBool b P P
-either_way true p = p
-either_way false p = p
-
-pub bit_le : (b : Bool) → bit b ≤ 1
-bit_le true = omega arith
-bit_le false = omega arith
 
 pub element_le_sum : {X : Type 0} (f : X → ℕ) (xs : List X) (i : ℕ) (x : X) → slice_get xs i ≡ Some x → f x ≤ sum_by f xs
 element_le_sum f xs i x e = rw (get_or_from_slice_get xs i x x e) at (get_or-le-sum_by f xs i x (slice_get_within xs i x e))

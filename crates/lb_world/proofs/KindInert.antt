@@ -1,32 +1,26 @@
 -- Answers that change nothing: where each of them is right.
-use Rattle.std.proofs.Common.{◌≡◌, ◌<◌, ◌≤◌, ◌⊎◌, inl, inr, ℕ, zero, suc, ◌+◌, ◌-◌, ◌^◌, Bool, true, false, not, ◌&&◌, List, [], ◌∷◌, length, max, nat_lt, Option, Some, None, IsSome, slice_get, refl, sym, ap, ◌∙◌, arith}
+use Rattle.std.proofs.Common.{◌≡◌, ◌<◌, ◌≤◌, ◌⊎◌, inl, inr, ℕ, ◌-◌, ◌^◌, Bool, true, false, not, ◌&&◌, List, length, max, nat_lt, Option, Some, None, IsSome, slice_get, refl, sym, ◌∙◌, arith}
 use Rattle.std.proofs.lemmas.Bool.{lt-ltb, le-ltb, ltb-false, ne_eqb, and_right, and_cases, both_ways, cases_Bool, not-false}
 use Rattle.std.proofs.lemmas.Option.{none-some, slice_get_past}
 use Rattle.lb_select.specs.declared.refusal.Refusal.TheVariants as refusal
-use Rattle.lb_rebuild.specs.Views.{StageView, free, flight, retired, taken_out, OrderView, Task, SlotView, GroupView, flight_number, is_flying, waits, due_order}
+use Rattle.lb_rebuild.specs.Views.{StageView, free, flight, retired, taken_out, Task, SlotView, GroupView, flight_number, is_flying, waits, due_order}
 use Rattle.lb_rebuild.specs.Calls.{is_free}
 use Rattle.lb_world.specs.Steps as step
 use Rattle.lb_world.specs.declared.answer.Answer.TheVariants as answer
 use Rattle.lb_world.specs.Meanings.{Meaning}
 use Rattle.lb_world.specs.History.{History, Made, made, config, bit}
 use Rattle.lb_world.specs.Answers.{Answers, refuse}
-use Rattle.lb_world.specs.Views.{WorkView, nothing, building, ready, PlaceView, EntryView, WorldView, is_out, stage_holds, flight_of, retired_of, held}
-use Rattle.lb_world.specs.Sound.{StageFits, IsPlaceSound, IsSound}
+use Rattle.lb_world.specs.Views.{nothing, building, ready, PlaceView, EntryView, WorldView, is_out, stage_holds, flight_of, retired_of, held}
+use Rattle.lb_world.specs.Sound.{StageFits, IsSound}
 use Rattle.lb_world.specs.Stands.{Stands}
 use Rattle.lb_world.proofs.Effects.{IsPlaced}
-use Rattle.lb_world.proofs.KindFacts.{held_le_out, bit_le, place_sound}
+use Rattle.lb_world.proofs.Places.{past}
+use Rattle.lb_world.proofs.KindFacts.{held_le_out, place_sound}
 use Rattle.lb_world.proofs.KindAsk.{due_is, ask_answer_is}
 use Rattle.lb_world.proofs.KindBuild.{build_answer_is}
 use Rattle.lb_world.proofs.KindPublish.{publish_answer_is}
 use Rattle.lb_world.proofs.KindEnter.{enter_answer_is}
 use Rattle.lb_world.proofs.KindDestroy.{destroy_answer_is, retired_readers_are}
-
-none_past : {X : Type 0} (xs : List X) (i : ℕ) → slice_get xs i ≡ None → length xs ≤ i
-none_past [] i none = omega arith
-none_past (x ∷ xs) zero none = absurd (none-some x (sym none))
-none_past (x ∷ xs) (suc i) none =
-    let rest = none_past xs i none in
-    omega arith
 
 -- what a stage that doesn't fly says of a flight
 grounded : (stage : StageView) → is_flying stage ≡ false → (flight_of stage ≡ None) × (flight_number stage ≡ 0)
@@ -84,7 +78,7 @@ module _ {C : Type 0} (M : Meaning C) where
       → (m : Made C) × (made g h ≡ Some m) × (slice_get m.configs s ≡ None)
   no_slot w h g s e stands at_group none =
       let m = stands.made_is g e at_group in
-      let past = none_past e.core.slots s none in
+      let beyond = past e.core.slots s none in
       let same = m.3 in
       (m.0, m.1, slice_get_past m.0.configs s (omega arith))
 

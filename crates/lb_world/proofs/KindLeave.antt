@@ -1,33 +1,33 @@
 -- A reader that leaves a slot.
-use Rattle.std.proofs.Common.{◌≡◌, ◌≢◌, ◌<◌, ◌≤◌, ◌⊎◌, inl, inr, ℕ, ◌+◌, ◌-◌, Bool, true, false, cond, ◌&&◌, ◌==◌, List, ◌∷◌, if◌then◌else◌, Option, Some, None, slice_get, slice_set, count_by, refl, sym, ap, ◌∙◌, true≢false, arith}
-use Rattle.std.proofs.lemmas.Bool.{eq-eqb, ne_eqb, false≢true}
+use Rattle.std.proofs.Common.{◌≡◌, ◌≢◌, ◌<◌, inl, inr, ℕ, ◌+◌, ◌-◌, false, cond, ◌==◌, List, ◌∷◌, if◌then◌else◌, Option, Some, None, slice_get, slice_set, refl, sym, ap, ◌∙◌, arith}
+use Rattle.std.proofs.lemmas.Bool.{eq-eqb, false≢true}
 use Rattle.std.proofs.lemmas.Bool.Decides.{eqb_tells, nat_tests}
-use Rattle.std.proofs.lemmas.Option.{none-some, same_Some}
+use Rattle.std.proofs.lemmas.Option.{none-some}
 use Rattle.lb_rebuild.specs.Views.{StageView, free, flight, retired, taken_out, SlotView, flight_number}
+use Rattle.lb_rebuild.specs.Calls.{left_stage, left_slot}
+use Rattle.lb_rebuild.specs.Calls as calls
 use Rattle.lb_world.specs.Steps as step
 use Rattle.lb_world.specs.declared.answer.Answer.TheVariants as answer
 use Rattle.lb_world.specs.Meanings.{Meaning}
 use Rattle.lb_world.specs.History.{History, Entered, reads}
-use Rattle.lb_world.specs.Answers.{answer_after, leave_answer}
 use Rattle.lb_world.specs.Views.{WorkView, PlaceView, EntryView, WorldView, is_out, stage_holds, flight_of, retired_of, retired_readers, readers_at}
 use Rattle.lb_world.specs.Sound.{StageFits, IsPlaceSound, IsSound}
 use Rattle.lb_world.specs.Stands.{SlotTells, Stands}
 use Rattle.lb_world.proofs.Effects.{IsPlaced, Effect}
+use Rattle.lb_world.proofs.Places.{get_set}
 use Rattle.lb_world.proofs.KindFacts.{element_le_sum, work_fits_as, same_due, place_sound, place_told}
-use Rattle.lb_world.proofs.KindLists.{set_get, count_set, reads_here, reads_no_other, one_less}
+use Rattle.lb_world.proofs.KindLists.{count_set, reads_here, reads_no_other, one_less}
 
--- one reader of that generation less
-abbrev pub left_stage : ℕ → StageView → StageView
-left_stage n free = free
-left_stage n (flight m) = flight m
-left_stage n (retired m readers) = if m == n then retired m (readers - 1) else retired m readers
-left_stage n (taken_out m) = taken_out m
+-- the same of what is retired
+retired_as : (stage : StageView) (n : ℕ) → calls.retired_readers n stage ≡ retired_readers stage n
+retired_as free n = refl
+retired_as (flight m) n = refl
+retired_as (retired m readers) n = refl
+retired_as (taken_out m) n = refl
 
-abbrev pub left_slot : {C : Type 0} → ℕ → SlotView C → SlotView C
-left_slot n x =
-    if x.serving.generation == n
-    then record x { readers = x.readers - 1 }
-    else record x { stage = left_stage n x.stage }
+-- the readers of a generation, as the calls on a slot count them
+pub readers_as : {C : Type 0} (x : SlotView C) (n : ℕ) → calls.readers_at x n ≡ readers_at x n
+readers_as x n = ap (λ (m : ℕ). if x.serving.generation == n then x.readers else m) (retired_as x.stage n)
 
 -- the slot y is the slot x with one reader of that generation less
 pub record IsFewer {C : Type 0} (x y : SlotView C) (n : ℕ) : Type 0 where
@@ -95,6 +95,7 @@ module _ {C : Type 0} where
       → x.stage ≡ retired n m → 0 < m → IsFewer x (left_slot n x) n
   fewer_else x n m unlike other stage some = rw (unlike, ap (left_stage n) stage, eq-eqb n n refl) (fewer_retired x n m other stage some)
 
+  -- where a reader of a generation is in, the slot has one less when it leaves
   pub fewer_left : (x : SlotView C) (n : ℕ) → 0 < readers_at x n → IsFewer x (left_slot n x) n
   fewer_left x n some =
       elim (eqb_tells x.serving.generation n) [
@@ -104,6 +105,7 @@ module _ {C : Type 0} where
             fewer_else x n there.0 other.0 other.1 there.1 there.2
       ]
 
+  -- a slot with one reader less is sound
   pub left_sound :
       (readers : List (Option Entered)) (g s t : ℕ) (e : EntryView C) (x y : SlotView C) (k : WorkView C) (r : Entered)
       → IsPlaceSound readers g s e.core (record { slot = x; work = k }) → IsFewer x y r.generation
@@ -124,6 +126,7 @@ module _ {C : Type 0} where
       }
 
 module _ {C : Type 0} (M : Meaning C) where
+  -- the longer history tells it
   pub left_told : (h : History C) (g s t : ℕ) (x y : SlotView C) (k : WorkView C) (n : ℕ)
       → SlotTells M h g s (record { slot = x; work = k }) → IsFewer x y n
       → SlotTells M ((step.leave t, answer.Left) ∷ h) g s (record { slot = y; work = k })
@@ -149,6 +152,14 @@ module _ {C : Type 0} (M : Meaning C) where
       let mine = rw (reads_here r g s r.generation group slot, eq-eqb r.generation r.generation refl) at one in
       omega arith
 
+  -- so the slot may let it leave
+  pub reader_may_leave : (w : WorldView C) (g s t : ℕ) (e : EntryView C) (p : PlaceView C) (r : Entered)
+      → IsSound w → IsPlaced w g s e p → slice_get w.readers t ≡ Some (Some r) → r.group ≡ g → r.slot ≡ s
+      → 0 < calls.readers_at p.slot r.generation
+  reader_may_leave w g s t e p r sound placed at_t group slot =
+      rw (readers_as p.slot r.generation) (reader_is_in w g s t e p r sound placed at_t group slot)
+
+  -- a reader that has an entry leaves
   pub reader_left :
       (w : WorldView C) (h : History C) (g s t : ℕ) (e : EntryView C) (x : SlotView C) (k : WorkView C) (r : Entered)
       → IsSound w → Stands M w h → IsPlaced w g s e (record { slot = x; work = k })
@@ -171,9 +182,9 @@ module _ {C : Type 0} (M : Meaning C) where
             let none = rw (reads_no_other r g s g2 s2 n group slot other) at gone in
             omega arith;
         entries_in = λ u q at_u.
-            elim (set_get w.readers t u None (Some q) at_u) [
-              | inl old ↦ inl old
-              | inr new ↦ absurd (none-some _ new)
+            elim (get_set w.readers t u (Some r) None (Some q) at_t at_u) [
+              | inl gone ↦ absurd (none-some _ (sym gone.1))
+              | inr old ↦ inl old.1
             ];
         permits = omega arith;
         counts = omega arith;

@@ -1,24 +1,9 @@
--- Lists of readers' entries: what is found, and how many are counted, after one more entry and after one that is crossed out.
-use Rattle.std.proofs.Common.{◌≡◌, ◌<◌, ◌≤◌, ◌⊎◌, inl, inr, ℕ, zero, suc, ◌+◌, ◌-◌, Bool, true, false, cond, ◌&&◌, ◌==◌, List, [], ◌∷◌, ◌++◌, if◌then◌else◌, Option, Some, None, slice_get, slice_set, count_by, refl, ap, ◌∙◌, true≢false, arith}
+-- How many readers' entries are counted after one more entry, and after one that is crossed out.
+use Rattle.std.proofs.Common.{◌≡◌, ◌<◌, ℕ, ◌+◌, ◌-◌, Bool, true, false, cond, ◌&&◌, ◌==◌, List, [], ◌∷◌, ◌++◌, if◌then◌else◌, Some, slice_get, slice_set, count_by, refl, true≢false, arith}
 use Rattle.std.proofs.lemmas.Bool.{eq-eqb}
 use Rattle.std.proofs.lemmas.List.Sums.{sum_by_push, sum_by-set}
-use Rattle.std.proofs.lemmas.Option.{slice_get_within, get_or_from_slice_get, none-some, same_Some}
+use Rattle.std.proofs.lemmas.Option.{slice_get_within, get_or_from_slice_get}
 use Rattle.lb_world.specs.History.{Entered, reads}
-
--- what stands in a list with one element more stood there before, or is that element
-pub pushed_get : {X : Type 0} (xs : List X) (y z : X) (i : ℕ) → slice_get (xs ++ y ∷ []) i ≡ Some z → (slice_get xs i ≡ Some z) ⊎ (y ≡ z)
-pushed_get [] y z zero e = inr (same_Some _ _ e)
-pushed_get [] y z (suc i) e = absurd (none-some _ e)
-pushed_get (x ∷ xs) y z zero e = inl e
-pushed_get (x ∷ xs) y z (suc i) e = pushed_get xs y z i e
-
--- what stands in a list after a write stood there before, or was written
-pub set_get : {X : Type 0} (xs : List X) (i j : ℕ) (y z : X) → slice_get (slice_set xs i y) j ≡ Some z → (slice_get xs j ≡ Some z) ⊎ (y ≡ z)
-set_get [] i j y z e = absurd (none-some _ e)
-set_get (x ∷ xs) zero zero y z e = inr (same_Some _ _ e)
-set_get (x ∷ xs) zero (suc j) y z e = inl e
-set_get (x ∷ xs) (suc i) zero y z e = inl e
-set_get (x ∷ xs) (suc i) (suc j) y z e = set_get xs i j y z e
 
 pub count_pushed : {X : Type 0} (p : X → Bool) (xs : List X) (y : X) → count_by p (xs ++ y ∷ []) ≡ count_by p xs + cond (p y) 1 0
 count_pushed p xs y = sum_by_push (λ x. cond (p x) 1 0) xs y

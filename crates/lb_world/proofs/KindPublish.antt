@@ -1,5 +1,5 @@
 -- A built selector that is served from now on, while what was served before is retired.
-use Rattle.std.proofs.Common.{◌≡◌, ◌<◌, ◌≤◌, inl, ℕ, List, ◌∷◌, ◌==◌, if◌then◌else◌, Option, Some, None, refl, sym, ap, ◌∙◌, arith}
+use Rattle.std.proofs.Common.{◌≡◌, ◌<◌, inl, ℕ, List, ◌∷◌, ◌==◌, if◌then◌else◌, Option, Some, refl, sym, ap, ◌∙◌, arith}
 use Rattle.std.proofs.lemmas.Bool.Decides.{nat_tests}
 use Rattle.std.proofs.lemmas.Option.{none-some}
 use Rattle.lb_rebuild.specs.Views.{retired, Task, SlotView}
@@ -26,6 +26,7 @@ module _ {C : Type 0} where
   published x t =
       record { slot = record x { serving = serving_of t; readers = 0; stage = retired x.serving.generation x.readers }; work = nothing }
 
+  -- it is sound
   pub published_sound :
       (readers : List (Option Entered)) (g s : ℕ) (e : EntryView C) (x : SlotView C) (t : Task C)
       → IsPlaceSound readers g s e.core (record { slot = x; work = ready t }) → IsPlaceSound readers g s e.core (published x t)
@@ -50,6 +51,7 @@ module _ {C : Type 0} (M : Meaning C) where
       let t = place_told M w h g s e p stands placed in
       rw (t.configured, t.builds)
 
+  -- the longer history tells it
   pub published_told : (h : History C) (g s : ℕ) (x : SlotView C) (t : Task C)
       → SlotTells M h g s (record { slot = x; work = ready t })
       → SlotTells M ((step.publish g s, answer.Published t.generation) ∷ h) g s (published x t)
@@ -65,6 +67,7 @@ module _ {C : Type 0} (M : Meaning C) where
         drawn = (x.serving.tickets, told.drawn, rw (here g s) refl);
       }
 
+  -- what is built is published
   pub build_published :
       (w : WorldView C) (h : History C) (g s : ℕ) (e : EntryView C) (x : SlotView C) (t : Task C)
       → IsSound w → Stands M w h → IsPlaced w g s e (record { slot = x; work = ready t })

@@ -1,5 +1,5 @@
 -- A selection from what a slot serves.
-use Rattle.std.proofs.Common.{◌≡◌, ◌≤◌, inl, ℕ, ◌+◌, List, ◌∷◌, Option, Some, None, Result, Ok, Err, true, refl, sym, subst, arith}
+use Rattle.std.proofs.Common.{◌≡◌, inl, ℕ, ◌+◌, List, ◌∷◌, Option, Some, None, Result, Ok, Err, true, refl, sym, subst, arith}
 use Rattle.lb_select.specs.Backends.{Member}
 use Rattle.lb_select.specs.declared.refusal.Refusal.{Refusal}
 use Rattle.lb_rebuild.specs.Views.{SlotView}
@@ -9,7 +9,7 @@ use Rattle.lb_world.specs.declared.answer.Answer.TheVariants as answer
 use Rattle.lb_world.specs.Meanings.{Meaning}
 use Rattle.lb_world.specs.History.{History, Entered, made, members, generations, events, added, event_of, served, entries, bit, fails, destroys, grants}
 use Rattle.lb_world.specs.Quiet.{is_quiet}
-use Rattle.lb_world.specs.Answers.{Answers, Selection, Selected, SelectedAt, SelectAnswers, Moved, select_answer}
+use Rattle.lb_world.specs.Answers.{Selection, Selected, SelectedAt, SelectAnswers, Moved, select_answer}
 use Rattle.lb_world.specs.Views.{WorkView, PlaceView, EntryView, WorldView, is_out, held}
 use Rattle.lb_world.specs.Sound.{IsPlaceSound, IsSound}
 use Rattle.lb_world.specs.Stands.{SlotTells, Stands}
@@ -28,6 +28,7 @@ module _ {C : Type 0} where
   abbrev pub drawn_slot : SlotView C → ℕ → SlotView C
   drawn_slot x u = record x { serving = record x.serving { tickets = u } }
 
+  -- it is sound
   pub drawn_sound :
       (readers : List (Option Entered)) (g s u : ℕ) (e : EntryView C) (x : SlotView C) (k : WorkView C)
       → IsPlaceSound readers g s e.core (record { slot = x; work = k })
@@ -79,6 +80,7 @@ module _ {C : Type 0} (M : Meaning C) where
       → Moved M g s h (step.select g s sel.key sel.limit sel.words) a x.serving.tickets u)
       r (from _) (λ b. from _) (λ e. from _) selected
 
+  -- the longer history tells it
   pub drawn_told :
       (h : History C) (g s u : ℕ) (x : SlotView C) (k : WorkView C) (sel : Selection) (r : Result (Option Member) Refusal)
       → SlotTells M h g s (record { slot = x; work = k })
@@ -104,6 +106,7 @@ module _ {C : Type 0} (M : Meaning C) where
         drawn = (x.serving.tickets, told.drawn, rw (here g s) moved);
       }
 
+  -- a selection draws from what the slot serves
   pub selection_made :
       (w : WorldView C) (h : History C) (g s u : ℕ) (e : EntryView C) (x : SlotView C) (k : WorkView C) (sel : Selection)
       (r : Result (Option Member) Refusal)

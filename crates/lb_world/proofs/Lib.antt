@@ -10,6 +10,8 @@ pub mod Founding
 pub mod Frames
 pub mod GroupMade
 pub mod GroupUpdated
+pub mod Held
+pub mod KindAbsent
 pub mod KindAsk
 pub mod KindBuild
 pub mod KindDestroy
@@ -20,13 +22,15 @@ pub mod KindLeave
 pub mod KindLists
 pub mod KindPublish
 pub mod KindSelect
+pub mod LawAnswers
+pub mod LawSelect
 pub mod Laws
 pub mod MadeAnswers
 pub mod Makers
 pub mod Permits
 pub mod PlaceCases
 pub mod Places
-pub mod Promises
+pub mod Runs
 pub mod SameSets
 pub mod SelectAbsent
 pub mod SlotFrames

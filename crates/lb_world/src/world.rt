@@ -6,7 +6,7 @@ ghost use Rattle.lb_world.specs.Meanings.{meaning};
 ghost use Rattle.lb_world.specs.Steps as seen;
 ghost use Rattle.lb_world.specs.Steps.{step_seen};
 ghost use Rattle.lb_world.specs.Stands.{Stands};
-ghost use Rattle.lb_world.specs.Lawful.{EachStep, Always, SelectsFirst, ServesNewest, NeverFalls, GrantsDue, OneExtra};
+ghost use Rattle.lb_world.specs.Lawful.{EachStep, Always, FirstAccepted, NewestServed, NeverFalls, FreeGateGrants, OneExtra, ExtrasAre, ReadersExact};
 
 use crate::answer::Answer;
 use crate::entry::{Entry, Held, Place, Work};
@@ -103,15 +103,19 @@ impl<S: BackendSelection> World<S> {
             → Stands (meaning S.walks S.refusal S.may_draw_random) self.new (after h (map step_seen steps.items) answers.items)) }
         ensures each { IfOk result (λ answers. vec_len answers ≡ vec_len steps) }
         ensures first_accepted { IfOk result (λ answers. (h : History S.Config) → Stands (meaning S.walks S.refusal S.may_draw_random) self.old h
-            → EachStep (SelectsFirst (meaning S.walks S.refusal S.may_draw_random)) (after h (map step_seen steps.items) answers.items)) }
+            → EachStep (FirstAccepted (meaning S.walks S.refusal S.may_draw_random)) (after h (map step_seen steps.items) answers.items)) }
         ensures newest_served { IfOk result (λ answers. (h : History S.Config) → Stands (meaning S.walks S.refusal S.may_draw_random) self.old h
-            → Always (ServesNewest (meaning S.walks S.refusal S.may_draw_random)) (after h (map step_seen steps.items) answers.items)) }
+            → Always NewestServed (after h (map step_seen steps.items) answers.items)) }
         ensures served_never_falls { IfOk result (λ answers. (h : History S.Config) → Stands (meaning S.walks S.refusal S.may_draw_random) self.old h
             → EachStep NeverFalls (after h (map step_seen steps.items) answers.items)) }
         ensures free_gate_grants { IfOk result (λ answers. (h : History S.Config) → Stands (meaning S.walks S.refusal S.may_draw_random) self.old h
-            → EachStep GrantsDue (after h (map step_seen steps.items) answers.items)) }
+            → EachStep FreeGateGrants (after h (map step_seen steps.items) answers.items)) }
         ensures one_extra { IfOk result (λ answers. (h : History S.Config) → Stands (meaning S.walks S.refusal S.may_draw_random) self.old h
             → Always OneExtra (after h (map step_seen steps.items) answers.items)) }
+        ensures extras_are { IfOk result (λ answers. (h : History S.Config) → Stands (meaning S.walks S.refusal S.may_draw_random) self.old h
+            → Always ExtrasAre (after h (map step_seen steps.items) answers.items)) }
+        ensures readers_exact { IfOk result (λ answers. (h : History S.Config) → Stands (meaning S.walks S.refusal S.may_draw_random) self.old h
+            → EachStep ReadersExact (after h (map step_seen steps.items) answers.items)) }
         ensures err { IfErr result (λ r. (r ≡ Refusal.OutOfMemory) × (self.new ≡ self.old)) }
     {
         let mut answers = Vec::with_capacity(self.alloc, steps.len())?;
