@@ -1,10 +1,10 @@
 -- The world after a step that an entry took: it is sound, and stands for the longer history.
-use Rattle.std.proofs.Common.{inl, inr, sym, ap, ◌∙◌, subst, arith, refl}
-use Rattle.std.specs.Prelude.{◌≡◌, ◌⊎◌, ℕ, ◌<◌, Bool, true, false, not, ◌&&◌, List, ◌∷◌, length, Option, Some, None, slice_get, slice_set}
+use Rattle.std.proofs.Common.{inl, inr, sym, ap, ◌∙◌, subst, refl}
+use Rattle.std.specs.Prelude.{◌≡◌, ℕ, Bool, true, false, not, ◌&&◌, List, ◌∷◌, Option, Some, None, slice_get, slice_set}
 use Rattle.lb_select.specs.declared.refusal.Refusal.{Refusal}
 use Rattle.lb_select.specs.declared.refusal.Refusal.TheVariants as refusal
 use Rattle.lb_rebuild.specs.Gate.{GateView, gate}
-use Rattle.lb_rebuild.specs.Views.{StageView, free, flight, retired, taken_out, Task, SlotView, is_flying}
+use Rattle.lb_rebuild.specs.Views.{StageView, free, flight, retired, taken_out, SlotView}
 use Rattle.lb_rebuild.specs.Calls.{is_free}
 use Rattle.lb_world.specs.Steps.{StepView}
 use Rattle.lb_world.specs.Steps as step
@@ -17,7 +17,7 @@ use Rattle.lb_world.specs.Quiet.{is_inert}
 use Rattle.lb_world.specs.Views.{WorkView, nothing, building, ready, PlaceView, EntryView, WorldView, changed, is_out, is_out_at, out_in, with_place, stage_holds}
 use Rattle.lb_world.specs.Sound.{IsSound}
 use Rattle.lb_world.specs.Stands.{Stands}
-use Rattle.lb_world.specs.Doings.{IsAt, AgreesAt, NoSlot, Same, StageKeeps, IsNotBuilding, IsNotReady, DidAsk, DidBuild, DidPublish, DidDestroy}
+use Rattle.lb_world.specs.Doings.{IsAt, AgreesAt, Same, StageKeeps, IsNotBuilding, IsNotReady, DidAsk, DidBuild, DidPublish, DidDestroy}
 use Rattle.lb_world.proofs.Places.{found}
 use Rattle.lb_world.proofs.EntrySteps.{set_here}
 use Rattle.lb_world.proofs.Effects.{IsPlaced, Effect, step_sound, step_stands, inert_stands}

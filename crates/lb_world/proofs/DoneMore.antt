@@ -1,33 +1,33 @@
 -- The world after a reader entered or left, after a selection, and after a group was made or updated: it is sound, and stands
 -- for the longer history.
 use Rattle.std.proofs.Common.{inl, inr, sym, ap, ◌∙◌, subst, arith, refl}
-use Rattle.std.specs.Prelude.{◌≡◌, ◌≢◌, ◌⊎◌, ℕ, ◌+◌, ◌-◌, ◌^◌, ◌<◌, ◌≤◌, Bool, true, false, ◌==◌, if◌then◌else◌, List, [], ◌∷◌, ◌++◌, length, count_by, Option, Some, None, Result, Ok, Err, slice_get, slice_set}
+use Rattle.std.specs.Prelude.{◌≡◌, ℕ, ◌-◌, ◌^◌, ◌<◌, ◌≤◌, false, ◌==◌, if◌then◌else◌, List, [], ◌∷◌, ◌++◌, length, count_by, Option, Some, None, Ok, Err, slice_get, slice_set}
 use Rattle.std.proofs.lemmas.List.Sums.{count_by-le-length}
 use Rattle.std.proofs.lemmas.Bool.{eq-eqb}
 use Rattle.lb_select.specs.Backends.{Member}
-use Rattle.lb_select.specs.Memberships.{set_of, same_members}
+use Rattle.lb_select.specs.Memberships.{set_of}
 use Rattle.lb_select.specs.declared.refusal.Refusal.{Refusal}
-use Rattle.lb_select.specs.declared.refusal.Refusal.TheVariants as refusal
 use Rattle.lb_rebuild.specs.Gate.{GateView}
 use Rattle.lb_rebuild.specs.Views.{StageView, free, flight, retired, taken_out, ReaderView, SlotView}
+use Rattle.lb_rebuild.specs.Calls.{entered_slot, left_slot}
 use Rattle.lb_rebuild.specs.Calls as calls
 use Rattle.lb_world.specs.Steps as step
 use Rattle.lb_world.specs.declared.answer.Answer.{Answer}
 use Rattle.lb_world.specs.declared.answer.Answer.TheVariants as answer
 use Rattle.lb_world.specs.Meanings.{Meaning}
 use Rattle.lb_world.specs.History.{History, Entered, reads, present}
-use Rattle.lb_world.specs.Answers.{Answers, has_refused, select_answer}
+use Rattle.lb_world.specs.Answers.{Answers, has_refused}
 use Rattle.lb_world.specs.Views.{WorkView, PlaceView, EntryView, WorldView, retired_readers, readers_at}
 use Rattle.lb_world.specs.Sound.{IsSound}
 use Rattle.lb_world.specs.Stands.{Stands}
 use Rattle.lb_world.specs.Doings.{IsAt, DidEnter, IsInside, DidLeave, fresh_entry, with_members, DidUpdate, DidSelect}
 use Rattle.lb_world.proofs.Places.{found}
-use Rattle.lb_world.proofs.Effects.{IsPlaced, Effect}
+use Rattle.lb_world.proofs.Effects.{IsPlaced}
 use Rattle.lb_world.proofs.KindFacts.{place_sound}
-use Rattle.lb_world.proofs.KindEnter.{entered_slot, reader_entered}
-use Rattle.lb_world.proofs.KindLeave.{left_slot, reader_left, reader_is_in}
+use Rattle.lb_world.proofs.KindEnter.{reader_entered}
+use Rattle.lb_world.proofs.KindLeave.{reader_left, reader_is_in}
 use Rattle.lb_world.proofs.KindSelect.{drawn_slot, selection_answered}
-use Rattle.lb_world.proofs.KindInert.{no_slot, no_slot_config, enter_no_such, select_no_slot, enter_full, enter_without_memory}
+use Rattle.lb_world.proofs.KindInert.{no_slot, no_slot_config, enter_no_such, select_no_slot, enter_without_memory}
 use Rattle.lb_world.proofs.GroupUpdated.{update_sound, update_stands}
 use Rattle.lb_world.proofs.GroupMade.{group_sound, group_stands}
 use Rattle.lb_world.proofs.MadeAnswers.{group_refusal, group_right, update_same, update_changed, update_memory, update_exhausted}

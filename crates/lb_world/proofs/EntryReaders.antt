@@ -1,5 +1,5 @@
 -- What readers that enter and leave make of an entry.
-use Rattle.std.specs.Prelude.{◌≡◌, ◌≢◌, ◌⊎◌, ◌<◌, ◌-◌, ◌^◌, ℕ, Bool, true, false, List, length, Option, Some, None, Result, Ok, Err, slice_get, slice_set, refl}
+use Rattle.std.specs.Prelude.{◌≡◌, ◌≢◌, ◌⊎◌, ◌-◌, ◌^◌, ℕ, Some, None, Result, Ok, Err, slice_get}
 use Rattle.std.specs.Option.{IsSomeAnd}
 use Rattle.std.proofs.Common.{sym, ap, ◌∙◌, inl, inr}
 use Rattle.std.proofs.lemmas.Option.{same_Some, none-some}
@@ -7,7 +7,7 @@ use Rattle.std.proofs.lemmas.Bool.Decides.{eqb_tells}
 use Rattle.lb_select.specs.declared.refusal.Refusal.{Refusal}
 use Rattle.lb_select.specs.declared.refusal.Refusal.TheVariants as refusal
 use Rattle.lb_rebuild.specs.Views.{ReaderView, SlotView, GroupView, with_slot}
-use Rattle.lb_rebuild.specs.Calls.{EnteredIn, enter_refusal, entered_slot, readers_at, left_slot}
+use Rattle.lb_rebuild.specs.Calls.{EnteredIn, enter_refusal, entered_slot, left_slot}
 use Rattle.lb_world.specs.Views.{WorkView, EntryView, with_place}
 use Rattle.lb_world.specs.Doings.{IsAt, AgreesAt, DidEnter, DidLeave}
 use Rattle.lb_world.proofs.Places.{there}

@@ -1,5 +1,5 @@
 -- What the calls on a group's core and on what is held make of an entry, as the steps at one slot say it.
-use Rattle.std.specs.Prelude.{◌≡◌, ◌⊎◌, ◌<◌, ◌≤◌, ℕ, Bool, true, false, not, ◌&&◌, List, [], ◌∷◌, zero, suc, length, Option, Some, None, IsSome, Result, Ok, Err, slice_get, slice_set, slice_index_or, refl}
+use Rattle.std.specs.Prelude.{◌≡◌, ◌⊎◌, ◌<◌, ℕ, true, false, List, [], ◌∷◌, zero, suc, length, Option, Some, None, Ok, Err, slice_get, slice_set, slice_index_or, refl}
 use Rattle.std.proofs.Common.{sym, ap, ◌∙◌, subst, inl, inr}
 use Rattle.std.proofs.lemmas.Option.{get_or_from_slice_get, slice_get_within, same_Some}
 use Rattle.std.proofs.lemmas.List.{set-get_or}
@@ -8,15 +8,14 @@ use Rattle.lb_world.proofs.Places.{found, there, get_same}
 use Rattle.lb_select.specs.Backends.{Member}
 use Rattle.lb_select.specs.declared.refusal.Refusal.{Refusal}
 use Rattle.lb_select.specs.declared.refusal.Refusal.TheVariants as refusal
-use Rattle.lb_rebuild.specs.Gate.{GateId, GateView, gate}
-use Rattle.lb_rebuild.specs.Views.{StageView, free, flight, retired, taken_out, OrderView, Task, RetiredView, SlotView, GroupView, with_slot, is_flying}
-use Rattle.lb_rebuild.specs.Calls.{is_free, is_flight_of, Asked, AskedAt, order_of, put_back, failed_slot, FailedIn, PublishedIn, StageRefuses, TakenIn, DestroyedIn, serving_of}
+use Rattle.lb_rebuild.specs.Gate.{GateView, gate}
+use Rattle.lb_rebuild.specs.Views.{StageView, free, flight, retired, taken_out, Task, RetiredView, SlotView, GroupView, with_slot}
+use Rattle.lb_rebuild.specs.Calls.{is_flight_of, Asked, order_of, put_back, failed_slot, FailedIn, PublishedIn, StageRefuses, TakenIn, DestroyedIn, serving_of}
 use Rattle.lb_rebuild.specs.declared.slot.Told.TheVariants as told
-use Rattle.lb_rebuild.specs.declared.slot.Ask.{Ask}
 use Rattle.lb_rebuild.specs.declared.slot.Ask.TheVariants as asks
-use Rattle.lb_world.specs.Views.{WorkView, nothing, building, ready, EntryView, with_place, flight_of}
+use Rattle.lb_world.specs.Views.{WorkView, nothing, building, ready, EntryView, flight_of}
 use Rattle.lb_world.specs.Sound.{WorkFits, TaskFits}
-use Rattle.lb_world.specs.Doings.{IsAt, AgreesAt, NoSlot, DidAsk, StageKeeps, DidBuild, DidPublish, DidDestroy, IsNotBuilding, IsNotReady, job_of}
+use Rattle.lb_world.specs.Doings.{IsAt, AgreesAt, DidAsk, StageKeeps, DidBuild, DidPublish, DidDestroy, IsNotBuilding, IsNotReady, job_of}
 use Rattle.lb_world.specs.declared.answer.Answer.TheVariants as answer
 
 -- what was there, written again, changes nothing

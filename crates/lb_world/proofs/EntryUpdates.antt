@@ -1,21 +1,20 @@
 -- What a new membership, and a selection, make of an entry.
-use Rattle.std.specs.Prelude.{◌≡◌, ◌≢◌, ◌⊎◌, ◌+◌, ◌<◌, ◌-◌, ◌^◌, ◌&&◌, nat_le, ℕ, Bool, true, false, MatchBool, List, length, Option, Some, None, Result, Ok, Err, slice_get, slice_set, refl}
-use Rattle.std.proofs.Common.{sym, ap, ◌∙◌, inl, inr}
+use Rattle.std.specs.Prelude.{◌≡◌, ◌<◌, ◌^◌, ◌&&◌, nat_le, ℕ, Bool, true, false, List, length, Option, Result, Ok, Err, refl}
+use Rattle.std.proofs.Common.{ap, ◌∙◌, inl, inr}
 use Rattle.std.proofs.lemmas.Bool.{cases_Bool, both_ways}
 use Rattle.lb_select.specs.Backends.{Member}
 use Rattle.lb_select.specs.Draws.{Draw}
 use Rattle.lb_select.specs.Memberships.{same_members}
 use Rattle.lb_select.specs.declared.refusal.Refusal.{Refusal}
-use Rattle.lb_select.specs.declared.refusal.Refusal.TheVariants as refusal
 use Rattle.lb_rebuild.specs.Views.{SlotView, GroupView, with_slot}
-use Rattle.lb_rebuild.specs.Groups.{ScheduledIn, ordered}
+use Rattle.lb_rebuild.specs.Groups.{ScheduledIn}
 use Rattle.lb_rebuild.specs.Selecting.{SelectedAt, SelectedIn, drawn_slot}
 use Rattle.lb_rebuild.specs.declared.schedule.Scheduled.{Scheduled}
-use Rattle.lb_world.specs.Views.{WorkView, EntryView, with_place}
+use Rattle.lb_world.specs.Views.{EntryView}
 use Rattle.lb_world.specs.Answers.{select_answer}
 use Rattle.lb_world.specs.Selecting.{SelectsServed}
 use Rattle.lb_world.specs.declared.answer.Answer.TheVariants as answer
-use Rattle.lb_world.specs.Doings.{IsAt, AgreesAt, DidUpdate, DidSelect}
+use Rattle.lb_world.specs.Doings.{AgreesAt, DidUpdate, DidSelect}
 use Rattle.lb_world.proofs.Places.{there}
 use Rattle.lb_world.proofs.EntrySteps.{placed}
 use Rattle.lb_world.proofs.EntryReaders.{slot_written}

@@ -1,5 +1,5 @@
 -- A selection from a slot that isn't there changes nothing.
-use Rattle.std.proofs.Common.{◌≡◌, inl, inr, ℕ, ◌+◌, Bool, true, false, ◌&&◌, ◌==◌, List, ◌∷◌, Option, Some, None, Result, refl, sym, ap, arith, ◌∙◌}
+use Rattle.std.proofs.Common.{◌≡◌, inl, inr, ℕ, true, false, ◌&&◌, ◌==◌, ◌∷◌, Option, Some, None, Result, refl, sym, ap, arith, ◌∙◌}
 use Rattle.std.proofs.lemmas.Bool.{and_right}
 use Rattle.std.proofs.lemmas.Bool.Decides.{eqb_tells}
 use Rattle.std.proofs.lemmas.Option.{none-some}
@@ -7,7 +7,7 @@ use Rattle.lb_select.specs.Backends.{Member}
 use Rattle.lb_select.specs.declared.refusal.Refusal.{Refusal}
 use Rattle.lb_world.specs.Steps as step
 use Rattle.lb_world.specs.Meanings.{Meaning}
-use Rattle.lb_world.specs.History.{History, names, config, config_in, newest_of, members_of, events, added, event_of, entries, grants, fails, destroys}
+use Rattle.lb_world.specs.History.{History, config, config_in, newest_of, members_of, events, entries, grants, fails, destroys}
 use Rattle.lb_world.specs.Quiet.{is_quiet}
 use Rattle.lb_world.specs.Answers.{Answers, Selection, Moved, HasDrawn, select_answer}
 use Rattle.lb_world.specs.Views.{WorldView}

@@ -6,7 +6,7 @@ use Rattle.lb_select.specs.Memberships.{same_members}
 use Rattle.lb_select.specs.declared.refusal.Refusal.{Refusal}
 use Rattle.lb_select.specs.declared.refusal.Refusal.TheVariants as refusal
 use Rattle.lb_rebuild.specs.Gate.{GateId, GateView, gate}
-use Rattle.lb_rebuild.specs.Views.{StageView, free, flight, retired, OrderView, Task, ServingView, ReaderView, SlotView, GroupView, is_flying}
+use Rattle.lb_rebuild.specs.Views.{StageView, free, flight, retired, OrderView, Task, ReaderView, SlotView, is_flying}
 use Rattle.lb_rebuild.specs.Calls.{is_free, put_back, serving_of, readers_at, left_slot}
 use Rattle.lb_rebuild.specs.Fresh.{fresh_group}
 use Rattle.lb_rebuild.specs.Groups.{ordered}
@@ -15,7 +15,7 @@ use Rattle.lb_world.specs.Answers.{select_answer}
 use Rattle.lb_world.specs.Selecting.{SelectsServed}
 use Rattle.lb_world.specs.declared.answer.Answer.{Answer}
 use Rattle.lb_world.specs.declared.answer.Answer.TheVariants as answer
-use Rattle.lb_world.specs.Views.{WorkView, nothing, building, ready, PlaceView, EntryView, with_place, task_of}
+use Rattle.lb_world.specs.Views.{WorkView, nothing, building, ready, EntryView, with_place}
 use Rattle.lb_world.specs.Sound.{WorkFits}
 
 -- why a retired selector isn't destroyed: none is there, or readers are left in it

@@ -1,5 +1,4 @@
-use Rattle.lb_world.specs.Doings.{AgreesAt}
-use Rattle.lb_world.proofs.EntrySteps.{asked_refused, asked_building, asked_nothing, asked_busy, asked_free, asked_job}
+use Rattle.lb_world.proofs.EntrySteps.{asked_building, asked_nothing, asked_busy, asked_free, asked_job}
 use Rattle.lb_world.proofs.entry.Entry.ask.Goals as goal
 
 pub hold-requires : goal.hold-requires

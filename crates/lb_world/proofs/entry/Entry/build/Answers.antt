@@ -1,6 +1,5 @@
-use Rattle.std.proofs.Common.{arith, ◌<◌, length, sym, ap, ◌∙◌, inl}
+use Rattle.std.proofs.Common.{arith, ◌<◌, length, ap, ◌∙◌, inl}
 use Rattle.lb_rebuild.specs.Views.{Task}
-use Rattle.lb_world.specs.Doings.{AgreesAt}
 use Rattle.lb_world.proofs.EntrySteps.{not_building, task_here, did_build, did_fail}
 use Rattle.lb_world.proofs.entry.Entry.build.Goals as goal
 

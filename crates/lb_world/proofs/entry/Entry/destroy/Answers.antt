@@ -1,4 +1,3 @@
-use Rattle.lb_world.specs.Doings.{AgreesAt}
 use Rattle.lb_world.proofs.EntrySteps.{did_not_destroy, did_destroy}
 use Rattle.lb_world.proofs.entry.Entry.destroy.Goals as goal
 

@@ -1,4 +1,3 @@
-use Rattle.lb_world.specs.Doings.{AgreesAt}
 use Rattle.lb_world.proofs.EntryReaders.{entered}
 use Rattle.lb_world.proofs.entry.Entry.enter.Goals as goal
 

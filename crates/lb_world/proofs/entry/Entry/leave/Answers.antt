@@ -1,4 +1,3 @@
-use Rattle.lb_world.specs.Doings.{AgreesAt}
 use Rattle.lb_world.proofs.EntryReaders.{did_leave}
 use Rattle.lb_world.proofs.entry.Entry.leave.Goals as goal
 

@@ -1,5 +1,4 @@
-use Rattle.std.proofs.Common.{arith, ◌<◌, length, sym, ap, ◌∙◌, inr}
-use Rattle.lb_world.specs.Doings.{AgreesAt}
+use Rattle.std.proofs.Common.{arith, ◌<◌, length, inr}
 use Rattle.lb_world.proofs.EntrySteps.{not_ready, task_here, task_slot, did_publish, not_abandoned}
 use Rattle.lb_world.proofs.entry.Entry.publish.Goals as goal
 

@@ -1,4 +1,3 @@
-use Rattle.lb_world.specs.Doings.{AgreesAt}
 use Rattle.lb_world.proofs.EntryUpdates.{did_select}
 use Rattle.lb_world.proofs.entry.Entry.select.Goals as goal
 
