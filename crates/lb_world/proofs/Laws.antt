@@ -82,7 +82,7 @@ module _ {C : Type 0} (M : Meaning C) where
   reads_exactly h (step.select g s key limit words) a right order = step_destroys M h (step.select g s key limit words) a right refl
 
   selects_first : (h : History C) (st : StepView C) (a : Answer) → Answers M h st a → InOrder h → FirstAccepted M h st a
-  selects_first h (step.select g s key limit words) a right order = λ r is. selection_first M h g s key limit words a r right is
+  selects_first h (step.select g s key limit words) a right order = selection_first M h g s key limit words a right
   selects_first h st a right order = tt
 
   -- The promises, in the order in which they are made.

@@ -4,6 +4,7 @@ use Rattle.std.specs.List.{range_with_len}
 use Rattle.lb_select.specs.Backends.{Member, same_member}
 use Rattle.lb_select.specs.Draws.{Draw, Gives}
 use Rattle.lb_select.specs.Unique.{distinct}
+use Rattle.lb_select.specs.declared.refusal.Refusal.{Refusal}
 use Rattle.lb_select.specs.declared.refusal.Refusal.TheVariants as refusal
 use Rattle.lb_rebuild.specs.Handed.{Handed, HandedGives}
 use Rattle.lb_world.specs.Steps.{StepView}
@@ -128,7 +129,8 @@ module _ {C : Type 0} (M : Meaning C) where
   -- what its slot serves, or none where there is no such backend, or no such slot.
   abbrev pub FirstAccepted : History C → StepView C → Answer → Type 0
   FirstAccepted h (step.select g s key limit words) a =
-      (r : Option Member) → a ≡ selected r
-      → MatchOption (config g s h) (r ≡ None)
-      (λ c. (t : ℕ) × HasDrawn M g s h t × IsFirstAccepted (M.walks (members g (served (events g s h)) h) c key) limit words t r)
+      ((e : Refusal) × (a ≡ answer.Refused e))
+      ⊎ ((r : Option Member) × (a ≡ selected r)
+      × MatchOption (config g s h) (r ≡ None)
+      (λ c. (t : ℕ) × HasDrawn M g s h t × IsFirstAccepted (M.walks (members g (served (events g s h)) h) c key) limit words t r))
   FirstAccepted h st a = Unit {0}
