@@ -44,6 +44,28 @@ impl<S: BackendSelection> Model for World<S> {
     ghost invariant = { λ w. IsFounded (meaning S.walks S.refusal S.may_draw_random) (world_view w) };
 }
 
+impl<S: BackendSelection> Drop for World<S> {
+    fn drop(self) {
+        let World {
+            alloc: _,
+            registries: _,
+            gates: _,
+            mut groups,
+            mut readers,
+        } = self;
+        while let Some(place) = readers.pop() {
+            if let Some(held) = place {
+                held.close();
+            }
+        }
+        readers.destroy_empty();
+        while let Some(entry) = groups.pop() {
+            entry.close();
+        }
+        groups.destroy_empty();
+    }
+}
+
 impl<S: BackendSelection> World<S> {
     /// A world without anything. It takes no memory.
     pub fn new(alloc: Global) -> Self
