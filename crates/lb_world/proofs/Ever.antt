@@ -1,5 +1,5 @@
 -- One extra at each gate, and generations in order, follow from what a sound world holds and what the history tells of it.
-use Rattle.std.proofs.Common.{◌≡◌, ◌⊎◌, inl, inr, ℕ, ◌+◌, ◌<◌, ◌≤◌, ◌==◌, cond, if◌then◌else◌, [], ◌∷◌, length, sym, ap, arith, ◌∙◌}
+use Rattle.std.proofs.Common.{◌≡◌, ◌⊎◌, inl, inr, ℕ, ◌+◌, ◌<◌, ◌≤◌, ◌==◌, if◌then◌else◌, [], ◌∷◌, length, sym, ap, arith, ◌∙◌}
 use Rattle.std.specs.Prelude.{Some, None, slice_get}
 use Rattle.std.proofs.lemmas.Option.{slice_get_within, slice_get_past, none-some}
 use Rattle.lb_rebuild.specs.Views.{StageView, free, flight as flying, retired, taken_out, SlotView, GroupView}
@@ -9,7 +9,7 @@ use Rattle.lb_world.specs.Meanings.{Meaning}
 use Rattle.lb_world.specs.History.{History, Made, made, config, config_in, registries, gates, groups, generations, newest, members, events, flight, ready, entries, is_on, count_on, grants, fails, destroys}
 use Rattle.lb_world.specs.Answers.{IsRun, HasDrawn}
 use Rattle.lb_world.specs.Views.{WorkView, nothing, building, ready as at_hand, EntryView, WorldView, is_out, flight_of, ready_of, slot_holds, work_holds, held_by, holders}
-use Rattle.lb_world.specs.Lawful.{Always, OneExtra, has_extra, extras_of, extras_on, ExtrasAre, InOrder}
+use Rattle.lb_world.specs.Lawful.{Always, OneExtra, extras_at, extras_of, extras_on, ExtrasAre, InOrder}
 use Rattle.lb_world.specs.Sound.{StageFits, WorkFits, IsSound}
 use Rattle.lb_world.specs.Stands.{SlotTells, Stands}
 use Rattle.lb_world.proofs.Held.{sum_index, sum_both, held_is}
@@ -82,14 +82,14 @@ module _ {C : Type 0} (M : Meaning C) where
             ]
       ]
 
-  -- the permits of a gate that a group holds are its slots that have an extra
+  -- the permits of a gate that a group holds are the extras of its slots
   group_held :
       (w : WorldView C) (h : History C) → IsSound w → Tells w h → (a g : ℕ) (e : EntryView C) → slice_get w.groups g ≡ Some e
       → held_by a e ≡ (if is_on a (made g h) then extras_of g h else 0)
   group_held w h sound tells a g e at_group =
       let m = tells.made_is g e at_group in
       let places =
-      sum_both slot_holds work_holds (λ s. cond (has_extra g s h) 1 0) e.core.slots e.works 0 (sound.works_in g e at_group)
+      sum_both slot_holds work_holds (λ s. extras_at g s h) e.core.slots e.works 0 (sound.works_in g e at_group)
       (λ i j x k same at_slot at_work.
       let there : i ≡ j = omega arith in
       let t = tells.slots_tell g e i x k at_group at_slot at_work in
@@ -97,7 +97,7 @@ module _ {C : Type 0} (M : Meaning C) where
       rw (← there) (rw (t.flies, t.retires) (held_is e.core i x k x.serving.generation e.core.newest f.fits f.agrees))) in
       rw (m.1, m.2, m.3) (ap (λ n. if e.gate == a then n else 0) places)
 
-  -- the extras of a gate are the permits that are held, and so the slots that have one
+  -- the extras of a gate are the permits that are held, and so those of the slots
   extras_held : (w : WorldView C) (h : History C) → IsSound w → Tells w h → ExtrasAre h
   extras_held w h sound tells a =
       let held =

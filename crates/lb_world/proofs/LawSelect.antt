@@ -1,37 +1,28 @@
 -- A selection that isn't refused answers the first accepted backend among the distinct of the first candidates.
 use Rattle.std.proofs.Common.{◌≡◌, inl, inr, ℕ, Bool, true, false, List, refl, sym, ◌∙◌, arith}
-use Rattle.std.specs.Prelude.{Option, Some, None, Result, Ok, Err, MatchOption, MatchBool}
+use Rattle.std.specs.Prelude.{Option, Some, None, Result, Ok, Err, MatchBool}
 use Rattle.lb_select.specs.Backends.{Member, same_member}
 use Rattle.lb_select.specs.Draws.{Draw}
 use Rattle.lb_select.specs.Selections.{IsAnswer, Selects}
 use Rattle.lb_select.specs.declared.refusal.Refusal.{Refusal}
+use Rattle.lb_select.specs.declared.refusal.Refusal.TheVariants as refusal
 use Rattle.lb_select.proofs.Laws.{first_accepted as first_found}
 use Rattle.lb_rebuild.specs.Handed.{Handed, HandedGives}
+use Rattle.lb_world.specs.Steps as step
 use Rattle.lb_world.specs.declared.answer.Answer.{Answer}
-use Rattle.lb_world.specs.declared.answer.Answer.TheVariants as answer
 use Rattle.lb_world.specs.Meanings.{Meaning}
+use Rattle.lb_world.specs.Selecting.{SelectsServed}
 use Rattle.lb_world.specs.History.{History, made, config, members, served, events}
 use Rattle.lb_world.specs.Answers.{SelectAnswers, HasDrawn, select_answer}
-use Rattle.lb_world.specs.Lawful.{accepted, selected, AreEnough, IsFirstAccepted}
+use Rattle.lb_world.specs.Lawful.{accepted, selected, AreEnough, IsFirstAccepted, FirstAccepted}
 use Rattle.lb_world.proofs.LawAnswers.{match_config}
 
-not_refused : (r : Option Member) (e : Refusal) → selected r ≡ answer.Refused e → ⊥
-not_refused None e is = cc
-not_refused (Some b) e is = cc
+-- what was found is what is answered
+found_answer : (r : Option Member) → select_answer (Ok r) ≡ selected r
+found_answer None = refl
+found_answer (Some b) = refl
 
-none_selected : (r : Option Member) → selected r ≡ answer.NoBackend → r ≡ None
-none_selected None is = refl
-none_selected (Some b) is = absurd (cc)
-
--- an answer of a selection that isn't refused is of what was found
-was_found : (r : Result (Option Member) Refusal) (o : Option Member) → select_answer r ≡ selected o → r ≡ Ok o
-was_found (Ok None) None e = refl
-was_found (Ok None) (Some b) e = absurd (cc)
-was_found (Ok (Some b)) None e = absurd (cc)
-was_found (Ok (Some b)) (Some c) e = cc
-was_found (Err r) None e = absurd (cc)
-was_found (Err r) (Some b) e = absurd (cc)
-
+-- what was drawn suffices for the answer
 enough_drawn : (limit : ℕ) (cs : List Member) (ended : Bool) (r : Option Member)
     → IsAnswer same_member (λ b a. a ≡ true) limit cs ended r → AreEnough limit cs ended r
 enough_drawn limit cs ended None answered = elim answered.1 [ inl more ↦ inl (omega arith) | inr over ↦ inr over.0 ]
@@ -61,19 +52,23 @@ found_first walks false limit words t r A u h =
     }
 
 module _ {C : Type 0} (M : Meaning C) where
+  -- a selection from what the slot serves
+  served_first :
+      (h : History C) (g s : ℕ) (key : List ℕ) (limit : ℕ) (words : List ℕ) (a : Answer) (c : C) (t u : ℕ) (r : Result (Option Member) Refusal)
+      → config g s h ≡ Some c → HasDrawn M g s h t → a ≡ select_answer r
+      → SelectsServed (M.walks (members g (served (events g s h)) h) c key) (M.random (members g (served (events g s h)) h) c) limit words t r u
+      → FirstAccepted M h (step.select g s key limit words) a
+  served_first h g s key limit words a c t u (Err e) there drawn is gave = inl (e, is)
+  served_first h g s key limit words a c t u (Ok r) there drawn is gave =
+      inr (r, is ∙ found_answer r, rw there (t, drawn, found_first _ _ limit words t r _ u gave))
+
   pub selection_first :
-      (h : History C) (g s : ℕ) (key : List ℕ) (limit : ℕ) (words : List ℕ) (a : Answer) (r : Option Member)
-      → SelectAnswers M h g s (record { key = key; limit = limit; words = words }) a → a ≡ selected r
-      → MatchOption (config g s h) (r ≡ None)
-      (λ c. (t : ℕ) × HasDrawn M g s h t × IsFirstAccepted (M.walks (members g (served (events g s h)) h) c key) limit words t r)
-  selection_first h g s key limit words a r right is =
+      (h : History C) (g s : ℕ) (key : List ℕ) (limit : ℕ) (words : List ℕ) (a : Answer)
+      → SelectAnswers M h g s (record { key = key; limit = limit; words = words }) a → FirstAccepted M h (step.select g s key limit words) a
+  selection_first h g s key limit words a right =
       elim (match_config (made g h) s _ _ _ right) [
-        | inl none ↦
-            rw none.0
-            (elim none.1 [ inl e ↦ absurd (not_refused r _ (sym is ∙ e)) | inr e ↦ none_selected r (sym is ∙ e) ])
+        | inl none ↦ elim none.1 [ inl e ↦ inl (refusal.NoSuch, e) | inr e ↦ inr (None, e, rw none.0) ]
         | inr some ↦
             let found = some.2.3 in
-            let gave = was_found found.0 r (sym found.1 ∙ is) in
-            rw some.1
-            (some.2.0, some.2.2, found_first _ _ limit words some.2.0 r _ some.2.1 (rw gave at found.2))
+            served_first h g s key limit words a some.0 some.2.0 some.2.1 found.0 some.1 some.2.2 found.1 found.2
       ]

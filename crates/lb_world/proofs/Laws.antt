@@ -82,7 +82,7 @@ module _ {C : Type 0} (M : Meaning C) where
   reads_exactly h (step.select g s key limit words) a right order = step_destroys M h (step.select g s key limit words) a right refl
 
   selects_first : (h : History C) (st : StepView C) (a : Answer) → Answers M h st a → InOrder h → FirstAccepted M h st a
-  selects_first h (step.select g s key limit words) a right order = λ r is. selection_first M h g s key limit words a r right is
+  selects_first h (step.select g s key limit words) a right order = selection_first M h g s key limit words a right
   selects_first h st a right order = tt
 
   -- The promises, in the order in which they are made.
@@ -107,7 +107,7 @@ module _ {C : Type 0} (M : Meaning C) where
   pub one_extra : (w : WorldView C) (h : History C) → Stands M w h → Always OneExtra h
   one_extra w h stands = stands.extras_ever
 
-  -- and its extras are the slots of its groups with a build in flight or a retired selector that isn't reported destroyed
+  -- and its extras are the builds in flight and the retired selectors, not yet reported destroyed, in the slots of its groups
   pub extras_are : (w : WorldView C) (h : History C) → Stands M w h → Always ExtrasAre h
   extras_are w h stands = always_map InOrder ExtrasAre (λ b order. order.extras_in) h stands.order_ever
 

@@ -1,9 +1,10 @@
 -- What holds of a history after every step, in the words of the promises.
-use Rattle.std.specs.Prelude.{◌≡◌, ◌<◌, ◌≤◌, ◌==◌, ◌⊎◌, ◌||◌, ℕ, Bool, true, max, List, [], ◌∷◌, ◌++◌, length, take, sum_by, count_by, find, Option, Some, None, is_some, MatchOption, if◌then◌else◌}
+use Rattle.std.specs.Prelude.{◌≡◌, ◌<◌, ◌≤◌, ◌==◌, ◌+◌, ◌⊎◌, ℕ, Bool, true, max, List, [], ◌∷◌, ◌++◌, length, take, sum_by, find, Option, Some, None, is_some, MatchOption, if◌then◌else◌}
 use Rattle.std.specs.List.{range_with_len}
 use Rattle.lb_select.specs.Backends.{Member, same_member}
 use Rattle.lb_select.specs.Draws.{Draw, Gives}
 use Rattle.lb_select.specs.Unique.{distinct}
+use Rattle.lb_select.specs.declared.refusal.Refusal.{Refusal}
 use Rattle.lb_select.specs.declared.refusal.Refusal.TheVariants as refusal
 use Rattle.lb_rebuild.specs.Handed.{Handed, HandedGives}
 use Rattle.lb_world.specs.Steps.{StepView}
@@ -11,7 +12,7 @@ use Rattle.lb_world.specs.Steps as step
 use Rattle.lb_world.specs.declared.answer.Answer.{Answer}
 use Rattle.lb_world.specs.declared.answer.Answer.TheVariants as answer
 use Rattle.lb_world.specs.Meanings.{Meaning}
-use Rattle.lb_world.specs.History.{History, names, made, config, served, flight, ready, retired, events, newest, members, gates, groups, is_on, readers_in, extras}
+use Rattle.lb_world.specs.History.{History, names, made, config, served, flight, ready, retired, events, newest, members, gates, groups, is_on, bit, readers_in, extras}
 use Rattle.lb_world.specs.Answers.{gate_number, slots_of, HasDrawn}
 
 -- a number, or 0 where there is none
@@ -35,24 +36,24 @@ module _ {C : Type 0} where
   abbrev pub OneExtra : History C → Type 0
   OneExtra h = (a : ℕ) → a < gates h → extras a h ≤ 1
 
-  -- whether a slot has a build in flight, built or not, or a retired selector that isn't reported destroyed
-  abbrev pub has_extra : ℕ → ℕ → History C → Bool
-  has_extra g s h = is_some (flight (events g s h)) || is_some (retired (events g s h))
+  -- how many a slot has: its build in flight, built or not, and its retired selector that isn't reported destroyed
+  abbrev pub extras_at : ℕ → ℕ → History C → ℕ
+  extras_at g s h = bit (is_some (flight (events g s h))) + bit (is_some (retired (events g s h)))
 
-  -- how many slots of a group have one
+  -- how many the slots of a group have
   abbrev pub extras_of : ℕ → History C → ℕ
-  extras_of g h = count_by (λ s. has_extra g s h) (range_with_len 0 (slots_of (made g h)))
+  extras_of g h = sum_by (λ s. extras_at g s h) (range_with_len 0 (slots_of (made g h)))
 
-  -- how many slots of all groups on a gate have one
+  -- how many the slots of all groups on a gate have
   abbrev pub extras_on : ℕ → History C → ℕ
   extras_on a h = sum_by (λ g. if is_on a (made g h) then extras_of g h else 0) (range_with_len 0 (groups h))
 
-  -- the extras of each gate are the slots of its groups that have one
+  -- the extras of each gate are those that the slots of its groups have
   abbrev pub ExtrasAre : History C → Type 0
   ExtrasAre h = (a : ℕ) → extras a h ≡ extras_on a h
 
   -- no slot serves past the newest generation, what is in flight is later than what is served, what is built and not yet
-  -- published is in flight, and the extras are where they are counted
+  -- published is in flight, and the extras are those of the slots
   pub record InOrder (h : History C) : Type 0 where
     pub served_in : (g s : ℕ) → served (events g s h) ≤ newest g h
     pub flight_in : (g s n : ℕ) → flight (events g s h) ≡ Some n → (served (events g s h) < n) × (n ≤ newest g h)
@@ -128,7 +129,8 @@ module _ {C : Type 0} (M : Meaning C) where
   -- what its slot serves, or none where there is no such backend, or no such slot.
   abbrev pub FirstAccepted : History C → StepView C → Answer → Type 0
   FirstAccepted h (step.select g s key limit words) a =
-      (r : Option Member) → a ≡ selected r
-      → MatchOption (config g s h) (r ≡ None)
-      (λ c. (t : ℕ) × HasDrawn M g s h t × IsFirstAccepted (M.walks (members g (served (events g s h)) h) c key) limit words t r)
+      ((e : Refusal) × (a ≡ answer.Refused e))
+      ⊎ ((r : Option Member) × (a ≡ selected r)
+      × MatchOption (config g s h) (r ≡ None)
+      (λ c. (t : ℕ) × HasDrawn M g s h t × IsFirstAccepted (M.walks (members g (served (events g s h)) h) c key) limit words t r))
   FirstAccepted h st a = Unit {0}
