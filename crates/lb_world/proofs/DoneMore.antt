@@ -84,11 +84,17 @@ module _ {C : Type 0} (M : Meaning C) where
       × Stands M
       (record w { groups = slice_set w.groups g e2; readers = w.readers ++ Some (record { group = g; slot = r.slot; generation = r.generation }) ∷ [] })
       ((step.enter g s, answer.Reader (length w.readers)) ∷ h)
-  enter_done w h g s e r e2 sound stands at_group numbers (x, k, at, room, slot_is, generation_is, made) =
+  enter_done w h g s e r e2 sound stands at_group numbers (x, k, at, room, reader_is, made) =
       let placed = placed_at w g s e x k at_group at in
       let effect = reader_entered M w h g s e x k sound stands placed room numbers in
       let done = effect_entry M w h g s e e2 _ (record { slot = entered_slot x; work = k }) _ _ _ sound stands placed effect made in
-      rw (slot_is, generation_is) done
+      subst
+      (λ (v : ReaderView C).
+      IsSound (record w { groups = slice_set w.groups g e2; readers = w.readers ++ Some (record { group = g; slot = v.slot; generation = v.generation }) ∷ [] })
+      × Stands M
+      (record w { groups = slice_set w.groups g e2; readers = w.readers ++ Some (record { group = g; slot = v.slot; generation = v.generation }) ∷ [] })
+      ((step.enter g s, answer.Reader (length w.readers)) ∷ h))
+      (sym reader_is) done
 
   -- an entry that no reader entered
   pub enter_refused :

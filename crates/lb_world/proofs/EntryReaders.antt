@@ -31,8 +31,7 @@ module _ {C : Type 0} where
         p.0,
         p.1,
         room,
-        ap (λ (v : ReaderView C). v.slot) reader_is,
-        ap (λ (v : ReaderView C). v.generation) reader_is,
+        reader_is,
         slot_written e s x (entered_slot x) p.0 core p.1 made,
       )
 

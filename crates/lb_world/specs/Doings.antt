@@ -7,7 +7,7 @@ use Rattle.lb_select.specs.declared.refusal.Refusal.{Refusal}
 use Rattle.lb_select.specs.declared.refusal.Refusal.TheVariants as refusal
 use Rattle.lb_rebuild.specs.Gate.{GateId, GateView, gate}
 use Rattle.lb_rebuild.specs.Views.{StageView, free, flight, retired, OrderView, Task, ReaderView, SlotView, is_flying}
-use Rattle.lb_rebuild.specs.Calls.{is_free, put_back, serving_of, readers_at, left_slot}
+use Rattle.lb_rebuild.specs.Calls.{is_free, put_back, serving_of, reader_of, readers_at, left_slot}
 use Rattle.lb_rebuild.specs.Fresh.{fresh_group}
 use Rattle.lb_rebuild.specs.Groups.{ordered}
 use Rattle.lb_rebuild.specs.Selecting.{drawn_slot}
@@ -111,7 +111,7 @@ module _ {C : Type 0} where
   abbrev pub DidEnter : EntryView C → ℕ → Result (ReaderView C) Refusal → EntryView C → Type 0
   DidEnter e s (Ok r) e' =
       (x : SlotView C) × (k : WorkView C) × IsAt e s x k
-      × (x.readers < 2 ^ 64 - 1) × (r.slot ≡ s) × (r.generation ≡ x.serving.generation)
+      × (x.readers < 2 ^ 64 - 1) × (r ≡ reader_of s x)
       × (e' ≡ with_place e s (record { slot = record x { readers = x.readers + 1 }; work = k }))
   DidEnter e s (Err r) e' =
       (NoSlot e s r
