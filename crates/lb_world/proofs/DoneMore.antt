@@ -47,7 +47,7 @@ same_readers x n = ap (λ v. if x.serving.generation == n then x.readers else v)
 
 module _ {C : Type 0} where
   -- a slot has no more readers than there ever were
-  readers_within :
+  pub readers_within :
       (w : WorldView C) (g s : ℕ) (e : EntryView C) (p : PlaceView C)
       → IsSound w → IsPlaced w g s e p → p.slot.readers ≤ length w.readers
   readers_within w g s e p sound placed =
@@ -58,7 +58,7 @@ module _ {C : Type 0} where
       omega arith
 
   -- the place of an entry that is there
-  place_of :
+  pub place_of :
       (w : WorldView C) (g s : ℕ) (e : EntryView C) → IsSound w → slice_get w.groups g ≡ Some e → s < length e.core.slots
       → (x : SlotView C) × (k : WorkView C) × IsAt e s x k
   place_of w g s e sound at_group within =

@@ -7,6 +7,7 @@ pub mod EntrySteps
 pub mod EntryUpdates
 pub mod Ever
 pub mod Founding
+pub mod FoundingMore
 pub mod Frames
 pub mod GroupMade
 pub mod GroupUpdated

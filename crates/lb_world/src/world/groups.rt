@@ -31,9 +31,9 @@ impl<S: BackendSelection> World<S> {
         }
         let number = self.groups.len() as u64;
         let at = gate as usize;
-        if self.groups.reserve(1).is_err() {
+        let Ok(()) = self.groups.reserve(1) else {
             return Answer::Refused(Refusal::OutOfMemory);
-        }
+        };
         match Entry::new(self.alloc, registry, at, &self.gates[at], configs) {
             Ok(entry) => {
                 self.groups.push_reserved(entry);

@@ -26,9 +26,9 @@ impl<S: BackendSelection> World<S> {
         if slot as usize >= entry.slot_count() {
             return Answer::Refused(Refusal::NoSuch);
         }
-        if self.readers.reserve(1).is_err() {
+        let Ok(()) = self.readers.reserve(1) else {
             return Answer::Refused(Refusal::OutOfMemory);
-        }
+        };
         match entry.enter(slot as usize) {
             Ok(reader) => {
                 let held = Held {

@@ -1,22 +1,33 @@
-use Rattle.std.proofs.Common.{rules, ◌≡◌, ◌∷◌, ℕ, ◌+◌, ◌-◌, ◌*◌, ◌<◌, ◌≤◌, length, ◌/◌, ◌%◌, Bool, true, false, nat_eq, nat_lt, List, [], ◌++◌, slice_index_or, slice_set, bit_and, bit_or, Fits, w8, w32, w64, Bor, MutBor}
-use Rattle.lb_world.specs.History.{History}
-use Rattle.lb_world.specs.Meanings.{meaning}
-use Rattle.lb_world.specs.Steps as seen
-use Rattle.lb_world.specs.Stands.{Stands}
+use Rattle.std.proofs.Common.{◌<◌, length, arith}
+use Rattle.lb_world.specs.Founded.{world_view}
+use Rattle.lb_world.proofs.Founding.{at_index, founded_next}
+use Rattle.lb_world.proofs.FoundingMore.{select_nowhere}
+use Rattle.lb_world.proofs.Done.{agrees_of}
+use Rattle.lb_world.proofs.DoneMore.{select_done}
 use Rattle.lb_world.proofs.world.World.select.Goals as goal
 
--- src/world/readers.rt:75:13
 pub returns-then-group-len : goal.returns-then-group-len
-returns-then-group-len g c = ?
+returns-then-group-len g c =
+    rw (← c.self.view_is)
+    (λ h stands. select_nowhere _ (world_view c.self.inside) h c.args.group c.args.slot c.args.key.items c.args.limit c.args.words.items c.self.invariant.sound stands (omega arith))
 
--- src/world/readers.rt:79:9
 pub select-requires : goal.select-requires
-select-requires g c = ?
+select-requires g c =
+    let l : c.args.group < length c.self.inside.groups.items = omega arith in
+    let at_group = at_index _ _ _ l c.index_mut-entry.ensures.value in
+    record { agrees = agrees_of (world_view c.self.inside) _ _ c.self.invariant.sound at_group }
 
--- src/world/readers.rt:63:5
 pub invariant_of-self : goal.invariant_of-self
-invariant_of-self g c = ?
+invariant_of-self g c =
+    let l : c.args.group < length c.self.inside.groups.items = omega arith in
+    let at_group = at_index _ _ _ l c.index_mut-entry.ensures.value in
+    founded_next _ (world_view c.self.inside) _ _ _ c.self.invariant
+    (λ h stands. select_done _ (world_view c.self.inside) h c.args.group c.args.slot _ c.args.limit _ _ _ _ c.self.invariant.sound stands at_group c.select.ensures)
 
--- src/world/readers.rt:63:5
 pub returns : goal.returns
-returns g c = ?
+returns g c =
+    let l : c.args.group < length c.self.inside.groups.items = omega arith in
+    let at_group = at_index _ _ _ l c.index_mut-entry.ensures.value in
+    rw (← c.self.view_is)
+    (λ h stands.
+    (select_done _ (world_view c.self.inside) h c.args.group c.args.slot _ c.args.limit _ _ _ _ c.self.invariant.sound stands at_group c.select.ensures).1)
