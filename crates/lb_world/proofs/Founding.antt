@@ -46,10 +46,11 @@ module _ {C : Type 0} (M : Meaning C) where
       → Told w (record w { registries = n }) (step.registry key) (answer.Registry number)
   registry_told w n number key sound more last h stands =
       subst (λ m. IsSound (record w { registries = m }) × Stands M (record w { registries = m }) ((step.registry key, answer.Registry number) ∷ h))
-      (sym more)
-      (registry_sound w sound,
-      subst (λ m. Stands M (record w { registries = w.registries + 1 }) ((step.registry key, answer.Registry m) ∷ h)) (sym last)
-      (registry_stands M w h key sound stands))
+      (sym more) (
+        registry_sound w sound,
+        subst (λ m. Stands M (record w { registries = w.registries + 1 }) ((step.registry key, answer.Registry m) ∷ h)) (sym last)
+            (registry_stands M w h key sound stands),
+      )
 
   pub gate_told :
       (w : WorldView C) (z : GateView) (gates : List GateView) (number : ℕ)
@@ -58,10 +59,11 @@ module _ {C : Type 0} (M : Meaning C) where
   gate_told w z gates number sound home made last h stands =
       let is_fresh : z ≡ gate z.id false = ap (gate z.id) home in
       subst (λ zs. IsSound (record w { gates = zs }) × Stands M (record w { gates = zs }) ((step.gate, answer.Gate number) ∷ h))
-      (sym (made ∙ ap (λ y. w.gates ++ y ∷ []) is_fresh))
-      (gate_sound w z.id sound,
-      subst (λ m. Stands M (record w { gates = w.gates ++ gate z.id false ∷ [] }) ((step.gate, answer.Gate m) ∷ h)) (sym last)
-      (gate_stands M w h z.id sound stands))
+      (sym (made ∙ ap (λ y. w.gates ++ y ∷ []) is_fresh)) (
+        gate_sound w z.id sound,
+        subst (λ m. Stands M (record w { gates = w.gates ++ gate z.id false ∷ [] }) ((step.gate, answer.Gate m) ∷ h)) (sym last)
+            (gate_stands M w h z.id sound stands),
+      )
 
   pub registry_refused :
       (w : WorldView C) (h : History C) (key : HealthKey) → IsSound w → Stands M w h
