@@ -15,7 +15,7 @@ use Rattle.lb_world.specs.Views.{WorkView, EntryView, WorldView}
 use Rattle.lb_world.specs.Sound.{IsSound}
 use Rattle.lb_world.specs.Stands.{Stands}
 use Rattle.lb_world.proofs.Effects.{inert_stands}
-use Rattle.lb_world.proofs.KindInert.{no_group, no_slot_config, enter_no_such, leave_no_such, select_no_group, enter_without_memory}
+use Rattle.lb_world.proofs.KindInert.{no_group, no_slot_config, enter_no_such, enter_full, leave_no_such, select_no_group, enter_without_memory}
 use Rattle.lb_world.proofs.SelectAbsent.{absent_stands}
 use Rattle.lb_world.specs.Doings.{DidEnter, DidLeave}
 use Rattle.lb_world.proofs.EntrySteps.{set_here}
@@ -168,3 +168,14 @@ module _ {C : Type 0} (M : Meaning C) where
             ((step.enter g s, answer.Reader n) ∷ h))
             (sym last) (enter_done M w h g s e r e2 sound stands at_group numbers did)
       )
+
+  -- no number is left for a reader; the group is as it was
+  pub enter_full_here :
+      (w : WorldView C) (h : History C) (g s : ℕ) (e : EntryView C) → IsSound w → Stands M w h → slice_get w.groups g ≡ Some e
+      → s < length e.core.slots → 2 ^ 64 - 1 ≤ length w.readers
+      → Stands M (with_entry w g e) ((step.enter g s, answer.Refused refusal.NumbersExhausted) ∷ h)
+  enter_full_here w h g s e sound stands at_group within full =
+      let p = place_of w g s e sound at_group within in
+      let placed = placed_at w g s e p.0 p.1 at_group p.2 in
+      subst (λ v. Stands M v ((step.enter g s, answer.Refused refusal.NumbersExhausted) ∷ h)) (sym (entry_here w g e e at_group refl))
+      (inert_stands M w h _ _ sound stands (enter_full M w h g s e _ sound stands placed (inr full)) refl refl)

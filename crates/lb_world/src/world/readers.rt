@@ -26,6 +26,9 @@ impl<S: BackendSelection> World<S> {
         if slot as usize >= entry.slot_count() {
             return Answer::Refused(Refusal::NoSuch);
         }
+        if number == u64::MAX {
+            return Answer::Refused(Refusal::NumbersExhausted);
+        }
         let Ok(()) = self.readers.reserve(1) else {
             return Answer::Refused(Refusal::OutOfMemory);
         };
