@@ -137,7 +137,7 @@ impl<S: BackendSelection> Built<S> {
     }
 }
 
-/// A job whose build was refused, and why.
+/// A job whose build was refused, and the refusal. The job goes back to its group as failed.
 pub struct FailedBuild<S: BackendSelection> {
     pub job: Job<S>,
     pub refusal: Refusal,

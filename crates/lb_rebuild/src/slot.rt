@@ -58,7 +58,8 @@ impl<S: BackendSelection> Model for Retired<S> {
     ghost view = { λ r. record { slot = r.slot; generation = r.serving.generation; readers = r.readers; permit = r.permit } };
 }
 
-// What stands in a slot beside what it serves.
+// What stands in a slot beside what it serves, each with its generation. A build in flight is on its way from the slot's job
+// to its publication; what was taken out is on its way to the report of its destruction.
 pub(crate) enum Stage<S: BackendSelection> {
     Free,
     Flight(u64),
@@ -66,7 +67,8 @@ pub(crate) enum Stage<S: BackendSelection> {
     TakenOut(u64),
 }
 
-// A slot. Its order waits for a permit.
+// A slot: what it is configured with, what it serves and to how many readers, the order that waits for a permit, and what else
+// stands in it.
 pub(crate) struct Slot<S: BackendSelection> {
     pub(crate) config: Arc<S::Config>,
     pub(crate) serving: Serving<S>,
@@ -112,7 +114,7 @@ impl<S: BackendSelection> Model for Reader<S> {
 pub enum Ask<S: BackendSelection> {
     /// A build of the slot is in flight.
     Building,
-    /// The slot serves the newest generation.
+    /// No order waits in the slot: it serves the newest generation.
     Nothing,
     /// The gate's permit is out, or the slot still has a selector that is not reported destroyed.
     Busy,
