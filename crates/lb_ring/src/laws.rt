@@ -13,8 +13,7 @@ pub fn check_value_law()
 /// Whom a ring of points tells as the owner of a candidate is the owner by the points that the ring was made of.
 pub fn ring_law()
     ensures { RingLaw }
-{
-}
+{}
 
 /// The chain of CRCs that the selector uses is a chain for which the laws hold.
 pub fn chain_law()
