@@ -12,8 +12,8 @@ use Rattle.std.specs.declared.cmp.Ordering.TheVariants.{Less, Equal, Greater}
 use Rattle.std.specs.Ordering.{is_lt, ordering_reverse}
 use Rattle.lb_select.specs.Backends.{Address, address_cmp}
 use Rattle.lb_select.specs.Identity.{address_same}
-use Rattle.lb_ring.specs.Circle.{IsPoint, IsPointOf, IsRingOwner}
-use Rattle.lb_ring.specs.Rings.{Given, IsRingOf}
+use Rattle.lb_ring.specs.Circle.{IsExactly, IsNearer, IsPoint, IsPointOf, IsRingOwner}
+use Rattle.lb_ring.specs.Rings.{Given, IsRingOf, RingLaw}
 use Rattle.lb_ring.specs.Sorted.{Rises, none, more, point_of, turned, IsArranged, SplitsAt, IsInOrder}
 use Rattle.lb_ring.proofs.Lists.{here, there, head_or_rest, nothing_in_none, first_below, rest_rises, one_at, turned_below}
 use Rattle.lb_ring.proofs.Ranks.{point_of_candidate}
@@ -148,3 +148,21 @@ module _ {T : Type 0} (see : T → Address) where
           subst (λ (z : ℕ × Address). Contains (map seen kept) z) (pair_same (seen k.0) p a (k.2 ∙ e.2) (sym (neither_below a (see k.0.1) up down))) (in_map seen kept k.0 k.1)),
     );
   }
+
+-- numbers of one property are as many as those of another that says the same
+exact_same : (P Q : ℕ → Type 0) → ((q : ℕ) → P q → Q q) → ((q : ℕ) → Q q → P q) → (n : ℕ) → IsExactly P n → IsExactly Q n
+exact_same P Q to from n (xs, l, e) = (xs, record { once = l.once; all = λ q h. l.all q (from q h); only = λ q m. to q (l.only q m) }, e)
+
+pub ring_law : RingLaw
+ring_law given ring h place j a (p, x, o) =
+    let to : (q : ℕ) → IsPoint (Given ring) q → IsPoint (Given given) q = λ q m. (h.points q).0 m in
+    let from : (q : ℕ) → IsPoint (Given given) q → IsPoint (Given ring) q = λ q m. (h.points q).1 m in (
+      p,
+      record {
+        point = to p x.point;
+        number = x.number;
+        points = exact_same (IsPoint (Given ring)) (IsPoint (Given given)) to from x.number x.points;
+        nearer = exact_same (IsNearer (Given ring) place p) (IsNearer (Given given) place p) (λ q m. (to q m.0, m.1)) (λ q m. (from q m.0, m.1)) (j % x.number) x.nearer;
+      },
+      (h.owners p a).0 o.has_it,
+    )

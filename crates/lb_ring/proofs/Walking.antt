@@ -1,5 +1,5 @@
 -- A walk over a built selector gives the candidates of its key, one point after another.
-use Rattle.std.proofs.Common.{◌≡◌, ℕ, zero, suc, ◌+◌, ◌-◌, ◌*◌, ◌/◌, ◌%◌, ◌^◌, ◌<◌, ◌≤◌, inl, inr, nat_lt, cond, List, [], ◌∷◌, length, get_or, refl, sym, ap, subst, ◌∙◌, arith, add-zero, zero-add}
+use Rattle.std.proofs.Common.{◌≡◌, ℕ, zero, suc, ◌+◌, ◌-◌, ◌*◌, ◌/◌, ◌%◌, ◌^◌, ◌<◌, ◌≤◌, inl, inr, nat_lt, cond, List, [], ◌∷◌, length, get_or, sym, ap, subst, ◌∙◌, arith, add-zero, zero-add}
 use Rattle.std.specs.Prelude.{Some, None, Option, slice_get, option_and_then, MatchOption}
 use Rattle.std.specs.Borrow.{Bor}
 use Rattle.std.specs.Option.{option_copied}
@@ -13,7 +13,7 @@ use Rattle.lb_ring.specs.Chains.{crc_chain}
 use Rattle.lb_ring.specs.Choices.{HasPoint, IsRingCandidate}
 use Rattle.lb_ring.specs.Circle.{IsPoint, IsPointOf}
 use Rattle.lb_ring.specs.Crc.{crc}
-use Rattle.lb_ring.specs.Placed.{Placed, IsPlaced, member_at, index_here, member_here, YieldsFrom, IsMove, IsStart}
+use Rattle.lb_ring.specs.Placed.{Placed, IsPlaced, member_at, index_here, member_here, YieldsFrom, IsStart}
 use Rattle.lb_ring.specs.Sorted.{turned, SplitsAt}
 use Rattle.lb_ring.proofs.Lists.{nothing_in_none, less_tells}
 use Rattle.lb_ring.proofs.Owners.{candidate_at}

@@ -4,7 +4,7 @@ use Rattle.std.specs.List.{Contains}
 use Rattle.lb_select.specs.Backends.{Address}
 use Rattle.lb_select.specs.Seen.{address_seen}
 use Rattle.lb_select.specs.declared.backend.SocketAddr.{SocketAddr}
-use Rattle.lb_ring.specs.Circle.{IsPoint, IsOwner}
+use Rattle.lb_ring.specs.Circle.{IsPoint, IsOwner, IsRingOwner}
 
 -- points with their addresses
 abbrev pub points_seen : List (ℕ × SocketAddr) → List (ℕ × Address)
@@ -18,3 +18,9 @@ Given es p a = Contains es (p, a)
 pub record IsRingOf (given ring : List (ℕ × Address)) : Type 0 where
   pub points : (p : ℕ) → IsPoint (Given ring) p ↔ IsPoint (Given given) p
   pub owners : (p : ℕ) (a : Address) → Contains ring (p, a) ↔ IsOwner (Given given) p a
+
+-- whom a ring tells as the owner of a candidate is the owner by the points that were given
+abbrev pub RingLaw : Type 0
+RingLaw =
+    (given ring : List (ℕ × Address)) → IsRingOf given ring → (place j : ℕ) (a : Address) → IsRingOwner (Given ring) place j a
+    → IsRingOwner (Given given) place j a

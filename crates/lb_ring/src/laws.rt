@@ -2,11 +2,17 @@
 //! contract holds of every set of backends and every key.
 ghost use Rattle.std.specs.Prelude.{◌≡◌, codes};
 ghost use Rattle.lb_ring.specs.Crc.{crc};
+ghost use Rattle.lb_ring.specs.Rings.{RingLaw};
 ghost use Rattle.lb_ring.specs.Removal.{ChainLaw, RemovalLaw, AdditionLaw, RaisingLaw, OneCandidateLaw, CoverageLaw};
 
 /// CRC-32 gives the check value of its standard for the text `123456789`.
 pub fn check_value_law()
     ensures { crc (codes "123456789") ≡ 0xcbf43926 }
+{}
+
+/// Whom a ring of points tells as the owner of a candidate is the owner by the points that the ring was made of.
+pub fn ring_law()
+    ensures { RingLaw }
 {}
 
 /// The chain of CRCs that the selector uses is a chain for which the laws hold.
