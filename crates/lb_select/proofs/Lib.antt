@@ -2,11 +2,9 @@ pub mod AddressRoundTrip
 pub mod AddressTexts
 pub mod Clones
 pub mod Determined
-pub mod SameBackends
-pub mod Shares
-pub mod WeightLemmas
 pub mod Laws
 pub mod Lists
+pub mod SameBackends
 pub mod Searches
 pub mod Shares
 pub mod Turns
