@@ -15,7 +15,7 @@ use Rattle.lb_select.specs.Weights.{Words, IsWeightedWalk}
 use Rattle.lb_select.specs.Draws.{Draw, Gives, words_in}
 use Rattle.lb_select.specs.Walks.{Continues}
 use Rattle.lb_select.specs.Unique.{firsts, distinct, StandsAt, IsTurn}
-use Rattle.lb_select.specs.Selections.{IsAnswer, IsWalked, IsCut, Selects}
+use Rattle.lb_select.specs.Selections.{IsAnswer, IsWalked, Selects}
 use Rattle.lb_select.proofs.Lists.{append-nil, Each-weaker}
 use Rattle.lb_select.proofs.Turns.{Continues-closed}
 
@@ -200,24 +200,13 @@ IsAnswer-weaker same accepts follows weaker limit cs ended (Some b) answer = (
 IsAnswer-weaker same accepts follows weaker limit cs ended None answer =
     (Each-weaker (λ x. accepts x false) (λ x. follows x false) (λ x. weaker x false) (distinct same (take limit cs)) answer.0, answer.1)
 
-IsCut-weaker : {B : Type 0} (same : B → B → Bool) (accepts follows : B → Bool → Type 0) → ((x : B) (a : Bool) → accepts x a → follows x a)
-    → (cs : List B) → IsCut same accepts cs → IsCut same follows cs
-IsCut-weaker same accepts follows weaker cs cut =
-    (cut.0, cut.1, cut.2, cut.3, Each-weaker (λ x. accepts x false) (λ x. follows x false) (λ x. weaker x false) (distinct same cut.0) cut.4)
-
 -- and so is a selection
 pub Selects-weaker : {B S : Type 0} (same : B → B → Bool) (accepts follows : B → Bool → Type 0) → ((x : B) (a : Bool) → accepts x a → follows x a)
     → (limit : ℕ) (gives : S → Draw → S → Type 0) (walks : List Draw → List B → Bool → Type 0) (s : S) (r : Result (Option B) Refusal) (t : S)
     → Selects same accepts limit gives walks s r t → Selects same follows limit gives walks s r t
 Selects-weaker same accepts follows weaker limit gives walks s (Ok r) t selects =
     (selects.0, selects.1, selects.2, IsAnswer-weaker same accepts follows weaker limit selects.0 selects.1 r selects.3)
-Selects-weaker same accepts follows weaker limit gives walks s (Err e) t selects = (
-  selects.0,
-  elim selects.1 [
-    | inl kept ↦ inl kept
-    | inr past ↦ inr (past.0, past.1, past.2, IsCut-weaker same accepts follows weaker past.0 past.3)
-  ],
-)
+Selects-weaker same accepts follows weaker limit gives walks s (Err e) t selects = selects
 
 -- what was drawn for an answer is at most one candidate more than the limit
 within_limit : {B : Type 0} (same : B → B → Bool) (accepts : B → Bool → Type 0) (limit : ℕ) (cs : List B) (ended : Bool) (r : Option B)

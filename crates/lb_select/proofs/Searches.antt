@@ -10,7 +10,7 @@ use Rattle.lb_select.specs.Backends.{Member, same_member}
 use Rattle.lb_select.specs.Draws.{Draw, Gives}
 use Rattle.lb_select.specs.Walks.{Continues, Begins}
 use Rattle.lb_select.specs.Unique.{distinct, StandsAt, IsTurn}
-use Rattle.lb_select.specs.Selections.{IsWalked, IsCut, Selects}
+use Rattle.lb_select.specs.Selections.{IsWalked, EndsDistinct, Selects}
 use Rattle.lb_select.proofs.Lists.{Each-push}
 use Rattle.lb_select.proofs.Turns.{Gives-append, Continues-append, Continues-closed}
 
@@ -163,14 +163,13 @@ module _ {I S : Type 0} (gives : S → Draw → S → Type 0) (walk : I → List
         let skipped = turn.gave.6.0 in
         let b = turn.gave.6.1 in
         let new = turn.gave.6.3 p.searched p.stands in
-        let cut : IsCut same_member accepts cs = (
+        let new_last : EndsDistinct same_member cs = (
           p.searched ++ skipped,
           b,
           ap (λ xs. p.searched ++ xs) turn.gave.6.2 ∙ sym (append_assoc p.searched skipped (b ∷ [])),
           new.1 ∙ ap (λ xs. xs ++ b ∷ []) (sym new.0),
-          rw new.0 p.rejects,
         ) in
-        (refused ∙ turn.gave.0, inr (cs, begun s₀ i s v ds cs false begins drawn w, few, cut))
+        (refused ∙ turn.gave.0, inr (cs, begun s₀ i s v ds cs false begins drawn w, few, new_last))
 
     -- a walk that could not be begun has drawn nothing
     pub begins_refused : {s₀ s : S} (e : Refusal) → Begins gives walk walks s₀ (Err e) s
