@@ -96,6 +96,8 @@ fn add_member(
 }
 
 impl<H: SelectionAlgorithm> Weighted<H> {
+    // The selector of a set. What else can refuse is tested before any memory is taken, and the lists get their whole
+    // room at once, so that a total beyond all memory is refused without filling any of it.
     fn of_set(alloc: Global, backends: &BTreeSet<Backend>) -> Result<Self, Refusal>
         ensures { Refuses (weighted_refusal backends.now.keys) (λ s. s ≡ backends.now.keys) result }
     {
@@ -159,8 +161,8 @@ impl<H: SelectionAlgorithm> Weighted<H> {
 }
 
 impl<H: SelectionAlgorithm> WeightedIterator<H> {
-    // The index of the next candidate.
-    fn advance<W: WordSource>(&mut self, words: &mut W) -> Option<usize>
+    /// The index of the next candidate in the set's order, for a walk of several kinds; `None` where no backend has a weight.
+    pub fn advance<W: WordSource>(&mut self, words: &mut W) -> Option<usize>
         ensures step { IsStep W.gives (λ i. IsWeightedRest H.gives_word i.first (arc_value i.backend) i.word) self.old words.old (option_and_then (slice_get (arc_value self.old.backend)) result) self.new words.new }
         ensures backend { arc_value self.new.backend ≡ arc_value self.old.backend }
     {
@@ -173,6 +175,13 @@ impl<H: SelectionAlgorithm> WeightedIterator<H> {
         }
         self.word = self.backend.draw(words, &self.word.to_le_bytes());
         Some(self.backend.fallback(self.word))
+    }
+
+    /// The backend of that index in the set's order.
+    pub fn backend(&self, index: Option<usize>) -> Option<&Backend>
+        ensures { option_copied result ≡ option_and_then (slice_get (arc_value self.now.backend)) index }
+    {
+        self.backend.get(index)
     }
 }
 

@@ -87,7 +87,7 @@ impl SharedWords {
     }
 
     /// The source for one walk. A random word may wait, through `rt`, for a walk that draws at the same time.
-    pub fn lend<'a, R: Wait>(&'a self, rt: &'a R) -> LentWords<'a, R>
+    pub fn lend<'a, R>(&'a self, rt: &'a R) -> LentWords<'a, R>
         ensures words { result.words ≡ self.entry }
         ensures runtime { result.rt ≡ rt.entry }
     {

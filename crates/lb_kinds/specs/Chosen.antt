@@ -1,0 +1,53 @@
+-- What a selector of one of the kinds was built of, and what is left of a walk of one.
+use Rattle.std.specs.Prelude.{◌≡◌, ℕ, Bool, true, false, List, []}
+use Rattle.std.specs.Arc.{arc_value}
+use Rattle.lb_select.specs.Backends.{Member}
+use Rattle.lb_select.specs.Draws.{Draw}
+use Rattle.lb_select.specs.Weights.{IsWeightedRest}
+use Rattle.lb_select.specs.WalkLaws.{rest_none, rest_ends}
+use Rattle.lb_ring.specs.Placed.{Placed, IsWalkFrom}
+use Rattle.lb_ring.specs.RingLaws.{walk_starts, walk_ends}
+use Rattle.lb_kinds.specs.Kinds.{hash_word, ticket_word}
+use Rattle.lb_kinds.specs.declared.kinds.Kind.{Kind}
+use Rattle.lb_kinds.specs.declared.kinds.Kind.TheVariants as kind
+use Rattle.lb_kinds.specs.declared.kinds.Chosen.{Chosen}
+use Rattle.lb_kinds.specs.declared.kinds.Chosen.TheVariants as chosen
+use Rattle.lb_kinds.specs.declared.kinds.ChosenIterator.{ChosenIterator}
+use Rattle.lb_kinds.specs.declared.kinds.ChosenIterator.TheVariants as walked
+
+-- the set and the kind that a selector was built of
+abbrev pub members_chosen : Chosen → List Member
+members_chosen (chosen.Fnv selector) = arc_value selector
+members_chosen (chosen.RoundRobin selector) = arc_value selector
+members_chosen (chosen.Ketama selector) = (arc_value selector).members
+
+abbrev pub kind_chosen : Chosen → Kind
+kind_chosen (chosen.Fnv selector) = kind.Fnv
+kind_chosen (chosen.RoundRobin selector) = kind.RoundRobin
+kind_chosen (chosen.Ketama selector) = kind.Ketama
+
+-- the set of a walk's selector
+abbrev pub members_walked : ChosenIterator → List Member
+members_walked (walked.Fnv i) = arc_value i.backend
+members_walked (walked.RoundRobin i) = arc_value i.backend
+members_walked (walked.Ketama i) = (arc_value i.ring).members
+
+-- what is left of a walk
+abbrev pub chosen_walk : ChosenIterator → List Draw → List Member → Bool → Type 0
+chosen_walk (walked.Fnv i) = IsWeightedRest hash_word i.first (arc_value i.backend) i.word
+chosen_walk (walked.RoundRobin i) = IsWeightedRest ticket_word i.first (arc_value i.backend) i.word
+chosen_walk (walked.Ketama i) = IsWalkFrom (arc_value i.ring) i.at
+
+-- a walk that has given nothing yet
+pub chosen_starts : (i : ChosenIterator) → chosen_walk i [] [] false
+chosen_starts (walked.Fnv i) = rest_none hash_word i.first (arc_value i.backend) i.word
+chosen_starts (walked.RoundRobin i) = rest_none ticket_word i.first (arc_value i.backend) i.word
+chosen_starts (walked.Ketama i) = walk_starts (arc_value i.ring) i.at
+
+-- a walk that is over gives nothing more
+pub chosen_ends :
+    (i : ChosenIterator) (ds : List Draw) (cs : List Member) (e : Bool)
+    → chosen_walk i [] [] true → chosen_walk i ds cs e → (ds ≡ []) × (cs ≡ [])
+chosen_ends (walked.Fnv i) ds cs e over h = rest_ends hash_word i.first (arc_value i.backend) i.word ds cs e over h
+chosen_ends (walked.RoundRobin i) ds cs e over h = rest_ends ticket_word i.first (arc_value i.backend) i.word ds cs e over h
+chosen_ends (walked.Ketama i) ds cs e over h = walk_ends (arc_value i.ring) i.at ds cs e over h

@@ -1,0 +1,167 @@
+//! The kinds of selectors, and one selector over them.
+//! A kind is the configuration of a slot; a set and a kind determine every walk.
+ghost use Rattle.std.specs.Prelude.{◌≡◌, List, ℕ, Bool, false, option_and_then, option_copied};
+ghost use Rattle.std.specs.List.{slice_get};
+ghost use Rattle.std.specs.Arc.{arc_value};
+ghost use Rattle.lb_select.specs.Backends.{Member};
+ghost use Rattle.lb_select.specs.Draws.{Draw};
+ghost use Rattle.lb_select.specs.Walks.{IsStep};
+ghost use Rattle.lb_select.specs.Weights.{weighted_refusal};
+ghost use Rattle.lb_kinds.specs.Kinds.{kind_walks, kind_refusal, kind_undrawn, kind_few_words};
+ghost use Rattle.lb_kinds.specs.Chosen.{members_chosen, kind_chosen, chosen_walk, members_walked, chosen_starts, chosen_ends};
+
+use lb_ring::ketama::{KetamaHashing, OwnedNodeIterator};
+use lb_select::algorithms;
+use lb_select::algorithms::FnvHasher;
+use lb_select::backend::Backend;
+use lb_select::refusal::Refusal;
+use lb_select::selection::{FNVHash, RoundRobin};
+use lb_select::walk::{BackendIter, BackendSelection};
+use lb_select::weighted::WeightedIterator;
+use lb_select::words::WordSource;
+use std::alloc::Global;
+use std::collections::BTreeSet;
+use std::sync::Arc;
+
+/// The kind of selector that a slot builds.
+#[derive(Clone, Copy, Debug, PartialEq, Eq)]
+pub enum Kind {
+    /// Weighted, by the FNV hash of the key.
+    Fnv,
+    /// Weighted, in turn.
+    RoundRobin,
+    /// By the points of a Ketama ring.
+    Ketama,
+}
+
+/// A selector of one of the kinds.
+#[derive(Drop)]
+pub enum Chosen {
+    Fnv(Arc<FNVHash>),
+    RoundRobin(Arc<RoundRobin>),
+    Ketama(Arc<KetamaHashing>),
+}
+
+/// A walk of a selector of one of the kinds.
+#[derive(Drop)]
+pub enum ChosenIterator {
+    Fnv(WeightedIterator<FnvHasher>),
+    RoundRobin(WeightedIterator<algorithms::RoundRobin>),
+    Ketama(OwnedNodeIterator),
+}
+
+impl ChosenIterator {
+    // The index of the next candidate in the set's order.
+    fn advance<W: WordSource>(&mut self, words: &mut W) -> Option<usize>
+        ensures step { IsStep W.gives chosen_walk self.old words.old (option_and_then (slice_get (members_walked self.old)) result) self.new words.new }
+        ensures members { members_walked self.new ≡ members_walked self.old }
+    {
+        match self {
+            ChosenIterator::Fnv(walk) => walk.advance(words),
+            ChosenIterator::RoundRobin(walk) => walk.advance(words),
+            ChosenIterator::Ketama(walk) => walk.advance(),
+        }
+    }
+
+    // The backend of that index in the set's order.
+    fn backend(&self, index: Option<usize>) -> Option<&Backend>
+        ensures { option_copied result ≡ option_and_then (slice_get (members_walked self.now)) index }
+    {
+        match self {
+            ChosenIterator::Fnv(walk) => walk.backend(index),
+            ChosenIterator::RoundRobin(walk) => walk.backend(index),
+            ChosenIterator::Ketama(walk) => walk.backend(index),
+        }
+    }
+}
+
+impl BackendIter for ChosenIterator {
+    ghost walk = { chosen_walk };
+
+    ghost starts = { chosen_starts };
+
+    ghost ends = { chosen_ends };
+
+    fn next<W: WordSource>(&mut self, words: &mut W) -> Option<&Backend> {
+        let index = self.advance(words);
+        self.backend(index)
+    }
+}
+
+impl BackendSelection for Chosen {
+    type Iter = ChosenIterator;
+
+    type Config = Kind;
+
+    ghost use Rattle.lb_kinds.specs.declared.kinds.Kind.TheVariants.{Fnv};
+
+    ghost walks = { kind_walks };
+
+    ghost members = { members_chosen };
+
+    ghost built_with = { kind_chosen };
+
+    ghost refusal = { kind_refusal };
+
+    ghost default_config = { Fnv };
+
+    ghost may_draw_random = { λ ms kind. false };
+
+    ghost undrawn = { kind_undrawn };
+
+    ghost few_words = { kind_few_words };
+
+    fn build(alloc: Global, backends: &BTreeSet<Backend>) -> Result<Chosen, Refusal> {
+        Chosen::build_with_config(alloc, backends, &Kind::Fnv)
+    }
+
+    fn build_with_config(
+        alloc: Global,
+        backends: &BTreeSet<Backend>,
+        kind: &Kind,
+    ) -> Result<Chosen, Refusal> {
+        match kind {
+            Kind::Fnv => {
+                let selector = FNVHash::build(alloc, backends)?;
+                let selector = Arc::new(alloc, selector)?;
+                Ok(Chosen::Fnv(selector))
+            }
+            Kind::RoundRobin => {
+                let selector = RoundRobin::build(alloc, backends)?;
+                let selector = Arc::new(alloc, selector)?;
+                Ok(Chosen::RoundRobin(selector))
+            }
+            Kind::Ketama => {
+                let selector = KetamaHashing::build(alloc, backends)?;
+                let selector = Arc::new(alloc, selector)?;
+                Ok(Chosen::Ketama(selector))
+            }
+        }
+    }
+
+    fn iter<W: WordSource>(
+        of: &Arc<Chosen>,
+        key: &[u8],
+        words: &mut W,
+    ) -> Result<ChosenIterator, Refusal> {
+        let chosen: &Chosen = &**of;
+        match chosen {
+            Chosen::Fnv(selector) => {
+                let walk = FNVHash::iter(selector, key, words)?;
+                Ok(ChosenIterator::Fnv(walk))
+            }
+            Chosen::RoundRobin(selector) => {
+                let walk = RoundRobin::iter(selector, key, words)?;
+                Ok(ChosenIterator::RoundRobin(walk))
+            }
+            Chosen::Ketama(selector) => {
+                let walk = KetamaHashing::iter(selector, key, words)?;
+                Ok(ChosenIterator::Ketama(walk))
+            }
+        }
+    }
+
+    fn draws_random(&self) -> bool {
+        false
+    }
+}

@@ -1,0 +1,25 @@
+-- What contracts see of a gate of rebuilds and of its permit.
+use Rattle.std.specs.Prelude.{Bool, true, false, Option, Some, None}
+use Rattle.std.specs.Coded.{Coded}
+use Rattle.atomic_table.specs.Seated.{TableId, table_id_coded}
+
+-- which gate it is: no two gates have the same one. Clauses compare it and look at nothing inside
+abbrev pub GateId : Type 0
+GateId = TableId
+
+abbrev pub gate_id_coded : Coded GateId
+gate_id_coded = table_id_coded
+
+-- which gate it is, and whether its permit is out
+pub record GateView : Type 0 where
+  pub id : GateId
+  pub out : Bool
+
+-- the gate of that identity, with its permit out or not
+abbrev pub gate : GateId → Bool → GateView
+gate id out = record { id = id; out = out }
+
+-- whether there is no value
+abbrev pub is_absent : {A : Type 0} → Option A → Bool
+is_absent None = true
+is_absent (Some x) = false

@@ -1,0 +1,12 @@
+//! Rebuilding selectors: a gate lets at most one extra selector exist at a time, and a group keeps for each slot which generation it serves.
+//! Everything here is plain data and steps on it; threads and locks come above.
+#![tactic(auto)]
+
+pub mod gate;
+mod gate_rule;
+pub mod group;
+pub mod handed;
+pub mod job;
+pub mod least;
+pub mod schedule;
+pub mod slot;

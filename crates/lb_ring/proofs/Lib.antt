@@ -1,0 +1,12 @@
+pub mod Arranging
+pub mod Chaining
+pub mod Counting
+pub mod Crcs
+pub mod Filling
+pub mod Removals
+pub mod Lists
+pub mod Owners
+pub mod Placing
+pub mod Ranks
+pub mod Standing
+pub mod Walking

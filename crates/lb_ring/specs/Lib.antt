@@ -1,0 +1,10 @@
+pub mod Chains
+pub mod Choices
+pub mod Circle
+pub mod Crc
+pub mod Placed
+pub mod PlacedSeen
+pub mod RingLaws
+pub mod Removal
+pub mod Rings
+pub mod Sorted

@@ -1,0 +1,55 @@
+//! The chain of points of an internet address: each is the CRC of the address's text and of the point before it.
+//! The text is fed once, and its state is used for each point.
+ghost use Rattle.std.specs.Prelude.{◌≡◌, ◌++◌, IfOk};
+ghost use Rattle.lb_select.specs.Seen.{inet_seen};
+ghost use Rattle.lb_ring.specs.Chains.{address_text, point_after};
+ghost use Rattle.lb_ring.specs.Crc.{crc_fed};
+ghost use Rattle.lb_ring.specs.Placed.{chain_entries};
+ghost use Rattle.lb_ring.specs.Sorted.{HasSmallPoints};
+
+use crate::crc::{START, fed, finished};
+use lb_select::backend::InetAddr;
+use std::alloc::{AllocError, Global};
+use std::net::{Ipv4Addr, Ipv6Addr};
+
+// The state of a CRC that was fed the text of an address: the IP address, a zero byte, the port in decimal.
+pub(crate) fn text_state(alloc: Global, addr: &InetAddr) -> Result<u32, AllocError>
+    ensures { IfOk result (λ s. s ≡ crc_fed 0xFFFFFFFF (address_text (inet_seen addr.now))) }
+{
+    let text = match addr {
+        InetAddr::V4(octets, port) => {
+            let ip = Ipv4Addr::from(*octets);
+            format!(in alloc; "{ip}\0{port}")?
+        }
+        InetAddr::V6(octets, port) => {
+            let ip = Ipv6Addr::from(*octets);
+            format!(in alloc; "{ip}\0{port}")?
+        }
+    };
+    Ok(fed(START, text.as_bytes()))
+}
+
+// The point after a point.
+fn point_after(state: u32, point: u32) -> u32
+    ensures { result ≡ point_after state point }
+{
+    finished(fed(state, &point.to_le_bytes()))
+}
+
+// Adds the first points of a chain, each with the number of its owner.
+pub(crate) fn add_chain(
+    points: &mut Vec<(u32, u32)>,
+    state: u32,
+    count: usize,
+    owner: u32,
+) -> Result<(), AllocError>
+    ensures added { IfOk result (λ _. points.new.items ≡ points.old.items ++ chain_entries state count owner) }
+    ensures small { HasSmallPoints points.old.items → HasSmallPoints points.new.items }
+{
+    let mut point = 0u32;
+    for _k in 0..count {
+        point = point_after(state, point);
+        points.push((point, owner))?;
+    }
+    Ok(())
+}

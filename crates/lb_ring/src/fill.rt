@@ -1,0 +1,114 @@
+//! Which backends of a set have points on the ring, and which points these are.
+//! Of the backends of one address the heaviest alone adds points: those of the others are among its own.
+ghost use Rattle.std.specs.Prelude.{◌≡◌, ◌+◌, ◌*◌, ◌^◌, ◌<◌, ◌≤◌, ◌↔◌, ℕ, [], length, IfOk, IsTrue, MatchOption, slice_get, Some};
+ghost use Rattle.std.specs.List.Sorted.{IsStrictlySortedBy};
+ghost use Rattle.lb_select.specs.Backends.{Member, member_cmp};
+ghost use Rattle.lb_ring.specs.Choices.{points_per_weight, ring_weight, StandsFor};
+ghost use Rattle.lb_ring.specs.Placed.{IsFilled};
+
+use crate::chain::{add_chain, text_state};
+use lb_select::backend::{Backend, SocketAddr};
+use std::alloc::{AllocError, Global};
+use std::cmp::Ordering;
+use std::collections::BTreeSet;
+
+// How many points a backend has for each unit of its weight.
+const POINTS_PER_WEIGHT: usize = 160;
+
+// The greatest weight that internet backends may have together: 160 times one more is above 4294967295.
+const MOST_WEIGHT: usize = 26_843_545;
+
+/// Indexes of backends that have points, upwards, and the points with the number of their owner among these indexes.
+#[derive(Drop)]
+pub(crate) struct Marks {
+    pub owners: Vec<usize>,
+    pub points: Vec<(u32, u32)>,
+}
+
+// The weight of all internet backends, unless their points are more than 4294967295.
+pub(crate) fn weight_on_ring(backends: &BTreeSet<Backend>) -> Option<usize>
+    ensures { MatchOption result (2 ^ 32 ≤ points_per_weight * ring_weight backends.now.keys)
+        (λ w. (w ≡ ring_weight backends.now.keys) × (points_per_weight * w < 2 ^ 32)) }
+{
+    let mut left = MOST_WEIGHT;
+    for backend in backends {
+        if let SocketAddr::Inet(_) = &backend.addr {
+            left = left.checked_sub(backend.weight)?;
+        }
+    }
+    Some(MOST_WEIGHT - left)
+}
+
+// The backends of a set in order.
+pub(crate) fn listed(
+    alloc: Global,
+    backends: &BTreeSet<Backend>,
+) -> Result<Vec<Backend>, AllocError>
+    ensures { IfOk result (λ v. (v.items ≡ backends.now.keys) × IsStrictlySortedBy member_cmp v.items) }
+{
+    let mut list = Vec::with_capacity(alloc, backends.len())?;
+    for backend in backends {
+        list.push(backend.clone()?)?;
+    }
+    Ok(list)
+}
+
+// Whether no heavier backend has the address of this one: in order, the next one has another address.
+fn stands(list: &[Backend], index: usize) -> bool
+    requires ordered { IsStrictlySortedBy member_cmp list.now }
+    requires inside { index < length list.now }
+    ensures { (m : Member) → slice_get list.now index ≡ Some m → (IsTrue result ↔ StandsFor list.now m.address m) }
+{
+    let this = &list[index];
+    match list.get(index + 1) {
+        Some(next) => this.addr.cmp(&next.addr) != Ordering::Equal,
+        None => true,
+    }
+}
+
+// Adds the points of one backend, if it has any.
+fn add_backend(
+    alloc: Global,
+    list: &[Backend],
+    index: usize,
+    marks: &mut Marks,
+) -> Result<(), AllocError>
+    requires ordered { IsStrictlySortedBy member_cmp list.now }
+    requires light { points_per_weight * ring_weight list.now < 2 ^ 32 }
+    requires inside { index < length list.now }
+    requires filled { IsFilled list.now index marks.old.owners.items marks.old.points.items }
+    ensures { IfOk result (λ _. IsFilled list.now (index + 1) marks.new.owners.items marks.new.points.items) }
+{
+    let backend = &list[index];
+    if let SocketAddr::Inet(inet) = &backend.addr {
+        if backend.weight > 0 && stands(list, index) {
+            let state = text_state(alloc, inet)?;
+            let owner = marks.owners.len() as u32;
+            marks.owners.push(index)?;
+            add_chain(
+                &mut marks.points,
+                state,
+                POINTS_PER_WEIGHT * backend.weight,
+                owner,
+            )?;
+        }
+    }
+    Ok(())
+}
+
+// The points of all backends, not yet in order.
+pub(crate) fn marks_of(alloc: Global, list: &[Backend], weight: usize) -> Result<Marks, AllocError>
+    requires ordered { IsStrictlySortedBy member_cmp list.now }
+    requires all { weight ≡ ring_weight list.now }
+    requires light { points_per_weight * weight < 2 ^ 32 }
+    ensures { IfOk result (λ r. IsFilled list.now (length list.now) r.owners.items r.points.items) }
+{
+    let mut marks = Marks {
+        owners: Vec::new(alloc),
+        points: Vec::with_capacity(alloc, POINTS_PER_WEIGHT * weight)?,
+    };
+    for index in 0..list.len() {
+        add_backend(alloc, list, index, &mut marks)?;
+    }
+    Ok(marks)
+}

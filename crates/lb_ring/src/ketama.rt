@@ -1,0 +1,201 @@
+//! The selector of consistent hashing: the points of all backends on one ring, and walks over their owners.
+//! It stands on points in order, with numbers in the place of addresses.
+ghost use Rattle.std.specs.Prelude.{◌≡◌, ◌+◌, ◌^◌, ◌<◌, length, [], MatchOption, option_and_then, slice_get, false, Some, None};
+ghost use Rattle.std.specs.Option.{option_copied};
+ghost use Rattle.std.specs.Arc.{arc_value};
+ghost use Rattle.lb_select.specs.Backends.{Member};
+ghost use Rattle.lb_select.specs.Refusals.{Refuses};
+ghost use Rattle.lb_ring.specs.Choices.{IsRingWalk, ring_refusal};
+ghost use Rattle.lb_ring.specs.Placed.{IsMove, IsStart, IsWalkFrom, index_here, member_here};
+ghost use Rattle.lb_ring.specs.RingLaws.{walk_starts, walk_ends, walk_undrawn, walk_few_words};
+
+use crate::crc::crc32;
+use crate::fill::{Marks, listed, marks_of, weight_on_ring};
+use crate::points::{arrange, first_from};
+use lb_select::backend::Backend;
+use lb_select::refusal::Refusal;
+use lb_select::walk::{BackendIter, BackendSelection};
+use lb_select::words::WordSource;
+use std::alloc::Global;
+use std::collections::BTreeSet;
+use std::marker::Model;
+use std::sync::Arc;
+
+/// A selector by consistent hashing. Each internet backend has 160 points for each unit of its weight on a circle of 2^32
+/// places; a key goes to the backend of the first point at or above its CRC, and on from there. Backends of weight 0 and Unix
+/// addresses have no points. It draws no words.
+#[derive(Drop)]
+pub struct KetamaHashing {
+    backends: Vec<Backend>,
+    owners: Vec<usize>,
+    points: Vec<(u32, u32)>,
+    config: KetamaConfig,
+}
+
+/// Consistent hashing, by its plain name.
+pub type Consistent = KetamaHashing;
+
+/// What a ring is built with. `point_multiple` is ignored: each unit of weight has 160 points.
+#[derive(Clone, Copy, Debug, Default)]
+pub struct KetamaConfig {
+    pub point_multiple: Option<u32>,
+}
+
+impl Model for KetamaHashing {
+    ghost use Rattle.lb_ring.specs.Placed.{Placed};
+
+    ghost Value = { Placed };
+
+    ghost use Rattle.lb_ring.specs.PlacedSeen.{placed_seen, IsPlacedSeen};
+
+    ghost view = { placed_seen };
+
+    ghost invariant = { IsPlacedSeen };
+}
+
+/// A walk over the owners of a ring's points, from a key's place upwards and round for ever.
+#[derive(Drop)]
+pub struct OwnedNodeIterator {
+    // the index of the next point; past the last one it stands for the first
+    at: usize,
+    ring: Arc<KetamaHashing>,
+}
+
+impl KetamaHashing {
+    // The causes to refuse first, then what takes memory.
+    fn of_set(
+        alloc: Global,
+        backends: &BTreeSet<Backend>,
+        config: KetamaConfig,
+    ) -> Result<KetamaHashing, Refusal>
+        ensures { Refuses (ring_refusal backends.now.keys)
+            (λ r. (r.members ≡ backends.now.keys) × (r.multiple ≡ config.point_multiple)) result }
+    {
+        let weight = weight_on_ring(backends).ok_or(Refusal::TooManyPoints)?;
+        let backends = listed(alloc, backends)?;
+        let Marks { owners, points } = marks_of(alloc, &backends, weight)?;
+        let mut points = points;
+        arrange(&mut points);
+        Ok(KetamaHashing {
+            backends,
+            owners,
+            points,
+            config,
+        })
+    }
+
+    // The index of the point where a key's walk begins: how many points are below the key's place.
+    fn start_of(&self, key: &[u8]) -> usize
+        ensures { IsStart self.now key.now result }
+    {
+        first_from(&self.points, crc32(key))
+    }
+
+    // The index itself, or 0 where it is past the last point.
+    fn index_of(&self, at: usize) -> usize
+        ensures value { result ≡ index_here self.now at }
+        ensures room { result + 1 < 2 ^ 64 }
+    {
+        if at < self.points.len() { at } else { 0 }
+    }
+
+    // The index of the backend that a walk yields at a point; none where there is no point.
+    fn owner_at(&self, at: usize) -> Option<usize>
+        ensures { MatchOption result (self.now.points ≡ [])
+            (λ i. (m : Member) × (slice_get self.now.members i ≡ Some m) × (member_here self.now at ≡ Some m)) }
+    {
+        let at = self.index_of(at);
+        let (_, owner) = *self.points.get(at)?;
+        self.owners.get(owner as usize).copied()
+    }
+
+    // The backend of an index, if there is one.
+    fn get(&self, index: Option<usize>) -> Option<&Backend>
+        ensures { option_copied result ≡ option_and_then (slice_get self.now.members) index }
+    {
+        self.backends.get(index?)
+    }
+}
+
+impl OwnedNodeIterator {
+    /// Goes one point on, for a walk of several kinds; the index in the set's order of its backend, `None` on a ring without points.
+    pub fn advance(&mut self) -> Option<usize>
+        ensures step { IsMove (arc_value self.old.ring) self.old.at (option_and_then (slice_get (arc_value self.old.ring).members) result) self.new.at }
+        ensures ring { arc_value self.new.ring ≡ arc_value self.old.ring }
+    {
+        let index = self.ring.owner_at(self.at)?;
+        self.at = self.ring.index_of(self.at) + 1;
+        Some(index)
+    }
+
+    /// The backend of that index in the set's order.
+    pub fn backend(&self, index: Option<usize>) -> Option<&Backend>
+        ensures { option_copied result ≡ option_and_then (slice_get (arc_value self.now.ring).members) index }
+    {
+        self.ring.get(index)
+    }
+}
+
+impl BackendIter for OwnedNodeIterator {
+    ghost walk = { λ i. IsWalkFrom (arc_value i.ring) i.at };
+
+    ghost starts = { λ i. walk_starts (arc_value i.ring) i.at };
+
+    ghost ends = { λ i. walk_ends (arc_value i.ring) i.at };
+
+    fn next<W: WordSource>(&mut self, _words: &mut W) -> Option<&Backend> {
+        let index = self.advance();
+        self.ring.get(index)
+    }
+}
+
+impl BackendSelection for KetamaHashing {
+    type Iter = OwnedNodeIterator;
+
+    type Config = KetamaConfig;
+
+    ghost walks = { λ ms config. IsRingWalk ms };
+
+    ghost members = { λ r. r.members };
+
+    ghost built_with = { λ r. record { point_multiple = r.multiple } };
+
+    ghost refusal = { λ ms config. ring_refusal ms };
+
+    ghost default_config = { record { point_multiple = None } };
+
+    ghost may_draw_random = { λ ms config. false };
+
+    ghost undrawn = { λ ms config h. walk_undrawn ms };
+
+    ghost few_words = { λ ms config. walk_few_words ms };
+
+    fn build(alloc: Global, backends: &BTreeSet<Backend>) -> Result<Self, Refusal> {
+        let config = KetamaConfig {
+            point_multiple: None,
+        };
+        KetamaHashing::of_set(alloc, backends, config)
+    }
+
+    fn build_with_config(
+        alloc: Global,
+        backends: &BTreeSet<Backend>,
+        config: &KetamaConfig,
+    ) -> Result<Self, Refusal> {
+        KetamaHashing::of_set(alloc, backends, *config)
+    }
+
+    fn iter<W: WordSource>(
+        of: &Arc<Self>,
+        key: &[u8],
+        _words: &mut W,
+    ) -> Result<OwnedNodeIterator, Refusal> {
+        let at = of.start_of(key);
+        let ring = of.clone()?;
+        Ok(OwnedNodeIterator { at, ring })
+    }
+
+    fn draws_random(&self) -> bool {
+        false
+    }
+}

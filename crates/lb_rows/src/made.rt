@@ -1,0 +1,76 @@
+//! What the rows need beside files: outcomes, scripts that are too large for a file, a reader that fails.
+//! A script runs here as `lbsim` runs it, over memory.
+use pingora_load_balancing::script::{Counted, run_script};
+use std::alloc::Global;
+use std::io::{self, Read};
+
+/// What a script should answer, and with which status.
+pub(crate) struct Outcome<'a> {
+    answers: &'a [u8],
+    status: u8,
+}
+
+impl<'a> Outcome<'a> {
+    /// These answers; the status is 1 where the last line is an error.
+    pub(crate) fn of(answers: &'a [u8]) -> Outcome<'a> {
+        let lines = answers.strip_suffix(b"\n").unwrap_or(answers);
+        let last = lines.rsplit(|byte| *byte == b'\n').next().unwrap_or(lines);
+        let status = if last.starts_with(b"error ") { 1 } else { 0 };
+        Outcome { answers, status }
+    }
+}
+
+/// Whether a script answers so.
+pub(crate) fn agrees<R: Read + Drop>(alloc: Global, script: R, wanted: &Outcome<'_>) -> bool {
+    let mut reader = Counted::new(script);
+    let mut writer = Counted::new(Vec::new(alloc));
+    let status = run_script(alloc, &mut reader, &mut writer);
+    let written = writer.into_inner();
+    written.as_slice() == wanted.answers && status == wanted.status
+}
+
+/// Whether a script of one line of so many bytes answers so.
+pub(crate) fn long_line(alloc: Global, length: usize, answers: &[u8]) -> io::Result<bool> {
+    let line = vec![in alloc; b'a'; length]?;
+    Ok(agrees(alloc, line.as_slice(), &Outcome::of(answers)))
+}
+
+/// Whether a build over so many backends answers so, after the group was made and updated.
+pub(crate) fn many_backends(alloc: Global, count: u32, built: &[u8]) -> io::Result<bool> {
+    let mut script = String::from_str(alloc, "registry identity\ngate\ngroup 0 0 rr 1\nupdate 0 0")?;
+    for number in 0..count {
+        let high = number / 256 % 256;
+        let low = number % 256;
+        let word = format!(in alloc; " 10.0.{high}.{low}:80/1")?;
+        script.push_str(word.as_str())?;
+    }
+    script.push_str("\nask 0 0 0\nbuild 0 0 0\n")?;
+    let mut answers = b"registry 0\ngate 0\ngroup 0\ngeneration 1\nbuild 1\n".to_vec(alloc)?;
+    answers.extend_from_slice(built)?;
+    Ok(agrees(alloc, script.as_bytes(), &Outcome::of(answers.as_slice())))
+}
+
+/// A reader that gives its bytes and then fails.
+#[derive(Drop)]
+pub(crate) struct Failing<'a> {
+    left: &'a [u8],
+}
+
+impl<'a> Failing<'a> {
+    pub(crate) fn after(bytes: &'a [u8]) -> Failing<'a> {
+        Failing { left: bytes }
+    }
+}
+
+impl Read for Failing<'_> {
+    fn read(&mut self, buf: &mut [u8]) -> io::Result<usize> {
+        let count = self.left.len().min(buf.len());
+        if count == 0 {
+            return Err(io::Error::from(io::ErrorKind::Other));
+        }
+        let (now, later) = self.left.split_at(count);
+        buf[..count].copy_from_slice(now);
+        self.left = later;
+        Ok(count)
+    }
+}

@@ -1,0 +1,8 @@
+pub mod AheadLemmas
+pub mod BackendsLemmas
+pub mod LinesLemmas
+pub mod NumbersLemmas
+pub mod ParseLemmas
+pub mod RunLemmas
+pub mod StreamLemmas
+pub mod WordsLemmas

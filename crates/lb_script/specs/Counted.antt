@@ -1,0 +1,11 @@
+-- What a clause reads of a `Counted`.
+use Rattle.std.specs.Prelude.{Bool}
+use Rattle.lb_script.specs.declared.counted.Counted.{Counted}
+
+-- the reader or writer inside
+abbrev pub inner_of : {T : Type 0} → Counted T → T
+inner_of c = c.inner
+
+-- whether a read or a write of it has failed so far
+abbrev pub has_failed : {T : Type 0} → Counted T → Bool
+has_failed c = c.has_failed

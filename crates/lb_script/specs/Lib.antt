@@ -1,0 +1,10 @@
+pub mod Counted
+pub mod Lines
+pub mod Numbers
+pub mod Output
+pub mod Session
+pub mod StandIn
+pub mod StepLines
+pub mod Stream
+pub mod Texts
+pub mod Words

@@ -1,0 +1,16 @@
+//! Reads a script of steps line by line and writes one answer for each line.
+//! It stands on any reader and any writer, and takes no memory but for the line that it reads.
+#![tactic(auto)]
+
+pub mod ahead;
+pub mod backends;
+pub mod counted;
+pub mod error;
+pub mod lines;
+pub mod numbers;
+pub mod parse;
+pub mod run;
+mod session;
+pub mod texts;
+pub mod words;
+mod world;

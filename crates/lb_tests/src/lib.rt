@@ -1,0 +1,10 @@
+//! Tests of what no clause says, across the crates: worked values from outside, and that ordinary calls succeed.
+//! There is no code here beside them.
+#![tactic(auto)]
+
+#[cfg(test)]
+mod made;
+#[cfg(test)]
+mod ring;
+#[cfg(test)]
+mod selection;

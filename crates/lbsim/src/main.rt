@@ -1,0 +1,40 @@
+//! Answers a script of steps on standard input, a line for each line, on standard output.
+//! It takes no arguments; everything that matters is in the library.
+#![tactic(auto)]
+
+use pingora_load_balancing::script::{Counted, run_script};
+use std::env;
+use std::io::{self, BufWriter, Write};
+use std::process::ExitCode;
+use std::rt::Env;
+
+const BAD_ARGUMENTS: &[u8] = b"error 0 BadArguments\n";
+const OUT_OF_MEMORY: &[u8] = b"error 1 OutOfMemory\n";
+
+// Whether the program was given an argument, text or not.
+fn has_arguments(rt: &(impl Env + AllocGlobal)) -> bool {
+    match env::args(rt) {
+        Ok(arguments) => arguments.count() > 1,
+        Err(_) => true,
+    }
+}
+
+// Writes the one line, and ends with status 1.
+fn end_with(rt: &impl Print, line: &[u8]) -> ExitCode {
+    let mut out = io::writer(rt);
+    let _ = out.write_all(line);
+    let _ = out.flush();
+    ExitCode::from(1)
+}
+
+fn main(rt: HostRuntime) -> ExitCode {
+    if has_arguments(&rt) {
+        return end_with(&rt, BAD_ARGUMENTS);
+    }
+    let Ok(buffered) = BufWriter::new(rt.alloc(), io::writer(&rt)) else {
+        return end_with(&rt, OUT_OF_MEMORY);
+    };
+    let mut reader = Counted::new(rt.reader());
+    let mut writer = Counted::new(buffered);
+    ExitCode::from(run_script(rt.alloc(), &mut reader, &mut writer))
+}

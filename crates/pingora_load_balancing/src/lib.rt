@@ -1,0 +1,11 @@
+//! Load balancing: selection of backends, groups of selectors that are rebuilt while requests go on, and a world of them.
+//! It passes on what the layers below prove, under the upstream crate's names.
+#![tactic(auto)]
+
+pub mod script;
+pub mod selection;
+pub mod world;
+
+pub use lb_select::backend::{Backend, Ext, InetAddr, SocketAddr};
+pub use lb_select::refusal::Refusal;
+pub use lb_select::words::{CoreWords, SharedWords, WordSource};
