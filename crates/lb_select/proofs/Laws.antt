@@ -1,6 +1,6 @@
 -- Laws of the unique walk and of selections, for the layers above.
-use Rattle.std.specs.Prelude.{◌≡◌, ℕ, ◌+◌, ◌-◌, ◌<◌, ◌≤◌, min, max, Bool, true, false, cond, List, [], ◌∷◌, ◌++◌, length, take, if◌then◌else◌, Option, Some, None, Result, Ok, Err, refl}
-use Rattle.std.proofs.Common.{sym, ap, ◌∙◌, append_assoc, arith, inl, inr, ◌⊎◌, length-append, subst}
+use Rattle.std.specs.Prelude.{◌≡◌, ℕ, ◌+◌, ◌-◌, ◌<◌, ◌≤◌, min, max, Bool, true, false, List, [], ◌∷◌, ◌++◌, length, take, if◌then◌else◌, Option, Some, None, Result, Ok, Err, refl}
+use Rattle.std.proofs.Common.{sym, ap, ◌∙◌, append_assoc, arith, inl, inr, length-append}
 use Rattle.std.specs.List.{AllByRecursion as Each, list_any, find, Contains}
 use Rattle.std.proofs.lemmas.List.{take-append-le, length-take}
 use Rattle.std.proofs.Math.Seq.{take-append-add}
@@ -16,7 +16,7 @@ use Rattle.lb_select.specs.Draws.{Draw, Gives, words_in}
 use Rattle.lb_select.specs.Walks.{Continues}
 use Rattle.lb_select.specs.Unique.{firsts, distinct, StandsAt, IsTurn}
 use Rattle.lb_select.specs.Selections.{IsAnswer, IsWalked, Selects}
-use Rattle.lb_select.proofs.Lists.{append-nil}
+use Rattle.lb_select.proofs.Lists.{append-nil, Each-weaker}
 use Rattle.lb_select.proofs.Turns.{Continues-closed}
 
 -- a list with something at its end is not empty
@@ -185,6 +185,28 @@ module _ {B : Type 0} (same : B → B → Bool) where
       let empty : cs ≡ [] = take-empty limit cs some none in
       let zero : length cs ≡ 0 = ap length empty in
       elim answer.1 [ inl past ↦ absurd (omega arith) | inr end ↦ (empty, end.0) ]
+
+-- an answer by what is known of a function that accepts is one by all that follows from it
+IsAnswer-weaker : {B : Type 0} (same : B → B → Bool) (accepts follows : B → Bool → Type 0) → ((x : B) (a : Bool) → accepts x a → follows x a)
+    → (limit : ℕ) (cs : List B) (ended : Bool) (r : Option B) → IsAnswer same accepts limit cs ended r → IsAnswer same follows limit cs ended r
+IsAnswer-weaker same accepts follows weaker limit cs ended (Some b) answer = (
+  answer.0,
+  answer.1,
+  answer.2,
+  answer.3,
+  Each-weaker (λ x. accepts x false) (λ x. follows x false) (λ x. weaker x false) (distinct same answer.0) answer.4,
+  weaker b true answer.5,
+)
+IsAnswer-weaker same accepts follows weaker limit cs ended None answer =
+    (Each-weaker (λ x. accepts x false) (λ x. follows x false) (λ x. weaker x false) (distinct same (take limit cs)) answer.0, answer.1)
+
+-- and so is a selection
+pub Selects-weaker : {B S : Type 0} (same : B → B → Bool) (accepts follows : B → Bool → Type 0) → ((x : B) (a : Bool) → accepts x a → follows x a)
+    → (limit : ℕ) (gives : S → Draw → S → Type 0) (walks : List Draw → List B → Bool → Type 0) (s : S) (r : Result (Option B) Refusal) (t : S)
+    → Selects same accepts limit gives walks s r t → Selects same follows limit gives walks s r t
+Selects-weaker same accepts follows weaker limit gives walks s (Ok r) t selects =
+    (selects.0, selects.1, selects.2, IsAnswer-weaker same accepts follows weaker limit selects.0 selects.1 r selects.3)
+Selects-weaker same accepts follows weaker limit gives walks s (Err e) t selects = selects
 
 -- what was drawn for an answer is at most one candidate more than the limit
 within_limit : {B : Type 0} (same : B → B → Bool) (accepts : B → Bool → Type 0) (limit : ℕ) (cs : List B) (ended : Bool) (r : Option B)

@@ -1,18 +1,17 @@
 -- A selection on its way: what the unique walk has gone past and refused, and what each end of the search answers.
-use Rattle.std.specs.Prelude.{◌≡◌, ℕ, ◌+◌, ◌-◌, ◌<◌, ◌≤◌, Bool, true, false, List, [], ◌∷◌, ◌++◌, length, take, Option, Some, None, Result, Ok, Err, refl}
-use Rattle.std.proofs.Common.{sym, ap, ◌∙◌, append_assoc, arith, inl, inr, length-append, ◌⊎◌, ⊎_elim}
+use Rattle.std.specs.Prelude.{◌≡◌, ℕ, ◌+◌, ◌-◌, ◌<◌, ◌≤◌, Bool, true, false, List, [], ◌∷◌, ◌++◌, length, Option, Some, None, Result, Ok, Err, refl}
+use Rattle.std.proofs.Common.{sym, ap, ◌∙◌, append_assoc, arith, inl, inr, length-append}
 use Rattle.std.specs.List.{AllByRecursion as Each}
 use Rattle.std.specs.Result.{IsErrAnd}
 use Rattle.std.proofs.lemmas.List.{take_all, take_at}
 use Rattle.lb_select.specs.declared.refusal.Refusal.{Refusal}
-use Rattle.lb_select.specs.declared.refusal.Refusal.TheVariants.{OutOfMemory}
 use Rattle.lb_select.specs.declared.unique.UniqueIterator.{UniqueIterator}
 use Rattle.lb_select.specs.Backends.{Member, same_member}
 use Rattle.lb_select.specs.Draws.{Draw, Gives}
 use Rattle.lb_select.specs.Walks.{Continues, Begins}
 use Rattle.lb_select.specs.Unique.{distinct, StandsAt, IsTurn}
-use Rattle.lb_select.specs.Selections.{IsAnswer, IsWalked, Selects}
-use Rattle.lb_select.proofs.Lists.{append-nil, Each-push}
+use Rattle.lb_select.specs.Selections.{IsWalked, EndsDistinct, Selects}
+use Rattle.lb_select.proofs.Lists.{Each-push}
 use Rattle.lb_select.proofs.Turns.{Gives-append, Continues-append, Continues-closed}
 
 module _ {I S : Type 0} (gives : S → Draw → S → Type 0) (walk : I → List Draw → List Member → Bool → Type 0)
@@ -161,7 +160,16 @@ module _ {I S : Type 0} (gives : S → Draw → S → Type 0) (walk : I → List
         let same : n.max_iterations ≡ u.max_iterations = turn.limit in
         let bound : u.max_iterations ≡ limit = p.within in
         let few : length cs ≤ limit = omega arith in
-        (refused ∙ turn.gave.0, inr (cs, begun s₀ i s v ds cs false begins drawn w, few))
+        let skipped = turn.gave.6.0 in
+        let b = turn.gave.6.1 in
+        let new = turn.gave.6.3 p.searched p.stands in
+        let new_last : EndsDistinct same_member cs = (
+          p.searched ++ skipped,
+          b,
+          ap (λ xs. p.searched ++ xs) turn.gave.6.2 ∙ sym (append_assoc p.searched skipped (b ∷ [])),
+          new.1 ∙ ap (λ xs. xs ++ b ∷ []) (sym new.0),
+        ) in
+        (refused ∙ turn.gave.0, inr (cs, begun s₀ i s v ds cs false begins drawn w, few, new_last))
 
     -- a walk that could not be begun has drawn nothing
     pub begins_refused : {s₀ s : S} (e : Refusal) → Begins gives walk walks s₀ (Err e) s

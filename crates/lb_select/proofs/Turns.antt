@@ -16,7 +16,7 @@ use Rattle.lb_select.specs.declared.unique.UniqueIterator.{UniqueIterator}
 use Rattle.lb_select.specs.Backends.{Member, member_cmp, same_member}
 use Rattle.lb_select.specs.Draws.{Draw, Gives}
 use Rattle.lb_select.specs.Walks.{Continues, IsStep}
-use Rattle.lb_select.specs.Unique.{distinct, has_backend, has_seen, with_kept, StandsAt, IsTurn}
+use Rattle.lb_select.specs.Unique.{distinct, has_backend, has_seen, with_kept, StandsAt, EndsNew, IsTurn}
 use Rattle.lb_select.proofs.Lists.{append-nil, Each-push, Each-weaker, distinct-new, distinct-repeats, any-repeats}
 
 -- backends are in one order, so identity is an equivalence
@@ -100,7 +100,25 @@ module _ {I : Type 0} where
         distinct-repeats same_member cs bs old,
       )
 
-  -- past repeats and a new one it stands further on, with that one
+  -- past repeats and a new one there is one distinct backend more
+  distinct_more : (u : UniqueIterator I) (cs skipped : List Member) (b : Member)
+      → Each (λ x. has_seen u x ≡ true) skipped → has_seen u b ≡ false → StandsAt u cs
+      → (distinct same_member (cs ++ skipped) ≡ distinct same_member cs)
+      × (distinct same_member (cs ++ (skipped ++ b ∷ [])) ≡ distinct same_member cs ++ b ∷ [])
+      × ((q : Member) → list_any (same_member q) (cs ++ (skipped ++ b ∷ [])) ≡ (has_seen u q || same_member q b))
+  distinct_more u cs skipped b repeats new stands =
+      let old = Each-weaker (λ x. has_seen u x ≡ true) (λ x. list_any (same_member x) cs ≡ true)
+      (λ (x : Member) (h : has_seen u x ≡ true). sym (stands.seen x) ∙ h) skipped repeats in
+      let whole : cs ++ (skipped ++ b ∷ []) ≡ (cs ++ skipped) ++ b ∷ [] = sym (append_assoc cs skipped (b ∷ [])) in
+      let kept : distinct same_member (cs ++ skipped) ≡ distinct same_member cs = distinct-repeats same_member cs skipped old in
+      let found : (q : Member) → list_any (same_member q) (cs ++ skipped) ≡ has_seen u q
+      = λ q. any-repeats same_member same_equiv cs skipped old q ∙ sym (stands.seen q) in (
+        kept,
+        ap (distinct same_member) whole ∙ distinct-new same_member (cs ++ skipped) b (found b ∙ new) ∙ ap (λ xs. xs ++ b ∷ []) kept,
+        λ q. ap (list_any (same_member q)) whole ∙ any-push (same_member q) (cs ++ skipped) b ∙ ap (λ v. v || same_member q b) (found q),
+      )
+
+  -- and the unique walk stands further on, with that one
   stands_new : (u n : UniqueIterator I) (cs skipped : List Member) (b : Member)
       → n.max_iterations ≡ u.max_iterations → n.steps ≡ u.steps + length (skipped ++ b ∷ []) → (u.steps ≤ u.max_iterations → n.steps ≤ n.max_iterations)
       → ((q : Member) → has_seen n q ≡ (has_seen u q || same_member q b)) → Each (λ x. has_seen u x ≡ true) skipped → has_seen u b ≡ false
@@ -109,24 +127,19 @@ module _ {I : Type 0} where
       × (distinct same_member (cs ++ skipped) ≡ distinct same_member cs)
       × (distinct same_member (cs ++ (skipped ++ b ∷ [])) ≡ distinct same_member cs ++ b ∷ [])
   stands_new u n cs skipped b limit counted within more repeats new stands =
-      let old = Each-weaker (λ x. has_seen u x ≡ true) (λ x. list_any (same_member x) cs ≡ true)
-      (λ (x : Member) (h : has_seen u x ≡ true). sym (stands.seen x) ∙ h) skipped repeats in
+      let now = distinct_more u cs skipped b repeats new stands in
       let sum : length (cs ++ (skipped ++ b ∷ [])) ≡ length cs + length (skipped ++ b ∷ []) = length-append cs (skipped ++ b ∷ []) in
       let begun : u.steps ≡ length cs = stands.steps in
       let low : length cs ≤ u.max_iterations = stands.limit in
       let begun_within : u.steps ≤ u.max_iterations = omega arith in
-      let inside : n.steps ≤ n.max_iterations = within begun_within in
-      let whole : cs ++ (skipped ++ b ∷ []) ≡ (cs ++ skipped) ++ b ∷ [] = sym (append_assoc cs skipped (b ∷ [])) in
-      let kept : distinct same_member (cs ++ skipped) ≡ distinct same_member cs = distinct-repeats same_member cs skipped old in
-      let found : (q : Member) → list_any (same_member q) (cs ++ skipped) ≡ has_seen u q
-      = λ q. any-repeats same_member same_equiv cs skipped old q ∙ sym (stands.seen q) in (
+      let inside : n.steps ≤ n.max_iterations = within begun_within in (
         record {
           steps = omega arith;
           limit = omega arith;
-          seen = λ q. more q ∙ sym (ap (list_any (same_member q)) whole ∙ any-push (same_member q) (cs ++ skipped) b ∙ ap (λ v. v || same_member q b) (found q));
+          seen = λ q. more q ∙ sym (now.2 q);
         },
-        kept,
-        ap (distinct same_member) whole ∙ distinct-new same_member (cs ++ skipped) b (found b ∙ new) ∙ ap (λ xs. xs ++ b ∷ []) kept,
+        now.0,
+        now.1,
       )
 
 module _ {I S : Type 0} (gives : S → Draw → S → Type 0) (walk : I → List Draw → List Member → Bool → Type 0) where
@@ -229,23 +242,31 @@ module _ {I S : Type 0} (gives : S → Draw → S → Type 0) (walk : I → List
 
   -- or is refused there, with nothing new seen
   pub turn_refused : {u : UniqueIterator I} {s : S} {n : UniqueIterator I} {t : S} (b : Member) (j : I) (seen : SeenBackends) (v : S) (r : Result (Option Member) Refusal)
-      → Turning u s n t → IsStep gives walk n.iter t (Some b) j v → n.steps < n.max_iterations
+      → Turning u s n t → IsStep gives walk n.iter t (Some b) j v → has_seen n b ≡ false → n.steps < n.max_iterations
       → ((q : Member) → has_backend seen q ≡ has_seen n q) → IsErrAnd r (λ e. e ≡ OutOfMemory)
       → IsTurn gives walk u s r (with_kept (record n { iter = j; steps = n.steps + 1; seen = seen }) r) v
-  turn_refused b j seen v (Ok o) p step room same refused = absurd refused
-  turn_refused {u} {s} {n} {t} b j seen v (Err e) p step room same refused = record {
+  turn_refused b j seen v (Ok o) p step new room same refused = absurd refused
+  turn_refused {u} {s} {n} {t} b j seen v (Err e) p step new room same refused = record {
     draws = p.draws ++ step.0;
     passed = p.passed ++ b ∷ [];
     drawn = Gives-append gives s t v p.draws step.0 p.drawn step.1;
     limit = p.limit;
     gave =
         let l : length (p.passed ++ b ∷ []) ≡ length p.passed + 1 = length-append p.passed (b ∷ []) in
-        let c = p.counted in (
+        let c = p.counted in
+        let ends : EndsNew u (p.passed ++ b ∷ []) = (
+          p.passed,
+          b,
+          refl,
+          λ cs stands.
+              let now = distinct_more u cs p.passed b p.repeats (sym (p.kept b) ∙ new) stands in (now.0, now.1),
+        ) in (
           refused,
           omega arith,
           Continues-append walk u.iter n.iter j p.draws step.0 p.passed (b ∷ []) p.goes step.2,
           λ q. same q ∙ p.kept q,
           omega arith,
           omega arith,
+          ends,
         );
   }

@@ -23,6 +23,11 @@ module _ {B : Type 0} (same : B → B → Bool) (accepts : B → Bool → Type 0
       Each (λ x. accepts x false) (distinct same (take limit cs))
       × ((length cs ≡ limit + 1) ⊎ ((ended ≡ true) × (length cs ≤ limit)))
 
+-- the last of these candidates is of an identity that did not come before
+abbrev pub EndsDistinct : {B : Type 0} → (B → B → Bool) → List B → Type 0
+EndsDistinct {B} same cs =
+    (before : List B) × (b : B) × (cs ≡ before ++ b ∷ []) × (distinct same cs ≡ distinct same before ++ b ∷ [])
+
 module _ {B S : Type 0} (gives : S → Draw → S → Type 0) (walks : List Draw → List B → Bool → Type 0) where
   -- the source went from s to t by the draws of a walk with these candidates
   pub record IsWalked (s t : S) (cs : List B) (ended : Bool) : Type 0 where
@@ -30,12 +35,12 @@ module _ {B S : Type 0} (gives : S → Draw → S → Type 0) (walks : List Draw
     pub drawn : Gives gives s draws t
     pub walked : walks draws cs ended
 
--- What a selection answers, where the source went from s to t. It is refused for memory alone: before any draw, or after
--- candidates within the limit.
+-- What a selection answers, where the source went from s to t. It is refused for memory alone: before any draw, or at a
+-- new candidate within the limit.
 abbrev pub Selects :
     {B S : Type 0} → (B → B → Bool) → (B → Bool → Type 0) → ℕ → (S → Draw → S → Type 0) → (List Draw → List B → Bool → Type 0)
     → S → Result (Option B) Refusal → S → Type 0
 Selects {B} same accepts limit gives walks s (Ok r) t =
     (cs : List B) × (ended : Bool) × IsWalked gives walks s t cs ended × IsAnswer same accepts limit cs ended r
 Selects {B} same accepts limit gives walks s (Err e) t =
-    (e ≡ OutOfMemory) × ((t ≡ s) ⊎ ((cs : List B) × IsWalked gives walks s t cs false × (length cs ≤ limit)))
+    (e ≡ OutOfMemory) × ((t ≡ s) ⊎ ((cs : List B) × IsWalked gives walks s t cs false × (length cs ≤ limit) × EndsDistinct same cs))

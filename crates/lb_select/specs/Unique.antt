@@ -46,9 +46,17 @@ pub record StandsAt {I : Type 0} (u : UniqueIterator I) (cs : List Member) : Typ
   pub limit : length cs ≤ u.max_iterations
   pub seen : (q : Member) → has_seen u q ≡ list_any (same_member q) cs
 
+-- the last of these candidates is a backend that u has not seen, and those before it are repeats
+abbrev pub EndsNew : {I : Type 0} → UniqueIterator I → List Member → Type 0
+EndsNew u bs =
+    (skipped : List Member) × (b : Member) × (bs ≡ skipped ++ b ∷ [])
+    × ((cs : List Member) → StandsAt u cs
+    → (distinct same_member (cs ++ skipped) ≡ distinct same_member cs)
+    × (distinct same_member (cs ++ bs) ≡ distinct same_member cs ++ b ∷ []))
+
 -- What a turn from u to n gave that made these draws and went past these candidates. A backend is the last of them, new
 -- by its identity, and those before it are repeats. With `None` all of them are repeats, and either the walk ended or one
--- more candidate came past the limit. A refusal comes for memory alone, at a candidate that was counted already.
+-- more candidate came past the limit. A refusal comes for memory alone, at a new backend, which was counted already.
 abbrev pub Gave :
     {I : Type 0} → (I → List Draw → List Member → Bool → Type 0)
     → UniqueIterator I → UniqueIterator I → List Draw → List Member → Result (Option Member) Refusal → Type 0
@@ -70,6 +78,7 @@ Gave walk u n ds bs (Err e) =
     × ((q : Member) → has_seen n q ≡ has_seen u q)
     × (n.steps ≡ u.steps + length bs)
     × (n.steps ≤ n.max_iterations)
+    × EndsNew u bs
 
 -- a turn: the draws that were made, the candidates that were gone past, the limit kept, and what it gave
 pub record IsTurn {I S : Type 0} (gives : S → Draw → S → Type 0) (walk : I → List Draw → List Member → Bool → Type 0)
