@@ -10,6 +10,7 @@ pub mod Founding
 pub mod FoundingMore
 pub mod Frames
 pub mod GroupMade
+pub mod GroupTold
 pub mod GroupUpdated
 pub mod Held
 pub mod KindAbsent
