@@ -32,6 +32,7 @@ pub mod Makers
 pub mod Permits
 pub mod PlaceCases
 pub mod Places
+pub mod PutBack
 pub mod Runs
 pub mod SameSets
 pub mod SelectAbsent

@@ -47,20 +47,21 @@ impl<S: BackendSelection> World<S> {
         ensures { (h : History S.Config) → Stands (meaning S.walks S.refusal S.may_draw_random) self.old h
             → Stands (meaning S.walks S.refusal S.may_draw_random) self.new ((seen.update group now backends.items, result) ∷ h) }
     {
+        let is_there = (group as usize) < self.groups.len();
         if has_refused(&backends) {
             return Answer::Refused(Refusal::InvalidAddress);
         }
-        if group as usize >= self.groups.len() {
+        if !is_there {
             return Answer::Refused(Refusal::NoSuch);
         }
         let entry = &mut self.groups[group as usize];
         if entry.newest() == u64::MAX && entry.differs(&backends) {
             return Answer::Refused(Refusal::GenerationsExhausted);
         }
-        match set_from(self.alloc, backends) {
-            Ok(set) => entry.update(self.alloc, set),
-            Err(refusal) => Answer::Refused(refusal),
-        }
+        let Ok(set) = set_from(self.alloc, backends) else {
+            return Answer::Refused(Refusal::OutOfMemory);
+        };
+        entry.update(self.alloc, set)
     }
 }
 
