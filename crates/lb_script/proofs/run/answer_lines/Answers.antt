@@ -3,7 +3,7 @@ use Rattle.std.specs.Io.KnownBytes.{Appends, prepend_known}
 use Rattle.lb_world.specs.Meanings.{meaning}
 use Rattle.lb_script.specs.Counted.{inner_of, has_failed}
 use Rattle.lb_script.specs.Stream.{AppendsFront}
-use Rattle.lb_script.proofs.RunLemmas.{goes_on, is_over, ends_early, ends_in_part, stops_in_line, runs_out, runs_out_in_part}
+use Rattle.lb_script.proofs.RunLemmas.{begins, goes_on, is_over, ends_early, ends_in_part, stops_in_line, runs_out, runs_out_in_part}
 use Rattle.lb_script.proofs.StreamLemmas.{on_err}
 use Rattle.lb_script.proofs.run.answer_lines.Goals as goal
 
@@ -43,3 +43,10 @@ returns-in_err-put_error-clause-part g c =
 pub returns-clause-ok : goal.returns-clause-ok
 returns-clause-ok g c =
     runs_out (meaning g.S.BackendSelection.walks g.S.BackendSelection.refusal g.S.BackendSelection.may_draw_random) (g.R.Read.remaining (inner_of c.args.reader.now)) (prepend_known c.loop-number.session.ahead (g.R.Read.remaining (inner_of c.loop-number.reader))) (g.W.Write.contents (inner_of c.args.writer.now)) (g.W.Write.contents (inner_of c.loop-number.writer)) (g.W.Write.contents (inner_of c.put_error-2.new.writer)) c.loop-number.session.world c.loop-number.session.has_registry c.loop-number.number (has_failed c.loop-number.reader) c.loop-number.invariant.so_far (omega arith) c.loop-number.invariant.fresh_reader c.in_ok-put_error.ensures.ok
+
+pub loop-number-init : goal.loop-number-init
+loop-number-init g c = record {
+  fresh_reader = c.requires.fresh_reader;
+  fresh_writer = c.requires.fresh_writer;
+  so_far = begins (meaning g.S.BackendSelection.walks g.S.BackendSelection.refusal g.S.BackendSelection.may_draw_random) (g.R.Read.remaining (inner_of c.args.reader.now)) c.new-session.result.ahead (g.W.Write.contents (inner_of c.args.writer.now)) c.new-session.result.world c.new-session.result.has_registry c.new-session.ensures.ahead c.new-session.ensures.holds;
+}
