@@ -5,6 +5,7 @@ use std::alloc::Global;
 use std::io::{self, Read};
 
 /// What a script should answer, and with which status.
+#[derive(Drop)]
 pub(crate) struct Outcome<'a> {
     answers: &'a [u8],
     status: u8,
