@@ -38,7 +38,10 @@ pub(crate) fn long_line(alloc: Global, length: usize, answers: &[u8]) -> io::Res
 
 /// Whether a build over so many backends answers so, after the group was made and updated.
 pub(crate) fn many_backends(alloc: Global, count: u32, built: &[u8]) -> io::Result<bool> {
-    let mut script = String::from_str(alloc, "registry identity\ngate\ngroup 0 0 rr 1\nupdate 0 0")?;
+    let mut script = String::from_str(
+        alloc,
+        "registry identity\ngate\ngroup 0 0 rr 1\nupdate 0 0",
+    )?;
     for number in 0..count {
         let high = number / 256 % 256;
         let low = number % 256;

@@ -4,7 +4,7 @@
 
 mod made;
 
-use made::{Failing, Outcome, agrees, many_backends, long_line};
+use made::{Failing, Outcome, agrees, long_line, many_backends};
 use std::alloc::Global;
 use std::fs;
 use std::io::{self, Cursor};
@@ -62,11 +62,30 @@ fn main(rt: HostRuntime) -> io::Result<()> {
         println!(rt; "{name}: {}", told(row(&rt, name)?))?;
     }
     let alloc = rt.alloc();
-    println!(rt; "a line of 16777216 bytes: {}", told(long_line(alloc, 16777216, b"error 1 BadLine\n")?))?;
-    println!(rt; "a line of 16777217 bytes: {}", told(long_line(alloc, 16777217, b"error 1 LineTooLong\n")?))?;
-    println!(rt; "65536 backends: {}", told(many_backends(alloc, 65536, b"failed 1 3 TooManyBackends\n")?))?;
-    println!(rt; "65535 backends: {}", told(many_backends(alloc, 65535, b"built 1\n")?))?;
+    println!(rt;
+        "a line of 16777216 bytes: {}",
+        told(long_line(alloc, 16777216, b"error 1 BadLine\n")?)
+    )?;
+    println!(rt;
+        "a line of 16777217 bytes: {}",
+        told(long_line(alloc, 16777217, b"error 1 LineTooLong\n")?)
+    )?;
+    println!(rt;
+        "65536 backends: {}",
+        told(many_backends(alloc, 65536, b"failed 1 3 TooManyBackends\n")?)
+    )?;
+    println!(rt;
+        "65535 backends: {}",
+        told(many_backends(alloc, 65535, b"built 1\n")?)
+    )?;
     let failing = Failing::after(b"registry identity\ngate\ngro");
-    println!(rt; "a read that fails: {}", told(agrees(alloc, failing, &Outcome::of(b"registry 0\ngate 0\nerror 3 Read\n"))))?;
+    println!(rt;
+        "a read that fails: {}",
+        told(agrees(
+            alloc,
+            failing,
+            &Outcome::of(b"registry 0\ngate 0\nerror 3 Read\n")
+        ))
+    )?;
     Ok(())
 }

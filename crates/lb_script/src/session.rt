@@ -16,11 +16,11 @@ use crate::error::ScriptError;
 use crate::lines::{Found, read_line};
 use crate::parse::parse;
 use crate::texts::push_answer;
-use lb_world::world::World;
 use lb_kinds::kinds::Kind;
 use lb_select::walk::BackendSelection;
 use lb_world::answer::Answer;
 use lb_world::step::Step;
+use lb_world::world::World;
 use std::alloc::Global;
 use std::io::Read;
 

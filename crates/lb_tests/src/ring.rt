@@ -50,7 +50,10 @@ fn owners(rt: HostRuntime) -> Result<(), Fail> {
 #[test]
 fn first_choices(rt: HostRuntime) -> Result<(), Fail> {
     let alloc = rt.alloc();
-    let all = set_of(alloc, &[("1.1.1.1:80", 1), ("1.0.0.1:80", 1), ("1.0.0.255:80", 1)])?;
+    let all = set_of(
+        alloc,
+        &[("1.1.1.1:80", 1), ("1.0.0.1:80", 1), ("1.0.0.255:80", 1)],
+    )?;
     let fewer = set_of(alloc, &[("1.1.1.1:80", 1), ("1.0.0.1:80", 1)])?;
     let ring = Arc::new(alloc, KetamaHashing::build(alloc, &all)?)?;
     let smaller = Arc::new(alloc, KetamaHashing::build(alloc, &fewer)?)?;

@@ -14,6 +14,7 @@ use std::sync::Arc;
 use std::test::Fail;
 
 const WEIGHTS: [(&str, usize); 3] = [("1.1.1.1:80", 1), ("1.0.0.1:80", 10), ("1.0.0.255:80", 1)];
+
 const TURNS: [(&str, usize); 3] = [("1.1.1.1:80", 1), ("1.0.0.1:80", 8), ("1.0.0.255:80", 1)];
 
 fn words() -> CoreWords<Pcg64> {
@@ -26,7 +27,10 @@ fn fnv_walk(rt: HostRuntime) -> Result<(), Fail> {
     let set = set_of(alloc, &WEIGHTS)?;
     let selector = Arc::new(alloc, FNVHash::build(alloc, &set)?)?;
     let text = walked(alloc, &selector, b"test", &mut words(), 11)?;
-    assert_eq!(rt; text.as_str(), "1.0.0.1:80 1.0.0.1:80 1.0.0.1:80 1.1.1.1:80 1.0.0.255:80 1.0.0.1:80 1.0.0.1:80 1.1.1.1:80 1.0.0.1:80 1.0.0.255:80 1.1.1.1:80 ");
+    assert_eq!(rt;
+        text.as_str(),
+        "1.0.0.1:80 1.0.0.1:80 1.0.0.1:80 1.1.1.1:80 1.0.0.255:80 1.0.0.1:80 1.0.0.1:80 1.1.1.1:80 1.0.0.1:80 1.0.0.255:80 1.1.1.1:80 "
+    );
     Ok(())
 }
 
@@ -37,8 +41,19 @@ fn turns(rt: HostRuntime) -> Result<(), Fail> {
     let selector = Arc::new(alloc, RoundRobin::build(alloc, &set)?)?;
     let mut words = words();
     let one = walked(alloc, &selector, b"", &mut words, 5)?;
-    assert_eq!(rt; one.as_str(), "1.0.0.1:80 1.0.0.255:80 1.1.1.1:80 1.0.0.1:80 1.0.0.255:80 ");
-    for wanted in ["1.0.0.1:80 ", "1.0.0.1:80 ", "1.0.0.1:80 ", "1.0.0.255:80 ", "1.1.1.1:80 ", "1.0.0.1:80 ", "1.0.0.1:80 "] {
+    assert_eq!(rt;
+        one.as_str(),
+        "1.0.0.1:80 1.0.0.255:80 1.1.1.1:80 1.0.0.1:80 1.0.0.255:80 "
+    );
+    for wanted in [
+        "1.0.0.1:80 ",
+        "1.0.0.1:80 ",
+        "1.0.0.1:80 ",
+        "1.0.0.255:80 ",
+        "1.1.1.1:80 ",
+        "1.0.0.1:80 ",
+        "1.0.0.1:80 ",
+    ] {
         let first = walked(alloc, &selector, b"", &mut words, 1)?;
         assert_eq!(rt; first.as_str(), wanted);
     }
@@ -52,11 +67,25 @@ fn a_fallback_disregards_weights(rt: HostRuntime) -> Result<(), Fail> {
     let set = set_of(alloc, &[("1.0.0.1:80", 0), ("1.0.0.2:80", 2)])?;
     let selector = Arc::new(alloc, RoundRobin::build(alloc, &set)?)?;
     let mut enough = words();
-    let found = select(alloc, &selector, b"k", &mut enough, 3, &|b: &Backend| b.weight == 0)?;
+    let found = select(
+        alloc,
+        &selector,
+        b"k",
+        &mut enough,
+        3,
+        &|b: &Backend| b.weight == 0,
+    )?;
     assert_eq!(rt; found.is_some_and(|b| b.weight == 0), true);
     assert_eq!(rt; enough.tickets, 3);
     let mut short = words();
-    let missed = select(alloc, &selector, b"k", &mut short, 2, &|b: &Backend| b.weight == 0)?;
+    let missed = select(
+        alloc,
+        &selector,
+        b"k",
+        &mut short,
+        2,
+        &|b: &Backend| b.weight == 0,
+    )?;
     assert_eq!(rt; missed.is_none(), true);
     assert_eq!(rt; short.tickets, 3);
     Ok(())
@@ -65,11 +94,21 @@ fn a_fallback_disregards_weights(rt: HostRuntime) -> Result<(), Fail> {
 #[test]
 fn a_limit_of_nothing_draws_one_word(rt: HostRuntime) -> Result<(), Fail> {
     let alloc = rt.alloc();
-    for (members, limit) in [([("1.0.0.1:80", 1), ("1.0.0.2:80", 1)], 0), ([("1.0.0.1:80", 0), ("1.0.0.2:80", 0)], 5)] {
+    for (members, limit) in [
+        ([("1.0.0.1:80", 1), ("1.0.0.2:80", 1)], 0),
+        ([("1.0.0.1:80", 0), ("1.0.0.2:80", 0)], 5),
+    ] {
         let set = set_of(alloc, &members)?;
         let selector = Arc::new(alloc, RoundRobin::build(alloc, &set)?)?;
         let mut words = words();
-        let found = select(alloc, &selector, b"k", &mut words, limit, &|_: &Backend| true)?;
+        let found = select(
+            alloc,
+            &selector,
+            b"k",
+            &mut words,
+            limit,
+            &|_: &Backend| true,
+        )?;
         assert_eq!(rt; found.is_none(), true);
         assert_eq!(rt; words.tickets, 1);
     }
@@ -79,7 +118,10 @@ fn a_limit_of_nothing_draws_one_word(rt: HostRuntime) -> Result<(), Fail> {
 #[test]
 fn a_ticket_that_wraps(rt: HostRuntime) -> Result<(), Fail> {
     let alloc = rt.alloc();
-    let set = set_of(alloc, &[("1.0.0.1:80", 1), ("1.0.0.2:80", 1), ("1.0.0.3:80", 1)])?;
+    let set = set_of(
+        alloc,
+        &[("1.0.0.1:80", 1), ("1.0.0.2:80", 1), ("1.0.0.3:80", 1)],
+    )?;
     let selector = Arc::new(alloc, RoundRobin::build(alloc, &set)?)?;
     let mut words = CoreWords {
         tickets: u64::MAX,
@@ -150,7 +192,16 @@ fn too_large_weights(rt: HostRuntime) -> Result<(), Fail> {
 #[test]
 fn refused_texts(rt: HostRuntime) -> Result<(), Fail> {
     let alloc = rt.alloc();
-    for text in ["1.1.1.1", "[fe80::1%3]:80", "", "1.1.1.1:65536", "01.1.1.1:80", "host:80", "[::1]", "[::1]:"] {
+    for text in [
+        "1.1.1.1",
+        "[fe80::1%3]:80",
+        "",
+        "1.1.1.1:65536",
+        "01.1.1.1:80",
+        "host:80",
+        "[::1]",
+        "[::1]:",
+    ] {
         let refused = Backend::new(alloc, text).err();
         assert_eq!(rt; refused, Some(Refusal::InvalidAddress), "{text}");
     }

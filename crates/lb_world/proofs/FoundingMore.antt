@@ -134,8 +134,8 @@ module _ {C : Type 0} (M : Meaning C) where
   enter_lacking_here w h g s e readers sound stands at_group within numbers same =
       subst (λ l. Stands M (record w { groups = slice_set w.groups g e; readers = l }) ((step.enter g s, answer.Refused refusal.OutOfMemory) ∷ h)) (sym same)
       (
-        subst (λ v. Stands M v ((step.enter g s, answer.Refused refusal.OutOfMemory) ∷ h)) (sym (entry_here w g e e at_group refl))
-            (enter_lacking w h g s e sound stands at_group within numbers)
+      subst (λ v. Stands M v ((step.enter g s, answer.Refused refusal.OutOfMemory) ∷ h)) (sym (entry_here w g e e at_group refl))
+      (enter_lacking w h g s e sound stands at_group within numbers)
       )
 
   -- an entry that refused a reader; the readers are as they were
@@ -161,12 +161,12 @@ module _ {C : Type 0} (M : Meaning C) where
       × Stands M (record w { groups = slice_set w.groups g e2; readers = l }) ((step.enter g s, answer.Reader number) ∷ h))
       (sym made)
       (
-        subst
-            (λ n. IsSound (record w { groups = slice_set w.groups g e2; readers = w.readers ++ Some (record { group = g; slot = r.slot; generation = r.generation }) ∷ [] })
-            × Stands M
-            (record w { groups = slice_set w.groups g e2; readers = w.readers ++ Some (record { group = g; slot = r.slot; generation = r.generation }) ∷ [] })
-            ((step.enter g s, answer.Reader n) ∷ h))
-            (sym last) (enter_done M w h g s e r e2 sound stands at_group numbers did)
+      subst
+      (λ n. IsSound (record w { groups = slice_set w.groups g e2; readers = w.readers ++ Some (record { group = g; slot = r.slot; generation = r.generation }) ∷ [] })
+      × Stands M
+      (record w { groups = slice_set w.groups g e2; readers = w.readers ++ Some (record { group = g; slot = r.slot; generation = r.generation }) ∷ [] })
+      ((step.enter g s, answer.Reader n) ∷ h))
+      (sym last) (enter_done M w h g s e r e2 sound stands at_group numbers did)
       )
 
   -- no number is left for a reader; the group is as it was

@@ -9,6 +9,7 @@ use std::process::ExitCode;
 use std::rt::Env;
 
 const BAD_ARGUMENTS: &[u8] = b"error 0 BadArguments\n";
+
 const OUT_OF_MEMORY: &[u8] = b"error 1 OutOfMemory\n";
 
 // Whether the program was given an argument, text or not.

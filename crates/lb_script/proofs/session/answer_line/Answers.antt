@@ -8,10 +8,10 @@ returns-clause-line g c =
     λ h held.
     let stands = c.step-answer.ensures h held.stands in
     record {
-        st = step_seen c.in_ok-step.step;
-        a = c.step-answer.result;
-        is = search rules;
-        right = stands.run.1;
-        holds = record { stands = stands; marks = search rules };
-        printed = search rules;
+      st = step_seen c.in_ok-step.step;
+      a = c.step-answer.result;
+      is = search rules;
+      right = stands.run.1;
+      holds = record { stands = stands; marks = search rules };
+      printed = search rules;
     }
