@@ -14,11 +14,22 @@ pub(crate) struct Outcome<'a> {
 impl<'a> Outcome<'a> {
     /// These answers; the status is 1 where the last line is an error.
     pub(crate) fn of(answers: &'a [u8]) -> Outcome<'a> {
-        let lines = answers.strip_suffix(b"\n").unwrap_or(answers);
-        let last = lines.rsplit(|byte| *byte == b'\n').next().unwrap_or(lines);
-        let status = if last.starts_with(b"error ") { 1 } else { 0 };
+        let status = if last_line(answers).starts_with(b"error ") { 1 } else { 0 };
         Outcome { answers, status }
     }
+
+    /// The answers to steps: all lines but an error.
+    pub(crate) fn to_steps(&self) -> &'a [u8] {
+        let error = if self.status == 1 { last_line(self.answers).len() + 1 } else { 0 };
+        let (steps, _) = self.answers.split_at(self.answers.len().saturating_sub(error));
+        steps
+    }
+}
+
+// The last line, without its line feed.
+fn last_line(answers: &[u8]) -> &[u8] {
+    let lines = answers.strip_suffix(b"\n").unwrap_or(answers);
+    lines.rsplit(|byte| *byte == b'\n').next().unwrap_or(lines)
 }
 
 /// Whether a script answers so.

@@ -3,12 +3,14 @@
 #![tactic(auto)]
 
 mod made;
+mod steps;
 
 use made::{Failing, Outcome, agrees, long_line, many_backends};
 use std::alloc::Global;
 use std::fs;
 use std::io::{self, Cursor};
 use std::rt::Files;
+use steps::run_agrees;
 
 // The rows, by the names of their files.
 const ROWS: [&str; 30] = [
@@ -44,13 +46,16 @@ const ROWS: [&str; 30] = [
     "weights",
 ];
 
-// Compares one row with its file of answers; its status is 1 where the answers end with an error.
+// Compares one row with its file of answers, as a script and as a list of steps; the script's status is 1 where the answers
+// end with an error.
 fn row<R: Files + AllocGlobal>(rt: &R, name: &str) -> io::Result<bool> {
     let alloc = rt.alloc();
     let script = fs::read(rt, format!(in alloc; "{name}.script")?)?;
     let answers = fs::read(rt, format!(in alloc; "{name}.answers")?)?;
     let outcome = Outcome::of(answers.as_slice());
-    Ok(agrees(alloc, script.as_slice(), &outcome))
+    let by_script = agrees(alloc, script.as_slice(), &outcome);
+    let by_steps = run_agrees(alloc, script.as_slice(), &outcome)?;
+    Ok(by_script && by_steps)
 }
 
 fn told(agreed: bool) -> &'static str {

@@ -3,7 +3,11 @@
 #![tactic(auto)]
 
 #[cfg(test)]
+mod destruction;
+#[cfg(test)]
 mod made;
+#[cfg(test)]
+mod noting;
 #[cfg(test)]
 mod ring;
 #[cfg(test)]

@@ -1,0 +1,100 @@
+//! A selector that notes when it is gone, in the order of a destruction: it is gone before that is reported to the gate.
+//! It walks as a selector in turn does.
+ghost use Rattle.std.specs.Prelude.{false};
+ghost use Rattle.std.specs.Arc.{arc_value};
+ghost use Rattle.lb_kinds.specs.Kinds.{kind_walks, kind_refusal, kind_undrawn, kind_few_words};
+ghost use Rattle.lb_kinds.specs.declared.kinds.Kind.TheVariants.{RoundRobin as in_turn};
+
+use lb_select::algorithms;
+use lb_select::backend::Backend;
+use lb_select::refusal::Refusal;
+use lb_select::selection::RoundRobin;
+use lb_select::walk::BackendSelection;
+use lb_select::weighted::WeightedIterator;
+use lb_select::words::WordSource;
+use std::alloc::Global;
+use std::collections::BTreeSet;
+use std::marker::Model;
+use std::sync::Arc;
+use std::sync::atomic::{AtomicU64, Ordering};
+
+/// Where selectors count that they are gone; `None` counts nothing. Contracts see nothing of it.
+#[derive(Drop)]
+pub(crate) struct Gone(pub(crate) Option<Arc<AtomicU64>>);
+
+impl Model for Gone {
+    ghost Value = { Unit {0} };
+
+    ghost view = { λ _. tt };
+}
+
+/// A selector in turn that counts once, when it is dropped.
+pub(crate) struct Noting {
+    selector: Arc<RoundRobin>,
+    gone: Gone,
+}
+
+impl Drop for Noting {
+    fn drop(self) {
+        let Noting { selector: _, gone } = self;
+        if let Some(count) = &gone.0 {
+            count.fetch_add(1, Ordering::SeqCst);
+        }
+    }
+}
+
+impl BackendSelection for Noting {
+    type Iter = WeightedIterator<algorithms::RoundRobin>;
+
+    type Config = Gone;
+
+    ghost walks = { λ ms gone. kind_walks ms in_turn };
+
+    ghost members = { λ s. arc_value s.selector };
+
+    ghost built_with = { λ s. tt };
+
+    ghost refusal = { λ ms gone. kind_refusal ms in_turn };
+
+    ghost default_config = { tt };
+
+    ghost may_draw_random = { λ ms gone. false };
+
+    ghost undrawn = { λ ms gone. kind_undrawn ms in_turn };
+
+    ghost few_words = { λ ms gone. kind_few_words ms in_turn };
+
+    fn build(alloc: Global, backends: &BTreeSet<Backend>) -> Result<Noting, Refusal> {
+        Noting::build_with_config(alloc, backends, &Gone(None))
+    }
+
+    fn build_with_config(
+        alloc: Global,
+        backends: &BTreeSet<Backend>,
+        gone: &Gone,
+    ) -> Result<Noting, Refusal> {
+        let selector = RoundRobin::build(alloc, backends)?;
+        let selector = Arc::new(alloc, selector)?;
+        let count = match &gone.0 {
+            Some(count) => Some(count.clone()?),
+            None => None,
+        };
+        Ok(Noting {
+            selector,
+            gone: Gone(count),
+        })
+    }
+
+    fn iter<W: WordSource>(
+        of: &Arc<Noting>,
+        key: &[u8],
+        words: &mut W,
+    ) -> Result<WeightedIterator<algorithms::RoundRobin>, Refusal> {
+        let noting: &Noting = &**of;
+        RoundRobin::iter(&noting.selector, key, words)
+    }
+
+    fn draws_random(&self) -> bool {
+        false
+    }
+}
