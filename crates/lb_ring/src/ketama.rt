@@ -145,7 +145,7 @@ impl BackendIter for OwnedNodeIterator {
 
     fn next<W: WordSource>(&mut self, _words: &mut W) -> Option<&Backend> {
         let index = self.advance();
-        self.ring.get(index)
+        self.backend(index)
     }
 }
 
