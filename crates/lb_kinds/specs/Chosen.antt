@@ -1,11 +1,11 @@
 -- What a selector of one of the kinds was built of, and what is left of a walk of one.
-use Rattle.std.specs.Prelude.{◌≡◌, ℕ, Bool, true, false, List, []}
+use Rattle.std.specs.Prelude.{◌≡◌, Bool, true, false, List, []}
 use Rattle.std.specs.Arc.{arc_value}
 use Rattle.lb_select.specs.Backends.{Member}
 use Rattle.lb_select.specs.Draws.{Draw}
 use Rattle.lb_select.specs.Weights.{IsWeightedRest}
 use Rattle.lb_select.specs.WalkLaws.{rest_none, rest_ends}
-use Rattle.lb_ring.specs.Placed.{Placed, IsWalkFrom}
+use Rattle.lb_ring.specs.Placed.{IsWalkFrom}
 use Rattle.lb_ring.specs.RingLaws.{walk_starts, walk_ends}
 use Rattle.lb_kinds.specs.Kinds.{hash_word, ticket_word}
 use Rattle.lb_kinds.specs.declared.kinds.Kind.{Kind}

@@ -120,6 +120,7 @@ impl KetamaHashing {
 impl OwnedNodeIterator {
     /// Goes one point on, for a walk of several kinds; the index in the set's order of its backend, `None` on a ring without points.
     pub fn advance(&mut self) -> Option<usize>
+        ensures inside { MatchOption result ((arc_value self.old.ring).points ≡ []) (λ i. i < length (arc_value self.old.ring).members) }
         ensures step { IsMove (arc_value self.old.ring) self.old.at (option_and_then (slice_get (arc_value self.old.ring).members) result) self.new.at }
         ensures ring { arc_value self.new.ring ≡ arc_value self.old.ring }
     {
@@ -145,7 +146,7 @@ impl BackendIter for OwnedNodeIterator {
 
     fn next<W: WordSource>(&mut self, _words: &mut W) -> Option<&Backend> {
         let index = self.advance();
-        self.ring.get(index)
+        self.backend(index)
     }
 }
 
