@@ -1,5 +1,5 @@
 -- A list of backends, some of which may be none, has the members that are there.
-use Rattle.std.specs.Prelude.{◌≡◌, Bool, true, false, ◌&&◌, ◌||◌, List, [], ◌∷◌, Option, Some, None, filter_map, refl}
+use Rattle.std.specs.Prelude.{◌≡◌, Bool, ◌&&◌, ◌||◌, List, [], ◌∷◌, Option, Some, None, filter_map, refl}
 use Rattle.std.proofs.Common.{ap, ◌∙◌}
 use Rattle.std.specs.List.{list_all, list_any}
 use Rattle.lb_select.specs.Backends.{Member, same_member}
