@@ -14,6 +14,7 @@ use Rattle.std.proofs.lemmas.Option.{slice_get-get_or, get_or_from_slice_get, sa
 use Rattle.lb_select.specs.Backends.{Member, member_cmp, same_member}
 use Rattle.lb_select.specs.Weights.{total_weight, HoldsPlace, IsFirstChoice, IsFallback, AreCandidates}
 use Rattle.rand_core.specs.Stream.{Stream}
+use Rattle.lb_select.specs.Draws.{CoreGives}
 use Rattle.lb_select.specs.Shares.{words_from, AreExactShares, VisitsAll, TicketsAreConsecutive}
 use Rattle.lb_select.proofs.WeightLemmas.{member_cmp_total, smaller_count, some_member, first_at, fallback_at}
 
@@ -318,7 +319,7 @@ all_are_visited ms sorted weighs w =
 
 -- a counter that does not wrap counts up
 pub consecutive :
-    {S : Type 0} (tickets : S → ℕ) (stream : S → Stream) (load_of : S → Member → ℕ) → TicketsAreConsecutive tickets stream load_of
+    {S : Type 0} (tickets : S → ℕ) (stream : S → Stream) (load_of : S → Member → ℕ) → TicketsAreConsecutive (CoreGives tickets stream load_of) tickets
 consecutive tickets stream load_of s t [] drawn fits = refl
 consecutive tickets stream load_of s t (w ∷ []) (u, gave, rest) fits = ap (λ x. x ∷ []) gave.0
 consecutive tickets stream load_of s t (w ∷ v ∷ ws) (u, gave, rest) fits =

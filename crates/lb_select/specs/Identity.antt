@@ -1,5 +1,5 @@
 -- Backends of one identity have the same address and the same weight, so they are hashed alike.
-use Rattle.std.specs.Prelude.{◌≡◌, ◌++◌, ◌∷◌, Bool, true, IsTrue, refl}
+use Rattle.std.specs.Prelude.{◌≡◌, ◌++◌, IsTrue, refl}
 use Rattle.std.proofs.Common.{ap, ◌∙◌}
 use Rattle.std.proofs.lemmas.Map.Lookups.{exact_bytes, exact_unsigned}
 use Rattle.std.specs.declared.cmp.Ordering.{Ordering}

@@ -1,5 +1,5 @@
 -- Refusals: their numbers, and what it is for a call to be refused exactly for its cause.
-use Rattle.std.specs.Prelude.{◌≡◌, ◌⊎◌, ℕ, List, [], ◌∷◌, codes, nat_le, if◌then◌else◌, Option, Some, None, Result, Ok, Err}
+use Rattle.std.specs.Prelude.{◌≡◌, ◌⊎◌, ℕ, List, codes, Option, Some, None, Result, Ok, Err}
 use Rattle.lb_select.specs.declared.refusal.Refusal.{Refusal}
 use Rattle.lb_select.specs.declared.refusal.Refusal.TheVariants.{InvalidAddress, Discovery, TooManyBackends, WeightTooLarge, TooManyPoints, HealthCheckSet, GenerationsExhausted, GroupCancelled, NoSuch, OutOfMemory, StillRead, NothingInFlight, NothingBuilt, NothingRetired, NoSuchReader, NotEnoughWords, NumbersExhausted}
 
@@ -47,14 +47,3 @@ refusal_name NumbersExhausted = codes "NumbersExhausted"
 abbrev pub Refuses : {T : Type 0} → Option Refusal → (T → Type 0) → Result T Refusal → Type 0
 Refuses cause made (Ok t) = (cause ≡ None) × made t
 Refuses cause made (Err e) = (cause ≡ Some e) ⊎ ((cause ≡ None) × (e ≡ OutOfMemory))
-
--- of two causes, where they stand, the one of the least number
-abbrev pub earlier : Option Refusal → Option Refusal → Option Refusal
-earlier None b = b
-earlier (Some a) None = Some a
-earlier (Some a) (Some b) = Some (if nat_le (refusal_number a) (refusal_number b) then a else b)
-
--- of many causes the one of the least number
-abbrev pub least : List (Option Refusal) → Option Refusal
-least [] = None
-least (c ∷ cs) = earlier c (least cs)

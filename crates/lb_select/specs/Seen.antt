@@ -1,6 +1,6 @@
 -- How the program's values are seen as addresses and members.
 use Rattle.std.specs.Prelude.{ℕ, List, map, string_bytes}
-use Rattle.std.proofs.Common.{String, Vec, Global, w64}
+use Rattle.std.proofs.Common.{String, Vec, Global}
 use Rattle.lb_select.specs.Backends.{Address, ipv4, ipv6, unix, Member}
 use Rattle.lb_select.specs.declared.backend.InetAddr.{InetAddr}
 use Rattle.lb_select.specs.declared.backend.InetAddr.TheVariants.{V4, V6}

@@ -4,9 +4,8 @@
 use Rattle.std.specs.Prelude.{◌≡◌, ℕ, Bool, zero, suc, ◌+◌, ◌^◌, ◌<◌, ◌≤◌, List, [], ◌∷◌, map, length, Contains, count_by}
 use Rattle.std.specs.List.{AllZip}
 use Rattle.std.specs.List.Sorted.{IsStrictlySortedBy}
-use Rattle.rand_core.specs.Stream.{Stream}
 use Rattle.lb_select.specs.Backends.{Member, member_cmp, same_member}
-use Rattle.lb_select.specs.Draws.{Draw, ticket, Gives, CoreGives}
+use Rattle.lb_select.specs.Draws.{Draw, ticket, Gives}
 use Rattle.lb_select.specs.Weights.{total_weight, IsFirstChoice, AreCandidates, IsWeightedWalk}
 
 -- a word and those after it, each one more than the one before; so many in all
@@ -38,10 +37,10 @@ abbrev pub AllAreVisited : Type 0
 AllAreVisited =
     (ms : List Member) → IsStrictlySortedBy member_cmp ms → 0 < total_weight ms → (w : ℕ) → VisitsAll ms w
 
--- tickets of a source with a counter are consecutive up to the one where the counter wraps
-abbrev pub TicketsAreConsecutive : {S : Type 0} → (S → ℕ) → (S → Stream) → (S → Member → ℕ) → Type 0
-TicketsAreConsecutive {S} tickets stream load_of =
-    (s t : S) (ws : List ℕ) → Gives (CoreGives tickets stream load_of) s (map ticket ws) t → tickets s + length ws ≤ 2 ^ 64
+-- tickets of a source are consecutive from its counter on, up to the one where the counter wraps
+abbrev pub TicketsAreConsecutive : {S : Type 0} → (S → Draw → S → Type 0) → (S → ℕ) → Type 0
+TicketsAreConsecutive {S} gives tickets =
+    (s t : S) (ws : List ℕ) → Gives gives s (map ticket ws) t → tickets s + length ws ≤ 2 ^ 64
     → ws ≡ words_from (tickets s) (length ws)
 
 -- two walks over one set with the same key and the same draws give the same candidates, as far as both go

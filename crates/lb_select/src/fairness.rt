@@ -1,11 +1,10 @@
 //! What weights come to over a whole turn of words: laws of weighted selection, over its definitions alone.
 //! Each is a function that does nothing; its contract is the law.
-ghost use Rattle.lb_select.specs.Backends.{Member};
 ghost use Rattle.lb_select.specs.Shares.{WeightsAreExact, AllAreVisited, TicketsAreConsecutive, WalksAreDetermined};
 
 use crate::algorithms::{FnvHasher, Random, RoundRobin};
 use crate::walk::SelectionAlgorithm;
-use crate::words::CoreWords;
+use crate::words::{CoreWords, WordSource};
 use rand_core::Rng;
 
 /// Over as many consecutive words as the weights sum to, each backend of a set is the first choice exactly as often as
@@ -23,7 +22,7 @@ pub fn all_are_visited()
 /// The tickets of `CoreWords` are consecutive words as long as its counter does not wrap at 2^64: so a round of walks by
 /// `RoundRobin` gives exact shares, and one walk visits every backend.
 pub fn tickets_are_consecutive<R: Rng + Drop>()
-    ensures { TicketsAreConsecutive {S = CoreWords R} (λ w. w.tickets) (λ w. R.stream w.generator) (λ (w : _) (m : Member). 0) }
+    ensures { TicketsAreConsecutive ⟦<CoreWords<R> as WordSource>⟧.gives (λ w. w.tickets) }
 {}
 
 /// A walk's candidates are a function of the set, the key and what was drawn: by hashes of the set and the key alone,

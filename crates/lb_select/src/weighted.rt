@@ -194,7 +194,7 @@ impl<H: SelectionAlgorithm> BackendIter for WeightedIterator<H> {
 
     fn next<W: WordSource>(&mut self, words: &mut W) -> Option<&Backend> {
         let index = self.advance(words);
-        self.backend.get(index)
+        self.backend(index)
     }
 }
 
