@@ -10,7 +10,7 @@ pub fn number(word: &str) -> Option<u64>
     ensures { result ≡ number_of (2 ^ 64) word.now }
 {
     if is_spelled(word.as_bytes()) {
-        word.parse().ok()
+        word.parse::<u64>().ok()
     } else {
         None
     }
@@ -21,7 +21,7 @@ pub fn wide_number(word: &str) -> Option<u128>
     ensures { result ≡ number_of (2 ^ 128) word.now }
 {
     if is_spelled(word.as_bytes()) {
-        word.parse().ok()
+        word.parse::<u128>().ok()
     } else {
         None
     }

@@ -6,7 +6,7 @@ use lb_select::select::select;
 use lb_select::selection::{FNVHash, Random, RoundRobin};
 use lb_select::unique::UniqueIterator;
 use lb_select::walk::BackendSelection;
-use lb_select::words::{CoreWords, SharedWords};
+use lb_select::words::{CoreWords, SharedWords, WordSource};
 use rand_pcg::Pcg64;
 use std::alloc::Global;
 use std::collections::BTreeSet;
@@ -146,6 +146,21 @@ fn random_words_select(rt: HostRuntime) -> Result<(), Fail> {
     let mut lent = shared.lend(&rt);
     let found = select(alloc, &selector, b"k", &mut lent, 3, &|_: &Backend| true)?;
     assert_eq!(rt; found.is_some(), true);
+    Ok(())
+}
+
+// No contract tells what a lock and a shared counter contain; of one thread alone they are the counter and the generator.
+#[test]
+fn shared_words_are_the_core_words_of_one_thread(rt: HostRuntime) -> Result<(), Fail> {
+    let shared = SharedWords::new(Pcg64::new(3, 4));
+    let mut core = CoreWords::new(Pcg64::new(3, 4));
+    for _ in 0..3u32 {
+        let mut lent = shared.lend(&rt);
+        assert_eq!(rt; lent.ticket(), core.ticket());
+        assert_eq!(rt; lent.random(), core.random());
+        assert_eq!(rt; lent.random(), core.random());
+    }
+    assert_eq!(rt; shared.lend(&rt).ticket(), 3);
     Ok(())
 }
 
