@@ -1,10 +1,10 @@
 -- Lemmas on what a line asks for.
-use Rattle.std.proofs.Common.{◌≡◌, ◌∙◌, List, ℕ, Option, None, ap, sym, subst, refl}
+use Rattle.std.proofs.Common.{◌≡◌, ◌∙◌, List, ℕ, None, ap, subst, refl}
 use Rattle.std.specs.Str.{IsUtf8}
 use Rattle.std.proofs.lemmas.Bool.{false_from_ne_true}
 use Rattle.std.proofs.lemmas.Str.{is_utf8-from_IsUtf8, IsUtf8-from_is_utf8}
 use Rattle.std.specs.Str.{is_utf8}
-use Rattle.lb_world.specs.Steps.{StepView, step_seen}
+use Rattle.lb_world.specs.Steps.{step_seen}
 use Rattle.lb_world.specs.declared.step.Step.{Step}
 use Rattle.std.specs.Prelude.{Result}
 use Rattle.lb_script.specs.declared.error.ScriptError.{ScriptError}

@@ -1,21 +1,20 @@
 -- Lemmas on the text of a script's run: how it goes on from line to line, and how it ends.
-use Rattle.std.proofs.Common.{◌≡◌, ◌≢◌, ◌⊎◌, inl, inr, ℕ, ◌+◌, ◌<◌, ◌≤◌, Bool, true, false, List, [], ◌∷◌, ◌++◌, codes, length, Option, Some, None, IfSome, Result, Ok, Err, refl, sym, ap, ◌∙◌, subst, append_assoc, append-nil, arith}
-use Rattle.std.specs.Io.KnownBytes.{Appends, Keeps, prepend_known}
+use Rattle.std.proofs.Common.{◌≡◌, ◌≢◌, inl, inr, ℕ, ◌+◌, ◌≤◌, Bool, true, false, List, [], ◌∷◌, ◌++◌, codes, length, Option, Some, None, IfSome, Result, Ok, Err, refl, sym, ap, subst, append_assoc, append-nil, arith}
+use Rattle.std.specs.Io.KnownBytes.{Appends, prepend_known}
 use Rattle.std.proofs.KnownBytes.{Appends-nil, Appends-trans}
-use Rattle.lb_world.specs.Answers.{Answers}
 use Rattle.lb_world.specs.History.{History}
 use Rattle.lb_world.specs.Meanings.{Meaning}
 use Rattle.lb_world.specs.Views.{WorldView}
 use Rattle.lb_script.specs.declared.error.ScriptError.{ScriptError}
 use Rattle.lb_script.specs.declared.error.ScriptError.TheVariants.{BadLine, LineTooLong, Read, OutOfMemory}
 use Rattle.lb_kinds.specs.declared.kinds.Kind.{Kind}
-use Rattle.lb_script.specs.Lines.{lines_of, first_line, after_line, onto}
-use Rattle.lb_script.specs.Output.{IsOutput, ends, answered, bad_line, too_long, no_memory, read_fails, accepted, HasLine, Wrote, WroteFront}
+use Rattle.lb_script.specs.Lines.{lines_of, first_line, after_line}
+use Rattle.lb_script.specs.Output.{IsOutput, ends, answered, bad_line, too_long, no_memory, read_fails, Wrote, WroteFront}
 use Rattle.lb_script.specs.Session.{Holds, AnsweredLine, AnswersNext}
 use Rattle.lb_script.specs.Stream.{OnBytes, AppendsFront}
 use Rattle.lb_script.specs.Texts.{answer_text, error_text}
 use Rattle.lb_script.proofs.LinesLemmas.{lines_cons, first_of_none}
-use Rattle.lb_script.proofs.StreamLemmas.{front_more, front_after, front_whole}
+use Rattle.lb_script.proofs.StreamLemmas.{front_more, front_after}
 
 -- the bytes that are known after a call
 known_after : (left now : Option (List ℕ)) (rest : List ℕ) (P : List ℕ → List ℕ → Type 0) → left ≡ Some rest → OnBytes left now P

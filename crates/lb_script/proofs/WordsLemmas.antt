@@ -1,6 +1,6 @@
 -- Lemmas on the words of a line.
-use Rattle.std.proofs.Common.{◌≡◌, ◌≢◌, ℕ, ◌<◌, ◌==◌, false, true, List, [], ◌∷◌, Option, None, Some, MatchOption, length, arith, refl, sym, ap, ◌∙◌, get_or, Bor, lit<}
-use Rattle.std.specs.List.{slice_split, All, before_first, after_first}
+use Rattle.std.proofs.Common.{◌≡◌, ◌≢◌, ℕ, ◌==◌, false, List, [], ◌∷◌, Option, None, Some, arith, sym, ap, ◌∙◌, get_or, Bor, lit<}
+use Rattle.std.specs.List.{after_first}
 use Rattle.std.proofs.lemmas.Bool.Decides.{nat_tests}
 use Rattle.std.proofs.lemmas.List.Elements.{All-from_get_or}
 use Rattle.std.proofs.lemmas.List.Splits.{slice_split_none, slice_split_first}

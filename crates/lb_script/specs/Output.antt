@@ -9,7 +9,6 @@ use Rattle.lb_world.specs.Steps.{StepView}
 use Rattle.lb_world.specs.Steps as step
 use Rattle.lb_world.specs.declared.answer.Answer.{Answer}
 use Rattle.lb_world.specs.declared.answer.Answer.TheVariants as answer
-use Rattle.lb_script.specs.declared.error.ScriptError.{ScriptError}
 use Rattle.lb_script.specs.declared.error.ScriptError.TheVariants as error
 use Rattle.lb_kinds.specs.declared.kinds.Kind.{Kind}
 use Rattle.lb_script.specs.Lines.{lines_of}

@@ -1,5 +1,5 @@
 -- What a line of a script asks for. Its first word says which kind of step it is, and the words after it are the step's own.
-use Rattle.std.specs.Prelude.{◌≡◌, ℕ, ◌^◌, Bool, false, ◌||◌, ◌==◌, List, [], ◌∷◌, codes, length, slice_index, Option, Some, None, option_map, Result, Ok, Err, ⊤, if◌then◌else◌, bytes_eq, replicate, nat_le}
+use Rattle.std.specs.Prelude.{◌≡◌, ℕ, ◌^◌, Bool, false, ◌||◌, ◌==◌, List, [], ◌∷◌, codes, length, Option, Some, None, option_map, Result, Ok, Err, ⊤, if◌then◌else◌, bytes_eq, replicate, nat_le}
 use Rattle.std.specs.Str.{is_utf8}
 use Rattle.lb_select.specs.AddressText.{address_of_text, bare_member}
 use Rattle.lb_select.specs.Backends.{Member}

@@ -1,23 +1,23 @@
 -- The world after a reader entered or left, after a selection, and after a group was made or updated: it is sound, and stands
 -- for the longer history.
-use Rattle.std.proofs.Common.{inl, inr, sym, ap, ◌∙◌, subst, arith, refl}
-use Rattle.std.specs.Prelude.{◌≡◌, ℕ, ◌-◌, ◌^◌, ◌<◌, ◌≤◌, false, ◌==◌, if◌then◌else◌, List, [], ◌∷◌, ◌++◌, length, count_by, Option, Some, None, Ok, Err, slice_get, slice_set}
+use Rattle.std.proofs.Common.{inl, inr, sym, ◌∙◌, subst, arith, refl}
+use Rattle.std.specs.Prelude.{◌≡◌, ℕ, ◌-◌, ◌^◌, ◌<◌, ◌≤◌, false, List, [], ◌∷◌, ◌++◌, length, count_by, Option, Some, None, Ok, Err, slice_get, slice_set}
 use Rattle.std.proofs.lemmas.List.Sums.{count_by-le-length}
 use Rattle.std.proofs.lemmas.Bool.{eq-eqb}
 use Rattle.lb_select.specs.Backends.{Member}
 use Rattle.lb_select.specs.Memberships.{set_of}
 use Rattle.lb_select.specs.declared.refusal.Refusal.{Refusal}
 use Rattle.lb_rebuild.specs.Gate.{GateView}
-use Rattle.lb_rebuild.specs.Views.{StageView, free, flight, retired, taken_out, ReaderView, SlotView}
+use Rattle.lb_rebuild.specs.Views.{ReaderView, SlotView}
 use Rattle.lb_rebuild.specs.Calls.{entered_slot, left_slot}
-use Rattle.lb_rebuild.specs.Calls as calls
+use Rattle.lb_rebuild.specs.Selecting.{drawn_slot}
 use Rattle.lb_world.specs.Steps as step
 use Rattle.lb_world.specs.declared.answer.Answer.{Answer}
 use Rattle.lb_world.specs.declared.answer.Answer.TheVariants as answer
 use Rattle.lb_world.specs.Meanings.{Meaning}
 use Rattle.lb_world.specs.History.{History, Entered, reads, present}
 use Rattle.lb_world.specs.Answers.{Answers, has_refused}
-use Rattle.lb_world.specs.Views.{WorkView, PlaceView, EntryView, WorldView, retired_readers, readers_at}
+use Rattle.lb_world.specs.Views.{WorkView, PlaceView, EntryView, WorldView}
 use Rattle.lb_world.specs.Sound.{IsSound}
 use Rattle.lb_world.specs.Stands.{Stands}
 use Rattle.lb_world.specs.Doings.{IsAt, DidEnter, IsInside, DidLeave, fresh_entry, with_members, DidUpdate, DidSelect}
@@ -26,7 +26,7 @@ use Rattle.lb_world.proofs.Effects.{IsPlaced}
 use Rattle.lb_world.proofs.KindFacts.{place_sound}
 use Rattle.lb_world.proofs.KindEnter.{reader_entered}
 use Rattle.lb_world.proofs.KindLeave.{reader_left, reader_is_in}
-use Rattle.lb_world.proofs.KindSelect.{drawn_slot, selection_answered}
+use Rattle.lb_world.proofs.KindSelect.{selection_answered}
 use Rattle.lb_world.proofs.KindInert.{no_slot, no_slot_config, enter_no_such, select_no_slot, enter_without_memory}
 use Rattle.lb_world.proofs.GroupUpdated.{update_sound, update_stands}
 use Rattle.lb_world.proofs.GroupMade.{group_sound, group_stands}
@@ -34,16 +34,6 @@ use Rattle.lb_world.proofs.MadeAnswers.{group_refusal, group_right, update_same,
 use Rattle.lb_world.proofs.SameSets.{same_set}
 use Rattle.lb_world.proofs.SelectAbsent.{absent_stands}
 use Rattle.lb_world.proofs.Done.{with_entry, placed_at, entry_here, inert_entry, effect_entry}
-
--- readers of a generation in a stage, and in a slot, are counted alike
-same_retired : (stage : StageView) (n : ℕ) → retired_readers stage n ≡ calls.retired_readers n stage
-same_retired free n = refl
-same_retired (flight m) n = refl
-same_retired (retired m readers) n = refl
-same_retired (taken_out m) n = refl
-
-same_readers : {C : Type 0} (x : SlotView C) (n : ℕ) → readers_at x n ≡ calls.readers_at x n
-same_readers x n = ap (λ v. if x.serving.generation == n then x.readers else v) (same_retired x.stage n)
 
 module _ {C : Type 0} where
   -- a slot has no more readers than there ever were
@@ -74,7 +64,7 @@ module _ {C : Type 0} (M : Meaning C) where
       → IsSound w → slice_get w.readers t ≡ Some (Some r) → slice_get w.groups r.group ≡ Some e → IsInside e r.slot r.generation
   inside_of w t r e sound at_reader at_group =
       let p = place_of w r.group r.slot e sound at_group ((sound.entries_in t r at_reader).1 e at_group) in
-      (p.0, p.2.slot_at, subst (λ v. 0 < v) (same_readers p.0 r.generation) (reader_is_in M w r.group r.slot t e _ r sound (placed_at w r.group r.slot e p.0 p.1 at_group p.2) at_reader refl refl))
+      (p.0, p.2.slot_at, reader_is_in M w r.group r.slot t e _ r sound (placed_at w r.group r.slot e p.0 p.1 at_group p.2) at_reader refl refl)
 
   -- an entry that a reader entered
   pub enter_done :

@@ -1,17 +1,17 @@
 -- What the world's steps of readers, selections and groups leave where they are refused.
-use Rattle.std.specs.Prelude.{◌≡◌, ◌<◌, ◌≤◌, ◌^◌, ◌-◌, ℕ, Bool, true, false, List, ◌∷◌, [], ◌++◌, length, Option, Some, None, Result, Ok, Err, slice_get, slice_index_or, slice_set, refl}
+use Rattle.std.specs.Prelude.{◌≡◌, ◌<◌, ◌≤◌, ◌^◌, ◌-◌, ℕ, true, false, List, ◌∷◌, [], ◌++◌, length, Option, Some, None, Ok, Err, slice_get, slice_set, refl}
 use Rattle.std.proofs.Common.{arith, sym, ap, subst, ◌∙◌, inl, inr}
 use Rattle.std.proofs.lemmas.Option.{slice_get_past}
 use Rattle.lb_select.specs.Backends.{Member}
 use Rattle.lb_select.specs.declared.refusal.Refusal.{Refusal}
 use Rattle.lb_select.specs.declared.refusal.Refusal.TheVariants as refusal
-use Rattle.lb_rebuild.specs.Views.{SlotView, ReaderView}
+use Rattle.lb_rebuild.specs.Views.{ReaderView}
 use Rattle.lb_world.specs.Steps as step
 use Rattle.lb_world.specs.declared.answer.Answer.TheVariants as answer
 use Rattle.lb_world.specs.Meanings.{Meaning}
-use Rattle.lb_world.specs.History.{History, Entered, present}
+use Rattle.lb_world.specs.History.{History, Entered}
 use Rattle.lb_world.specs.Answers.{has_refused}
-use Rattle.lb_world.specs.Views.{WorkView, EntryView, WorldView}
+use Rattle.lb_world.specs.Views.{EntryView, WorldView}
 use Rattle.lb_world.specs.Sound.{IsSound}
 use Rattle.lb_world.specs.Stands.{Stands}
 use Rattle.lb_world.proofs.Effects.{inert_stands}
@@ -21,7 +21,7 @@ use Rattle.lb_world.specs.Doings.{DidEnter, DidLeave}
 use Rattle.lb_world.proofs.EntrySteps.{set_here}
 use Rattle.lb_world.proofs.Done.{placed_at, with_entry, entry_here}
 use Rattle.lb_world.proofs.DoneMore.{place_of, readers_within, leave_done, enter_done, enter_refused}
-use Rattle.lb_world.proofs.MadeAnswers.{group_refusal, group_refused, group_memory, update_invalid, update_nowhere, update_exhausted, update_memory, update_same_memory}
+use Rattle.lb_world.proofs.MadeAnswers.{group_refusal, group_refused, group_memory, update_invalid, update_nowhere}
 
 module _ {C : Type 0} (M : Meaning C) where
   pub select_nowhere :

@@ -6,7 +6,8 @@ use Rattle.std.proofs.lemmas.List.{length_push, length-map, length-replicate}
 use Rattle.std.proofs.lemmas.List.Sums.{sum_by_push}
 use Rattle.std.proofs.lemmas.Option.{slice_get_within, slice_get_past, same_Some, none-some}
 use Rattle.lb_rebuild.specs.Gate.{GateId, GateView}
-use Rattle.lb_rebuild.specs.Views.{free, SlotView}
+use Rattle.lb_rebuild.specs.Fresh.{fresh_slot}
+use Rattle.lb_rebuild.specs.Views.{SlotView}
 use Rattle.lb_world.specs.Steps.{StepView}
 use Rattle.lb_world.specs.Steps as step
 use Rattle.lb_world.specs.declared.answer.Answer.TheVariants as answer
@@ -16,6 +17,7 @@ use Rattle.lb_world.specs.Answers.{Answers, HasDrawn}
 use Rattle.lb_world.specs.Views.{WorkView, nothing, EntryView, WorldView, slot_holds, work_holds, held_by}
 use Rattle.lb_world.specs.Sound.{IsPlaceSound, IsSound}
 use Rattle.lb_world.specs.Stands.{SlotTells, Stands}
+use Rattle.lb_world.specs.Doings.{fresh_entry}
 use Rattle.lb_world.proofs.Places.{get_push, get_last, none_push, get_map, get_replicate}
 use Rattle.lb_world.proofs.Sums.{sum_none}
 use Rattle.lb_world.proofs.Frames.{same_if}
@@ -29,27 +31,6 @@ read_off g s n None off = refl
 read_off g s n (Some r) off = rw (ne_eqb r.group g (off r refl))
 
 module _ {C : Type 0} where
-  -- a slot that was just made serves generation 0, which is empty
-  abbrev pub fresh_slot : C → SlotView C
-  fresh_slot c =
-      record {
-        serving = record { generation = 0; members = []; config = c; tickets = 0 };
-        readers = 0;
-        config = c;
-        waiting = None;
-        stage = free;
-      }
-
-  -- a group that was just made, with nothing held for its slots
-  abbrev pub fresh_entry : ℕ → ℕ → GateId → List C → EntryView C
-  fresh_entry registry number id configs =
-      record {
-        registry = registry;
-        gate = number;
-        core = record { gate = id; newest = 0; current = []; slots = map fresh_slot configs };
-        works = replicate (length configs) nothing;
-      }
-
   -- the world with a group more
   abbrev pub with_group : WorldView C → EntryView C → WorldView C
   with_group w e = record w { groups = w.groups ++ e ∷ [] }

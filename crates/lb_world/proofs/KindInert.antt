@@ -10,7 +10,7 @@ use Rattle.lb_world.specs.declared.answer.Answer.TheVariants as answer
 use Rattle.lb_world.specs.Meanings.{Meaning}
 use Rattle.lb_world.specs.History.{History, Made, made, config, bit}
 use Rattle.lb_world.specs.Answers.{Answers, refuse}
-use Rattle.lb_world.specs.Views.{nothing, building, ready, PlaceView, EntryView, WorldView, is_out, stage_holds, flight_of, retired_of, held}
+use Rattle.lb_world.specs.Views.{nothing, building, ready, PlaceView, EntryView, WorldView, is_out, stage_holds, flight_of, retired_of}
 use Rattle.lb_world.specs.Sound.{StageFits, IsSound}
 use Rattle.lb_world.specs.Stands.{Stands}
 use Rattle.lb_world.proofs.Effects.{IsPlaced}

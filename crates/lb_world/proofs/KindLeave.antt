@@ -1,33 +1,21 @@
 -- A reader that leaves a slot.
-use Rattle.std.proofs.Common.{◌≡◌, ◌≢◌, ◌<◌, inl, inr, ℕ, ◌+◌, ◌-◌, false, cond, ◌==◌, List, ◌∷◌, if◌then◌else◌, Option, Some, None, slice_get, slice_set, refl, sym, ap, ◌∙◌, arith}
+use Rattle.std.proofs.Common.{◌≡◌, ◌<◌, inl, inr, ℕ, ◌+◌, ◌-◌, false, cond, ◌==◌, List, ◌∷◌, if◌then◌else◌, Option, Some, None, slice_get, slice_set, refl, sym, ap, ◌∙◌, arith}
 use Rattle.std.proofs.lemmas.Bool.{eq-eqb, false≢true}
 use Rattle.std.proofs.lemmas.Bool.Decides.{eqb_tells, nat_tests}
 use Rattle.std.proofs.lemmas.Option.{none-some}
 use Rattle.lb_rebuild.specs.Views.{StageView, free, flight, retired, taken_out, SlotView, flight_number}
-use Rattle.lb_rebuild.specs.Calls.{left_stage, left_slot}
-use Rattle.lb_rebuild.specs.Calls as calls
+use Rattle.lb_rebuild.specs.Calls.{retired_readers, readers_at, left_stage, left_slot}
 use Rattle.lb_world.specs.Steps as step
 use Rattle.lb_world.specs.declared.answer.Answer.TheVariants as answer
 use Rattle.lb_world.specs.Meanings.{Meaning}
 use Rattle.lb_world.specs.History.{History, Entered, reads}
-use Rattle.lb_world.specs.Views.{WorkView, PlaceView, EntryView, WorldView, is_out, stage_holds, flight_of, retired_of, retired_readers, readers_at}
+use Rattle.lb_world.specs.Views.{WorkView, PlaceView, EntryView, WorldView, is_out, stage_holds, flight_of, retired_of}
 use Rattle.lb_world.specs.Sound.{StageFits, IsPlaceSound, IsSound}
 use Rattle.lb_world.specs.Stands.{SlotTells, Stands}
 use Rattle.lb_world.proofs.Effects.{IsPlaced, Effect}
 use Rattle.lb_world.proofs.Places.{get_set}
 use Rattle.lb_world.proofs.KindFacts.{element_le_sum, work_fits_as, same_due, place_sound, place_told}
 use Rattle.lb_world.proofs.KindLists.{count_set, reads_here, reads_no_other, one_less}
-
--- the same of what is retired
-retired_as : (stage : StageView) (n : ℕ) → calls.retired_readers n stage ≡ retired_readers stage n
-retired_as free n = refl
-retired_as (flight m) n = refl
-retired_as (retired m readers) n = refl
-retired_as (taken_out m) n = refl
-
--- the readers of a generation, as the calls on a slot count them
-pub readers_as : {C : Type 0} (x : SlotView C) (n : ℕ) → calls.readers_at x n ≡ readers_at x n
-readers_as x n = ap (λ (m : ℕ). if x.serving.generation == n then x.readers else m) (retired_as x.stage n)
 
 -- the slot y is the slot x with one reader of that generation less
 pub record IsFewer {C : Type 0} (x y : SlotView C) (n : ℕ) : Type 0 where
@@ -51,7 +39,7 @@ retired_less : (served n j m readers : ℕ) → (served ≡ n → ⊥) → 0 < m
 retired_less served n j m readers other some = grind (arith, nat_tests)
 
 -- where readers of a generation that isn't served are in, that generation is retired
-pub retired_there : (stage : StageView) (n : ℕ) → 0 < retired_readers stage n → (m : ℕ) × (stage ≡ retired n m) × (0 < m)
+pub retired_there : (stage : StageView) (n : ℕ) → 0 < retired_readers n stage → (m : ℕ) × (stage ≡ retired n m) × (0 < m)
 retired_there free n some = absurd (no_less some)
 retired_there (flight f) n some = absurd (no_less some)
 retired_there (retired m readers) n some =
@@ -151,13 +139,6 @@ module _ {C : Type 0} (M : Meaning C) where
       let one = element_le_sum (λ y. cond (reads g s r.generation y) 1 0) w.readers t (Some r) at_t in
       let mine = rw (reads_here r g s r.generation group slot, eq-eqb r.generation r.generation refl) at one in
       omega arith
-
-  -- so the slot may let it leave
-  pub reader_may_leave : (w : WorldView C) (g s t : ℕ) (e : EntryView C) (p : PlaceView C) (r : Entered)
-      → IsSound w → IsPlaced w g s e p → slice_get w.readers t ≡ Some (Some r) → r.group ≡ g → r.slot ≡ s
-      → 0 < calls.readers_at p.slot r.generation
-  reader_may_leave w g s t e p r sound placed at_t group slot =
-      rw (readers_as p.slot r.generation) (reader_is_in w g s t e p r sound placed at_t group slot)
 
   -- a reader that has an entry leaves
   pub reader_left :

@@ -2,6 +2,7 @@
 use Rattle.std.proofs.Common.{◌≡◌, inl, ℕ, ◌+◌, List, ◌∷◌, Option, Some, None, Result, Ok, Err, true, refl, sym, subst, arith}
 use Rattle.lb_select.specs.Backends.{Member}
 use Rattle.lb_select.specs.declared.refusal.Refusal.{Refusal}
+use Rattle.lb_rebuild.specs.Selecting.{drawn_slot}
 use Rattle.lb_rebuild.specs.Views.{SlotView}
 use Rattle.lb_world.specs.Steps as step
 use Rattle.lb_world.specs.declared.answer.Answer.{Answer}
@@ -24,11 +25,7 @@ by_answer P (Ok (Some b)) none some refused = some b
 by_answer P (Err e) none some refused = refused e
 
 module _ {C : Type 0} where
-  -- the slot whose counter is at u
-  abbrev pub drawn_slot : SlotView C → ℕ → SlotView C
-  drawn_slot x u = record x { serving = record x.serving { tickets = u } }
-
-  -- it is sound
+  -- the slot whose counter is at u is sound
   pub drawn_sound :
       (readers : List (Option Entered)) (g s u : ℕ) (e : EntryView C) (x : SlotView C) (k : WorkView C)
       → IsPlaceSound readers g s e.core (record { slot = x; work = k })

@@ -13,7 +13,6 @@ pub mod GroupMade
 pub mod GroupTold
 pub mod GroupUpdated
 pub mod Held
-pub mod KindAbsent
 pub mod KindAsk
 pub mod KindBuild
 pub mod KindDestroy

@@ -1,7 +1,7 @@
 -- The right answer to a step after a history: for every kind of step but a selection a function of the history, and what
 -- may come in its place where memory is refused. A selection's answer is a relation, since one that was refused for memory
 -- may have drawn words.
-use Rattle.std.specs.Prelude.{◌≡◌, ◌⊎◌, ℕ, ◌+◌, ◌-◌, ◌^◌, Bool, true, false, not, ◌&&◌, ◌==◌, List, [], ◌∷◌, length, map, Option, Some, None, is_some, Result, Ok, Err, if◌then◌else◌, nat_lt, nat_le, slice_get, MatchBool, MatchOption}
+use Rattle.std.specs.Prelude.{◌≡◌, ◌⊎◌, ℕ, ◌+◌, ◌-◌, ◌^◌, Bool, true, false, not, ◌&&◌, ◌==◌, List, [], ◌∷◌, length, map, Option, Some, None, is_some, Result, Ok, Err, if◌then◌else◌, nat_lt, slice_get, MatchBool, MatchOption}
 use Rattle.std.specs.List.{list_any}
 use Rattle.lb_select.specs.Backends.{Member}
 use Rattle.lb_select.specs.Memberships.{same_members}
@@ -9,7 +9,7 @@ use Rattle.lb_rebuild.specs.Least.{earlier, least}
 use Rattle.lb_select.specs.declared.refusal.Refusal.{Refusal}
 use Rattle.lb_select.specs.declared.refusal.Refusal.TheVariants as refusal
 use Rattle.lb_world.specs.Selecting.{SelectsServed}
-use Rattle.lb_world.specs.History.{History, Made, Entered, SlotEvent, names, present, made, config, registries, gates, groups, generations, newest_of, members_of, newest, members, events, served, flight, ready, retired, entries, readers_in, extras}
+use Rattle.lb_world.specs.History.{History, Made, Entered, names, present, made, config, registries, gates, groups, newest, members, events, served, flight, ready, retired, entries, readers_in, extras}
 use Rattle.lb_world.specs.Meanings.{Meaning}
 use Rattle.lb_world.specs.Steps.{StepView}
 use Rattle.lb_world.specs.Steps as step

@@ -1,5 +1,5 @@
 -- A world's tables as they are seen, and that some history led to them.
-use Rattle.std.specs.Prelude.{ℕ, List, length}
+use Rattle.std.specs.Prelude.{length}
 use Rattle.lb_world.specs.Meanings.{Meaning}
 use Rattle.lb_world.specs.History.{History}
 use Rattle.lb_world.specs.Views.{WorldView}

@@ -1,9 +1,10 @@
 -- What is true of a world between two steps, of its present state alone.
-use Rattle.std.specs.Prelude.{◌≡◌, ◌≢◌, ◌<◌, ◌≤◌, ℕ, List, Option, Some, None, length, slice_get, count_by}
-use Rattle.lb_rebuild.specs.Gate.{GateId, GateView}
+use Rattle.std.specs.Prelude.{◌≡◌, ◌<◌, ◌≤◌, ℕ, List, Option, Some, None, length, slice_get, count_by}
+use Rattle.lb_rebuild.specs.Calls.{readers_at}
+use Rattle.lb_rebuild.specs.Gate.{GateView}
 use Rattle.lb_rebuild.specs.Views.{StageView, free, flight, retired, taken_out, Task, SlotView, GroupView, due_order}
 use Rattle.lb_world.specs.History.{Entered, reads, bit}
-use Rattle.lb_world.specs.Views.{WorkView, nothing, building, ready, PlaceView, EntryView, WorldView, is_out, holders, flight_of, readers_at}
+use Rattle.lb_world.specs.Views.{WorkView, nothing, building, ready, PlaceView, EntryView, WorldView, is_out, holders, flight_of}
 
 -- a stage beside what is served and what is newest; nothing is taken out between two steps
 abbrev pub StageFits : StageView → ℕ → ℕ → Type 0

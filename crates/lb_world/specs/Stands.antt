@@ -1,6 +1,6 @@
 -- A world stands for a history: every answer in it was right, and what the world holds is what the history tells.
-use Rattle.std.specs.Prelude.{◌≡◌, ℕ, ◌+◌, List, [], Option, Some, None, length, slice_get}
-use Rattle.lb_rebuild.specs.Views.{Task, SlotView, GroupView}
+use Rattle.std.specs.Prelude.{◌≡◌, ℕ, ◌+◌, [], Some, None, length, slice_get}
+use Rattle.lb_rebuild.specs.Views.{Task, SlotView}
 use Rattle.lb_world.specs.Meanings.{Meaning}
 use Rattle.lb_world.specs.History.{History, Made, made, config, registries, gates, groups, generations, newest, members, events, served, flight, ready, retired, entries, count_on, grants, fails, destroys}
 use Rattle.lb_world.specs.Answers.{IsRun, HasDrawn}

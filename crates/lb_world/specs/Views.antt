@@ -1,9 +1,8 @@
 -- A world as its contracts' proofs see it: gates with their permits, groups with what is held for each slot, and readers.
-use Rattle.std.specs.Prelude.{ℕ, ◌+◌, Bool, true, false, List, [], ◌∷◌, Option, Some, None, slice_get, slice_set, slice_index_or, sum_by, ◌==◌, if◌then◌else◌}
-use Rattle.lb_select.specs.Backends.{Member}
-use Rattle.lb_rebuild.specs.Gate.{GateId, GateView}
+use Rattle.std.specs.Prelude.{ℕ, ◌+◌, Bool, false, List, Option, Some, None, slice_get, slice_set, sum_by, ◌==◌, if◌then◌else◌}
+use Rattle.lb_rebuild.specs.Gate.{GateView}
 use Rattle.lb_rebuild.specs.Views.{StageView, free, flight, retired, taken_out, Task, SlotView, GroupView, with_slot}
-use Rattle.lb_world.specs.History.{Entered, bit}
+use Rattle.lb_world.specs.History.{Entered}
 
 -- what the world holds for a slot: nothing, a job, or a built selector
 pub data WorkView (C : Type 0) : Type 0 where
@@ -106,13 +105,3 @@ retired_of free = None
 retired_of (flight n) = None
 retired_of (retired n readers) = Some n
 retired_of (taken_out n) = Some n
-
--- how many readers of a generation a slot has in its retired selector, and in all
-abbrev pub retired_readers : StageView → ℕ → ℕ
-retired_readers free n = 0
-retired_readers (flight f) n = 0
-retired_readers (retired m readers) n = if m == n then readers else 0
-retired_readers (taken_out m) n = 0
-
-abbrev pub readers_at : {C : Type 0} → SlotView C → ℕ → ℕ
-readers_at x n = if x.serving.generation == n then x.readers else retired_readers x.stage n

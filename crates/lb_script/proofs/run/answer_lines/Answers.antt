@@ -1,4 +1,4 @@
-use Rattle.std.proofs.Common.{◌≡◌, ◌∙◌, ap, sym, subst, false, true, Ok, Err, string_bytes, arith}
+use Rattle.std.proofs.Common.{◌∙◌, ap, subst, Ok, Err, string_bytes, arith}
 use Rattle.std.specs.Io.KnownBytes.{Appends, prepend_known}
 use Rattle.lb_world.specs.Meanings.{meaning}
 use Rattle.lb_script.specs.Counted.{inner_of, has_failed}

@@ -1,4 +1,4 @@
-use Rattle.std.proofs.Common.{rules, ◌∙◌, sym, ap}
+use Rattle.std.proofs.Common.{rules}
 use Rattle.lb_world.specs.Steps.{step_seen}
 use Rattle.lb_script.proofs.session.answer_line.Goals.{else-has_registry-via-then-has_registry+else-makes_registry, else-has_registry-via-else-has_registry, then-made_registry, else-made_registry}
 use Rattle.lb_script.proofs.session.answer_line.Goals as goal

@@ -1,4 +1,4 @@
-use Rattle.std.proofs.Common.{◌≡◌, ◌<◌, ◌∙◌, length, arith, sym, ap}
+use Rattle.std.proofs.Common.{◌≡◌, ◌<◌, ◌∙◌, length, arith, ap}
 use Rattle.std.specs.Prelude.{◌-◌, ◌^◌, ◌++◌, ◌∷◌, [], Some, refl}
 use Rattle.lb_world.specs.Founded.{world_view}
 use Rattle.lb_world.proofs.Founding.{at_index, founded_next}

@@ -1,5 +1,5 @@
-use Rattle.std.proofs.Common.{◌≡◌, ◌<◌, ◌∙◌, length, arith, sym, ap}
-use Rattle.std.specs.Prelude.{Some, slice_get}
+use Rattle.std.proofs.Common.{◌<◌, ◌∙◌, length, arith, sym, ap}
+use Rattle.std.specs.Prelude.{Some}
 use Rattle.lb_world.specs.Meanings.{meaning}
 use Rattle.lb_world.specs.Founded.{world_view}
 use Rattle.lb_world.proofs.Founding.{at_index, founded_next}

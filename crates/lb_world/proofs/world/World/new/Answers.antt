@@ -1,5 +1,4 @@
 use Rattle.std.proofs.Common.{[]}
-use Rattle.lb_world.specs.Founded.{IsFounded, world_view}
 use Rattle.lb_world.proofs.EmptyWorld.{empty_sound, empty_stands}
 use Rattle.lb_world.proofs.world.World.new.Goals as goal
 

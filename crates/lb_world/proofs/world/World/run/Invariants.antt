@@ -1,5 +1,5 @@
 use Rattle.std.proofs.Common.{◌≡◌, length, map}
-use Rattle.std.specs.Prelude.{vec_len, vec_capacity}
+use Rattle.std.specs.Prelude.{vec_capacity}
 use Rattle.lb_world.specs.History.{History, after}
 use Rattle.lb_world.specs.Meanings.{meaning}
 use Rattle.lb_world.specs.Steps.{step_seen}
