@@ -2,7 +2,7 @@
 //! A script runs here as `lbsim` runs it, over memory.
 use pingora_load_balancing::script::{Counted, run_script};
 use std::alloc::Global;
-use std::io::{self, Read};
+use std::io::{self, Read, Write};
 
 /// What a script should answer, and with which status.
 #[derive(Drop)]
@@ -14,14 +14,24 @@ pub(crate) struct Outcome<'a> {
 impl<'a> Outcome<'a> {
     /// These answers; the status is 1 where the last line is an error.
     pub(crate) fn of(answers: &'a [u8]) -> Outcome<'a> {
-        let status = if last_line(answers).starts_with(b"error ") { 1 } else { 0 };
+        let status = if last_line(answers).starts_with(b"error ") {
+            1
+        } else {
+            0
+        };
         Outcome { answers, status }
     }
 
     /// The answers to steps: all lines but an error.
     pub(crate) fn to_steps(&self) -> &'a [u8] {
-        let error = if self.status == 1 { last_line(self.answers).len() + 1 } else { 0 };
-        let (steps, _) = self.answers.split_at(self.answers.len().saturating_sub(error));
+        let error = if self.status == 1 {
+            last_line(self.answers).len() + 1
+        } else {
+            0
+        };
+        let (steps, _) = self
+            .answers
+            .split_at(self.answers.len().saturating_sub(error));
         steps
     }
 }
@@ -87,5 +97,30 @@ impl Read for Failing<'_> {
         buf[..count].copy_from_slice(now);
         self.left = later;
         Ok(count)
+    }
+}
+
+/// The status of a script whose answers can be written, but not flushed.
+pub(crate) fn status_without_flush(alloc: Global, script: &[u8]) -> u8 {
+    let mut reader = Counted::new(script);
+    let mut writer = Counted::new(Unflushing {
+        written: Vec::new(alloc),
+    });
+    run_script(alloc, &mut reader, &mut writer)
+}
+
+// A writer that keeps what is written, and cannot flush.
+#[derive(Drop)]
+struct Unflushing {
+    written: Vec<u8>,
+}
+
+impl Write for Unflushing {
+    fn write(&mut self, buf: &[u8]) -> io::Result<usize> {
+        self.written.write(buf)
+    }
+
+    fn flush(&mut self) -> io::Result<()> {
+        Err(io::Error::from(io::ErrorKind::Other))
     }
 }

@@ -5,7 +5,7 @@
 mod made;
 mod steps;
 
-use made::{Failing, Outcome, agrees, long_line, many_backends};
+use made::{Failing, Outcome, agrees, long_line, many_backends, status_without_flush};
 use std::alloc::Global;
 use std::fs;
 use std::io::{self, Cursor};
@@ -91,6 +91,10 @@ fn main(rt: HostRuntime) -> io::Result<()> {
             failing,
             &Outcome::of(b"registry 0\ngate 0\nerror 3 Read\n")
         ))
+    )?;
+    println!(rt;
+        "a flush that fails: {}",
+        told(status_without_flush(alloc, b"gate\n") == 1)
     )?;
     Ok(())
 }
