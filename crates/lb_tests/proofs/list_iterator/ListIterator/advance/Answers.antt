@@ -1,5 +1,5 @@
 -- A step before the end of the list.
-use Rattle.std.proofs.Common.{◌<◌, length, arith}
+use Rattle.std.proofs.Common.{◌<◌, length}
 use Rattle.lb_tests.proofs.ListSteps.{list_step}
 use Rattle.lb_tests.proofs.list_iterator.ListIterator.advance.Goals as goal
 
