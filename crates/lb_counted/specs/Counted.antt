@@ -1,6 +1,6 @@
 -- What a clause reads of a `Counted`.
 use Rattle.std.specs.Prelude.{Bool}
-use Rattle.lb_script.specs.declared.counted.Counted.{Counted}
+use Rattle.lb_counted.specs.declared.counted.Counted.{Counted}
 
 -- the reader or writer inside
 abbrev pub inner_of : {T : Type 0} → Counted T → T

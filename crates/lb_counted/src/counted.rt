@@ -1,12 +1,15 @@
 //! A reader or a writer that remembers whether a call of it has failed.
 //! Callers learn from it, after a longer run, whether its streams did what they were asked.
-ghost use Rattle.std.specs.Prelude.{◌≡◌, ℕ, ◌<◌, false, true, length, OnOk, OnErr, IfOk};
+ghost use Rattle.std.specs.Prelude.{◌≡◌, ℕ, ◌<◌, ◌≤◌, false, true, length, OnOk, OnErr, IfOk};
 ghost use Rattle.std.specs.Io.{ReadsAtMost, WritesAtMost};
 ghost use Rattle.std.specs.Io.KnownBytes.{ReadConsumes, WriteAppends, Keeps, Appends};
-ghost use Rattle.lb_script.specs.Stream.{OnBytes, GivesByte, AppendsFront};
+ghost use Rattle.lb_counted.specs.Stream.{OnBytes, GivesByte, SkipsSome, AppendsFront};
 
 use std::io;
 use std::io::{Error, ErrorKind, Read, Write};
+
+// How many bytes are skipped by one read, at most.
+const SKIPPED_AT_ONCE: usize = 512;
 
 /// A reader or a writer, and whether a call of it has failed so far.
 ///
@@ -20,7 +23,7 @@ pub struct Counted<T> {
 }
 
 impl<T> Counted<T> {
-    ghost use Rattle.lb_script.specs.Counted.{inner_of, has_failed};
+    ghost use Rattle.lb_counted.specs.Counted.{inner_of, has_failed};
 
     /// Wraps a reader or a writer, of which no call has failed yet.
     pub fn new(inner: T) -> Counted<T>
@@ -53,7 +56,7 @@ impl<T> Counted<T> {
 }
 
 impl<R: Read> Read for Counted<R> {
-    ghost use Rattle.lb_script.specs.Counted.{inner_of, has_failed};
+    ghost use Rattle.lb_counted.specs.Counted.{inner_of, has_failed};
 
     ghost remaining = { λ s. R.remaining (inner_of s) };
 
@@ -80,7 +83,7 @@ impl<R: Read> Read for Counted<R> {
 }
 
 impl<W: Write> Write for Counted<W> {
-    ghost use Rattle.lb_script.specs.Counted.{inner_of, has_failed};
+    ghost use Rattle.lb_counted.specs.Counted.{inner_of, has_failed};
 
     ghost contents = { λ s. W.contents (inner_of s) };
 
@@ -121,7 +124,7 @@ impl<W: Write> Write for Counted<W> {
 }
 
 impl<R: Read> Counted<R> {
-    ghost use Rattle.lb_script.specs.Counted.{inner_of, has_failed};
+    ghost use Rattle.lb_counted.specs.Counted.{inner_of, has_failed};
 
     /// The next byte, or `None` at the end of the stream.
     ///
@@ -135,10 +138,24 @@ impl<R: Read> Counted<R> {
         let n = self.read(&mut one)?;
         if n == 0 { Ok(None) } else { Ok(Some(one[0])) }
     }
+
+    /// Reads some of the next bytes, `most` at most, and drops them. It answers how many, 0 at the end of the stream alone.
+    pub fn skip_some(&mut self, most: u64) -> io::Result<u64>
+        requires { 0 < most }
+        ensures bytes { OnBytes (R.remaining (inner_of self.old)) (R.remaining (inner_of self.new)) (SkipsSome result) }
+        ensures within { IfOk result (λ n. n ≤ most) }
+        ensures kept { OnOk result (has_failed self.new ≡ has_failed self.old) }
+        ensures noted { OnErr result (has_failed self.new ≡ true) }
+    {
+        let mut skipped = [0u8; SKIPPED_AT_ONCE];
+        let room = most.min(SKIPPED_AT_ONCE as u64) as usize;
+        let count = self.read(&mut skipped[..room])?;
+        Ok(count as u64)
+    }
 }
 
 impl<W: Write> Counted<W> {
-    ghost use Rattle.lb_script.specs.Counted.{inner_of, has_failed};
+    ghost use Rattle.lb_counted.specs.Counted.{inner_of, has_failed};
 
     /// Writes all the bytes, or fails with some front of them written. It doesn't flush.
     pub fn put(&mut self, bytes: &[u8]) -> io::Result<()>
