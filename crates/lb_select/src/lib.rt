@@ -5,11 +5,8 @@
 mod address;
 pub mod algorithms;
 pub mod backend;
-pub mod fairness;
 pub mod refusal;
 pub mod select;
-pub mod selection;
 pub mod unique;
 pub mod walk;
-pub mod weighted;
 pub mod words;

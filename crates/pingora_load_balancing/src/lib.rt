@@ -2,6 +2,7 @@
 //! It passes on what the layers below prove, under the upstream crate's names.
 #![tactic(auto)]
 
+pub mod health_check;
 pub mod rebuild;
 pub mod script;
 pub mod selection;
