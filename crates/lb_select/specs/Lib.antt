@@ -11,6 +11,7 @@ pub mod Seen
 pub mod Selections
 pub mod Shares
 pub mod Unique
+pub mod UniqueLaws
 pub mod WalkLaws
 pub mod Walks
 pub mod Weights
