@@ -3,8 +3,8 @@ use Rattle.std.specs.Prelude.{◌≡◌, Bool, true, false, List, []}
 use Rattle.std.specs.Arc.{arc_value}
 use Rattle.lb_select.specs.Backends.{Member}
 use Rattle.lb_select.specs.Draws.{Draw}
-use Rattle.lb_select.specs.Weights.{IsWeightedRest}
-use Rattle.lb_select.specs.WalkLaws.{rest_none, rest_ends}
+use Rattle.lb_weighted.specs.Weights.{IsWeightedRest}
+use Rattle.lb_weighted.specs.WeightLaws.{rest_none, rest_ends}
 use Rattle.lb_ring.specs.Placed.{IsWalkFrom}
 use Rattle.lb_ring.specs.RingLaws.{walk_starts, walk_ends}
 use Rattle.lb_kinds.specs.Kinds.{hash_word, ticket_word}

@@ -4,8 +4,9 @@ use Rattle.std.specs.List.{AllByRecursion as Each}
 use Rattle.lb_select.specs.Backends.{Member}
 use Rattle.lb_select.specs.Draws.{Draw, ticket, IsNotRandom, words_in}
 use Rattle.lb_select.specs.Fnv.{fnv}
-use Rattle.lb_select.specs.Weights.{IsWeightedWalk, weighted_refusal}
-use Rattle.lb_select.specs.WalkLaws.{none_drawn, ticket_drawn, no_word, one_ticket, Each-words, few_words}
+use Rattle.lb_weighted.specs.Weights.{IsWeightedWalk, weighted_refusal}
+use Rattle.lb_select.specs.WalkLaws.{none_drawn, ticket_drawn, no_word, one_ticket}
+use Rattle.lb_weighted.specs.WeightLaws.{Each-words, few_words}
 use Rattle.lb_ring.specs.Choices.{IsRingWalk, ring_refusal}
 use Rattle.lb_ring.specs.RingLaws.{walk_undrawn, walk_few_words}
 use Rattle.lb_select.specs.declared.refusal.Refusal.{Refusal}

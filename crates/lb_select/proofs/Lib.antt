@@ -1,11 +1,8 @@
 pub mod AddressRoundTrip
 pub mod AddressTexts
 pub mod Clones
-pub mod Determined
 pub mod Lists
 pub mod SameBackends
 pub mod Searches
 pub mod SelectionLaws
-pub mod Shares
 pub mod Turns
-pub mod WeightLemmas

@@ -6,11 +6,7 @@ use Rattle.std.proofs.lemmas.List.{take-append-le, length-take}
 use Rattle.std.proofs.Math.Seq.{take-append-add}
 use Rattle.std.proofs.lemmas.List.Elements.{All-contains, All-from_recursion}
 use Rattle.lb_select.specs.declared.refusal.Refusal.{Refusal}
-use Rattle.std.specs.Int.{to_le_bytes}
-use Rattle.std.proofs.Common.{w64}
 use Rattle.lb_select.specs.Backends.{Member, same_member}
-use Rattle.lb_select.specs.Fnv.{fnv}
-use Rattle.lb_select.specs.Weights.{Words, IsWeightedWalk}
 use Rattle.lb_select.specs.Draws.{Draw, Gives, words_in}
 use Rattle.lb_select.specs.Walks.{Continues}
 use Rattle.lb_select.specs.Unique.{firsts, distinct}
@@ -239,19 +235,3 @@ module _ {B S : Type 0} (same : B → B → Bool) (accepts : B → Bool → Type
         let drawn : words_in past.1.draws ≤ max 1 (length cs) = few past.1.draws cs false past.1.walked in
         (past.1.draws, past.1.drawn, omega arith)
   ]
-
--- the words of a walk by the hash of its key, of which none is drawn
-hash_undrawn : (key ws : List ℕ) (ds : List Draw) → Words (λ k es w. (es ≡ []) × (w ≡ fnv k)) key ws ds → ds ≡ []
-hash_undrawn key [] ds words = words
-hash_undrawn key (w ∷ ws) ds words =
-    let now : words.0 ≡ [] = words.3.0 in
-    let later : words.1 ≡ [] = hash_undrawn (to_le_bytes w64 w) ws words.1 words.4 in
-    words.2 ∙ rw (now, later)
-
--- a selection by the hash of its key leaves the source as it was
-pub hash_selects : {S : Type 0} (accepts : Member → Bool → Type 0) (limit : ℕ) (gives : S → Draw → S → Type 0) (ms : List Member) (key : List ℕ)
-    (s t : S) (r : Result (Option Member) Refusal)
-    → Selects same_member accepts limit gives (IsWeightedWalk (λ k ds w. (ds ≡ []) × (w ≡ fnv k)) ms key) s r t → t ≡ s
-hash_selects accepts limit gives ms key s t r selects =
-    nothing_drawn same_member accepts limit gives (IsWeightedWalk (λ k ds w. (ds ≡ []) × (w ≡ fnv k)) ms key)
-    (λ ds cs e walk. hash_undrawn key (walk.word ∷ walk.later) ds walk.drawn) s t r selects

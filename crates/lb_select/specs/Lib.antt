@@ -1,7 +1,6 @@
 pub mod AddressText
 pub mod Backends
 pub mod Draws
-pub mod Expanded
 pub mod Fnv
 pub mod Identity
 pub mod Memberships
@@ -9,9 +8,7 @@ pub mod Refusals
 pub mod SameBackend
 pub mod Seen
 pub mod Selections
-pub mod Shares
 pub mod Unique
 pub mod UniqueLaws
 pub mod WalkLaws
 pub mod Walks
-pub mod Weights

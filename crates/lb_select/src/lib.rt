@@ -5,13 +5,10 @@
 mod address;
 pub mod algorithms;
 pub mod backend;
-pub mod fairness;
 pub mod laws;
 pub mod refusal;
 mod seen;
 pub mod select;
-pub mod selection;
 pub mod unique;
 pub mod walk;
-pub mod weighted;
 pub mod words;

@@ -2,9 +2,10 @@
 //! Weighted selection has an algorithm for its words; consistent selection goes by a ring.
 pub mod consistent;
 
+pub use lb_select::algorithms;
 pub use lb_select::select::select;
-pub use lb_select::selection::{
+pub use lb_weighted::selection::{
     BackendIter, BackendSelection, FNVHash, FVNHash, Random, RoundRobin, SelectionAlgorithm,
     UniqueIterator,
 };
-pub use lb_select::{algorithms, weighted};
+pub use lb_weighted::weighted;

@@ -1,0 +1,4 @@
+pub mod Expanded
+pub mod Shares
+pub mod WeightLaws
+pub mod Weights
