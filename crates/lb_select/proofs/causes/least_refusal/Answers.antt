@@ -1,7 +1,7 @@
 -- One cause more of those that are left.
 use Rattle.std.proofs.Common.{[], arith}
-use Rattle.lb_rebuild.proofs.Causes.{at_end, one_more}
-use Rattle.lb_rebuild.proofs.least.least_refusal.Goals as goal
+use Rattle.lb_select.proofs.LeastCauses.{at_end, one_more}
+use Rattle.lb_select.proofs.causes.least_refusal.Goals as goal
 
 pub returns : goal.returns
 returns g c = at_end (g.S.BackendSelection.refusal []) c.args.configs.now c.loop-config.config-index _ _ (omega arith) c.loop-config.invariant

@@ -1,6 +1,6 @@
 use Rattle.std.proofs.Common.{◌≡◌, [], map, drop}
-use Rattle.lb_rebuild.specs.Least.{least, earlier}
-use Rattle.lb_rebuild.proofs.least.least_refusal.Given as goal
+use Rattle.lb_select.specs.Refusals.{least, earlier}
+use Rattle.lb_select.proofs.causes.least_refusal.Given as goal
 
 abbrev pub invariant-loop-config : goal.invariant-loop-config
 invariant-loop-config g l =

@@ -1,11 +1,11 @@
 //! The least cause for which a selector of one of several configurations cannot be built, memory apart.
 //! A group asks for it before it takes memory for itself, so that a refusal for memory hides no other.
 ghost use Rattle.std.specs.Prelude.{◌≡◌, [], map};
-ghost use Rattle.lb_rebuild.specs.Least.{least, earlier as earlier_of, memory_apart};
+ghost use Rattle.lb_select.specs.Refusals.{least, earlier as earlier_of, memory_apart};
 
-use lb_select::backend::Backend;
-use lb_select::refusal::Refusal;
-use lb_select::walk::BackendSelection;
+use crate::backend::Backend;
+use crate::refusal::Refusal;
+use crate::walk::BackendSelection;
 use std::alloc::Global;
 use std::collections::BTreeSet;
 

@@ -2,9 +2,8 @@
 use Rattle.std.proofs.Common.{◌≡◌, ℕ, suc, ◌+◌, ◌∙◌, sym, ap, List, [], ◌∷◌, map, drop, length, get_or, drop-cons, ◌<◌, ◌≤◌, nat_lt, cond, true, false, Bool, refl, Option, Some, None, arith}
 use Rattle.std.proofs.lemmas.Bool.Decides.{nat_tests}
 use Rattle.std.proofs.lemmas.List.{drop_all}
-use Rattle.lb_select.specs.Refusals.{refusal_number}
 use Rattle.lb_select.specs.declared.refusal.Refusal.{Refusal}
-use Rattle.lb_rebuild.specs.Least.{least, earlier, memory_apart}
+use Rattle.lb_select.specs.Refusals.{refusal_number, least, earlier, memory_apart}
 
 above : (a b c : ℕ) → nat_lt b a ≡ true → nat_lt c b ≡ true → nat_lt c a ≡ false → ⊥
 above a b c p q r = grind (arith, nat_tests)
