@@ -9,5 +9,6 @@ pub mod SameBackend
 pub mod Seen
 pub mod Selections
 pub mod Unique
+pub mod UniqueLaws
 pub mod WalkLaws
 pub mod Walks

@@ -1,6 +1,6 @@
 //! Backends: an address, a weight, and what a user attaches to them.
 //! A backend is compared, ordered and hashed by address and weight alone: that pair is its identity.
-ghost use Rattle.std.specs.Prelude.{◌≡◌, ◌↔◌, IsTrue, IfOk, IfErr, MatchResult, Some, None, map, option_map};
+ghost use Rattle.std.specs.Prelude.{◌≡◌, IfOk, MatchResult, Some, None, option_map};
 ghost use Rattle.std.specs.Option.{ok_or};
 ghost use Rattle.std.specs.Cmp.{partial_order_from_own_ties};
 ghost use Rattle.std.specs.Cmp.Rules.{comparing};
@@ -115,17 +115,20 @@ impl Backend {
         }
     }
 
+    // A backend of the same identity, with nothing attached.
+    pub(crate) fn clone_identity(&self, alloc: Global) -> Result<Backend, AllocError>
+        ensures { IfOk result (λ c. c ≡ bare_member self.now.weight self.now.address) }
+    {
+        let addr = self.addr.clone()?;
+        Ok(Backend::bare(alloc, addr, self.weight))
+    }
+
     /// What makes two backends the same: the address and the weight.
     pub fn identity(&self) -> (&SocketAddr, usize)
         ensures { (address_seen result.0.now, result.1) ≡ identity_of self.now }
     {
         (&self.addr, self.weight)
     }
-
-    /// A law: backends are equal exactly where their identities are.
-    pub fn equal_by_identity(&self, other: &Backend)
-        ensures { IsTrue (same_member self.now other.now) ↔ (identity_of self.now ≡ identity_of other.now) }
-    {}
 
     /// The one socket address of an internet address; nothing is looked up. Refused `InvalidAddress` for a Unix address.
     pub fn to_socket_addrs<N: net::Net>(

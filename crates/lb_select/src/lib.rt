@@ -5,7 +5,9 @@
 mod address;
 pub mod algorithms;
 pub mod backend;
+pub mod laws;
 pub mod refusal;
+mod seen;
 pub mod select;
 pub mod unique;
 pub mod walk;

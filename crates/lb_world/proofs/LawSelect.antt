@@ -6,7 +6,7 @@ use Rattle.lb_select.specs.Draws.{Draw}
 use Rattle.lb_select.specs.Selections.{IsAnswer, Selects}
 use Rattle.lb_select.specs.declared.refusal.Refusal.{Refusal}
 use Rattle.lb_select.specs.declared.refusal.Refusal.TheVariants as refusal
-use Rattle.lb_select.proofs.Laws.{first_accepted as first_found}
+use Rattle.lb_select.proofs.SelectionLaws.{first_accepted as first_found}
 use Rattle.lb_rebuild.specs.Handed.{Handed, HandedGives}
 use Rattle.lb_world.specs.Steps as step
 use Rattle.lb_world.specs.declared.answer.Answer.{Answer}
