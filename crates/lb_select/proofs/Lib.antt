@@ -1,8 +1,9 @@
 pub mod AddressRoundTrip
 pub mod AddressTexts
 pub mod Clones
-pub mod Laws
+pub mod LeastCauses
 pub mod Lists
 pub mod SameBackends
 pub mod Searches
+pub mod SelectionLaws
 pub mod Turns

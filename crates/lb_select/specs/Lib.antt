@@ -1,13 +1,14 @@
 pub mod AddressText
+pub mod AlgorithmLaws
+pub mod Algorithms
 pub mod Backends
 pub mod Draws
-pub mod Fnv
 pub mod Identity
 pub mod Memberships
 pub mod Refusals
-pub mod SameBackend
 pub mod Seen
 pub mod Selections
+pub mod Selectors
 pub mod Unique
-pub mod WalkLaws
+pub mod UniqueLaws
 pub mod Walks

@@ -5,7 +5,10 @@
 mod address;
 pub mod algorithms;
 pub mod backend;
+pub mod causes;
+pub mod laws;
 pub mod refusal;
+mod seen;
 pub mod select;
 pub mod unique;
 pub mod walk;
