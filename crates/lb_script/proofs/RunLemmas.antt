@@ -1,5 +1,5 @@
 -- Lemmas on the text of a script's run: how it goes on from line to line, and how it ends.
-use Rattle.std.proofs.Common.{◌≡◌, ◌≢◌, inl, inr, ℕ, ◌+◌, ◌≤◌, Bool, true, false, List, [], ◌∷◌, ◌++◌, codes, length, Option, Some, None, IfSome, OnOk, OnErr, Result, Ok, Err, refl, sym, ap, ◌∙◌, subst, append_assoc, append-nil, arith}
+use Rattle.std.proofs.Common.{◌≡◌, ◌≢◌, inl, inr, ℕ, ◌+◌, Bool, true, false, List, [], ◌∷◌, ◌++◌, codes, Option, Some, None, IfSome, OnOk, OnErr, Result, Ok, Err, refl, sym, ap, ◌∙◌, subst, append_assoc, append-nil, arith}
 use Rattle.std.specs.Io.KnownBytes.{Appends, Keeps, prepend_known}
 use Rattle.std.specs.Result.{result_ok}
 use Rattle.std.proofs.KnownBytes.{Appends-nil, Appends-trans, Appends-kept}
@@ -9,13 +9,13 @@ use Rattle.lb_world.specs.Views.{WorldView}
 use Rattle.lb_script.specs.declared.error.ScriptError.{ScriptError}
 use Rattle.lb_script.specs.declared.error.ScriptError.TheVariants.{BadLine, LineTooLong, Read, OutOfMemory}
 use Rattle.lb_script.specs.declared.session.Turn.{Turn}
-use Rattle.lb_script.specs.declared.session.Turn.TheVariants.{Answered, LastAnswered, Ended, Failed, WriteFailed}
+use Rattle.lb_script.specs.declared.session.Turn.TheVariants.{Answered, LastAnswered, Ended, Failed}
 use Rattle.lb_kinds.specs.declared.kinds.Kind.{Kind}
-use Rattle.lb_script.specs.Lines.{lines_of, whole_lines, first_line, HasNoFeed, IsLine}
+use Rattle.lb_script.specs.Lines.{lines_of, whole_lines, first_line, IsLine}
 use Rattle.lb_script.specs.Output.{IsOutput, ends, answered, bad_line, too_long, no_memory, read_fails, IsToAnswer, Wrote, WroteFront}
-use Rattle.lb_script.specs.Session.{Holds, AnsweredLine, AnsweredFirst, AnsweredRest, TakesTurn}
+use Rattle.lb_script.specs.Session.{Holds, AnsweredLine, TakesTurn}
 use Rattle.lb_counted.specs.Stream.{OnBytes, AppendsFront}
-use Rattle.lb_script.specs.Texts.{answer_text, error_text}
+use Rattle.lb_script.specs.Texts.{error_text}
 use Rattle.lb_script.proofs.LinesLemmas.{lines_first, lines_feed, lines_last, whole_feed, whole_none, first_of_none}
 use Rattle.lb_counted.proofs.StreamLemmas.{front_more, front_after}
 

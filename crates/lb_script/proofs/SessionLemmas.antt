@@ -1,5 +1,5 @@
 -- Lemmas on what a script's run does for one line.
-use Rattle.std.proofs.Common.{◌≡◌, ◌≢◌, ℕ, Bool, true, false, ◌||◌, List, [], ◌∷◌, ◌++◌, length, nat_lt, ◌≤◌, Option, Some, None, Err, arith, refl, ap, ◌∙◌, sym, subst}
+use Rattle.std.proofs.Common.{◌≡◌, ℕ, Bool, true, false, ◌||◌, List, ◌∷◌, length, nat_lt, ◌≤◌, Option, Some, None, Err, arith, refl, ap, ◌∙◌, sym, subst}
 use Rattle.std.proofs.lemmas.Bool.Decides.{nat_tests}
 use Rattle.lb_world.specs.History.{History, registries}
 use Rattle.lb_world.specs.Meanings.{Meaning}
@@ -13,7 +13,7 @@ use Rattle.lb_script.specs.declared.lines.LineRead.TheVariants.{Line}
 use Rattle.lb_script.specs.declared.session.Turn.TheVariants.{Failed}
 use Rattle.lb_kinds.specs.declared.kinds.Kind.{Kind}
 use Rattle.lb_counted.specs.Stream.{OnBytes}
-use Rattle.lb_script.specs.Lines.{Finds, first_line}
+use Rattle.lb_script.specs.Lines.{Finds}
 use Rattle.lb_script.specs.Output.{step_after, made_registry}
 use Rattle.lb_script.specs.Session.{AnswersLine, TakesTurn}
 use Rattle.lb_script.proofs.LinesLemmas.{first_of_stream}

@@ -1,5 +1,5 @@
 -- What a script's run keeps between two lines, and what it does for one line.
-use Rattle.std.specs.Prelude.{◌≡◌, ◌≢◌, ℕ, ◌<◌, ◌≤◌, Bool, true, false, List, [], ◌∷◌, ◌++◌, codes, length, Some, None, Result, Ok, Err, ⊤, nat_lt}
+use Rattle.std.specs.Prelude.{◌≡◌, ◌≢◌, ℕ, ◌<◌, ◌≤◌, Bool, List, [], ◌∷◌, ◌++◌, codes, length, Some, None, Result, Ok, Err, ⊤, nat_lt}
 use Rattle.lb_world.specs.Answers.{Answers}
 use Rattle.lb_world.specs.History.{History, registries}
 use Rattle.lb_world.specs.Meanings.{Meaning}

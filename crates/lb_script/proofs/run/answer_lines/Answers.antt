@@ -1,9 +1,8 @@
-use Rattle.std.proofs.Common.{◌∙◌, ap, subst, sym, Some, None, string_bytes, arith}
+use Rattle.std.proofs.Common.{◌∙◌, ap, subst, sym, string_bytes, arith}
 use Rattle.std.specs.Io.KnownBytes.{Appends, prepend_known}
 use Rattle.lb_world.specs.Meanings.{meaning}
 use Rattle.lb_counted.specs.Counted.{inner_of, has_failed}
 use Rattle.lb_counted.specs.Stream.{AppendsFront}
-use Rattle.lb_script.specs.declared.error.ScriptError.TheVariants.{Read}
 use Rattle.lb_script.specs.declared.session.Turn.TheVariants.{Failed}
 use Rattle.lb_script.proofs.RunLemmas.{begins, flushed_so, goes_on, is_over, ends_with_line, stops_in_last, ends_early, ends_in_part, stops_in_line, stops_unflushed, runs_out, runs_out_in_part, where_some, where_none}
 use Rattle.lb_script.proofs.run.answer_lines.Goals as goal

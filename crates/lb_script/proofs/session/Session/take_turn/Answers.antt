@@ -1,4 +1,4 @@
-use Rattle.std.proofs.Common.{string_bytes, sym, subst}
+use Rattle.std.proofs.Common.{string_bytes}
 use Rattle.std.specs.Io.KnownBytes.{prepend_known}
 use Rattle.lb_world.specs.Meanings.{meaning}
 use Rattle.lb_counted.specs.Counted.{inner_of}
