@@ -1,6 +1,6 @@
 use Rattle.std.proofs.Common.{◌≤◌, ◌∙◌, sym, ap, subst, drop, length, slice_range}
-use Rattle.lb_script.proofs.AheadLemmas.{range_after}
-use Rattle.lb_script.proofs.ahead.ReadAhead.consume.Goals as goal
+use Rattle.lb_script.proofs.ReadAheadLemmas.{range_after}
+use Rattle.lb_script.proofs.read_ahead.ReadAhead.consume.Goals as goal
 
 pub returns : goal.returns
 returns c =

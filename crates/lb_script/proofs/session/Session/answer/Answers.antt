@@ -1,7 +1,7 @@
 use Rattle.std.proofs.Common.{rules}
 use Rattle.lb_world.specs.Steps.{step_seen}
-use Rattle.lb_script.proofs.session.answer_line.Goals.{else-has_registry-via-then-has_registry+else-makes_registry, else-has_registry-via-else-has_registry, then-made_registry, else-made_registry}
-use Rattle.lb_script.proofs.session.answer_line.Goals as goal
+use Rattle.lb_script.proofs.SessionLemmas.{marks_after}
+use Rattle.lb_script.proofs.session.Session.answer.Goals as goal
 
 pub returns-clause-line : goal.returns-clause-line
 returns-clause-line g c =
@@ -12,6 +12,6 @@ returns-clause-line g c =
       a = c.step-answer.result;
       is = search rules;
       right = stands.run.1;
-      holds = record { stands = stands; marks = search rules };
+      holds = record { stands = stands; marks = rw c.made_registry.ensures (marks_after c.args.self.now.has_registry h (step_seen c.in_ok-step.step) c.step-answer.result held.marks) };
       printed = search rules;
     }
