@@ -27,3 +27,20 @@ pub(crate) fn many_backends(alloc: Global, count: u32, built: &[u8]) -> io::Resu
     answers.extend_from_slice(built)?;
     Ok(agrees(alloc, script.as_bytes(), &Outcome::of(answers.as_slice())))
 }
+
+/// Whether a selection from one backend under a key of so many bytes answers so.
+pub(crate) fn long_key(alloc: Global, length: usize, selected: &[u8]) -> io::Result<bool> {
+    let key = vec![in alloc; b'a'; length]?;
+    let mut script = b"registry identity\ngate\ngroup 0 0 fnv 1\nupdate 0 0 1.0.0.1:80/1\n".to_vec(
+        alloc,
+    )?;
+    script.extend_from_slice(b"ask 0 0 0\nbuild 0 0 0\npublish 0 0\nselect 0 0 ")?;
+    script.extend_from_slice(key.as_slice())?;
+    script.extend_from_slice(b" 1\n")?;
+    let mut answers =
+        b"registry 0\ngate 0\ngroup 0\ngeneration 1\nbuild 1\nbuilt 1\npublished 1\n".to_vec(
+            alloc,
+        )?;
+    answers.extend_from_slice(selected)?;
+    Ok(agrees(alloc, script.as_slice(), &Outcome::of(answers.as_slice())))
+}

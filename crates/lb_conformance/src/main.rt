@@ -7,7 +7,7 @@ mod outcome;
 mod steps;
 mod streams;
 
-use large::{long_line, many_backends};
+use large::{long_key, long_line, many_backends};
 use outcome::{Outcome, agrees};
 use std::process::ExitCode;
 use std::rt::Files;
@@ -16,7 +16,7 @@ use steps::run_agrees;
 use streams::{Failing, status_without_flush};
 
 // The rows in data/, by the names of their files.
-const ROWS: [&str; 35] = [
+const ROWS: [&str; 37] = [
     "a-reader-stays",
     "address-before-group",
     "bad-line",
@@ -29,6 +29,8 @@ const ROWS: [&str; 35] = [
     "first-path",
     "first-run",
     "fnv-hash",
+    "greatest-weight",
+    "large-weights",
     "members-of-a-generation",
     "moment-too-large",
     "no-line-feed",
@@ -84,6 +86,8 @@ fn made_rows<R: Print + AllocGlobal>(rt: &R) -> io::Result<bool> {
     all &= report(rt, "65536 backends", too_many)?;
     let most = many_backends(alloc, 65535, b"built 1\n")?;
     all &= report(rt, "65535 backends", most)?;
+    let keyed = long_key(alloc, 1000000, b"backend 1.0.0.1:80/1\n")?;
+    all &= report(rt, "a key of 1000000 bytes", keyed)?;
     let failing = Failing::after(b"registry identity\ngate\ngro");
     let failed = agrees(
         alloc,

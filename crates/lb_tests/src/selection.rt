@@ -7,6 +7,7 @@ use lb_select::unique::UniqueIterator;
 use lb_select::walk::BackendSelection;
 use lb_select::words::{CoreWords, SharedWords, WordSource};
 use lb_weighted::selection::{FNVHash, Random, RoundRobin};
+use lb_weighted::weighted::Located;
 use rand_pcg::Pcg64;
 use std::alloc::Global;
 use std::collections::BTreeSet;
@@ -188,6 +189,31 @@ fn every_second_candidate_repeats(rt: HostRuntime) -> Result<(), Fail> {
     assert_eq!(rt; first, Some(5));
     assert_eq!(rt; second, Some(1));
     assert_eq!(rt; third, None);
+    Ok(())
+}
+
+fn located(selector: &RoundRobin, place: u64) -> Option<Located> {
+    if place < selector.total() {
+        Some(selector.locate(place))
+    } else {
+        None
+    }
+}
+
+#[test]
+fn places_of_partial_sums(rt: HostRuntime) -> Result<(), Fail> {
+    let alloc = rt.alloc();
+    let set = set_of(
+        alloc,
+        &[("1.0.0.1:80", 1), ("1.0.0.2:80", 0), ("1.0.0.3:80", 5)],
+    )?;
+    let selector = RoundRobin::build(alloc, &set)?;
+    for (place, index) in [(0, 0), (1, 2), (5, 2)] {
+        let found = located(&selector, place).ok_or("a place below the total")?;
+        assert_eq!(rt; found.index, index);
+        assert!(rt; found.probes <= 2);
+    }
+    assert_eq!(rt; located(&selector, 6), None);
     Ok(())
 }
 

@@ -10,4 +10,4 @@ pub mod world;
 
 pub use lb_select::backend::{Backend, Ext, InetAddr, SocketAddr};
 pub use lb_select::refusal::Refusal;
-pub use lb_select::words::{CoreWords, LentWords, SharedWords, WordSource};
+pub use lb_select::words::{CoreWords, HandedWords, LentWords, SharedWords, WordSource};
