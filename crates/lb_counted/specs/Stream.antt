@@ -1,5 +1,5 @@
 -- What a call did to the bytes that a reader has left or a writer holds, where those are known.
-use Rattle.std.specs.Prelude.{◌≡◌, ℕ, List, [], ◌∷◌, ◌++◌, ⊤, Option, None, Some, Result, Ok, Err}
+use Rattle.std.specs.Prelude.{◌≡◌, ℕ, List, [], ◌∷◌, ◌++◌, length, ⊤, Option, None, Some, Result, Ok, Err}
 use Rattle.std.specs.Io.KnownBytes.{Appends}
 
 -- P of the known bytes before a call and those after it; nothing is claimed of bytes that weren't known
@@ -14,6 +14,18 @@ abbrev pub GivesByte : {E : Type 0} → Result (Option ℕ) E → List ℕ → L
 GivesByte (Ok (Some b)) stream rest = stream ≡ b ∷ rest
 GivesByte (Ok None) stream rest = (stream ≡ []) × (rest ≡ [])
 GivesByte (Err e) stream rest = rest ≡ stream
+
+-- the first n bytes of the stream were taken, and the rest is left
+pub record Takes (n : ℕ) (stream rest : List ℕ) : Type 0 where
+  pub front : List ℕ
+  pub count : length front ≡ n
+  pub is : stream ≡ front ++ rest
+
+-- what a call that skips some bytes did: it took as many as it says, none only at the end of the stream; or it
+-- failed and left the stream as it was
+abbrev pub SkipsSome : {E : Type 0} → Result ℕ E → List ℕ → List ℕ → Type 0
+SkipsSome (Ok n) stream rest = Takes n stream rest × (n ≡ 0 → rest ≡ [])
+SkipsSome (Err e) stream rest = rest ≡ stream
 
 -- the known bytes of a writer grew by some bytes at the front of `bytes`, perhaps by none or by all
 abbrev pub AppendsFront : Option (List ℕ) → Option (List ℕ) → List ℕ → Type 0

@@ -1,7 +1,7 @@
 use Rattle.std.proofs.Common.{◌≡◌}
 use Rattle.std.specs.Io.KnownBytes.{Keeps}
-use Rattle.lb_script.specs.Counted.{inner_of, has_failed}
-use Rattle.lb_script.proofs.counted.CountedRead.read.Given as goal
+use Rattle.lb_counted.specs.Counted.{inner_of, has_failed}
+use Rattle.lb_counted.proofs.counted.CountedRead.read.Given as goal
 
 abbrev pub invariant-loop : goal.invariant-loop
 invariant-loop g l =

@@ -1,7 +1,7 @@
 use Rattle.std.proofs.Common.{rules}
-use Rattle.lb_script.specs.Counted.{inner_of}
-use Rattle.lb_script.proofs.StreamLemmas.{put_more, put_part, put_within}
-use Rattle.lb_script.proofs.counted.Counted.put.Goals as goal
+use Rattle.lb_counted.specs.Counted.{inner_of}
+use Rattle.lb_counted.proofs.StreamLemmas.{put_more, put_part, put_within}
+use Rattle.lb_counted.proofs.counted.Counted.put.Goals as goal
 
 pub loop-at-preserved : goal.loop-at-preserved
 loop-at-preserved g c =

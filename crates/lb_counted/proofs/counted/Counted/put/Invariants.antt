@@ -1,7 +1,7 @@
 use Rattle.std.proofs.Common.{◌≡◌, ◌≤◌, ◌-◌, length, take}
 use Rattle.std.specs.Io.KnownBytes.{Appends}
-use Rattle.lb_script.specs.Counted.{inner_of, has_failed}
-use Rattle.lb_script.proofs.counted.Counted.put.Given as goal
+use Rattle.lb_counted.specs.Counted.{inner_of, has_failed}
+use Rattle.lb_counted.proofs.counted.Counted.put.Given as goal
 
 abbrev pub invariant-loop-at : goal.invariant-loop-at
 invariant-loop-at g l = record {

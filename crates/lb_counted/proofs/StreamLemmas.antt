@@ -4,7 +4,7 @@ use Rattle.std.proofs.Math.Seq.{take-add}
 use Rattle.std.proofs.lemmas.List.{take_all}
 use Rattle.std.specs.Io.KnownBytes.{Keeps, Appends}
 use Rattle.std.proofs.KnownBytes.{Appends-trans, Appends-kept}
-use Rattle.lb_script.specs.Stream.{AppendsFront, OnBytes}
+use Rattle.lb_counted.specs.Stream.{AppendsFront, OnBytes}
 
 -- `&bytes[at..]` is what is left after the first `at` bytes
 pub rest_is : (bytes : List ℕ) (at : ℕ) → take (length bytes - at) (drop at bytes) ≡ drop at bytes
