@@ -1,0 +1,9 @@
+pub mod Head
+pub mod Parts
+pub mod Framing
+pub mod Found
+pub mod Body
+pub mod Chunked
+pub mod Steps
+pub mod Request
+pub mod Check
