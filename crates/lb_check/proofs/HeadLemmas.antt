@@ -14,6 +14,12 @@ use Rattle.lb_check.specs.Head.{Sees, HasParts, IsWholeHead}
 use Rattle.lb_check.proofs.BodyLemmas.{fronts_same}
 use lib.Seq.{take-append_seam}
 
+-- what is known while a head is read: the bytes since the last empty line hold no whole head, and they are no more than all
+-- that were read
+pub record HeadSoFar (bytes : List ℕ) (count : ℕ) : Type 0 where
+  pub none : HasNoResponse bytes
+  pub within : length bytes ≤ count
+
 -- ---- where a head ends
 
 end_is : (e : LineEnd) → (f : List ℕ) × (print_end e ≡ f ++ 10 ∷ [])

@@ -5,7 +5,6 @@ pub mod ChunksLemmas
 pub mod ExactLemmas
 pub mod FieldLemmas
 pub mod HeadLemmas
-pub mod HeadSoFar
 pub mod LengthLemmas
 pub mod LineLemmas
 pub mod Streams

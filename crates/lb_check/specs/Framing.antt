@@ -1,6 +1,6 @@
 -- How the body of an answer is framed, a profile of RFC 9112 section 6.3: stricter on transfer codings and repeated
 -- lengths, and without a rule for CONNECT.
-use Rattle.std.specs.Prelude.{ℕ, Bool, ◌&&◌, ◌||◌, not, List, [], ◌∷◌, length, Option, None, Some, if◌then◌else◌, ◌==◌, nat_lt, nat_le, bytes_eq, codes}
+use Rattle.std.specs.Prelude.{◌≡◌, ℕ, Bool, ◌&&◌, ◌||◌, not, List, [], ◌∷◌, length, Option, None, Some, if◌then◌else◌, ◌==◌, nat_lt, nat_le, bytes_eq, codes}
 use Rattle.std.specs.List.{list_all}
 use Rattle.std.specs.Char.{is_ascii_digit}
 use Rattle.std.specs.Str.Parse.{digits_value}
@@ -8,6 +8,8 @@ use Rattle.http.specs.declared.response.Parts.{Parts}
 use Rattle.http_header.specs.FieldValue.{FieldValue}
 use Rattle.http_header.specs.HeaderMap.{get_all}
 use Rattle.http_header.specs.Token.{lowercase}
+use Rattle.lb_check.specs.declared.framing.Found.{Found}
+use Rattle.lb_check.specs.declared.framing.Found.TheVariants.{Absent, One, Many}
 use Rattle.lb_check.specs.declared.framing.Framing.{Framing}
 use Rattle.lb_check.specs.declared.framing.Framing.TheVariants.{Nothing, Sized, Chunked, ToEnd}
 
@@ -44,3 +46,9 @@ abbrev pub framing_of : Bool → ℕ → Parts → Option Framing
 framing_of is_head minor p =
     if is_head || is_bodiless p.status then Some Nothing
     else framing_by minor (get_all p.headers (codes "transfer-encoding")) (get_all p.headers (codes "content-length"))
+
+-- what a look at the values under one name answers: none, one and which, or more
+abbrev pub Finds : List FieldValue → Found → Type 0
+Finds values Absent = values ≡ []
+Finds values (One value) = values ≡ value.now ∷ []
+Finds values Many = (v : FieldValue) × (w : FieldValue) × (vs : List FieldValue) × (values ≡ v ∷ w ∷ vs)

@@ -1,7 +1,6 @@
 pub mod Head
 pub mod Parts
 pub mod Framing
-pub mod Found
 pub mod Body
 pub mod Chunked
 pub mod Steps

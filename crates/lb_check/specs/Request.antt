@@ -28,3 +28,8 @@ text_of p = request_text p.method (target_of p) p.headers
 -- whether the request asks for the head alone
 abbrev pub asks_for_head : Parts → Bool
 asks_for_head p = bytes_eq p.method (codes "HEAD")
+
+-- the bytes of a request for `/` of a host
+abbrev pub default_text : List ℕ → List ℕ → List ℕ
+default_text method host =
+    method ++ codes " / HTTP/1.1" ++ (13 ∷ 10 ∷ []) ++ codes "host: " ++ host ++ (13 ∷ 10 ∷ 13 ∷ 10 ∷ [])

@@ -32,7 +32,8 @@ pub(crate) fn skip<R: Read>(reader: &mut Counted<R>, length: u64) -> Result<(), 
 
 // A body of that length, refused before its first byte where it is above the limit.
 fn read_sized<R: Read>(reader: &mut Counted<R>, limit: u64, length: u64) -> Result<(), CheckError>
-    ensures outcome { OnBytes (R.remaining (inner_of reader.old)) (R.remaining (inner_of reader.new)) (BodyOutcome limit (Framing.Sized length) result) }
+    ensures outcome { OnBytes (R.remaining (inner_of reader.old)) (R.remaining (inner_of reader.new))
+        (BodyOutcome limit (Framing.Sized length) result) }
     ensures own { result ≢ Err CheckError.Write }
     ensures failed { result ≡ Err CheckError.Read → has_failed reader.new ≡ true }
     ensures kept { result ≢ Err CheckError.Read → has_failed reader.new ≡ has_failed reader.old }
@@ -45,7 +46,8 @@ fn read_sized<R: Read>(reader: &mut Counted<R>, limit: u64, length: u64) -> Resu
 
 // A body that goes on to the end of the stream.
 fn read_to_end<R: Read>(reader: &mut Counted<R>, limit: u64) -> Result<(), CheckError>
-    ensures outcome { OnBytes (R.remaining (inner_of reader.old)) (R.remaining (inner_of reader.new)) (BodyOutcome limit Framing.ToEnd result) }
+    ensures outcome { OnBytes (R.remaining (inner_of reader.old)) (R.remaining (inner_of reader.new))
+        (BodyOutcome limit Framing.ToEnd result) }
     ensures own { result ≢ Err CheckError.Write }
     ensures failed { result ≡ Err CheckError.Read → has_failed reader.new ≡ true }
     ensures kept { result ≢ Err CheckError.Read → has_failed reader.new ≡ has_failed reader.old }

@@ -83,7 +83,8 @@ pub(crate) fn read_chunked<R: Read>(
     reader: &mut Counted<R>,
     limit: u64,
 ) -> Result<(), CheckError>
-    ensures outcome { OnBytes (R.remaining (inner_of reader.old)) (R.remaining (inner_of reader.new)) (BodyOutcome limit Framing.Chunked result) }
+    ensures outcome { OnBytes (R.remaining (inner_of reader.old)) (R.remaining (inner_of reader.new))
+        (BodyOutcome limit Framing.Chunked result) }
     ensures own { result ≢ Err CheckError.Write }
     ensures failed { result ≡ Err CheckError.Read → has_failed reader.new ≡ true }
     ensures kept { result ≢ Err CheckError.Read → has_failed reader.new ≡ has_failed reader.old }

@@ -27,7 +27,8 @@ fn answer<V: Validate, R: Read>(
     max_body_bytes: u64,
     reader: &mut Counted<R>,
 ) -> Result<(), CheckError>
-    ensures outcome { OnBytes (R.remaining (inner_of reader.old)) (R.remaining (inner_of reader.new)) (CheckOutcome head_alone max_body_bytes (accepts_of V.accepts validator.now) result) }
+    ensures outcome { OnBytes (R.remaining (inner_of reader.old)) (R.remaining (inner_of reader.new))
+        (CheckOutcome head_alone max_body_bytes (accepts_of V.accepts validator.now) result) }
     ensures own { result ≢ Err CheckError.Write }
     ensures failed { result ≡ Err CheckError.Read → has_failed reader.new ≡ true }
     ensures kept { result ≢ Err CheckError.Read → has_failed reader.new ≡ has_failed reader.old }
@@ -58,7 +59,8 @@ fn read_answer<V: Validate, R: Read>(
     max_body_bytes: u64,
     reader: &mut Counted<R>,
 ) -> Result<(), CheckError>
-    ensures outcome { OnBytes (R.remaining (inner_of reader.old)) (R.remaining (inner_of reader.new)) (CheckOutcome head_alone max_body_bytes (accepts_of V.accepts validator.now) result) }
+    ensures outcome { OnBytes (R.remaining (inner_of reader.old)) (R.remaining (inner_of reader.new))
+        (CheckOutcome head_alone max_body_bytes (accepts_of V.accepts validator.now) result) }
     ensures only { OnBytes (R.remaining (inner_of reader.old)) (R.remaining (inner_of reader.new)) (λ stream rest.
         (other : List ℕ) → IsGood head_alone max_body_bytes (accepts_of V.accepts validator.now) stream other
         → IsOkOrFailed (has_failed reader.new) false result) }
@@ -89,7 +91,8 @@ pub fn check_over<V: Validate, R: Read, W: Write>(
 ) -> Result<(), CheckError>
     requires reader { has_failed reader.old ≡ false }
     requires writer { has_failed writer.old ≡ false }
-    ensures outcome { result ≢ Err CheckError.Write → OnBytes (R.remaining (inner_of reader.old)) (R.remaining (inner_of reader.new)) (CheckOutcome (asks_for_head (head_of req.now)) max_body_bytes (accepts_of V.accepts validator.now) result) }
+    ensures outcome { result ≢ Err CheckError.Write → OnBytes (R.remaining (inner_of reader.old)) (R.remaining (inner_of reader.new))
+        (CheckOutcome (asks_for_head (head_of req.now)) max_body_bytes (accepts_of V.accepts validator.now) result) }
     ensures written { OnOk result (Appends (W.contents (inner_of writer.old)) (W.contents (inner_of writer.new)) (text_of (head_of req.now))) }
     ensures flushed { OnOk result (is_flushed writer.new ≡ true) }
     ensures only { OnBytes (R.remaining (inner_of reader.old)) (R.remaining (inner_of reader.new)) (λ stream rest.

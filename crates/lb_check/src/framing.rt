@@ -1,8 +1,7 @@
 //! How the body of an answer is framed, by its head.
 //! Fields that contradict each other frame nothing: a repeated length, a length beside a transfer coding, an unknown coding.
 ghost use Rattle.std.specs.Prelude.{◌≡◌, ◌∷◌, []};
-ghost use Rattle.lb_check.specs.Framing.{framing_of, length_value};
-ghost use Rattle.lb_check.specs.Found.{Finds};
+ghost use Rattle.lb_check.specs.Framing.{Finds, framing_of, length_value};
 
 use http::header::{CONTENT_LENGTH, TRANSFER_ENCODING};
 use http::response::Parts;

@@ -11,6 +11,8 @@ mod line;
 mod parts;
 mod request;
 mod trailers;
-pub mod validate;
+mod validate;
 
 pub use engine::check_over;
+pub use request::request_for;
+pub use validate::{AcceptStatus, Validate};

@@ -16,7 +16,8 @@ pub(crate) fn read_line<R: Read>(
     reader: &mut Counted<R>,
     most: u64,
 ) -> Result<Vec<u8>, CheckError>
-    ensures outcome { OnBytes (R.remaining (inner_of reader.old)) (R.remaining (inner_of reader.new)) (LineOutcome (λ line. line.items) most result) }
+    ensures outcome { OnBytes (R.remaining (inner_of reader.old)) (R.remaining (inner_of reader.new))
+        (LineOutcome (λ line. line.items) most result) }
     ensures line { IfOk result (λ line. IsLineText line.items × (vec_len line ≤ most)) }
     ensures own { result ≢ Err CheckError.Write }
     ensures failed { result ≡ Err CheckError.Read → has_failed reader.new ≡ true }

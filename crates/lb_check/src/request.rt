@@ -1,16 +1,41 @@
 //! The bytes of a request, and how they are sent.
-ghost use Rattle.std.specs.Prelude.{◌≡◌, IfOk, OnOk, OnErr, Err, true};
+ghost use Rattle.std.specs.Prelude.{◌≡◌, ◌↔◌, ◌⊎◌, IfOk, IfErr, OnOk, OnErr, Err, true};
 ghost use Rattle.std.specs.Io.KnownBytes.{Appends};
 ghost use Rattle.http.specs.Request.{head_of};
+ghost use Rattle.http_header.specs.FieldValue.{IsFieldValue};
 ghost use Rattle.lb_counted.specs.Counted.{inner_of, has_failed, is_flushed};
 ghost use Rattle.lb_counted.specs.Stream.{AppendsFront};
-ghost use Rattle.lb_check.specs.Request.{text_of, target_of, asks_for_head};
+ghost use Rattle.lb_check.specs.Request.{text_of, target_of, asks_for_head, default_text};
 
-use http::Request;
+use http::header::HOST;
+use http::request::Parts;
+use http::{HeaderValue, Method, Request};
+use http_header::HeaderValueError;
 use lb_counted::counted::Counted;
 use lb_probe::error::CheckError;
+use lb_select::refusal::Refusal;
 use std::alloc::{AllocError, Global};
 use std::io::Write;
+
+/// The request for `/` of that host, with that method. Refused `InvalidAddress` where the host is no header value,
+/// `OutOfMemory` where there is no room for it.
+pub fn request_for(alloc: Global, method: Method, host: &str) -> Result<Request<()>, Refusal>
+    ensures text { IfOk result (λ req. text_of (head_of req) ≡ default_text method host.now) }
+    ensures invalid { result ≡ Err Refusal.InvalidAddress ↔ ¬ (IsFieldValue host.now) }
+    ensures refused { IfErr result (λ e. (e ≡ Refusal.InvalidAddress) ⊎ (e ≡ Refusal.OutOfMemory)) }
+{
+    let value = match HeaderValue::from_bytes(alloc, host.as_bytes()) {
+        Ok(value) => value,
+        Err(HeaderValueError::Invalid) => return Err(Refusal::InvalidAddress),
+        Err(HeaderValueError::OutOfMemory) => return Err(Refusal::OutOfMemory),
+    };
+    let mut parts = Parts::new(alloc);
+    parts.method = method;
+    match parts.headers.append(HOST, value) {
+        Ok(_) => Ok(Request::from_parts(parts, ())),
+        Err(_) => Err(Refusal::OutOfMemory),
+    }
+}
 
 /// The request's bytes. An answer has no body where the method is HEAD, in this case alone; a URI that shows no path asks
 /// for `/`.

@@ -2,7 +2,7 @@ use Rattle.std.proofs.Common.{◌≡◌}
 use Rattle.lb_counted.specs.Counted.{inner_of, has_failed}
 use Rattle.lb_counted.specs.Stream.{OnBytes}
 use Rattle.lb_check.specs.Head.{AfterBlank}
-use Rattle.lb_check.proofs.HeadSoFar.{HeadSoFar}
+use Rattle.lb_check.proofs.HeadLemmas.{HeadSoFar}
 use Rattle.lb_check.proofs.head.read_head.Given as goal
 
 abbrev pub invariant-loop : goal.invariant-loop
