@@ -53,7 +53,8 @@ pub enum ChosenIterator {
 impl ChosenIterator {
     // The index of the next candidate in the set's order.
     fn advance<W: WordSource>(&mut self, words: &mut W) -> Option<usize>
-        ensures step { IsStep W.gives chosen_walk self.old words.old (option_and_then (slice_get (members_walked self.old)) result) self.new words.new }
+        ensures step { IsStep W.gives chosen_walk self.old words.old
+            (option_and_then (slice_get (members_walked self.old)) result) self.new words.new }
         ensures members { members_walked self.new ≡ members_walked self.old }
     {
         match self {

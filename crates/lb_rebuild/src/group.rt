@@ -15,12 +15,12 @@ ghost use Rattle.lb_rebuild.specs.Calls.{Asked, PublishedIn, Rises, FailedIn, En
 
 use crate::gate::{GateCore, Permit};
 use crate::job::{Built, Job};
-use lb_select::causes::least_refusal;
 use crate::schedule::{
     Scheduled, hand_out, lists_members, orders_for, same_members as is_same, turns_of,
 };
 use crate::slot::{Ask, Reader, Retired, Slot, Told};
 use lb_select::backend::Backend;
+use lb_select::causes::least_refusal;
 use lb_select::refusal::Refusal;
 use lb_select::walk::BackendSelection;
 use std::alloc::Global;

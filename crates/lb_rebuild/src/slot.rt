@@ -9,14 +9,13 @@ ghost use Rattle.lb_rebuild.specs.Gate.{GateId};
 ghost use Rattle.lb_rebuild.specs.Kept.{IsWithoutPermit};
 
 use crate::gate::{GateCore, Permit};
-use lb_select::words::HandedWords;
 use crate::job::{Built, Job, Order};
 use crate::schedule::SlotTurn;
 use lb_select::backend::Backend;
 use lb_select::refusal::Refusal;
 use lb_select::select::select;
 use lb_select::walk::BackendSelection;
-use lb_select::words::WordSource;
+use lb_select::words::{HandedWords, WordSource};
 use std::alloc::Global;
 use std::collections::BTreeSet;
 use std::marker::Model;

@@ -9,7 +9,7 @@ use Rattle.lb_select.specs.Backends.{Member}
 use Rattle.lb_select.specs.Seen.{inet_seen}
 use Rattle.lb_select.specs.declared.backend.InetAddr.{InetAddr}
 use Rattle.lb_select.specs.declared.backend.InetAddr.TheVariants.{V4, V6}
-use Rattle.lb_ring.specs.Chains.{address_text, crc_chain, state_chain}
+use Rattle.lb_ring.specs.Chains.{hashed_text, crc_chain, state_chain}
 use Rattle.lb_ring.specs.Crc.{crc_fed}
 use Rattle.lb_ring.specs.Choices.{is_internet, ring_weight, points_per_weight}
 use Rattle.lb_ring.specs.Placed.{member_at, Bears, IsOfChain, IsFilled, chain_entries}
@@ -171,12 +171,12 @@ map_same f g (x ∷ xs) h = ap (λ y. y ∷ map f xs) (h x) ∙ ap (λ ys. g x �
 
 -- the same, with the points by the state of a CRC that was fed the address's text
 pub filled_chain : (ms : List Member) (i : ℕ) (owners : List ℕ) (points : List (ℕ × ℕ)) → IsFilled ms i owners points → (m : Member) → slice_get ms i ≡ Some m
-    → Bears ms i m → (state count number : ℕ) → state ≡ crc_fed 0xFFFFFFFF (address_text m.address) → count ≡ points_per_weight * m.weight → number ≡ length owners
+    → Bears ms i m → (state count number : ℕ) → state ≡ crc_fed 0xFFFFFFFF (hashed_text m.address) → count ≡ points_per_weight * m.weight → number ≡ length owners
     → HasSmallPoints (points ++ chain_entries state count number) → IsFilled ms (i + 1) (owners ++ i ∷ []) (points ++ chain_entries state count number)
 filled_chain ms i owners points h m at bears state count number s c n small =
     let f : ℕ → ℕ → ℕ × ℕ = λ q k. (state_chain state k, q) in
     let g : ℕ → ℕ × ℕ = λ k. (crc_chain m.address k, length owners) in
-    let point : (k : ℕ) → state_chain state k ≡ crc_chain m.address k = λ k. ap (λ t. state_chain t k) s ∙ chain_of_state (address_text m.address) k in
+    let point : (k : ℕ) → state_chain state k ≡ crc_chain m.address k = λ k. ap (λ t. state_chain t k) s ∙ chain_of_state (hashed_text m.address) k in
     let same : chain_entries state count number ≡ map g (range_with_len 0 (points_per_weight * m.weight)) =
     ap (λ q. map (f q) (range_with_len 0 count)) n ∙ ap (λ r. map (f (length owners)) (range_with_len 0 r)) c
     ∙ map_same (f (length owners)) g (range_with_len 0 (points_per_weight * m.weight)) (λ k. ap (λ p. (p, length owners)) (point k)) in

@@ -5,11 +5,11 @@ use Rattle.std.specs.List.{Contains, range_with_len}
 use Rattle.std.proofs.Math.Nat.{mod-eq_of_lt}
 use Rattle.std.proofs.lemmas.List.Elements.{Contains-append_left, Contains-append_right, Contains-append_cases}
 use Rattle.lb_select.specs.Backends.{Address, Member}
-use Rattle.lb_ring.specs.Chains.{address_text}
+use Rattle.lb_ring.specs.Chains.{hashed_text}
 use Rattle.lb_ring.specs.Choices.{is_internet, points_per_weight, HasPoint, IsChoice}
 use Rattle.lb_ring.specs.Circle.{clockwise, IsExactly, IsPoint, IsOwner, IsNearer, IsPointOf}
 use Rattle.lb_ring.specs.Crc.{crc}
-use Rattle.lb_ring.specs.Removal.{ChainLaw, IsChain, HasDistinctAddresses, IsFirstChoice, IsWithout, StoodBefore, RemovalLaw, AdditionLaw, RaisingLaw, OneCandidateLaw, CoverageLaw}
+use Rattle.lb_ring.specs.Removal.{ChainLaw, IsChain, HasDistinctAddresses, IsKeyChoice, IsWithout, StoodBefore, RemovalLaw, AdditionLaw, RaisingLaw, OneCandidateLaw, CoverageLaw}
 use Rattle.lb_ring.proofs.Lists.{here, there, head_or_rest, nothing_in_none, less_tells}
 use Rattle.lb_ring.proofs.Chaining.{chain_small}
 use Rattle.lb_ring.proofs.Counting.{no_more, once_each, those_below, distinct_cons, distinct_none}
@@ -192,7 +192,7 @@ module _ (chain : Address → ℕ → ℕ) (small : IsChain chain) (a : Address)
       let e : length x.nearer.0 ≡ 0 = x.nearer.2 ∙ z in
       let l : c.0 < length x.nearer.0 = c.1 in absurd (omega arith)
 
-  first_stays : (key : List ℕ) (m : Member) → IsFirstChoice chain more key m → m.address ≢ a → IsFirstChoice chain fewer key m
+  first_stays : (key : List ℕ) (m : Member) → IsKeyChoice chain more key m → m.address ≢ a → IsKeyChoice chain fewer key m
   first_stays key m (b, (p, x, o), s) differs =
       let apart : b ≢ a = λ e. differs (s.address_is ∙ e) in
       let has_it : HasPoint chain fewer p b = in_fewer p b apart o.has_it in
@@ -223,9 +223,9 @@ module _ (chain : Address → ℕ → ℕ) (small : IsChain chain) (a : Address)
         },
       )
 
-  stood : HasDistinctAddresses fewer → (key : List ℕ) (m : Member) → IsFirstChoice chain more key m → m.address ≢ a → StoodBefore chain fewer key m
+  stood : HasDistinctAddresses fewer → (key : List ℕ) (m : Member) → IsKeyChoice chain more key m → m.address ≢ a → StoodBefore chain fewer key m
   stood distinct key m h differs =
-      let f : IsFirstChoice chain fewer key m = first_stays key m h differs in (
+      let f : IsKeyChoice chain fewer key m = first_stays key m h differs in (
         f,
         λ n g.
             let same = one_choice chain small fewer key 0 n m g f in
@@ -235,7 +235,7 @@ module _ (chain : Address → ℕ → ℕ) (small : IsChain chain) (a : Address)
 
 -- a set without an address is such a set
 module _ (chain : Address → ℕ → ℕ) (small : IsChain chain) (ms fewer : List Member) (a : Address) (distinct : HasDistinctAddresses ms) (gone : IsWithout a ms fewer) where
-  removed : (key : List ℕ) (m : Member) → IsFirstChoice chain ms key m → m.address ≢ a → StoodBefore chain fewer key m
+  removed : (key : List ℕ) (m : Member) → IsKeyChoice chain ms key m → m.address ≢ a → StoodBefore chain fewer key m
   removed = stood chain small a ms fewer
       (λ m d. ((λ c. ((gone m).0 c).0), (λ c. (gone m).1 (c, d))))
       (λ p h. absurd (((gone h.member).0 h.among).1 h.address_is))
@@ -304,4 +304,4 @@ coverage_law chain small ms key cs walk (xs, lx, ex) p a o =
     (c.0, contains_at cs (length w.0) c.0 c.1, x.2.address_is ∙ owner)
 
 pub chain_law : ChainLaw
-chain_law a k = chain_small (address_text a) k
+chain_law a k = chain_small (hashed_text a) k

@@ -6,11 +6,11 @@ use Rattle.std.specs.Net.Text.{ipv4_text, ipv6_text}
 use Rattle.lb_select.specs.Backends.{Address, ipv4, ipv6, unix}
 use Rattle.lb_ring.specs.Crc.{crc, crc_fed, crc_last}
 
--- the text of an internet address: dotted decimal, or RFC 5952 without brackets, then a zero byte and the port in decimal
-abbrev pub address_text : Address → List ℕ
-address_text (ipv4 octets port) = ipv4_text octets ++ 0 ∷ decimal port
-address_text (ipv6 octets port) = ipv6_text (segments_of octets) ++ 0 ∷ decimal port
-address_text (unix path) = []
+-- what is hashed of an internet address: dotted decimal, or RFC 5952 without brackets, then a zero byte and the port in decimal
+abbrev pub hashed_text : Address → List ℕ
+hashed_text (ipv4 octets port) = ipv4_text octets ++ 0 ∷ decimal port
+hashed_text (ipv6 octets port) = ipv6_text (segments_of octets) ++ 0 ∷ decimal port
+hashed_text (unix path) = []
 
 -- the point after a point
 abbrev pub next_point : List ℕ → ℕ → ℕ
@@ -23,7 +23,7 @@ text_chain text (suc k) = next_point text (text_chain text k)
 
 -- the points of an address
 abbrev pub crc_chain : Address → ℕ → ℕ
-crc_chain a = text_chain (address_text a)
+crc_chain a = text_chain (hashed_text a)
 
 -- the point after a point, by the state of a CRC that was fed the text
 unfoldable pub point_after : ℕ → ℕ → ℕ

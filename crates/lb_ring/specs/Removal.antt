@@ -21,8 +21,8 @@ abbrev pub HasDistinctAddresses : List Member → Type 0
 HasDistinctAddresses ms = (x y : Member) → Contains ms x → Contains ms y → is_internet x.address ≡ true → x.address ≡ y.address → x ≡ y
 
 -- whom a key chooses first
-abbrev pub IsFirstChoice : (Address → ℕ → ℕ) → List Member → List ℕ → Member → Type 0
-IsFirstChoice chain ms key m = IsChoice chain ms (crc key) 0 m
+abbrev pub IsKeyChoice : (Address → ℕ → ℕ) → List Member → List ℕ → Member → Type 0
+IsKeyChoice chain ms key m = IsChoice chain ms (crc key) 0 m
 
 -- a set without the backends of an address
 abbrev pub IsWithout : Address → List Member → List Member → Type 0
@@ -35,25 +35,25 @@ pub record IsRaised (a : Address) (before after : List Member) : Type 0 where
 
 -- a choice that stands after a change stood before it, and was the only one
 abbrev pub StoodBefore : (Address → ℕ → ℕ) → List Member → List ℕ → Member → Type 0
-StoodBefore chain before key m = IsFirstChoice chain before key m × ((n : Member) → IsFirstChoice chain before key n → n ≡ m)
+StoodBefore chain before key m = IsKeyChoice chain before key m × ((n : Member) → IsKeyChoice chain before key n → n ≡ m)
 
 -- to remove an address changes no first choice that had another address
 abbrev pub RemovalLaw : Type 0
 RemovalLaw =
     (chain : Address → ℕ → ℕ) → IsChain chain → (ms fewer : List Member) (a : Address) → HasDistinctAddresses ms → IsWithout a ms fewer
-    → (key : List ℕ) (m : Member) → IsFirstChoice chain ms key m → m.address ≢ a → StoodBefore chain fewer key m
+    → (key : List ℕ) (m : Member) → IsKeyChoice chain ms key m → m.address ≢ a → StoodBefore chain fewer key m
 
 -- to add an address changes first choices to that address alone
 abbrev pub AdditionLaw : Type 0
 AdditionLaw =
     (chain : Address → ℕ → ℕ) → IsChain chain → (ms more : List Member) (a : Address) → HasDistinctAddresses more → IsWithout a more ms
-    → (key : List ℕ) (m : Member) → IsFirstChoice chain more key m → (m.address ≡ a) ⊎ StoodBefore chain ms key m
+    → (key : List ℕ) (m : Member) → IsKeyChoice chain more key m → (m.address ≡ a) ⊎ StoodBefore chain ms key m
 
 -- to raise a weight changes first choices to its address alone
 abbrev pub RaisingLaw : Type 0
 RaisingLaw =
     (chain : Address → ℕ → ℕ) → IsChain chain → (before after : List Member) (a : Address) → HasDistinctAddresses before → IsRaised a before after
-    → (key : List ℕ) (m : Member) → IsFirstChoice chain after key m → (m.address ≡ a) ⊎ StoodBefore chain before key m
+    → (key : List ℕ) (m : Member) → IsKeyChoice chain after key m → (m.address ≡ a) ⊎ StoodBefore chain before key m
 
 -- a candidate is one identity: its address and its weight
 abbrev pub OneCandidateLaw : Type 0

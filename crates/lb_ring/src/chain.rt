@@ -2,7 +2,7 @@
 //! The text is fed once, and its state is used for each point.
 ghost use Rattle.std.specs.Prelude.{◌≡◌, ◌++◌, IfOk};
 ghost use Rattle.lb_select.specs.Seen.{inet_seen};
-ghost use Rattle.lb_ring.specs.Chains.{address_text, point_after};
+ghost use Rattle.lb_ring.specs.Chains.{hashed_text, point_after};
 ghost use Rattle.lb_ring.specs.Crc.{crc_fed};
 ghost use Rattle.lb_ring.specs.Placed.{chain_entries};
 ghost use Rattle.lb_ring.specs.Sorted.{HasSmallPoints};
@@ -14,7 +14,7 @@ use std::net::{Ipv4Addr, Ipv6Addr};
 
 // The state of a CRC that was fed the text of an address: the IP address, a zero byte, the port in decimal.
 pub(crate) fn text_state(alloc: Global, addr: &InetAddr) -> Result<u32, AllocError>
-    ensures { IfOk result (λ s. s ≡ crc_fed 0xFFFFFFFF (address_text (inet_seen addr.now))) }
+    ensures { IfOk result (λ s. s ≡ crc_fed 0xFFFFFFFF (hashed_text (inet_seen addr.now))) }
 {
     let text = match addr {
         InetAddr::V4(octets, port) => {

@@ -2,12 +2,12 @@
 //! It stands on any reader and any writer, and takes no memory but for the line that it reads.
 #![tactic(auto)]
 
-pub mod ahead;
 pub mod backends;
 pub mod error;
 pub mod lines;
 pub mod numbers;
 pub mod parse;
+pub mod read_ahead;
 pub mod run;
 mod session;
 pub mod texts;

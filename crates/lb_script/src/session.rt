@@ -1,19 +1,19 @@
 //! One line of a script at a time: it is read, its step is taken, and the text of the answer is prepared.
 //! What a run keeps between its lines stands here; the buffers are used again for each line.
-ghost use Rattle.std.specs.Prelude.{◌≡◌, ◌≢◌, [], Ok, Err, true, string_bytes};
-ghost use Rattle.std.specs.Io.KnownBytes.{prepend_known};
+ghost use Rattle.std.specs.Prelude.{◌≡◌, ◌≢◌, [], Err, true, string_bytes};
+ghost use Rattle.std.specs.Io.KnownBytes.{Keeps, prepend_known};
 ghost use Rattle.lb_world.specs.History.{History};
 ghost use Rattle.lb_world.specs.Meanings.{meaning};
 ghost use Rattle.lb_world.specs.Steps.{step_seen};
 ghost use Rattle.lb_counted.specs.Counted.{inner_of, has_failed};
-ghost use Rattle.lb_script.specs.Output.{makes_registry, made_registry};
-ghost use Rattle.lb_script.specs.Session.{Holds, AnswersLine, AnswersNext};
 ghost use Rattle.lb_counted.specs.Stream.{OnBytes};
+ghost use Rattle.lb_script.specs.Output.{makes_registry, made_registry};
+ghost use Rattle.lb_script.specs.Session.{Holds, AnswersLine, TakesTurn};
 
-use crate::ahead::ReadAhead;
 use crate::error::ScriptError;
-use crate::lines::{Found, read_line};
+use crate::lines::{LineRead, read_line};
 use crate::parse::parse;
+use crate::read_ahead::ReadAhead;
 use crate::texts::push_answer;
 use lb_counted::counted::Counted;
 use lb_kinds::kinds::Kind;
@@ -22,7 +22,22 @@ use lb_world::answer::Answer;
 use lb_world::step::Step;
 use lb_world::world::World;
 use std::alloc::Global;
-use std::io::Read;
+use std::io::{Read, Write};
+
+/// What came of a turn, which reads a line and answers it.
+#[derive(Clone, Copy, Debug, PartialEq, Eq)]
+pub(crate) enum Turn {
+    /// A line was answered. The session's text is the answer's and a line feed.
+    Answered,
+    /// The same, and the stream's end ended that line: nothing comes after it.
+    LastAnswered,
+    /// No line was left.
+    Ended,
+    /// There is no answer to the line.
+    Failed(ScriptError),
+    /// The writer failed, as it was flushed before a read.
+    WriteFailed,
+}
 
 /// What a script's run keeps between its lines.
 #[derive(Drop)]
@@ -49,62 +64,61 @@ impl<S: BackendSelection<Config = Kind>> Session<S> {
         }
     }
 
-    /// Reads the next line and answers it, `true` where there was one: `text` is then the answer's text and a line feed.
-    pub(crate) fn next_answer<R: Read>(
+    /// Reads the next line and answers it. Before a read, what was written is flushed.
+    pub(crate) fn take_turn<R: Read, W: Write>(
         &mut self,
         alloc: Global,
         reader: &mut Counted<R>,
-    ) -> Result<bool, ScriptError>
-        ensures next { (h : History Kind) → Holds (meaning S.walks S.refusal S.may_draw_random) self.old.world self.old.has_registry h
-            → OnBytes (prepend_known self.old.ahead (R.remaining (inner_of reader.old))) (prepend_known self.new.ahead (R.remaining (inner_of reader.new)))
-            (AnswersNext (meaning S.walks S.refusal S.may_draw_random) h self.new.world self.new.has_registry (string_bytes self.new.text) result) }
-        ensures failed { result ≡ Err ScriptError.Read → has_failed reader.new ≡ true }
-        ensures kept { result ≢ Err ScriptError.Read → has_failed reader.new ≡ has_failed reader.old }
+        writer: &mut Counted<W>,
+    ) -> Turn
+        ensures turn { let M = meaning S.walks S.refusal S.may_draw_random in
+            (h : History Kind) → Holds M self.old.world self.old.has_registry h
+            → OnBytes (prepend_known self.old.ahead (R.remaining (inner_of reader.old)))
+            (prepend_known self.new.ahead (R.remaining (inner_of reader.new)))
+            (TakesTurn M h self.new.world self.new.has_registry (string_bytes self.new.text) result) }
+        ensures none { result ≡ Turn.Failed ScriptError.Read → self.new.ahead ≡ [] }
+        ensures written { Keeps (W.contents (inner_of writer.old)) (W.contents (inner_of writer.new)) }
+        ensures reader_failed { result ≡ Turn.Failed ScriptError.Read → has_failed reader.new ≡ true }
+        ensures reader_kept { result ≢ Turn.Failed ScriptError.Read → has_failed reader.new ≡ has_failed reader.old }
+        ensures writer_failed { result ≡ Turn.WriteFailed → has_failed writer.new ≡ true }
+        ensures writer_kept { result ≢ Turn.WriteFailed → has_failed writer.new ≡ has_failed writer.old }
     {
-        match read_line(reader, &mut self.ahead, &mut self.line) {
-            Found::Line => {
-                let Session {
-                    world,
-                    has_registry,
-                    line,
-                    text,
-                    ..
-                } = self;
-                answer_line(alloc, world, has_registry, line, text)?;
-                Ok(true)
-            }
-            Found::End => Ok(false),
-            Found::TooLong => Err(ScriptError::LineTooLong),
-            Found::Failed => Err(ScriptError::Read),
-            Found::NoMemory => Err(ScriptError::OutOfMemory),
+        match read_line(reader, writer, &mut self.ahead, &mut self.line) {
+            LineRead::Line => match self.answer(alloc) {
+                Ok(()) => Turn::Answered,
+                Err(error) => Turn::Failed(error),
+            },
+            LineRead::LastLine => match self.answer(alloc) {
+                Ok(()) => Turn::LastAnswered,
+                Err(error) => Turn::Failed(error),
+            },
+            LineRead::End => Turn::Ended,
+            LineRead::TooLong => Turn::Failed(ScriptError::LineTooLong),
+            LineRead::ReadFailed => Turn::Failed(ScriptError::Read),
+            LineRead::WriteFailed => Turn::WriteFailed,
+            LineRead::NoMemory => Turn::Failed(ScriptError::OutOfMemory),
         }
     }
-}
 
-// Takes the step that the line asks for, and makes `text` the answer's text and a line feed.
-fn answer_line<S: BackendSelection<Config = Kind>>(
-    alloc: Global,
-    world: &mut World<S>,
-    has_registry: &mut bool,
-    line: &[u8],
-    text: &mut String,
-) -> Result<(), ScriptError>
-    ensures line { (h : History Kind) → Holds (meaning S.walks S.refusal S.may_draw_random) world.old has_registry.old h
-        → AnswersLine (meaning S.walks S.refusal S.may_draw_random) h line.now world.new has_registry.new (string_bytes text.new) result }
-    ensures own { result ≢ Err ScriptError.Read }
-{
-    let step = parse(alloc, line)?;
-    if *has_registry && makes_registry(&step) {
-        return Err(ScriptError::BadLine);
+    // Takes the step that the line asks for, and makes the text that of its answer and a line feed.
+    fn answer(&mut self, alloc: Global) -> Result<(), ScriptError>
+        ensures line { let M = meaning S.walks S.refusal S.may_draw_random in
+            (h : History Kind) → Holds M self.old.world self.old.has_registry h
+            → AnswersLine M h self.old.line.items self.new.world self.new.has_registry (string_bytes self.new.text) result }
+        ensures own { result ≢ Err ScriptError.Read }
+        ensures ahead { self.new.ahead ≡ self.old.ahead }
+    {
+        let step = parse(alloc, &self.line)?;
+        if self.has_registry && makes_registry(&step) {
+            return Err(ScriptError::BadLine);
+        }
+        let answer = self.world.step(step);
+        self.has_registry |= made_registry(&answer);
+        self.text.clear();
+        push_answer(&mut self.text, &answer)?;
+        self.text.push_str("\n")?;
+        Ok(())
     }
-    let answer = world.step(step);
-    if made_registry(&answer) {
-        *has_registry = true;
-    }
-    text.clear();
-    push_answer(text, &answer)?;
-    text.push_str("\n")?;
-    Ok(())
 }
 
 fn makes_registry(step: &Step<Kind>) -> bool

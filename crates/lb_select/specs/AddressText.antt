@@ -1,6 +1,8 @@
 -- The texts of addresses and backends: what is written for each, and which address a text spells.
 -- Internet addresses are written and read as Rust's std::net::SocketAddr is, whose IPv6 text is that of RFC 5952.
-use Rattle.std.specs.Prelude.{◌≡◌, ℕ, List, [], ◌∷◌, ◌++◌, codes, decimal, drop, length, nat_lt, ◌&&◌, ◌==◌, eqb, if◌then◌else◌, Option, Some, None, Result, IsOkAnd, IsSomeAnd}
+use Rattle.std.specs.Prelude.{◌≡◌, ℕ, List, [], ◌∷◌, ◌++◌, codes, decimal, drop, length, nat_lt, ◌&&◌, ◌==◌, eqb, if◌then◌else◌}
+use Rattle.std.specs.Prelude.{Option, Some, None, option_map, Result, IsOkAnd, IsSomeAnd, MatchResult}
+use Rattle.std.specs.Option.{ok_or}
 use Rattle.std.specs.List.{starts_with}
 use Rattle.std.specs.Result.{IsErrAnd}
 use Rattle.std.specs.declared.iter.Once.{Once}
@@ -57,6 +59,14 @@ address_of_text text = map_or (path_of_text text) (internet_of_text text) (λ pa
 abbrev pub bare_member : ℕ → Address → Member
 bare_member weight address = record { address = address; weight = weight; ext = [] }
 
+-- a backend of this weight at the internet address that the text spells, with nothing attached, or the refusal of the text
+abbrev pub internet_backend : ℕ → List ℕ → Result Member Refusal
+internet_backend weight text = ok_or (option_map (bare_member weight) (internet_of_text text)) InvalidAddress
+
+-- the text spells the address of the backend that was made, or spells no internet address at all
+abbrev pub IsSpelledBy : List ℕ → Result Member Refusal → Type 0
+IsSpelledBy text r = MatchResult r (λ b. IsInternetText text b.address) (λ e. (a : Address) → ¬ (IsInternetText text a))
+
 -- the empty path is no address
 abbrev pub path_refusal : List ℕ → Option Refusal
 path_refusal [] = Some InvalidAddress
@@ -70,5 +80,6 @@ address_refusal (Some address) = None
 -- the one socket address of an internet address comes, without flow information; a path has none
 abbrev pub GivesSocket : Address → Result (Once SocketAddr) Refusal → Type 0
 GivesSocket (ipv4 octets port) r = IsOkAnd r (λ it. IsSomeAnd (once_item it) (λ s. socket_seen s ≡ Some (ipv4 octets port)))
-GivesSocket (ipv6 octets port) r = IsOkAnd r (λ it. IsSomeAnd (once_item it) (λ s. (socket_seen s ≡ Some (ipv6 octets port)) × (socket_flowinfo s ≡ 0)))
+GivesSocket (ipv6 octets port) r =
+    IsOkAnd r (λ it. IsSomeAnd (once_item it) (λ s. (socket_seen s ≡ Some (ipv6 octets port)) × (socket_flowinfo s ≡ 0)))
 GivesSocket (unix path) r = IsErrAnd r (λ e. e ≡ InvalidAddress)

@@ -8,7 +8,6 @@ pub mod Memberships
 pub mod Refusals
 pub mod Seen
 pub mod Selections
-pub mod Selectors
 pub mod Unique
 pub mod UniqueLaws
 pub mod Walks

@@ -1,7 +1,10 @@
 -- Refusals: their numbers, what it is for a call to be refused exactly for its cause, and the least of several causes.
 use Rattle.std.specs.Prelude.{◌≡◌, ◌⊎◌, ℕ, nat_lt, List, [], ◌∷◌, codes, Option, Some, None, Result, Ok, Err, if◌then◌else◌}
 use Rattle.lb_select.specs.declared.refusal.Refusal.{Refusal}
-use Rattle.lb_select.specs.declared.refusal.Refusal.TheVariants.{InvalidAddress, Discovery, TooManyBackends, WeightTooLarge, TooManyPoints, HealthCheckSet, GenerationsExhausted, GroupCancelled, NoSuch, OutOfMemory, StillRead, NothingInFlight, NothingBuilt, NothingRetired, NoSuchReader, NotEnoughWords, NumbersExhausted}
+use Rattle.lb_select.specs.declared.refusal.Refusal.TheVariants.{InvalidAddress, Discovery, TooManyBackends, WeightTooLarge}
+use Rattle.lb_select.specs.declared.refusal.Refusal.TheVariants.{TooManyPoints, HealthCheckSet, GenerationsExhausted, GroupCancelled}
+use Rattle.lb_select.specs.declared.refusal.Refusal.TheVariants.{NoSuch, OutOfMemory, StillRead, NothingInFlight, NothingBuilt}
+use Rattle.lb_select.specs.declared.refusal.Refusal.TheVariants.{NothingRetired, NoSuchReader, NotEnoughWords, NumbersExhausted}
 
 -- the number of a refusal
 abbrev pub refusal_number : Refusal → ℕ

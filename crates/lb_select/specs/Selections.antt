@@ -1,8 +1,11 @@
 -- What a selection answers: the first accepted of the distinct among the first candidates, and the words that it drew.
-use Rattle.std.specs.Prelude.{◌≡◌, ◌⊎◌, ℕ, ◌+◌, ◌≤◌, Bool, true, false, List, [], ◌∷◌, ◌++◌, length, take, Option, Some, None, Result, Ok, Err}
+use Rattle.std.specs.Prelude.{◌≡◌, ◌⊎◌, ℕ, ◌+◌, ◌≤◌, Bool, true, false, List, [], ◌∷◌, ◌++◌, length, take}
+use Rattle.std.specs.Prelude.{Option, Some, None, Result, Ok, Err}
 use Rattle.std.specs.List.{AllByRecursion as Each}
 use Rattle.lb_select.specs.declared.refusal.Refusal.{Refusal}
 use Rattle.lb_select.specs.declared.refusal.Refusal.TheVariants.{OutOfMemory}
+use Rattle.lb_select.specs.declared.walk.BackendSelection.{Ghosts}
+use Rattle.lb_select.specs.Backends.{Member}
 use Rattle.lb_select.specs.Draws.{Draw, Gives}
 use Rattle.lb_select.specs.Unique.{distinct}
 
@@ -38,9 +41,14 @@ module _ {B S : Type 0} (gives : S → Draw → S → Type 0) (walks : List Draw
 -- What a selection answers, where the source went from s to t. It is refused for memory alone: before any draw, or at a
 -- new candidate within the limit.
 abbrev pub Selects :
-    {B S : Type 0} → (B → B → Bool) → (B → Bool → Type 0) → ℕ → (S → Draw → S → Type 0) → (List Draw → List B → Bool → Type 0)
-    → S → Result (Option B) Refusal → S → Type 0
+    {B S : Type 0} → (B → B → Bool) → (B → Bool → Type 0) → ℕ → (S → Draw → S → Type 0)
+    → (List Draw → List B → Bool → Type 0) → S → Result (Option B) Refusal → S → Type 0
 Selects {B} same accepts limit gives walks s (Ok r) t =
     (cs : List B) × (ended : Bool) × IsWalked gives walks s t cs ended × IsAnswer same accepts limit cs ended r
 Selects {B} same accepts limit gives walks s (Err e) t =
-    (e ≡ OutOfMemory) × ((t ≡ s) ⊎ ((cs : List B) × IsWalked gives walks s t cs false × (length cs ≤ limit) × EndsDistinct same cs))
+    (e ≡ OutOfMemory)
+    × ((t ≡ s) ⊎ ((cs : List B) × IsWalked gives walks s t cs false × (length cs ≤ limit) × EndsDistinct same cs))
+
+-- the walks of a selector for a key, by what its type says of itself
+abbrev pub walks_of : {S I C : Type 0} → Ghosts S I C → S → List ℕ → List Draw → List Member → Bool → Type 0
+walks_of ghosts s key = ghosts.walks (ghosts.members s) (ghosts.built_with s) key

@@ -1,15 +1,14 @@
 //! Backends: an address, a weight, and what a user attaches to them.
 //! A backend is compared, ordered and hashed by address and weight alone: that pair is its identity.
-ghost use Rattle.std.specs.Prelude.{◌≡◌, IfOk, MatchResult, Some, None, option_map};
-ghost use Rattle.std.specs.Option.{ok_or};
+ghost use Rattle.std.specs.Prelude.{◌≡◌, IfOk, Some, None, option_map};
 ghost use Rattle.std.specs.Cmp.{partial_order_from_own_ties};
 ghost use Rattle.std.specs.Cmp.Rules.{comparing};
 ghost use Rattle.std.specs.Ordering.{as_partial_cmp};
 ghost use Rattle.std.proofs.Common.{rules};
-ghost use Rattle.lb_select.specs.AddressText.{IsInternetText, internet_of_text, address_of_text, address_refusal, bare_member, path_of_text, path_refusal, member_text, GivesSocket};
-ghost use Rattle.lb_select.specs.Backends.{Address, unix, Member, member_cmp, same_member, member_hash, identity_of};
+ghost use Rattle.lb_select.specs.AddressText.{address_of_text, address_refusal, bare_member, internet_backend, IsSpelledBy};
+ghost use Rattle.lb_select.specs.AddressText.{path_of_text, path_refusal, member_text, GivesSocket};
+ghost use Rattle.lb_select.specs.Backends.{unix, Member, member_cmp, same_member, member_hash, identity_of};
 ghost use Rattle.lb_select.specs.Refusals.{Refuses};
-ghost use Rattle.lb_select.specs.declared.refusal.Refusal.TheVariants.{InvalidAddress};
 ghost use Rattle.lb_select.specs.Seen.{address_seen, entries_seen};
 ghost use Rattle.lb_select.specs.Identity.{hash_alike};
 
@@ -62,8 +61,8 @@ impl Model for Backend {
 impl Backend {
     /// A backend of weight 1 at an internet address, with nothing attached. Refused as `new_with_weight`.
     pub fn new(alloc: Global, addr: &str) -> Result<Backend, Refusal>
-        ensures made { result ≡ ok_or (option_map (bare_member 1) (internet_of_text addr.now)) InvalidAddress }
-        ensures spelled { MatchResult result (λ b. IsInternetText addr.now b.address) (λ _. (a : Address) → ¬ (IsInternetText addr.now a)) }
+        ensures made { result ≡ internet_backend 1 addr.now }
+        ensures spelled { IsSpelledBy addr.now result }
     {
         Backend::new_with_weight(alloc, addr, 1)
     }
@@ -71,8 +70,8 @@ impl Backend {
     /// A backend of this weight at an internet address, with nothing attached. The text is read as a
     /// `std::net::SocketAddr`. Refused `InvalidAddress` where std refuses it or its scope id is not 0; no memory is taken.
     pub fn new_with_weight(alloc: Global, addr: &str, weight: usize) -> Result<Backend, Refusal>
-        ensures made { result ≡ ok_or (option_map (bare_member weight) (internet_of_text addr.now)) InvalidAddress }
-        ensures spelled { MatchResult result (λ b. IsInternetText addr.now b.address) (λ _. (a : Address) → ¬ (IsInternetText addr.now a)) }
+        ensures made { result ≡ internet_backend weight addr.now }
+        ensures spelled { IsSpelledBy addr.now result }
     {
         let inet = addr.parse::<InetAddr>()?;
         Ok(Backend::bare(alloc, SocketAddr::Inet(inet), weight))
@@ -94,8 +93,9 @@ impl Backend {
     /// more, or a text for `new`. Refused `InvalidAddress` where it spells none, and `OutOfMemory` where there is no room for
     /// a path.
     pub fn from_text(alloc: Global, text: &str, weight: usize) -> Result<Backend, Refusal>
-        ensures made { Refuses (address_refusal (address_of_text text.now)) (λ b. option_map (bare_member weight) (address_of_text text.now) ≡ Some b) result }
-        ensures internet { path_of_text text.now ≡ None → result ≡ ok_or (option_map (bare_member weight) (internet_of_text text.now)) InvalidAddress }
+        ensures made { Refuses (address_refusal (address_of_text text.now))
+            (λ b. option_map (bare_member weight) (address_of_text text.now) ≡ Some b) result }
+        ensures internet { path_of_text text.now ≡ None → result ≡ internet_backend weight text.now }
     {
         match text.strip_prefix("unix:") {
             Some(path) if !path.is_empty() => Backend::unix(alloc, path, weight),

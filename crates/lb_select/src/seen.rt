@@ -42,7 +42,8 @@ impl SeenBackends {
 
     // From here on the backend came already. Where memory is refused nothing changes.
     pub(crate) fn remember(&mut self, backend: &Backend) -> Result<(), AllocError>
-        ensures remembered { IfOk result (λ _. (q : Member) → has_backend self.new q ≡ (has_backend self.old q || same_member q backend.now)) }
+        ensures remembered { IfOk result (λ _. (q : Member)
+            → has_backend self.new q ≡ (has_backend self.old q || same_member q backend.now)) }
         ensures refused { IfErr result (λ _. (q : Member) → has_backend self.new q ≡ has_backend self.old q) }
     {
         let identity = backend.clone_identity(self.alloc)?;

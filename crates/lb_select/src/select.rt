@@ -3,8 +3,7 @@
 ghost use Rattle.std.specs.Fn.{FnReturnsAt};
 ghost use Rattle.std.specs.Arc.{arc_value};
 ghost use Rattle.lb_select.specs.Backends.{same_member};
-ghost use Rattle.lb_select.specs.Selections.{Selects};
-ghost use Rattle.lb_select.specs.Selectors.{walks_of};
+ghost use Rattle.lb_select.specs.Selections.{Selects, walks_of};
 
 use crate::backend::Backend;
 use crate::refusal::Refusal;

@@ -12,6 +12,7 @@ use std::sync::{Mutex, Wait};
 
 /// A source of words for walks over one selector.
 pub trait WordSource {
+    // Which draw can be made of a source, and which source it leaves.
     ghost gives: { Self → Draw → Self → Type 0 };
 
     /// The next ticket: a number of a counter that all walks over the selector share.

@@ -3,6 +3,7 @@ use Rattle.std.specs.Prelude.{ℕ, Bool, List, Option}
 use Rattle.lb_select.specs.Backends.{Member}
 use Rattle.lb_select.specs.Draws.{Draw}
 use Rattle.lb_select.specs.declared.refusal.Refusal.{Refusal}
+use Rattle.lb_select.specs.declared.walk.BackendSelection.{Ghosts}
 
 -- of a set and a configuration: the walks for a key, the least cause to refuse a build, whether random words may be drawn
 pub record Meaning (C : Type 0) : Type 1 where
@@ -15,3 +16,7 @@ abbrev pub meaning :
     {C : Type 0} → (List Member → C → List ℕ → List Draw → List Member → Bool → Type 0)
     → (List Member → C → Option Refusal) → (List Member → C → Bool) → Meaning C
 meaning walks refusal random = record { walks = walks; refusal = refusal; random = random }
+
+-- the meaning of a type of selectors, by the members of its trait
+abbrev pub meaning_of : {S I C : Type 0} → Ghosts S I C → Meaning C
+meaning_of s = meaning s.walks s.refusal s.may_draw_random

@@ -2,7 +2,7 @@
 //! Its contract is over histories alone; what lies in the tables is no part of it.
 ghost use Rattle.std.specs.Prelude.{◌≡◌, List, [], ◌∷◌, IfOk, IfErr, OnErr, vec_len, map};
 ghost use Rattle.lb_world.specs.History.{History, after};
-ghost use Rattle.lb_world.specs.Meanings.{meaning};
+ghost use Rattle.lb_world.specs.Meanings.{meaning_of};
 ghost use Rattle.lb_world.specs.Steps as seen;
 ghost use Rattle.lb_world.specs.Steps.{step_seen};
 ghost use Rattle.lb_world.specs.Stands.{Stands};
@@ -39,12 +39,12 @@ impl<S: BackendSelection> Model for World<S> {
     ghost Value = { WorldView S.Config };
 
     ghost use Rattle.std.specs.Prelude.{length};
-    ghost use Rattle.lb_world.specs.Meanings.{meaning};
+    ghost use Rattle.lb_world.specs.Meanings.{meaning_of};
     ghost use Rattle.lb_world.specs.Founded.{IsFounded, world_view};
 
     ghost view = { world_view };
 
-    ghost invariant = { λ w. IsFounded (meaning S.walks S.refusal S.may_draw_random) (world_view w) };
+    ghost invariant = { λ w. IsFounded (meaning_of S.BackendSelection) (world_view w) };
 }
 
 impl<S: BackendSelection> Drop for World<S> {
@@ -72,7 +72,7 @@ impl<S: BackendSelection> Drop for World<S> {
 impl<S: BackendSelection> World<S> {
     /// A world without anything. It takes no memory.
     pub fn new(alloc: Global) -> Self
-        ensures { Stands (meaning S.walks S.refusal S.may_draw_random) result [] }
+        ensures { Stands (meaning_of S.BackendSelection) result [] }
     {
         World {
             alloc,
@@ -86,8 +86,8 @@ impl<S: BackendSelection> World<S> {
     /// Takes one step, and answers it as the definitions do after any history that the world stands for. A refused step leaves
     /// everything as it was, save that a selection refused for memory may have drawn words.
     pub fn step(&mut self, step: Step<S::Config>) -> Answer
-        ensures { (h : History S.Config) → Stands (meaning S.walks S.refusal S.may_draw_random) self.old h
-            → Stands (meaning S.walks S.refusal S.may_draw_random) self.new ((step_seen step, result) ∷ h) }
+        ensures { (h : History S.Config) → Stands (meaning_of S.BackendSelection) self.old h
+            → Stands (meaning_of S.BackendSelection) self.new ((step_seen step, result) ∷ h) }
     {
         match step {
             Step::Registry(key) => self.registry(key),
@@ -124,24 +124,24 @@ impl<S: BackendSelection> World<S> {
     ///
     /// `OutOfMemory` where the memory for the answers is refused; then no step was taken.
     pub fn run(&mut self, steps: Vec<Step<S::Config>>) -> Result<Vec<Answer>, Refusal>
-        ensures run { IfOk result (λ answers. (h : History S.Config) → Stands (meaning S.walks S.refusal S.may_draw_random) self.old h
-            → Stands (meaning S.walks S.refusal S.may_draw_random) self.new (after h (map step_seen steps.items) answers.items)) }
+        ensures run { IfOk result (λ answers. (h : History S.Config) → Stands (meaning_of S.BackendSelection) self.old h
+            → Stands (meaning_of S.BackendSelection) self.new (after h (map step_seen steps.items) answers.items)) }
         ensures each { IfOk result (λ answers. vec_len answers ≡ vec_len steps) }
 
         // Of the whole history, whatever it was before.
-        ensures first_accepted { IfOk result (λ answers. (h : History S.Config) → Stands (meaning S.walks S.refusal S.may_draw_random) self.old h
-            → EachStep (FirstAccepted (meaning S.walks S.refusal S.may_draw_random)) (after h (map step_seen steps.items) answers.items)) }
-        ensures newest_served { IfOk result (λ answers. (h : History S.Config) → Stands (meaning S.walks S.refusal S.may_draw_random) self.old h
+        ensures first_accepted { IfOk result (λ answers. (h : History S.Config) → Stands (meaning_of S.BackendSelection) self.old h
+            → EachStep (FirstAccepted (meaning_of S.BackendSelection)) (after h (map step_seen steps.items) answers.items)) }
+        ensures newest_served { IfOk result (λ answers. (h : History S.Config) → Stands (meaning_of S.BackendSelection) self.old h
             → Always NewestServed (after h (map step_seen steps.items) answers.items)) }
-        ensures served_never_falls { IfOk result (λ answers. (h : History S.Config) → Stands (meaning S.walks S.refusal S.may_draw_random) self.old h
+        ensures served_never_falls { IfOk result (λ answers. (h : History S.Config) → Stands (meaning_of S.BackendSelection) self.old h
             → EachStep NeverFalls (after h (map step_seen steps.items) answers.items)) }
-        ensures free_gate_grants { IfOk result (λ answers. (h : History S.Config) → Stands (meaning S.walks S.refusal S.may_draw_random) self.old h
+        ensures free_gate_grants { IfOk result (λ answers. (h : History S.Config) → Stands (meaning_of S.BackendSelection) self.old h
             → EachStep FreeGateGrants (after h (map step_seen steps.items) answers.items)) }
-        ensures one_extra { IfOk result (λ answers. (h : History S.Config) → Stands (meaning S.walks S.refusal S.may_draw_random) self.old h
+        ensures one_extra { IfOk result (λ answers. (h : History S.Config) → Stands (meaning_of S.BackendSelection) self.old h
             → Always OneExtra (after h (map step_seen steps.items) answers.items)) }
-        ensures extras_are { IfOk result (λ answers. (h : History S.Config) → Stands (meaning S.walks S.refusal S.may_draw_random) self.old h
+        ensures extras_are { IfOk result (λ answers. (h : History S.Config) → Stands (meaning_of S.BackendSelection) self.old h
             → Always ExtrasAre (after h (map step_seen steps.items) answers.items)) }
-        ensures readers_exact { IfOk result (λ answers. (h : History S.Config) → Stands (meaning S.walks S.refusal S.may_draw_random) self.old h
+        ensures readers_exact { IfOk result (λ answers. (h : History S.Config) → Stands (meaning_of S.BackendSelection) self.old h
             → EachStep ReadersExact (after h (map step_seen steps.items) answers.items)) }
 
         // Where the answers have no room, no step was taken.
@@ -155,8 +155,8 @@ impl<S: BackendSelection> World<S> {
     }
 
     fn registry(&mut self, key: HealthKey) -> Answer
-        ensures { (h : History S.Config) → Stands (meaning S.walks S.refusal S.may_draw_random) self.old h
-            → Stands (meaning S.walks S.refusal S.may_draw_random) self.new ((seen.registry key, result) ∷ h) }
+        ensures { (h : History S.Config) → Stands (meaning_of S.BackendSelection) self.old h
+            → Stands (meaning_of S.BackendSelection) self.new ((seen.registry key, result) ∷ h) }
     {
         let number = self.registries.len() as u64;
         let Ok(()) = self.registries.push(key) else {
@@ -166,8 +166,8 @@ impl<S: BackendSelection> World<S> {
     }
 
     fn gate(&mut self) -> Answer
-        ensures { (h : History S.Config) → Stands (meaning S.walks S.refusal S.may_draw_random) self.old h
-            → Stands (meaning S.walks S.refusal S.may_draw_random) self.new ((seen.gate, result) ∷ h) }
+        ensures { (h : History S.Config) → Stands (meaning_of S.BackendSelection) self.old h
+            → Stands (meaning_of S.BackendSelection) self.new ((seen.gate, result) ∷ h) }
     {
         let number = self.gates.len() as u64;
         let Ok(gate) = GateCore::new(self.alloc) else {
@@ -180,8 +180,8 @@ impl<S: BackendSelection> World<S> {
     }
 
     fn ask(&mut self, group: u64, slot: u64, now: u128) -> Answer
-        ensures { (h : History S.Config) → Stands (meaning S.walks S.refusal S.may_draw_random) self.old h
-            → Stands (meaning S.walks S.refusal S.may_draw_random) self.new ((seen.ask group slot now, result) ∷ h) }
+        ensures { (h : History S.Config) → Stands (meaning_of S.BackendSelection) self.old h
+            → Stands (meaning_of S.BackendSelection) self.new ((seen.ask group slot now, result) ∷ h) }
     {
         if group as usize >= self.groups.len() {
             return Answer::Refused(Refusal::NoSuch);
@@ -192,8 +192,8 @@ impl<S: BackendSelection> World<S> {
     }
 
     fn build(&mut self, group: u64, slot: u64, now: u128) -> Answer
-        ensures { (h : History S.Config) → Stands (meaning S.walks S.refusal S.may_draw_random) self.old h
-            → Stands (meaning S.walks S.refusal S.may_draw_random) self.new ((seen.build group slot now, result) ∷ h) }
+        ensures { (h : History S.Config) → Stands (meaning_of S.BackendSelection) self.old h
+            → Stands (meaning_of S.BackendSelection) self.new ((seen.build group slot now, result) ∷ h) }
     {
         if group as usize >= self.groups.len() {
             return Answer::Refused(Refusal::NoSuch);
@@ -204,8 +204,8 @@ impl<S: BackendSelection> World<S> {
     }
 
     fn publish(&mut self, group: u64, slot: u64) -> Answer
-        ensures { (h : History S.Config) → Stands (meaning S.walks S.refusal S.may_draw_random) self.old h
-            → Stands (meaning S.walks S.refusal S.may_draw_random) self.new ((seen.publish group slot, result) ∷ h) }
+        ensures { (h : History S.Config) → Stands (meaning_of S.BackendSelection) self.old h
+            → Stands (meaning_of S.BackendSelection) self.new ((seen.publish group slot, result) ∷ h) }
     {
         if group as usize >= self.groups.len() {
             return Answer::Refused(Refusal::NoSuch);
@@ -215,8 +215,8 @@ impl<S: BackendSelection> World<S> {
     }
 
     fn destroy(&mut self, group: u64, slot: u64) -> Answer
-        ensures { (h : History S.Config) → Stands (meaning S.walks S.refusal S.may_draw_random) self.old h
-            → Stands (meaning S.walks S.refusal S.may_draw_random) self.new ((seen.destroy group slot, result) ∷ h) }
+        ensures { (h : History S.Config) → Stands (meaning_of S.BackendSelection) self.old h
+            → Stands (meaning_of S.BackendSelection) self.new ((seen.destroy group slot, result) ∷ h) }
     {
         if group as usize >= self.groups.len() {
             return Answer::Refused(Refusal::NoSuch);

@@ -4,7 +4,7 @@ ghost use Rattle.std.specs.Prelude.{◌≡◌, ◌∷◌, IfOk, IfErr};
 ghost use Rattle.lb_select.specs.Memberships.{set_of};
 ghost use Rattle.lb_world.specs.Answers.{has_refused as refused_among, no_such};
 ghost use Rattle.lb_world.specs.History.{History, present};
-ghost use Rattle.lb_world.specs.Meanings.{meaning};
+ghost use Rattle.lb_world.specs.Meanings.{meaning_of};
 ghost use Rattle.lb_world.specs.Steps as seen;
 ghost use Rattle.lb_world.specs.Stands.{Stands};
 ghost use Rattle.lb_select.specs.Refusals.{earlier as earlier_of};
@@ -12,8 +12,8 @@ ghost use Rattle.lb_select.specs.Refusals.{earlier as earlier_of};
 use super::World;
 use crate::answer::Answer;
 use crate::entry::Entry;
-use lb_select::causes::least_refusal;
 use lb_select::backend::Backend;
+use lb_select::causes::least_refusal;
 use lb_select::refusal::Refusal;
 use lb_select::walk::BackendSelection;
 use std::alloc::Global;
@@ -21,8 +21,8 @@ use std::collections::BTreeSet;
 
 impl<S: BackendSelection> World<S> {
     pub(super) fn group(&mut self, registry: u64, gate: u64, configs: Vec<S::Config>) -> Answer
-        ensures { (h : History S.Config) → Stands (meaning S.walks S.refusal S.may_draw_random) self.old h
-            → Stands (meaning S.walks S.refusal S.may_draw_random) self.new ((seen.group registry gate configs.items, result) ∷ h) }
+        ensures { (h : History S.Config) → Stands (meaning_of S.BackendSelection) self.old h
+            → Stands (meaning_of S.BackendSelection) self.new ((seen.group registry gate configs.items, result) ∷ h) }
     {
         let is_there = registry < self.registries.len() as u64 && gate < self.gates.len() as u64;
         let cause = least_refusal::<S>(self.alloc, &configs);
@@ -44,8 +44,8 @@ impl<S: BackendSelection> World<S> {
     }
 
     pub(super) fn update(&mut self, group: u64, now: u128, backends: Vec<Option<Backend>>) -> Answer
-        ensures { (h : History S.Config) → Stands (meaning S.walks S.refusal S.may_draw_random) self.old h
-            → Stands (meaning S.walks S.refusal S.may_draw_random) self.new ((seen.update group now backends.items, result) ∷ h) }
+        ensures { (h : History S.Config) → Stands (meaning_of S.BackendSelection) self.old h
+            → Stands (meaning_of S.BackendSelection) self.new ((seen.update group now backends.items, result) ∷ h) }
     {
         let is_there = (group as usize) < self.groups.len();
         if has_refused(&backends) {

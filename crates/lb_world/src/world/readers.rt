@@ -2,7 +2,7 @@
 //! A reader has a number of its own for good; a number that was never given, or has left, is refused.
 ghost use Rattle.std.specs.Prelude.{◌≡◌, ◌∷◌};
 ghost use Rattle.lb_world.specs.History.{History};
-ghost use Rattle.lb_world.specs.Meanings.{meaning};
+ghost use Rattle.lb_world.specs.Meanings.{meaning_of};
 ghost use Rattle.lb_world.specs.Steps as seen;
 ghost use Rattle.lb_world.specs.Stands.{Stands};
 
@@ -15,8 +15,8 @@ use std::mem;
 
 impl<S: BackendSelection> World<S> {
     pub(super) fn enter(&mut self, group: u64, slot: u64) -> Answer
-        ensures { (h : History S.Config) → Stands (meaning S.walks S.refusal S.may_draw_random) self.old h
-            → Stands (meaning S.walks S.refusal S.may_draw_random) self.new ((seen.enter group slot, result) ∷ h) }
+        ensures { (h : History S.Config) → Stands (meaning_of S.BackendSelection) self.old h
+            → Stands (meaning_of S.BackendSelection) self.new ((seen.enter group slot, result) ∷ h) }
     {
         let number = self.readers.len() as u64;
         if group as usize >= self.groups.len() {
@@ -46,8 +46,8 @@ impl<S: BackendSelection> World<S> {
     }
 
     pub(super) fn leave(&mut self, reader: u64) -> Answer
-        ensures { (h : History S.Config) → Stands (meaning S.walks S.refusal S.may_draw_random) self.old h
-            → Stands (meaning S.walks S.refusal S.may_draw_random) self.new ((seen.leave reader, result) ∷ h) }
+        ensures { (h : History S.Config) → Stands (meaning_of S.BackendSelection) self.old h
+            → Stands (meaning_of S.BackendSelection) self.new ((seen.leave reader, result) ∷ h) }
     {
         if reader as usize >= self.readers.len() {
             return Answer::Refused(Refusal::NoSuchReader);
@@ -71,8 +71,8 @@ impl<S: BackendSelection> World<S> {
         limit: u64,
         words: Vec<u64>,
     ) -> Answer
-        ensures { (h : History S.Config) → Stands (meaning S.walks S.refusal S.may_draw_random) self.old h
-            → Stands (meaning S.walks S.refusal S.may_draw_random) self.new ((seen.select group slot key.items limit words.items, result) ∷ h) }
+        ensures { (h : History S.Config) → Stands (meaning_of S.BackendSelection) self.old h
+            → Stands (meaning_of S.BackendSelection) self.new ((seen.select group slot key.items limit words.items, result) ∷ h) }
     {
         if group as usize >= self.groups.len() {
             return Answer::Refused(Refusal::NoSuch);

@@ -3,7 +3,7 @@ use Rattle.std.specs.Prelude.{slice_get, Some}
 use Rattle.std.proofs.lemmas.Option.{slice_get_read, same_Some}
 use Rattle.lb_select.specs.Backends.{Member}
 use Rattle.lb_select.specs.Seen.{address_seen}
-use Rattle.lb_ring.specs.Chains.{address_text}
+use Rattle.lb_ring.specs.Chains.{hashed_text}
 use Rattle.lb_ring.specs.Choices.{is_internet}
 use Rattle.lb_ring.specs.Crc.{crc_fed}
 use Rattle.lb_ring.specs.Placed.{Bears}
@@ -46,6 +46,6 @@ returns-in_ok-add_chain c =
     } in
     rw (c.in_ok-push.ensures.items, c.in_ok-add_chain.ensures.added)
     (filled_chain c.args.list.now c.args.index c.args.marks.now.owners.items c.args.marks.now.points.items c.requires.filled c.index-list-index.result at bears
-    c.in_ok-state.state _ _ (c.in_ok-state.ensures ∙ ap (λ a. crc_fed 0xFFFFFFFF (address_text a)) inet) (ap (λ w. 160 * w) weight)
+    c.in_ok-state.state _ _ (c.in_ok-state.ensures ∙ ap (λ a. crc_fed 0xFFFFFFFF (hashed_text a)) inet) (ap (λ w. 160 * w) weight)
     (c.len-owner.ensures ∙ c.args.marks.now.owners.ok.0)
     (rw c.in_ok-add_chain.ensures.added at (c.in_ok-add_chain.ensures.small c.requires.filled.small)))

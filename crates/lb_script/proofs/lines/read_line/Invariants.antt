@@ -1,5 +1,5 @@
 use Rattle.std.proofs.Common.{◌≡◌, ◌≤◌, ◌-◌, ◌++◌, vec_len}
-use Rattle.std.specs.Io.KnownBytes.{prepend_known}
+use Rattle.std.specs.Io.KnownBytes.{Keeps, prepend_known}
 use Rattle.lb_counted.specs.Counted.{inner_of, has_failed}
 use Rattle.lb_counted.specs.Stream.{OnBytes}
 use Rattle.lb_script.proofs.LinesLemmas.{IsFront}
@@ -11,7 +11,9 @@ invariant-loop-line g l = record {
       (λ stream rest. stream ≡ l.line.items ++ rest);
   front : IsFront l.line.items;
   room : vec_len l.line ≤ 16777216;
-  kept : has_failed l.reader ≡ has_failed l.fn.reader;
+  written : Keeps (g.W.Write.contents (inner_of l.fn.writer)) (g.W.Write.contents (inner_of l.writer));
+  reader_kept : has_failed l.reader ≡ has_failed l.fn.reader;
+  writer_kept : has_failed l.writer ≡ has_failed l.fn.writer;
 }
 
 abbrev pub decreases-loop-line : goal.decreases-loop-line

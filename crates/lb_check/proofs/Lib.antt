@@ -1,0 +1,11 @@
+pub mod AnswerLemmas
+pub mod BodyLemmas
+pub mod ChunkLemmas
+pub mod ChunksLemmas
+pub mod ExactLemmas
+pub mod FieldLemmas
+pub mod HeadLemmas
+pub mod LengthLemmas
+pub mod LineLemmas
+pub mod Streams
+pub mod TrailerLemmas

@@ -1,0 +1,5 @@
+use Rattle.std.proofs.Common.{ℕ, ◌≢◌, ◌≤◌, ◌<◌, length, slice_index}
+use Rattle.lb_check.proofs.trailers.is_trailer.Given as goal
+
+abbrev pub invariant-loop-byte : goal.invariant-loop-byte
+invariant-loop-byte l = (k : ℕ) → k < l.byte-index → (slice_index l.line k ≢ 13) × (slice_index l.line k ≢ 10)
