@@ -1,5 +1,5 @@
 -- A walk over a list that is given: it draws nothing, gives the list's members in order, and ends after the last.
-use Rattle.std.specs.Prelude.{◌≡◌, Bool, true, false, List, [], ◌∷◌, ◌++◌, refl}
+use Rattle.std.specs.Prelude.{◌≡◌, ℕ, Bool, true, false, List, [], ◌∷◌, ◌++◌, drop, Option, MatchOption, refl}
 use Rattle.std.proofs.Common.{sym, ◌∙◌}
 use Rattle.lb_select.specs.Backends.{Member}
 use Rattle.lb_select.specs.Draws.{Draw}
@@ -10,6 +10,12 @@ pub record IsListWalk (ms : List Member) (draws : List Draw) (cs : List Member) 
   pub rest : List Member
   pub given : ms ≡ cs ++ rest
   pub end : ended ≡ true → rest ≡ []
+
+-- one step from a place of the list: the member there is given, and the walk goes on from the new place; or it is over
+abbrev pub IsListStep : List Member → ℕ → Option Member → ℕ → Type 0
+IsListStep ms at given new =
+    MatchOption given (IsListWalk (drop at ms) [] [] true × IsListWalk (drop new ms) [] [] true)
+    (λ b. (ds : List Draw) (cs : List Member) (e : Bool) → IsListWalk (drop new ms) ds cs e → IsListWalk (drop at ms) ds (b ∷ cs) e)
 
 -- a walk that has given nothing yet
 pub list_starts : (ms : List Member) → IsListWalk ms [] [] false

@@ -1,7 +1,8 @@
 //! A walk over a list of backends that is given, for walks with repeats at chosen places.
 //! It draws nothing, and ends after the last.
-ghost use Rattle.std.specs.Prelude.{◌≡◌, ◌+◌, ◌<◌, ◌≤◌, drop, length, MatchOption};
-ghost use Rattle.lb_tests.specs.ListWalks.{IsListWalk, list_starts, list_ends};
+ghost use Rattle.std.specs.Prelude.{◌≡◌, drop, option_and_then, slice_get};
+ghost use Rattle.std.specs.Option.{option_copied};
+ghost use Rattle.lb_tests.specs.ListWalks.{IsListWalk, IsListStep, list_starts, list_ends};
 
 use lb_select::backend::Backend;
 use lb_select::walk::BackendIter;
@@ -19,18 +20,24 @@ impl ListIterator {
         ListIterator { backends, at: 0 }
     }
 
-    // The index of the next backend; `None` after the last.
+    // Goes one backend on: the index of that backend, or `None` after the last.
     fn advance(&mut self) -> Option<usize>
-        ensures index { MatchOption result (length self.old.backends.items ≤ self.old.at) (λ i. (i ≡ self.old.at) × (i < length self.old.backends.items)) }
-        ensures at { MatchOption result (self.new.at ≡ self.old.at) (λ i. self.new.at ≡ i + 1) }
+        ensures step { IsListStep self.old.backends.items self.old.at (option_and_then (slice_get self.old.backends.items) result) self.new.at }
         ensures backends { self.new.backends ≡ self.old.backends }
     {
         let index = self.at;
-        if index >= self.backends.len() {
+        if index >= self.backends.as_slice().len() {
             return None;
         }
         self.at = index + 1;
         Some(index)
+    }
+
+    // The backend of that index.
+    fn get(&self, index: Option<usize>) -> Option<&Backend>
+        ensures { option_copied result ≡ option_and_then (slice_get self.now.backends.items) index }
+    {
+        self.backends.get(index?)
     }
 }
 
@@ -42,7 +49,7 @@ impl BackendIter for ListIterator {
     ghost ends = { λ i. list_ends (drop i.at i.backends.items) };
 
     fn next<W: WordSource>(&mut self, _words: &mut W) -> Option<&Backend> {
-        let index = self.advance()?;
-        self.backends.get(index)
+        let index = self.advance();
+        self.get(index)
     }
 }

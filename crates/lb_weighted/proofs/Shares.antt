@@ -16,6 +16,7 @@ use Rattle.lb_weighted.specs.Weights.{total_weight, HoldsPlace, IsFirstChoice, I
 use Rattle.rand_core.specs.Stream.{Stream}
 use Rattle.lb_select.specs.Draws.{CoreGives}
 use Rattle.lb_weighted.specs.Shares.{words_from, AreExactShares, VisitsAll, TicketsAreConsecutive}
+use Rattle.lb_weighted.proofs.Summing.{sums_rise}
 use Rattle.lb_weighted.proofs.WeightLemmas.{member_cmp_total, smaller_count, some_member, first_at, fallback_at}
 
 -- consecutive words that pass a test
@@ -148,14 +149,6 @@ interval_is : (ms : List Member) (i : ℕ) (m : Member) → slice_get ms i ≡ S
 interval_is ms i m e =
     sum_by_more (λ c. c.weight) ms i m (slice_get_within ms i m e)
     ∙ ap (λ c. total_weight (take i ms) + c.weight) (get_or_from_slice_get ms i m m e)
-
--- the partial sums do not fall
-sums_rise : (ms : List Member) (i j : ℕ) → i ≤ j → total_weight (take i ms) ≤ total_weight (take j ms)
-sums_rise ms zero j le = omega arith
-sums_rise [] (suc i) j le = omega arith
-sums_rise (x ∷ xs) (suc i) zero le = absurd (omega arith)
-sums_rise (x ∷ xs) (suc i) (suc j) le =
-    omega (arith, sum_by-cons (λ c. c.weight) x (take i xs), sum_by-cons (λ c. c.weight) x (take j xs), sums_rise xs i j (omega arith))
 
 -- a place is in one interval
 pub one_interval : (ms : List Member) (place i j : ℕ) → HoldsPlace ms place i → HoldsPlace ms place j → i ≡ j

@@ -1,4 +1,4 @@
-pub mod Expanded
 pub mod Shares
+pub mod Sums
 pub mod WeightLaws
 pub mod Weights

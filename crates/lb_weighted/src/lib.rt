@@ -4,4 +4,5 @@
 
 pub mod laws;
 pub mod selection;
+mod sums;
 pub mod weighted;

@@ -1,16 +1,17 @@
 //! Weighted selection: each backend gets a share of the first choices that is its weight against the sum of all weights.
-//! A word chooses from a list that repeats each backend's index as often as its weight; fallbacks disregard weights.
-ghost use Rattle.std.specs.Prelude.{◌≡◌, ℕ, ◌<◌, ◌≤◌, ◌^◌, ◌++◌, ◌∷◌, [], List, length, replicate, option_and_then, option_copied, Some, IfOk, MatchOption, MatchResult};
+//! A word chooses by the partial sums of the weights; fallbacks disregard weights.
+ghost use Rattle.std.specs.Prelude.{◌≡◌, ℕ, ◌<◌, ◌≤◌, ◌^◌, ◌++◌, ◌∷◌, [], ◌+◌, ◌-◌, List, length, option_and_then, option_copied, Some, IfOk, MatchOption};
 ghost use Rattle.std.specs.List.{slice_get};
 ghost use Rattle.std.specs.Arc.{arc_value};
 ghost use Rattle.lb_select.specs.Backends.{Member};
 ghost use Rattle.lb_select.specs.Draws.{Draw, Gives, IsNotRandom};
-ghost use Rattle.lb_weighted.specs.Expanded.{IsIndexed};
 ghost use Rattle.lb_select.specs.Refusals.{Refuses};
 ghost use Rattle.lb_select.specs.Walks.{IsStep};
 ghost use Rattle.lb_weighted.specs.WeightLaws.{Each-words, few_words, rest_none, rest_ends};
-ghost use Rattle.lb_weighted.specs.Weights.{total_weight, weighted_refusal, IsFirstChoice, IsFallback, IsWeightedWalk, IsWeightedRest};
+ghost use Rattle.lb_weighted.specs.Sums.{AreSums, HasBinaryDigits};
+ghost use Rattle.lb_weighted.specs.Weights.{total_weight, weighted_refusal, HoldsPlace, IsFirstChoice, IsFallback, IsWeightedWalk, IsWeightedRest};
 
+use crate::sums::{CountedSums, index_of_place};
 use lb_select::algorithms::FnvHasher;
 use lb_select::backend::Backend;
 use lb_select::refusal::Refusal;
@@ -21,7 +22,7 @@ use std::collections::BTreeSet;
 use std::marker::Model;
 use std::sync::Arc;
 
-// An index of the expanded list has 16 bits.
+// More backends are refused.
 const MAX_BACKENDS: usize = 65535;
 
 /// A weighted selector over a set of backends, by the algorithm `H`. Its first choice for a word is the backend whose
@@ -30,20 +31,22 @@ const MAX_BACKENDS: usize = 65535;
 #[derive(Drop)]
 pub struct Weighted<H = FnvHasher> {
     backends: Vec<Backend>,
-    weighted: Vec<u16>,
+    // for each backend the sum of the weights up to it, its own among them
+    sums: Vec<u64>,
+    total: u64,
     algorithm: H,
 }
 
 impl<H> Model for Weighted<H> {
     ghost use Rattle.std.specs.Prelude.{List};
     ghost use Rattle.lb_select.specs.Backends.{Member};
-    ghost use Rattle.lb_weighted.specs.Expanded.{IsExpanded};
+    ghost use Rattle.lb_weighted.specs.Sums.{IsSummed};
 
     ghost Value = { List Member };
 
     ghost view = { λ w. w.backends.items };
 
-    ghost invariant = { λ w. IsExpanded w.backends.items w.weighted.items };
+    ghost invariant = { λ w. IsSummed w.backends.items w.sums.items w.total };
 }
 
 /// A walk over the candidates of a weighted selector. It never ends where the total weight is above 0, and is over at once
@@ -57,73 +60,94 @@ pub struct WeightedIterator<H> {
     first: bool,
 }
 
+/// Where the interval of a place is, and what it took to find it.
+#[derive(Clone, Copy, Debug, PartialEq, Eq)]
+pub struct Located {
+    /// The index of its backend in the set's order.
+    pub index: usize,
+    /// How many partial sums were read.
+    pub probes: u32,
+}
+
 // The sum of all weights, or none where it needs more than 64 bits.
-fn sum_of_weights(backends: &BTreeSet<Backend>) -> Option<usize>
+fn sum_of_weights(backends: &BTreeSet<Backend>) -> Option<u64>
     ensures { MatchOption result (2 ^ 64 ≤ total_weight backends.now.keys) (λ t. t ≡ total_weight backends.now.keys) }
 {
-    let mut total = 0usize;
+    let mut total = 0u64;
     for backend in backends {
-        total = total.checked_add(backend.weight)?;
+        total = total.checked_add(backend.weight as u64)?;
     }
     Some(total)
 }
 
-// Adds an index `count` times.
-fn push_repeated(indexes: &mut Vec<u16>, index: u16, count: usize) -> Result<(), AllocError>
-    ensures { IfOk result (λ _. indexes.new.items ≡ indexes.old.items ++ replicate count index) }
-{
-    for _ in 0..count {
-        indexes.push(index)?;
-    }
-    Ok(())
-}
-
-// Adds a backend at the end, and its index to the expanded list.
+// Adds a backend at the end, and the sum of the weights up to it.
+#[tactic(auto, using(crate::proofs::Summing::sums_more))]
 fn add_member(
     list: &mut Vec<Backend>,
-    weighted: &mut Vec<u16>,
+    sums: &mut Vec<u64>,
+    sum: u64,
     backend: &Backend,
 ) -> Result<(), AllocError>
-    requires few { length list.old.items < 65535 }
-    requires indexed { IsIndexed list.old.items weighted.old.items }
+    requires so_far { AreSums list.old.items sums.old.items }
+    requires sum { sum ≡ total_weight list.old.items + backend.now.weight }
     ensures list { IfOk result (λ _. list.new.items ≡ list.old.items ++ backend.now ∷ []) }
-    ensures indexed { IfOk result (λ _. IsIndexed list.new.items weighted.new.items) }
+    ensures sums { IfOk result (λ _. AreSums list.new.items sums.new.items) }
 {
-    let index = list.len() as u16;
     list.push(backend.clone()?)?;
-    push_repeated(weighted, index, backend.weight)?;
+    sums.push(sum)?;
     Ok(())
 }
 
 impl<H: SelectionAlgorithm> Weighted<H> {
-    // The selector of a set. What else can refuse is tested before any memory is taken, and the lists get their whole
-    // room at once, so that a total beyond all memory is refused without filling any of it.
+    // The selector of a set. What else can refuse is tested before any memory is taken.
+    #[tactic(auto, using(crate::proofs::Summing::total_more, crate::proofs::Summing::part_weighs))]
     fn of_set(alloc: Global, backends: &BTreeSet<Backend>) -> Result<Self, Refusal>
         ensures { Refuses (weighted_refusal backends.now.keys) (λ s. s ≡ backends.now.keys) result }
     {
         if backends.len() > MAX_BACKENDS {
             return Err(Refusal::TooManyBackends);
         }
-        let Some(total) = sum_of_weights(backends) else {
-            return Err(Refusal::WeightTooLarge);
-        };
+        let total = sum_of_weights(backends).ok_or(Refusal::WeightTooLarge)?;
         let mut list = Vec::with_capacity(alloc, backends.len())?;
-        let mut weighted = Vec::with_capacity(alloc, total)?;
+        let mut sums = Vec::with_capacity(alloc, backends.len())?;
+        let mut sum = 0u64;
         for backend in backends {
-            add_member(&mut list, &mut weighted, backend)?;
+            sum += backend.weight as u64;
+            add_member(&mut list, &mut sums, sum, backend)?;
         }
         Ok(Weighted {
             backends: list,
-            weighted,
+            sums,
+            total,
             algorithm: H::new(),
         })
     }
 
-    // The sum of all weights.
-    fn total(&self) -> usize
+    /// The sum of all weights. It takes no memory.
+    pub fn total(&self) -> u64
         ensures { result ≡ total_weight self.now }
     {
-        self.weighted.as_slice().len()
+        self.total
+    }
+
+    /// The backend whose interval of partial sums holds a place below the total, found by halves: as many sums are read as
+    /// the last index has binary digits, whatever the place and the weights. It takes no memory.
+    pub fn locate(&self, place: u64) -> Located
+        requires { place < total_weight self.now }
+        ensures index { HoldsPlace self.now place result.index }
+        ensures inside { result.index < length self.now }
+        ensures probes { HasBinaryDigits (length self.now - 1) result.probes }
+        ensures few { (k : ℕ) → HasBinaryDigits (length self.now) k → result.probes ≤ k }
+    {
+        let mut reader = CountedSums {
+            sums: &self.sums,
+            probes: 0,
+        };
+        let index = index_of_place(&mut reader, self.sums.len(), place);
+        Located {
+            index,
+            probes: reader.probes,
+        }
     }
 
     // The word that stands for a key.
@@ -145,9 +169,7 @@ impl<H: SelectionAlgorithm> Weighted<H> {
         requires { 0 < total_weight self.now }
         ensures { (m : Member) × (slice_get self.now result ≡ Some m) × IsFirstChoice self.now word m }
     {
-        let indexes = self.weighted.as_slice();
-        let place = word as usize % indexes.len();
-        usize::from(indexes[place])
+        self.locate(word % self.total()).index
     }
 
     // The index of the fallback for a word.
@@ -163,7 +185,10 @@ impl<H: SelectionAlgorithm> Weighted<H> {
 impl<H: SelectionAlgorithm> WeightedIterator<H> {
     /// The index of the next candidate in the set's order, for a walk of several kinds; `None` where no backend has a weight.
     pub fn advance<W: WordSource>(&mut self, words: &mut W) -> Option<usize>
-        ensures step { IsStep W.gives (λ i. IsWeightedRest H.gives_word i.first (arc_value i.backend) i.word) self.old words.old (option_and_then (slice_get (arc_value self.old.backend)) result) self.new words.new }
+        ensures inside { MatchOption result (total_weight (arc_value self.old.backend) ≡ 0)
+            (λ i. i < length (arc_value self.old.backend)) }
+        ensures step { IsStep W.gives (λ i. IsWeightedRest H.gives_word i.first (arc_value i.backend) i.word)
+            self.old words.old (option_and_then (slice_get (arc_value self.old.backend)) result) self.new words.new }
         ensures backend { arc_value self.new.backend ≡ arc_value self.old.backend }
     {
         if self.backend.total() == 0 {
