@@ -1,6 +1,7 @@
 //! The words of a selection that is handed its words: tickets go on from where earlier walks left the counter, random words are lent.
 ghost use Rattle.std.specs.Prelude.{◌≡◌};
 
+use lb_select::backend::Backend;
 use lb_select::words::WordSource;
 use std::marker::Model;
 
@@ -22,7 +23,7 @@ impl<'a> Model for HandedWords<'a> {
 }
 
 impl<'a> HandedWords<'a> {
-    /// A source whose next ticket is `tickets`, and whose random words are these in their order, and 0 after them.
+    /// A source whose next ticket is `tickets`, and whose random words are these in their order, and 0 after them; each load is 0.
     pub fn new(tickets: u64, random: &'a [u64]) -> Self
         ensures { result ≡ record { tickets = tickets; words = random.now } }
     {
@@ -59,5 +60,10 @@ impl<'a> WordSource for HandedWords<'a> {
             }
             None => 0,
         }
+    }
+
+    // No load is handed in.
+    fn load(&self, _backend: &Backend) -> u64 {
+        0
     }
 }

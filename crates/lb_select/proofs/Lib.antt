@@ -2,6 +2,7 @@ pub mod AddressRoundTrip
 pub mod AddressTexts
 pub mod Clones
 pub mod Lists
+pub mod LoadTables
 pub mod SameBackends
 pub mod Searches
 pub mod SelectionLaws

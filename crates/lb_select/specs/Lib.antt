@@ -3,6 +3,7 @@ pub mod Backends
 pub mod Draws
 pub mod Fnv
 pub mod Identity
+pub mod Loads
 pub mod Memberships
 pub mod Refusals
 pub mod SameBackend
