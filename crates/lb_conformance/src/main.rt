@@ -6,14 +6,14 @@ mod large;
 mod outcome;
 mod steps;
 mod streams;
+mod unfiled;
 
-use large::{long_key, long_line, many_backends};
 use outcome::{Outcome, agrees};
 use std::process::ExitCode;
 use std::rt::Files;
 use std::{fs, io};
 use steps::run_agrees;
-use streams::{Failing, status_without_flush};
+use unfiled::Unfiled;
 
 // The rows in data/, by the names of their files.
 const ROWS: [&str; 37] = [
@@ -56,6 +56,17 @@ const ROWS: [&str; 37] = [
     "weights",
 ];
 
+// The rows that lie in no file.
+const UNFILED: [(&str, Unfiled); 7] = [
+    ("a line of 16777216 bytes", Unfiled::LongestLine),
+    ("a line of 16777217 bytes", Unfiled::TooLongLine),
+    ("65536 backends", Unfiled::TooManyBackends),
+    ("65535 backends", Unfiled::MostBackends),
+    ("a key of 1000000 bytes", Unfiled::LongKey),
+    ("a read that fails", Unfiled::FailingRead),
+    ("a flush that fails", Unfiled::FailingFlush),
+];
+
 // Compares one row with its file of answers, as a script and as a list of steps; the script's status is 1 where the answers
 // end with an error.
 fn row<R: Files + AllocGlobal>(rt: &R, name: &str) -> io::Result<bool> {
@@ -75,38 +86,15 @@ fn report(rt: &impl Print, name: &str, agreed: bool) -> io::Result<bool> {
     Ok(agreed)
 }
 
-// Reports the rows that lie in no file; the answer is whether all of them agreed.
-fn made_rows<R: Print + AllocGlobal>(rt: &R) -> io::Result<bool> {
-    let alloc = rt.alloc();
-    let longest = long_line(alloc, 16777216, b"error 1 BadLine\n")?;
-    let mut all = report(rt, "a line of 16777216 bytes", longest)?;
-    let too_long = long_line(alloc, 16777217, b"error 1 LineTooLong\n")?;
-    all &= report(rt, "a line of 16777217 bytes", too_long)?;
-    let too_many = many_backends(alloc, 65536, b"failed 1 3 TooManyBackends\n")?;
-    all &= report(rt, "65536 backends", too_many)?;
-    let most = many_backends(alloc, 65535, b"built 1\n")?;
-    all &= report(rt, "65535 backends", most)?;
-    let keyed = long_key(alloc, 1000000, b"backend 1.0.0.1:80/1\n")?;
-    all &= report(rt, "a key of 1000000 bytes", keyed)?;
-    let failing = Failing::after(b"registry identity\ngate\ngro");
-    let failed = agrees(
-        alloc,
-        failing,
-        &Outcome::of(b"registry 0\ngate 0\nerror 3 Read\n"),
-    );
-    all &= report(rt, "a read that fails", failed)?;
-    let unflushed = status_without_flush(alloc, b"gate\n") == 1;
-    all &= report(rt, "a flush that fails", unflushed)?;
-    Ok(all)
-}
-
 // Reports every row; the answer is whether all of them agreed.
 fn rows<R: Files + Print + AllocGlobal>(rt: &R) -> io::Result<bool> {
     let mut all = true;
     for name in ROWS {
         all &= report(rt, name, row(rt, name)?)?;
     }
-    all &= made_rows(rt)?;
+    for (name, unfiled) in UNFILED {
+        all &= report(rt, name, unfiled.agrees(rt.alloc())?)?;
+    }
     Ok(all)
 }
 
