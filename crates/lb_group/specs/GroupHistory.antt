@@ -191,7 +191,7 @@ waits h = nat_lt (max (served h) (flight_number (extra h))) (newest h)
 abbrev pub readers : ℕ → History → ℕ
 readers n [] = 0
 readers n (At i Entered ∷ h) = if served h == n then readers n h + 1 else readers n h
-readers n (At i (Left m) ∷ h) = if m == n then readers n h - 1 else readers n h
+readers n (At i (Left m) ∷ h) = if n == m then readers n h - 1 else readers n h
 readers n (e ∷ h) = readers n h
 
 -- where the counter of tickets of the served selector stands

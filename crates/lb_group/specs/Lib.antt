@@ -1,5 +1,7 @@
 pub mod Fresh
+pub mod GroupCalls
 pub mod GroupHistory
+pub mod Laws
 pub mod Orders
 pub mod SlotCalls
 pub mod SlotSeen

@@ -7,11 +7,13 @@ use Rattle.lb_select.specs.declared.refusal.Refusal.{Refusal}
 use Rattle.lb_select.specs.declared.refusal.Refusal.TheVariants as refusal
 use Rattle.lb_rebuild.specs.Gate.{GateId, GateView, gate}
 use Rattle.lb_rebuild.specs.Handed.{Handed, HandedGives}
-use Rattle.lb_group.specs.GroupHistory.{Extra, nothing, flight, lost, retired, taken_out, is_flight, is_extra, is_retired_of, flight_number, generation_of, due_after, AskAnswer, cancelled, building, up_to_date, not_due, busy, job}
+use Rattle.lb_group.specs.GroupHistory.{Extra, nothing, flight, lost, retired, taken_out, is_flight, is_extra, is_aloft, is_retired_of, flight_number, generation_of, due_after, AskAnswer, cancelled, building, up_to_date, not_due, busy, job}
 use Rattle.lb_group.specs.Values.{OrderValue, Task, BuiltValue, RetiredValue, ReaderValue, SlotValue, order_of}
 use Rattle.lb_group.specs.declared.answers.Ask.{Ask}
 use Rattle.lb_group.specs.declared.answers.Ask.TheVariants as asked
 use Rattle.lb_group.specs.declared.answers.Selection.{Selection}
+use Rattle.lb_group.specs.declared.answers.Told.{Told}
+use Rattle.lb_group.specs.declared.answers.Told.TheVariants as told
 
 -- one more, up to the greatest number
 abbrev pub more : ℕ → ℕ
@@ -151,6 +153,33 @@ take_refusal (flight n) left = Some refusal.NothingRetired
 take_refusal (lost n) left = Some refusal.NothingRetired
 take_refusal (retired n) left = if left == 0 then None else Some (refusal.StillRead left)
 take_refusal (taken_out n) left = Some refusal.NothingRetired
+
+-- What the calls answer and leave, by cases on the answer. What is not awaited is handed back, and changes nothing.
+abbrev pub FailsAt : {C : Type 0} → ℕ → ℕ → Task C → SlotValue C → Result GateId (Task C) → SlotValue C → Type 0
+FailsAt newest now j x (Ok p) y =
+    (is_aloft j.generation x.extra ≡ true) × (p ≡ j.permit) × (y ≡ failed_slot newest now (order_of j) x)
+FailsAt newest now j x (Err k) y = (is_aloft j.generation x.extra ≡ false) × (k ≡ j) × (y ≡ x)
+
+abbrev pub PublishesAt : {C : Type 0} → ℕ → Bool → BuiltValue C → SlotValue C → Result Told (BuiltValue C) → SlotValue C → Type 0
+PublishesAt newest stopped b x (Ok (told.Published n)) y =
+    (is_aloft b.task.generation x.extra ≡ true) × ((is_flight x.extra && not stopped) ≡ true) × (n ≡ b.task.generation)
+    × (y ≡ published_slot b x)
+PublishesAt newest stopped b x (Ok (told.Abandoned n)) y =
+    (is_aloft b.task.generation x.extra ≡ true) × ((is_flight x.extra && not stopped) ≡ false) × (n ≡ b.task.generation)
+    × (y ≡ abandoned_slot newest b x)
+PublishesAt newest stopped b x (Err c) y = (is_aloft b.task.generation x.extra ≡ false) × (c ≡ b) × (y ≡ x)
+
+abbrev pub AbandonsAt : {C : Type 0} → ℕ → BuiltValue C → SlotValue C → Result (Unit {0}) (BuiltValue C) → SlotValue C → Type 0
+AbandonsAt newest b x (Ok u) y = (is_aloft b.task.generation x.extra ≡ true) × (y ≡ abandoned_slot newest b x)
+AbandonsAt newest b x (Err c) y = (is_aloft b.task.generation x.extra ≡ false) × (c ≡ b) × (y ≡ x)
+
+abbrev pub LosesAt : {C : Type 0} → ℕ → SlotValue C → Result (Unit {0}) Refusal → SlotValue C → Type 0
+LosesAt newest x (Ok u) y = (is_flight x.extra ≡ true) × (y ≡ lost_slot newest x)
+LosesAt newest x (Err e) y = (is_flight x.extra ≡ false) × (e ≡ refusal.NothingInFlight) × (y ≡ x)
+
+abbrev pub LeavesAt : {C : Type 0} → ReaderValue C → SlotValue C → Result (Unit {0}) (ReaderValue C) → SlotValue C → Type 0
+LeavesAt r x (Ok u) y = (nat_lt 0 (readers_at r.generation x) ≡ true) × (y ≡ left_slot r.generation x)
+LeavesAt r x (Err q) y = (nat_lt 0 (readers_at r.generation x) ≡ false) × (q ≡ r) × (y ≡ x)
 
 -- the slot without its retired selector
 abbrev pub taken_slot : {C : Type 0} → SlotValue C → SlotValue C

@@ -1,8 +1,9 @@
 -- What contracts see of a group is a function of its history.
-use Rattle.std.specs.Prelude.{◌≡◌, ◌+◌, ◌^◌, ◌<◌, ◌&&◌, ℕ, Bool, not, List, [], ◌∷◌, Option, Some, None, if◌then◌else◌}
+use Rattle.std.specs.Prelude.{◌≡◌, ◌+◌, ◌^◌, ◌<◌, ◌&&◌, ℕ, Bool, not, List, [], ◌∷◌, ◌++◌, Option, Some, None, if◌then◌else◌}
 use Rattle.lb_rebuild.specs.Gate.{GateId}
 use Rattle.lb_group.specs.GroupHistory.{History, Extra, nothing, flight, lost, retired, taken_out, past_of, newest, members_of, scheduled_at, is_cancelled, granted, asked_at, served, served_members, order_members, extra, is_lost_of, waits, readers, drawn, published, coalesced, superseded, failed, failures, failed_at, timing, IsGroupHistory}
 use Rattle.lb_group.specs.Values.{OrderValue, SlotValue, GroupValue}
+use Rattle.lb_group.specs.declared.answers.Counts.{Counts}
 use Rattle.std.specs.Prelude.{min}
 
 -- what a group was made with: its gate, and a configuration for each slot
@@ -34,6 +35,10 @@ permit_in gate (lost n) = None
 permit_in gate (retired n) = Some gate
 permit_in gate (taken_out n) = None
 
+-- the counts of a slot after its past
+abbrev pub counts_after : History → Counts
+counts_after h = record { published = published h; coalesced = coalesced h; superseded = superseded h; failed = failed h }
+
 -- a slot after its past
 abbrev pub slot_after : {C : Type 0} → GateId → C → History → SlotValue C
 slot_after gate c h =
@@ -49,7 +54,7 @@ slot_after gate c h =
       scheduled = scheduled_at (granted h) h;
       failures = min (failures (newest h) h) 18446744073709551615;
       failed_at = failed_at (newest h) h;
-      counts = record { published = published h; coalesced = coalesced h; superseded = superseded h; failed = failed h };
+      counts = counts_after h;
       timing = timing h;
     }
 
@@ -79,3 +84,11 @@ pub record StandsFor {C : Type 0} (made : Made C) (h : History) (v : GroupValue 
 -- some history stands behind the group
 abbrev pub IsFounded : {C : Type 0} → GroupValue C → Type 0
 IsFounded {C} v = (made : Made C) × ((h : History) × StandsFor made h v)
+
+-- what holds after each history that the group stands for
+abbrev pub After : {C : Type 0} → GroupValue C → (Made C → History → Type 0) → Type 0
+After {C} v P = (made : Made C) (h : History) → StandsFor made h v → P made h
+
+-- after each history that the first group stands for, the second one stands for it with these events
+abbrev pub Becomes : {C : Type 0} → GroupValue C → History → GroupValue C → Type 0
+Becomes v events w = After v (λ made h. StandsFor made (events ++ h) w)

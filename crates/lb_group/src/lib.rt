@@ -3,9 +3,9 @@
 #![tactic(auto)]
 
 pub mod answers;
-mod group;
+pub mod group;
 pub mod job;
-mod laws;
+pub mod laws;
 mod retry;
 pub mod retired;
 pub mod schedule;

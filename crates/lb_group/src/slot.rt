@@ -8,12 +8,12 @@ ghost use Rattle.lb_select.specs.Selections.{Selects};
 ghost use Rattle.lb_group.specs.SlotSeen.{permit_of};
 ghost use Rattle.lb_group.specs.GroupHistory.{is_flight, is_aloft as aloft, is_retired_of, is_taken_out};
 
-use crate::answers::{Ask, Counts, Selection, Timing};
+use crate::answers::{Ask, Counts, Selection, Timing, Told};
 use crate::job::{Built, Job, Order};
 use crate::retired::{Reader, Retired, Serving};
 use crate::retry::due;
 use crate::schedule::SlotTurn;
-use lb_rebuild::gate::GateCore;
+use lb_rebuild::gate::{GateCore, Permit};
 use lb_rebuild::handed::HandedWords;
 use lb_select::backend::Backend;
 use lb_select::refusal::Refusal;
@@ -56,7 +56,7 @@ pub(crate) struct Slot<S: BackendSelection> {
 impl<S: BackendSelection> Slot<S> {
     ghost use Rattle.lb_group.specs.Fresh.{fresh_slot, turn_of};
     ghost use Rattle.lb_group.specs.SlotSeen.{slot_value, extra_of};
-    ghost use Rattle.lb_group.specs.SlotCalls.{slot_waits, slot_answer, ask_told, asked_slot, asked_gate, IsJobOf, ordered_slot, failed_slot, published_slot, abandoned_slot, lost_slot, entered_slot, reader_of, readers_at, left_slot, TakesAt, destroyed_slot, drawn_slot, superseded_more, SelectsFrom};
+    ghost use Rattle.lb_group.specs.SlotCalls.{slot_waits, slot_answer, ask_told, asked_slot, asked_gate, IsJobOf, ordered_slot, failed_slot, published_slot, abandoned_slot, lost_slot, entered_slot, reader_of, readers_at, left_slot, TakesAt, destroyed_slot, drawn_slot, superseded_more, SelectsFrom, FailsAt, PublishesAt, AbandonsAt, LosesAt, LeavesAt};
 
     // A slot that serves a selector of generation 0 over these backends, of which there are none.
     pub(crate) fn fresh(
@@ -114,7 +114,7 @@ impl<S: BackendSelection> Slot<S> {
     }
 
     // Whether its flight or lost flight is of that generation.
-    pub(crate) fn is_aloft(&self, generation: u64) -> bool
+    fn is_aloft(&self, generation: u64) -> bool
         ensures { result ≡ aloft generation (extra_of self.now.stage) }
     {
         match &self.stage {
@@ -207,8 +207,20 @@ impl<S: BackendSelection> Slot<S> {
         }
     }
 
-    // Ends the flight or the lost flight of a job that failed; its order waits again where it is of the newest generation.
-    pub(crate) fn fail(&mut self, newest: u64, order: Order<S::Config>, now: u128)
+    // Ends the flight or the lost flight of a job that failed, and gives its permit; a job that is not awaited is handed back.
+    pub(crate) fn fail(&mut self, newest: u64, job: Job<S>, now: u128) -> Result<Permit, Job<S>>
+        ensures { FailsAt newest now job (slot_value self.old) result (slot_value self.new) }
+    {
+        if !self.is_aloft(job.generation()) {
+            return Err(job);
+        }
+        let (order, permit) = job.into_parts();
+        self.take_back(newest, order, now);
+        Ok(permit)
+    }
+
+    // Ends the flight or the lost flight of an order that failed; it waits again where it is of the newest generation.
+    fn take_back(&mut self, newest: u64, order: Order<S::Config>, now: u128)
         requires { aloft order.generation (extra_of self.old.stage) ≡ true }
         ensures { slot_value self.new ≡ failed_slot newest now order (slot_value self.old) }
     {
@@ -222,15 +234,38 @@ impl<S: BackendSelection> Slot<S> {
         }
     }
 
-    // Whether a selector that comes is served: the flight's, in a group that isn't cancelled.
-    pub(crate) fn serves(&self, cancelled: bool) -> bool
-        ensures { result ≡ (is_flight (extra_of self.now.stage) && not cancelled) }
+    // Serves the selector of its flight, and retires that of a lost flight or of a cancelled group unserved. A selector that is
+    // not awaited is handed back.
+    pub(crate) fn publish(
+        &mut self,
+        newest: u64,
+        cancelled: bool,
+        built: Built<S>,
+    ) -> Result<Told, Built<S>>
+        ensures { PublishesAt newest cancelled built (slot_value self.old) result (slot_value self.new) }
     {
-        self.is_flying() && !cancelled
+        if !self.is_aloft(built.generation()) {
+            return Err(built);
+        }
+        if self.is_flying() && !cancelled {
+            return Ok(Told::Published(self.serve(built)));
+        }
+        Ok(Told::Abandoned(self.retire(newest, built)))
+    }
+
+    // Retires the selector of its flight or lost flight unserved; one that is not awaited is handed back.
+    pub(crate) fn abandon(&mut self, newest: u64, built: Built<S>) -> Result<(), Built<S>>
+        ensures { AbandonsAt newest built (slot_value self.old) result (slot_value self.new) }
+    {
+        if !self.is_aloft(built.generation()) {
+            return Err(built);
+        }
+        self.retire(newest, built);
+        Ok(())
     }
 
     // Serves the selector of its flight, and retires what it served before with its readers.
-    pub(crate) fn publish(&mut self, built: Built<S>) -> u64
+    fn serve(&mut self, built: Built<S>) -> u64
         requires { aloft built.task.generation (extra_of self.old.stage) ≡ true }
         ensures generation { result ≡ built.task.generation }
         ensures slot { slot_value self.new ≡ published_slot built (slot_value self.old) }
@@ -266,7 +301,7 @@ impl<S: BackendSelection> Slot<S> {
     }
 
     // Retires the selector of its flight or lost flight unserved; its order waits again where it is of the newest generation.
-    pub(crate) fn abandon(&mut self, newest: u64, built: Built<S>) -> u64
+    fn retire(&mut self, newest: u64, built: Built<S>) -> u64
         requires { aloft built.task.generation (extra_of self.old.stage) ≡ true }
         ensures generation { result ≡ built.task.generation }
         ensures slot { slot_value self.new ≡ abandoned_slot newest built (slot_value self.old) }
@@ -299,18 +334,17 @@ impl<S: BackendSelection> Slot<S> {
     }
 
     // Ends the flight as lost, where there is one.
-    pub(crate) fn lose(&mut self, newest: u64) -> bool
-        ensures flying { result ≡ is_flight (extra_of self.old.stage) }
-        ensures slot { slot_value self.new ≡ (if result then lost_slot newest (slot_value self.old) else slot_value self.old) }
+    pub(crate) fn lose(&mut self, newest: u64) -> Result<(), Refusal>
+        ensures { LosesAt newest (slot_value self.old) result (slot_value self.new) }
     {
         let Stage::Flight(flight) = &self.stage else {
-            return false;
+            return Err(Refusal::NothingInFlight);
         };
         let flight = *flight;
         self.count_superseded(newest);
         clear(&mut self.stage);
         fill(&mut self.stage, Stage::Lost(flight));
-        true
+        Ok(())
     }
 
     // One reader more of the selector that is served.
@@ -335,8 +369,21 @@ impl<S: BackendSelection> Slot<S> {
         })
     }
 
+    // One reader less of its generation; a reader that it does not count is handed back.
+    pub(crate) fn leave(&mut self, reader: Reader<S>) -> Result<(), Reader<S>>
+        ensures { LeavesAt reader (slot_value self.old) result (slot_value self.new) }
+    {
+        let generation = reader.generation();
+        if !self.is_read(generation) {
+            return Err(reader);
+        }
+        reader.close();
+        self.count_left(generation);
+        Ok(())
+    }
+
     // Whether readers of that generation are in it.
-    pub(crate) fn is_read(&self, generation: u64) -> bool
+    fn is_read(&self, generation: u64) -> bool
         ensures { result ≡ nat_lt 0 (readers_at generation (slot_value self.now)) }
     {
         let serving = &self.serving;
@@ -356,7 +403,7 @@ impl<S: BackendSelection> Slot<S> {
     }
 
     // One reader less of that generation.
-    pub(crate) fn leave(&mut self, generation: u64)
+    fn count_left(&mut self, generation: u64)
         requires { 0 < readers_at generation (slot_value self.old) }
         ensures { slot_value self.new ≡ left_slot generation (slot_value self.old) }
     {
