@@ -5,13 +5,13 @@ use Rattle.lb_select.specs.Backends.{Member}
 use Rattle.lb_select.specs.Draws.{Draw}
 use Rattle.lb_select.specs.declared.refusal.Refusal.{Refusal}
 use Rattle.lb_select.specs.declared.refusal.Refusal.TheVariants as refusal
-use Rattle.lb_rebuild.specs.Gate.{GateId}
+use Rattle.lb_rebuild.specs.Gate.{GateId, GateView}
 use Rattle.lb_group.specs.GroupHistory.{SlotEvent, Granted, Failed, Published, Abandoned, WorkerLost, TakenOut, Destroyed, Entered, Left, Drew, At, History, past_of, newest, scheduled_at, is_cancelled, granted, served, served_members, order_members, Extra, nothing, flight, lost, retired, taken_out, is_flight, is_extra, is_aloft, is_retired_of, is_taken_out, generation_of, extra, waits, readers, drawn, due_moment, AskAnswer, cancelled, building, up_to_date, not_due, busy, job, ask_answer, IsPast, MayHappen}
-use Rattle.lb_group.specs.Values.{OrderValue, Task, BuiltValue, RetiredValue, ReaderValue, SlotValue, GroupValue, order_of}
+use Rattle.lb_group.specs.Values.{OrderValue, Task, BuiltValue, RetiredValue, ReaderValue, SlotValue, GroupValue, order_of, configs_of}
 use Rattle.lb_group.specs.Stands.{Made, order_due, left_readers, permit_in, slot_after, StandsFor}
 use Rattle.lb_group.specs.SlotSeen.{slot_value}
-use Rattle.lb_group.specs.SlotCalls.{slot_answer, ask_told, asked_slot, IsJobOf, failed_slot, published_slot, abandoned_slot, lost_slot, entered_slot, reader_of, readers_at, left_slot, take_refusal, taken_slot, TakesAt, destroyed_slot, drawn_slot, SelectsFrom, PublishesAt, AbandonsAt, LosesAt, LeavesAt}
-use Rattle.lb_group.specs.GroupCalls.{JobIs, Asks, asked_events, is_awaited, is_served, publish_answer, Publishes, publish_events, Abandons, abandon_events, lose_refusal, Unless, done_at, enter_refusal, Enters, is_read, Leaves, taken_refusal, Takes, is_owed, SelectsIn, select_events}
+use Rattle.lb_group.specs.SlotCalls.{slot_answer, ask_told, asked_slot, asked_gate, IsJobOf, failed_slot, published_slot, abandoned_slot, lost_slot, entered_slot, reader_of, readers_at, left_slot, take_refusal, taken_slot, TakesAt, destroyed_slot, drawn_slot, SelectsFrom, PublishesAt, AbandonsAt, LosesAt, LeavesAt}
+use Rattle.lb_group.specs.GroupCalls.{JobIs, IsOwnJob, Asks, asked_events, is_awaited, is_served, publish_answer, Publishes, publish_events, Abandons, abandon_events, lose_refusal, Unless, done_at, enter_refusal, Enters, is_read, Leaves, taken_refusal, Takes, is_owed, SelectsIn, select_events}
 use Rattle.lb_group.specs.declared.answers.Ask.{Ask}
 use Rattle.lb_group.specs.declared.answers.Ask.TheVariants as asked
 use Rattle.lb_group.specs.declared.answers.Told.{Told}
@@ -20,7 +20,7 @@ use Rattle.lb_group.specs.declared.answers.Selection.{Selection}
 use Rattle.lb_group.specs.declared.slot.Slot.{Slot}
 use Rattle.lb_group.proofs.Pasts.{AloftFits, aloft-fits, newest-past, lt-false}
 use Rattle.lb_group.proofs.SlotSteps.{answered, granted-step, failed-step, published-step, abandoned-step, lost-step, taken-step, destroyed-step, entered-step, left-step, drew-step, readers-shown}
-use Rattle.lb_group.proofs.GroupSteps.{group_of, Facing}
+use Rattle.lb_group.proofs.GroupSteps.{group_of, Facing, configs-after}
 
 cong2 : {A B D : Type 0} (f : A → B → D) (a c : A) (b d : B) → a ≡ c → b ≡ d → f a b ≡ f c d
 cong2 f a c b d p q = cc
@@ -83,6 +83,34 @@ module _ {C : Type 0} where
       cong3 (λ k d i. record { task = record { slot = b.task.slot; generation = k; members = b.task.members; config = d; permit = i }; ended = b.ended })
       b.task.generation g b.task.config c b.task.permit id p q r
 
+-- an ask leaves the gate the same one
+pub gate-stays : (a : AskAnswer) (g k : GateView) → k ≡ asked_gate a g → k.id ≡ g.id
+gate-stays cancelled g k e = ap (λ (v : GateView). v.id) e
+gate-stays building g k e = ap (λ (v : GateView). v.id) e
+gate-stays up_to_date g k e = ap (λ (v : GateView). v.id) e
+gate-stays (not_due m) g k e = ap (λ (v : GateView). v.id) e
+gate-stays busy g k e = ap (λ (v : GateView). v.id) e
+gate-stays job g k e = ap (λ (v : GateView). v.id) e
+
+module _ {S I C : Type 0} where
+  -- a job that goes out is the group's own
+  pub own-job : (made : Made C) (h k : History) (slot : ℕ) (a : Ask S I C) (v : GroupValue C) → StandsFor made k v → JobIs made h slot a → IsOwnJob v a
+  own-job made h k slot asked.Cancelled v s is = tt
+  own-job made h k slot asked.Building v s is = tt
+  own-job made h k slot asked.Nothing v s is = tt
+  own-job made h k slot (asked.NotDue m) v s is = tt
+  own-job made h k slot asked.Busy v s is = tt
+  own-job made h k slot (asked.Job j) v s is = (
+    is.permit ∙ sym (ap (λ (w : GroupValue C). w.gate) s.shows),
+    ap (λ (l : List C). slice_get l j.slot) (ap (λ (w : GroupValue C). configs_of w) s.shows ∙ configs-after made.gate 0 made.configs k) ∙ ap (slice_get made.configs) is.place ∙ is.config,
+  )
+
+module _ {C : Type 0} where
+  -- a retired selector that is taken out has a permit of the group's gate
+  pub taken-own : (made : Made C) (h k : History) (slot : ℕ) (r : Result RetiredValue Refusal) (v : GroupValue C) → StandsFor made k v → Takes made h slot r → IfOk r (λ q. q.permit ≡ v.gate)
+  taken-own made h k slot (Ok q) v s is = is.3 ∙ sym (ap (λ (w : GroupValue C). w.gate) s.shows)
+  taken-own made h k slot (Err e) v s is = tt
+
 module _ {S I C : Type 0} {made : Made C} {h : History} {id : GateId} {n : ℕ} {ms : List Member} {at : ℕ} {st : Bool} {xs : List (Slot S I C)} {i : ℕ} {x y : Slot S I C}
     (f : Facing made h id n ms at st xs i x y) where
   abbrev Past : History
@@ -115,8 +143,13 @@ module _ {S I C : Type 0} {made : Made C} {h : History} {id : GateId} {n : ℕ} 
   job-is (asked.Job j) g e is =
       let due : order_due f.config Past ≡ Some (order_of j) = sym (ap (λ (z : SlotValue C). z.waiting) f.slot) ∙ is.1 in
       let order : order_of j ≡ record { generation = newest Past; members = order_members Past; config = f.config } = order-given _ _ (order_of j) due in
-      (is.0, ap (λ (o : OrderValue C). o.generation) order ∙ newest-past i h, is.2 ∙ e,
-      f.there ∙ ap (λ (o : OrderValue C). Some o.config) (sym order), ap (λ (o : OrderValue C). o.members) order)
+      record {
+        place = is.0;
+        generation = ap (λ (o : OrderValue C). o.generation) order ∙ newest-past i h;
+        permit = is.2 ∙ e;
+        config = f.there ∙ ap (λ (o : OrderValue C). Some o.config) (sym order);
+        members = ap (λ (o : OrderValue C). o.members) order;
+      }
 
   pub asks : (a : Ask S I C) (out : Bool) (now : ℕ) (g : GateId) → g ≡ made.gate → ask_told a ≡ slot_answer n st out now (slot_value x) → IsJobOf i g (slot_value x) a
       → Asks made h i out now (Ok a)
@@ -197,9 +230,10 @@ module _ {S I C : Type 0} {made : Made C} {h : History} {id : GateId} {n : ℕ} 
   pub loses : (r : Result (Unit {0}) Refusal) → LosesAt n (slot_value x) r (slot_value y)
       → Unless (lose_refusal made i h) r × StandsFor made (done_at i WorkerLost r ++ h) (group_of id n ms at st (set xs i y))
   loses (Ok u) is =
-      let may : is_flight (extra Past) ≡ true = sym (ap (λ (z : SlotValue C). is_flight z.extra) f.slot) ∙ is.0 in
-      (rw (lt-ltb i (length made.configs) f.inside, may) refl,
-      f.step WorkerLost may (is.1 ∙ cong2 (λ k z. lost_slot k z) n (newest Past) (slot_value x) (slot_after made.gate f.config Past) f.newest_is f.slot ∙ lost-step made.gate f.config i Past (f.past, may) f.bounded))
+      let may : is_flight (extra Past) ≡ true = sym (ap (λ (z : SlotValue C). is_flight z.extra) f.slot) ∙ is.0 in (
+        rw (lt-ltb i (length made.configs) f.inside, may) refl,
+        f.step WorkerLost may (is.1 ∙ cong2 (λ k z. lost_slot k z) n (newest Past) (slot_value x) (slot_after made.gate f.config Past) f.newest_is f.slot ∙ lost-step made.gate f.config i Past (f.past, may) f.bounded),
+      )
   loses (Err e) is =
       let none : is_flight (extra Past) ≡ false = sym (ap (λ (z : SlotValue C). is_flight z.extra) f.slot) ∙ is.0 in
       (rw (lt-ltb i (length made.configs) f.inside, none) (ap Some (sym is.1)), f.same is.2)
@@ -211,11 +245,16 @@ module _ {S I C : Type 0} {made : Made C} {h : History} {id : GateId} {n : ℕ} 
       → Enters made h i r × StandsFor made (done_at i Entered r ++ h) (group_of id n ms at st (set xs i y))
   enters (Ok t) ok err same =
       let few : readers (served Past) Past < 18446744073709551615 = subst (λ (z : SlotValue C). z.readers < 18446744073709551615) f.slot ok.0 in
-      let reader : t ≡ reader_of i (slot_after made.gate f.config Past) = ok.1 ∙ ap (reader_of i) f.slot in
-      ((rw (lt-ltb i (length made.configs) f.inside, ne_eqb (readers (served Past) Past) 18446744073709551615 (λ e. omega arith)) refl,
-      ap (λ (q : ReaderValue C). q.slot) reader, ap (λ (q : ReaderValue C). q.generation) reader, ap (λ (q : ReaderValue C). q.members) reader,
-      f.there ∙ ap (λ (q : ReaderValue C). Some q.config) (sym reader)),
-      f.step Entered tt (ok.2 ∙ ap (λ (z : SlotValue C). entered_slot z) f.slot ∙ entered-step made.gate f.config i Past f.past))
+      let reader : t ≡ reader_of i (slot_after made.gate f.config Past) = ok.1 ∙ ap (reader_of i) f.slot in (
+        (
+          rw (lt-ltb i (length made.configs) f.inside, ne_eqb (readers (served Past) Past) 18446744073709551615 (λ e. omega arith)) refl,
+          ap (λ (q : ReaderValue C). q.slot) reader,
+          ap (λ (q : ReaderValue C). q.generation) reader,
+          ap (λ (q : ReaderValue C). q.members) reader,
+          f.there ∙ ap (λ (q : ReaderValue C). Some q.config) (sym reader),
+        ),
+        f.step Entered tt (ok.2 ∙ ap (λ (z : SlotValue C). entered_slot z) f.slot ∙ entered-step made.gate f.config i Past f.past),
+      )
   enters (Err e) ok err same = (why err, f.same same)
     where
       why : (((slot_value x).readers ≡ 18446744073709551615) × (e ≡ refusal.NumbersExhausted)) ⊎ (((slot_value x).readers < 18446744073709551615) × (e ≡ refusal.OutOfMemory))
@@ -239,10 +278,11 @@ module _ {S I C : Type 0} {made : Made C} {h : History} {id : GateId} {n : ℕ} 
       → Leaves made h q r × StandsFor made (done_at q.slot (Left q.generation) r ++ h) (group_of id n ms at st (set xs i y))
   leaves q (Ok u) place is =
       let some : nat_lt 0 (readers q.generation Past) ≡ true = read-shown q.generation true is.0 in
-      let may : 0 < readers q.generation Past = ltb-true 0 (readers q.generation Past) some in
-      (read-at q.slot q.generation true place is.0,
-      subst (λ (k : ℕ). StandsFor made (At k (Left q.generation) ∷ h) (group_of id n ms at st (set xs i y))) place
-      (f.step (Left q.generation) may (is.1 ∙ ap (λ (z : SlotValue C). left_slot q.generation z) f.slot ∙ left-step made.gate f.config i q.generation Past f.past)))
+      let may : 0 < readers q.generation Past = ltb-true 0 (readers q.generation Past) some in (
+        read-at q.slot q.generation true place is.0,
+        subst (λ (k : ℕ). StandsFor made (At k (Left q.generation) ∷ h) (group_of id n ms at st (set xs i y))) place
+            (f.step (Left q.generation) may (is.1 ∙ ap (λ (z : SlotValue C). left_slot q.generation z) f.slot ∙ left-step made.gate f.config i q.generation Past f.past)),
+      )
   leaves q (Err k) place is = ((read-at q.slot q.generation false place is.0, is.1), f.same is.2)
 
   pub takes : (r : Result RetiredValue Refusal) → TakesAt i (slot_value x) r (slot_value y)
@@ -252,11 +292,13 @@ module _ {S I C : Type 0} {made : Made C} {h : History} {id : GateId} {n : ℕ} 
       let left : left_readers (extra Past) Past ≡ 0 = sym (ap (λ (z : SlotValue C). z.left_in) f.slot) ∙ is.1 in
       let none : take_refusal (extra Past) (left_readers (extra Past) Past) ≡ None = cong2 take_refusal (extra Past) (retired r.generation) (left_readers (extra Past) Past) 0 out left in
       let permit : Some made.gate ≡ Some r.permit = sym (ap (permit_in made.gate) out) ∙ sym (ap (λ (z : SlotValue C). z.permit) f.slot) ∙ is.2 in
-      let may : MayHappen Past TakenOut =
-      (subst (λ (e : Extra). is_retired_of (generation_of e) e ≡ true) (sym out) (eq-eqb r.generation r.generation refl),
-      subst (λ (e : Extra). left_readers e Past ≡ 0 → readers (generation_of e) Past ≡ 0) (sym out) (λ z. z) left) in
-      ((rw (lt-ltb i (length made.configs) f.inside) none, is.3, sym (ap generation_of out), (let same : r.permit ≡ made.gate = cc in same)),
-      f.step TakenOut may (is.4 ∙ ap (λ (z : SlotValue C). taken_slot z) f.slot ∙ taken-step made.gate f.config i Past (f.past, may)))
+      let may : MayHappen Past TakenOut = (
+        subst (λ (e : Extra). is_retired_of (generation_of e) e ≡ true) (sym out) (eq-eqb r.generation r.generation refl),
+        subst (λ (e : Extra). left_readers e Past ≡ 0 → readers (generation_of e) Past ≡ 0) (sym out) (λ z. z) left,
+      ) in (
+        (rw (lt-ltb i (length made.configs) f.inside) none, is.3, sym (ap generation_of out), (let same : r.permit ≡ made.gate = cc in same)),
+        f.step TakenOut may (is.4 ∙ ap (λ (z : SlotValue C). taken_slot z) f.slot ∙ taken-step made.gate f.config i Past (f.past, may)),
+      )
   takes (Err e) is =
       let why : take_refusal (extra Past) (left_readers (extra Past) Past) ≡ Some e = sym (ap (λ (z : SlotValue C). take_refusal z.extra z.left_in) f.slot) ∙ is.0 in
       (rw (lt-ltb i (length made.configs) f.inside) why, f.same is.1)

@@ -9,7 +9,7 @@ use Rattle.lb_select.specs.Backends.{Member}
 use Rattle.lb_rebuild.specs.Gate.{GateId}
 use Rattle.lb_group.specs.GroupHistory.{SlotEvent, At, History, past_of, newest, members_of, scheduled_at, is_cancelled, IsPast, IsGroupHistory, MayHappen}
 use Rattle.lb_group.specs.Values.{SlotValue, GroupValue, configs_of}
-use Rattle.lb_group.specs.Stands.{Made, slot_after, slots_after, group_after, StandsFor, IsFounded}
+use Rattle.lb_group.specs.Stands.{Made, slot_after, slots_after, group_after, StandsFor, IsFounded, SameSite}
 use Rattle.lb_group.specs.SlotSeen.{slot_value}
 use Rattle.lb_group.specs.declared.slot.Slot.{Slot}
 use Rattle.lb_group.proofs.Pasts.{past-same, past-other, newest-past, scheduled-past, cancelled-past}
@@ -89,6 +89,19 @@ module _ {C : Type 0} where
       let configs : configs_of v ≡ made.configs = ap (λ (w : GroupValue C). configs_of w) s.shows ∙ configs-after made.gate 0 made.configs h in
       let one : Some d ≡ Some c = sym own ∙ ap (λ (l : List C). slice_get l k) configs ∙ sym (ap (slice_get made.configs) place) ∙ there in
       cc
+
+  -- the gate and the configurations stay, whatever happens
+  pub site-of : (u v w : GroupValue C) (then_ : Made C → History → History) → IsFounded u → u ≡ v
+      → ((made : Made C) (h : History) → StandsFor made h v → StandsFor made (then_ made h) w) → SameSite v w
+  site-of u v w then_ p is becomes =
+      let s : StandsFor p.0 p.1.0 v = subst (λ (z : GroupValue C). StandsFor p.0 p.1.0 z) is p.1.1 in
+      let t : StandsFor p.0 (then_ p.0 p.1.0) w = becomes p.0 p.1.0 s in
+      record {
+        gate = ap (λ (z : GroupValue C). z.gate) t.shows ∙ sym (ap (λ (z : GroupValue C). z.gate) s.shows);
+        configs =
+            ap (λ (z : GroupValue C). configs_of z) t.shows ∙ configs-after p.0.gate 0 p.0.configs (then_ p.0 p.1.0)
+            ∙ sym (ap (λ (z : GroupValue C). configs_of z) s.shows ∙ configs-after p.0.gate 0 p.0.configs p.1.0);
+      }
 
 module _ {S I C : Type 0} where
   -- a group with these slots

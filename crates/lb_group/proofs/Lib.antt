@@ -8,3 +8,4 @@ pub mod GroupSteps
 pub mod CallSteps
 pub mod Memberships
 pub mod Telling
+pub mod Tasks

@@ -125,8 +125,7 @@ module _ {S I C : Type 0} where
       let is : n ≡ newest h = ap (λ (w : GroupValue C). w.newest) all in
       let goes : is_cancelled h ≡ false = sym (ap (λ (w : GroupValue C). w.cancelled) all) ∙ live in
       let differs : same_members members (members_of (newest h) h) ≡ false = sym (ap (same_members members) (ap (λ (w : GroupValue C). w.current) all)) ∙ other in
-      let change : is_change members h ≡ true = ap not differs in
-      (
+      let change : is_change members h ≡ true = ap not differs in (
         rw (change, ne_eqb (newest h) 18446744073709551615 (λ end. omega arith), goes) refl,
         sym change,
         rw change (next ∙ ap (λ (k : ℕ). k + 1) is),

@@ -8,7 +8,7 @@ use Rattle.lb_select.specs.declared.refusal.Refusal.{Refusal}
 use Rattle.lb_select.specs.declared.refusal.Refusal.TheVariants as refusal
 use Rattle.lb_rebuild.specs.Gate.{GateId, GateView, gate}
 use Rattle.lb_group.specs.GroupHistory.{SlotEvent, Granted, Failed, Published, Abandoned, WorkerLost, TakenOut, Destroyed, Entered, Left, Drew, GroupEvent, Scheduled, Cancelled, At, History, past_of, newest, members_of, is_cancelled, granted, order_members, served, served_members, Extra, is_flight, is_aloft, is_taken_out, generation_of, extra, waits, readers, drawn, AskAnswer, cancelled, building, up_to_date, not_due, busy, job, ask_answer}
-use Rattle.lb_group.specs.Values.{Task, BuiltValue, RetiredValue, ReaderValue}
+use Rattle.lb_group.specs.Values.{Task, BuiltValue, RetiredValue, ReaderValue, GroupValue, configs_of}
 use Rattle.lb_group.specs.Stands.{Made, left_readers}
 use Rattle.lb_group.specs.SlotCalls.{ask_told, asked_gate, take_refusal, SelectsFrom}
 use Rattle.lb_group.specs.declared.answers.Ask.{Ask}
@@ -54,20 +54,34 @@ schedule_events members now (Ok s) = if s.changed then Scheduled members now ∷
 schedule_events members now (Err e) = []
 
 -- A job is of its slot and of the newest generation, with the members of its order, the slot's configuration and the permit.
+pub record IsJob {C : Type 0} (made : Made C) (h : History) (slot : ℕ) (j : Task C) : Type 0 where
+  pub place : j.slot ≡ slot
+  pub generation : j.generation ≡ newest h
+  pub permit : j.permit ≡ made.gate
+  pub config : slice_get made.configs slot ≡ Some j.config
+  pub members : j.members ≡ order_members (past_of slot h)
+
 abbrev pub JobIs : {S I C : Type 0} → Made C → History → ℕ → Ask S I C → Type 0
 JobIs made h slot asked.Cancelled = Unit {0}
 JobIs made h slot asked.Building = Unit {0}
 JobIs made h slot asked.Nothing = Unit {0}
 JobIs made h slot (asked.NotDue m) = Unit {0}
 JobIs made h slot asked.Busy = Unit {0}
-JobIs made h slot (asked.Job j) =
-    (j.slot ≡ slot) × (j.generation ≡ newest h) × (j.permit ≡ made.gate) × (slice_get made.configs slot ≡ Some j.config)
-    × (j.members ≡ order_members (past_of slot h))
+JobIs made h slot (asked.Job j) = IsJob made h slot j
 
 abbrev pub Asks : {S I C : Type 0} → Made C → History → ℕ → Bool → ℕ → Result (Ask S I C) Refusal → Type 0
 Asks made h slot out now (Ok a) =
     (slot < length made.configs) × (ask_told a ≡ ask_answer (past_of slot h) out now) × JobIs made h slot a
 Asks made h slot out now (Err e) = (e ≡ refusal.NoSuch) × (length made.configs ≤ slot)
+
+-- a job that goes out is the group's own
+abbrev pub IsOwnJob : {S I C : Type 0} → GroupValue C → Ask S I C → Type 0
+IsOwnJob v asked.Cancelled = Unit {0}
+IsOwnJob v asked.Building = Unit {0}
+IsOwnJob v asked.Nothing = Unit {0}
+IsOwnJob v (asked.NotDue m) = Unit {0}
+IsOwnJob v asked.Busy = Unit {0}
+IsOwnJob v (asked.Job j) = (j.permit ≡ v.gate) × (slice_get (configs_of v) j.slot ≡ Some j.config)
 
 abbrev pub asked_events : ℕ → ℕ → AskAnswer → History
 asked_events slot now cancelled = []

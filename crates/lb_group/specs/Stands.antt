@@ -2,7 +2,7 @@
 use Rattle.std.specs.Prelude.{◌≡◌, ◌+◌, ◌^◌, ◌<◌, ◌&&◌, ℕ, Bool, not, List, [], ◌∷◌, ◌++◌, Option, Some, None, if◌then◌else◌}
 use Rattle.lb_rebuild.specs.Gate.{GateId}
 use Rattle.lb_group.specs.GroupHistory.{History, Extra, nothing, flight, lost, retired, taken_out, past_of, newest, members_of, scheduled_at, is_cancelled, granted, asked_at, served, served_members, order_members, extra, is_lost_of, waits, readers, drawn, published, coalesced, superseded, failed, failures, failed_at, timing, IsGroupHistory}
-use Rattle.lb_group.specs.Values.{OrderValue, SlotValue, GroupValue}
+use Rattle.lb_group.specs.Values.{OrderValue, SlotValue, GroupValue, configs_of}
 use Rattle.lb_group.specs.declared.answers.Counts.{Counts}
 use Rattle.std.specs.Prelude.{min}
 
@@ -92,3 +92,8 @@ After {C} v P = (made : Made C) (h : History) → StandsFor made h v → P made 
 -- after each history that the first group stands for, the second one stands for it with these events
 abbrev pub Becomes : {C : Type 0} → GroupValue C → History → GroupValue C → Type 0
 Becomes v events w = After v (λ made h. StandsFor made (events ++ h) w)
+
+-- what no call changes: the gate, and the configurations of the slots
+pub record SameSite {C : Type 0} (v w : GroupValue C) : Type 0 where
+  pub gate : w.gate ≡ v.gate
+  pub configs : configs_of w ≡ configs_of v

@@ -8,8 +8,8 @@ ghost use Rattle.lb_group.specs.GroupHistory.{History, Cancelled, WorkerLost, En
 ghost use Rattle.lb_group.specs.Fresh.{fresh_slot};
 ghost use Rattle.lb_group.specs.SlotSeen.{slot_value};
 ghost use Rattle.lb_group.specs.Values.{configs_of};
-ghost use Rattle.lb_group.specs.Stands.{Made, StandsFor, After, Becomes, counts_after};
-ghost use Rattle.lb_group.specs.GroupCalls.{Schedules, schedule_events, Asks, ask_events, gate_after, Fails, fail_events, gate_back, Publishes, publish_events, Abandons, abandon_events, Unless, lose_refusal, done_at, Enters, Leaves, Takes, Reports, at_slot, SelectsIn, select_events};
+ghost use Rattle.lb_group.specs.Stands.{Made, StandsFor, SameSite, After, Becomes, counts_after};
+ghost use Rattle.lb_group.specs.GroupCalls.{Schedules, schedule_events, IsOwnJob, Asks, ask_events, gate_after, Fails, fail_events, gate_back, Publishes, publish_events, Abandons, abandon_events, Unless, lose_refusal, done_at, Enters, Leaves, Takes, Reports, at_slot, SelectsIn, select_events};
 
 use crate::answers::{Ask, Counts, Selection, Timing, Told};
 use crate::job::{Built, Job};
@@ -69,7 +69,8 @@ impl<S: BackendSelection> GroupCore<S> {
         gate: &GateCore,
         configs: Vec<S::Config>,
     ) -> Result<GroupCore<S>, Refusal>
-        ensures { Refuses (least (map (S.refusal []) configs.items)) (λ g. StandsFor (record { gate = gate.now.id; configs = configs.items }) [] g) result }
+        ensures stands { Refuses (least (map (S.refusal []) configs.items)) (λ g. StandsFor (record { gate = gate.now.id; configs = configs.items }) [] g) result }
+        ensures gate { IfOk result (λ g. g.gate ≡ gate.now.id) }
     {
         if let Some(refusal) = least_refusal::<S>(alloc, &configs) {
             return Err(refusal);
@@ -111,6 +112,7 @@ impl<S: BackendSelection> GroupCore<S> {
     ) -> Result<Scheduled, Refusal>
         ensures answers { After self.old (λ made h. Schedules made h discovered.keys result) }
         ensures stands { Becomes self.old (schedule_events discovered.keys now result) self.new }
+        ensures site { SameSite self.old self.new }
     {
         if same_members(&discovered, &self.current) {
             if self.cancelled {
@@ -145,7 +147,8 @@ impl<S: BackendSelection> GroupCore<S> {
 
     /// Stops the rebuilds for good. Selections and readers go on, and what is under way can still come back.
     pub fn cancel(&mut self)
-        ensures { Becomes self.old (Cancelled ∷ []) self.new }
+        ensures stands { Becomes self.old (Cancelled ∷ []) self.new }
+        ensures site { SameSite self.old self.new }
     {
         self.cancelled = true;
     }
@@ -155,16 +158,14 @@ impl<S: BackendSelection> GroupCore<S> {
     /// # Errors
     ///
     /// `NoSuch` where no such slot is there.
-    pub fn ask(
-        &mut self,
-        slot: usize,
-        gate: &mut GateCore,
-        now: u128,
-    ) -> Result<Ask<S>, Refusal>
+    pub fn ask(&mut self, slot: usize, gate: &mut GateCore, now: u128) -> Result<Ask<S>, Refusal>
         requires { gate.old.id ≡ self.old.gate }
         ensures answers { After self.old (λ made h. Asks made h slot gate.old.out now result) }
         ensures stands { Becomes self.old (ask_events slot now result) self.new }
+        ensures site { SameSite self.old self.new }
+        ensures own { IfOk result (λ a. IsOwnJob self.new a) }
         ensures gate { gate.new ≡ gate_after result gate.old }
+        ensures one_gate { gate.new.id ≡ gate.old.id }
     {
         if slot >= self.slots.len() {
             return Err(Refusal::NoSuch);
@@ -187,7 +188,9 @@ impl<S: BackendSelection> GroupCore<S> {
         requires gate { gate.old.id ≡ self.old.gate }
         ensures answers { After self.old (λ made h. Fails h job result) }
         ensures stands { Becomes self.old (fail_events job now result) self.new }
+        ensures site { SameSite self.old self.new }
         ensures gate { gate.new ≡ gate_back result gate.old }
+        ensures one_gate { gate.new.id ≡ gate.old.id }
     {
         let newest = self.newest;
         let slot = job.slot();
@@ -210,6 +213,7 @@ impl<S: BackendSelection> GroupCore<S> {
         requires config { slice_get (configs_of self.old) built.task.slot ≡ Some built.task.config }
         ensures answers { After self.old (λ made h. Publishes h built result) }
         ensures stands { Becomes self.old (publish_events built result) self.new }
+        ensures site { SameSite self.old self.new }
     {
         let newest = self.newest;
         let cancelled = self.cancelled;
@@ -228,6 +232,7 @@ impl<S: BackendSelection> GroupCore<S> {
         requires config { slice_get (configs_of self.old) built.task.slot ≡ Some built.task.config }
         ensures answers { After self.old (λ made h. Abandons h built result) }
         ensures stands { Becomes self.old (abandon_events built result) self.new }
+        ensures site { SameSite self.old self.new }
     {
         let newest = self.newest;
         let slot = built.slot();
@@ -243,6 +248,7 @@ impl<S: BackendSelection> GroupCore<S> {
     pub fn worker_lost(&mut self, slot: usize) -> Result<(), Refusal>
         ensures answers { After self.old (λ made h. Unless (lose_refusal made slot h) result) }
         ensures stands { Becomes self.old (done_at slot WorkerLost result) self.new }
+        ensures site { SameSite self.old self.new }
     {
         if slot >= self.slots.len() {
             return Err(Refusal::NoSuch);
@@ -260,6 +266,7 @@ impl<S: BackendSelection> GroupCore<S> {
     pub fn enter(&mut self, slot: usize) -> Result<Reader<S>, Refusal>
         ensures answers { After self.old (λ made h. Enters made h slot result) }
         ensures stands { Becomes self.old (done_at slot Entered result) self.new }
+        ensures site { SameSite self.old self.new }
     {
         if slot >= self.slots.len() {
             return Err(Refusal::NoSuch);
@@ -275,6 +282,7 @@ impl<S: BackendSelection> GroupCore<S> {
     pub fn leave(&mut self, reader: Reader<S>) -> Result<(), Reader<S>>
         ensures answers { After self.old (λ made h. Leaves made h reader result) }
         ensures stands { Becomes self.old (done_at reader.slot (Left reader.generation) result) self.new }
+        ensures site { SameSite self.old self.new }
     {
         let slot = reader.slot();
         if slot >= self.slots.len() {
@@ -292,6 +300,8 @@ impl<S: BackendSelection> GroupCore<S> {
     pub fn take_retired(&mut self, slot: usize) -> Result<Retired<S>, Refusal>
         ensures answers { After self.old (λ made h. Takes made h slot result) }
         ensures stands { Becomes self.old (done_at slot TakenOut result) self.new }
+        ensures site { SameSite self.old self.new }
+        ensures own { IfOk result (λ r. r.permit ≡ self.new.gate) }
     {
         if slot >= self.slots.len() {
             return Err(Refusal::NoSuch);
@@ -315,7 +325,9 @@ impl<S: BackendSelection> GroupCore<S> {
         requires gate { gate.old.id ≡ self.old.gate }
         ensures answers { After self.old (λ made h. Reports made h slot permit result) }
         ensures stands { Becomes self.old (done_at slot Destroyed result) self.new }
+        ensures site { SameSite self.old self.new }
         ensures gate { gate.new ≡ gate_back result gate.old }
+        ensures one_gate { gate.new.id ≡ gate.old.id }
     {
         if slot >= self.slots.len() {
             return Err(permit);
@@ -343,6 +355,7 @@ impl<S: BackendSelection> GroupCore<S> {
     ) -> Selection
         ensures answers { After self.old (λ made h. SelectsIn S.may_draw_random S.walks made h slot key.now limit random.now result) }
         ensures stands { After self.old (λ made h. StandsFor made (select_events made slot result ++ h) self.new) }
+        ensures site { SameSite self.old self.new }
     {
         if slot >= self.slots.len() {
             return Selection {

@@ -65,8 +65,9 @@ impl<S: BackendSelection> Model for Built<S> {
     ghost Value = { BuiltValue S.Config };
 
     ghost view = { λ b. record {
-        task = record { slot = b.slot; generation = b.order.generation; members = b.order.members; config = b.order.config; permit = b.permit };
-        ended = b.ended } };
+      task = record { slot = b.slot; generation = b.order.generation; members = b.order.members; config = b.order.config; permit = b.permit };
+      ended = b.ended;
+    } };
 
     ghost invariant = { λ b. (S.members (arc_value b.selector) ≡ b.order.members) × (S.built_with (arc_value b.selector) ≡ b.order.config) };
 }

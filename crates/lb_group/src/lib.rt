@@ -6,7 +6,7 @@ pub mod answers;
 pub mod group;
 pub mod job;
 pub mod laws;
-mod retry;
 pub mod retired;
+mod retry;
 pub mod schedule;
 mod slot;

@@ -286,11 +286,14 @@ impl<S: BackendSelection> Slot<S> {
         let before = mem::replace(&mut self.serving, serving);
         self.left_in = mem::replace(&mut self.readers, 0);
         clear(&mut self.stage);
-        fill(&mut self.stage, Stage::Retired(Retired {
-            slot,
-            serving: before,
-            permit,
-        }));
+        fill(
+            &mut self.stage,
+            Stage::Retired(Retired {
+                slot,
+                serving: before,
+                permit,
+            }),
+        );
         self.counts.published = self.counts.published.saturating_add(1);
         self.timing = Some(Timing {
             generation,
@@ -322,11 +325,14 @@ impl<S: BackendSelection> Slot<S> {
         };
         self.left_in = 0;
         clear(&mut self.stage);
-        fill(&mut self.stage, Stage::Retired(Retired {
-            slot,
-            serving,
-            permit,
-        }));
+        fill(
+            &mut self.stage,
+            Stage::Retired(Retired {
+                slot,
+                serving,
+                permit,
+            }),
+        );
         if generation == newest {
             self.waiting = Some(order);
         }

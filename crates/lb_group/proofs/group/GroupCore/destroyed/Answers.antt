@@ -4,7 +4,7 @@ use Rattle.lb_group.specs.GroupHistory.{is_taken_out}
 use Rattle.lb_group.specs.SlotCalls.{destroyed_slot}
 use Rattle.lb_group.specs.SlotSeen.{slot_value}
 use Rattle.lb_group.proofs.Pasts.{lt-false}
-use Rattle.lb_group.proofs.GroupSteps.{facing, count-is}
+use Rattle.lb_group.proofs.GroupSteps.{facing, count-is, site-of}
 use Rattle.lb_group.proofs.CallSteps.{owed-at, reported-stands}
 use Rattle.lb_group.proofs.group.GroupCore.destroyed.Goals as goal
 
@@ -42,3 +42,9 @@ returns-clause-answers g c made h s =
 pub returns-clause-stands : goal.returns-clause-stands
 returns-clause-stands g c made h s =
     reported-stands (facing made h _ _ _ _ _ _ c.args.slot c.index_mut.result.now c.report.new.self c.args.self.now c.self.view_is (omega arith) c.index_mut.ensures.value s) (sym c.report.ensures.out ∙ c.if-not-report.false) (rw c.if-not-report.false at c.report.ensures.slot)
+
+pub returns-clause-site : goal.returns-clause-site
+returns-clause-site g c = site-of _ _ _ _ c.self.invariant c.self.view_is (returns-clause-stands g c)
+
+pub returns-then-not-report-clause-site : goal.returns-then-not-report-clause-site
+returns-then-not-report-clause-site g c = site-of _ _ _ _ c.self.invariant c.self.view_is (returns-then-not-report-clause-stands g c)

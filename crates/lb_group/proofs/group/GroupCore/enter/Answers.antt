@@ -1,6 +1,6 @@
 -- The slot is put back in its place.
 use Rattle.std.proofs.Common.{arith, refl, length, ◌≤◌, inl}
-use Rattle.lb_group.proofs.GroupSteps.{facing, count-is}
+use Rattle.lb_group.proofs.GroupSteps.{facing, count-is, site-of}
 use Rattle.lb_group.proofs.CallSteps.{enters}
 use Rattle.lb_group.proofs.Pasts.{lt-false}
 use Rattle.lb_group.proofs.group.GroupCore.enter.Goals as goal
@@ -22,3 +22,6 @@ returns-clause-answers g c made h s =
 pub returns-clause-stands : goal.returns-clause-stands
 returns-clause-stands g c made h s =
     (enters (facing made h _ _ _ _ _ _ c.args.slot c.index_mut.result.now c.enter.new.self c.args.self.now c.self.view_is (omega arith) c.index_mut.ensures.value s) c.enter.result c.enter.ensures.ok c.enter.ensures.err c.enter.ensures.same).1
+
+pub returns-clause-site : goal.returns-clause-site
+returns-clause-site g c = site-of _ _ _ _ c.self.invariant c.self.view_is (returns-clause-stands g c)

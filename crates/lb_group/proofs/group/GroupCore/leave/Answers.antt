@@ -1,6 +1,6 @@
 -- The reader's slot is put back in its place.
 use Rattle.std.proofs.Common.{arith, refl, length, ◌≤◌}
-use Rattle.lb_group.proofs.GroupSteps.{facing, count-is}
+use Rattle.lb_group.proofs.GroupSteps.{facing, count-is, site-of}
 use Rattle.lb_group.proofs.CallSteps.{leaves}
 use Rattle.lb_group.proofs.Pasts.{lt-false}
 use Rattle.lb_group.proofs.group.GroupCore.leave.Goals as goal
@@ -22,3 +22,6 @@ returns-clause-answers g c made h s =
 pub returns-clause-stands : goal.returns-clause-stands
 returns-clause-stands g c made h s =
     (leaves (facing made h _ _ _ _ _ _ c.slot-slot.result c.index_mut.result.now c.leave.new.self c.args.self.now c.self.view_is (omega arith) c.index_mut.ensures.value s) c.args.reader c.leave.result c.slot-slot.ensures c.leave.ensures).1
+
+pub returns-clause-site : goal.returns-clause-site
+returns-clause-site g c = site-of _ _ _ _ c.self.invariant c.self.view_is (returns-clause-stands g c)

@@ -7,5 +7,8 @@ use Rattle.lb_group.proofs.group.GroupCore.new.Goals as goal
 pub invariant_of-result : goal.invariant_of-result
 invariant_of-result g c = (record { gate = c.of.result.value.id; configs = c.args.configs.items }, ([], starts _ _ _ _ _ refl c.in-Ok.ensures.0 c.in-Ok.ensures.1))
 
-pub returns-in-Ok : goal.returns-in-Ok
-returns-in-Ok g c = (search rules, starts _ _ _ _ _ (ap (λ (v : GateView). v.id) c.of.ensures) c.in-Ok.ensures.0 c.in-Ok.ensures.1)
+pub returns-in-Ok-clause-stands : goal.returns-in-Ok-clause-stands
+returns-in-Ok-clause-stands g c = (search rules, starts _ _ _ _ _ (ap (λ (v : GateView). v.id) c.of.ensures) c.in-Ok.ensures.0 c.in-Ok.ensures.1)
+
+pub returns-in-Ok-clause-gate : goal.returns-in-Ok-clause-gate
+returns-in-Ok-clause-gate g c = ap (λ (v : GateView). v.id) c.of.ensures

@@ -5,6 +5,7 @@ use Rattle.lb_select.specs.Memberships.{same_members}
 use Rattle.lb_group.specs.Fresh.{turn_of}
 use Rattle.lb_group.specs.Orders.{order_for, AreOrdered}
 use Rattle.lb_group.specs.SlotSeen.{slot_value}
+use Rattle.lb_group.proofs.GroupSteps.{site-of}
 use Rattle.lb_group.proofs.Memberships.{schedules, changes}
 use Rattle.lb_group.proofs.group.GroupCore.schedule.Goals as goal
 
@@ -46,3 +47,6 @@ returns-clause-stands g c made h s =
     let orders : c.in_ok-orders.orders.items ≡ map (λ (x : _). order_for (n + 1) c.args.discovered.keys (slot_value x)) xs = rw (← slots, ← members, ← next) each in
     let all : AreOrdered n xs (map (λ (x : _). order_for (n + 1) c.args.discovered.keys (slot_value x)) xs) ys = rw (← orders) handed in
     schedules made h _ n _ _ c.args.discovered.keys _ _ c.args.now _ xs ys c.args.self.now c.self.view_is s next c.in-Some.ensures.0 c.if-self-2.false members all
+
+pub returns-clause-site : goal.returns-clause-site
+returns-clause-site g c = site-of _ _ _ _ c.self.invariant c.self.view_is (returns-clause-stands g c)

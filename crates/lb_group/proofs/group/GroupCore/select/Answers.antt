@@ -2,7 +2,7 @@
 use Rattle.std.proofs.Common.{arith, ◌≤◌, refl, length}
 use Rattle.std.proofs.lemmas.Option.{slice_get_past}
 use Rattle.lb_group.proofs.Pasts.{lt-false}
-use Rattle.lb_group.proofs.GroupSteps.{facing, count-is}
+use Rattle.lb_group.proofs.GroupSteps.{facing, count-is, site-of}
 use Rattle.lb_group.proofs.CallSteps.{selects, selected-stands}
 use Rattle.lb_group.proofs.group.GroupCore.select.Goals as goal
 
@@ -28,3 +28,6 @@ returns-clause-answers g c made h s =
 pub returns-clause-stands : goal.returns-clause-stands
 returns-clause-stands g c made h s =
     selected-stands (facing made h _ _ _ _ _ _ c.args.slot c.index_mut.result.now c.select.new.self c.args.self.now c.self.view_is (omega arith) c.index_mut.ensures.value s) c.select.result c.select.ensures.slot
+
+pub returns-clause-site : goal.returns-clause-site
+returns-clause-site g c = site-of _ _ _ _ c.self.invariant c.self.view_is (returns-clause-stands g c)
