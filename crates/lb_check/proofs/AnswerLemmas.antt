@@ -1,5 +1,5 @@
 -- Lemmas on a whole answer: from what was read and judged to what a check answers.
-use Rattle.std.proofs.Common.{◌≡◌, ◌≢◌, ℕ, ◌+◌, ◌<◌, ◌≤◌, ◌⊎◌, inl, inr, Bool, true, false, List, [], ◌∷◌, ◌++◌, Option, None, Some, Result, Ok, Err, length, refl, sym, ap, ◌∙◌, subst, arith}
+use Rattle.std.proofs.Common.{◌≡◌, ℕ, ◌<◌, ◌≤◌, inl, inr, Bool, true, false, List, Option, None, Some, Result, Ok, Err, refl, ap, ◌∙◌, subst}
 use Rattle.http.specs.declared.response.Parts.{Parts}
 use Rattle.httparse.specs.Grammar.{ResponseHead, status_code}
 use Rattle.lb_probe.specs.declared.error.CheckError.{CheckError}
@@ -10,7 +10,6 @@ use Rattle.lb_check.specs.Check.{accepts_of, Judges, HasAcceptedHead, CheckOutco
 use Rattle.lb_check.specs.Framing.{framing_of}
 use Rattle.lb_check.specs.Head.{BeginsWithHead, HeadOutcome}
 use Rattle.lb_check.specs.Parts.{parts_of}
-use Rattle.lb_check.specs.declared.head.Head.{Head}
 
 module _ (is_head : Bool) (limit : ℕ) (accepts : Parts → Bool) where
   -- a fault in the head

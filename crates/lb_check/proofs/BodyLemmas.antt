@@ -1,10 +1,10 @@
 -- Lemmas on bytes that are passed over, and on the content of a chunk.
-use Rattle.std.proofs.Common.{◌≡◌, ◌≢◌, ℕ, suc, ◌+◌, ◌-◌, ◌<◌, ◌≤◌, List, [], ◌∷◌, ◌++◌, Result, Ok, Err, length, refl, sym, ap, ◌∙◌, subst, append_assoc, append-nil, length-append, arith}
+use Rattle.std.proofs.Common.{◌≡◌, ℕ, ◌-◌, ◌≤◌, List, [], ◌∷◌, ◌++◌, Result, Ok, Err, length, refl, sym, ap, ◌∙◌, append_assoc, length-append, arith}
 use Rattle.httparse.specs.Ascii.{crlf_bytes}
 use Rattle.lb_counted.specs.Stream.{Takes}
 use Rattle.lb_probe.specs.declared.error.CheckError.{CheckError}
 use Rattle.lb_probe.specs.declared.error.CheckError.TheVariants.{BadFraming, EndInMessage, Read}
-use Rattle.lb_check.specs.Steps.{Passed, SkipOutcome, ExpectOutcome, HasContent, ContentOutcome}
+use Rattle.lb_check.specs.Steps.{Passed, ExpectOutcome, HasContent, ContentOutcome}
 
 -- after some bytes n more were passed over
 pub passed_more : (s m r : List ℕ) (left all n : ℕ) → Passed left all s m → Takes n m r → n ≤ left → Passed (left - n) all s r

@@ -1,14 +1,14 @@
 -- Lemmas on bodies in chunks: what their first line says of them, and what is passed.
-use Rattle.std.proofs.Common.{◌≡◌, ◌≢◌, ℕ, zero, suc, ◌+◌, ◌-◌, ◌<◌, ◌≤◌, List, [], ◌∷◌, ◌++◌, Ok, Err, length, refl, sym, ap, ◌∙◌, subst, append_assoc, append-nil, length-append, arith}
+use Rattle.std.proofs.Common.{◌≡◌, ◌≢◌, ℕ, zero, suc, ◌+◌, ◌<◌, ◌≤◌, List, [], ◌∷◌, ◌++◌, Ok, Err, length, refl, sym, ap, ◌∙◌, subst, append_assoc, append-nil, arith}
 use Rattle.httparse.specs.Ascii.{crlf_bytes}
-use Rattle.httparse.specs.Grammar.{ChunkLine, IsChunkLine, print_chunk_line, chunk_size}
+use Rattle.httparse.specs.Grammar.{ChunkLine, print_chunk_line, chunk_size}
 use Rattle.httparse.proofs.ChunkLemmas.{chunk_line_unique}
 use Rattle.lb_probe.specs.declared.error.CheckError.{CheckError}
 use Rattle.lb_probe.specs.declared.error.CheckError.TheVariants.{BadFraming, EndInMessage, BodyTooLarge, Read, OutOfMemory}
 use Rattle.lb_check.specs.declared.framing.Framing.TheVariants.{Chunked}
-use Rattle.lb_check.specs.Body.{IsLargeChunked, BodyOutcome}
-use Rattle.lb_check.specs.Chunked.{IsLine, Chunk, IsChunk, print_chunk, HasTrailers, HasEnd, HasChunks, HasChunked}
-use Rattle.lb_check.specs.Steps.{NoFeed, IsLineText, LineFault, IsChunkLineOf, IsNoChunkLine, HasContent, ContentOutcome, TrailersOutcome, PassesChunks, PassesLast, StepOutcome}
+use Rattle.lb_check.specs.Body.{BodyOutcome}
+use Rattle.lb_check.specs.Chunked.{IsLine, Chunk, HasTrailers, HasChunked}
+use Rattle.lb_check.specs.Steps.{IsLineText, LineFault, IsChunkLineOf, IsNoChunkLine, HasContent, ContentOutcome, PassesChunks, PassesLast, StepOutcome}
 use Rattle.lb_check.proofs.LineLemmas.{line_same, line_longer, no_line, chunk_line_text}
 use Rattle.lb_check.proofs.BodyLemmas.{fronts_same}
 

@@ -1,9 +1,9 @@
 -- Lemmas on chunks that are passed one after the other, and on faults behind them.
-use Rattle.std.proofs.Common.{◌≡◌, ◌≢◌, ℕ, ◌+◌, ◌-◌, ◌<◌, ◌≤◌, List, [], ◌∷◌, ◌++◌, Result, Ok, Err, length, refl, sym, ap, ◌∙◌, subst, append_assoc, arith}
+use Rattle.std.proofs.Common.{◌≡◌, ◌≢◌, ℕ, ◌+◌, ◌-◌, ◌≤◌, List, [], ◌++◌, Result, Ok, Err, refl, sym, ap, ◌∙◌, subst, append_assoc, arith}
 use Rattle.lb_probe.specs.declared.error.CheckError.{CheckError}
 use Rattle.lb_probe.specs.declared.error.CheckError.TheVariants.{BadFraming, EndInMessage, BodyTooLarge, Read, OutOfMemory}
 use Rattle.lb_check.specs.declared.framing.Framing.TheVariants.{Chunked}
-use Rattle.lb_check.specs.Body.{IsLargeChunked, BodyOutcome}
+use Rattle.lb_check.specs.Body.{BodyOutcome}
 use Rattle.lb_check.specs.Chunked.{HasTrailers, HasChunked}
 use Rattle.lb_check.specs.Steps.{TrailersOutcome, PassesChunks, PassesLast, StepOutcome}
 use Rattle.lb_check.proofs.ChunkLemmas.{passes_step}

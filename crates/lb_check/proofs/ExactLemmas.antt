@@ -1,18 +1,18 @@
 -- A good answer gives no fault but that of a device or of memory.
-use Rattle.std.proofs.Common.{◌≡◌, ◌≢◌, ℕ, ◌+◌, ◌-◌, ◌<◌, ◌≤◌, ◌⊎◌, inl, inr, Bool, true, false, List, [], ◌∷◌, ◌++◌, Option, None, Some, Result, Ok, Err, length, take, refl, sym, ap, ◌∙◌, subst, arith, append-nil, append_assoc, length-append}
+use Rattle.std.proofs.Common.{◌≡◌, ℕ, ◌+◌, ◌-◌, ◌≤◌, inl, inr, Bool, true, false, List, ◌++◌, None, Some, Result, Ok, Err, length, take, refl, sym, ap, ◌∙◌, subst, arith}
 use Rattle.std.proofs.Math.Seq.{take-append-add}
 use Rattle.std.specs.Bool.{⊤}
 use Rattle.http.specs.declared.response.Parts.{Parts}
-use Rattle.httparse.specs.Grammar.{ResponseHead, ReadsResponse, HasNoResponse, print_response, status_code}
+use Rattle.httparse.specs.Grammar.{ResponseHead, print_response, status_code}
 use Rattle.httparse.proofs.GrammarLemmas.{response_unique}
 use Rattle.lb_probe.specs.declared.error.CheckError.{CheckError}
 use Rattle.lb_probe.specs.declared.error.CheckError.TheVariants.{BadHead, HeadTooLarge, Interim, Status, Rejected, BadFraming, EndInMessage, BodyTooLarge, Write, Read, OutOfMemory}
 use Rattle.lb_check.specs.declared.framing.Framing.{Framing}
 use Rattle.lb_check.specs.declared.framing.Framing.TheVariants.{Nothing, Sized, Chunked, ToEnd}
 use Rattle.lb_check.specs.Body.{HasBody, IsLarge}
-use Rattle.lb_check.specs.Check.{HasAcceptedHead, HasRefusedHead, HasFramed, IsGood, CheckOutcome, IsOkOrFailed}
+use Rattle.lb_check.specs.Check.{HasAcceptedHead, HasRefusedHead, IsGood, CheckOutcome, IsOkOrFailed}
 use Rattle.lb_check.specs.Framing.{framing_of}
-use Rattle.lb_check.specs.Head.{BeginsWithHead, HasBadHead, HasLargeHead}
+use Rattle.lb_check.specs.Head.{HasBadHead, HasLargeHead}
 use Rattle.lb_check.specs.Parts.{parts_of}
 
 -- the check passed, a read failed, or memory was refused

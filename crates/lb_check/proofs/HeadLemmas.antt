@@ -1,16 +1,14 @@
 -- Lemmas on a head that is being read: where it ends, and empty lines in front of it.
-use Rattle.std.proofs.Common.{◌≡◌, ◌≢◌, ℕ, suc, ◌+◌, ◌<◌, ◌≤◌, ◌⊎◌, inl, inr, Bool, true, false, List, [], ◌∷◌, ◌++◌, Option, None, Some, Ok, Err, length, take, drop, refl, sym, ap, ◌∙◌, subst, append_assoc, append-nil, length-append, arith}
+use Rattle.std.proofs.Common.{◌≡◌, ◌≢◌, ℕ, ◌+◌, ◌<◌, ◌≤◌, ◌⊎◌, inl, inr, List, [], ◌∷◌, ◌++◌, length, take, drop, refl, sym, ap, ◌∙◌, subst, append_assoc, append-nil, length-append, arith}
 use Rattle.std.specs.List.{flat_map}
 use Rattle.std.proofs.lemmas.Grind.{flat_map-append}
-use Rattle.httparse.specs.Grammar.{LineEnd, crlf, lf, print_end, print_blank, print_section, print_field, print_version, print_reason, ResponseHead, print_response, IsResponseHead, ReadsResponse, HasNoResponse, status_code}
-use Rattle.httparse.specs.Spans.{IsResponseWithin, IsResponseAt}
-use Rattle.httparse.proofs.GrammarLemmas.{response_unique, response_prefix_free, ReadsResponse-append, print_response-append}
-use Rattle.lb_probe.specs.declared.error.CheckError.TheVariants.{BadHead, HeadTooLarge, EndInMessage}
-use Rattle.lb_check.specs.Head.{IsFitHead, BeginsWithHead, NeverHasFitHead, HasBadHead, HasLargeHead, EndsInHead, IsBlankLine, AfterBlank, HeadOutcome}
+use Rattle.httparse.specs.Grammar.{LineEnd, crlf, lf, print_end, print_blank, print_section, print_field, print_version, print_reason, ResponseHead, print_response, ReadsResponse, HasNoResponse, status_code}
+use Rattle.httparse.proofs.GrammarLemmas.{response_prefix_free, ReadsResponse-append, print_response-append}
+use Rattle.lb_check.specs.Head.{BeginsWithHead, NeverHasFitHead, HasBadHead, HasLargeHead, EndsInHead, IsBlankLine, AfterBlank}
 use Rattle.lb_check.specs.declared.head.HeadParts.{HeadParts}
 use Rattle.std.specs.Str.Parse.{digits_value}
 use Rattle.lb_check.specs.declared.head.Seen.TheVariants.{Whole, Bad}
-use Rattle.lb_check.specs.Head.{Sees, HasParts, IsWholeHead}
+use Rattle.lb_check.specs.Head.{Sees, IsWholeHead}
 use Rattle.lb_check.proofs.BodyLemmas.{fronts_same}
 use lib.Seq.{take-append_seam}
 

@@ -1,5 +1,5 @@
 -- Lemmas on lines: where the first line feed of a text stands.
-use Rattle.std.proofs.Common.{◌≡◌, ◌≢◌, ℕ, zero, suc, ◌+◌, ◌<◌, ◌≤◌, Bool, true, false, List, [], ◌∷◌, ◌++◌, Option, None, Some, Result, Ok, length, refl, sym, ap, ◌∙◌, subst, append_assoc, append-nil, length-append, drop, arith}
+use Rattle.std.proofs.Common.{◌≡◌, ◌≢◌, ℕ, suc, ◌<◌, ◌≤◌, Bool, true, false, List, [], ◌∷◌, ◌++◌, Option, None, Some, Result, Ok, length, refl, sym, ap, ◌∙◌, subst, append_assoc, append-nil, length-append, drop, arith}
 use Rattle.httparse.specs.Grammar.{AllPass, ChunkLine, IsChunkLine, IsExtension, print_chunk_line, print_extension, is_extension_byte, is_ows, HasNoChunkLine, NeverHasChunkLine}
 use Rattle.std.specs.Char.{is_ascii_hexdigit}
 use Rattle.httparse.specs.Ascii.{crlf_bytes}

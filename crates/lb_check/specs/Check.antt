@@ -1,5 +1,5 @@
 -- An HTTP message as a check takes it, and the cause of each fault.
-use Rattle.std.specs.Prelude.{◌≡◌, ◌≢◌, ℕ, ◌+◌, ◌<◌, ◌≤◌, ◌⊎◌, Bool, true, false, List, [], ◌++◌, length, ⊤, Option, None, Some, Result, Ok, Err, ◌==◌}
+use Rattle.std.specs.Prelude.{◌≡◌, ◌≢◌, ℕ, ◌<◌, ◌≤◌, ◌⊎◌, Bool, true, false, List, [], ⊤, Option, None, Some, Result, Ok, Err, ◌==◌}
 use Rattle.http.specs.declared.response.Parts.{Parts}
 use Rattle.httparse.specs.Grammar.{ResponseHead, status_code}
 use Rattle.lb_probe.specs.declared.error.CheckError.{CheckError}

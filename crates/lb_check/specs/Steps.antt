@@ -1,10 +1,10 @@
 -- What the parts of reading a body do to the stream: lines, bytes that are passed over, the content of a chunk, trailers.
-use Rattle.std.specs.Prelude.{◌≡◌, ◌≢◌, ℕ, zero, suc, ◌+◌, ◌<◌, ◌≤◌, List, [], ◌∷◌, ◌++◌, length, ⊤, Result, Ok, Err}
+use Rattle.std.specs.Prelude.{◌≡◌, ◌≢◌, ℕ, zero, suc, ◌+◌, ◌<◌, List, [], ◌∷◌, ◌++◌, length, ⊤, Result, Ok, Err}
 use Rattle.httparse.specs.Ascii.{crlf_bytes}
 use Rattle.httparse.specs.Grammar.{ChunkLine, IsChunkLine, print_chunk_line, chunk_size}
 use Rattle.lb_counted.specs.Stream.{Takes}
 use Rattle.lb_probe.specs.declared.error.CheckError.{CheckError}
-use Rattle.lb_probe.specs.declared.error.CheckError.TheVariants.{BadFraming, EndInMessage, BodyTooLarge, Read, OutOfMemory}
+use Rattle.lb_probe.specs.declared.error.CheckError.TheVariants.{BadFraming, EndInMessage, Read, OutOfMemory}
 use Rattle.lb_check.specs.declared.framing.Framing.TheVariants.{Chunked}
 use Rattle.lb_check.specs.Chunked.{IsTrailer, HasTrailers, HasChunked}
 use Rattle.lb_check.specs.Body.{BodyOutcome}

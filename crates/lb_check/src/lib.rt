@@ -7,12 +7,18 @@ mod chunk;
 mod engine;
 mod framing;
 mod head;
+mod http_check;
 mod line;
 mod parts;
+mod peer;
 mod request;
+mod tcp_check;
 mod trailers;
 mod validate;
 
 pub use engine::check_over;
+pub use http_check::{HttpHealthCheck, MAX_BODY_BYTES};
+pub use peer::{BasicPeer, HttpPeer};
 pub use request::request_for;
+pub use tcp_check::TcpHealthCheck;
 pub use validate::{AcceptStatus, Validate};

@@ -111,8 +111,8 @@ impl Permit {
         seats_apart(&mut a.seat, &mut b.seat);
     }
 
-    // For values that are dropped with a permit in them: the gate never grants again.
-    pub(crate) fn spend(self) {
+    /// Lets the permit go for good, as for a value that is dropped with a permit in it: its gate never grants again.
+    pub fn spend(self) {
         let Permit { seat: _ } = self;
     }
 }

@@ -2,6 +2,7 @@
 //! It stands on any reader and any writer, and takes no memory but for the line that it reads.
 #![tactic(auto)]
 
+pub mod backend_text;
 pub mod backends;
 pub mod error;
 pub mod lines;

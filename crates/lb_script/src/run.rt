@@ -100,9 +100,9 @@ where
     let mut session = Session::<S>::new(alloc);
     for number in 1..u64::MAX {
         match session.take_turn(alloc, reader, writer) {
-            Turn::Answered => writer.put(session.text.as_bytes()).ok()?,
+            Turn::Answered => writer.put(&session.text).ok()?,
             Turn::LastAnswered => {
-                writer.put(session.text.as_bytes()).ok()?;
+                writer.put(&session.text).ok()?;
                 return Some(0);
             }
             Turn::Ended => return Some(0),

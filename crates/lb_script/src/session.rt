@@ -1,6 +1,6 @@
 //! One line of a script at a time: it is read, its step is taken, and the text of the answer is prepared.
 //! What a run keeps between its lines stands here; the buffers are used again for each line.
-ghost use Rattle.std.specs.Prelude.{◌≡◌, ◌≢◌, [], Err, true, string_bytes};
+ghost use Rattle.std.specs.Prelude.{◌≡◌, ◌≢◌, [], Err, true};
 ghost use Rattle.std.specs.Io.KnownBytes.{Keeps, prepend_known};
 ghost use Rattle.lb_world.specs.History.{History};
 ghost use Rattle.lb_world.specs.Meanings.{meaning};
@@ -46,7 +46,7 @@ pub(crate) struct Session<S: BackendSelection> {
     has_registry: bool,
     ahead: ReadAhead,
     line: Vec<u8>,
-    pub(crate) text: String,
+    pub(crate) text: Vec<u8>,
 }
 
 impl<S: BackendSelection<Config = Kind>> Session<S> {
@@ -60,7 +60,7 @@ impl<S: BackendSelection<Config = Kind>> Session<S> {
             has_registry: false,
             ahead: ReadAhead::new(),
             line: Vec::new(alloc),
-            text: String::new(alloc),
+            text: Vec::new(alloc),
         }
     }
 
@@ -75,7 +75,7 @@ impl<S: BackendSelection<Config = Kind>> Session<S> {
             (h : History Kind) → Holds M self.old.world self.old.has_registry h
             → OnBytes (prepend_known self.old.ahead (R.remaining (inner_of reader.old)))
             (prepend_known self.new.ahead (R.remaining (inner_of reader.new)))
-            (TakesTurn M h self.new.world self.new.has_registry (string_bytes self.new.text) result) }
+            (TakesTurn M h self.new.world self.new.has_registry (self.new.text.items) result) }
         ensures none { result ≡ Turn.Failed ScriptError.Read → self.new.ahead ≡ [] }
         ensures written { Keeps (W.contents (inner_of writer.old)) (W.contents (inner_of writer.new)) }
         ensures reader_failed { result ≡ Turn.Failed ScriptError.Read → has_failed reader.new ≡ true }
@@ -104,7 +104,7 @@ impl<S: BackendSelection<Config = Kind>> Session<S> {
     fn answer(&mut self, alloc: Global) -> Result<(), ScriptError>
         ensures line { let M = meaning S.walks S.refusal S.may_draw_random in
             (h : History Kind) → Holds M self.old.world self.old.has_registry h
-            → AnswersLine M h self.old.line.items self.new.world self.new.has_registry (string_bytes self.new.text) result }
+            → AnswersLine M h self.old.line.items self.new.world self.new.has_registry (self.new.text.items) result }
         ensures own { result ≢ Err ScriptError.Read }
         ensures ahead { self.new.ahead ≡ self.old.ahead }
     {
@@ -115,8 +115,8 @@ impl<S: BackendSelection<Config = Kind>> Session<S> {
         let answer = self.world.step(step);
         self.has_registry |= made_registry(&answer);
         self.text.clear();
-        push_answer(&mut self.text, &answer)?;
-        self.text.push_str("\n")?;
+        push_answer(alloc, &mut self.text, &answer)?;
+        self.text.push(b'\n')?;
         Ok(())
     }
 }

@@ -3,6 +3,7 @@
 ghost use Rattle.std.specs.Prelude.{◌≡◌};
 ghost use Rattle.lb_script.specs.Words.{words_of};
 
+use memchr::memchr;
 use std::marker::Model;
 
 /// The words of a line that are not yet taken, each without the spaces around it.
@@ -41,10 +42,13 @@ impl<'a> Iterator for Words<'a> {
 
     ghost remaining = { item_count (λ s. s) };
 
+    #[inline]
     fn next(&mut self) -> Option<&'a str> {
         let line = self.rest?;
-        match line.split_once(' ') {
-            Some((word, rest)) => {
+        match memchr(b' ', line.as_bytes()) {
+            Some(place) => {
+                let (word, _) = line.split_at(place);
+                let (_, rest) = line.split_at(place + 1);
                 self.rest = Some(rest);
                 Some(word)
             }

@@ -3,6 +3,7 @@ pub mod AddressTexts
 pub mod Clones
 pub mod LeastCauses
 pub mod Lists
+pub mod LoadTables
 pub mod SameBackends
 pub mod Searches
 pub mod SelectionLaws

@@ -51,8 +51,8 @@ abbrev pub TakesFirst : List ℕ → ℕ → List ℕ → Type 0
 TakesFirst [] w after = (w ≡ 0) × (after ≡ [])
 TakesFirst (x ∷ xs) w after = (w ≡ x) × (after ≡ xs)
 
--- a ticket is the counter's, which wraps at 2 ^ 64; a random word is the first that is left; there are no loads
+-- a ticket is the counter's, which wraps at 2 ^ 64; a random word is the first that is left; each load is 0
 abbrev pub HandedGives : HandedValue → Draw → HandedValue → Type 0
 HandedGives a (ticket w) b = (w ≡ a.tickets) × (b.tickets ≡ (a.tickets + 1) % 2 ^ 64) × (b.words ≡ a.words)
 HandedGives a (random w) b = TakesFirst a.words w b.words × (b.tickets ≡ a.tickets)
-HandedGives a (load m l) b = ⊥
+HandedGives a (load m l) b = (l ≡ 0) × (b ≡ a)

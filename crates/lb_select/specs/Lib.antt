@@ -4,6 +4,7 @@ pub mod Algorithms
 pub mod Backends
 pub mod Draws
 pub mod Identity
+pub mod Loads
 pub mod Memberships
 pub mod Refusals
 pub mod Seen

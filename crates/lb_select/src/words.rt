@@ -1,11 +1,17 @@
 //! Sources of the words that walks draw: tickets of a counter; random words of a generator, or handed in.
 //! What a source may give is one relation over draws, so that a walk is told by the list of its draws.
-ghost use Rattle.std.specs.Prelude.{◌≡◌, ℕ, ⊤};
+ghost use Rattle.std.specs.Prelude.{◌≡◌, ℕ, ⊤, IfOk, IfErr};
 ghost use Rattle.lb_select.specs.Backends.{Member};
-ghost use Rattle.lb_select.specs.Draws.{Draw, ticket, random, CoreGives, HandedGives};
+ghost use Rattle.lb_select.specs.Draws.{Draw, ticket, random, load, CoreGives, HandedGives};
+ghost use Rattle.lb_select.specs.Loads.{load_in, SetsLoad};
+ghost use Rattle.lb_select.specs.declared.refusal.Refusal.TheVariants.{OutOfMemory};
 
+use crate::backend::Backend;
+use crate::refusal::Refusal;
 use rand_core::Rng;
 use rand_pcg::Pcg64;
+use std::alloc::Global;
+use std::collections::BTreeMap;
 use std::marker::Model;
 use std::sync::atomic::{AtomicU64, Ordering};
 use std::sync::{Mutex, Wait};
@@ -22,31 +28,57 @@ pub trait WordSource {
     /// The next random word.
     fn random(&mut self) -> u64
         ensures { gives self.old (random result) self.new };
+
+    /// The load of a backend: how busy the source says it is.
+    fn load(&self, backend: &Backend) -> u64
+        ensures { gives self.now (load backend.now result) self.now };
 }
 
 /// A counter from 0 that wraps at 2^64, and a generator. Its words are exactly those to come: the tickets 0, 1, 2 and so
-/// on, and what the generator answers.
+/// on, and what the generator answers. The load of an identity is the one that was set for it last, or 0; no draw changes it.
 #[derive(Drop)]
 pub struct CoreWords<R: Drop> {
     pub tickets: u64,
     pub generator: R,
+    // the loads that were set, once there is one
+    loads: Option<BTreeMap<Backend, u64>>,
 }
 
 impl<R: Rng + Drop> CoreWords<R> {
-    /// A source whose counter is at 0 and whose random words are the generator's.
+    /// A source whose counter is at 0, whose random words are the generator's, and whose loads are all 0.
     pub fn new(generator: R) -> Self
         ensures tickets { result.tickets ≡ 0 }
         ensures generator { result.generator ≡ generator }
+        ensures loads { (m : Member) → load_in result.loads m ≡ 0 }
     {
         CoreWords {
             tickets: 0,
             generator,
+            loads: None,
         }
+    }
+
+    /// Sets the load of a backend's identity. Refused for memory alone, and then nothing is set; the words to come stay.
+    pub fn set_load(&mut self, alloc: Global, backend: &Backend, load: u64) -> Result<(), Refusal>
+        ensures set { IfOk result (λ _. SetsLoad (load_in self.old.loads) backend.now load (load_in self.new.loads)) }
+        ensures refused { IfErr result (λ e. (e ≡ OutOfMemory) × ((m : Member) → load_in self.new.loads m ≡ load_in self.old.loads m)) }
+        ensures tickets { self.new.tickets ≡ self.old.tickets }
+        ensures generator { self.new.generator ≡ self.old.generator }
+    {
+        let identity = backend.clone_identity(alloc)?;
+        let mut loads = match self.loads.take() {
+            Some(loads) => loads,
+            None => BTreeMap::new(alloc),
+        };
+        let inserted = loads.insert(identity, load);
+        self.loads = Some(loads);
+        inserted?;
+        Ok(())
     }
 }
 
 impl<R: Rng + Drop> WordSource for CoreWords<R> {
-    ghost gives = { CoreGives (λ w. w.tickets) (λ w. R.stream w.generator) (λ (w : _) (m : Member). 0) };
+    ghost gives = { CoreGives (λ w. w.tickets) (λ w. R.stream w.generator) (λ w. load_in w.loads) };
 
     fn ticket(&mut self) -> u64 {
         let ticket = self.tickets;
@@ -56,6 +88,13 @@ impl<R: Rng + Drop> WordSource for CoreWords<R> {
 
     fn random(&mut self) -> u64 {
         self.generator.next_u64()
+    }
+
+    fn load(&self, backend: &Backend) -> u64 {
+        match &self.loads {
+            Some(loads) => loads.get(backend).copied().unwrap_or(0),
+            None => 0,
+        }
     }
 }
 
@@ -68,6 +107,10 @@ impl<W: WordSource> WordSource for &mut W {
 
     fn random(&mut self) -> u64 {
         (**self).random()
+    }
+
+    fn load(&self, backend: &Backend) -> u64 {
+        (**self).load(backend)
     }
 }
 
@@ -89,7 +132,8 @@ impl<'a> Model for HandedWords<'a> {
 }
 
 impl<'a> HandedWords<'a> {
-    /// A source whose next ticket is `tickets`, and whose random words are these in their order, and 0 after them.
+    /// A source whose next ticket is `tickets`, whose random words are these in their order, and 0 after them, and whose loads
+    /// are all 0.
     pub fn new(tickets: u64, random: &'a [u64]) -> Self
         ensures { result ≡ record { tickets = tickets; words = random.now } }
     {
@@ -124,6 +168,11 @@ impl<'a> WordSource for HandedWords<'a> {
             }
             None => 0,
         }
+    }
+
+    // No load is handed in.
+    fn load(&self, _backend: &Backend) -> u64 {
+        0
     }
 }
 
@@ -169,5 +218,10 @@ impl<'a, R: Wait> WordSource for LentWords<'a, R> {
 
     fn random(&mut self) -> u64 {
         self.words.generator.lock(self.rt).next_u64()
+    }
+
+    // No load is set here.
+    fn load(&self, _backend: &Backend) -> u64 {
+        0
     }
 }

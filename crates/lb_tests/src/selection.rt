@@ -124,10 +124,8 @@ fn a_ticket_that_wraps(rt: HostRuntime) -> Result<(), Fail> {
         &[("1.0.0.1:80", 1), ("1.0.0.2:80", 1), ("1.0.0.3:80", 1)],
     )?;
     let selector = Arc::new(alloc, RoundRobin::build(alloc, &set)?)?;
-    let mut words = CoreWords {
-        tickets: u64::MAX,
-        generator: Pcg64::new(1, 2),
-    };
+    let mut words = words();
+    words.tickets = u64::MAX;
     let before = walked(alloc, &selector, b"", &mut words, 1)?;
     let after = walked(alloc, &selector, b"", &mut words, 1)?;
     assert_eq!(rt; before.as_str(), "1.0.0.1:80 ");

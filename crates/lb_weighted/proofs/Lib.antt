@@ -1,5 +1,9 @@
 pub mod Determined
 pub mod Halves
+pub mod LeastOrder
+pub mod LeastRanks
+pub mod LeastReading
+pub mod LeastWalking
 pub mod Shares
 pub mod Summing
 pub mod WeightLemmas

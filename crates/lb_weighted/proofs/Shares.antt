@@ -96,7 +96,7 @@ count_in_turn n low high w pos le within =
     ∙ omega arith
 
 -- the places of two lists that are related one by one pass tests alike
-count_zip :
+pub count_zip :
     {A B : Type 0} (R : A → B → Type 0) (f : A → Bool) (g : B → Bool) → ((x : A) (y : B) → R x y → g y ≡ f x)
     → (xs : List A) (ys : List B) → AllZip R xs ys → count_by g ys ≡ count_by f xs
 count_zip R f g alike [] [] h = refl
@@ -114,7 +114,7 @@ module _ {K : Type 0} {R : K → K → Ordering} (total : IsTotalOrder R) where
   above_at x (y ∷ ys) (suc i) m h e = above_at x ys i m h.1 e
 
   -- in a strictly sorted list the element at a lower index is below
-  below_at :
+  pub below_at :
       (xs : List K) (i j : ℕ) (x y : K) → IsStrictlySortedBy R xs → slice_get xs i ≡ Some x → slice_get xs j ≡ Some y → i < j
       → R x y ≡ Less
   unfolding IsStrictlySortedBy

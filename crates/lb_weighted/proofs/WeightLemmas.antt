@@ -61,7 +61,7 @@ module _ {K : Type 0} {R : K → K → Ordering} (total : IsTotalOrder R) where
       ∙ omega (arith, smaller_count xs i m s.1 e)
 
 -- an element of a list
-element_at : (ms : List Member) (index : ℕ) → index < length ms → (m : Member) × (slice_get ms index ≡ Some m)
+pub element_at : (ms : List Member) (index : ℕ) → index < length ms → (m : Member) × (slice_get ms index ≡ Some m)
 element_at [] index h = absurd (omega arith)
 element_at (x ∷ xs) index h = (get_or (x ∷ xs) index x, slice_get-get_or (x ∷ xs) index x h)
 

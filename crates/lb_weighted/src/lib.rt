@@ -3,6 +3,8 @@
 #![tactic(auto)]
 
 pub mod laws;
+pub mod least;
+mod reading;
 pub mod selection;
 mod sums;
 pub mod weighted;

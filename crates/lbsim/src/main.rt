@@ -8,6 +8,9 @@ use std::io::{self, BufWriter, Write};
 use std::process::ExitCode;
 use std::rt::Env;
 
+// The answers to as many lines as are read at a time are written at once.
+const OUTPUT_CAPACITY: usize = 65536;
+
 const BAD_ARGUMENTS: &[u8] = b"error 0 BadArguments\n";
 
 const OUT_OF_MEMORY: &[u8] = b"error 1 OutOfMemory\n";
@@ -32,7 +35,7 @@ fn main(rt: HostRuntime) -> ExitCode {
     if has_arguments(&rt) {
         return end_with(&rt, BAD_ARGUMENTS);
     }
-    let Ok(buffered) = BufWriter::new(rt.alloc(), io::writer(&rt)) else {
+    let Ok(buffered) = BufWriter::with_capacity(rt.alloc(), OUTPUT_CAPACITY, io::writer(&rt)) else {
         return end_with(&rt, OUT_OF_MEMORY);
     };
     let mut reader = Counted::new(rt.reader());

@@ -3,6 +3,7 @@
 #![tactic(auto)]
 
 pub mod health_check;
+pub mod prelude;
 pub mod rebuild;
 pub mod script;
 pub mod selection;

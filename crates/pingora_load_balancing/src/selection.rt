@@ -6,6 +6,7 @@ pub mod laws;
 pub use lb_ring::ketama::Consistent;
 pub use lb_select::algorithms;
 pub use lb_select::select::select;
+pub use lb_weighted::least::{LeastConnections, LeastIterator};
 pub use lb_weighted::selection::{
     BackendIter, BackendSelection, FNVHash, FVNHash, Random, RoundRobin, SelectionAlgorithm,
     UniqueIterator,

@@ -2,7 +2,7 @@ use Rattle.std.proofs.Common.{◌≡◌, ℕ, ◌<◌, ◌≤◌, List, ◌++◌
 use Rattle.lb_probe.specs.declared.error.CheckError.TheVariants.{BadFraming, BodyTooLarge}
 use Rattle.lb_check.specs.declared.framing.Framing.TheVariants.{Chunked}
 use Rattle.lb_check.specs.Body.{BodyOutcome}
-use Rattle.lb_check.specs.Steps.{IsLineText, LineFault, IsNoChunkLine, IsChunkLineOf, HasContent, ContentOutcome, StepOutcome}
+use Rattle.lb_check.specs.Steps.{LineFault, IsNoChunkLine, IsChunkLineOf, HasContent, ContentOutcome, StepOutcome}
 use Rattle.lb_check.proofs.ChunkLemmas.{line_fault, no_chunk_line, chunk_too_large, content_fault, passes_chunk, step_last, step_passes}
 use Rattle.lb_check.proofs.Streams.{OnBytes-then, OnBytes-map}
 use Rattle.lb_check.proofs.chunk.next_chunk.Goals as goal

@@ -1,4 +1,4 @@
-use Rattle.std.proofs.Common.{◌≡◌, ◌≢◌, ℕ, ◌-◌, List, Ok, Err, arith, rules}
+use Rattle.std.proofs.Common.{◌≡◌, ℕ, ◌-◌, List, Ok, Err, arith, rules}
 use Rattle.lb_check.specs.declared.framing.Framing.TheVariants.{Chunked}
 use Rattle.lb_check.specs.Body.{BodyOutcome}
 use Rattle.lb_check.specs.Steps.{TrailersOutcome, PassesChunks, PassesLast, StepOutcome}

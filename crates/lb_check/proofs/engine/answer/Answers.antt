@@ -1,4 +1,4 @@
-use Rattle.std.proofs.Common.{◌≡◌, ℕ, ◌≤◌, Bool, List, Some, None, Ok, Err, sym, ap, ◌∙◌}
+use Rattle.std.proofs.Common.{◌≡◌, ℕ, ◌≤◌, Bool, List, Some, None, Err, sym, ap, ◌∙◌}
 use Rattle.http.specs.declared.response.Parts.{Parts}
 use Rattle.lb_probe.specs.declared.error.CheckError.TheVariants.{BadFraming}
 use Rattle.lb_check.specs.Body.{BodyOutcome}
@@ -47,9 +47,10 @@ returns-in-Some-clause-outcome g c =
     let w = c.in-Ok.ensures.whole in
     let same : parts ≡ parts_of w.0 = c.in-Ok-to_parts.ensures.ok w.0 w.1 in
     let version = w.1.parts.at.version in
+    let told : Some f ≡ framing_of is_head c.in-Ok.head.parts.found.version parts = c.in-Some.ensures in
     let framed : framing_of is_head w.0.minor (parts_of w.0) ≡ Some f =
     ap (λ (v : ℕ). framing_of is_head v (parts_of w.0)) (sym version)
-    ∙ ap (λ (q : Parts). framing_of is_head c.in-Ok.head.parts.found.version q) (sym same) ∙ sym c.in-Some.ensures in
+    ∙ ap (λ (q : Parts). framing_of is_head c.in-Ok.head.parts.found.version q) (sym same) ∙ sym told in
     let P : List ℕ → List ℕ → Type 0 = λ s t. (n : ℕ) × (n ≤ 65536) × AfterBlank n bytes s t in
     let Q : List ℕ → List ℕ → Type 0 = BodyOutcome limit f r in
     let S : List ℕ → List ℕ → Type 0 = CheckOutcome is_head limit (accepts_of by validator) r in
@@ -70,9 +71,10 @@ returns-clause-outcome g c =
     let w = c.in-Ok.ensures.whole in
     let same : parts ≡ parts_of w.0 = c.in-Ok-to_parts.ensures.ok w.0 w.1 in
     let version = w.1.parts.at.version in
+    let told : None ≡ framing_of is_head c.in-Ok.head.parts.found.version parts = c.in-None.ensures in
     let unframed : framing_of is_head w.0.minor (parts_of w.0) ≡ None =
     ap (λ (v : ℕ). framing_of is_head v (parts_of w.0)) (sym version)
-    ∙ ap (λ (q : Parts). framing_of is_head c.in-Ok.head.parts.found.version q) (sym same) ∙ sym c.in-None.ensures in
+    ∙ ap (λ (q : Parts). framing_of is_head c.in-Ok.head.parts.found.version q) (sym same) ∙ sym told in
     let P : List ℕ → List ℕ → Type 0 = λ s t. (n : ℕ) × (n ≤ 65536) × AfterBlank n bytes s t in
     let S : List ℕ → List ℕ → Type 0 = CheckOutcome is_head limit (accepts_of by validator) (Err BadFraming) in
     OnBytes-map P S _ _ c.in-Ok.ensures.outcome (λ x y p.

@@ -1,5 +1,4 @@
-use Rattle.std.proofs.Common.{◌≡◌, ◌≢◌, ℕ, ◌+◌, ◌<◌, ◌≤◌, List, [], ◌∷◌, ◌++◌, Some, Ok, Err, length, length-append, subst, arith, rules, refl, ap, ◌∙◌, sym}
-use Rattle.lb_probe.specs.declared.error.CheckError.TheVariants.{BadHead, HeadTooLarge, EndInMessage}
+use Rattle.std.proofs.Common.{◌≡◌, ℕ, ◌+◌, ◌<◌, ◌≤◌, List, [], ◌∷◌, ◌++◌, Some, Ok, length-append, subst, arith, rules, refl, ap, ◌∙◌, sym}
 use Rattle.httparse.specs.Grammar.{ResponseHead, HasNoResponse}
 use Rattle.lb_check.specs.declared.head.Seen.TheVariants.{Whole, Bad}
 use Rattle.lb_check.specs.Head.{Sees, IsBlankLine, IsWholeHead, AfterBlank, HasBadHead, HasLargeHead, EndsInHead}

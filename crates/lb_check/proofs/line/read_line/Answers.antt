@@ -1,6 +1,4 @@
-use Rattle.std.proofs.Common.{◌≡◌, ℕ, List, [], ◌∷◌, ◌++◌, Err, length, arith, rules, ap, ◌∙◌, sym, append_assoc, append-nil, length-append}
-use Rattle.lb_counted.specs.Counted.{inner_of}
-use Rattle.lb_probe.specs.declared.error.CheckError.TheVariants.{EndInMessage}
+use Rattle.std.proofs.Common.{◌≡◌, ℕ, List, [], ◌∷◌, ◌++◌, length, arith, rules, length-append}
 use Rattle.lb_check.specs.Steps.{NoFeed}
 use Rattle.lb_check.proofs.LineLemmas.{line_ended, line_grows, line_goes_on}
 use Rattle.lb_check.proofs.Streams.{OnBytes-then, OnBytes-map, gave_byte, gave_none}

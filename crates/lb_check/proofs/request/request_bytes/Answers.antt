@@ -1,4 +1,4 @@
-use Rattle.std.proofs.Common.{◌≡◌, ℕ, List, [], ◌∷◌, ◌++◌, map, codes, rules}
+use Rattle.std.proofs.Common.{◌≡◌, [], ◌∷◌, ◌++◌, map, codes, rules}
 use Rattle.std.proofs.lemmas.List.{map_push}
 use Rattle.http.specs.Request.{head_of}
 use Rattle.lb_check.specs.Request.{target_of}

@@ -1,4 +1,4 @@
-use Rattle.std.proofs.Common.{ℕ, ◌≢◌, ◌≤◌, ◌<◌, length, slice_index}
+use Rattle.std.proofs.Common.{ℕ, ◌≢◌, ◌<◌, slice_index}
 use Rattle.lb_check.proofs.trailers.is_trailer.Given as goal
 
 abbrev pub invariant-loop-byte : goal.invariant-loop-byte

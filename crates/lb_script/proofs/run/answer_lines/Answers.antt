@@ -1,4 +1,4 @@
-use Rattle.std.proofs.Common.{◌∙◌, ap, subst, sym, string_bytes, arith}
+use Rattle.std.proofs.Common.{◌∙◌, ap, subst, sym, arith}
 use Rattle.std.specs.Io.KnownBytes.{Appends, prepend_known}
 use Rattle.lb_world.specs.Meanings.{meaning}
 use Rattle.lb_counted.specs.Counted.{inner_of, has_failed}
@@ -28,10 +28,10 @@ returns-in_err-ok-in-Answered-clause-none g c =
     let has = c.loop-number.session.has_registry in
     let had = c.take_turn.new.self.has_registry in
     let k = c.loop-number.number in
-    let text = string_bytes c.take_turn.new.self.text in
+    let text = c.take_turn.new.self.text.items in
     let failed = has_failed c.take_turn.new.reader in
     let so = flushed_so M all left old (g.W.Write.contents (inner_of c.loop-number.writer)) new w has k c.loop-number.invariant.so_far c.take_turn.ensures.written in
-    λ _. stops_in_line M all left now unread old new (g.W.Write.contents (inner_of c.put.new.self)) w v has had k text failed so c.take_turn.result c.in-Answered.is c.take_turn.ensures.turn (c.take_turn.ensures.reader_kept (λ e. cc) ∙ c.loop-number.invariant.fresh_reader) (subst (AppendsFront new (g.W.Write.contents (inner_of c.put.new.self))) c.as_bytes.ensures.value (where_none c.put.result (sym c.ok.ensures.value ∙ c.in_err-ok-in-Answered.was) c.put.ensures.part))
+    λ _. stops_in_line M all left now unread old new (g.W.Write.contents (inner_of c.put.new.self)) w v has had k text failed so c.take_turn.result c.in-Answered.is c.take_turn.ensures.turn (c.take_turn.ensures.reader_kept (λ e. cc) ∙ c.loop-number.invariant.fresh_reader) (subst (AppendsFront new (g.W.Write.contents (inner_of c.put.new.self))) c.deref.ensures.value (where_none c.put.result (sym c.ok.ensures.value ∙ c.in_err-ok-in-Answered.was) c.put.ensures.part))
 
 pub returns-in_err-ok-in-LastAnswered-clause-none : goal.returns-in_err-ok-in-LastAnswered-clause-none
 returns-in_err-ok-in-LastAnswered-clause-none g c =
@@ -47,10 +47,10 @@ returns-in_err-ok-in-LastAnswered-clause-none g c =
     let has = c.loop-number.session.has_registry in
     let had = c.take_turn.new.self.has_registry in
     let k = c.loop-number.number in
-    let text = string_bytes c.take_turn.new.self.text in
+    let text = c.take_turn.new.self.text.items in
     let failed = has_failed c.take_turn.new.reader in
     let so = flushed_so M all left old (g.W.Write.contents (inner_of c.loop-number.writer)) new w has k c.loop-number.invariant.so_far c.take_turn.ensures.written in
-    λ _. stops_in_last M all left now unread old new (g.W.Write.contents (inner_of c.put-in-LastAnswered.new.self)) w v has had k text failed so c.take_turn.result c.in-LastAnswered.is c.take_turn.ensures.turn (c.take_turn.ensures.reader_kept (λ e. cc) ∙ c.loop-number.invariant.fresh_reader) (subst (AppendsFront new (g.W.Write.contents (inner_of c.put-in-LastAnswered.new.self))) c.as_bytes-in-LastAnswered.ensures.value (where_none c.put-in-LastAnswered.result (sym c.ok-in-LastAnswered.ensures.value ∙ c.in_err-ok-in-LastAnswered.was) c.put-in-LastAnswered.ensures.part))
+    λ _. stops_in_last M all left now unread old new (g.W.Write.contents (inner_of c.put-in-LastAnswered.new.self)) w v has had k text failed so c.take_turn.result c.in-LastAnswered.is c.take_turn.ensures.turn (c.take_turn.ensures.reader_kept (λ e. cc) ∙ c.loop-number.invariant.fresh_reader) (subst (AppendsFront new (g.W.Write.contents (inner_of c.put-in-LastAnswered.new.self))) c.deref-in-LastAnswered.ensures.value (where_none c.put-in-LastAnswered.result (sym c.ok-in-LastAnswered.ensures.value ∙ c.in_err-ok-in-LastAnswered.was) c.put-in-LastAnswered.ensures.part))
 
 pub returns-in-LastAnswered-clause-some : goal.returns-in-LastAnswered-clause-some
 returns-in-LastAnswered-clause-some g c =
@@ -66,10 +66,10 @@ returns-in-LastAnswered-clause-some g c =
     let has = c.loop-number.session.has_registry in
     let had = c.take_turn.new.self.has_registry in
     let k = c.loop-number.number in
-    let text = string_bytes c.take_turn.new.self.text in
+    let text = c.take_turn.new.self.text.items in
     let failed = has_failed c.take_turn.new.reader in
     let so = flushed_so M all left old (g.W.Write.contents (inner_of c.loop-number.writer)) new w has k c.loop-number.invariant.so_far c.take_turn.ensures.written in
-    ends_with_line M all left now unread old new (g.W.Write.contents (inner_of c.put-in-LastAnswered.new.self)) w v has had k text failed so c.take_turn.result c.in-LastAnswered.is c.take_turn.ensures.turn (c.take_turn.ensures.reader_kept (λ e. cc) ∙ c.loop-number.invariant.fresh_reader) (subst (Appends new (g.W.Write.contents (inner_of c.put-in-LastAnswered.new.self))) c.as_bytes-in-LastAnswered.ensures.value (where_some c.put-in-LastAnswered.result _ (sym c.ok-in-LastAnswered.ensures.value ∙ c.in_ok-ok-in-LastAnswered.was) c.put-in-LastAnswered.ensures.ok))
+    ends_with_line M all left now unread old new (g.W.Write.contents (inner_of c.put-in-LastAnswered.new.self)) w v has had k text failed so c.take_turn.result c.in-LastAnswered.is c.take_turn.ensures.turn (c.take_turn.ensures.reader_kept (λ e. cc) ∙ c.loop-number.invariant.fresh_reader) (subst (Appends new (g.W.Write.contents (inner_of c.put-in-LastAnswered.new.self))) c.deref-in-LastAnswered.ensures.value (where_some c.put-in-LastAnswered.result _ (sym c.ok-in-LastAnswered.ensures.value ∙ c.in_ok-ok-in-LastAnswered.was) c.put-in-LastAnswered.ensures.ok))
 
 pub returns-in-Ended-clause-some : goal.returns-in-Ended-clause-some
 returns-in-Ended-clause-some g c =
@@ -85,7 +85,7 @@ returns-in-Ended-clause-some g c =
     let has = c.loop-number.session.has_registry in
     let had = c.take_turn.new.self.has_registry in
     let k = c.loop-number.number in
-    let text = string_bytes c.take_turn.new.self.text in
+    let text = c.take_turn.new.self.text.items in
     let failed = has_failed c.take_turn.new.reader in
     let so = flushed_so M all left old (g.W.Write.contents (inner_of c.loop-number.writer)) new w has k c.loop-number.invariant.so_far c.take_turn.ensures.written in
     is_over M all left now unread old new w v has had k text failed so c.take_turn.result c.in-Ended.is c.take_turn.ensures.turn (c.take_turn.ensures.reader_kept (λ e. cc) ∙ c.loop-number.invariant.fresh_reader)
@@ -104,7 +104,7 @@ returns-in_err-ok-in-Failed-clause-none g c =
     let has = c.loop-number.session.has_registry in
     let had = c.take_turn.new.self.has_registry in
     let k = c.loop-number.number in
-    let text = string_bytes c.take_turn.new.self.text in
+    let text = c.take_turn.new.self.text.items in
     let failed = has_failed c.take_turn.new.reader in
     let so = flushed_so M all left old (g.W.Write.contents (inner_of c.loop-number.writer)) new w has k c.loop-number.invariant.so_far c.take_turn.ensures.written in
     λ _. ends_in_part M all left unread old new (g.W.Write.contents (inner_of c.put_error.new.writer)) c.take_turn.new.self.ahead w v has had k text c.in-Failed.error failed so c.take_turn.result c.in-Failed.is c.take_turn.ensures.turn (λ e. c.take_turn.ensures.reader_failed (c.in-Failed.is ∙ ap Failed e)) (λ other. c.take_turn.ensures.reader_kept (λ e. other (cc)) ∙ c.loop-number.invariant.fresh_reader) (λ e. c.take_turn.ensures.none (c.in-Failed.is ∙ ap Failed e)) (where_none c.put_error.result (sym c.ok-in-Failed.ensures.value ∙ c.in_err-ok-in-Failed.was) c.put_error.ensures.part)
@@ -123,7 +123,7 @@ returns-in-Failed-clause-some g c =
     let has = c.loop-number.session.has_registry in
     let had = c.take_turn.new.self.has_registry in
     let k = c.loop-number.number in
-    let text = string_bytes c.take_turn.new.self.text in
+    let text = c.take_turn.new.self.text.items in
     let failed = has_failed c.take_turn.new.reader in
     let so = flushed_so M all left old (g.W.Write.contents (inner_of c.loop-number.writer)) new w has k c.loop-number.invariant.so_far c.take_turn.ensures.written in
     ends_early M all left unread old new (g.W.Write.contents (inner_of c.put_error.new.writer)) c.take_turn.new.self.ahead w v has had k text c.in-Failed.error failed so c.take_turn.result c.in-Failed.is c.take_turn.ensures.turn (λ e. c.take_turn.ensures.reader_failed (c.in-Failed.is ∙ ap Failed e)) (λ other. c.take_turn.ensures.reader_kept (λ e. other (cc)) ∙ c.loop-number.invariant.fresh_reader) (λ e. c.take_turn.ensures.none (c.in-Failed.is ∙ ap Failed e)) (where_some c.put_error.result _ (sym c.ok-in-Failed.ensures.value ∙ c.in_ok-ok-in-Failed.was) c.put_error.ensures.ok)
@@ -142,7 +142,7 @@ returns-in-WriteFailed-clause-none g c =
     let has = c.loop-number.session.has_registry in
     let had = c.take_turn.new.self.has_registry in
     let k = c.loop-number.number in
-    let text = string_bytes c.take_turn.new.self.text in
+    let text = c.take_turn.new.self.text.items in
     let failed = has_failed c.take_turn.new.reader in
     let so = flushed_so M all left old (g.W.Write.contents (inner_of c.loop-number.writer)) new w has k c.loop-number.invariant.so_far c.take_turn.ensures.written in
     λ _. stops_unflushed M all left unread old new w has k failed so (c.take_turn.ensures.reader_kept (λ e. cc) ∙ c.loop-number.invariant.fresh_reader)
@@ -161,13 +161,13 @@ loop-number-preserved g c =
     let has = c.loop-number.session.has_registry in
     let had = c.take_turn.new.self.has_registry in
     let k = c.loop-number.number in
-    let text = string_bytes c.take_turn.new.self.text in
+    let text = c.take_turn.new.self.text.items in
     let failed = has_failed c.take_turn.new.reader in
     let so = flushed_so M all left old (g.W.Write.contents (inner_of c.loop-number.writer)) new w has k c.loop-number.invariant.so_far c.take_turn.ensures.written in
     record {
       fresh_reader = c.take_turn.ensures.reader_kept (λ e. cc) ∙ c.loop-number.invariant.fresh_reader;
       fresh_writer = where_some c.put.result _ (sym c.ok.ensures.value ∙ c.in_ok-ok-in-Answered.was) c.put.ensures.kept ∙ c.take_turn.ensures.writer_kept (λ e. cc) ∙ c.loop-number.invariant.fresh_writer;
-      so_far = goes_on M all left now old new (g.W.Write.contents (inner_of c.put.new.self)) w v has had k text so c.take_turn.result c.in-Answered.is c.take_turn.ensures.turn (subst (Appends new (g.W.Write.contents (inner_of c.put.new.self))) c.as_bytes.ensures.value (where_some c.put.result _ (sym c.ok.ensures.value ∙ c.in_ok-ok-in-Answered.was) c.put.ensures.ok));
+      so_far = goes_on M all left now old new (g.W.Write.contents (inner_of c.put.new.self)) w v has had k text so c.take_turn.result c.in-Answered.is c.take_turn.ensures.turn (subst (Appends new (g.W.Write.contents (inner_of c.put.new.self))) c.deref.ensures.value (where_some c.put.result _ (sym c.ok.ensures.value ∙ c.in_ok-ok-in-Answered.was) c.put.ensures.ok));
     }
 
 pub returns-in_err-ok-clause-none : goal.returns-in_err-ok-clause-none

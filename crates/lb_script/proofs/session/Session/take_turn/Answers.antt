@@ -1,4 +1,3 @@
-use Rattle.std.proofs.Common.{string_bytes}
 use Rattle.std.specs.Io.KnownBytes.{prepend_known}
 use Rattle.lb_world.specs.Meanings.{meaning}
 use Rattle.lb_counted.specs.Counted.{inner_of}
@@ -11,5 +10,5 @@ returns-in-Err-clause-turn g c = λ h holds.
     (failed_line (meaning g.S.BackendSelection.walks g.S.BackendSelection.refusal g.S.BackendSelection.may_draw_random) h
     (prepend_known c.args.self.now.ahead (g.R.Read.remaining (inner_of c.args.reader.now)))
     (prepend_known c.read_line.new.ahead (g.R.Read.remaining (inner_of c.read_line.new.reader)))
-    c.read_line.new.line.items c.answer.new.self.world c.answer.new.self.has_registry (string_bytes c.answer.new.self.text) c.in-Err.error
+    c.read_line.new.line.items c.answer.new.self.world c.answer.new.self.has_registry c.answer.new.self.text.items c.in-Err.error
     c.in-Line.ensures.found (c.in-Err.ensures.line h holds))

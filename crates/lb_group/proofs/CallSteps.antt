@@ -1,0 +1,328 @@
+-- What each call on a slot says of the group's history: its answer, and what the group stands for after it.
+use Rattle.std.proofs.Common.{arith, ◌≡◌, ◌<◌, ◌≤◌, ◌+◌, ◌^◌, ◌==◌, ◌&&◌, ◌||◌, ◌∙◌, ◌⊎◌, ◌++◌, ℕ, Bool, true, false, not, cond, nat_lt, List, [], ◌∷◌, length, set, refl, sym, ap, subst, inl, inr, Option, Some, None, Result, Ok, Err, IfOk, IfErr, OnErr, slice_get}
+use Rattle.std.proofs.lemmas.Bool.{ltb-true, lt-ltb, eqb-true, eq-eqb, ne_eqb}
+use Rattle.lb_select.specs.Backends.{Member}
+use Rattle.lb_select.specs.Draws.{Draw}
+use Rattle.lb_select.specs.declared.refusal.Refusal.{Refusal}
+use Rattle.lb_select.specs.declared.refusal.Refusal.TheVariants as refusal
+use Rattle.lb_rebuild.specs.Gate.{GateId, GateView}
+use Rattle.lb_group.specs.GroupHistory.{SlotEvent, Granted, Failed, Published, Abandoned, WorkerLost, TakenOut, Destroyed, Entered, Left, Drew, At, History, past_of, newest, scheduled_at, is_cancelled, granted, served, served_members, order_members, Extra, nothing, flight, lost, retired, taken_out, is_flight, is_extra, is_aloft, is_retired_of, is_taken_out, generation_of, extra, waits, readers, drawn, due_moment, AskAnswer, cancelled, building, up_to_date, not_due, busy, job, ask_answer, IsPast, MayHappen}
+use Rattle.lb_group.specs.Values.{OrderValue, Task, BuiltValue, RetiredValue, ReaderValue, SlotValue, GroupValue, order_of, configs_of}
+use Rattle.lb_group.specs.Stands.{Made, order_due, left_readers, permit_in, slot_after, StandsFor}
+use Rattle.lb_group.specs.SlotSeen.{slot_value}
+use Rattle.lb_group.specs.SlotCalls.{slot_answer, ask_told, asked_slot, asked_gate, IsJobOf, failed_slot, published_slot, abandoned_slot, lost_slot, entered_slot, reader_of, readers_at, left_slot, take_refusal, taken_slot, TakesAt, destroyed_slot, drawn_slot, SelectsFrom, PublishesAt, AbandonsAt, LosesAt, LeavesAt}
+use Rattle.lb_group.specs.GroupCalls.{JobIs, IsOwnJob, Asks, asked_events, is_awaited, is_served, publish_answer, Publishes, publish_events, Abandons, abandon_events, lose_refusal, Unless, done_at, enter_refusal, Enters, is_read, Leaves, taken_refusal, Takes, is_owed, SelectsIn, select_events}
+use Rattle.lb_group.specs.declared.answers.Ask.{Ask}
+use Rattle.lb_group.specs.declared.answers.Ask.TheVariants as asked
+use Rattle.lb_group.specs.declared.answers.Told.{Told}
+use Rattle.lb_group.specs.declared.answers.Told.TheVariants as told
+use Rattle.lb_group.specs.declared.answers.Selection.{Selection}
+use Rattle.lb_group.specs.declared.slot.Slot.{Slot}
+use Rattle.lb_group.proofs.Pasts.{AloftFits, aloft-fits, newest-past, lt-false}
+use Rattle.lb_group.proofs.SlotSteps.{answered, granted-step, failed-step, published-step, abandoned-step, lost-step, taken-step, destroyed-step, entered-step, left-step, drew-step, readers-shown}
+use Rattle.lb_group.proofs.GroupSteps.{group_of, Facing, configs-after}
+
+cong2 : {A B D : Type 0} (f : A → B → D) (a c : A) (b d : B) → a ≡ c → b ≡ d → f a b ≡ f c d
+cong2 f a c b d p q = cc
+
+cong3 : {A B X D : Type 0} (f : A → B → X → D) (a c : A) (b d : B) (x y : X) → a ≡ c → b ≡ d → x ≡ y → f a b x ≡ f c d y
+cong3 f a c b d x y p q r = cc
+
+-- which tests an answer rests on
+only-job : (ca fl w d o : Bool) (m : ℕ) → cond ca cancelled (cond fl building (cond (not w) up_to_date (cond d (not_due m) (cond o busy job)))) ≡ job
+    → (w ≡ true) × (ca ≡ false) × (o ≡ false)
+only-job true fl w d o m e = absurd (cc)
+only-job false true w d o m e = absurd (cc)
+only-job false false false d o m e = absurd (cc)
+only-job false false true true o m e = absurd (cc)
+only-job false false true false true m e = absurd (cc)
+only-job false false true false false m e = (refl, refl, refl)
+
+or-second : (a b : Bool) → (a || b) ≡ false → b ≡ false
+or-second true b e = absurd (cc)
+or-second false b e = e
+
+and-not : (a b : Bool) → (a && not b) ≡ true → (a ≡ true) × (b ≡ false)
+and-not true true e = absurd (cc)
+and-not true false e = (refl, refl)
+and-not false b e = absurd (cc)
+
+none-there : (e : Extra) → is_extra e ≡ false → e ≡ nothing
+none-there nothing h = refl
+none-there (flight n) h = absurd (cc)
+none-there (lost n) h = absurd (cc)
+none-there (retired n) h = absurd (cc)
+none-there (taken_out n) h = absurd (cc)
+
+pub job-tells : (h : History) (out : Bool) (now : ℕ) → ask_answer h out now ≡ job → (waits h ≡ true) × (is_cancelled h ≡ false) × (is_extra (extra h) ≡ false)
+job-tells h out now e =
+    let tests = only-job (is_cancelled h) (is_flight (extra h)) (waits h) (nat_lt now (due_moment h)) (out || is_extra (extra h)) (due_moment h) e in
+    (tests.0, tests.1, or-second out (is_extra (extra h)) tests.2)
+
+job-may : (h : History) (out : Bool) (now : ℕ) → ask_answer h out now ≡ job → MayHappen h (Granted now)
+job-may h out now e = let tells = job-tells h out now e in (none-there (extra h) tells.2, tells.0, tells.1)
+
+aloft-is : (s g k : ℕ) (e : Extra) → is_aloft k e ≡ true → AloftFits s g e → k ≡ g
+aloft-is s g k nothing up fits = absurd (cc)
+aloft-is s g k (flight m) up fits = sym (eqb-true m k up) ∙ fits.0
+aloft-is s g k (lost m) up fits = sym (eqb-true m k up) ∙ fits.0
+aloft-is s g k (retired m) up fits = absurd (cc)
+aloft-is s g k (taken_out m) up fits = absurd (cc)
+
+module _ {C : Type 0} where
+  order-given : (b : Bool) (r o : OrderValue C) → cond b (Some r) None ≡ Some o → o ≡ r
+  order-given true r o e = cc
+  order-given false r o e = absurd (cc)
+
+  order-is : (j : Task C) (g : ℕ) (c : C) → j.generation ≡ g → j.config ≡ c → order_of j ≡ record { generation = g; members = j.members; config = c }
+  order-is j g c p q = cong2 (λ k d. record { generation = k; members = j.members; config = d }) j.generation g j.config c p q
+
+  built-is : (b : BuiltValue C) (g : ℕ) (c : C) (id : GateId) → b.task.generation ≡ g → b.task.config ≡ c → b.task.permit ≡ id
+      → b ≡ record { task = record { slot = b.task.slot; generation = g; members = b.task.members; config = c; permit = id }; ended = b.ended }
+  built-is b g c id p q r =
+      cong3 (λ k d i. record { task = record { slot = b.task.slot; generation = k; members = b.task.members; config = d; permit = i }; ended = b.ended })
+      b.task.generation g b.task.config c b.task.permit id p q r
+
+-- an ask leaves the gate the same one
+pub gate-stays : (a : AskAnswer) (g k : GateView) → k ≡ asked_gate a g → k.id ≡ g.id
+gate-stays cancelled g k e = ap (λ (v : GateView). v.id) e
+gate-stays building g k e = ap (λ (v : GateView). v.id) e
+gate-stays up_to_date g k e = ap (λ (v : GateView). v.id) e
+gate-stays (not_due m) g k e = ap (λ (v : GateView). v.id) e
+gate-stays busy g k e = ap (λ (v : GateView). v.id) e
+gate-stays job g k e = ap (λ (v : GateView). v.id) e
+
+module _ {S I C : Type 0} where
+  -- a job that goes out is the group's own
+  pub own-job : (made : Made C) (h k : History) (slot : ℕ) (a : Ask S I C) (v : GroupValue C) → StandsFor made k v → JobIs made h slot a → IsOwnJob v a
+  own-job made h k slot asked.Cancelled v s is = tt
+  own-job made h k slot asked.Building v s is = tt
+  own-job made h k slot asked.Nothing v s is = tt
+  own-job made h k slot (asked.NotDue m) v s is = tt
+  own-job made h k slot asked.Busy v s is = tt
+  own-job made h k slot (asked.Job j) v s is = (
+    is.permit ∙ sym (ap (λ (w : GroupValue C). w.gate) s.shows),
+    ap (λ (l : List C). slice_get l j.slot) (ap (λ (w : GroupValue C). configs_of w) s.shows ∙ configs-after made.gate 0 made.configs k) ∙ ap (slice_get made.configs) is.place ∙ is.config,
+  )
+
+module _ {C : Type 0} where
+  -- a retired selector that is taken out has a permit of the group's gate
+  pub taken-own : (made : Made C) (h k : History) (slot : ℕ) (r : Result RetiredValue Refusal) (v : GroupValue C) → StandsFor made k v → Takes made h slot r → IfOk r (λ q. q.permit ≡ v.gate)
+  taken-own made h k slot (Ok q) v s is = is.3 ∙ sym (ap (λ (w : GroupValue C). w.gate) s.shows)
+  taken-own made h k slot (Err e) v s is = tt
+
+module _ {S I C : Type 0} {made : Made C} {h : History} {id : GateId} {n : ℕ} {ms : List Member} {at : ℕ} {st : Bool} {xs : List (Slot S I C)} {i : ℕ} {x y : Slot S I C}
+    (f : Facing made h id n ms at st xs i x y) where
+  abbrev Past : History
+  Past = past_of i h
+
+  answer-is : (out : Bool) (now : ℕ) → slot_answer n st out now (slot_value x) ≡ ask_answer Past out now
+  answer-is out now =
+      cong3 (λ k b z. slot_answer k b out now z) n (newest Past) st (is_cancelled Past) (slot_value x) (slot_after made.gate f.config Past) f.newest_is f.stopped f.slot
+      ∙ answered made.gate f.config out now Past
+
+  pub asked-stands : (a : AskAnswer) (out : Bool) (now : ℕ) → a ≡ slot_answer n st out now (slot_value x) → slot_value y ≡ asked_slot a n at now (slot_value x)
+      → StandsFor made (asked_events i now a ++ h) (group_of id n ms at st (set xs i y))
+  asked-stands cancelled out now is to = f.same to
+  asked-stands building out now is to = f.same to
+  asked-stands up_to_date out now is to = f.same to
+  asked-stands (not_due m) out now is to = f.same to
+  asked-stands busy out now is to = f.same to
+  asked-stands job out now is to =
+      let may : MayHappen Past (Granted now) = job-may Past out now (sym (is ∙ answer-is out now)) in
+      f.step (Granted now) may
+      (to ∙ cong3 (λ k m z. asked_slot job k m now z) n (newest Past) at (scheduled_at (newest Past) Past) (slot_value x) (slot_after made.gate f.config Past) f.newest_is f.moment f.slot
+      ∙ granted-step made.gate f.config i now Past (f.past, may))
+
+  job-is : (a : Ask S I C) (g : GateId) → g ≡ made.gate → IsJobOf i g (slot_value x) a → JobIs made h i a
+  job-is asked.Cancelled g e is = tt
+  job-is asked.Building g e is = tt
+  job-is asked.Nothing g e is = tt
+  job-is (asked.NotDue m) g e is = tt
+  job-is asked.Busy g e is = tt
+  job-is (asked.Job j) g e is =
+      let due : order_due f.config Past ≡ Some (order_of j) = sym (ap (λ (z : SlotValue C). z.waiting) f.slot) ∙ is.1 in
+      let order : order_of j ≡ record { generation = newest Past; members = order_members Past; config = f.config } = order-given _ _ (order_of j) due in
+      record {
+        place = is.0;
+        generation = ap (λ (o : OrderValue C). o.generation) order ∙ newest-past i h;
+        permit = is.2 ∙ e;
+        config = f.there ∙ ap (λ (o : OrderValue C). Some o.config) (sym order);
+        members = ap (λ (o : OrderValue C). o.members) order;
+      }
+
+  pub asks : (a : Ask S I C) (out : Bool) (now : ℕ) (g : GateId) → g ≡ made.gate → ask_told a ≡ slot_answer n st out now (slot_value x) → IsJobOf i g (slot_value x) a
+      → Asks made h i out now (Ok a)
+  asks a out now g e is at_ = (f.inside, is ∙ answer-is out now, job-is a g e at_)
+
+  pub aloft-shown : (g : ℕ) (b : Bool) → is_aloft g (slot_value x).extra ≡ b → is_aloft g (extra Past) ≡ b
+  aloft-shown g b e = sym (ap (λ (z : SlotValue C). is_aloft g z.extra) f.slot) ∙ e
+
+  up-granted : (g : ℕ) → is_aloft g (slot_value x).extra ≡ true → g ≡ granted Past
+  up-granted g up = aloft-is (served Past) (granted Past) g (extra Past) (aloft-shown g true up) (aloft-fits Past f.past)
+
+  up-may : (g : ℕ) → is_aloft g (slot_value x).extra ≡ true → is_aloft (granted Past) (extra Past) ≡ true
+  up-may g up = subst (λ (k : ℕ). is_aloft k (extra Past) ≡ true) (up-granted g up) (aloft-shown g true up)
+
+  pub failed-stands : (j : Task C) (now : ℕ) → i ≡ j.slot → j.config ≡ f.config → is_aloft j.generation (slot_value x).extra ≡ true
+      → slot_value y ≡ failed_slot n now (order_of j) (slot_value x)
+      → StandsFor made (At j.slot (Failed now j.members) ∷ h) (group_of id n ms at st (set xs i y))
+  failed-stands j now place own up to =
+      let may : MayHappen Past (Failed now j.members) = up-may j.generation up in
+      subst (λ (k : ℕ). StandsFor made (At k (Failed now j.members) ∷ h) (group_of id n ms at st (set xs i y))) place
+      (f.step (Failed now j.members) may
+      (to ∙ cong3 (λ k o z. failed_slot k now o z) n (newest Past) (order_of j) (record { generation = granted Past; members = j.members; config = f.config }) (slot_value x) (slot_after made.gate f.config Past)
+      f.newest_is (order-is j (granted Past) f.config (up-granted j.generation up) own) f.slot
+      ∙ failed-step made.gate f.config i now j.members Past (f.past, may) f.bounded))
+
+  abandoned-stands : (b : BuiltValue C) → i ≡ b.task.slot → b.task.config ≡ f.config → b.task.permit ≡ made.gate → is_aloft b.task.generation (slot_value x).extra ≡ true
+      → slot_value y ≡ abandoned_slot n b (slot_value x)
+      → StandsFor made (At b.task.slot (Abandoned b.task.members) ∷ h) (group_of id n ms at st (set xs i y))
+  abandoned-stands b place own permit up to =
+      let may : MayHappen Past (Abandoned b.task.members) = up-may b.task.generation up in
+      subst (λ (k : ℕ). StandsFor made (At k (Abandoned b.task.members) ∷ h) (group_of id n ms at st (set xs i y))) place
+      (f.step (Abandoned b.task.members) may
+      (to ∙ cong3 (λ k o z. abandoned_slot k o z) n (newest Past) b
+      (record { task = record { slot = b.task.slot; generation = granted Past; members = b.task.members; config = f.config; permit = made.gate }; ended = b.ended })
+      (slot_value x) (slot_after made.gate f.config Past)
+      f.newest_is (built-is b (granted Past) f.config made.gate (up-granted b.task.generation up) own permit) f.slot
+      ∙ abandoned-step made.gate f.config b.task.slot i b.ended b.task.members Past (f.past, may) f.bounded))
+
+  published-stands : (b : BuiltValue C) → i ≡ b.task.slot → b.task.config ≡ f.config → b.task.permit ≡ made.gate → is_aloft b.task.generation (slot_value x).extra ≡ true
+      → (is_flight (slot_value x).extra && not st) ≡ true → slot_value y ≡ published_slot b (slot_value x)
+      → StandsFor made (At b.task.slot (Published b.ended b.task.members) ∷ h) (group_of id n ms at st (set xs i y))
+  published-stands b place own permit up serves to =
+      let flies = and-not (is_flight (slot_value x).extra) st serves in
+      let may : MayHappen Past (Published b.ended b.task.members) = (sym (ap (λ (z : SlotValue C). is_flight z.extra) f.slot) ∙ flies.0, sym f.stopped ∙ flies.1) in
+      subst (λ (k : ℕ). StandsFor made (At k (Published b.ended b.task.members) ∷ h) (group_of id n ms at st (set xs i y))) place
+      (f.step (Published b.ended b.task.members) may
+      (to ∙ cong2 (λ o z. published_slot o z) b
+      (record { task = record { slot = b.task.slot; generation = granted Past; members = b.task.members; config = f.config; permit = made.gate }; ended = b.ended })
+      (slot_value x) (slot_after made.gate f.config Past)
+      (built-is b (granted Past) f.config made.gate (up-granted b.task.generation up) own permit) f.slot
+      ∙ published-step made.gate f.config b.task.slot i b.ended b.task.members Past (f.past, may) f.bounded))
+
+  pub awaited-at : (k g : ℕ) (b : Bool) → i ≡ k → is_aloft g (slot_value x).extra ≡ b → is_awaited k g h ≡ b
+  awaited-at k g b place e = ap (λ (m : ℕ). is_awaited m g h) (sym place) ∙ aloft-shown g b e
+
+  served-at : (k : ℕ) (b : Bool) → i ≡ k → (is_flight (slot_value x).extra && not st) ≡ b → is_served k h ≡ b
+  served-at k b place e =
+      ap (λ (m : ℕ). is_served m h) (sym place)
+      ∙ sym (cong2 (λ (z : SlotValue C) (q : Bool). is_flight z.extra && not q) (slot_value x) (slot_after made.gate f.config Past) st (is_cancelled h) f.slot f.stopped_of) ∙ e
+
+  pub publishes : (b : BuiltValue C) (r : Result Told (BuiltValue C)) → i ≡ b.task.slot → b.task.config ≡ f.config → b.task.permit ≡ made.gate
+      → PublishesAt n st b (slot_value x) r (slot_value y)
+      → Publishes h b r × StandsFor made (publish_events b r ++ h) (group_of id n ms at st (set xs i y))
+  publishes b (Ok (told.Published m)) place own permit is =
+      let served_ : is_served b.task.slot h ≡ true = served-at b.task.slot true place is.1 in
+      ((awaited-at b.task.slot b.task.generation true place is.0, ap told.Published is.2 ∙ sym (rw served_ refl)), published-stands b place own permit is.0 is.1 is.3)
+  publishes b (Ok (told.Abandoned m)) place own permit is =
+      let served_ : is_served b.task.slot h ≡ false = served-at b.task.slot false place is.1 in
+      ((awaited-at b.task.slot b.task.generation true place is.0, ap told.Abandoned is.2 ∙ sym (rw served_ refl)), abandoned-stands b place own permit is.0 is.3)
+  publishes b (Err c) place own permit is = ((awaited-at b.task.slot b.task.generation false place is.0, is.1), f.same is.2)
+
+  pub abandons : (b : BuiltValue C) (r : Result (Unit {0}) (BuiltValue C)) → i ≡ b.task.slot → b.task.config ≡ f.config → b.task.permit ≡ made.gate
+      → AbandonsAt n b (slot_value x) r (slot_value y)
+      → Abandons h b r × StandsFor made (abandon_events b r ++ h) (group_of id n ms at st (set xs i y))
+  abandons b (Ok u) place own permit is = (awaited-at b.task.slot b.task.generation true place is.0, abandoned-stands b place own permit is.0 is.1)
+  abandons b (Err c) place own permit is = ((awaited-at b.task.slot b.task.generation false place is.0, is.1), f.same is.2)
+
+  pub loses : (r : Result (Unit {0}) Refusal) → LosesAt n (slot_value x) r (slot_value y)
+      → Unless (lose_refusal made i h) r × StandsFor made (done_at i WorkerLost r ++ h) (group_of id n ms at st (set xs i y))
+  loses (Ok u) is =
+      let may : is_flight (extra Past) ≡ true = sym (ap (λ (z : SlotValue C). is_flight z.extra) f.slot) ∙ is.0 in (
+        rw (lt-ltb i (length made.configs) f.inside, may) refl,
+        f.step WorkerLost may (is.1 ∙ cong2 (λ k z. lost_slot k z) n (newest Past) (slot_value x) (slot_after made.gate f.config Past) f.newest_is f.slot ∙ lost-step made.gate f.config i Past (f.past, may) f.bounded),
+      )
+  loses (Err e) is =
+      let none : is_flight (extra Past) ≡ false = sym (ap (λ (z : SlotValue C). is_flight z.extra) f.slot) ∙ is.0 in
+      (rw (lt-ltb i (length made.configs) f.inside, none) (ap Some (sym is.1)), f.same is.2)
+
+  pub enters : (r : Result (ReaderValue C) Refusal)
+      → IfOk r (λ t. ((slot_value x).readers < 18446744073709551615) × (t ≡ reader_of i (slot_value x)) × (slot_value y ≡ entered_slot (slot_value x)))
+      → IfErr r (λ e. (((slot_value x).readers ≡ 18446744073709551615) × (e ≡ refusal.NumbersExhausted)) ⊎ (((slot_value x).readers < 18446744073709551615) × (e ≡ refusal.OutOfMemory)))
+      → OnErr r (slot_value y ≡ slot_value x)
+      → Enters made h i r × StandsFor made (done_at i Entered r ++ h) (group_of id n ms at st (set xs i y))
+  enters (Ok t) ok err same =
+      let few : readers (served Past) Past < 18446744073709551615 = subst (λ (z : SlotValue C). z.readers < 18446744073709551615) f.slot ok.0 in
+      let reader : t ≡ reader_of i (slot_after made.gate f.config Past) = ok.1 ∙ ap (reader_of i) f.slot in (
+        (
+          rw (lt-ltb i (length made.configs) f.inside, ne_eqb (readers (served Past) Past) 18446744073709551615 (λ e. omega arith)) refl,
+          ap (λ (q : ReaderValue C). q.slot) reader,
+          ap (λ (q : ReaderValue C). q.generation) reader,
+          ap (λ (q : ReaderValue C). q.members) reader,
+          f.there ∙ ap (λ (q : ReaderValue C). Some q.config) (sym reader),
+        ),
+        f.step Entered tt (ok.2 ∙ ap (λ (z : SlotValue C). entered_slot z) f.slot ∙ entered-step made.gate f.config i Past f.past),
+      )
+  enters (Err e) ok err same = (why err, f.same same)
+    where
+      why : (((slot_value x).readers ≡ 18446744073709551615) × (e ≡ refusal.NumbersExhausted)) ⊎ (((slot_value x).readers < 18446744073709551615) × (e ≡ refusal.OutOfMemory))
+          → (enter_refusal made i h ≡ Some e) ⊎ ((enter_refusal made i h ≡ None) × (e ≡ refusal.OutOfMemory))
+      why (inl (all, is)) =
+          let full : readers (served Past) Past ≡ 18446744073709551615 = sym (ap (λ (z : SlotValue C). z.readers) f.slot) ∙ all in
+          inl (rw (lt-ltb i (length made.configs) f.inside, eq-eqb (readers (served Past) Past) 18446744073709551615 full) (ap Some (sym is)))
+      why (inr (some, is)) =
+          let few : readers (served Past) Past < 18446744073709551615 = subst (λ (z : SlotValue C). z.readers < 18446744073709551615) f.slot some in
+          inr (rw (lt-ltb i (length made.configs) f.inside, ne_eqb (readers (served Past) Past) 18446744073709551615 (λ e. omega arith)) refl, is)
+
+  read-shown : (m : ℕ) (b : Bool) → nat_lt 0 (readers_at m (slot_value x)) ≡ b → nat_lt 0 (readers m Past) ≡ b
+  read-shown m b e =
+      sym (ap (λ (k : ℕ). nat_lt 0 k) (ap (λ (z : SlotValue C). readers_at m z) f.slot ∙ readers-shown made.gate f.config m Past f.past)) ∙ e
+
+  read-at : (k m : ℕ) (b : Bool) → i ≡ k → nat_lt 0 (readers_at m (slot_value x)) ≡ b → is_read made k m h ≡ b
+  read-at k m b place e =
+      ap (λ (q : ℕ). is_read made q m h) (sym place) ∙ rw (lt-ltb i (length made.configs) f.inside) (read-shown m b e)
+
+  pub leaves : (q : ReaderValue C) (r : Result (Unit {0}) (ReaderValue C)) → i ≡ q.slot → LeavesAt q (slot_value x) r (slot_value y)
+      → Leaves made h q r × StandsFor made (done_at q.slot (Left q.generation) r ++ h) (group_of id n ms at st (set xs i y))
+  leaves q (Ok u) place is =
+      let some : nat_lt 0 (readers q.generation Past) ≡ true = read-shown q.generation true is.0 in
+      let may : 0 < readers q.generation Past = ltb-true 0 (readers q.generation Past) some in (
+        read-at q.slot q.generation true place is.0,
+        subst (λ (k : ℕ). StandsFor made (At k (Left q.generation) ∷ h) (group_of id n ms at st (set xs i y))) place
+            (f.step (Left q.generation) may (is.1 ∙ ap (λ (z : SlotValue C). left_slot q.generation z) f.slot ∙ left-step made.gate f.config i q.generation Past f.past)),
+      )
+  leaves q (Err k) place is = ((read-at q.slot q.generation false place is.0, is.1), f.same is.2)
+
+  pub takes : (r : Result RetiredValue Refusal) → TakesAt i (slot_value x) r (slot_value y)
+      → Takes made h i r × StandsFor made (done_at i TakenOut r ++ h) (group_of id n ms at st (set xs i y))
+  takes (Ok r) is =
+      let out : extra Past ≡ retired r.generation = sym (ap (λ (z : SlotValue C). z.extra) f.slot) ∙ is.0 in
+      let left : left_readers (extra Past) Past ≡ 0 = sym (ap (λ (z : SlotValue C). z.left_in) f.slot) ∙ is.1 in
+      let none : take_refusal (extra Past) (left_readers (extra Past) Past) ≡ None = cong2 take_refusal (extra Past) (retired r.generation) (left_readers (extra Past) Past) 0 out left in
+      let permit : Some made.gate ≡ Some r.permit = sym (ap (permit_in made.gate) out) ∙ sym (ap (λ (z : SlotValue C). z.permit) f.slot) ∙ is.2 in
+      let may : MayHappen Past TakenOut = (
+        subst (λ (e : Extra). is_retired_of (generation_of e) e ≡ true) (sym out) (eq-eqb r.generation r.generation refl),
+        subst (λ (e : Extra). left_readers e Past ≡ 0 → readers (generation_of e) Past ≡ 0) (sym out) (λ z. z) left,
+      ) in (
+        (rw (lt-ltb i (length made.configs) f.inside) none, is.3, sym (ap generation_of out), (let same : r.permit ≡ made.gate = cc in same)),
+        f.step TakenOut may (is.4 ∙ ap (λ (z : SlotValue C). taken_slot z) f.slot ∙ taken-step made.gate f.config i Past (f.past, may)),
+      )
+  takes (Err e) is =
+      let why : take_refusal (extra Past) (left_readers (extra Past) Past) ≡ Some e = sym (ap (λ (z : SlotValue C). take_refusal z.extra z.left_in) f.slot) ∙ is.0 in
+      (rw (lt-ltb i (length made.configs) f.inside) why, f.same is.1)
+
+  pub owed-at : (b : Bool) → is_taken_out (slot_value x).extra ≡ b → is_owed made i h ≡ b
+  owed-at b e = rw (lt-ltb i (length made.configs) f.inside) (sym (ap (λ (z : SlotValue C). is_taken_out z.extra) f.slot) ∙ e)
+
+  pub reported-stands : is_taken_out (slot_value x).extra ≡ true → slot_value y ≡ destroyed_slot (slot_value x)
+      → StandsFor made (At i Destroyed ∷ h) (group_of id n ms at st (set xs i y))
+  reported-stands out to =
+      let may : is_taken_out (extra Past) ≡ true = sym (ap (λ (z : SlotValue C). is_taken_out z.extra) f.slot) ∙ out in
+      f.step Destroyed may (to ∙ ap (λ (z : SlotValue C). destroyed_slot z) f.slot ∙ destroyed-step made.gate f.config i Past (f.past, may))
+
+  pub selects : (random : List Member → C → Bool) (walks : List Member → C → List ℕ → List Draw → List Member → Bool → Type 0) (key : List ℕ) (limit : ℕ) (words : List ℕ) (s : Selection)
+      → SelectsFrom random walks key limit words (slot_value x).serving.members (slot_value x).serving.config (slot_value x).serving.tickets s
+      → SelectsIn random walks made h i key limit words s
+  selects random walks key limit words s is =
+      rw f.there (subst (λ (z : SlotValue C). SelectsFrom random walks key limit words z.serving.members z.serving.config z.serving.tickets s) f.slot is)
+
+  pub selected-stands : (s : Selection) → slot_value y ≡ drawn_slot s.tickets (slot_value x) → StandsFor made (select_events made i s ++ h) (group_of id n ms at st (set xs i y))
+  selected-stands s to =
+      rw (lt-ltb i (length made.configs) f.inside)
+      (f.step (Drew s.tickets) tt (to ∙ ap (λ (z : SlotValue C). drawn_slot s.tickets z) f.slot ∙ drew-step made.gate f.config i s.tickets Past))
+
+  -- a number that is read from the slot
+  pub shown : {A : Type 0} (a : A) (b : A) → a ≡ b → Some a ≡ cond (nat_lt i (length made.configs)) (Some b) None
+  shown a b e = rw (lt-ltb i (length made.configs) f.inside) (ap Some e)

@@ -1,0 +1,11 @@
+pub mod Delays
+pub mod Handing
+pub mod Ledger
+pub mod Pasts
+pub mod Selecting
+pub mod SlotSteps
+pub mod GroupSteps
+pub mod CallSteps
+pub mod Memberships
+pub mod Telling
+pub mod Tasks

@@ -1,0 +1,133 @@
+-- A group at its start, with a new membership, and cancelled: what happens to all slots at once.
+use Rattle.std.proofs.Common.{arith, ◌≡◌, ◌<◌, ◌≤◌, ◌+◌, ◌^◌, ◌==◌, ◌∙◌, ◌||◌, ◌&&◌, ◌⊎◌, ℕ, zero, suc, Bool, true, false, not, cond, List, [], ◌∷◌, map, length, get_or, refl, sym, ap, subst, inl, inr, Option, Some, None, Result, Ok, Err, lit<}
+use Rattle.std.proofs.lemmas.Bool.{eq-eqb, ne_eqb}
+use Rattle.lb_select.specs.Backends.{Member}
+use Rattle.lb_select.specs.Memberships.{same_members}
+use Rattle.lb_rebuild.specs.Gate.{GateId}
+use Rattle.lb_group.specs.GroupHistory.{Scheduled, Cancelled, History, past_of, newest, members_of, scheduled_at, is_cancelled, is_flight, extra, waits, IsPast, IsGroupHistory}
+use Rattle.lb_group.specs.Values.{OrderValue, SlotValue, GroupValue}
+use Rattle.lb_group.specs.Stands.{Made, slot_after, slots_after, group_after, StandsFor}
+use Rattle.lb_group.specs.SlotCalls.{ordered_slot}
+use Rattle.lb_group.specs.SlotSeen.{slot_value}
+use Rattle.lb_group.specs.Fresh.{fresh_slot, turn_of}
+use Rattle.lb_group.specs.Orders.{order_for, AreOrdered}
+use Rattle.lb_group.specs.GroupCalls.{is_change, schedule_refusal, turn_after, turns_after}
+use Rattle.lb_group.specs.declared.schedule.SlotTurn.{SlotTurn}
+use Rattle.lb_group.specs.declared.slot.Slot.{Slot}
+use Rattle.lb_group.proofs.Pasts.{newest-past, cancelled-past}
+use Rattle.lb_group.proofs.SlotSteps.{ordered-step, cancelled-step}
+use Rattle.lb_group.proofs.GroupSteps.{group_of, same-group}
+
+module _ {C : Type 0} where
+  fresh-slots : (gate : GateId) (k : ℕ) (cs : List C) → map fresh_slot cs ≡ slots_after gate k cs []
+  fresh-slots gate k [] = refl
+  fresh-slots gate k (c ∷ cs) = ap (λ (l : List (SlotValue C)). fresh_slot c ∷ l) (fresh-slots gate (k + 1) cs)
+
+  cancelled-slots : (gate : GateId) (k : ℕ) (cs : List C) (h : History) → slots_after gate k cs h ≡ slots_after gate k cs (Cancelled ∷ h)
+  cancelled-slots gate k [] h = refl
+  cancelled-slots gate k (c ∷ cs) h =
+      ap (λ (z : SlotValue C). z ∷ slots_after gate (k + 1) cs h) (cancelled-step gate c (past_of k h))
+      ∙ ap (λ (l : List (SlotValue C)). slot_after gate c (past_of k (Cancelled ∷ h)) ∷ l) (cancelled-slots gate (k + 1) cs h)
+
+  -- the slot with the order that its configuration makes of a membership
+  abbrev ordered : ℕ → List Member → SlotValue C → SlotValue C
+  ordered n ms z = ordered_slot n (order_for (n + 1) ms z) z
+
+  ordered-slots : (gate : GateId) (k n : ℕ) (cs : List C) (ms : List Member) (now : ℕ) (h : History) → IsGroupHistory h → is_cancelled h ≡ false → n ≡ newest h → n + 1 < 2 ^ 64
+      → map (ordered n ms) (slots_after gate k cs h) ≡ slots_after gate k cs (Scheduled ms now ∷ h)
+  ordered-slots gate k n [] ms now h all goes is fits = refl
+  ordered-slots gate k n (c ∷ cs) ms now h all goes is fits =
+      let count : n ≡ newest (past_of k h) = is ∙ sym (newest-past k h) in
+      let one : ordered n ms (slot_after gate c (past_of k h)) ≡ slot_after gate c (Scheduled ms now ∷ past_of k h) =
+      ap (λ (m : ℕ). ordered m ms (slot_after gate c (past_of k h))) count
+      ∙ ordered-step gate c ms now (past_of k h) (all k, cancelled-past k h ∙ goes) (omega arith) in
+      ap (λ (z : SlotValue C). z ∷ map (ordered n ms) (slots_after gate (k + 1) cs h)) one
+      ∙ ap (λ (l : List (SlotValue C)). slot_after gate c (Scheduled ms now ∷ past_of k h) ∷ l) (ordered-slots gate (k + 1) n cs ms now h all goes is fits)
+
+  turns-shown : (gate : GateId) (k n : ℕ) (cs : List C) (h : History) → n ≡ newest h → map (λ (z : SlotValue C). turn_of n z) (slots_after gate k cs h) ≡ turns_after k cs h
+  turns-shown gate k n [] h is = refl
+  turns-shown gate k n (c ∷ cs) h is =
+      let count : n ≡ newest (past_of k h) = is ∙ sym (newest-past k h) in
+      ap (λ (t : SlotTurn). t ∷ map (λ (z : SlotValue C). turn_of n z) (slots_after gate (k + 1) cs h)) (ap (λ (m : ℕ). turn_of m (slot_after gate c (past_of k h))) count)
+      ∙ ap (λ (l : List SlotTurn). turn_after (past_of k h) ∷ l) (turns-shown gate (k + 1) n cs h is)
+
+module _ {S I C : Type 0} where
+  -- slots at their start
+  pub starts : (id gate : GateId) (ms : List Member) (xs : List (Slot S I C)) (configs : List C) → id ≡ gate → ms ≡ [] → map slot_value xs ≡ map fresh_slot configs
+      → StandsFor (record { gate = gate; configs = configs }) [] (group_of id 0 ms 0 false xs)
+  starts id gate ms xs configs own none fresh = record {
+    possible = λ i. tt;
+    bounded = lit< tt;
+    shows = same-group _ _ _ _ _ _ _ _ _ _ _ _ own refl none refl refl (fresh ∙ fresh-slots gate 0 configs);
+  }
+
+  pub stops : (made : Made C) (h : History) (id : GateId) (n : ℕ) (ms : List Member) (at : ℕ) (st : Bool) (xs : List (Slot S I C)) (v : GroupValue C)
+      → group_of id n ms at st xs ≡ v → StandsFor made h v → StandsFor made (Cancelled ∷ h) (group_of id n ms at true xs)
+  stops made h id n ms at st xs v e s =
+      let all : group_of id n ms at st xs ≡ group_after made h = e ∙ s.shows in
+      record {
+        possible = s.possible;
+        bounded = s.bounded;
+        shows =
+            same-group _ _ _ _ _ _ _ _ _ _ _ _ (ap (λ (w : GroupValue C). w.gate) all) (ap (λ (w : GroupValue C). w.newest) all) (ap (λ (w : GroupValue C). w.current) all)
+            (ap (λ (w : GroupValue C). w.scheduled) all) refl (ap (λ (w : GroupValue C). w.slots) all ∙ cancelled-slots made.gate 0 made.configs h);
+      }
+
+  -- what contracts see of slots that were handed their orders
+  ordered-values : (xs ys : List (Slot S I C)) (n : ℕ) (ms : List Member) → AreOrdered n xs (map (λ (x : Slot S I C). order_for (n + 1) ms (slot_value x)) xs) ys
+      → map slot_value ys ≡ map (ordered n ms) (map slot_value xs)
+  ordered-values [] [] n ms all = refl
+  ordered-values [] (y ∷ ys) n ms all = let none : suc (length ys) ≡ 0 = all.count in absurd (omega arith)
+  ordered-values (x ∷ xs) [] n ms all = let none : 0 ≡ suc (length xs) = all.count in absurd (omega arith)
+  ordered-values (x ∷ xs) (y ∷ ys) n ms all =
+      let count : suc (length ys) ≡ suc (length xs) = all.count in
+      let first : slot_value y ≡ ordered n ms (slot_value x) = all.each 0 x (order_for (n + 1) ms (slot_value x)) (omega arith) in
+      let others : AreOrdered n xs (map (λ (z : Slot S I C). order_for (n + 1) ms (slot_value z)) xs) ys = record { count = omega arith; each = λ k d o h. all.each (suc k) d o (omega arith) } in
+      ap (λ (v : SlotValue C). v ∷ map slot_value ys) first ∙ ap (λ (l : List (SlotValue C)). ordered n ms (slot_value x) ∷ l) (ordered-values xs ys n ms others)
+
+  pub schedules : (made : Made C) (h : History) (id : GateId) (n m : ℕ) (old ms os : List Member) (at now : ℕ) (st : Bool) (xs ys : List (Slot S I C)) (v : GroupValue C)
+      → group_of id n old at st xs ≡ v → StandsFor made h v → m ≡ n + 1 → n + 1 < 2 ^ 64 → st ≡ false → os ≡ ms
+      → AreOrdered n xs (map (λ (x : Slot S I C). order_for (n + 1) ms (slot_value x)) xs) ys
+      → StandsFor made (Scheduled ms now ∷ h) (group_of id m os now st ys)
+  schedules made h id n m old ms os at now st xs ys v e s next fits live from are =
+      let all : group_of id n old at st xs ≡ group_after made h = e ∙ s.shows in
+      let is : n ≡ newest h = ap (λ (w : GroupValue C). w.newest) all in
+      let goes : is_cancelled h ≡ false = sym (ap (λ (w : GroupValue C). w.cancelled) all) ∙ live in
+      record {
+        possible = λ k. (s.possible k, cancelled-past k h ∙ goes);
+        bounded = subst (λ (k : ℕ). k + 1 < 2 ^ 64) is fits;
+        shows =
+            same-group _ _ _ _ _ _ _ _ _ _ _ _ (ap (λ (w : GroupValue C). w.gate) all) (next ∙ ap (λ (k : ℕ). k + 1) is)
+            (from ∙ sym (rw (eq-eqb (newest h + 1) (newest h + 1) refl) refl)) (sym (rw (eq-eqb (newest h + 1) (newest h + 1) refl) refl)) (live ∙ sym goes)
+            (ordered-values xs ys n ms are ∙ ap (map (ordered n ms)) (ap (λ (w : GroupValue C). w.slots) all) ∙ ordered-slots made.gate 0 n made.configs ms now h s.possible goes is fits);
+      }
+
+  turns-map : (n : ℕ) (xs : List (Slot S I C)) → map (λ (x : Slot S I C). turn_of n (slot_value x)) xs ≡ map (λ (z : SlotValue C). turn_of n z) (map slot_value xs)
+  turns-map n [] = refl
+  turns-map n (x ∷ xs) = ap (λ (l : List SlotTurn). turn_of n (slot_value x) ∷ l) (turns-map n xs)
+
+  -- what the answer to a membership says of each slot
+  pub turns-are : (made : Made C) (h : History) (id : GateId) (n : ℕ) (ms : List Member) (at : ℕ) (st : Bool) (xs : List (Slot S I C)) (v : GroupValue C)
+      → group_of id n ms at st xs ≡ v → StandsFor made h v → map (λ (x : Slot S I C). turn_of n (slot_value x)) xs ≡ turns_after 0 made.configs h
+  turns-are made h id n ms at st xs v e s =
+      let all : group_of id n ms at st xs ≡ group_after made h = e ∙ s.shows in
+      turns-map n xs ∙ ap (map (λ (z : SlotValue C). turn_of n z)) (ap (λ (w : GroupValue C). w.slots) all)
+      ∙ turns-shown made.gate 0 n made.configs h (ap (λ (w : GroupValue C). w.newest) all)
+
+  -- the answer to another membership than the newest one
+  pub changes : (made : Made C) (h : History) (id : GateId) (n m : ℕ) (old members : List Member) (at : ℕ) (st : Bool) (xs : List (Slot S I C)) (v : GroupValue C) (turns : List SlotTurn)
+      → group_of id n old at st xs ≡ v → StandsFor made h v → m ≡ n + 1 → n + 1 < 2 ^ 64 → st ≡ false → same_members members old ≡ false
+      → turns ≡ map (λ (x : Slot S I C). turn_of n (slot_value x)) xs
+      → (schedule_refusal members h ≡ None) × (true ≡ is_change members h) × (m ≡ cond (is_change members h) (newest h + 1) (newest h))
+      × (turns ≡ cond (is_change members h) (turns_after 0 made.configs h) [])
+  changes made h id n m old members at st xs v turns e s next fits live other are =
+      let all : group_of id n old at st xs ≡ group_after made h = e ∙ s.shows in
+      let is : n ≡ newest h = ap (λ (w : GroupValue C). w.newest) all in
+      let goes : is_cancelled h ≡ false = sym (ap (λ (w : GroupValue C). w.cancelled) all) ∙ live in
+      let differs : same_members members (members_of (newest h) h) ≡ false = sym (ap (same_members members) (ap (λ (w : GroupValue C). w.current) all)) ∙ other in
+      let change : is_change members h ≡ true = ap not differs in (
+        rw (change, ne_eqb (newest h) 18446744073709551615 (λ end. omega arith), goes) refl,
+        sym change,
+        rw change (next ∙ ap (λ (k : ℕ). k + 1) is),
+        rw change (are ∙ turns-are made h id n old at st xs v e s),
+      )

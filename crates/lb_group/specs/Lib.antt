@@ -1,0 +1,11 @@
+pub mod Fresh
+pub mod GroupCalls
+pub mod GroupHistory
+pub mod Laws
+pub mod Orders
+pub mod Rows
+pub mod SlotCalls
+pub mod SlotSeen
+pub mod Stands
+pub mod Tasks
+pub mod Values

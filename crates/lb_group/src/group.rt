@@ -1,0 +1,428 @@
+//! A group: a membership of backends in numbered generations, and slots that each serve one selector built from it.
+//! A call tests all that it can refuse for before it changes anything; builds run elsewhere, between `ask` and `publish`.
+ghost use Rattle.std.specs.Prelude.{◌≡◌, ◌++◌, ◌∷◌, [], map, IfOk, slice_get};
+ghost use Rattle.std.specs.Arc.{arc_value};
+ghost use Rattle.lb_select.specs.Refusals.{Refuses};
+ghost use Rattle.lb_rebuild.specs.Least.{least};
+ghost use Rattle.lb_group.specs.GroupHistory.{History, Cancelled, WorkerLost, Entered, Left, TakenOut, Destroyed, past_of, newest as newest_after, served as served_after, is_cancelled, timing as timing_after};
+ghost use Rattle.lb_group.specs.Fresh.{fresh_slot};
+ghost use Rattle.lb_group.specs.SlotSeen.{slot_value};
+ghost use Rattle.lb_group.specs.Values.{configs_of};
+ghost use Rattle.lb_group.specs.Stands.{Made, StandsFor, SameSite, After, Becomes, counts_after};
+ghost use Rattle.lb_group.specs.GroupCalls.{Schedules, schedule_events, IsOwnJob, Asks, ask_events, gate_after, Fails, fail_events, gate_back, Publishes, publish_events, Abandons, abandon_events, Unless, lose_refusal, done_at, Enters, Leaves, Takes, Reports, at_slot, SelectsIn, select_events};
+
+use crate::answers::{Ask, Counts, Selection, Timing, Told};
+use crate::job::{Built, Job};
+use crate::retired::{Reader, Retired};
+use crate::schedule::{Scheduled, hand_out, orders_for, same_members, turns_of};
+use crate::slot::Slot;
+use lb_rebuild::gate::{GateCore, Permit};
+use lb_rebuild::least::least_refusal;
+use lb_select::backend::Backend;
+use lb_select::refusal::Refusal;
+use lb_select::walk::BackendSelection;
+use std::alloc::Global;
+use std::collections::BTreeSet;
+use std::marker::Model;
+use std::snapshot::Snapshot;
+use std::sync::Arc;
+
+/// A group of slots, each of which serves one selector, and gets the next one by way of a job, a build and a publication.
+///
+/// Contracts see a record that is a function of the group's history; some history stands behind every group. A group that is
+/// dropped with a retired selector in it keeps the permit of that selector for good.
+#[derive(Drop)]
+pub struct GroupCore<S: BackendSelection> {
+    gate: Snapshot<GateCore>,
+    newest: u64,
+    current: Arc<BTreeSet<Backend>>,
+    scheduled: u128,
+    cancelled: bool,
+    slots: Vec<Slot<S>>,
+}
+
+impl<S: BackendSelection> Model for GroupCore<S> {
+    ghost use Rattle.std.specs.Prelude.{map};
+    ghost use Rattle.std.specs.Arc.{arc_value};
+    ghost use Rattle.lb_group.specs.Values.{GroupValue};
+
+    ghost Value = { GroupValue S.Config };
+
+    ghost use Rattle.lb_group.specs.SlotSeen.{slot_value};
+    ghost use Rattle.lb_group.specs.Stands.{IsFounded};
+
+    ghost view = { λ g. record { gate = g.gate.value.id; newest = g.newest; current = (arc_value g.current).keys; scheduled = g.scheduled; cancelled = g.cancelled; slots = map slot_value g.slots.items } };
+
+    ghost invariant = { λ g. IsFounded (record { gate = g.gate.value.id; newest = g.newest; current = (arc_value g.current).keys; scheduled = g.scheduled; cancelled = g.cancelled; slots = map slot_value g.slots.items }) };
+}
+
+impl<S: BackendSelection> GroupCore<S> {
+    /// A group of one slot for each configuration, whose extra selectors `gate` allows one at a time. Each slot serves a selector
+    /// over no backends.
+    ///
+    /// # Errors
+    ///
+    /// The least cause for which one of the configurations gives no selector over no backends; `OutOfMemory` where there is
+    /// none and memory is refused.
+    pub fn new(
+        alloc: Global,
+        gate: &GateCore,
+        configs: Vec<S::Config>,
+    ) -> Result<GroupCore<S>, Refusal>
+        ensures stands { Refuses (least (map (S.refusal []) configs.items)) (λ g. StandsFor (record { gate = gate.now.id; configs = configs.items }) [] g) result }
+        ensures gate { IfOk result (λ g. g.gate ≡ gate.now.id) }
+    {
+        if let Some(refusal) = least_refusal::<S>(alloc, &configs) {
+            return Err(refusal);
+        }
+        // Every configuration gives a selector, so what is refused from here on is memory.
+        match fresh_slots(alloc, configs) {
+            Ok((current, slots)) => Ok(GroupCore {
+                gate: Snapshot::of(gate),
+                newest: 0,
+                current,
+                scheduled: 0,
+                cancelled: false,
+                slots,
+            }),
+            Err(_) => Err(Refusal::OutOfMemory),
+        }
+    }
+
+    /// Some history of the group, for whoever knows none.
+    pub fn past(&self)
+        ensures { (made : Made S.Config) × ((h : History) × StandsFor made h self.now) }
+    {
+        let _newest = self.newest;
+    }
+
+    /// Makes this membership the newest where it has other backends than the newest one, at the moment `now`, and gives each
+    /// slot an order for it. The same membership changes nothing: the attachments of the backends stay those of the first.
+    ///
+    /// # Errors
+    ///
+    /// `GenerationsExhausted` where the membership is another one and the newest generation is 18446744073709551615;
+    /// `GroupCancelled` in a cancelled group; `OutOfMemory` where the membership is another one, neither holds and memory is
+    /// refused. Nothing changes then.
+    pub fn schedule(
+        &mut self,
+        alloc: Global,
+        discovered: BTreeSet<Backend>,
+        now: u128,
+    ) -> Result<Scheduled, Refusal>
+        ensures answers { After self.old (λ made h. Schedules made h discovered.keys result) }
+        ensures stands { Becomes self.old (schedule_events discovered.keys now result) self.new }
+        ensures site { SameSite self.old self.new }
+    {
+        if same_members(&discovered, &self.current) {
+            if self.cancelled {
+                return Err(Refusal::GroupCancelled);
+            }
+            return Ok(Scheduled {
+                generation: self.newest,
+                changed: false,
+                turns: Vec::new(alloc),
+            });
+        }
+        let newest = self.newest;
+        let Some(generation) = newest.checked_add(1) else {
+            return Err(Refusal::GenerationsExhausted);
+        };
+        if self.cancelled {
+            return Err(Refusal::GroupCancelled);
+        }
+        let members = Arc::new(alloc, discovered)?;
+        let turns = turns_of(alloc, &self.slots, newest)?;
+        let orders = orders_for(alloc, &self.slots, generation, &members)?;
+        hand_out(&mut self.slots, newest, orders);
+        self.newest = generation;
+        self.current = members;
+        self.scheduled = now;
+        Ok(Scheduled {
+            generation,
+            changed: true,
+            turns,
+        })
+    }
+
+    /// Stops the rebuilds for good. Selections and readers go on, and what is under way can still come back.
+    pub fn cancel(&mut self)
+        ensures stands { Becomes self.old (Cancelled ∷ []) self.new }
+        ensures site { SameSite self.old self.new }
+    {
+        self.cancelled = true;
+    }
+
+    /// Asks for the build that a slot needs next. It takes no memory.
+    ///
+    /// # Errors
+    ///
+    /// `NoSuch` where no such slot is there.
+    pub fn ask(&mut self, slot: usize, gate: &mut GateCore, now: u128) -> Result<Ask<S>, Refusal>
+        requires { gate.old.id ≡ self.old.gate }
+        ensures answers { After self.old (λ made h. Asks made h slot gate.old.out now result) }
+        ensures stands { Becomes self.old (ask_events slot now result) self.new }
+        ensures site { SameSite self.old self.new }
+        ensures own { IfOk result (λ a. IsOwnJob self.new a) }
+        ensures gate { gate.new ≡ gate_after result gate.old }
+        ensures one_gate { gate.new.id ≡ gate.old.id }
+    {
+        if slot >= self.slots.len() {
+            return Err(Refusal::NoSuch);
+        }
+        let newest = self.newest;
+        let scheduled = self.scheduled;
+        let cancelled = self.cancelled;
+        Ok(self.slots[slot].ask(slot, newest, scheduled, cancelled, gate, now))
+    }
+
+    /// Ends the flight or the lost flight of a job that failed, and gives its permit back. A slot whose job was of the newest
+    /// generation waits again. It takes no memory.
+    ///
+    /// # Errors
+    ///
+    /// The job, where its slot has no flight and no lost flight of its generation. Nothing changes then.
+    pub fn fail(&mut self, job: Job<S>, gate: &mut GateCore, now: u128) -> Result<(), Job<S>>
+        requires permit { job.permit ≡ self.old.gate }
+        requires config { slice_get (configs_of self.old) job.slot ≡ Some job.config }
+        requires gate { gate.old.id ≡ self.old.gate }
+        ensures answers { After self.old (λ made h. Fails h job result) }
+        ensures stands { Becomes self.old (fail_events job now result) self.new }
+        ensures site { SameSite self.old self.new }
+        ensures gate { gate.new ≡ gate_back result gate.old }
+        ensures one_gate { gate.new.id ≡ gate.old.id }
+    {
+        let newest = self.newest;
+        let slot = job.slot();
+        let permit = match self.slots[slot].fail(newest, job, now) {
+            Ok(permit) => permit,
+            Err(job) => return Err(job),
+        };
+        gate.give_back(permit);
+        Ok(())
+    }
+
+    /// Serves the selector of a flight, and retires what its slot served before with its readers. In a cancelled group, and for a
+    /// lost flight, the selector is retired unserved, as by `abandon`. It takes no memory.
+    ///
+    /// # Errors
+    ///
+    /// The selector, where its slot has no flight and no lost flight of its generation. Nothing changes then.
+    pub fn publish(&mut self, built: Built<S>) -> Result<Told, Built<S>>
+        requires permit { built.task.permit ≡ self.old.gate }
+        requires config { slice_get (configs_of self.old) built.task.slot ≡ Some built.task.config }
+        ensures answers { After self.old (λ made h. Publishes h built result) }
+        ensures stands { Becomes self.old (publish_events built result) self.new }
+        ensures site { SameSite self.old self.new }
+    {
+        let newest = self.newest;
+        let cancelled = self.cancelled;
+        let slot = built.slot();
+        self.slots[slot].publish(newest, cancelled, built)
+    }
+
+    /// Retires the selector of a flight or of a lost flight unserved. A slot whose selector was of the newest generation waits
+    /// again. It takes no memory.
+    ///
+    /// # Errors
+    ///
+    /// The selector, where its slot has no flight and no lost flight of its generation. Nothing changes then.
+    pub fn abandon(&mut self, built: Built<S>) -> Result<(), Built<S>>
+        requires permit { built.task.permit ≡ self.old.gate }
+        requires config { slice_get (configs_of self.old) built.task.slot ≡ Some built.task.config }
+        ensures answers { After self.old (λ made h. Abandons h built result) }
+        ensures stands { Becomes self.old (abandon_events built result) self.new }
+        ensures site { SameSite self.old self.new }
+    {
+        let newest = self.newest;
+        let slot = built.slot();
+        self.slots[slot].abandon(newest, built)
+    }
+
+    /// Ends a slot's flight as lost: its job or its selector goes on with the permit, but is not served any more. It takes no
+    /// memory.
+    ///
+    /// # Errors
+    ///
+    /// `NoSuch` where no such slot is there, and `NothingInFlight` where it has no flight.
+    pub fn worker_lost(&mut self, slot: usize) -> Result<(), Refusal>
+        ensures answers { After self.old (λ made h. Unless (lose_refusal made slot h) result) }
+        ensures stands { Becomes self.old (done_at slot WorkerLost result) self.new }
+        ensures site { SameSite self.old self.new }
+    {
+        if slot >= self.slots.len() {
+            return Err(Refusal::NoSuch);
+        }
+        let newest = self.newest;
+        self.slots[slot].lose(newest)
+    }
+
+    /// Enters the selector that a slot serves.
+    ///
+    /// # Errors
+    ///
+    /// `NoSuch` where no such slot is there; `NumbersExhausted` where its readers are at 18446744073709551615; `OutOfMemory`
+    /// where neither holds and memory is refused. Nothing changes then.
+    pub fn enter(&mut self, slot: usize) -> Result<Reader<S>, Refusal>
+        ensures answers { After self.old (λ made h. Enters made h slot result) }
+        ensures stands { Becomes self.old (done_at slot Entered result) self.new }
+        ensures site { SameSite self.old self.new }
+    {
+        if slot >= self.slots.len() {
+            return Err(Refusal::NoSuch);
+        }
+        self.slots[slot].enter(slot)
+    }
+
+    /// Gives an entry back to its slot. It takes no memory.
+    ///
+    /// # Errors
+    ///
+    /// The reader, where its slot counts no reader of its generation. Nothing changes then.
+    pub fn leave(&mut self, reader: Reader<S>) -> Result<(), Reader<S>>
+        ensures answers { After self.old (λ made h. Leaves made h reader result) }
+        ensures stands { Becomes self.old (done_at reader.slot (Left reader.generation) result) self.new }
+        ensures site { SameSite self.old self.new }
+    {
+        let slot = reader.slot();
+        if slot >= self.slots.len() {
+            return Err(reader);
+        }
+        self.slots[slot].leave(reader)
+    }
+
+    /// Takes a retired selector out of its slot, to be destroyed and then reported. It takes no memory.
+    ///
+    /// # Errors
+    ///
+    /// `NoSuch` where no such slot is there; `StillRead` with the number of readers that are left in it; `NothingRetired`
+    /// where no retired selector is there. Nothing changes then.
+    pub fn take_retired(&mut self, slot: usize) -> Result<Retired<S>, Refusal>
+        ensures answers { After self.old (λ made h. Takes made h slot result) }
+        ensures stands { Becomes self.old (done_at slot TakenOut result) self.new }
+        ensures site { SameSite self.old self.new }
+        ensures own { IfOk result (λ r. r.permit ≡ self.new.gate) }
+    {
+        if slot >= self.slots.len() {
+            return Err(Refusal::NoSuch);
+        }
+        self.slots[slot].take_retired(slot)
+    }
+
+    /// The report that the selector which was taken out of that slot is destroyed; its permit goes back to the gate. It takes no
+    /// memory.
+    ///
+    /// # Errors
+    ///
+    /// The permit, where no selector of the slot was taken out. Nothing changes then.
+    pub fn destroyed(
+        &mut self,
+        slot: usize,
+        permit: Permit,
+        gate: &mut GateCore,
+    ) -> Result<(), Permit>
+        requires permit { permit ≡ self.old.gate }
+        requires gate { gate.old.id ≡ self.old.gate }
+        ensures answers { After self.old (λ made h. Reports made h slot permit result) }
+        ensures stands { Becomes self.old (done_at slot Destroyed result) self.new }
+        ensures site { SameSite self.old self.new }
+        ensures gate { gate.new ≡ gate_back result gate.old }
+        ensures one_gate { gate.new.id ≡ gate.old.id }
+    {
+        if slot >= self.slots.len() {
+            return Err(permit);
+        }
+        if !self.slots[slot].report() {
+            return Err(permit);
+        }
+        gate.give_back(permit);
+        Ok(())
+    }
+
+    /// Selects from what a slot serves: the first candidate of the selector's walk for `key`, among the first `limit`. Tickets
+    /// go on from those that earlier selections drew; random words are the ones handed in. A slot that is not there selects
+    /// nothing.
+    ///
+    /// The selection is refused `NotEnoughWords` where walks over the selector may draw random words and at most `limit` of them
+    /// are handed in, and then no ticket is drawn; or `OutOfMemory`, and then at most `limit + 1` words are drawn.
+    pub fn select(
+        &mut self,
+        alloc: Global,
+        slot: usize,
+        key: &[u8],
+        limit: usize,
+        random: &[u64],
+    ) -> Selection
+        ensures answers { After self.old (λ made h. SelectsIn S.may_draw_random S.walks made h slot key.now limit random.now result) }
+        ensures stands { After self.old (λ made h. StandsFor made (select_events made slot result ++ h) self.new) }
+        ensures site { SameSite self.old self.new }
+    {
+        if slot >= self.slots.len() {
+            return Selection {
+                answer: Ok(None),
+                tickets: 0,
+            };
+        }
+        self.slots[slot].select(alloc, key, limit, random)
+    }
+
+    /// The newest generation; 0 before the first membership.
+    pub fn newest(&self) -> u64
+        ensures { After self.now (λ made h. result ≡ newest_after h) }
+    {
+        self.newest
+    }
+
+    /// Whether the group is cancelled.
+    pub fn is_cancelled(&self) -> bool
+        ensures { After self.now (λ made h. result ≡ is_cancelled h) }
+    {
+        self.cancelled
+    }
+
+    /// The generation that a slot serves, or `None` where no such slot is there.
+    pub fn served(&self, slot: usize) -> Option<u64>
+        ensures { After self.now (λ made h. result ≡ at_slot made slot (served_after (past_of slot h))) }
+    {
+        if slot >= self.slots.len() {
+            return None;
+        }
+        let serving = &self.slots[slot].serving;
+        Some(serving.generation)
+    }
+
+    /// The counts of a slot, or `None` where no such slot is there.
+    pub fn counts(&self, slot: usize) -> Option<Counts>
+        ensures { After self.now (λ made h. result ≡ at_slot made slot (counts_after (past_of slot h))) }
+    {
+        if slot >= self.slots.len() {
+            return None;
+        }
+        Some(self.slots[slot].counts)
+    }
+
+    /// The timing of a slot's last publication: `None` where no such slot is there, and none in it before the first.
+    pub fn timing(&self, slot: usize) -> Option<Option<Timing>>
+        ensures { After self.now (λ made h. result ≡ at_slot made slot (timing_after (past_of slot h))) }
+    {
+        if slot >= self.slots.len() {
+            return None;
+        }
+        Some(self.slots[slot].timing)
+    }
+}
+
+// No backends, and a slot over them for each configuration.
+fn fresh_slots<S: BackendSelection>(
+    alloc: Global,
+    configs: Vec<S::Config>,
+) -> Result<(Arc<BTreeSet<Backend>>, Vec<Slot<S>>), Refusal>
+    ensures { IfOk result (λ r. ((arc_value r.0).keys ≡ []) × (map slot_value r.1.items ≡ map fresh_slot configs.items)) }
+{
+    let empty = Arc::new(alloc, BTreeSet::new(alloc))?;
+    let mut slots = Vec::new(alloc);
+    for config in configs {
+        slots.push(Slot::fresh(alloc, &empty, config)?)?;
+    }
+    Ok((empty, slots))
+}

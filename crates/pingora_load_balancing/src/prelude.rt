@@ -1,0 +1,4 @@
+//! What most users want, under the upstream crate's names.
+//! The balancers and views of upstream's prelude are to come.
+pub use crate::health_check::TcpHealthCheck;
+pub use crate::selection::RoundRobin;
