@@ -14,7 +14,7 @@ use crate::retired::{Reader, Retired, Serving};
 use crate::retry::due;
 use crate::schedule::SlotTurn;
 use lb_rebuild::gate::{GateCore, Permit};
-use lb_rebuild::handed::HandedWords;
+use lb_select::words::HandedWords;
 use lb_select::backend::Backend;
 use lb_select::refusal::Refusal;
 use lb_select::select::select;
