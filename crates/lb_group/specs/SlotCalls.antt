@@ -1,5 +1,5 @@
 -- What the calls on one slot answer and leave, as functions of what contracts see of it.
-use Rattle.std.specs.Prelude.{◌≡◌, ◌==◌, ◌&&◌, ◌||◌, ◌+◌, ◌-◌, ◌<◌, ℕ, Bool, true, false, not, min, max, nat_lt, nat_le, MatchBool, List, length, Option, Some, None, is_none, Result, Ok, Err, if◌then◌else◌}
+use Rattle.std.specs.Prelude.{◌≡◌, ◌==◌, ◌&&◌, ◌||◌, ◌+◌, ◌-◌, ℕ, Bool, true, false, not, min, max, nat_lt, nat_le, MatchBool, List, length, Option, Some, None, is_none, Result, Ok, Err, if◌then◌else◌}
 use Rattle.lb_select.specs.Backends.{Member, same_member}
 use Rattle.lb_select.specs.Draws.{Draw}
 use Rattle.lb_select.specs.Selections.{Selects}
@@ -207,5 +207,6 @@ SelectsFrom random walks key limit words members config tickets s =
     MatchBool (random members config && nat_le (length words) limit)
     ((s.answer ≡ Err refusal.NotEnoughWords) × (s.tickets ≡ tickets))
     ((t : Handed)
-    × Selects same_member (λ b a. a ≡ true) limit HandedGives (walks members config key) (record { tickets = tickets; words = words }) s.answer t
+    × Selects same_member (λ b a. a ≡ true) limit HandedGives (walks members config key)
+    (record { tickets = tickets; words = words }) s.answer t
     × (s.tickets ≡ t.tickets))
