@@ -1,6 +1,7 @@
 -- What a script's run writes: an answer for each line, each right after what came before it, and at an early end one more line
 -- that names the error. There may be several such texts, since memory may be refused at any line.
-use Rattle.std.specs.Prelude.{◌≡◌, ◌≢◌, ◌⊎◌, ℕ, ◌+◌, ◌<◌, ◌≤◌, Bool, true, false, List, [], ◌∷◌, ◌++◌, codes, length, Option, Some, None, ◌&&◌, nat_lt, if◌then◌else◌}
+use Rattle.std.specs.Prelude.{◌≡◌, ◌≢◌, ◌⊎◌, ℕ, ◌+◌, ◌<◌, ◌≤◌, Bool, true, false, List}
+use Rattle.std.specs.Prelude.{[], ◌∷◌, ◌++◌, codes, length, Option, Some, None, ◌&&◌, nat_lt, if◌then◌else◌}
 use Rattle.std.specs.Io.KnownBytes.{Appends}
 use Rattle.lb_world.specs.Answers.{Answers}
 use Rattle.lb_world.specs.History.{History, registries}
@@ -43,8 +44,8 @@ HasLine k lines = (lines ≢ []) ⊎ (18446744073709551615 ≤ k)
 pub data IsOutput (M : Meaning Kind) (failed : Bool) : History Kind → ℕ → List (List ℕ) → List ℕ → ℕ → Type 0 where
   ends : (h : History Kind) (k : ℕ) → failed ≡ false → IsOutput M failed h k [] [] 0
   read_fails : (h : History Kind) (k : ℕ) → failed ≡ true → IsOutput M failed h k [] (error_text k error.Read ++ codes "\n") 1
-  answered : (h : History Kind) (k : ℕ) (line : List ℕ) (lines : List (List ℕ)) (st : StepView Kind) (a : Answer) (text : List ℕ) (status : ℕ)
-      → length line ≤ 16777216 → step_after h line ≡ Some st → Answers M h st a
+  answered : (h : History Kind) (k : ℕ) (line : List ℕ) (lines : List (List ℕ)) (st : StepView Kind) (a : Answer)
+      (text : List ℕ) (status : ℕ) → length line ≤ 16777216 → step_after h line ≡ Some st → Answers M h st a
       → IsOutput M failed ((st, a) ∷ h) (k + 1) lines text status
       → IsOutput M failed h k (line ∷ lines) ((answer_text a ++ codes "\n") ++ text) status
   bad_line : (h : History Kind) (k : ℕ) (line : List ℕ) (lines : List (List ℕ)) → failed ≡ false

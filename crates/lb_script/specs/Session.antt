@@ -40,7 +40,7 @@ module _ (M : Meaning Kind) where
   AnswersLine h line w has_registry text (Err OutOfMemory) = ⊤
 
   -- the first line of the stream was answered, and the rest of the stream is left
-  pub record AnsweredFirst (h : History Kind) (w : WorldView Kind) (has_registry : Bool) (text : List ℕ) (stream rest : List ℕ) : Type 0 where
+  pub record AnsweredFirst (h : History Kind) (w : WorldView Kind) (has_registry : Bool) (text stream rest : List ℕ) : Type 0 where
     pub line : List ℕ
     pub is_line : IsLine line
     pub is : stream ≡ line ++ 10 ∷ rest

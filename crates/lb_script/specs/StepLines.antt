@@ -1,5 +1,6 @@
 -- What a line of a script asks for. Its first word says which kind of step it is, and the words after it are the step's own.
-use Rattle.std.specs.Prelude.{◌≡◌, ℕ, ◌^◌, Bool, false, ◌||◌, ◌==◌, List, [], ◌∷◌, codes, length, Option, Some, None, option_map, Result, Ok, Err, ⊤, if◌then◌else◌, bytes_eq, replicate, nat_le}
+use Rattle.std.specs.Prelude.{◌≡◌, ℕ, ◌^◌, Bool, false, ◌||◌, ◌==◌, List, [], ◌∷◌, codes, length}
+use Rattle.std.specs.Prelude.{Option, Some, None, option_map, Result, Ok, Err, ⊤, if◌then◌else◌, bytes_eq, replicate, nat_le}
 use Rattle.std.specs.Str.{is_utf8}
 use Rattle.lb_select.specs.AddressText.{address_of_text, bare_member}
 use Rattle.lb_select.specs.Backends.{Member}
@@ -34,8 +35,8 @@ abbrev pub count : List ℕ → Option ℕ
 count word = at_most 1024 (small word)
 
 -- the kind of selector that a word names
-abbrev pub kind_of : List ℕ → Option Kind
-kind_of word =
+abbrev pub selector_kind_of : List ℕ → Option Kind
+selector_kind_of word =
     if bytes_eq word (codes "fnv") then Some Fnv else
     if bytes_eq word (codes "rr") then Some RoundRobin else
     if bytes_eq word (codes "ketama") then Some Ketama else None
@@ -45,9 +46,9 @@ abbrev pub longer : ℕ → List ℕ → Option (List ℕ × List ℕ) → Optio
 longer x xs (Some p) = Some (x ∷ p.0, p.1)
 longer x xs None = if x == 47 then Some ([], xs) else None
 
-abbrev pub divided : List ℕ → Option (List ℕ × List ℕ)
-divided [] = None
-divided (x ∷ xs) = longer x xs (divided xs)
+abbrev pub address_and_weight : List ℕ → Option (List ℕ × List ℕ)
+address_and_weight [] = None
+address_and_weight (x ∷ xs) = longer x xs (address_and_weight xs)
 
 -- whether a word begins with a mark, `!` or `+`
 abbrev pub is_marked : List ℕ → Bool
@@ -61,7 +62,7 @@ backend_in (Some p) =
     option_map (λ weight. option_map (bare_member weight) (address_of_text p.0)) (small p.1)
 
 abbrev pub backend_of : List ℕ → Option (Option Member)
-backend_of word = if is_marked word then None else backend_in (divided word)
+backend_of word = if is_marked word then None else backend_in (address_and_weight word)
 
 -- a list of backends, where each word is one
 abbrev pub backends_of : List (List ℕ) → Option (List (Option Member))
@@ -94,7 +95,7 @@ gate_of (word ∷ words) = None
 
 abbrev pub group_parts_of : List (List ℕ) → Option ((ℕ × ℕ) × (Kind × ℕ))
 group_parts_of (registry ∷ gate ∷ kind ∷ slots ∷ []) =
-    both (both (small registry) (small gate)) (both (kind_of kind) (count slots))
+    both (both (small registry) (small gate)) (both (selector_kind_of kind) (count slots))
 group_parts_of words = None
 
 abbrev pub group_of : List (List ℕ) → Option (StepView Kind)
@@ -105,13 +106,13 @@ update_of (group ∷ now ∷ backends) =
     option_map (λ p. step.update p.0.0 p.0.1 p.1) (both (both (small group) (moment now)) (backends_of backends))
 update_of words = None
 
-abbrev pub keyed : ((ℕ × ℕ) × ℕ) → List ℕ → (ℕ × ℕ) × (List ℕ × ℕ)
-keyed p key = (p.0, (key, p.1))
+abbrev pub with_key : ((ℕ × ℕ) × ℕ) → List ℕ → (ℕ × ℕ) × (List ℕ × ℕ)
+with_key p key = (p.0, (key, p.1))
 
 abbrev pub select_parts_of : List (List ℕ) → Option ((ℕ × ℕ) × (List ℕ × ℕ))
 select_parts_of (group ∷ slot ∷ key ∷ limit ∷ []) =
     if length key == 0 then None else
-    option_map (λ p. keyed p key) (both (both (small group) (small slot)) (small limit))
+    option_map (λ p. with_key p key) (both (both (small group) (small slot)) (small limit))
 select_parts_of words = None
 
 abbrev pub select_of : List (List ℕ) → Option (StepView Kind)

@@ -1,7 +1,7 @@
 //! Backends as a script spells them: an address, a slash and a weight.
 //! An address that can't be one is told apart from a word that no backend is spelled as.
 ghost use Rattle.std.specs.Prelude.{◌≡◌, option_map};
-ghost use Rattle.lb_script.specs.StepLines.{Reads, backend_of, backends_of, divided, is_marked};
+ghost use Rattle.lb_script.specs.StepLines.{Reads, backend_of, backends_of, address_and_weight, is_marked};
 
 use crate::error::ScriptError;
 use crate::numbers::number;
@@ -43,7 +43,7 @@ fn backend(alloc: Global, word: &str) -> Result<Option<Backend>, ScriptError>
 
 // The word before its last slash, and after it.
 fn divide(word: &str) -> Option<(&str, &str)>
-    ensures { option_map (λ p. (p.0.now, p.1.now)) result ≡ divided word.now }
+    ensures { option_map (λ p. (p.0.now, p.1.now)) result ≡ address_and_weight word.now }
 {
     match word.rsplit_once('/') {
         Some((address, weight)) => Some((address, weight)),

@@ -1,7 +1,9 @@
 //! The step that a line of a script asks for.
 //! A line's first word says which kind of step it is; the words after it are read without memory, but for lists and keys.
 ghost use Rattle.std.specs.Prelude.{◌≡◌, option_map};
-ghost use Rattle.lb_script.specs.StepLines.{Reads, both, kind_of, slot_of, slot_moment_of, lone_of, registry_of, gate_of, count, group_parts_of, group_of, update_of, select_parts_of, select_of, plain_step_of, step_of_words, step_of};
+ghost use Rattle.lb_script.specs.StepLines.{Reads, both, selector_kind_of, slot_of, slot_moment_of, lone_of};
+ghost use Rattle.lb_script.specs.StepLines.{registry_of, gate_of, count, group_parts_of, group_of, update_of};
+ghost use Rattle.lb_script.specs.StepLines.{select_parts_of, select_of, plain_step_of, step_of_words, step_of};
 ghost use Rattle.lb_world.specs.Steps.{step_seen};
 
 use crate::backends::backends;
@@ -138,7 +140,7 @@ fn lone(mut words: Words<'_>) -> Option<u64>
 }
 
 fn kind(word: &str) -> Option<Kind>
-    ensures { result ≡ kind_of word.now }
+    ensures { result ≡ selector_kind_of word.now }
 {
     if word == "fnv" {
         Some(Kind::Fnv)

@@ -120,8 +120,10 @@ where
 
 // Writes the last line of a script that ends at that line. No memory is taken.
 fn put_error<W: Write>(writer: &mut Counted<W>, line: u64, error: ScriptError) -> io::Result<()>
-    ensures ok { OnOk result (Appends (W.contents (inner_of writer.old)) (W.contents (inner_of writer.new)) (error_text line error ++ codes "\n")) }
-    ensures part { OnErr result (AppendsFront (W.contents (inner_of writer.old)) (W.contents (inner_of writer.new)) (error_text line error ++ codes "\n")) }
+    ensures ok { OnOk result (Appends (W.contents (inner_of writer.old)) (W.contents (inner_of writer.new))
+        (error_text line error ++ codes "\n")) }
+    ensures part { OnErr result (AppendsFront (W.contents (inner_of writer.old)) (W.contents (inner_of writer.new))
+        (error_text line error ++ codes "\n")) }
     ensures kept { OnOk result (has_failed writer.new ≡ has_failed writer.old) }
     ensures noted { OnErr result (has_failed writer.new ≡ true) }
 {
