@@ -2,8 +2,7 @@
 //! A call tests all that it can refuse for before it changes anything; builds run elsewhere, between `ask` and `publish`.
 ghost use Rattle.std.specs.Prelude.{◌≡◌, ◌++◌, ◌∷◌, [], map, IfOk, slice_get};
 ghost use Rattle.std.specs.Arc.{arc_value};
-ghost use Rattle.lb_select.specs.Refusals.{Refuses};
-ghost use Rattle.lb_rebuild.specs.Least.{least};
+ghost use Rattle.lb_select.specs.Refusals.{Refuses, least};
 ghost use Rattle.lb_group.specs.GroupHistory.{History, Cancelled, WorkerLost, Entered, Left, TakenOut, Destroyed, past_of, newest as newest_after, served as served_after, is_cancelled, timing as timing_after};
 ghost use Rattle.lb_group.specs.Fresh.{fresh_slot};
 ghost use Rattle.lb_group.specs.SlotSeen.{slot_value};
@@ -17,8 +16,8 @@ use crate::retired::{Reader, Retired};
 use crate::schedule::{Scheduled, hand_out, orders_for, same_members, turns_of};
 use crate::slot::Slot;
 use lb_rebuild::gate::{GateCore, Permit};
-use lb_rebuild::least::least_refusal;
 use lb_select::backend::Backend;
+use lb_select::causes::least_refusal;
 use lb_select::refusal::Refusal;
 use lb_select::walk::BackendSelection;
 use std::alloc::Global;
