@@ -2,10 +2,10 @@
 use Rattle.std.proofs.Common.{◌≡◌, ◌&&◌, ℕ, Bool, true, false, nat_le, List, [], ◌∷◌, length, subst, Option, Some, None, Result, Ok, Err, take}
 use Rattle.std.specs.List.{AllByRecursion as Each}
 use Rattle.lb_select.specs.Backends.{Member, same_member}
+use Rattle.lb_select.specs.Draws.{Draw, HandedValue, HandedGives}
 use Rattle.lb_select.specs.Selections.{IsAnswer, Selects}
 use Rattle.lb_select.specs.Unique.{distinct}
 use Rattle.lb_select.specs.declared.refusal.Refusal.{Refusal}
-use Rattle.lb_select.specs.Draws.{Draw, HandedValue, HandedGives}
 use Rattle.lb_group.specs.SlotCalls.{SelectsFrom}
 use Rattle.lb_group.specs.Values.{ServingValue}
 use Rattle.lb_group.specs.declared.answers.Selection.{Selection}
