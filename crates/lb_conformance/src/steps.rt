@@ -22,10 +22,10 @@ pub(crate) fn run_agrees(alloc: Global, script: &[u8], wanted: &Outcome<'_>) -> 
     let Ok(given) = world.run(steps) else {
         return Ok(false);
     };
-    let mut text = String::new(alloc);
+    let mut text: Vec<u8> = Vec::new(alloc);
     for answer in given.as_slice() {
-        push_answer(&mut text, answer)?;
-        text.push_str("\n")?;
+        push_answer(alloc, &mut text, answer)?;
+        text.push(b'\n')?;
     }
-    Ok(text.as_bytes() == answers)
+    Ok(text.as_slice() == answers)
 }

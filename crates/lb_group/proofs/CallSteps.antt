@@ -1,24 +1,24 @@
 -- What each call on a slot says of the group's history: its answer, and what the group stands for after it.
-use Rattle.std.proofs.Common.{arith, ◌≡◌, ◌<◌, ◌≤◌, ◌+◌, ◌^◌, ◌==◌, ◌&&◌, ◌||◌, ◌∙◌, ◌⊎◌, ◌++◌, ℕ, Bool, true, false, not, cond, nat_lt, List, [], ◌∷◌, length, set, refl, sym, ap, subst, inl, inr, Option, Some, None, Result, Ok, Err, IfOk, IfErr, OnErr, slice_get}
+use Rattle.std.proofs.Common.{arith, ◌≡◌, ◌<◌, ◌&&◌, ◌||◌, ◌∙◌, ◌⊎◌, ◌++◌, ℕ, Bool, true, false, not, cond, nat_lt, List, ◌∷◌, length, set, refl, sym, ap, subst, inl, inr, Some, None, Result, Ok, Err, IfOk, IfErr, OnErr, slice_get}
 use Rattle.std.proofs.lemmas.Bool.{ltb-true, lt-ltb, eqb-true, eq-eqb, ne_eqb}
 use Rattle.lb_select.specs.Backends.{Member}
 use Rattle.lb_select.specs.Draws.{Draw}
 use Rattle.lb_select.specs.declared.refusal.Refusal.{Refusal}
 use Rattle.lb_select.specs.declared.refusal.Refusal.TheVariants as refusal
 use Rattle.lb_rebuild.specs.Gate.{GateId, GateView}
-use Rattle.lb_group.specs.GroupHistory.{SlotEvent, Granted, Failed, Published, Abandoned, WorkerLost, TakenOut, Destroyed, Entered, Left, Drew, At, History, past_of, newest, scheduled_at, is_cancelled, granted, served, served_members, order_members, Extra, nothing, flight, lost, retired, taken_out, is_flight, is_extra, is_aloft, is_retired_of, is_taken_out, generation_of, extra, waits, readers, drawn, due_moment, AskAnswer, cancelled, building, up_to_date, not_due, busy, job, ask_answer, IsPast, MayHappen}
+use Rattle.lb_group.specs.GroupHistory.{Granted, Failed, Published, Abandoned, WorkerLost, TakenOut, Destroyed, Entered, Left, Drew, At, History, past_of, newest, scheduled_at, is_cancelled, granted, served, order_members, Extra, nothing, flight, lost, retired, taken_out, is_flight, is_extra, is_aloft, is_retired_of, is_taken_out, generation_of, extra, waits, readers, due_moment, AskAnswer, cancelled, building, up_to_date, not_due, busy, job, ask_answer, MayHappen}
 use Rattle.lb_group.specs.Values.{OrderValue, Task, BuiltValue, RetiredValue, ReaderValue, SlotValue, GroupValue, order_of, configs_of}
 use Rattle.lb_group.specs.Stands.{Made, order_due, left_readers, permit_in, slot_after, StandsFor}
 use Rattle.lb_group.specs.SlotSeen.{slot_value}
 use Rattle.lb_group.specs.SlotCalls.{slot_answer, ask_told, asked_slot, asked_gate, IsJobOf, failed_slot, published_slot, abandoned_slot, lost_slot, entered_slot, reader_of, readers_at, left_slot, take_refusal, taken_slot, TakesAt, destroyed_slot, drawn_slot, SelectsFrom, PublishesAt, AbandonsAt, LosesAt, LeavesAt}
-use Rattle.lb_group.specs.GroupCalls.{JobIs, IsOwnJob, Asks, asked_events, is_awaited, is_served, publish_answer, Publishes, publish_events, Abandons, abandon_events, lose_refusal, Unless, done_at, enter_refusal, Enters, is_read, Leaves, taken_refusal, Takes, is_owed, SelectsIn, select_events}
+use Rattle.lb_group.specs.GroupCalls.{JobIs, IsOwnJob, Asks, asked_events, is_awaited, is_served, Publishes, publish_events, Abandons, abandon_events, lose_refusal, Unless, done_at, enter_refusal, Enters, is_read, Leaves, Takes, is_owed, SelectsIn, select_events}
 use Rattle.lb_group.specs.declared.answers.Ask.{Ask}
 use Rattle.lb_group.specs.declared.answers.Ask.TheVariants as asked
 use Rattle.lb_group.specs.declared.answers.Told.{Told}
 use Rattle.lb_group.specs.declared.answers.Told.TheVariants as told
 use Rattle.lb_group.specs.declared.answers.Selection.{Selection}
 use Rattle.lb_group.specs.declared.slot.Slot.{Slot}
-use Rattle.lb_group.proofs.Pasts.{AloftFits, aloft-fits, newest-past, lt-false}
+use Rattle.lb_group.proofs.Pasts.{AloftFits, aloft-fits, newest-past}
 use Rattle.lb_group.proofs.SlotSteps.{answered, granted-step, failed-step, published-step, abandoned-step, lost-step, taken-step, destroyed-step, entered-step, left-step, drew-step, readers-shown}
 use Rattle.lb_group.proofs.GroupSteps.{group_of, Facing, configs-after}
 

@@ -1,5 +1,5 @@
 -- One event at one slot of a group, from the slot to the group: once for all events and all calls.
-use Rattle.std.proofs.Common.{arith, ◌≡◌, ◌<◌, ◌≤◌, ◌+◌, ◌^◌, ◌==◌, ◌∙◌, ◌⊎◌, ◌++◌, ℕ, zero, suc, Bool, List, [], ◌∷◌, map, length, get_or, set, refl, sym, ap, subst, inl, inr, Option, Some, None, option_map, slice_get}
+use Rattle.std.proofs.Common.{arith, ◌≡◌, ◌<◌, ◌≤◌, ◌+◌, ◌^◌, ◌∙◌, ◌⊎◌, ℕ, zero, suc, Bool, List, [], ◌∷◌, map, length, get_or, set, refl, sym, ap, subst, inl, inr, Some, None, option_map, slice_get}
 use Rattle.std.proofs.lemmas.List.{map-set}
 use Rattle.std.proofs.Math.Seq.{map-set_same}
 use Rattle.std.proofs.lemmas.Option.{slice_get-map, slice_get_within, slice_get-get_or, slice_get_cases}
@@ -7,9 +7,9 @@ use mathlib.Core.Logic.{dite}
 use native.Mathlib.Decide.{ℕ_discrete}
 use Rattle.lb_select.specs.Backends.{Member}
 use Rattle.lb_rebuild.specs.Gate.{GateId}
-use Rattle.lb_group.specs.GroupHistory.{SlotEvent, At, History, past_of, newest, members_of, scheduled_at, is_cancelled, IsPast, IsGroupHistory, MayHappen}
+use Rattle.lb_group.specs.GroupHistory.{SlotEvent, At, History, past_of, newest, scheduled_at, is_cancelled, IsPast, IsGroupHistory, MayHappen}
 use Rattle.lb_group.specs.Values.{SlotValue, GroupValue, configs_of}
-use Rattle.lb_group.specs.Stands.{Made, slot_after, slots_after, group_after, StandsFor, IsFounded, SameSite}
+use Rattle.lb_group.specs.Stands.{Made, permit_in, slot_after, slots_after, group_after, StandsFor, IsFounded, SameSite}
 use Rattle.lb_group.specs.SlotSeen.{slot_value}
 use Rattle.lb_group.specs.declared.slot.Slot.{Slot}
 use Rattle.lb_group.proofs.Pasts.{past-same, past-other, newest-past, scheduled-past, cancelled-past}
@@ -39,6 +39,19 @@ module _ {C : Type 0} where
   pub configs-after : (gate : GateId) (k : ℕ) (cs : List C) (h : History) → map (λ (x : SlotValue C). x.config) (slots_after gate k cs h) ≡ cs
   configs-after gate k [] h = refl
   configs-after gate k (c ∷ cs) h = ap (λ (l : List C). c ∷ l) (configs-after gate (k + 1) cs h)
+
+  -- a retired selector has a permit of the gate
+  permits-after : (gate : GateId) (k i : ℕ) (cs : List C) (h : History) (x : SlotValue C) → slice_get (slots_after gate k cs h) i ≡ Some x → x.permit ≡ permit_in gate x.extra
+  permits-after gate k i [] h x is = absurd (cc)
+  permits-after gate k zero (c ∷ cs) h x is =
+      let same : slot_after gate c (past_of k h) ≡ x = cc in
+      subst (λ (z : SlotValue C). z.permit ≡ permit_in gate z.extra) same refl
+  permits-after gate k (suc i) (c ∷ cs) h x is = permits-after gate (k + 1) i cs h x is
+
+  pub permits-fit : (made : Made C) (h : History) (v : GroupValue C) (i : ℕ) (x : SlotValue C) → StandsFor made h v → slice_get v.slots i ≡ Some x → x.permit ≡ permit_in v.gate x.extra
+  permits-fit made h v i x s is =
+      permits-after made.gate 0 i made.configs h x (ap (λ (w : GroupValue C). slice_get w.slots i) (sym s.shows) ∙ is)
+      ∙ ap (λ (g : GateId). permit_in g x.extra) (sym (ap (λ (w : GroupValue C). w.gate) s.shows))
 
   -- the slots after an event are those before it, but for the event's own
   join : (x y : SlotValue C) (xs ys : List (SlotValue C)) → x ≡ y → xs ≡ ys → x ∷ xs ≡ y ∷ ys

@@ -1,9 +1,9 @@
 -- Orders are handed out to the slots from the last one on.
-use Rattle.std.proofs.Common.{◌≡◌, ◌<◌, ◌≤◌, ◌+◌, ℕ, zero, suc, List, [], ◌∷◌, ◌++◌, map, length, get_or, set, refl, sym, ap, subst, ◌∙◌, arith, length-append, length-set, get_or-set_same, get_or-set_other}
+use Rattle.std.proofs.Common.{◌≡◌, ◌<◌, ◌≤◌, ◌+◌, ℕ, zero, suc, List, [], ◌∷◌, ◌++◌, length, get_or, set, refl, sym, ap, subst, ◌∙◌, arith, length-append, length-set, get_or-set_same, get_or-set_other}
 use Rattle.std.proofs.lemmas.List.{get_or_default}
 use mathlib.Core.Logic.{dite}
 use native.Mathlib.Decide.{ℕ_discrete}
-use Rattle.lb_group.specs.Values.{OrderValue, SlotValue}
+use Rattle.lb_group.specs.Values.{OrderValue}
 use Rattle.lb_group.specs.SlotCalls.{ordered_slot}
 use Rattle.lb_group.specs.SlotSeen.{slot_value}
 use Rattle.lb_group.specs.Orders.{AreOrdered}

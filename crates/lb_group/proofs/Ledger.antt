@@ -1,9 +1,9 @@
 -- The ledger balances after every past that can be, and each job that has not ended is the one extra of its slot.
-use Rattle.std.proofs.Common.{◌≡◌, ◌<◌, ◌≤◌, ◌+◌, ◌==◌, ◌∙◌, ℕ, Bool, true, false, cond, max, nat_lt, ◌&&◌, List, [], ◌∷◌, refl, sym, ap, subst, arith}
-use Rattle.std.proofs.lemmas.Bool.{ltb-true, lt-ltb}
-use Rattle.lb_group.specs.GroupHistory.{SlotEvent, Granted, Failed, Published, Abandoned, WorkerLost, TakenOut, Destroyed, Entered, Left, Drew, GroupEvent, Scheduled, Cancelled, At, History, newest, granted, served, Extra, nothing, flight, lost, retired, taken_out, is_flight, is_extra, is_aloft, is_retired_of, is_taken_out, flight_number, generation_of, extra, waits, published, coalesced, superseded, IsPast}
+use Rattle.std.proofs.Common.{◌≡◌, ◌<◌, ◌≤◌, ◌+◌, ℕ, Bool, true, false, cond, max, nat_lt, ◌&&◌, [], ◌∷◌, refl, ap, subst, arith}
+use Rattle.std.proofs.lemmas.Bool.{lt-ltb}
+use Rattle.lb_group.specs.GroupHistory.{Granted, Failed, Published, Abandoned, WorkerLost, TakenOut, Destroyed, Scheduled, Cancelled, At, History, newest, granted, served, Extra, nothing, flight, lost, retired, taken_out, is_flight, is_extra, is_aloft, is_retired_of, is_taken_out, flight_number, generation_of, extra, published, coalesced, superseded, IsPast}
 use Rattle.lb_group.specs.Laws.{number, Balanced, grants, endings, Accounted}
-use Rattle.lb_group.proofs.Pasts.{AloftFits, aloft-fits, granted-newest, served-granted, lt-false, flies, is_up}
+use Rattle.lb_group.proofs.Pasts.{AloftFits, aloft-fits, granted-newest, served-granted, lt-false}
 
 -- the parts of the ledger, over plain numbers: publications, coalesced, superseded, and a test
 counted : (q : Bool) (n p c u : ℕ) → n ≡ p + c + u + number q + 1 → n ≡ p + c + cond q (u + 1) u + 1 + 0

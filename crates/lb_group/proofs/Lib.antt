@@ -9,3 +9,4 @@ pub mod CallSteps
 pub mod Memberships
 pub mod Telling
 pub mod Tasks
+pub mod Sums

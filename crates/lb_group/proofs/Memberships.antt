@@ -1,11 +1,11 @@
 -- A group at its start, with a new membership, and cancelled: what happens to all slots at once.
-use Rattle.std.proofs.Common.{arith, ◌≡◌, ◌<◌, ◌≤◌, ◌+◌, ◌^◌, ◌==◌, ◌∙◌, ◌||◌, ◌&&◌, ◌⊎◌, ℕ, zero, suc, Bool, true, false, not, cond, List, [], ◌∷◌, map, length, get_or, refl, sym, ap, subst, inl, inr, Option, Some, None, Result, Ok, Err, lit<}
+use Rattle.std.proofs.Common.{arith, ◌≡◌, ◌<◌, ◌+◌, ◌^◌, ◌∙◌, ℕ, suc, Bool, true, false, not, cond, List, [], ◌∷◌, map, length, refl, sym, ap, subst, None, lit<}
 use Rattle.std.proofs.lemmas.Bool.{eq-eqb, ne_eqb}
 use Rattle.lb_select.specs.Backends.{Member}
 use Rattle.lb_select.specs.Memberships.{same_members}
 use Rattle.lb_rebuild.specs.Gate.{GateId}
-use Rattle.lb_group.specs.GroupHistory.{Scheduled, Cancelled, History, past_of, newest, members_of, scheduled_at, is_cancelled, is_flight, extra, waits, IsPast, IsGroupHistory}
-use Rattle.lb_group.specs.Values.{OrderValue, SlotValue, GroupValue}
+use Rattle.lb_group.specs.GroupHistory.{Scheduled, Cancelled, History, past_of, newest, members_of, is_cancelled, IsGroupHistory}
+use Rattle.lb_group.specs.Values.{SlotValue, GroupValue}
 use Rattle.lb_group.specs.Stands.{Made, slot_after, slots_after, group_after, StandsFor}
 use Rattle.lb_group.specs.SlotCalls.{ordered_slot}
 use Rattle.lb_group.specs.SlotSeen.{slot_value}

@@ -1,11 +1,10 @@
 -- Laws of pasts: what a slot's past says of its group, and which numbers fit together. Each is an induction over the events.
-use Rattle.std.proofs.Common.{◌≡◌, ◌<◌, ◌≤◌, ◌+◌, ◌-◌, ◌==◌, ◌⊎◌, ◌∙◌, ℕ, suc, Bool, true, false, cond, max, nat_lt, not, ◌&&◌, List, [], ◌∷◌, refl, sym, ap, subst, inl, inr, arith}
-use Rattle.std.proofs.lemmas.Bool.{ltb-true, lt-ltb, eqb-true, eqb-false, eq-eqb, ne_eqb}
-use Rattle.std.proofs.lemmas.Bool.Decides.{eqb_tells, nat_tests}
+use Rattle.std.proofs.Common.{◌≡◌, ◌<◌, ◌≤◌, ◌+◌, ◌-◌, ◌==◌, ◌∙◌, ℕ, Bool, true, false, cond, max, nat_lt, [], ◌∷◌, refl, sym, ap, subst, arith}
+use Rattle.std.proofs.lemmas.Bool.{ltb-true, eqb-false, eq-eqb, ne_eqb}
+use Rattle.std.proofs.lemmas.Bool.Decides.{nat_tests}
 use mathlib.Core.Logic.{dite}
 use native.Mathlib.Decide.{ℕ_discrete}
-use Rattle.lb_select.specs.Backends.{Member}
-use Rattle.lb_group.specs.GroupHistory.{SlotEvent, Granted, Failed, Published, Abandoned, WorkerLost, TakenOut, Destroyed, Entered, Left, Drew, GroupEvent, Scheduled, Cancelled, At, History, past_of, newest, members_of, scheduled_at, is_cancelled, granted, served, Extra, nothing, flight, lost, retired, taken_out, is_flight, is_aloft, is_retired_of, is_lost_of, is_taken_out, flight_number, generation_of, extra, waits, readers, failures, failed_at, IsPast, MayHappen}
+use Rattle.lb_group.specs.GroupHistory.{SlotEvent, Granted, Failed, Published, Abandoned, WorkerLost, TakenOut, Destroyed, Entered, Left, Drew, GroupEvent, Scheduled, Cancelled, At, History, past_of, newest, members_of, scheduled_at, is_cancelled, granted, served, Extra, nothing, flight, lost, retired, taken_out, is_flight, is_aloft, is_retired_of, is_taken_out, flight_number, generation_of, extra, readers, failures, failed_at, IsPast}
 
 -- what an event does not change is the same whether or not the event is there
 keeps : {T : Type 0} (f : History → T) (b : Bool) (e : GroupEvent) (p : History) → f (e ∷ p) ≡ f p → f (cond b (e ∷ p) p) ≡ f p

@@ -1,18 +1,16 @@
 -- One equation for each event at a slot: what its call makes of the slot after a past is the slot after the past with the event.
-use Rattle.std.proofs.Common.{◌≡◌, ◌<◌, ◌≤◌, ◌+◌, ◌-◌, ◌*◌, ◌^◌, ◌==◌, ◌&&◌, ◌||◌, ◌⊎◌, ◌∙◌, ℕ, Bool, true, false, not, cond, min, max, nat_lt, List, [], ◌∷◌, Option, Some, None, is_none, refl, sym, ap, subst, ⊎_elim, inl, inr, arith}
-use Rattle.std.proofs.lemmas.Bool.{ltb-true, lt-ltb, eqb-true, eqb-false, eq-eqb, ne_eqb}
+use Rattle.std.proofs.Common.{◌≡◌, ◌<◌, ◌≤◌, ◌+◌, ◌-◌, ◌^◌, ◌==◌, ◌&&◌, ◌||◌, ◌⊎◌, ◌∙◌, ℕ, Bool, true, false, not, cond, min, max, nat_lt, List, ◌∷◌, Option, Some, None, is_none, refl, sym, ap, ⊎_elim, inl, inr, arith}
+use Rattle.std.proofs.lemmas.Bool.{ltb-true, lt-ltb, eqb-true, eq-eqb, ne_eqb}
 use Rattle.std.proofs.lemmas.Bool.Decides.{eqb_tells}
-use mathlib.Core.Logic.{dite}
-use native.Mathlib.Decide.{ℕ_discrete}
 use Rattle.lb_select.specs.Backends.{Member}
 use Rattle.lb_rebuild.specs.Gate.{GateId}
 use Rattle.lb_group.specs.declared.answers.Counts.{Counts}
 use Rattle.lb_group.specs.declared.answers.Timing.{Timing}
-use Rattle.lb_group.specs.GroupHistory.{SlotEvent, Granted, Failed, Published, Abandoned, WorkerLost, TakenOut, Destroyed, Entered, Left, Drew, GroupEvent, Scheduled, Cancelled, At, History, newest, scheduled_at, is_cancelled, granted, asked_at, served, served_members, order_members, Extra, nothing, flight, lost, retired, taken_out, is_flight, is_extra, is_aloft, is_retired_of, is_lost_of, is_taken_out, flight_number, generation_of, extra, waits, readers, drawn, published, coalesced, is_outdated, superseded, all_failures, failed, failures, failed_at, retry_delay, later, due_after, timing, AskAnswer, cancelled, building, up_to_date, not_due, busy, job, ask_answer, IsPast}
-use Rattle.lb_group.specs.Values.{OrderValue, ServingValue, SlotValue, Task, BuiltValue}
-use Rattle.lb_group.specs.Stands.{order_due, left_readers, permit_in, slot_after}
+use Rattle.lb_group.specs.GroupHistory.{Granted, Failed, Published, Abandoned, WorkerLost, TakenOut, Destroyed, Entered, Left, Drew, GroupEvent, Scheduled, Cancelled, At, History, newest, scheduled_at, is_cancelled, granted, served, order_members, Extra, nothing, flight, lost, retired, taken_out, is_flight, is_extra, is_aloft, is_retired_of, is_lost_of, is_taken_out, flight_number, generation_of, extra, waits, readers, published, coalesced, is_outdated, superseded, all_failures, failures, failed_at, later, due_after, AskAnswer, cancelled, building, up_to_date, not_due, busy, job, ask_answer, IsPast}
+use Rattle.lb_group.specs.Values.{OrderValue, ServingValue, SlotValue}
+use Rattle.lb_group.specs.Stands.{left_readers, permit_in, slot_after}
 use Rattle.lb_group.specs.SlotCalls.{more, ordered_slot, slot_answer, asked_slot, failed_slot, published_slot, abandoned_slot, lost_slot, entered_slot, readers_at, left_slot, taken_slot, destroyed_slot, drawn_slot}
-use Rattle.lb_group.specs.Laws.{number, Balanced}
+use Rattle.lb_group.specs.Laws.{Balanced}
 use Rattle.lb_group.proofs.Delays.{capped_delay}
 use Rattle.lb_group.proofs.Pasts.{AloftFits, aloft-fits, flies, is_up, granted-newest, served-granted, unread, unfailed, read_nowhere, lt-false, not-below}
 use Rattle.lb_group.proofs.Ledger.{balanced}

@@ -1,15 +1,15 @@
 -- A task stays the slot's flight or lost flight until it comes back.
-use Rattle.std.proofs.Common.{arith, ◌≡◌, ◌==◌, ◌∙◌, ℕ, Bool, true, false, List, [], ◌∷◌, refl, sym, ap, subst, Some, slice_get}
+use Rattle.std.proofs.Common.{arith, ◌≡◌, ◌<◌, ◌∙◌, ℕ, true, ◌∷◌, refl, sym, ap, subst, slice_get}
 use Rattle.std.proofs.lemmas.Bool.{eqb-true, eq-eqb}
 use mathlib.Core.Logic.{dite}
 use native.Mathlib.Decide.{ℕ_discrete}
-use Rattle.lb_select.specs.Backends.{Member}
-use Rattle.lb_group.specs.GroupHistory.{SlotEvent, Granted, Failed, Published, Abandoned, WorkerLost, TakenOut, Destroyed, Entered, Left, Drew, GroupEvent, Scheduled, Cancelled, At, History, past_of, newest, granted, granted_members, served, Extra, nothing, flight, lost, retired, taken_out, is_flight, is_aloft, is_retired_of, is_taken_out, generation_of, extra, IsPast, IsGroupHistory}
+use Rattle.lb_group.specs.GroupHistory.{SlotEvent, Granted, Failed, Published, Abandoned, WorkerLost, TakenOut, Destroyed, Entered, Left, Drew, GroupEvent, Scheduled, Cancelled, At, History, past_of, newest, granted, granted_members, served, Extra, nothing, flight, lost, retired, taken_out, is_aloft, is_retired_of, is_taken_out, generation_of, extra, IsPast, IsGroupHistory}
 use Rattle.lb_group.specs.Values.{Task}
 use Rattle.lb_group.specs.Stands.{Made}
+use Rattle.lb_group.specs.Laws.{FlightFits}
 use Rattle.lb_group.specs.Tasks.{IsTaskOf, TakesBack}
 use Rattle.lb_group.specs.GroupCalls.{IsJob}
-use Rattle.lb_group.proofs.Pasts.{AloftFits, aloft-fits, newest-past, past-same, past-other}
+use Rattle.lb_group.proofs.Pasts.{AloftFits, aloft-fits, is_up, granted-newest, newest-past, past-same, past-other}
 
 -- what is aloft is neither retired nor taken out, and is no nothing
 not-retired : (k n : ℕ) (e : Extra) → is_aloft k e ≡ true → is_retired_of n e ≡ true → ⊥
@@ -39,6 +39,12 @@ is-granted s g k (flight m) up fits = sym fits.0 ∙ eqb-true m k up
 is-granted s g k (lost m) up fits = sym fits.0 ∙ eqb-true m k up
 is-granted s g k (retired m) up fits = absurd (cc)
 is-granted s g k (taken_out m) up fits = absurd (cc)
+
+pub flight-fits : (h : History) → IsPast h → FlightFits h
+flight-fits h p n up =
+    let same : granted h ≡ n = is-granted (served h) (granted h) n (extra h) up (aloft-fits h p) in
+    let above : served h < granted h = is_up (served h) (granted h) (extra h) (subst (λ (k : ℕ). is_aloft k (extra h) ≡ true) (sym same) up) (aloft-fits h p) in
+    (omega arith, omega (arith, same, granted-newest h))
 
 -- in the slot's own past
 stays-there : (k i : ℕ) (e : SlotEvent) (p : History) → IsPast (At i e ∷ p) → ¬ TakesBack i (At i e) → is_aloft k (extra p) ≡ true

@@ -1,11 +1,9 @@
 -- Laws that say more of an answer or of a history than its clause: what is served, who gets a job, which members there are.
-use Rattle.std.proofs.Common.{arith, ◌≡◌, ◌<◌, ◌≤◌, ◌+◌, ◌==◌, ◌||◌, ◌∙◌, ◌⊎◌, ℕ, Bool, true, false, not, cond, max, nat_lt, List, [], ◌∷◌, refl, sym, ap, subst, ⊎_elim, Some, slice_get}
-use Rattle.std.proofs.lemmas.Bool.{eqb-true, eq-eqb, ne_eqb}
+use Rattle.std.proofs.Common.{arith, ◌≡◌, ◌≤◌, ◌+◌, ◌==◌, ◌||◌, ◌∙◌, ℕ, Bool, true, false, not, cond, max, nat_lt, List, [], ◌∷◌, refl, sym, ap, ⊎_elim}
+use Rattle.std.proofs.lemmas.Bool.{eq-eqb, ne_eqb}
 use Rattle.std.proofs.lemmas.Bool.Decides.{eqb_tells}
-use mathlib.Core.Logic.{dite}
-use native.Mathlib.Decide.{ℕ_discrete}
 use Rattle.lb_select.specs.Backends.{Member}
-use Rattle.lb_group.specs.GroupHistory.{SlotEvent, Granted, Failed, Published, Abandoned, WorkerLost, TakenOut, Destroyed, Entered, Left, Drew, GroupEvent, Scheduled, Cancelled, At, History, past_of, newest, members_of, is_cancelled, granted, granted_members, served, served_members, order_members, Extra, nothing, flight, lost, retired, taken_out, is_flight, is_extra, is_aloft, is_retired_of, is_taken_out, flight_number, generation_of, extra, waits, due_moment, AskAnswer, cancelled, building, up_to_date, not_due, busy, job, ask_answer, IsPast, IsGroupHistory, IsFaithful}
+use Rattle.lb_group.specs.GroupHistory.{Granted, Failed, Published, Abandoned, GroupEvent, Scheduled, Cancelled, At, History, newest, members_of, is_cancelled, granted, served, order_members, Extra, nothing, flight, lost, retired, taken_out, is_flight, is_extra, flight_number, extra, waits, due_moment, cancelled, building, up_to_date, not_due, busy, job, ask_answer, IsPast, IsFaithful}
 use Rattle.lb_group.specs.Laws.{Bounded, RisesAt, ServesNewest, GetsJob, Tells, HasMembers}
 use Rattle.lb_group.proofs.Pasts.{aloft-fits, granted-newest, served-granted, flies, lt-false, not-below}
 

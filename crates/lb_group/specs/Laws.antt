@@ -1,6 +1,6 @@
 -- What holds of every history of a group that can be.
-use Rattle.std.specs.Prelude.{◌≡◌, ◌+◌, ◌≤◌, ◌<◌, ℕ, zero, suc, Bool, true, false, nat_lt, List, [], ◌∷◌, if◌then◌else◌}
-use Rattle.lb_group.specs.GroupHistory.{SlotEvent, Granted, Failed, Published, Abandoned, WorkerLost, TakenOut, Destroyed, Entered, Left, Drew, GroupEvent, Scheduled, Cancelled, At, History, past_of, newest, members_of, is_cancelled, granted, granted_members, served, served_members, order_members, Extra, is_flight, is_extra, extra, waits, published, coalesced, superseded, due_moment, AskAnswer, cancelled, building, up_to_date, not_due, busy, job, ask_answer}
+use Rattle.std.specs.Prelude.{◌≡◌, ◌+◌, ◌≤◌, ◌<◌, ℕ, zero, suc, Bool, true, false, [], ◌∷◌}
+use Rattle.lb_group.specs.GroupHistory.{Granted, Failed, Published, Destroyed, GroupEvent, At, History, past_of, newest, members_of, is_cancelled, granted, granted_members, served, served_members, order_members, is_aloft, is_flight, is_extra, extra, waits, published, coalesced, superseded, due_moment, AskAnswer, cancelled, building, up_to_date, not_due, busy, job, ask_answer}
 
 abbrev pub number : Bool → ℕ
 number true = 1
@@ -36,6 +36,14 @@ abbrev pub IsWithin : ℕ → History → Type 0
 IsWithin n [] = Unit {0}
 IsWithin n (At i e ∷ h) = (i < n) × IsWithin n h
 IsWithin n (e ∷ h) = IsWithin n h
+
+-- the jobs of a group's slots, less those that ended, are the extras that are there
+abbrev pub SlotsAccount : ℕ → History → Type 0
+SlotsAccount n h = grants h ≡ endings h + extras_from 0 n h
+
+-- a flight or a lost flight is above what is served, and not past the newest
+abbrev pub FlightFits : History → Type 0
+FlightFits h = (n : ℕ) → is_aloft n (extra h) ≡ true → (served h < n) × (n ≤ newest h)
 
 -- what is served is never past the newest
 abbrev pub Bounded : History → Type 0

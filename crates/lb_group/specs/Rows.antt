@@ -1,7 +1,7 @@
 -- Worked rows of builds, failures, lost workers, cancellation, timing and delays, as equations that compute.
-use Rattle.std.specs.Prelude.{◌≡◌, ◌+◌, ℕ, true, false, List, [], ◌∷◌, map, Some, None, refl}
+use Rattle.std.specs.Prelude.{◌≡◌, true, false, List, [], ◌∷◌, map, Some, None, refl}
 use Rattle.lb_select.specs.Backends.{Member}
-use Rattle.lb_group.specs.GroupHistory.{Granted, Failed, Published, Abandoned, WorkerLost, TakenOut, Destroyed, Entered, Left, Scheduled, Cancelled, At, History, past_of, newest, members_of, served, served_members, order_members, extra, nothing, flight, lost, retired, taken_out, waits, readers, retry_delay, due_moment, timing, cancelled, building, up_to_date, not_due, busy, job, ask_answer}
+use Rattle.lb_group.specs.GroupHistory.{Granted, Failed, Published, Abandoned, WorkerLost, TakenOut, Destroyed, Entered, Left, Scheduled, Cancelled, At, History, past_of, served, extra, flight, waits, readers, retry_delay, timing, cancelled, building, not_due, busy, job, ask_answer}
 use Rattle.lb_group.specs.Stands.{counts_after}
 
 -- the nine delays after failed builds of one generation, in milliseconds
@@ -23,24 +23,25 @@ module _ (a b d : List Member) where
   left-empty : readers 0 (At 0 (Left 0) ∷ At 0 (Published 5 a) ∷ At 0 Entered ∷ At 0 (Granted 0) ∷ Scheduled a 0 ∷ []) ≡ 0
   left-empty = refl
 
-  took-five : timing (At 0 (Published 5 a) ∷ At 0 Entered ∷ At 0 (Granted 0) ∷ Scheduled a 0 ∷ []) ≡ Some (record { generation = 1; queue = 0; build = 5 })
+  took-five :
+      timing (At 0 (Published 5 a) ∷ At 0 Entered ∷ At 0 (Granted 0) ∷ Scheduled a 0 ∷ [])
+      ≡ Some (record { generation = 1; queue = 0; build = 5 })
   took-five = refl
 
   -- a build of an old generation fails after two newer memberships; the next job is of the newest one
   failed-old : ask_answer (At 0 (Failed 3 a) ∷ Scheduled d 2 ∷ Scheduled b 1 ∷ At 0 (Granted 0) ∷ Scheduled a 0 ∷ []) false 3 ≡ job
   failed-old = refl
 
-  newest-then : extra (At 0 (Granted 3) ∷ At 0 (Failed 3 a) ∷ Scheduled d 2 ∷ Scheduled b 1 ∷ At 0 (Granted 0) ∷ Scheduled a 0 ∷ []) ≡ flight 3
+  abbrev replaced : History
+  replaced = At 0 (Granted 3) ∷ At 0 (Failed 3 a) ∷ Scheduled d 2 ∷ Scheduled b 1 ∷ At 0 (Granted 0) ∷ Scheduled a 0 ∷ []
+
+  newest-then : extra replaced ≡ flight 3
   newest-then = refl
 
-  counted-then :
-      counts_after (At 0 (Published 4 d) ∷ At 0 (Granted 3) ∷ At 0 (Failed 3 a) ∷ Scheduled d 2 ∷ Scheduled b 1 ∷ At 0 (Granted 0) ∷ Scheduled a 0 ∷ [])
-      ≡ record { published = 1; coalesced = 1; superseded = 1; failed = 1 }
+  counted-then : counts_after (At 0 (Published 4 d) ∷ replaced) ≡ record { published = 1; coalesced = 1; superseded = 1; failed = 1 }
   counted-then = refl
 
-  timed-then :
-      timing (At 0 (Published 4 d) ∷ At 0 (Granted 3) ∷ At 0 (Failed 3 a) ∷ Scheduled d 2 ∷ Scheduled b 1 ∷ At 0 (Granted 0) ∷ Scheduled a 0 ∷ [])
-      ≡ Some (record { generation = 3; queue = 1; build = 1 })
+  timed-then : timing (At 0 (Published 4 d) ∷ replaced) ≡ Some (record { generation = 3; queue = 1; build = 1 })
   timed-then = refl
 
   -- a failed build is due again after ten milliseconds; a new membership is due at once
@@ -54,7 +55,9 @@ module _ (a b d : List Member) where
   new-at-once = refl
 
   -- a group that is cancelled while it builds retires what was built, and answers no ask any more
-  stopped : ask_answer (At 0 Destroyed ∷ At 0 TakenOut ∷ At 0 (Abandoned a) ∷ Cancelled ∷ At 0 (Granted 0) ∷ Scheduled a 0 ∷ []) false 1 ≡ cancelled
+  stopped :
+      ask_answer (At 0 Destroyed ∷ At 0 TakenOut ∷ At 0 (Abandoned a) ∷ Cancelled ∷ At 0 (Granted 0) ∷ Scheduled a 0 ∷ []) false 1
+      ≡ cancelled
   stopped = refl
 
   stopped-counts :
@@ -72,7 +75,9 @@ module _ (a b d : List Member) where
   lost-unserved : served (At 0 (Abandoned a) ∷ At 0 WorkerLost ∷ At 0 (Granted 0) ∷ Scheduled a 0 ∷ []) ≡ 0
   lost-unserved = refl
 
-  lost-again : ask_answer (At 0 Destroyed ∷ At 0 TakenOut ∷ At 0 (Abandoned a) ∷ At 0 WorkerLost ∷ At 0 (Granted 0) ∷ Scheduled a 0 ∷ []) false 3 ≡ job
+  lost-again :
+      ask_answer (At 0 Destroyed ∷ At 0 TakenOut ∷ At 0 (Abandoned a) ∷ At 0 WorkerLost ∷ At 0 (Granted 0) ∷ Scheduled a 0 ∷ []) false 3
+      ≡ job
   lost-again = refl
 
   -- an abandoned selector keeps its slot busy until it is destroyed, and then its generation is built again
@@ -89,17 +94,20 @@ module _ (a b d : List Member) where
   built-again = refl
 
   -- two memberships that a waiting slot never asked for are coalesced
-  never-asked : counts_after (Scheduled d 3 ∷ Scheduled b 2 ∷ Scheduled a 0 ∷ []) ≡ record { published = 0; coalesced = 2; superseded = 0; failed = 0 }
+  never-asked :
+      counts_after (Scheduled d 3 ∷ Scheduled b 2 ∷ Scheduled a 0 ∷ [])
+      ≡ record { published = 0; coalesced = 2; superseded = 0; failed = 0 }
   never-asked = refl
 
   -- a lost job that fails is counted, but not as superseded twice; its generation is not the newest any more
-  lost-fails :
-      counts_after (At 0 (Failed 2 a) ∷ Scheduled b 1 ∷ At 0 WorkerLost ∷ At 0 (Granted 0) ∷ Scheduled a 0 ∷ [])
-      ≡ record { published = 0; coalesced = 1; superseded = 0; failed = 1 }
+  abbrev lost-failed : History
+  lost-failed = At 0 (Failed 2 a) ∷ Scheduled b 1 ∷ At 0 WorkerLost ∷ At 0 (Granted 0) ∷ Scheduled a 0 ∷ []
+
+  lost-fails : counts_after lost-failed ≡ record { published = 0; coalesced = 1; superseded = 0; failed = 1 }
   lost-fails = refl
 
   -- a job that fails in a cancelled group is counted too
   stopped-fails :
-      counts_after (At 0 (Failed 4 b) ∷ Cancelled ∷ At 0 (Granted 3) ∷ At 0 (Failed 2 a) ∷ Scheduled b 1 ∷ At 0 WorkerLost ∷ At 0 (Granted 0) ∷ Scheduled a 0 ∷ [])
+      counts_after (At 0 (Failed 4 b) ∷ Cancelled ∷ At 0 (Granted 3) ∷ lost-failed)
       ≡ record { published = 0; coalesced = 1; superseded = 0; failed = 2 }
   stopped-fails = refl

@@ -1,11 +1,11 @@
 -- What the calls on one slot answer and leave, as functions of what contracts see of it.
-use Rattle.std.specs.Prelude.{◌≡◌, ◌==◌, ◌&&◌, ◌||◌, ◌+◌, ◌-◌, ◌<◌, ℕ, Bool, true, false, not, min, max, nat_lt, nat_le, MatchBool, List, length, Option, Some, None, is_none, Result, Ok, Err, if◌then◌else◌}
+use Rattle.std.specs.Prelude.{◌≡◌, ◌==◌, ◌&&◌, ◌||◌, ◌+◌, ◌-◌, ℕ, Bool, true, false, not, min, max, nat_lt, nat_le, MatchBool, List, length, Option, Some, None, is_none, Result, Ok, Err, if◌then◌else◌}
 use Rattle.lb_select.specs.Backends.{Member, same_member}
+use Rattle.lb_select.specs.Draws.{Draw, HandedValue, HandedGives}
 use Rattle.lb_select.specs.Selections.{Selects}
 use Rattle.lb_select.specs.declared.refusal.Refusal.{Refusal}
 use Rattle.lb_select.specs.declared.refusal.Refusal.TheVariants as refusal
 use Rattle.lb_rebuild.specs.Gate.{GateId, GateView, gate}
-use Rattle.lb_select.specs.Draws.{Draw, HandedValue, HandedGives}
 use Rattle.lb_group.specs.GroupHistory.{Extra, nothing, flight, lost, retired, taken_out, is_flight, is_extra, is_aloft, is_retired_of, flight_number, generation_of, due_after, AskAnswer, cancelled, building, up_to_date, not_due, busy, job}
 use Rattle.lb_group.specs.Values.{OrderValue, Task, BuiltValue, RetiredValue, ReaderValue, SlotValue, order_of}
 use Rattle.lb_group.specs.declared.answers.Ask.{Ask}
@@ -206,5 +206,6 @@ SelectsFrom random walks key limit words members config tickets s =
     MatchBool (random members config && nat_le (length words) limit)
     ((s.answer ≡ Err refusal.NotEnoughWords) × (s.tickets ≡ tickets))
     ((t : HandedValue)
-    × Selects same_member (λ b a. a ≡ true) limit HandedGives (walks members config key) (record { tickets = tickets; words = words }) s.answer t
+    × Selects same_member (λ b a. a ≡ true) limit HandedGives (walks members config key)
+    (record { tickets = tickets; words = words }) s.answer t
     × (s.tickets ≡ t.tickets))

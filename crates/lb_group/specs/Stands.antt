@@ -1,5 +1,5 @@
 -- What contracts see of a group is a function of its history.
-use Rattle.std.specs.Prelude.{◌≡◌, ◌+◌, ◌^◌, ◌<◌, ◌&&◌, ℕ, Bool, not, List, [], ◌∷◌, ◌++◌, Option, Some, None, if◌then◌else◌}
+use Rattle.std.specs.Prelude.{◌≡◌, ◌+◌, ◌^◌, ◌<◌, ◌&&◌, ℕ, not, List, [], ◌∷◌, ◌++◌, Option, Some, None, if◌then◌else◌}
 use Rattle.lb_rebuild.specs.Gate.{GateId}
 use Rattle.lb_group.specs.GroupHistory.{History, Extra, nothing, flight, lost, retired, taken_out, past_of, newest, members_of, scheduled_at, is_cancelled, granted, asked_at, served, served_members, order_members, extra, is_lost_of, waits, readers, drawn, published, coalesced, superseded, failed, failures, failed_at, timing, IsGroupHistory}
 use Rattle.lb_group.specs.Values.{OrderValue, SlotValue, GroupValue, configs_of}

@@ -1,6 +1,6 @@
 -- Jobs and selectors that are under way, and how long they stay so.
-use Rattle.std.specs.Prelude.{◌≡◌, ℕ, Bool, true, List, [], ◌∷◌, Some, slice_get}
-use Rattle.lb_group.specs.GroupHistory.{SlotEvent, Failed, Published, Abandoned, GroupEvent, At, History, past_of, granted_members}
+use Rattle.std.specs.Prelude.{◌≡◌, ℕ, true, Some, slice_get}
+use Rattle.lb_group.specs.GroupHistory.{Failed, Published, Abandoned, GroupEvent, At, History, past_of, granted_members}
 use Rattle.lb_group.specs.Values.{Task}
 use Rattle.lb_group.specs.Stands.{Made}
 use Rattle.lb_group.specs.GroupCalls.{is_awaited}

@@ -71,6 +71,11 @@ pub record GroupValue (C : Type 0) : Type 0 where
   pub cancelled : Bool
   pub slots : List (SlotValue C)
 
+-- an order under way, for that slot and with that permit
+abbrev pub task_of : {C : Type 0} → ℕ → OrderValue C → GateId → Task C
+task_of slot o permit =
+    record { slot = slot; generation = o.generation; members = o.members; config = o.config; permit = permit }
+
 -- what a job or a built selector was ordered as
 abbrev pub order_of : {C : Type 0} → Task C → OrderValue C
 order_of j = record { generation = j.generation; members = j.members; config = j.config }

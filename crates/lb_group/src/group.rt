@@ -50,9 +50,23 @@ impl<S: BackendSelection> Model for GroupCore<S> {
     ghost use Rattle.lb_group.specs.SlotSeen.{slot_value};
     ghost use Rattle.lb_group.specs.Stands.{IsFounded};
 
-    ghost view = { λ g. record { gate = g.gate.value.id; newest = g.newest; current = (arc_value g.current).keys; scheduled = g.scheduled; cancelled = g.cancelled; slots = map slot_value g.slots.items } };
+    ghost view = { λ g. record {
+      gate = g.gate.value.id;
+      newest = g.newest;
+      current = (arc_value g.current).keys;
+      scheduled = g.scheduled;
+      cancelled = g.cancelled;
+      slots = map slot_value g.slots.items;
+    } };
 
-    ghost invariant = { λ g. IsFounded (record { gate = g.gate.value.id; newest = g.newest; current = (arc_value g.current).keys; scheduled = g.scheduled; cancelled = g.cancelled; slots = map slot_value g.slots.items }) };
+    ghost invariant = { λ g. IsFounded (record {
+      gate = g.gate.value.id;
+      newest = g.newest;
+      current = (arc_value g.current).keys;
+      scheduled = g.scheduled;
+      cancelled = g.cancelled;
+      slots = map slot_value g.slots.items;
+    }) };
 }
 
 impl<S: BackendSelection> GroupCore<S> {
@@ -68,7 +82,8 @@ impl<S: BackendSelection> GroupCore<S> {
         gate: &GateCore,
         configs: Vec<S::Config>,
     ) -> Result<GroupCore<S>, Refusal>
-        ensures stands { Refuses (least (map (S.refusal []) configs.items)) (λ g. StandsFor (record { gate = gate.now.id; configs = configs.items }) [] g) result }
+        ensures stands { Refuses (least (map (S.refusal []) configs.items))
+            (λ g. StandsFor (record { gate = gate.now.id; configs = configs.items }) [] g) result }
         ensures gate { IfOk result (λ g. g.gate ≡ gate.now.id) }
     {
         if let Some(refusal) = least_refusal::<S>(alloc, &configs) {

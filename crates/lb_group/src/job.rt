@@ -41,11 +41,11 @@ pub struct Job<S: BackendSelection> {
 }
 
 impl<S: BackendSelection> Model for Job<S> {
-    ghost use Rattle.lb_group.specs.Values.{Task};
+    ghost use Rattle.lb_group.specs.Values.{Task, task_of};
 
     ghost Value = { Task S.Config };
 
-    ghost view = { λ j. record { slot = j.slot; generation = j.order.generation; members = j.order.members; config = j.order.config; permit = j.permit } };
+    ghost view = { λ j. task_of j.slot j.order j.permit };
 }
 
 /// A selector that was built and is not yet published. Contracts see of it what they saw of its job, and when the build ended.
@@ -60,16 +60,17 @@ pub struct Built<S: BackendSelection> {
 impl<S: BackendSelection> Model for Built<S> {
     ghost use Rattle.std.specs.Prelude.{◌≡◌};
     ghost use Rattle.std.specs.Arc.{arc_value};
-    ghost use Rattle.lb_group.specs.Values.{BuiltValue};
+    ghost use Rattle.lb_group.specs.Values.{BuiltValue, task_of};
 
     ghost Value = { BuiltValue S.Config };
 
     ghost view = { λ b. record {
-      task = record { slot = b.slot; generation = b.order.generation; members = b.order.members; config = b.order.config; permit = b.permit };
+      task = task_of b.slot b.order b.permit;
       ended = b.ended;
     } };
 
-    ghost invariant = { λ b. (S.members (arc_value b.selector) ≡ b.order.members) × (S.built_with (arc_value b.selector) ≡ b.order.config) };
+    ghost invariant = { λ b. (S.members (arc_value b.selector) ≡ b.order.members)
+        × (S.built_with (arc_value b.selector) ≡ b.order.config) };
 }
 
 impl<S: BackendSelection> Job<S> {
@@ -100,7 +101,8 @@ impl<S: BackendSelection> Job<S> {
         requires { F.IsAlwaysCallable clock }
         ensures built { IfOk result (λ b. (S.refusal self.members self.config ≡ None) × (b.task ≡ self) × F.post clock b.ended) }
         ensures failed { IfErr result (λ f. (f.job ≡ self)
-            × ((S.refusal self.members self.config ≡ Some f.refusal) ⊎ ((S.refusal self.members self.config ≡ None) × (f.refusal ≡ Refusal.OutOfMemory)))) }
+            × ((S.refusal self.members self.config ≡ Some f.refusal)
+            ⊎ ((S.refusal self.members self.config ≡ None) × (f.refusal ≡ Refusal.OutOfMemory)))) }
     {
         let order = &self.order;
         match S::build_with_config(alloc, &order.members, &order.config) {

@@ -1,12 +1,12 @@
 //! What holds of every history of a group: laws over definitions alone, each a function whose contract is the law.
 //! Callers cite them to learn more of an answer than its clause says.
-ghost use Rattle.std.specs.Prelude.{◌∷◌, Bool, ℕ};
+ghost use Rattle.std.specs.Prelude.{◌≡◌, ◌∷◌, Bool, ℕ, slice_get};
 ghost use Rattle.lb_group.specs.GroupCalls.{IsJob};
 ghost use Rattle.lb_group.specs.GroupHistory.{At, Granted, GroupEvent, History, IsPast, IsFaithful, IsGroupHistory, ask_answer};
-ghost use Rattle.lb_group.specs.Laws.{Accounted, Balanced, Bounded, GetsJob, HasMembers, RisesAt, ServesNewest, Tells};
-ghost use Rattle.lb_group.specs.Stands.{Made};
+ghost use Rattle.lb_group.specs.Laws.{Accounted, Balanced, Bounded, FlightFits, GetsJob, HasMembers, IsWithin, RisesAt, ServesNewest, SlotsAccount, Tells};
+ghost use Rattle.lb_group.specs.Stands.{Made, StandsFor, permit_in};
 ghost use Rattle.lb_group.specs.Tasks.{IsTaskOf, TakesBack};
-ghost use Rattle.lb_group.specs.Values.{Task};
+ghost use Rattle.lb_group.specs.Values.{GroupValue, SlotValue, Task};
 
 use lb_select::walk::BackendSelection;
 
@@ -18,6 +18,19 @@ pub fn generations_balance()
 /// Each job that was granted has failed, was destroyed as a retired selector, or is the one extra of its slot.
 pub fn extras_are_accounted()
     ensures { (h : History) → IsPast h → Accounted h }
+{}
+
+/// Over the slots of a group: what was granted and has not ended is what stands in them.
+pub fn slots_account()
+    ensures { (n : ℕ) (h : History) → IsGroupHistory h → IsWithin n h → SlotsAccount n h }
+{}
+
+/// A flight or a lost flight is above what its slot serves and not past the newest; a retired selector holds a permit of the
+/// group's gate.
+pub fn slots_keep<S: BackendSelection>()
+    ensures flights { (h : History) → IsPast h → FlightFits h }
+    ensures permits { (made : Made S.Config) (h : History) (v : GroupValue S.Config) (i : ℕ) (x : SlotValue S.Config) → StandsFor made h v
+        → slice_get v.slots i ≡ Some x → x.permit ≡ permit_in v.gate x.extra }
 {}
 
 /// What a slot serves is never past the newest generation; it never falls, and each publication raises it.
@@ -46,6 +59,6 @@ pub fn faithful_members()
 pub fn tasks_stay<S: BackendSelection>()
     ensures goes { (made : Made S.Config) (h : History) (slot now : ℕ) (j : Task S.Config) → IsJob made h slot j
         → IsTaskOf made (At slot (Granted now) ∷ h) j }
-    ensures stays { (made : Made S.Config) (h : History) (j : Task S.Config) (e : GroupEvent) → IsGroupHistory (e ∷ h) → IsTaskOf made h j
-        → ¬ TakesBack j.slot e → IsTaskOf made (e ∷ h) j }
+    ensures stays { (made : Made S.Config) (h : History) (j : Task S.Config) (e : GroupEvent) → IsGroupHistory (e ∷ h)
+        → IsTaskOf made h j → ¬ TakesBack j.slot e → IsTaskOf made (e ∷ h) j }
 {}

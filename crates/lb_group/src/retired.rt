@@ -21,7 +21,12 @@ impl<S: BackendSelection> Model for Serving<S> {
 
     ghost Value = { ServingValue S.Config };
 
-    ghost view = { λ s. record { generation = s.generation; members = S.members (arc_value s.selector); config = S.built_with (arc_value s.selector); tickets = s.tickets } };
+    ghost view = { λ s. record {
+      generation = s.generation;
+      members = S.members (arc_value s.selector);
+      config = S.built_with (arc_value s.selector);
+      tickets = s.tickets;
+    } };
 }
 
 /// A selector that is no longer served, with the permit of the extra selector that it is.
@@ -78,7 +83,12 @@ impl<S: BackendSelection> Model for Reader<S> {
 
     ghost Value = { ReaderValue S.Config };
 
-    ghost view = { λ r. record { slot = r.slot; generation = r.generation; members = S.members (arc_value r.selector); config = S.built_with (arc_value r.selector) } };
+    ghost view = { λ r. record {
+      slot = r.slot;
+      generation = r.generation;
+      members = S.members (arc_value r.selector);
+      config = S.built_with (arc_value r.selector);
+    } };
 }
 
 impl<S: BackendSelection> Reader<S> {

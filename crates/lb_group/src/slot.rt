@@ -197,7 +197,9 @@ impl<S: BackendSelection> Slot<S> {
 
     // Counts a flight that ends unpublished, where a newer membership has come.
     fn count_superseded(&mut self, newest: u64)
-        ensures { self.new ≡ record self.old { counts = record self.old.counts { superseded = superseded_more newest (slot_value self.old) } } }
+        ensures { self.new ≡ record self.old {
+          counts = record self.old.counts { superseded = superseded_more newest (slot_value self.old) };
+        } }
     {
         if let Stage::Flight(flight) = &self.stage {
             if *flight < newest {
@@ -460,7 +462,8 @@ impl<S: BackendSelection> Slot<S> {
         limit: usize,
         random: &[u64],
     ) -> Selection
-        ensures selected { SelectsFrom S.may_draw_random S.walks key.now limit random.now (slot_value self.old).serving.members (slot_value self.old).serving.config (slot_value self.old).serving.tickets result }
+        ensures selected { SelectsFrom S.may_draw_random S.walks key.now limit random.now (slot_value self.old).serving.members
+            (slot_value self.old).serving.config (slot_value self.old).serving.tickets result }
         ensures slot { slot_value self.new ≡ drawn_slot result.tickets (slot_value self.old) }
     {
         let serving = &mut self.serving;
@@ -537,7 +540,8 @@ fn first<S: BackendSelection, W: WordSource, F: Fn(&Backend) -> bool>(
 ) -> Result<Option<Backend>, Refusal>
     requires call { F.IsAlwaysCallable accept.now }
     requires all { (b : Member) (a : Bool) → FnReturnsAt F.Fn accept.now b a → a ≡ true }
-    ensures { Selects same_member (λ b a. a ≡ true) limit W.gives (S.walks (S.members (arc_value selector.now)) (S.built_with (arc_value selector.now)) key.now) words.old result words.new }
+    ensures { Selects same_member (λ b a. a ≡ true) limit W.gives
+        (S.walks (S.members (arc_value selector.now)) (S.built_with (arc_value selector.now)) key.now) words.old result words.new }
 {
     select(alloc, selector, key, words, limit, accept)
 }

@@ -4,7 +4,7 @@ use Rattle.std.specs.List.{Contains, IsDistinct, AllByRecursion}
 use Rattle.std.proofs.lemmas.List.{take-append-drop}
 use Rattle.std.proofs.lemmas.List.Elements.{Contains-get_or, Contains-append_cases, Contains-append_left, Contains-append_right}
 use Rattle.std.proofs.lemmas.Bool.Decides.{eqb_tells, leb_tells}
-use Rattle.lb_ring.specs.Sorted.{Rises, none, more, turned}
+use Rattle.lb_ring.specs.Sorted.{Rises, none, more, turn_index}
 
 module _ {X : Type 0} where
   -- an element of a list is its head or an element of the rest
@@ -98,7 +98,7 @@ pub less_tells : (a b : ℕ) → ((nat_lt a b ≡ true) × (a < b)) ⊎ ((nat_lt
 less_tells a b = elim (leb_tells (suc a) b) [ inl h ↦ inl (h.0, h.1) | inr h ↦ inr (h.0, omega (arith, h.1)) ]
 
 -- an index that was turned is an index
-pub turned_below : (s r n : ℕ) → s ≤ n → r < n → turned s r n < n
+pub turned_below : (s r n : ℕ) → s ≤ n → r < n → turn_index s r n < n
 turned_below s r n w h =
     elim (less_tells r (n - s)) [
       | inl first ↦ rw first.0 (let l : r < n - s = first.1 in let g : s + r < n = omega arith in g)

@@ -14,7 +14,7 @@ use Rattle.lb_select.specs.Backends.{Address, address_cmp}
 use Rattle.lb_select.specs.Identity.{address_same}
 use Rattle.lb_ring.specs.Circle.{IsExactly, IsNearer, IsPoint, IsPointOf, IsRingOwner}
 use Rattle.lb_ring.specs.Rings.{Given, IsRingOf, RingLaw}
-use Rattle.lb_ring.specs.Sorted.{Rises, none, more, point_of, turned, IsArranged, SplitsAt, IsInOrder}
+use Rattle.lb_ring.specs.Sorted.{Rises, none, more, point_of, turn_index, IsArranged, SplitsAt, IsInOrder}
 use Rattle.lb_ring.proofs.Lists.{here, there, head_or_rest, nothing_in_none, first_below, rest_rises, one_at, turned_below}
 use Rattle.lb_ring.proofs.Ranks.{point_of_candidate}
 
@@ -60,7 +60,7 @@ rises_points {T} (e ∷ es) r =
 module _ {T : Type 0} (es : List (ℕ × T)) (order : IsInOrder es) (place : ℕ) (low : place < 2 ^ 32) (s : ℕ) (within : s ≤ length es) (split : SplitsAt place es s) (d : ℕ × T)
     (has : ℕ → Address → Type 0) (all : (q : ℕ) → IsPoint has q → (e : ℕ × T) × Contains es e × (e.0 ≡ q)) (only : (e : ℕ × T) → Contains es e → IsPoint has e.0) where
   -- the entry of candidate j
-  pub candidate_at : 0 < length es → (j : ℕ) → IsPointOf has place j (get_or es (turned s (j % length es) (length es)) d).0
+  pub candidate_at : 0 < length es → (j : ℕ) → IsPointOf has place j (get_or es (turn_index s (j % length es) (length es)) d).0
   candidate_at some j =
       let ps = map (point_of {T = T}) es in
       let n : length ps ≡ length es = length-map es (point_of {T = T}) in
@@ -73,16 +73,16 @@ module _ {T : Type 0} (es : List (ℕ × T)) (order : IsInOrder es) (place : ℕ
       let above : (k : ℕ) → s ≤ k → k < length ps → place ≤ get_or ps k 0 = λ k h l.
       (let l' : k < length es = omega arith in
       let P : ℕ → Type 0 = λ x. place ≤ x in subst P (sym (get_or-map (point_of {T = T}) es k d 0 l')) (split.above k d h l')) in
-      let found : IsPointOf has place j (get_or ps (turned s (j % length ps) (length ps)) 0) =
+      let found : IsPointOf has place j (get_or ps (turn_index s (j % length ps) (length ps)) 0) =
       point_of_candidate ps (rises_points es order.rises) small place low s inside below above has
       (λ q p. let w = all q p in let P : ℕ → Type 0 = λ z. Contains ps z in subst P w.2 (in_map (point_of {T = T}) es w.0 w.1))
       (λ q m. let w = of_map (point_of {T = T}) es q m in let P : ℕ → Type 0 = λ z. IsPoint has z in subst P w.2 (only w.0 w.1))
       any j in
       let turn : j % length es < length es = omega arith in
-      let where' : turned s (j % length es) (length es) < length es = turned_below s (j % length es) (length es) within turn in
-      let P : ℕ → Type 0 = λ m. IsPointOf has place j (get_or ps (turned s (j % m) m) 0) in
+      let where' : turn_index s (j % length es) (length es) < length es = turned_below s (j % length es) (length es) within turn in
+      let P : ℕ → Type 0 = λ m. IsPointOf has place j (get_or ps (turn_index s (j % m) m) 0) in
       let Q : ℕ → Type 0 = λ p. IsPointOf has place j p in
-      subst Q (get_or-map (point_of {T = T}) es (turned s (j % length es) (length es)) d 0 where') (subst P n found)
+      subst Q (get_or-map (point_of {T = T}) es (turn_index s (j % length es) (length es)) d 0 where') (subst P n found)
 
 pair_same : (x : ℕ × Address) (p : ℕ) (a : Address) → x.0 ≡ p → x.1 ≡ a → x ≡ (p, a)
 pair_same x p a e f = λ i. (e i, f i)
@@ -97,9 +97,9 @@ module _ {T : Type 0} (see : T → Address) where
 
   -- the owner of candidate j
   pub owner_at : (es : List (ℕ × T)) → IsInOrder es → (place : ℕ) → place < 2 ^ 32 → (s : ℕ) → s ≤ length es → SplitsAt place es s → 0 < length es → (j : ℕ) (d : ℕ × T)
-      → IsRingOwner (Given (map seen es)) place j (see (get_or es (turned s (j % length es) (length es)) d).1)
+      → IsRingOwner (Given (map seen es)) place j (see (get_or es (turn_index s (j % length es) (length es)) d).1)
   owner_at es order place low s within split some j d =
-      let at = turned s (j % length es) (length es) in
+      let at = turn_index s (j % length es) (length es) in
       let turn : j % length es < length es = omega arith in
       let where' : at < length es = turned_below s (j % length es) (length es) within turn in
       let e : ℕ × T = get_or es at d in

@@ -7,7 +7,7 @@ use Rattle.std.proofs.lemmas.List.Elements.{Contains-append_cases, Contains-appe
 use Rattle.std.proofs.lemmas.Grind.{get_or_default_zero}
 use Rattle.lb_select.specs.Backends.{Address}
 use Rattle.lb_ring.specs.Circle.{clockwise, Lists, IsPoint, IsPointOf}
-use Rattle.lb_ring.specs.Sorted.{Rises, turned}
+use Rattle.lb_ring.specs.Sorted.{Rises, turn_index}
 use Rattle.lb_ring.proofs.Lists.{in_take, in_drop, in_parts, rises_cut, rises_left, rises_right, rises_append, rises_by, rises_once, before_is_less, less_is_before, less_tells, turned_below}
 
 -- the way to a place that is not below, and to one that is
@@ -61,7 +61,7 @@ module _ (ps : List ℕ) (rises : Rises (λ p. p) ps) (small : (q : ℕ) → Con
   around_length : length (around s ps) ≡ length ps
   around_length = omega (arith, length-append (drop s ps) (take s ps), length-drop s ps, length-take s ps)
 
-  around_at : (r d : ℕ) → r < length ps → get_or (around s ps) r d ≡ get_or ps (turned s r (length ps)) d
+  around_at : (r d : ℕ) → r < length ps → get_or (around s ps) r d ≡ get_or ps (turn_index s r (length ps)) d
   around_at r d h =
       elim (less_tells r (length ps - s)) [
         | inl first ↦ (let l : r < length (drop s ps) = omega (arith, first.1, length-drop s ps) in
@@ -72,7 +72,7 @@ module _ (ps : List ℕ) (rises : Rises (λ p. p) ps) (small : (q : ℕ) → Con
 
   -- the nearer points are those before it
   nearer_before : (r : ℕ) → r < length ps
-      → Lists (λ q. Contains ps q × (clockwise place q < clockwise place (get_or ps (turned s r (length ps)) 0))) (take r (around s ps))
+      → Lists (λ q. Contains ps q × (clockwise place q < clockwise place (get_or ps (turn_index s r (length ps)) 0))) (take r (around s ps))
   nearer_before r h =
       let e = around_at r 0 h in
       let l : r < length (around s ps) = omega (arith, around_length) in
@@ -84,14 +84,14 @@ module _ (ps : List ℕ) (rises : Rises (λ p. p) ps) (small : (q : ℕ) → Con
 
   -- the point of candidate j
   pub point_of_candidate : (has : ℕ → Address → Type 0) → ((q : ℕ) → IsPoint has q → Contains ps q) → ((q : ℕ) → Contains ps q → IsPoint has q)
-      → 0 < length ps → (j : ℕ) → IsPointOf has place j (get_or ps (turned s (j % length ps) (length ps)) 0)
+      → 0 < length ps → (j : ℕ) → IsPointOf has place j (get_or ps (turn_index s (j % length ps) (length ps)) 0)
   point_of_candidate has all only some j =
       let turn : j % length ps < length ps = omega arith in
-      let place_of : turned s (j % length ps) (length ps) < length ps = turned_below s (j % length ps) (length ps) within turn in
-      let p = get_or ps (turned s (j % length ps) (length ps)) 0 in
+      let place_of : turn_index s (j % length ps) (length ps) < length ps = turned_below s (j % length ps) (length ps) within turn in
+      let p = get_or ps (turn_index s (j % length ps) (length ps)) 0 in
       let before = nearer_before (j % length ps) turn in
       record {
-        point = only p (Contains-get_or ps (turned s (j % length ps) (length ps)) 0 place_of);
+        point = only p (Contains-get_or ps (turn_index s (j % length ps) (length ps)) 0 place_of);
         number = length ps;
         points = (ps, record { once = rises_once (λ q. q) ps rises; all = all; only = only }, refl);
         nearer = (

@@ -14,7 +14,7 @@ use Rattle.lb_ring.specs.Choices.{HasPoint, IsRingCandidate}
 use Rattle.lb_ring.specs.Circle.{IsPoint, IsPointOf}
 use Rattle.lb_ring.specs.Crc.{crc}
 use Rattle.lb_ring.specs.Placed.{Placed, IsPlaced, member_at, index_here, member_here, YieldsFrom, IsStart}
-use Rattle.lb_ring.specs.Sorted.{turned, SplitsAt}
+use Rattle.lb_ring.specs.Sorted.{turn_index, SplitsAt}
 use Rattle.lb_ring.proofs.Lists.{nothing_in_none, less_tells}
 use Rattle.lb_ring.proofs.Owners.{candidate_at}
 use Rattle.lb_ring.proofs.Standing.{get_inside, contains_at}
@@ -43,14 +43,14 @@ here_inside n at h = elim (less_tells at n) [ inl t ↦ rw t.0 | inr t ↦ (let 
 here_past : (n at : ℕ) → n ≤ at → here_of n at ≡ 0
 here_past n at h = elim (less_tells at n) [ inl t ↦ (let l : at < n = t.1 in absurd (omega arith)) | inr t ↦ rw t.0 ]
 
-turned_first : (s r n : ℕ) → r < n - s → turned s r n ≡ s + r
+turned_first : (s r n : ℕ) → r < n - s → turn_index s r n ≡ s + r
 turned_first s r n h = elim (less_tells r (n - s)) [ inl t ↦ rw t.0 | inr t ↦ (let l : n - s ≤ r = t.1 in absurd (omega arith)) ]
 
-turned_later : (s r n : ℕ) → n - s ≤ r → turned s r n ≡ r - (n - s)
+turned_later : (s r n : ℕ) → n - s ≤ r → turn_index s r n ≡ r - (n - s)
 turned_later s r n h = elim (less_tells r (n - s)) [ inl t ↦ (let l : r < n - s = t.1 in absurd (omega arith)) | inr t ↦ rw t.0 ]
 
 -- where the next point is
-next_inside : (n s r : ℕ) → s ≤ n → r + 1 < n → here_of n (turned s r n + 1) ≡ turned s (r + 1) n
+next_inside : (n s r : ℕ) → s ≤ n → r + 1 < n → here_of n (turn_index s r n + 1) ≡ turn_index s (r + 1) n
 next_inside n s r w h =
     elim (less_tells (r + 1) (n - s)) [
       | inl first ↦ (let l : r + 1 < n - s = first.1 in let k : r < n - s = omega arith in let i : s + r + 1 < n = omega arith in let e : s + r + 1 ≡ s + (r + 1) = omega arith in
@@ -64,7 +64,7 @@ next_inside n s r w h =
           ])
     ]
 
-next_round : (n s r : ℕ) → s ≤ n → 0 < n → r + 1 ≡ n → here_of n (turned s r n + 1) ≡ turned s 0 n
+next_round : (n s r : ℕ) → s ≤ n → 0 < n → r + 1 ≡ n → here_of n (turn_index s r n + 1) ≡ turn_index s 0 n
 next_round n s r w some h =
     elim (less_tells r (n - s)) [
       | inl first ↦ (let k : r < n - s = first.1 in let i : n ≤ s + r + 1 = omega arith in let z : 0 < n - s = omega arith in let e : 0 ≡ s + 0 = omega arith in
@@ -78,15 +78,15 @@ next_round n s r w some h =
           ])
     ]
 
-next_turn : (n s t : ℕ) → s ≤ n → 0 < n → here_of n (turned s (t % n) n + 1) ≡ turned s ((t + 1) % n) n
+next_turn : (n s t : ℕ) → s ≤ n → 0 < n → here_of n (turn_index s (t % n) n + 1) ≡ turn_index s ((t + 1) % n) n
 next_turn n s t w some =
     elim (less_tells (t % n + 1) n) [
-      | inl below ↦ next_inside n s (t % n) w below.1 ∙ ap (λ z. turned s z n) (sym (mod_below t n below.1))
+      | inl below ↦ next_inside n s (t % n) w below.1 ∙ ap (λ z. turn_index s z n) (sym (mod_below t n below.1))
       | inr round ↦ (let l : t % n < n = omega arith in let m : n ≤ t % n + 1 = round.1 in let e : t % n + 1 ≡ n = omega arith in
-          next_round n s (t % n) w some e ∙ ap (λ z. turned s z n) (sym (mod_round t n some e)))
+          next_round n s (t % n) w some e ∙ ap (λ z. turn_index s z n) (sym (mod_round t n some e)))
     ]
 
-first_turn : (n s : ℕ) → s ≤ n → 0 < n → here_of n s ≡ turned s (0 % n) n
+first_turn : (n s : ℕ) → s ≤ n → 0 < n → here_of n s ≡ turn_index s (0 % n) n
 first_turn n s w some =
     let e : 0 % n ≡ 0 = mod-eq_of_lt some in
     elim (less_tells s n) [
@@ -97,7 +97,7 @@ first_turn n s w some =
 module _ (r : Placed) (place : IsPlaced r.members r.owners r.points) (key : List ℕ) (low : crc key < 2 ^ 32) (s : ℕ) (within : s ≤ length r.points)
     (split : SplitsAt (crc key) r.points s) where
   -- the backend at the turn of a candidate is the candidate
-  candidate_here : (i : ℕ) (c : Member) (at : ℕ) → index_here r at ≡ turned s (i % length r.points) (length r.points) → member_here r at ≡ Some c
+  candidate_here : (i : ℕ) (c : Member) (at : ℕ) → index_here r at ≡ turn_index s (i % length r.points) (length r.points) → member_here r at ≡ Some c
       → IsRingCandidate r.members key i c
   candidate_here i c at e h =
       let parts = and_then_parts (λ (p : ℕ × ℕ). member_at r.members r.owners p.1) (slice_get r.points (index_here r at)) c h in
@@ -108,16 +108,16 @@ module _ (r : Placed) (place : IsPlaced r.members r.owners r.points) (key : List
       let y = place.yields entry in' in
       let same : y.0 ≡ c = same_Some y.0 c (sym y.1 ∙ parts.2) in
       let has : ℕ → Address → Type 0 = HasPoint crc_chain r.members in
-      let found : IsPointOf has (crc key) i (get_or r.points (turned s (i % length r.points) (length r.points)) entry).0 =
+      let found : IsPointOf has (crc key) i (get_or r.points (turn_index s (i % length r.points) (length r.points)) entry).0 =
       candidate_at r.points place.order (crc key) low s within split entry has (λ q p. place.whole q p) (λ f m. let z = place.yields f m in (z.0.address, z.2.has_it)) some i in
-      let one : get_or r.points (turned s (i % length r.points) (length r.points)) entry ≡ entry =
+      let one : get_or r.points (turn_index s (i % length r.points) (length r.points)) entry ≡ entry =
       ap (λ k. get_or r.points k entry) (sym e) ∙ get_or_from_slice_get r.points (index_here r at) entry entry parts.1 in
       let P : ℕ × ℕ → Type 0 = λ f. IsPointOf has (crc key) i f.0 in
       let Q : Member → Type 0 = λ m. IsRingCandidate r.members key i m in
       subst Q same (y.0.address, (entry.0, subst P one found, y.2), y.3)
 
   -- so is each one from there on
-  candidates_from : (cs : List Member) (at t : ℕ) → index_here r at ≡ turned s (t % length r.points) (length r.points) → YieldsFrom r at cs
+  candidates_from : (cs : List Member) (at t : ℕ) → index_here r at ≡ turn_index s (t % length r.points) (length r.points) → YieldsFrom r at cs
       → (i : ℕ) (c : Member) → slice_get cs i ≡ Some c → IsRingCandidate r.members key (t + i) c
   candidates_from [] at t e y i c h = absurd (cc)
   candidates_from (d ∷ cs) at t e y zero c h =
@@ -128,7 +128,7 @@ module _ (r : Placed) (place : IsPlaced r.members r.owners r.points) (key : List
       let parts = and_then_parts (λ (p : ℕ × ℕ). member_at r.members r.owners p.1) (slice_get r.points (index_here r at)) d y.0 in
       let inside : index_here r at < length r.points = get_inside r.points (index_here r at) parts.0 parts.1 in
       let some : 0 < length r.points = omega arith in
-      let next : index_here r (index_here r at + 1) ≡ turned s ((t + 1) % length r.points) (length r.points) =
+      let next : index_here r (index_here r at + 1) ≡ turn_index s ((t + 1) % length r.points) (length r.points) =
       ap (λ z. here_of (length r.points) (z + 1)) e ∙ next_turn (length r.points) s t within some in
       let f : t + 1 + i ≡ t + suc i = omega arith in
       let Q : ℕ → Type 0 = λ z. IsRingCandidate r.members key z c in

@@ -1,6 +1,7 @@
 -- The candidates of consistent hashing: which points the backends of a set have, and whom a key chooses.
 -- The chain of points of an address is a parameter: the selector has the chain of CRCs, and the law of removal holds for all.
-use Rattle.std.specs.Prelude.{◌≡◌, ℕ, ◌*◌, ◌<◌, ◌≤◌, ◌^◌, nat_lt, Bool, true, false, cond, List, [], sum_by, Option, Some, None, slice_get, if◌then◌else◌}
+use Rattle.std.specs.Prelude.{◌≡◌, ℕ, ◌*◌, ◌<◌, ◌≤◌, ◌^◌, nat_lt, Bool, true, false, cond, if◌then◌else◌}
+use Rattle.std.specs.Prelude.{List, [], sum_by, Option, Some, None, slice_get}
 use Rattle.std.specs.List.{Contains}
 use Rattle.lb_select.specs.Backends.{Address, ipv4, ipv6, unix, Member}
 use Rattle.lb_select.specs.Draws.{Draw}

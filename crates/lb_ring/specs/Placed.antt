@@ -1,6 +1,7 @@
 -- A built selector: the backends of its set in order, the indexes of those that have points, and the points upwards, each with
 -- the number of its owner among these.
-use Rattle.std.specs.Prelude.{◌≡◌, ℕ, ◌+◌, ◌*◌, ◌<◌, ◌≤◌, nat_lt, Bool, true, List, [], ◌∷◌, length, take, map, ⊤, Option, Some, MatchOption, slice_get, option_and_then, if◌then◌else◌}
+use Rattle.std.specs.Prelude.{◌≡◌, ℕ, ◌+◌, ◌*◌, ◌<◌, ◌≤◌, nat_lt, Bool, true, ⊤, if◌then◌else◌}
+use Rattle.std.specs.Prelude.{List, [], ◌∷◌, length, take, map, slice_get, Option, Some, MatchOption, option_and_then}
 use Rattle.std.specs.List.{Contains, range_with_len}
 use Rattle.lb_select.specs.Backends.{Member}
 use Rattle.lb_select.specs.Draws.{Draw}

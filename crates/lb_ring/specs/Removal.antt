@@ -52,7 +52,8 @@ AdditionLaw =
 -- to raise a weight changes first choices to its address alone
 abbrev pub RaisingLaw : Type 0
 RaisingLaw =
-    (chain : Address → ℕ → ℕ) → IsChain chain → (before after : List Member) (a : Address) → HasDistinctAddresses before → IsRaised a before after
+    (chain : Address → ℕ → ℕ) → IsChain chain → (before after : List Member) (a : Address)
+    → HasDistinctAddresses before → IsRaised a before after
     → (key : List ℕ) (m : Member) → IsKeyChoice chain after key m → (m.address ≡ a) ⊎ StoodBefore chain before key m
 
 -- a candidate is one identity: its address and its weight

@@ -43,7 +43,7 @@ static TABLE: [u32; 256] = [
 ];
 
 // The state after one more byte: its low byte is shifted out, and what the table says of it is added.
-fn fed_byte(state: u32, byte: u8) -> u32
+fn state_after_byte(state: u32, byte: u8) -> u32
     ensures { result ≡ crc_byte state byte }
 {
     let low = (state % 256) as usize ^ usize::from(byte);
@@ -51,16 +51,16 @@ fn fed_byte(state: u32, byte: u8) -> u32
 }
 
 // The state after more bytes.
-pub(crate) fn fed(state: u32, bytes: &[u8]) -> u32
+pub(crate) fn state_after(state: u32, bytes: &[u8]) -> u32
     ensures { result ≡ crc_fed state bytes.now }
 {
     bytes
         .iter()
-        .fold(state, |state, byte| fed_byte(state, *byte))
+        .fold(state, |state, byte| state_after_byte(state, *byte))
 }
 
 // The CRC of what a state was fed from `START` on.
-pub(crate) fn finished(state: u32) -> u32
+pub(crate) fn crc_of_state(state: u32) -> u32
     ensures { result ≡ crc_last state }
 {
     state ^ START
@@ -70,5 +70,5 @@ pub(crate) fn finished(state: u32) -> u32
 pub fn crc32(bytes: &[u8]) -> u32
     ensures { result ≡ crc bytes.now }
 {
-    finished(fed(START, bytes))
+    crc_of_state(state_after(START, bytes))
 }

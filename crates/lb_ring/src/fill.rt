@@ -40,7 +40,7 @@ pub(crate) fn weight_on_ring(backends: &BTreeSet<Backend>) -> Option<usize>
 }
 
 // The backends of a set in order.
-pub(crate) fn listed(
+pub(crate) fn members_of(
     alloc: Global,
     backends: &BTreeSet<Backend>,
 ) -> Result<Vec<Backend>, AllocError>

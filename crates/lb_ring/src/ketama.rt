@@ -10,7 +10,7 @@ ghost use Rattle.lb_ring.specs.Placed.{IsMove, IsStart, IsWalkFrom, index_here, 
 ghost use Rattle.lb_ring.specs.RingLaws.{walk_starts, walk_ends, walk_undrawn, walk_few_words};
 
 use crate::crc::crc32;
-use crate::fill::{Marks, listed, marks_of, weight_on_ring};
+use crate::fill::{Marks, marks_of, members_of, weight_on_ring};
 use crate::points::{arrange, first_from};
 use lb_select::backend::Backend;
 use lb_select::refusal::Refusal;
@@ -72,7 +72,7 @@ impl KetamaHashing {
             (λ r. (r.members ≡ backends.now.keys) × (r.multiple ≡ config.point_multiple)) result }
     {
         let weight = weight_on_ring(backends).ok_or(Refusal::TooManyPoints)?;
-        let backends = listed(alloc, backends)?;
+        let backends = members_of(alloc, backends)?;
         let Marks { owners, points } = marks_of(alloc, &backends, weight)?;
         let mut points = points;
         arrange(&mut points);
@@ -121,7 +121,8 @@ impl OwnedNodeIterator {
     /// Goes one point on, for a walk of several kinds; the index in the set's order of its backend, `None` on a ring without points.
     pub fn advance(&mut self) -> Option<usize>
         ensures inside { MatchOption result ((arc_value self.old.ring).points ≡ []) (λ i. i < length (arc_value self.old.ring).members) }
-        ensures step { IsMove (arc_value self.old.ring) self.old.at (option_and_then (slice_get (arc_value self.old.ring).members) result) self.new.at }
+        ensures step { IsMove (arc_value self.old.ring) self.old.at
+            (option_and_then (slice_get (arc_value self.old.ring).members) result) self.new.at }
         ensures ring { arc_value self.new.ring ≡ arc_value self.old.ring }
     {
         let index = self.ring.owner_at(self.at)?;

@@ -5,7 +5,7 @@ ghost use Rattle.lb_select.specs.Seen.{address_seen};
 ghost use Rattle.lb_ring.specs.Circle.{IsRingOwner};
 ghost use Rattle.lb_ring.specs.Rings.{points_seen, Given, IsRingOf};
 
-use crate::points::{arrange, first_from, read_points, turned};
+use crate::points::{arrange, first_from, read_points, turn_index};
 use lb_select::backend::SocketAddr;
 use lb_select::refusal::Refusal;
 use std::marker::Model;
@@ -52,7 +52,7 @@ impl Ring {
             return None;
         }
         let turn = (j % len as u64) as usize;
-        let at = turned(first_from(points, place), turn, len);
+        let at = turn_index(first_from(points, place), turn, len);
         Some(&points[at].1)
     }
 }

@@ -1,6 +1,7 @@
 -- What a walk by least connections keeps: for each backend of weight above 0 its index and the load that was read for it, in
 -- the order of the candidates.
-use Rattle.std.specs.Prelude.{◌≡◌, ℕ, ◌+◌, ◌*◌, ◌≤◌, ◌==◌, Bool, true, List, [], ◌∷◌, map, length, take, Option, Some, MatchOption, count_by}
+use Rattle.std.specs.Prelude.{◌≡◌, ℕ, ◌+◌, ◌*◌, ◌≤◌, ◌==◌, Bool, true, List, [], ◌∷◌, map, length, take, Option, Some}
+use Rattle.std.specs.Prelude.{MatchOption, count_by}
 use Rattle.std.specs.List.{filter, slice_get, AllZip, AllByRecursion as Each}
 use Rattle.std.specs.List.Sorted.{IsPermutation, IsSortedBy, IsStrictlySortedBy}
 use Rattle.std.specs.declared.cmp.Ordering.{Ordering}
@@ -38,7 +39,8 @@ pub record IsArranged (may_give : Draw → Type 0) (ms : List Member) (order : L
   pub sorted : IsSortedBy (λ a b. is_lt (reading_cmp a b)) order
 
 -- what is left of a walk that stands at a place of the order
-pub record IsLeastRest (ms : List Member) (order : List Reading) (at : ℕ) (draws : List Draw) (cs : List Member) (ended : Bool) : Type 0 where
+pub record IsLeastRest
+    (ms : List Member) (order : List Reading) (at : ℕ) (draws : List Draw) (cs : List Member) (ended : Bool) : Type 0 where
   pub undrawn : draws ≡ []
   pub candidates : (k : ℕ) (c : Member) → slice_get cs k ≡ Some c
       → (r : Reading) × (slice_get order (at + k) ≡ Some r) × (slice_get ms r.index ≡ Some c)

@@ -28,7 +28,8 @@ pub Each-words :
 Each-words gives_word P each key [] draws h = none_drawn P draws h
 Each-words gives_word P each key (word ∷ words) draws (now, later, whole, gave, rest) =
     let Q : List Draw → Type 0 = λ x. Each P x in
-    subst Q (sym whole) (Each-append P now later (each key now word gave) (Each-words gives_word P each (to_le_bytes w64 word) words later rest))
+    let tail = Each-words gives_word P each (to_le_bytes w64 word) words later rest in
+    subst Q (sym whole) (Each-append P now later (each key now word gave) tail)
 
 -- where each word takes one draw, a walk draws no more words than it has
 words_drawn :

@@ -1,7 +1,8 @@
 -- Weighted candidates. The backends stand in the order of the set, and the partial sums of their weights cut the places
 -- from 0 to the total into intervals, one for each backend. A walk's first word chooses by interval, each later word by
 -- rank among the backends. Where the total is 0 no candidate comes.
-use Rattle.std.specs.Prelude.{◌≡◌, ℕ, ◌+◌, ◌%◌, ◌^◌, ◌<◌, ◌≤◌, Bool, true, false, List, [], ◌∷◌, ◌++◌, length, take, Option, Some, None, cond, nat_lt, Contains, sum_by, count_by}
+use Rattle.std.specs.Prelude.{◌≡◌, ℕ, ◌+◌, ◌%◌, ◌^◌, ◌<◌, ◌≤◌, Bool, true, false, cond, nat_lt, Option, Some, None}
+use Rattle.std.specs.Prelude.{List, [], ◌∷◌, ◌++◌, length, take, Contains, sum_by, count_by}
 use Rattle.std.proofs.Common.{w64, is_lt}
 use Rattle.std.specs.Int.{to_le_bytes}
 use Rattle.std.specs.List.{AllZip, slice_get}

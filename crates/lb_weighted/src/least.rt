@@ -1,6 +1,7 @@
 //! Selection by least connections: the backend whose load is least for its weight comes first.
 //! Loads are read once, when a walk begins; from then on it reads nothing and takes no memory.
-ghost use Rattle.std.specs.Prelude.{◌≡◌, ◌+◌, ◌<◌, ◌≤◌, ℕ, List, length, false, Some, None, IfOk, MatchOption, option_and_then, option_copied};
+ghost use Rattle.std.specs.Prelude.{◌≡◌, ◌+◌, ◌<◌, ◌≤◌, length, false, Some, None, IfOk, MatchOption};
+ghost use Rattle.std.specs.Option.{option_and_then, option_copied};
 ghost use Rattle.std.specs.List.{All, slice_get};
 ghost use Rattle.std.specs.List.Sorted.{IsPermutation, IsSortedBy, IsStrictlySortedBy};
 ghost use Rattle.std.specs.Ordering.{is_lt};

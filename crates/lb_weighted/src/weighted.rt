@@ -1,6 +1,7 @@
 //! Weighted selection: each backend gets a share of the first choices that is its weight against the sum of all weights.
 //! A word chooses by the partial sums of the weights; fallbacks disregard weights.
-ghost use Rattle.std.specs.Prelude.{◌≡◌, ℕ, ◌<◌, ◌≤◌, ◌^◌, ◌++◌, ◌∷◌, [], ◌+◌, ◌-◌, List, length, option_and_then, option_copied, Some, IfOk, MatchOption};
+ghost use Rattle.std.specs.Prelude.{◌≡◌, ℕ, ◌<◌, ◌≤◌, ◌^◌, ◌++◌, ◌∷◌, [], ◌+◌, ◌-◌, List, length, Some, IfOk, MatchOption};
+ghost use Rattle.std.specs.Option.{option_and_then, option_copied};
 ghost use Rattle.std.specs.List.{slice_get};
 ghost use Rattle.std.specs.Arc.{arc_value};
 ghost use Rattle.lb_select.specs.Backends.{Member};
@@ -9,7 +10,8 @@ ghost use Rattle.lb_select.specs.Refusals.{Refuses};
 ghost use Rattle.lb_select.specs.Walks.{IsStep};
 ghost use Rattle.lb_weighted.specs.WeightLaws.{Each-words, few_words, rest_none, rest_ends};
 ghost use Rattle.lb_weighted.specs.Sums.{AreSums, HasBinaryDigits};
-ghost use Rattle.lb_weighted.specs.Weights.{total_weight, weighted_refusal, HoldsPlace, IsFirstChoice, IsFallback, IsWeightedWalk, IsWeightedRest};
+ghost use Rattle.lb_weighted.specs.Weights.{total_weight, weighted_refusal, HoldsPlace, IsFirstChoice, IsFallback};
+ghost use Rattle.lb_weighted.specs.Weights.{IsWeightedWalk, IsWeightedRest};
 
 use crate::sums::{CountedSums, index_of_place};
 use lb_select::algorithms::FnvHasher;
@@ -240,7 +242,8 @@ impl<H: SelectionAlgorithm> BackendSelection for Weighted<H> {
 
     ghost may_draw_random = { λ ms config. H.may_draw_random };
 
-    ghost undrawn = { λ ms config never key ds cs e h. Each-words H.gives_word IsNotRandom (H.undrawn never) key (h.word ∷ h.later) ds h.drawn };
+    ghost undrawn = { λ ms config never key ds cs e h.
+        Each-words H.gives_word IsNotRandom (H.undrawn never) key (h.word ∷ h.later) ds h.drawn };
 
     ghost few_words = { λ ms config key ds cs e h. few_words H.gives_word H.one_word ms key ds cs e h };
 

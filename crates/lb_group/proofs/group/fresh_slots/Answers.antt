@@ -1,9 +1,8 @@
 -- One slot more, for one configuration more.
-use Rattle.std.proofs.Common.{◌≡◌, ◌++◌, [], ◌∷◌, List, map, ap, refl, ◌∙◌}
+use Rattle.std.proofs.Common.{◌≡◌, [], ◌∷◌, ap, refl, ◌∙◌}
 use Rattle.std.proofs.lemmas.List.{map-append}
 use Rattle.lb_group.specs.Fresh.{fresh_slot}
 use Rattle.lb_group.specs.SlotSeen.{slot_value}
-use Rattle.lb_group.specs.Values.{SlotValue}
 use Rattle.lb_group.proofs.group.fresh_slots.Goals as goal
 
 pub loop-config-preserved : goal.loop-config-preserved

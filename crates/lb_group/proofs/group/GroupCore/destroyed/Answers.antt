@@ -1,8 +1,5 @@
 -- The slot of the report is put back in its place.
-use Rattle.std.proofs.Common.{arith, ◌≡◌, ◌≤◌, ◌∙◌, sym, true, false, refl, length}
-use Rattle.lb_group.specs.GroupHistory.{is_taken_out}
-use Rattle.lb_group.specs.SlotCalls.{destroyed_slot}
-use Rattle.lb_group.specs.SlotSeen.{slot_value}
+use Rattle.std.proofs.Common.{arith, ◌≤◌, ◌∙◌, sym, true, false, refl, length}
 use Rattle.lb_group.proofs.Pasts.{lt-false}
 use Rattle.lb_group.proofs.GroupSteps.{facing, count-is, site-of}
 use Rattle.lb_group.proofs.CallSteps.{owed-at, reported-stands}

@@ -1,5 +1,5 @@
 -- The slots are at their start.
-use Rattle.std.proofs.Common.{rules, ap, refl, [], ◌∙◌, sym}
+use Rattle.std.proofs.Common.{rules, ap, refl, []}
 use Rattle.lb_rebuild.specs.Gate.{GateView}
 use Rattle.lb_group.proofs.Memberships.{starts}
 use Rattle.lb_group.proofs.group.GroupCore.new.Goals as goal
