@@ -44,7 +44,11 @@ address_cmp = then_cmp (on family_of nat_cmp) (then_cmp (on bytes_of (slice_cmp 
 abbrev pub member_cmp : Member → Member → Ordering
 member_cmp = then_cmp (on (λ m. m.address) address_cmp) (on (λ m. m.weight) nat_cmp)
 
--- backend identity: the same address and the same weight
+-- the identity of a backend
+abbrev pub identity_of : Member → Address × ℕ
+identity_of m = (m.address, m.weight)
+
+-- the same identity
 abbrev pub same_member : Member → Member → Bool
 same_member = eq_by_cmp member_cmp
 

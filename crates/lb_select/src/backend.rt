@@ -7,10 +7,9 @@ ghost use Rattle.std.specs.Cmp.Rules.{comparing};
 ghost use Rattle.std.specs.Ordering.{as_partial_cmp};
 ghost use Rattle.std.proofs.Common.{rules};
 ghost use Rattle.lb_select.specs.AddressText.{IsInternetText, internet_of_text, address_of_text, address_refusal, bare_member, path_of_text, path_refusal, member_text, GivesSocket};
-ghost use Rattle.lb_select.specs.Backends.{Address, unix, Member, member_cmp, same_member, member_hash};
+ghost use Rattle.lb_select.specs.Backends.{Address, unix, Member, member_cmp, same_member, member_hash, identity_of};
 ghost use Rattle.lb_select.specs.Refusals.{Refuses};
 ghost use Rattle.lb_select.specs.declared.refusal.Refusal.TheVariants.{InvalidAddress};
-ghost use Rattle.lb_select.specs.SameBackend.{identity_of};
 ghost use Rattle.lb_select.specs.Seen.{address_seen, entries_seen};
 ghost use Rattle.lb_select.specs.Identity.{hash_alike};
 

@@ -2,8 +2,7 @@
 //! its contract holds of every backend, every address and every walk.
 ghost use Rattle.std.specs.Prelude.{◌≡◌, ◌↔◌, IsTrue, [], length, Some};
 ghost use Rattle.lb_select.specs.AddressText.{address_of_text, address_text, internet_of_text};
-ghost use Rattle.lb_select.specs.Backends.{ipv4, ipv6, unix, Member, address_cmp, same_member};
-ghost use Rattle.lb_select.specs.SameBackend.{identity_of};
+ghost use Rattle.lb_select.specs.Backends.{ipv4, ipv6, unix, Member, address_cmp, same_member, identity_of};
 ghost use Rattle.lb_select.specs.Seen.{address_seen, inet_seen};
 ghost use Rattle.lb_select.specs.UniqueLaws.{TurnsAreDistinct, LimitStaysMet, EndStaysMet};
 

@@ -5,6 +5,7 @@
 mod address;
 pub mod algorithms;
 pub mod backend;
+pub mod causes;
 pub mod laws;
 pub mod refusal;
 mod seen;

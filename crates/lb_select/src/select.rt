@@ -4,6 +4,7 @@ ghost use Rattle.std.specs.Fn.{FnReturnsAt};
 ghost use Rattle.std.specs.Arc.{arc_value};
 ghost use Rattle.lb_select.specs.Backends.{same_member};
 ghost use Rattle.lb_select.specs.Selections.{Selects};
+ghost use Rattle.lb_select.specs.Selectors.{walks_of};
 
 use crate::backend::Backend;
 use crate::refusal::Refusal;
@@ -26,7 +27,7 @@ pub fn select<S: BackendSelection, W: WordSource, F: Fn(&Backend) -> bool>(
 ) -> Result<Option<Backend>, Refusal>
     requires { F.IsAlwaysCallable accept.now }
     ensures { Selects same_member (λ b r. FnReturnsAt F.Fn accept.now b r) limit W.gives
-        (S.walks (S.members (arc_value selector.now)) (S.built_with (arc_value selector.now)) key.now) words.old result words.new }
+        (walks_of S.BackendSelection (arc_value selector.now) key.now) words.old result words.new }
 {
     let mut iter = S::iter(selector, key, words)?;
     let mut seen = SeenBackends::new(alloc);

@@ -8,7 +8,7 @@ use Rattle.std.proofs.lemmas.Option.{same_Some}
 use Rattle.std.proofs.lemmas.Slice.Zip.{AllZip-long}
 use Rattle.lb_select.specs.Backends.{Member, member_cmp}
 use Rattle.lb_select.specs.Draws.{Draw, ticket, random}
-use Rattle.lb_select.specs.Fnv.{fnv}
+use Rattle.lb_select.specs.Algorithms.{fnv}
 use Rattle.lb_weighted.specs.Weights.{Words, total_weight, IsFirstChoice, IsFallback, AreCandidates}
 use Rattle.lb_weighted.specs.Shares.{WalksAreDetermined}
 use Rattle.lb_weighted.proofs.WeightLemmas.{member_cmp_total, smaller_count}

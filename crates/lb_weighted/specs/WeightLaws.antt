@@ -7,7 +7,7 @@ use Rattle.std.specs.List.{AllByRecursion as Each}
 use Rattle.std.proofs.lemmas.Slice.Zip.{AllZip-long}
 use Rattle.lb_select.specs.Backends.{Member}
 use Rattle.lb_select.specs.Draws.{Draw, words_in}
-use Rattle.lb_select.specs.WalkLaws.{none_drawn}
+use Rattle.lb_select.specs.AlgorithmLaws.{none_drawn}
 use Rattle.lb_weighted.specs.Weights.{Words, total_weight, IsFallback, AreCandidates, RestCandidates, IsWeightedWalk, IsWeightedRest}
 
 -- two lists of draws, none of them random
