@@ -109,7 +109,7 @@ index_cmp ms i j m n sorted p q =
     (cases_order i j)
 
 -- so what is read of them does
-alike :
+pub alike :
     (ms : List Member) → IsStrictlySortedBy member_cmp ms → (m : Member) (r : Reading) → IsReading ms (m, r.load) r
     → (e : Member × ℕ) (s : Reading) → IsReading ms e s → is_lt (reading_cmp s r) ≡ is_lt (load_cmp e (m, r.load))
 alike ms sorted m r this e s that =

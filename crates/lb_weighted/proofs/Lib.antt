@@ -3,6 +3,7 @@ pub mod Halves
 pub mod LeastOrder
 pub mod LeastRanks
 pub mod LeastReading
+pub mod LeastVisits
 pub mod LeastWalking
 pub mod Shares
 pub mod Summing

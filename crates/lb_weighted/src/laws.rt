@@ -1,5 +1,6 @@
-//! What weights come to over a whole turn of words: laws of weighted selection, over its definitions alone.
+//! What weights come to over a whole turn of words, and loads over a whole walk: laws over the definitions alone.
 //! Each is a function that does nothing; its contract is the law.
+ghost use Rattle.lb_weighted.specs.LeastLoads.{LeastVisitsAll};
 ghost use Rattle.lb_weighted.specs.Shares.{WeightsAreExact, AllAreVisited, TicketsAreConsecutive, WalksAreDetermined};
 
 use lb_select::algorithms::{FnvHasher, Random, RoundRobin};
@@ -31,4 +32,9 @@ pub fn walks_are_determined()
     ensures hashed { WalksAreDetermined ⟦<FnvHasher as SelectionAlgorithm>⟧.gives_word }
     ensures in_turn { WalksAreDetermined ⟦<RoundRobin as SelectionAlgorithm>⟧.gives_word }
     ensures at_random { WalksAreDetermined ⟦<Random as SelectionAlgorithm>⟧.gives_word }
+{}
+
+/// A whole walk by least connections gives each backend of weight above 0 once, and no other backend.
+pub fn least_visits_all()
+    ensures { LeastVisitsAll }
 {}
