@@ -1,0 +1,3 @@
+pub mod Snapshots
+pub mod ViewEvents
+pub mod Views

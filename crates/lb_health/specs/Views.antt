@@ -1,0 +1,16 @@
+-- What it is for a view to be as its events left it.
+use Rattle.std.specs.Prelude.{◌≡◌, ◌⊎◌, ℕ, Bool, true, List, IsSome, Some, None}
+use Rattle.lb_select.specs.Backends.{Member}
+use Rattle.lb_health.specs.Snapshots.{SnapshotValue, ViewValue, value_at}
+use Rattle.lb_health.specs.ViewEvents.{ViewEvent, generation_after, snapshots_after, listed, flag_after}
+
+-- each flag that is needed is stored, and what is stored is right
+pub record IsViewAfter (events : List ViewEvent) (v : ViewValue) : Type 0 where
+  pub generation : v.generation ≡ generation_after events
+  pub snapshots : v.snapshots ≡ snapshots_after events
+  pub needed : (b : Member) → listed events b ≡ true → IsSome (value_at v.flags b)
+  pub stored : (b : Member) (on : Bool) → value_at v.flags b ≡ Some on → on ≡ flag_after events b
+
+-- a flag stays, or is a new one that enables
+abbrev pub Flags : List (Member × Bool) → List (Member × Bool) → Member → Type 0
+Flags old new b = (value_at new b ≡ value_at old b) ⊎ ((value_at old b ≡ None) × (value_at new b ≡ Some true))
