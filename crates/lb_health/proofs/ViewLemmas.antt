@@ -1,6 +1,6 @@
 -- How the events of a view change what its value shows.
 use Rattle.std.proofs.Common.{◌≡◌, ◌≤◌, ℕ, ◌+◌, Bool, true, false, not, cond, List, [], ◌∷◌, ◌++◌, map, filter, refl, sym, ◌∙◌, ap, subst, eqb, Some, None, Option, inl, inr}
-use Rattle.std.specs.Prelude.{IsSome, ◌&&◌, ◌||◌, ◌⊎◌, if◌then◌else◌, ◌==◌, nat_lt}
+use Rattle.std.specs.Prelude.{IsSome, OnErr, Result, Ok, Err, ◌&&◌, ◌||◌, ◌⊎◌, if◌then◌else◌, ◌==◌, nat_lt}
 use Rattle.std.specs.HashMap.Eq.{lookup_congr}
 use Rattle.std.specs.List.{list_any}
 use Rattle.std.specs.Option.{unwrap_or, is_some}
@@ -26,25 +26,28 @@ filter-seen p (s ∷ ss) =
 pub lists-filter : (b : Member) (p : SnapshotValue → Bool) (ss : List SnapshotValue) → lists_in b (filter p ss) ≡ true → lists_in b ss ≡ true
 lists-filter b p [] h = h
 lists-filter b p (s ∷ ss) h =
-    elim (p s) as (λ t. lists_in b (cond t (s ∷ filter p ss) (filter p ss)) ≡ true → (list_any (same_member b) s.members || lists_in b ss) ≡ true)
-    [ true ↦ λ e. elim (list_any (same_member b) s.members) as (λ u. (u || lists_in b (filter p ss)) ≡ true → (u || lists_in b ss) ≡ true) [ true ↦ λ _. refl | false ↦ λ r. lists-filter b p ss r ] e
-    | false ↦ λ e. elim (list_any (same_member b) s.members) as (λ u. (u || lists_in b ss) ≡ true) [ true ↦ refl | false ↦ lists-filter b p ss e ] ] h
+    elim (p s) as (λ t. lists_in b (cond t (s ∷ filter p ss) (filter p ss)) ≡ true → (list_any (same_member b) s.members || lists_in b ss) ≡ true) [
+      | true ↦ λ e. elim (list_any (same_member b) s.members) as (λ u. (u || lists_in b (filter p ss)) ≡ true → (u || lists_in b ss) ≡ true) [ true ↦ λ _. refl | false ↦ λ r. lists-filter b p ss r ] e
+      | false ↦ λ e. elim (list_any (same_member b) s.members) as (λ u. (u || lists_in b ss) ≡ true) [ true ↦ refl | false ↦ lists-filter b p ss e ]
+    ] h
 
 -- a count of holds changes no list of members
 pub lists-at_generation : (b : Member) (g : ℕ) (f : SnapshotValue → SnapshotValue) → ((s : SnapshotValue) → (f s).members ≡ s.members)
     → (ss : List SnapshotValue) → lists_in b (at_generation g f ss) ≡ lists_in b ss
 lists-at_generation b g f same [] = refl
 lists-at_generation b g f same (s ∷ ss) =
-    elim (s.generation == g) as (λ t. lists_in b (if t then f s ∷ ss else s ∷ at_generation g f ss) ≡ (list_any (same_member b) s.members || lists_in b ss))
-    [ true ↦ ap (λ ms. list_any (same_member b) ms || lists_in b ss) (same s)
-    | false ↦ ap (λ r. list_any (same_member b) s.members || r) (lists-at_generation b g f same ss) ]
+    elim (s.generation == g) as (λ t. lists_in b (if t then f s ∷ ss else s ∷ at_generation g f ss) ≡ (list_any (same_member b) s.members || lists_in b ss)) [
+      | true ↦ ap (λ ms. list_any (same_member b) ms || lists_in b ss) (same s)
+      | false ↦ ap (λ r. list_any (same_member b) s.members || r) (lists-at_generation b g f same ss)
+    ]
 
 -- the same snapshots in another order
 pub lists-by_age : (b : Member) (ss : List SnapshotValue) → lists_in b (by_age ss) ≡ lists_in b ss
 lists-by_age b [] = refl
-lists-by_age b (s ∷ ss) = list_any-append _ ss (s ∷ []) ∙ elim (list_any (same_member b) s.members) as (λ t. (lists_in b ss || (t || false)) ≡ (t || lists_in b ss))
-    [ true ↦ elim (lists_in b ss) as (λ u. (u || (true || false)) ≡ true) [ true ↦ refl | false ↦ refl ]
-    | false ↦ elim (lists_in b ss) as (λ u. (u || (false || false)) ≡ u) [ true ↦ refl | false ↦ refl ] ]
+lists-by_age b (s ∷ ss) = list_any-append _ ss (s ∷ []) ∙ elim (list_any (same_member b) s.members) as (λ t. (lists_in b ss || (t || false)) ≡ (t || lists_in b ss)) [
+  | true ↦ elim (lists_in b ss) as (λ u. (u || (true || false)) ≡ true) [ true ↦ refl | false ↦ refl ]
+  | false ↦ elim (lists_in b ss) as (λ u. (u || (false || false)) ≡ u) [ true ↦ refl | false ↦ refl ]
+]
 
 -- one identity is listed or not
 pub lists-same : (b c : Member) → same_member b c ≡ true → (ss : List SnapshotValue) → lists_in b ss ≡ lists_in c ss
@@ -66,9 +69,10 @@ flag-kept ss flags b on e =
 pub unlisted-enabled : (views : List ViewEvent) (b : Member) → listed views b ≡ false → flag_after views b ≡ true
 unlisted-enabled [] b u = refl
 unlisted-enabled (Set c on ∷ earlier) b u =
-    elim (same_member c b) as (λ t. same_member c b ≡ t → (if t && listed earlier c then on else flag_after earlier b) ≡ true)
-    [ true ↦ λ e. rw (lists-same c b e (snapshots_after earlier) ∙ u) (unlisted-enabled earlier b u)
-    | false ↦ λ e. unlisted-enabled earlier b u ] refl
+    elim (same_member c b) as (λ t. same_member c b ≡ t → (if t && listed earlier c then on else flag_after earlier b) ≡ true) [
+      | true ↦ λ e. rw (lists-same c b e (snapshots_after earlier) ∙ u) (unlisted-enabled earlier b u)
+      | false ↦ λ e. unlisted-enabled earlier b u
+    ] refl
 unlisted-enabled (Shown members cells ∷ earlier) b u = rw u refl
 unlisted-enabled (Released g ∷ earlier) b u = rw u refl
 unlisted-enabled (Held g ∷ earlier) b u = unlisted-enabled earlier b (sym (lists-at_generation b g held_more (λ s. refl) (snapshots_after earlier)) ∙ u)
@@ -80,11 +84,13 @@ roomier views v w h g s flags = record {
   generation = g ∙ h.generation;
   snapshots = s ∙ h.snapshots;
   needed = λ b l. elim (flags b) [ inl e ↦ rw e (h.needed b l) | inr n ↦ ap is_some n.1 ];
-  stored = λ b on o. elim (flags b)
-    [ inl e ↦ h.stored b on (sym e ∙ o)
-    | inr n ↦ elim (listed views b) as (λ t. listed views b ≡ t → on ≡ flag_after views b)
-        [ true ↦ λ l. absurd (false≢true (sym (ap is_some n.0) ∙ h.needed b l))
-        | false ↦ λ u. ap (λ r. unwrap_or r on) (sym o ∙ n.1) ∙ sym (unlisted-enabled views b u) ] refl ];
+  stored = λ b on o. elim (flags b) [
+    | inl e ↦ h.stored b on (sym e ∙ o)
+    | inr n ↦ elim (listed views b) as (λ t. listed views b ≡ t → on ≡ flag_after views b) [
+      | true ↦ λ l. absurd (false≢true (sym (ap is_some n.0) ∙ h.needed b l))
+      | false ↦ λ u. ap (λ r. unwrap_or r on) (sym o ∙ n.1) ∙ sym (unlisted-enabled views b u)
+    ] refl
+  ];
 }
 
 -- a hold
@@ -103,13 +109,13 @@ pub released : (views : List ViewEvent) (v w : ViewValue) (g : ℕ) → IsViewAf
     → IsViewAfter (Released g ∷ views) w
 released views v w g h n s f =
     let after : w.snapshots ≡ snapshots_after (Released g ∷ views) = s ∙ ap (λ m. living m (at_generation g held_less v.snapshots)) h.generation
-        ∙ ap (λ ss. living (generation_after views) (at_generation g held_less ss)) h.snapshots in
+    ∙ ap (λ ss. living (generation_after views) (at_generation g held_less ss)) h.snapshots in
     let flags : w.flags ≡ flags_listed (snapshots_after (Released g ∷ views)) v.flags = f ∙ ap (λ ss. flags_listed ss v.flags) after in
     record {
       generation = n ∙ h.generation;
       snapshots = after;
       needed = λ b l. rw (flags, flag-listed (snapshots_after (Released g ∷ views)) v.flags b, l)
-        (h.needed b (sym (lists-at_generation b g held_less (λ s. refl) (snapshots_after views)) ∙ lists-filter b _ (at_generation g held_less (snapshots_after views)) l));
+          (h.needed b (sym (lists-at_generation b g held_less (λ s. refl) (snapshots_after views)) ∙ lists-filter b _ (at_generation g held_less (snapshots_after views)) l));
       stored = λ b on o. let kept = flag-kept (snapshots_after (Released g ∷ views)) v.flags b on (rw flags at o) in rw kept.0 (h.stored b on kept.1);
     }
 
@@ -122,15 +128,16 @@ pub shown : (views : List ViewEvent) (v w : ViewValue) (ms : List Member) (cells
     → IsViewAfter (Shown ms cells ∷ views) w
 shown views v w ms cells h all n s f =
     let after : w.snapshots ≡ snapshots_after (Shown ms cells ∷ views) = s ∙ ap (λ m. new_snapshot (m + 1) ms cells ∷ living (m + 1) (by_age v.snapshots)) h.generation
-        ∙ ap (λ ss. new_snapshot (generation_after views + 1) ms cells ∷ living (generation_after views + 1) (by_age ss)) h.snapshots in
+    ∙ ap (λ ss. new_snapshot (generation_after views + 1) ms cells ∷ living (generation_after views + 1) (by_age ss)) h.snapshots in
     let flags : w.flags ≡ flags_listed (snapshots_after (Shown ms cells ∷ views)) v.flags = f ∙ ap (λ ss. flags_listed ss v.flags) after in
     record {
       generation = n ∙ ap (λ m. m + 1) h.generation;
       snapshots = after;
       needed = λ b l. rw (flags, flag-listed (snapshots_after (Shown ms cells ∷ views)) v.flags b, l)
-        (elim (list_any (same_member b) ms) as (λ t. list_any (same_member b) ms ≡ t → (t || lists_in b (living (generation_after views + 1) (by_age (snapshots_after views)))) ≡ true → IsSome (value_at v.flags b))
-          [ true ↦ λ e _. all b e
-          | false ↦ λ _ r. h.needed b (sym (lists-by_age b (snapshots_after views)) ∙ lists-filter b _ (by_age (snapshots_after views)) r) ] refl l);
+          (elim (list_any (same_member b) ms) as (λ t. list_any (same_member b) ms ≡ t → (t || lists_in b (living (generation_after views + 1) (by_age (snapshots_after views)))) ≡ true → IsSome (value_at v.flags b)) [
+            | true ↦ λ e _. all b e
+            | false ↦ λ _ r. h.needed b (sym (lists-by_age b (snapshots_after views)) ∙ lists-filter b _ (by_age (snapshots_after views)) r)
+          ] refl l);
       stored = λ b on o. let kept = flag-kept (snapshots_after (Shown ms cells ∷ views)) v.flags b on (rw flags at o) in rw kept.0 (h.stored b on kept.1);
     }
 
@@ -176,14 +183,15 @@ pub flags-insert : (old cur new : List (Member × Bool)) (b : Member) → value_
     → ((q : Member) → value_at new q ≡ cond (same_member b q) (Some true) (value_at cur q))
     → ((q : Member) → Flags old cur q) → (q : Member) → Flags old new q
 flags-insert old cur new b none u before q =
-    elim (same_member b q) as (λ t. same_member b q ≡ t → Flags old new q)
-    [ true ↦ λ e.
-        let nothing : value_at cur q ≡ None = sym (lookup_congr same_member (same_equiv.congr) cur b q e) ∙ none in
-        let now : value_at new q ≡ Some true = u q ∙ rw e refl in
-        elim (before q) [ inl k ↦ inr (sym k ∙ nothing, now) | inr n ↦ inr (n.0, now) ]
-    | false ↦ λ e.
-        let now : value_at new q ≡ value_at cur q = u q ∙ rw e refl in
-        elim (before q) [ inl k ↦ inl (now ∙ k) | inr n ↦ inr (n.0, now ∙ n.1) ] ] refl
+    elim (same_member b q) as (λ t. same_member b q ≡ t → Flags old new q) [
+      | true ↦ λ e.
+          let nothing : value_at cur q ≡ None = sym (lookup_congr same_member (same_equiv.congr) cur b q e) ∙ none in
+          let now : value_at new q ≡ Some true = u q ∙ rw e refl in
+          elim (before q) [ inl k ↦ inr (sym k ∙ nothing, now) | inr n ↦ inr (n.0, now) ]
+      | false ↦ λ e.
+          let now : value_at new q ≡ value_at cur q = u q ∙ rw e refl in
+          elim (before q) [ inl k ↦ inl (now ∙ k) | inr n ↦ inr (n.0, now ∙ n.1) ]
+    ] refl
 
 -- and then the backend has one
 pub all-insert : (cur new : List (Member × Bool)) (b : Member) (rest : List Member)
@@ -191,24 +199,33 @@ pub all-insert : (cur new : List (Member × Bool)) (b : Member) (rest : List Mem
     → IsSome (value_at cur q) ⊎ (list_any (same_member q) (b ∷ rest) ≡ true)
     → IsSome (value_at new q) ⊎ (list_any (same_member q) rest ≡ true)
 all-insert cur new b rest u q before =
-    elim (same_member b q) as (λ t. same_member b q ≡ t → IsSome (value_at new q) ⊎ (list_any (same_member q) rest ≡ true))
-    [ true ↦ λ e. let now : value_at new q ≡ Some true = u q ∙ rw e refl in inl (ap is_some now)
-    | false ↦ λ e. let now : value_at new q ≡ value_at cur q = u q ∙ rw e refl in elim before
-        [ inl k ↦ inl (ap is_some now ∙ k)
-        | inr l ↦ let other : same_member q b ≡ false = same_equiv.symm q b ∙ e in inr (rw other at l) ] ] refl
+    elim (same_member b q) as (λ t. same_member b q ≡ t → IsSome (value_at new q) ⊎ (list_any (same_member q) rest ≡ true)) [
+      | true ↦ λ e. let now : value_at new q ≡ Some true = u q ∙ rw e refl in inl (ap is_some now)
+      | false ↦ λ e. let now : value_at new q ≡ value_at cur q = u q ∙ rw e refl in elim before [
+        | inl k ↦ inl (ap is_some now ∙ k)
+        | inr l ↦ let other : same_member q b ≡ false = same_equiv.symm q b ∙ e in inr (rw other at l)
+      ]
+    ] refl
 
 -- a backend that had one already
 pub all-there : (cur : List (Member × Bool)) (b : Member) (rest : List Member) → IsSome (value_at cur b) → (q : Member)
     → IsSome (value_at cur q) ⊎ (list_any (same_member q) (b ∷ rest) ≡ true)
     → IsSome (value_at cur q) ⊎ (list_any (same_member q) rest ≡ true)
 all-there cur b rest there q before =
-    elim before
-    [ inl k ↦ inl k
-    | inr l ↦ elim (same_member q b) as (λ t. same_member q b ≡ t → (t || list_any (same_member q) rest) ≡ true → IsSome (value_at cur q) ⊎ (list_any (same_member q) rest ≡ true))
-        [ true ↦ λ e _. inl (ap is_some (lookup_congr same_member (same_equiv.congr) cur q b e) ∙ there)
-        | false ↦ λ _ r. inr r ] refl l ]
+    elim before [
+      | inl k ↦ inl k
+      | inr l ↦ elim (same_member q b) as (λ t. same_member q b ≡ t → (t || list_any (same_member q) rest) ≡ true → IsSome (value_at cur q) ⊎ (list_any (same_member q) rest ≡ true)) [
+        | true ↦ λ e _. inl (ap is_some (lookup_congr same_member (same_equiv.congr) cur q b e) ∙ there)
+        | false ↦ λ _ r. inr r
+      ] refl l
+    ]
 
 -- an option without a value
 pub none_of : {A : Type 0} (o : Option A) → is_some o ≡ false → o ≡ None
 none_of None e = refl
 none_of (Some x) e = absurd (false≢true (sym e))
+
+-- what holds of any result holds of an error
+pub on_err : {T E P : Type 0} (r : Result T E) → P → OnErr r P
+on_err (Ok x) p = tt
+on_err (Err e) p = p

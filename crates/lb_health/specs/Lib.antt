@@ -1,3 +1,4 @@
+pub mod Joined
 pub mod Snapshots
 pub mod ViewEvents
 pub mod Views

@@ -55,3 +55,8 @@ value_at entries b = lookup (same_member b) entries
 -- the flags of the backends that these snapshots list
 abbrev pub flags_listed : List SnapshotValue → List (Member × Bool) → List (Member × Bool)
 flags_listed ss flags = filter (λ e. lists_in e.0 ss) flags
+
+-- what holds of the first snapshot, where there is one
+abbrev pub IfHead : List SnapshotValue → (SnapshotValue → Type 0) → Type 0
+IfHead [] P = Unit {0}
+IfHead (s ∷ ss) P = P s

@@ -1,5 +1,8 @@
 -- What it is for a view to be as its events left it.
-use Rattle.std.specs.Prelude.{◌≡◌, ◌⊎◌, ℕ, Bool, true, List, IsSome, Some, None}
+use Rattle.std.specs.Prelude.{◌≡◌, ◌⊎◌, ℕ, Bool, true, List, IsSome, Some, None, Result, Err}
+use Rattle.lb_select.specs.declared.refusal.Refusal.{Refusal}
+use Rattle.lb_select.specs.declared.refusal.Refusal.TheVariants.{GenerationsExhausted}
+use Rattle.lb_registry.specs.Registry.{IsUpdateRefusal}
 use Rattle.lb_select.specs.Backends.{Member}
 use Rattle.lb_health.specs.Snapshots.{SnapshotValue, ViewValue, value_at}
 use Rattle.lb_health.specs.ViewEvents.{ViewEvent, generation_after, snapshots_after, listed, flag_after}
@@ -14,3 +17,8 @@ pub record IsViewAfter (events : List ViewEvent) (v : ViewValue) : Type 0 where
 -- a flag stays, or is a new one that enables
 abbrev pub Flags : List (Member × Bool) → List (Member × Bool) → Member → Type 0
 Flags old new b = (value_at new b ≡ value_at old b) ⊎ ((value_at old b ≡ None) × (value_at new b ≡ Some true))
+
+-- an update of a view that may be refused: for memory, because a generation or a number is not left, or because the registry
+-- has no such view
+abbrev pub IsViewRefusal : {A : Type 0} → Result A Refusal → Type 0
+IsViewRefusal r = (r ≡ Err GenerationsExhausted) ⊎ IsUpdateRefusal r

@@ -41,3 +41,12 @@ pub(crate) fn place_of(snapshots: &[ViewSnapshot], generation: u64) -> Option<us
         .iter()
         .position(|snapshot| snapshot.generation == generation)
 }
+
+// Whether one of the snapshots is of this generation.
+pub(crate) fn is_among(snapshots: &[ViewSnapshot], generation: u64) -> bool
+    ensures { result ≡ list_any (λ s. s.generation == generation) snapshots.now }
+{
+    snapshots
+        .iter()
+        .any(|snapshot| snapshot.generation == generation)
+}

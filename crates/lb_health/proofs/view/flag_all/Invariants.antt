@@ -10,5 +10,5 @@ abbrev pub invariant-loop-backend : goal.invariant-loop-backend
 invariant-loop-backend l = record {
   flags : (q : Member) → Flags l.fn.flags.entries l.flags.entries q;
   all : (q : Member) → list_any (same_member q) l.members.keys ≡ true
-    → IsSome (value_at l.flags.entries q) ⊎ (list_any (same_member q) l.backend-iterator ≡ true);
+      → IsSome (value_at l.flags.entries q) ⊎ (list_any (same_member q) l.backend-iterator ≡ true);
 }

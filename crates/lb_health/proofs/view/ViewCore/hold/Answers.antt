@@ -24,18 +24,18 @@ pub returns-then-self-generation-clause-after : goal.returns-then-self-generatio
 returns-then-self-generation-clause-after c = λ views h.
     let before = subst (λ v. IsViewAfter views v) (sym c.self.view_is) h in
     held views _ _ c.args.generation before refl
-      (sym (at_current c.args.generation held_more (snapshot_of c.self.inside.current) (map snapshot_of c.self.inside.earlier.items) c.if-self-generation.true)) refl
+    (sym (at_current c.args.generation held_more (snapshot_of c.self.inside.current) (map snapshot_of c.self.inside.earlier.items) c.if-self-generation.true)) refl
 
 pub returns-in-Some-clause-after : goal.returns-in-Some-clause-after
 returns-in-Some-clause-after c = λ views h.
     let before = subst (λ v. IsViewAfter views v) (sym c.self.view_is) h in
     let place = sym c.place_of.ensures ∙ c.in-Some.is in
     held views _ _ c.args.generation before refl
-      (at_found c.args.generation held_more (snapshot_of c.self.inside.current) c.self.inside.earlier.items c.in-Some.place c.index_mut.result.now _ c.if-self-generation.false
-        (rw c.as_slice.ensures.value at place) c.index_mut.ensures.value refl) refl
+    (at_found c.args.generation held_more (snapshot_of c.self.inside.current) c.self.inside.earlier.items c.in-Some.place c.index_mut.result.now _ c.if-self-generation.false
+    (rw c.as_slice.ensures.value at place) c.index_mut.ensures.value refl) refl
 
 pub returns-in_default-clause-after : goal.returns-in_default-clause-after
 returns-in_default-clause-after c = λ views h.
     let place = sym c.place_of.ensures ∙ c.in_default.is in
     held views _ _ c.args.generation h refl
-      (rw (← c.self.view_is) (at_none c.args.generation held_more (snapshot_of c.self.inside.current) c.self.inside.earlier.items c.if-self-generation.false (rw c.as_slice.ensures.value at place))) refl
+    (rw (← c.self.view_is) (at_none c.args.generation held_more (snapshot_of c.self.inside.current) c.self.inside.earlier.items c.if-self-generation.false (rw c.as_slice.ensures.value at place))) refl
