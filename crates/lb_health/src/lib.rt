@@ -2,5 +2,8 @@
 //! A view is told by the history of its events, and a registry of cells by its own; a call says what it adds to each.
 #![tactic(auto)]
 
+pub mod backends;
+pub mod discovery;
+pub mod registry;
 mod snapshot;
 pub mod view;
