@@ -5,10 +5,14 @@
 #[cfg(test)]
 mod destruction;
 #[cfg(test)]
-mod made;
+mod fixtures;
+#[cfg(test)]
+mod list_iterator;
 #[cfg(test)]
 mod noting;
 #[cfg(test)]
 mod ring;
 #[cfg(test)]
 mod selection;
+#[cfg(test)]
+mod unique_walk;
