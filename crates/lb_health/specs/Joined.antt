@@ -30,7 +30,8 @@ settings_of entries = map (λ e. (bare_member e.0.1 (address_seen e.0.0), e.1)) 
 -- settings reach the members of the newest membership alone
 abbrev pub after_settings : List (Member × Bool) → List ViewEvent → List ViewEvent
 after_settings [] views = views
-after_settings (e ∷ rest) views = after_settings rest (if list_any (same_member e.0) (membership_after views) then Set e.0 e.1 ∷ views else views)
+after_settings (e ∷ rest) views =
+    after_settings rest (if list_any (same_member e.0) (membership_after views) then Set e.0 e.1 ∷ views else views)
 
 -- a new membership: the view shows it with the cells of its backends' keys
 abbrev pub view_changed : (Member → Member) → ℕ → List Member → List registry.Event → List ViewEvent → List ViewEvent
@@ -53,10 +54,12 @@ registry_updated key_of id members views events =
 
 -- the cell that the snapshot has for the backend is kept and healthy
 abbrev pub IsHealthyIn : (Member → Member) → List registry.Event → Member → SnapshotValue → Type 0
-IsHealthyIn key_of events b s = IsSomeAnd (value_at s.cells b) (λ c. registry.IsCellKept key_of c events × (registry.cell_health key_of c events ≡ true))
+IsHealthyIn key_of events b s =
+    IsSomeAnd (value_at s.cells b) (λ c. registry.IsCellKept key_of c events × (registry.cell_health key_of c events ≡ true))
 
 -- a backend is ready in a snapshot that lists it, where its flag is enabled and its cell healthy
-pub record IsReadyIn (key_of : Member → Member) (views : List ViewEvent) (events : List registry.Event) (b : Member) (s : SnapshotValue) : Type 0 where
+pub record IsReadyIn (key_of : Member → Member) (views : List ViewEvent) (events : List registry.Event) (b : Member)
+    (s : SnapshotValue) : Type 0 where
   pub listed : list_any (same_member b) s.members ≡ true
   pub enabled : flag_after views b ≡ true
   pub healthy : IsHealthyIn key_of events b s

@@ -1,7 +1,7 @@
 -- A pass of checks over the targets of a registry, and what contracts see of a registry with its check.
-use Rattle.std.specs.Prelude.{◌≡◌, ◌⊎◌, ℕ, Bool, List, [], ◌∷◌, Option, Some, None}
+use Rattle.std.specs.Prelude.{◌≡◌, ◌⊎◌, ℕ, Bool, List, [], ◌∷◌, map, Option, Some, None}
 use Rattle.lb_select.specs.Backends.{Member}
-use Rattle.lb_registry.specs.Registry.{RegistryValue}
+use Rattle.lb_registry.specs.Registry.{RegistryValue, targets_after}
 use Rattle.lb_registry.specs.RegistryEvents.{Event, Observed, IsCellKept}
 use Rattle.lb_registry.specs.Verdicts.{Verdict}
 
@@ -9,6 +9,10 @@ use Rattle.lb_registry.specs.Verdicts.{Verdict}
 pub record HealthValue (R C : Type 0) : Type 0 where
   pub registry : RegistryValue R
   pub check : Option C
+
+-- the cells of the targets, in order
+abbrev pub target_cells : (Member → Member) → List Event → List ℕ
+target_cells key_of events = map (λ t. t.cell) (targets_after key_of events)
 
 -- a verdict reaches a cell that is kept, and of another it does nothing
 abbrev pub Reaches : (Member → Member) → ℕ → Verdict → List Event → List Event → Type 0

@@ -1,13 +1,12 @@
 //! The backends of one discovery: a view with the registry that it belongs to.
 //! Whoever has it updates it and runs its checks; the forms that threads share stand above.
-ghost use Rattle.std.specs.Prelude.{◌≡◌, ◌↔◌, ◌∷◌, ℕ, Bool, List, [], map, Ok, Err, Some, None, IfOk, OnOk, OnErr, IsSome, IsTrue};
+ghost use Rattle.std.specs.Prelude.{◌≡◌, ◌↔◌, ◌∷◌, ℕ, Bool, List, [], Ok, Err, Some, None, IfOk, OnOk, OnErr, IsSome, IsTrue};
 ghost use Rattle.std.specs.Arc.{arc_value};
 ghost use Rattle.lb_select.specs.Backends.{Member};
-ghost use Rattle.lb_registry.specs.Registry.{IsRegistryAfter, IsGrowthRefusal, targets_after};
+ghost use Rattle.lb_registry.specs.Registry.{IsRegistryAfter, IsGrowthRefusal};
 ghost use Rattle.lb_registry.specs.RegistryEvents.{Event, Applied, Registered};
-ghost use Rattle.lb_registry.specs.declared.targets.Target.{Target as TargetValue};
 ghost use Rattle.lb_health.specs.Joined.{IsReady};
-ghost use Rattle.lb_health.specs.Passes.{PassesWith};
+ghost use Rattle.lb_health.specs.Passes.{PassesWith, target_cells};
 ghost use Rattle.lb_health.specs.Updates.{IsUpdated, IsBackendsRefusal};
 ghost use Rattle.lb_health.specs.ViewEvents.{ViewEvent, Set, generation_after, membership_after};
 ghost use Rattle.lb_health.specs.Views.{IsViewAfter};
@@ -55,7 +54,8 @@ impl<D: ServiceDiscovery + Drop, R: KeyRule + Drop, C: HealthCheck + Drop> Backe
         discovery: DiscoverySource<D>,
         registry: HealthRegistry<R, C>,
     ) -> Result<Backends<D, R, C>, Refusal>
-        ensures ok { IfOk result (λ b. (key_of : Member → Member) (events : List Event) → IsRegistryAfter R.gives key_of events registry.registry
+        ensures ok { IfOk result (λ b. (key_of : Member → Member) (events : List Event)
+            → IsRegistryAfter R.gives key_of events registry.registry
             → IsViewAfter [] b.view × IsRegistryAfter R.gives key_of (Applied ∷ Registered ∷ events) b.health.registry) }
         ensures refused { OnErr result (IsGrowthRefusal result) }
     {
@@ -87,7 +87,8 @@ impl<D: ServiceDiscovery + Drop, R: KeyRule + Drop, C: HealthCheck + Drop> Backe
 
     /// Enables or disables a backend that a living snapshot lists. It takes no memory.
     pub fn set_enable(&mut self, backend: &Backend, enabled: bool)
-        ensures view { (views : List ViewEvent) → IsViewAfter views self.old.view → IsViewAfter (Set backend.now enabled ∷ views) self.new.view }
+        ensures view { (views : List ViewEvent) → IsViewAfter views self.old.view
+            → IsViewAfter (Set backend.now enabled ∷ views) self.new.view }
         ensures health { self.new.health ≡ self.old.health }
     {
         self.view.set_enable(backend, enabled);
@@ -95,7 +96,8 @@ impl<D: ServiceDiscovery + Drop, R: KeyRule + Drop, C: HealthCheck + Drop> Backe
 
     /// The newest membership. Refused `OutOfMemory` where std refuses one more owner.
     pub fn get_backend(&self) -> Result<Arc<BTreeSet<Backend>>, Refusal>
-        ensures members { IfOk result (λ set. (views : List ViewEvent) → IsViewAfter views self.now.view → (arc_value set).keys ≡ membership_after views) }
+        ensures members { IfOk result (λ set. (views : List ViewEvent) → IsViewAfter views self.now.view
+            → (arc_value set).keys ≡ membership_after views) }
         ensures refused { OnErr result (result ≡ Err Refusal.OutOfMemory) }
     {
         self.view.get_backend()
@@ -103,7 +105,8 @@ impl<D: ServiceDiscovery + Drop, R: KeyRule + Drop, C: HealthCheck + Drop> Backe
 
     /// Sets the check of the registry. Refused `HealthCheckSet` where one is set.
     pub fn set_health_check(&mut self, check: C) -> Result<(), Refusal>
-        ensures set { self.old.health.check ≡ None → (result ≡ Ok tt) × (self.new.health ≡ record self.old.health { check = Some check }) }
+        ensures set { self.old.health.check ≡ None
+            → (result ≡ Ok tt) × (self.new.health ≡ record self.old.health { check = Some check }) }
         ensures refused { IsSome self.old.health.check → (result ≡ Err Refusal.HealthCheckSet) × (self.new.health ≡ self.old.health) }
         ensures view { self.new.view ≡ self.old.view }
     {
@@ -123,10 +126,12 @@ impl<D: ServiceDiscovery + Drop, R: KeyRule + Drop, C: HealthCheck + Drop> Backe
         changed: F,
     ) -> Result<Option<T>, Refusal>
         requires { F.IsAlwaysCallable changed }
-        ensures ok { OnOk result ((key_of : Member → Member) (views : List ViewEvent) (events : List Event) → IsViewAfter views self.old.view
+        ensures ok { OnOk result ((key_of : Member → Member) (views : List ViewEvent) (events : List Event)
+            → IsViewAfter views self.old.view
             → IsRegistryAfter R.gives key_of events self.old.health.registry
             → IsUpdated R.gives key_of views events self.old.view.id self.new) }
-        ensures err { OnErr result ((key_of : Member → Member) (views : List ViewEvent) (events : List Event) → IsViewAfter views self.old.view
+        ensures err { OnErr result ((key_of : Member → Member) (views : List ViewEvent) (events : List Event)
+            → IsViewAfter views self.old.view
             → IsRegistryAfter R.gives key_of events self.old.health.registry
             → IsViewAfter views self.new.view × IsRegistryAfter R.gives key_of events self.new.health.registry) }
         ensures refused { OnErr result (IsBackendsRefusal result) }
@@ -150,10 +155,13 @@ impl<D: ServiceDiscovery + Drop, R: KeyRule + Drop, C: HealthCheck + Drop> Backe
     ///
     /// `NumbersExhausted` where no number is left for a cell; `OutOfMemory` where memory is refused; both before the first check.
     pub fn run_health_check<L: Log>(&mut self, rt: &L, alloc: Global) -> Result<(), Refusal>
-        ensures ok { OnOk result ((key_of : Member → Member) (events : List Event) → IsRegistryAfter R.gives key_of events self.old.health.registry
-            → (after : List Event) × PassesWith C.threshold key_of self.old.health.check (map (λ (t : TargetValue). t.cell) (targets_after key_of (Applied ∷ events))) (Applied ∷ events) after
+        ensures ok { OnOk result ((key_of : Member → Member) (events : List Event)
+            → IsRegistryAfter R.gives key_of events self.old.health.registry
+            → (after : List Event)
+            × PassesWith C.threshold key_of self.old.health.check (target_cells key_of (Applied ∷ events)) (Applied ∷ events) after
             × IsRegistryAfter R.gives key_of after self.new.health.registry) }
-        ensures err { OnErr result ((key_of : Member → Member) (events : List Event) → IsRegistryAfter R.gives key_of events self.old.health.registry
+        ensures err { OnErr result ((key_of : Member → Member) (events : List Event)
+            → IsRegistryAfter R.gives key_of events self.old.health.registry
             → IsRegistryAfter R.gives key_of events self.new.health.registry) }
         ensures refused { OnErr result (IsGrowthRefusal result) }
         ensures view { self.new.view ≡ self.old.view }

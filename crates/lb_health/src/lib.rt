@@ -4,6 +4,7 @@
 
 pub mod backends;
 pub mod discovery;
+pub mod laws;
 pub mod registry;
 mod snapshot;
 pub mod view;

@@ -6,7 +6,7 @@ ghost use Rattle.lb_registry.specs.Registry.{IsRegistryAfter, IsGrowthRefusal, t
 ghost use Rattle.lb_registry.specs.RegistryEvents.{Event, Applied, views_after};
 ghost use Rattle.lb_registry.specs.Targets.{target_keys};
 ghost use Rattle.lb_registry.specs.declared.targets.Target.{Target as TargetValue};
-ghost use Rattle.lb_health.specs.Passes.{Reaches, Passes, PassesWith};
+ghost use Rattle.lb_health.specs.Passes.{Reaches, Passes, PassesWith, target_cells};
 
 use lb_probe::error::CheckError;
 use lb_probe::health_check::HealthCheck;
@@ -64,11 +64,14 @@ impl<R: KeyRule + Drop, C: HealthCheck + Drop> HealthRegistry<R, C> {
     ///
     /// `NumbersExhausted` where no number is left for a cell; `OutOfMemory` where memory is refused.
     pub fn target_count(&mut self, alloc: Global) -> Result<usize, Refusal>
-        ensures ok { OnOk result ((key_of : Member → Member) (events : List Event) → IsRegistryAfter R.gives key_of events self.old.registry
+        ensures ok { OnOk result ((key_of : Member → Member) (events : List Event)
+            → IsRegistryAfter R.gives key_of events self.old.registry
             → IsRegistryAfter R.gives key_of (Applied ∷ events) self.new.registry) }
-        ensures count { IfOk result (λ count. (key_of : Member → Member) (events : List Event) → IsRegistryAfter R.gives key_of events self.old.registry
+        ensures count { IfOk result (λ count. (key_of : Member → Member) (events : List Event)
+            → IsRegistryAfter R.gives key_of events self.old.registry
             → count ≡ length (target_keys key_of (views_after (Applied ∷ events)))) }
-        ensures err { OnErr result ((key_of : Member → Member) (events : List Event) → IsRegistryAfter R.gives key_of events self.old.registry
+        ensures err { OnErr result ((key_of : Member → Member) (events : List Event)
+            → IsRegistryAfter R.gives key_of events self.old.registry
             → IsRegistryAfter R.gives key_of events self.new.registry) }
         ensures refused { OnErr result (IsGrowthRefusal result) }
         ensures check { self.new.check ≡ self.old.check }
@@ -82,11 +85,14 @@ impl<R: KeyRule + Drop, C: HealthCheck + Drop> HealthRegistry<R, C> {
     ///
     /// As `target_count`.
     pub fn targets(&mut self, alloc: Global) -> Result<Vec<Target>, Refusal>
-        ensures ok { OnOk result ((key_of : Member → Member) (events : List Event) → IsRegistryAfter R.gives key_of events self.old.registry
+        ensures ok { OnOk result ((key_of : Member → Member) (events : List Event)
+            → IsRegistryAfter R.gives key_of events self.old.registry
             → IsRegistryAfter R.gives key_of (Applied ∷ events) self.new.registry) }
-        ensures targets { IfOk result (λ targets. (key_of : Member → Member) (events : List Event) → IsRegistryAfter R.gives key_of events self.old.registry
+        ensures targets { IfOk result (λ targets. (key_of : Member → Member) (events : List Event)
+            → IsRegistryAfter R.gives key_of events self.old.registry
             → targets.items ≡ targets_after key_of (Applied ∷ events)) }
-        ensures err { OnErr result ((key_of : Member → Member) (events : List Event) → IsRegistryAfter R.gives key_of events self.old.registry
+        ensures err { OnErr result ((key_of : Member → Member) (events : List Event)
+            → IsRegistryAfter R.gives key_of events self.old.registry
             → IsRegistryAfter R.gives key_of events self.new.registry) }
         ensures refused { OnErr result (IsGrowthRefusal result) }
         ensures check { self.new.check ≡ self.old.check }
@@ -100,10 +106,13 @@ impl<R: KeyRule + Drop, C: HealthCheck + Drop> HealthRegistry<R, C> {
     ///
     /// As `target_count`, before the first check.
     pub fn run_health_check<L: Log>(&mut self, rt: &L, alloc: Global) -> Result<(), Refusal>
-        ensures ok { OnOk result ((key_of : Member → Member) (events : List Event) → IsRegistryAfter R.gives key_of events self.old.registry
-            → (after : List Event) × PassesWith C.threshold key_of self.old.check (map (λ (t : TargetValue). t.cell) (targets_after key_of (Applied ∷ events))) (Applied ∷ events) after
+        ensures ok { OnOk result ((key_of : Member → Member) (events : List Event)
+            → IsRegistryAfter R.gives key_of events self.old.registry
+            → (after : List Event)
+            × PassesWith C.threshold key_of self.old.check (target_cells key_of (Applied ∷ events)) (Applied ∷ events) after
             × IsRegistryAfter R.gives key_of after self.new.registry) }
-        ensures err { OnErr result ((key_of : Member → Member) (events : List Event) → IsRegistryAfter R.gives key_of events self.old.registry
+        ensures err { OnErr result ((key_of : Member → Member) (events : List Event)
+            → IsRegistryAfter R.gives key_of events self.old.registry
             → IsRegistryAfter R.gives key_of events self.new.registry) }
         ensures refused { OnErr result (IsGrowthRefusal result) }
         ensures check { self.new.check ≡ self.old.check }
@@ -142,7 +151,8 @@ fn check_one<R: KeyRule + Drop, C: HealthCheck, L: Log>(
     target: &Target,
 )
     ensures { (key_of : Member → Member) (events : List Event) → IsRegistryAfter R.gives key_of events registry.old
-        → (ok : Bool) × (after : List Event) × Reaches key_of target.now.cell (record { ok = ok; threshold = C.threshold check.now ok }) events after
+        → (ok : Bool) × (after : List Event)
+        × Reaches key_of target.now.cell (record { ok = ok; threshold = C.threshold check.now ok }) events after
         × IsRegistryAfter R.gives key_of after registry.new }
 {
     let verdict = check.check(alloc, &target.backend);

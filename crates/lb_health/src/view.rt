@@ -1,6 +1,7 @@
 //! The view of a registry: a membership in numbered generations, the snapshots that live, and the flags of their backends.
 //! It is told by the list of its events, newest first.
-ghost use Rattle.std.specs.Prelude.{◌≡◌, ◌+◌, ◌<◌, ◌^◌, ◌∷◌, [], All, IfOk, IsOk, OnOk, OnErr, IsErrOf, IsSome, IsTrue, MatchOption, Err, List, ℕ, true, false, ◌↔◌, ◌≤◌};
+ghost use Rattle.std.specs.Prelude.{◌≡◌, ◌+◌, ◌<◌, ◌^◌, ◌∷◌, [], All, IfOk, IsOk, OnOk, OnErr};
+ghost use Rattle.std.specs.Prelude.{IsErrOf, IsSome, IsTrue, MatchOption, Err, List, ℕ, true, false, ◌↔◌, ◌≤◌};
 ghost use Rattle.std.specs.List.{list_any, list_all};
 ghost use Rattle.std.specs.Arc.{arc_value};
 ghost use Rattle.std.specs.Fn.{FnOnceReturnsAt};
@@ -11,7 +12,8 @@ ghost use Rattle.lb_select.specs.Memberships.{same_members};
 ghost use Rattle.lb_health.specs.Snapshots.{held_less, at_generation, living, flags_listed, value_at, snapshot_of, IfHead};
 ghost use Rattle.lb_health.specs.ViewEvents.{ViewEvent, Held, Released, Set, generation_after, membership_after, listed, flag_after};
 ghost use Rattle.lb_health.specs.Views.{IsViewAfter, Flags, IsViewRefusal};
-ghost use Rattle.lb_health.specs.Joined.{lives, registry_released, settings_of, after_settings, view_changed, registry_changed, view_updated, registry_updated, IsHealthyIn, IsReadyIn, IsReady};
+ghost use Rattle.lb_health.specs.Joined.{lives, registry_released, settings_of, after_settings, view_changed, registry_changed};
+ghost use Rattle.lb_health.specs.Joined.{view_updated, registry_updated, IsHealthyIn, IsReadyIn, IsReady};
 ghost use Rattle.lb_registry.specs.Registry.{IsRegistryAfter};
 ghost use Rattle.lb_registry.specs.RegistryEvents.{Event, Updated, Applied, has_view, views_after, cells_given};
 
@@ -46,7 +48,12 @@ impl Model for ViewCore {
 
     ghost Value = { ViewValue };
 
-    ghost view = { λ v. record { id = v.id; generation = v.current.generation; snapshots = snapshot_of v.current ∷ map snapshot_of v.earlier.items; flags = v.flags.entries } };
+    ghost view = { λ v. record {
+      id = v.id;
+      generation = v.current.generation;
+      snapshots = snapshot_of v.current ∷ map snapshot_of v.earlier.items;
+      flags = v.flags.entries;
+    } };
 }
 
 impl ViewCore {
@@ -85,7 +92,8 @@ impl ViewCore {
 
     /// The membership of the newest generation. Refused `OutOfMemory` where std refuses one more owner.
     pub fn get_backend(&self) -> Result<Arc<BTreeSet<Backend>>, Refusal>
-        ensures members { IfOk result (λ set. (views : List ViewEvent) → IsViewAfter views self.now → (arc_value set).keys ≡ membership_after views) }
+        ensures members { IfOk result (λ set. (views : List ViewEvent) → IsViewAfter views self.now
+            → (arc_value set).keys ≡ membership_after views) }
         ensures refused { OnErr result (result ≡ Err Refusal.OutOfMemory) }
     {
         let members = Arc::try_clone(&self.current.members)?;
@@ -94,7 +102,8 @@ impl ViewCore {
 
     /// Whether the flag of a backend that a living snapshot lists is set to enabled. It takes no memory.
     pub fn is_enabled(&self, backend: &Backend) -> bool
-        ensures { (views : List ViewEvent) → IsViewAfter views self.now → listed views backend.now ≡ true → result ≡ flag_after views backend.now }
+        ensures { (views : List ViewEvent) → IsViewAfter views self.now → listed views backend.now ≡ true
+            → result ≡ flag_after views backend.now }
     {
         self.flags.get(backend).copied().unwrap_or(true)
     }
@@ -248,7 +257,8 @@ impl ViewCore {
         ensures view { OnOk result ((key_of : Member → Member) (views : List ViewEvent) (events : List Event) → IsViewAfter views self.old
             → IsRegistryAfter R.gives key_of events registry.old
             → IsViewAfter (view_updated key_of self.old.id discovered.keys (settings_of settings.entries) events views) self.new) }
-        ensures registry { OnOk result ((key_of : Member → Member) (views : List ViewEvent) (events : List Event) → IsViewAfter views self.old
+        ensures registry { OnOk result ((key_of : Member → Member) (views : List ViewEvent) (events : List Event)
+            → IsViewAfter views self.old
             → IsRegistryAfter R.gives key_of events registry.old
             → IsRegistryAfter R.gives key_of (registry_updated key_of self.old.id discovered.keys views events) registry.new) }
         ensures called { IfOk result (λ answer. (views : List ViewEvent) → IsViewAfter views self.old
@@ -256,7 +266,8 @@ impl ViewCore {
             (λ t. (same_members discovered.keys (membership_after views) ≡ false)
             × ((set : BTreeSet Member Global) × (set.keys ≡ discovered.keys) × FnOnceReturnsAt F.FnOnce changed set t))) }
         ensures view_err { OnErr result ((views : List ViewEvent) → IsViewAfter views self.old → IsViewAfter views self.new) }
-        ensures registry_err { OnErr result ((key_of : Member → Member) (events : List Event) → IsRegistryAfter R.gives key_of events registry.old
+        ensures registry_err { OnErr result ((key_of : Member → Member) (events : List Event)
+            → IsRegistryAfter R.gives key_of events registry.old
             → IsRegistryAfter R.gives key_of events registry.new) }
         ensures same { (views : List ViewEvent) → IsViewAfter views self.old
             → same_members discovered.keys (membership_after views) ≡ true → IsOk result }
@@ -293,12 +304,14 @@ impl ViewCore {
         ensures view { OnOk result ((key_of : Member → Member) (views : List ViewEvent) (events : List Event) → IsViewAfter views self.old
             → IsRegistryAfter R.gives key_of events registry.old
             → IsViewAfter (view_changed key_of self.old.id members.keys events views) self.new) }
-        ensures registry { OnOk result ((key_of : Member → Member) (views : List ViewEvent) (events : List Event) → IsViewAfter views self.old
+        ensures registry { OnOk result ((key_of : Member → Member) (views : List ViewEvent) (events : List Event)
+            → IsViewAfter views self.old
             → IsRegistryAfter R.gives key_of events registry.old
             → IsRegistryAfter R.gives key_of (registry_changed key_of self.old.id members.keys views events) registry.new) }
         ensures shown { OnOk result (IfHead self.new.snapshots (λ s. s.members ≡ members.keys)) }
         ensures view_err { OnErr result ((views : List ViewEvent) → IsViewAfter views self.old → IsViewAfter views self.new) }
-        ensures registry_err { OnErr result ((key_of : Member → Member) (events : List Event) → IsRegistryAfter R.gives key_of events registry.old
+        ensures registry_err { OnErr result ((key_of : Member → Member) (events : List Event)
+            → IsRegistryAfter R.gives key_of events registry.old
             → IsRegistryAfter R.gives key_of events registry.new) }
         ensures exhausted { self.old.generation + 1 ≡ 2 ^ 64 → result ≡ Err Refusal.GenerationsExhausted }
         ensures last { IsErrOf result Refusal.GenerationsExhausted → self.old.generation + 1 ≡ 2 ^ 64 }
@@ -355,14 +368,16 @@ impl ViewCore {
 
     // Whether the newest membership has the backend, by identity.
     fn is_member(&self, backend: &Backend) -> bool
-        ensures { (views : List ViewEvent) → IsViewAfter views self.now → result ≡ list_any (same_member backend.now) (membership_after views) }
+        ensures { (views : List ViewEvent) → IsViewAfter views self.now
+            → result ≡ list_any (same_member backend.now) (membership_after views) }
     {
         self.current.members.contains(backend)
     }
 
     // Whether the newest membership is this one, by identity.
     fn is_membership(&self, members: &BTreeSet<Backend>) -> bool
-        ensures { (views : List ViewEvent) → IsViewAfter views self.now → result ≡ same_members members.now.keys (membership_after views) }
+        ensures { (views : List ViewEvent) → IsViewAfter views self.now
+            → result ≡ same_members members.now.keys (membership_after views) }
     {
         is_same(members, &self.current.members)
     }

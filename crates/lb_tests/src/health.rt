@@ -3,6 +3,7 @@
 use crate::made::set_of;
 use lb_health::backends::Backends;
 use lb_health::discovery::{BoxedDiscovery, Discovered, DiscoverySource, ServiceDiscovery, Static};
+use lb_registry::keys::{ByNumber, Rule};
 use lb_health::registry::HealthRegistry;
 use lb_health::view::{Settings, ViewCore};
 use lb_probe::error::CheckError;
@@ -11,7 +12,7 @@ use lb_registry::registry::RegistryCore;
 use lb_select::backend::Backend;
 use lb_select::refusal::Refusal;
 use log::sink::Memory;
-use log::{LevelFilter, Logged};
+use log::{Level, Logged};
 use std::alloc::Global;
 use std::cell::Cell;
 use std::collections::BTreeSet;
@@ -148,9 +149,9 @@ impl HealthCheck for Counting {
     }
 }
 
-type Kept = Backends<BoxedDiscovery, lb_registry::keys::Rule<lb_registry::keys::ByNumber>, Counting>;
+type Keyed = Rule<ByNumber>;
 
-fn pair_with(alloc: Global, check: Counting) -> Result<Kept, Refusal> {
+fn pair_with(alloc: Global, check: Counting) -> Result<Backends<BoxedDiscovery, Keyed, Counting>, Refusal> {
     let source = DiscoverySource::Static(Static::new(set_of(alloc, &PAIR)?));
     let registry = HealthRegistry::over(RegistryCore::new(alloc));
     let mut backends = Backends::new_with_health_registry(alloc, source, registry)?;
@@ -173,8 +174,8 @@ fn a_pass_checks_each_target_once(rt: HostRuntime) -> Result<(), Fail> {
     };
     let mut backends = pair_with(alloc, check)?;
     let backend = Backend::new(alloc, "1.0.0.1:80")?;
-    let memory = Memory::new(alloc);
-    let logged = Logged::new(rt, LevelFilter::Info, memory);
+    let sink = Memory::new(alloc);
+    let logged = Logged::new(rt, Level::Debug, &sink);
     backends.run_health_check(&logged, alloc)?;
     assert_eq!(rt; asked.get(), 2);
     assert_eq!(rt; told.get(), 0);
@@ -188,5 +189,112 @@ fn a_pass_checks_each_target_once(rt: HostRuntime) -> Result<(), Fail> {
     assert_eq!(rt; asked.get(), 6);
     assert_eq!(rt; told.get(), 2);
     assert!(rt; backends.ready(&backend));
+    let lines = sink.into_lines();
+    assert_eq!(rt; lines.len(), 2);
+    let wanted = [
+        "[WARN  lb_health::registry] 1.0.0.1:80/1 becomes unhealthy, Status",
+        "[INFO  lb_health::registry] 1.0.0.1:80/1 becomes healthy",
+    ];
+    for (line, text) in lines.as_slice().iter().zip(&wanted) {
+        assert_eq!(rt; line.as_str(), *text);
+    }
+    Ok(())
+}
+
+#[test]
+fn a_refused_summary_leaves_the_line_out(rt: HostRuntime) -> Result<(), Fail> {
+    let alloc = rt.alloc();
+    let told = Rc::new(alloc, Cell::new(0))?;
+    let check = Counting {
+        asked: Rc::new(alloc, Cell::new(0))?,
+        told: told.clone()?,
+        down: Rc::new(alloc, Cell::new(true))?,
+        silent: true,
+    };
+    let mut backends = pair_with(alloc, check)?;
+    let sink = Memory::new(alloc);
+    let logged = Logged::new(rt, Level::Debug, &sink);
+    backends.run_health_check(&logged, alloc)?;
+    backends.run_health_check(&logged, alloc)?;
+    assert_eq!(rt; told.get(), 1);
+    assert_eq!(rt; sink.into_lines().len(), 0);
+    Ok(())
+}
+
+#[test]
+fn a_check_is_set_once(rt: HostRuntime) -> Result<(), Fail> {
+    let alloc = rt.alloc();
+    let mut health = HealthRegistry::over(RegistryCore::new(alloc));
+    let asked = Rc::new(alloc, Cell::new(0))?;
+    for first in [true, false] {
+        let check = Counting {
+            asked: asked.clone()?,
+            told: Rc::new(alloc, Cell::new(0))?,
+            down: Rc::new(alloc, Cell::new(false))?,
+            silent: false,
+        };
+        let set = health.set_health_check(check);
+        assert_eq!(rt; set, if first { Ok(()) } else { Err(Refusal::HealthCheckSet) });
+    }
+    // There is no target to check.
+    health.run_health_check(&rt, alloc)?;
+    assert_eq!(rt; asked.get(), 0);
+    assert_eq!(rt; health.target_count(alloc)?, 0);
+    assert_eq!(rt; health.targets(alloc)?.len(), 0);
+    Ok(())
+}
+
+#[test]
+fn cells_may_begin_unhealthy(rt: HostRuntime) -> Result<(), Fail> {
+    let alloc = rt.alloc();
+    let mut registry = RegistryCore::new(alloc).start_unhealthy();
+    let id = registry.register_view(alloc)?;
+    let mut view = ViewCore::new(alloc, id)?;
+    let backend = Backend::new(alloc, "1.0.0.1:80")?;
+    let one = set_of(alloc, &[("1.0.0.1:80", 1)])?;
+    view.update(alloc, &mut registry, one, Settings::new(alloc), |set| set.len())?;
+    assert!(rt; !view.ready(&registry, &backend));
+    for (verdict, threshold, flipped) in [(false, 1, false), (true, 2, false), (false, 1, false), (true, 2, false), (true, 2, true)] {
+        assert_eq!(rt; registry.observe(0, verdict, threshold)?, flipped);
+    }
+    assert!(rt; view.ready(&registry, &backend));
+    Ok(())
+}
+
+/// A discovery that always answers a fault.
+#[derive(Drop)]
+struct Broken;
+
+impl ServiceDiscovery for Broken {
+    fn discover(&self, _alloc: Global) -> Result<Discovered, Refusal> {
+        Err(Refusal::NoSuch)
+    }
+}
+
+#[test]
+fn a_fault_of_the_discovery(rt: HostRuntime) -> Result<(), Fail> {
+    let alloc = rt.alloc();
+    let health: HealthRegistry<Keyed, Counting> = HealthRegistry::over(RegistryCore::new(alloc));
+    let mut backends = Backends::new_with_health_registry(alloc, DiscoverySource::Boxed(Broken), health)?;
+    let updated = backends.update(alloc, |set: &BTreeSet<Backend>| set.len());
+    assert_eq!(rt; updated, Err(Refusal::Discovery));
+    assert_eq!(rt; backends.generation(), 0);
+    assert_eq!(rt; backends.get_backend()?.len(), 0);
+    Ok(())
+}
+
+#[test]
+fn backends_from_texts(rt: HostRuntime) -> Result<(), Fail> {
+    let alloc = rt.alloc();
+    let two = ["1.1.1.1:80", "1.0.0.1:80"];
+    let found = Static::try_from_iter(alloc, &rt, two.iter().copied())?;
+    let set = found.get()?;
+    assert_eq!(rt; set.len(), 2);
+    assert!(rt; set.contains(&Backend::new(alloc, "1.0.0.1:80")?));
+    let scoped = ["[fe80::1%3]:80"];
+    assert_eq!(rt; Static::try_from_iter(alloc, &rt, scoped.iter().copied()).err(), Some(Refusal::InvalidAddress));
+    let portless = ["1.1.1.1"];
+    assert_eq!(rt; Static::try_from_iter(alloc, &rt, portless.iter().copied()).err(), Some(Refusal::Discovery));
+    assert_eq!(rt; Static::default(alloc).get()?.len(), 0);
     Ok(())
 }
