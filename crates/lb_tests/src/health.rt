@@ -3,11 +3,11 @@
 use crate::made::set_of;
 use lb_health::backends::Backends;
 use lb_health::discovery::{BoxedDiscovery, Discovered, DiscoverySource, ServiceDiscovery, Static};
-use lb_registry::keys::{ByNumber, Rule};
 use lb_health::registry::HealthRegistry;
 use lb_health::view::{Settings, ViewCore};
 use lb_probe::error::CheckError;
 use lb_probe::health_check::{HealthCheck, identity_summary};
+use lb_registry::keys::{ByNumber, Rule};
 use lb_registry::registry::RegistryCore;
 use lb_select::backend::Backend;
 use lb_select::refusal::Refusal;
@@ -44,23 +44,47 @@ fn flags_of_a_discovery(rt: HostRuntime) -> Result<(), Fail> {
     let near = Backend::new(alloc, "127.0.0.1:79")?;
     let far = Backend::new(alloc, "1.0.0.1:80")?;
     let off = setting(alloc, "127.0.0.1:79", 1, false)?;
-    let first = view.update(alloc, &mut registry, set_of(alloc, &NEAR)?, off, |set| set.len())?;
+    let first = view.update(
+        alloc,
+        &mut registry,
+        set_of(alloc, &NEAR)?,
+        off,
+        |set| set.len(),
+    )?;
     assert_eq!(rt; first, Some(2));
     assert_eq!(rt; view.generation(), 1);
     assert!(rt; view.ready(&registry, &far));
     assert!(rt; !view.ready(&registry, &near));
     // A backend that the settings omit keeps its flag, and the same membership is no change.
     let none = Settings::new(alloc);
-    let again = view.update(alloc, &mut registry, set_of(alloc, &NEAR)?, none, |set| set.len())?;
+    let again = view.update(
+        alloc,
+        &mut registry,
+        set_of(alloc, &NEAR)?,
+        none,
+        |set| set.len(),
+    )?;
     assert_eq!(rt; again, None);
     assert_eq!(rt; view.generation(), 1);
     assert!(rt; !view.ready(&registry, &near));
     let on = setting(alloc, "127.0.0.1:79", 1, true)?;
-    view.update(alloc, &mut registry, set_of(alloc, &NEAR)?, on, |set| set.len())?;
+    view.update(
+        alloc,
+        &mut registry,
+        set_of(alloc, &NEAR)?,
+        on,
+        |set| set.len(),
+    )?;
     assert!(rt; view.ready(&registry, &near));
     // A setting of a backend that the membership lacks does nothing.
     let other = setting(alloc, "1.0.0.9:80", 1, false)?;
-    view.update(alloc, &mut registry, set_of(alloc, &NEAR)?, other, |set| set.len())?;
+    view.update(
+        alloc,
+        &mut registry,
+        set_of(alloc, &NEAR)?,
+        other,
+        |set| set.len(),
+    )?;
     assert!(rt; view.ready(&registry, &near));
     Ok(())
 }
@@ -71,13 +95,31 @@ fn readiness_goes_by_the_cells_of_the_snapshot(rt: HostRuntime) -> Result<(), Fa
     let (mut registry, mut view) = registered(alloc)?;
     let backend = Backend::new(alloc, "1.0.0.1:80")?;
     let one = set_of(alloc, &[("1.0.0.1:80", 1)])?;
-    view.update(alloc, &mut registry, one, Settings::new(alloc), |set| set.len())?;
+    view.update(
+        alloc,
+        &mut registry,
+        one,
+        Settings::new(alloc),
+        |set| set.len(),
+    )?;
     view.hold(1);
     assert!(rt; registry.observe(0, false, 1)?);
     view.set_enable(&backend, false);
-    view.update(alloc, &mut registry, BTreeSet::new(alloc), Settings::new(alloc), |set| set.len())?;
+    view.update(
+        alloc,
+        &mut registry,
+        BTreeSet::new(alloc),
+        Settings::new(alloc),
+        |set| set.len(),
+    )?;
     let one = set_of(alloc, &[("1.0.0.1:80", 1)])?;
-    view.update(alloc, &mut registry, one, Settings::new(alloc), |set| set.len())?;
+    view.update(
+        alloc,
+        &mut registry,
+        one,
+        Settings::new(alloc),
+        |set| set.len(),
+    )?;
     assert_eq!(rt; view.generation(), 3);
     assert_eq!(rt; registry.target_count(alloc)?, 1);
     // The key came back to a fresh cell; the flag stayed, since generation 1 lists the backend.
@@ -102,8 +144,20 @@ fn settings_of_one_view_are_its_own(rt: HostRuntime) -> Result<(), Fail> {
     let id = registry.register_view(alloc)?;
     let mut other = ViewCore::new(alloc, id)?;
     let backend = Backend::new(alloc, "1.0.0.1:80")?;
-    view.update(alloc, &mut registry, set_of(alloc, &PAIR)?, Settings::new(alloc), |set| set.len())?;
-    other.update(alloc, &mut registry, set_of(alloc, &PAIR)?, Settings::new(alloc), |set| set.len())?;
+    view.update(
+        alloc,
+        &mut registry,
+        set_of(alloc, &PAIR)?,
+        Settings::new(alloc),
+        |set| set.len(),
+    )?;
+    other.update(
+        alloc,
+        &mut registry,
+        set_of(alloc, &PAIR)?,
+        Settings::new(alloc),
+        |set| set.len(),
+    )?;
     view.set_enable(&backend, false);
     assert!(rt; !view.ready(&registry, &backend));
     assert!(rt; other.ready(&registry, &backend));
@@ -151,7 +205,10 @@ impl HealthCheck for Counting {
 
 type Keyed = Rule<ByNumber>;
 
-fn pair_with(alloc: Global, check: Counting) -> Result<Backends<BoxedDiscovery, Keyed, Counting>, Refusal> {
+fn pair_with(
+    alloc: Global,
+    check: Counting,
+) -> Result<Backends<BoxedDiscovery, Keyed, Counting>, Refusal> {
     let source = DiscoverySource::Static(Static::new(set_of(alloc, &PAIR)?));
     let registry = HealthRegistry::over(RegistryCore::new(alloc));
     let mut backends = Backends::new_with_health_registry(alloc, source, registry)?;
@@ -234,7 +291,14 @@ fn a_check_is_set_once(rt: HostRuntime) -> Result<(), Fail> {
             silent: false,
         };
         let set = health.set_health_check(check);
-        assert_eq!(rt; set, if first { Ok(()) } else { Err(Refusal::HealthCheckSet) });
+        assert_eq!(rt;
+            set,
+            if first {
+                Ok(())
+            } else {
+                Err(Refusal::HealthCheckSet)
+            }
+        );
     }
     // There is no target to check.
     health.run_health_check(&rt, alloc)?;
@@ -252,9 +316,21 @@ fn cells_may_begin_unhealthy(rt: HostRuntime) -> Result<(), Fail> {
     let mut view = ViewCore::new(alloc, id)?;
     let backend = Backend::new(alloc, "1.0.0.1:80")?;
     let one = set_of(alloc, &[("1.0.0.1:80", 1)])?;
-    view.update(alloc, &mut registry, one, Settings::new(alloc), |set| set.len())?;
+    view.update(
+        alloc,
+        &mut registry,
+        one,
+        Settings::new(alloc),
+        |set| set.len(),
+    )?;
     assert!(rt; !view.ready(&registry, &backend));
-    for (verdict, threshold, flipped) in [(false, 1, false), (true, 2, false), (false, 1, false), (true, 2, false), (true, 2, true)] {
+    for (verdict, threshold, flipped) in [
+        (false, 1, false),
+        (true, 2, false),
+        (false, 1, false),
+        (true, 2, false),
+        (true, 2, true),
+    ] {
         assert_eq!(rt; registry.observe(0, verdict, threshold)?, flipped);
     }
     assert!(rt; view.ready(&registry, &backend));
@@ -275,7 +351,11 @@ impl ServiceDiscovery for Broken {
 fn a_fault_of_the_discovery(rt: HostRuntime) -> Result<(), Fail> {
     let alloc = rt.alloc();
     let health: HealthRegistry<Keyed, Counting> = HealthRegistry::over(RegistryCore::new(alloc));
-    let mut backends = Backends::new_with_health_registry(alloc, DiscoverySource::Boxed(Broken), health)?;
+    let mut backends = Backends::new_with_health_registry(
+        alloc,
+        DiscoverySource::Boxed(Broken),
+        health,
+    )?;
     let updated = backends.update(alloc, |set: &BTreeSet<Backend>| set.len());
     assert_eq!(rt; updated, Err(Refusal::Discovery));
     assert_eq!(rt; backends.generation(), 0);
@@ -292,9 +372,15 @@ fn backends_from_texts(rt: HostRuntime) -> Result<(), Fail> {
     assert_eq!(rt; set.len(), 2);
     assert!(rt; set.contains(&Backend::new(alloc, "1.0.0.1:80")?));
     let scoped = ["[fe80::1%3]:80"];
-    assert_eq!(rt; Static::try_from_iter(alloc, &rt, scoped.iter().copied()).err(), Some(Refusal::InvalidAddress));
+    assert_eq!(rt;
+        Static::try_from_iter(alloc, &rt, scoped.iter().copied()).err(),
+        Some(Refusal::InvalidAddress)
+    );
     let portless = ["1.1.1.1"];
-    assert_eq!(rt; Static::try_from_iter(alloc, &rt, portless.iter().copied()).err(), Some(Refusal::Discovery));
+    assert_eq!(rt;
+        Static::try_from_iter(alloc, &rt, portless.iter().copied()).err(),
+        Some(Refusal::Discovery)
+    );
     assert_eq!(rt; Static::default(alloc).get()?.len(), 0);
     Ok(())
 }
