@@ -1,11 +1,10 @@
 -- Settings of flags.
-use Rattle.std.proofs.Common.{◌≡◌, ℕ, Bool, true, false, cond, List, [], ◌∷◌, refl, sym, ◌∙◌, ap, subst, Some, None, Option}
+use Rattle.std.proofs.Common.{◌≡◌, Bool, true, false, cond, List, ◌∷◌, refl, sym, ◌∙◌, ap, Some}
 use Rattle.std.specs.Prelude.{IsSome, ◌&&◌, if◌then◌else◌}
-use Rattle.std.specs.List.{list_any}
 use Rattle.std.specs.Option.{unwrap_or}
 use Rattle.lb_select.specs.Backends.{Member, same_member}
 use Rattle.lb_health.specs.Snapshots.{ViewValue, lists_in, value_at}
-use Rattle.lb_health.specs.ViewEvents.{ViewEvent, Set, generation_after, listed, flag_after, snapshots_after}
+use Rattle.lb_health.specs.ViewEvents.{ViewEvent, Set, listed, flag_after}
 use Rattle.lb_health.specs.Views.{IsViewAfter}
 
 -- what the snapshots that live list

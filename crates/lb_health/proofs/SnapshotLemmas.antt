@@ -1,5 +1,5 @@
 -- The snapshot of a generation by its place among those that live.
-use Rattle.std.proofs.Common.{◌≡◌, ◌≤◌, ◌<◌, ℕ, ◌+◌, Bool, true, false, not, cond, List, [], ◌∷◌, ◌++◌, map, length, get_or, refl, sym, ◌∙◌, ap, subst, suc, zero, arith, eqb, Some, None, Option}
+use Rattle.std.proofs.Common.{◌≡◌, ◌≤◌, ◌<◌, ℕ, ◌+◌, Bool, true, false, not, cond, List, [], ◌∷◌, ◌++◌, map, length, get_or, refl, sym, ◌∙◌, ap, suc, zero, arith, Some, None}
 use Rattle.std.proofs.lemmas.Bool.{ltb-false, false≢true, eq-eqb, ne_eqb}
 use Rattle.std.proofs.lemmas.List.{get_or-map, length-map, map-append}
 use Rattle.std.proofs.lemmas.List.Quantifiers.{position-Some}
@@ -12,7 +12,6 @@ use Rattle.lb_health.specs.Snapshots.{SnapshotValue, snapshot_of, snapshot_at, a
 use Rattle.lb_health.specs.ViewEvents.{by_age}
 use Rattle.lb_health.specs.Joined.{lives}
 use Rattle.lb_select.specs.Backends.{Member, same_member}
-use Rattle.std.specs.Prelude.{find}
 use Rattle.lb_health.specs.declared.snapshot.ViewSnapshot.{ViewSnapshot}
 
 -- a test that no element passes

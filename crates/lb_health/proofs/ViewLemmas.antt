@@ -1,6 +1,6 @@
 -- How the events of a view change what its value shows.
-use Rattle.std.proofs.Common.{◌≡◌, ◌≤◌, ℕ, ◌+◌, Bool, true, false, not, cond, List, [], ◌∷◌, ◌++◌, map, filter, refl, sym, ◌∙◌, ap, subst, eqb, Some, None, Option, inl, inr}
-use Rattle.std.specs.Prelude.{IsSome, OnErr, Result, Ok, Err, ◌&&◌, ◌||◌, ◌⊎◌, if◌then◌else◌, ◌==◌, nat_lt}
+use Rattle.std.proofs.Common.{◌≡◌, ℕ, ◌+◌, Bool, true, false, cond, List, [], ◌∷◌, map, filter, refl, sym, ◌∙◌, ap, Some, None, Option, inl, inr}
+use Rattle.std.specs.Prelude.{IsSome, OnErr, Result, Ok, Err, ◌&&◌, ◌||◌, ◌⊎◌, if◌then◌else◌, ◌==◌}
 use Rattle.std.specs.HashMap.Eq.{lookup_congr}
 use Rattle.std.specs.List.{list_any}
 use Rattle.std.specs.Option.{unwrap_or, is_some}

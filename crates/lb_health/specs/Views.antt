@@ -1,10 +1,10 @@
 -- What it is for a view to be as its events left it.
-use Rattle.std.specs.Prelude.{◌≡◌, ◌⊎◌, ℕ, Bool, true, List, IsSome, Some, None, Result, Err}
+use Rattle.std.specs.Prelude.{◌≡◌, ◌⊎◌, Bool, true, List, IsSome, Some, None, Result, Err}
 use Rattle.lb_select.specs.declared.refusal.Refusal.{Refusal}
 use Rattle.lb_select.specs.declared.refusal.Refusal.TheVariants.{GenerationsExhausted}
 use Rattle.lb_registry.specs.Registry.{IsUpdateRefusal}
 use Rattle.lb_select.specs.Backends.{Member}
-use Rattle.lb_health.specs.Snapshots.{SnapshotValue, ViewValue, value_at}
+use Rattle.lb_health.specs.Snapshots.{ViewValue, value_at}
 use Rattle.lb_health.specs.ViewEvents.{ViewEvent, generation_after, snapshots_after, listed, flag_after}
 
 -- each flag that is needed is stored, and what is stored is right

@@ -1,4 +1,4 @@
-use Rattle.std.proofs.Common.{◌≡◌, List, map, drop}
+use Rattle.std.proofs.Common.{List, map, drop}
 use Rattle.lb_select.specs.Backends.{Member}
 use Rattle.lb_registry.specs.Registry.{IsRegistryAfter}
 use Rattle.lb_registry.specs.RegistryEvents.{Event}

@@ -1,7 +1,6 @@
-use Rattle.std.proofs.Common.{◌≡◌, ap, sym, ◌∙◌, refl, rules, subst, ◌∷◌, true, false}
+use Rattle.std.proofs.Common.{◌≡◌, rules, ◌∷◌, false}
 use Rattle.std.specs.Prelude.{IsSome}
 use Rattle.std.specs.Option.{is_some}
-use Rattle.lb_select.specs.Backends.{Member}
 use Rattle.lb_health.specs.Snapshots.{value_at}
 use Rattle.lb_health.proofs.ViewLemmas.{flags-insert, all-insert, all-there, none_of}
 use Rattle.lb_health.proofs.view.flag_all.Goals as goal

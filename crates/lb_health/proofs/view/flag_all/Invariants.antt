@@ -1,4 +1,4 @@
-use Rattle.std.proofs.Common.{◌≡◌, true, inl, inr}
+use Rattle.std.proofs.Common.{◌≡◌, true}
 use Rattle.std.specs.Prelude.{IsSome, ◌⊎◌}
 use Rattle.std.specs.List.{list_any}
 use Rattle.lb_select.specs.Backends.{Member, same_member}

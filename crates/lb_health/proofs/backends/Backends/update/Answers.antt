@@ -1,4 +1,4 @@
-use Rattle.std.proofs.Common.{◌≡◌, ℕ, sym, subst, ap, ◌∙◌}
+use Rattle.std.proofs.Common.{ℕ, sym, subst, ap, ◌∙◌}
 use Rattle.lb_registry.specs.Registry.{IsRegistryAfter}
 use Rattle.lb_health.specs.Joined.{settings_of, view_updated, registry_updated}
 use Rattle.lb_health.specs.Updates.{BackendsValue}

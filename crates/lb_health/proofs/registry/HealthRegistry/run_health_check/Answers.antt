@@ -1,6 +1,6 @@
-use Rattle.std.proofs.Common.{◌≡◌, sym, subst, List, ◌∷◌, map, ap, ◌∙◌, refl, Option, Some, None}
+use Rattle.std.proofs.Common.{sym, subst, List, ◌∷◌, map, ap, ◌∙◌, refl, Option}
 use Rattle.lb_registry.specs.Registry.{IsRegistryAfter, targets_after}
-use Rattle.lb_registry.specs.RegistryEvents.{Event, Applied}
+use Rattle.lb_registry.specs.RegistryEvents.{Applied}
 use Rattle.lb_registry.specs.declared.targets.Target.{Target}
 use Rattle.lb_health.specs.Passes.{Passes, PassesWith, HealthValue}
 use Rattle.lb_health.proofs.registry.HealthRegistry.run_health_check.Goals as goal

@@ -1,6 +1,5 @@
 use Rattle.std.proofs.Common.{◌≡◌, ap, sym, ◌∙◌, refl, subst, map, List, [], ◌∷◌, ◌++◌, ◌+◌, ℕ, rules}
 use Rattle.std.specs.Arc.{arc_value}
-use Rattle.lb_select.specs.Backends.{Member}
 use Rattle.std.specs.Prelude.{Bool, true, false, if◌then◌else◌}
 use Rattle.lb_registry.specs.Registry.{IsRegistryAfter}
 use Rattle.lb_registry.specs.RegistryEvents.{shown_cells, Event, Released, after_show}
@@ -8,7 +7,7 @@ use Rattle.lb_health.specs.Joined.{lives, view_changed}
 use Rattle.lb_health.specs.contracts.view.ViewCore.{the_view}
 use Rattle.lb_health.specs.declared.snapshot.ViewSnapshot.{ViewSnapshot}
 use Rattle.lb_health.specs.Snapshots.{SnapshotValue, ViewValue, snapshot_of, living}
-use Rattle.lb_health.specs.ViewEvents.{ViewEvent, Shown, by_age, new_snapshot, snapshots_after, generation_after}
+use Rattle.lb_health.specs.ViewEvents.{ViewEvent, by_age, new_snapshot, snapshots_after, generation_after}
 use Rattle.lb_health.specs.Views.{IsViewAfter}
 use Rattle.lb_health.proofs.SnapshotLemmas.{shown_snapshots}
 use Rattle.lb_health.proofs.ViewLemmas.{roomier, shown, on_err}

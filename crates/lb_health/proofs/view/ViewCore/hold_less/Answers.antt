@@ -1,4 +1,4 @@
-use Rattle.std.proofs.Common.{◌≡◌, ap, sym, ◌∙◌, refl, rules, subst, List, ◌-◌}
+use Rattle.std.proofs.Common.{ap, sym, ◌∙◌, refl, List}
 use Rattle.lb_health.specs.Snapshots.{SnapshotValue, ViewValue, snapshot_of, held_less}
 use Rattle.lb_health.proofs.SnapshotLemmas.{at_found, at_none}
 use Rattle.lb_health.proofs.view.ViewCore.hold_less.Goals as goal

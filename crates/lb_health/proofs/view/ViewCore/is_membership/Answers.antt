@@ -1,4 +1,4 @@
-use Rattle.std.proofs.Common.{◌≡◌, ap, sym, ◌∙◌, refl, rules, subst}
+use Rattle.std.proofs.Common.{ap, sym, ◌∙◌, subst}
 use Rattle.lb_select.specs.Memberships.{same_members}
 use Rattle.lb_health.specs.Views.{IsViewAfter}
 use Rattle.lb_health.proofs.ViewLemmas.{members_are}

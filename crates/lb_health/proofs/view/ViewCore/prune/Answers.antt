@@ -1,11 +1,11 @@
-use Rattle.std.proofs.Common.{◌≡◌, ap, sym, ◌∙◌, refl, rules, subst, map, ◌∷◌, Bool, filter}
-use Rattle.std.specs.Prelude.{◌||◌, ◌==◌, nat_lt, ℕ}
+use Rattle.std.proofs.Common.{refl, rules, map, ◌∷◌, Bool}
+use Rattle.std.specs.Prelude.{◌||◌, ◌==◌, nat_lt}
 use Rattle.std.proofs.lemmas.Fn.{filter_same}
 use Rattle.std.proofs.lemmas.Bool.{eq-eqb}
 use Rattle.std.proofs.lemmas.Map.Made.{filter_same_pairs}
 use Rattle.lb_select.specs.Backends.{Member}
 use Rattle.lb_health.specs.declared.snapshot.ViewSnapshot.{ViewSnapshot}
-use Rattle.lb_health.specs.Snapshots.{SnapshotValue, snapshot_of, living, lists_in}
+use Rattle.lb_health.specs.Snapshots.{SnapshotValue, snapshot_of, lists_in}
 use Rattle.lb_health.proofs.ViewLemmas.{filter-seen}
 use Rattle.lb_health.proofs.view.ViewCore.prune.Goals as goal
 

@@ -1,6 +1,4 @@
-use Rattle.std.proofs.Common.{◌≡◌, ap, sym, ◌∙◌, refl, subst, ◌↔◌, IsTrue, map, ◌∷◌}
-use Rattle.std.specs.Option.{IsSomeAnd}
-use Rattle.lb_health.specs.Joined.{IsReadyIn}
+use Rattle.std.proofs.Common.{ap, sym, ◌∙◌, subst}
 use Rattle.lb_health.specs.Snapshots.{snapshot_of, snapshot_at, lists_in}
 use Rattle.lb_health.specs.Views.{IsViewAfter}
 use Rattle.lb_health.proofs.SnapshotLemmas.{find_found, find_none, lists_found}

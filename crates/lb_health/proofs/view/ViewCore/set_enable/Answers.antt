@@ -1,7 +1,6 @@
-use Rattle.std.proofs.Common.{◌≡◌, ap, sym, ◌∙◌, refl, subst, rules, true, false, map, ◌∷◌}
+use Rattle.std.proofs.Common.{ap, sym, ◌∙◌, refl, subst, map, ◌∷◌}
 use Rattle.std.specs.Option.{is_some, option_copied_mut}
 use Rattle.lb_health.specs.Snapshots.{snapshot_of, lists_in}
-use Rattle.lb_health.specs.ViewEvents.{Set}
 use Rattle.lb_health.specs.Views.{IsViewAfter}
 use Rattle.lb_health.proofs.FlagLemmas.{set-listed, set-unlisted, lists_is}
 use Rattle.lb_health.proofs.view.ViewCore.set_enable.Goals as goal

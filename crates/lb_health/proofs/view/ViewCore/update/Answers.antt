@@ -1,7 +1,6 @@
-use Rattle.std.proofs.Common.{◌≡◌, sym, ◌∙◌, subst}
-use Rattle.std.specs.Prelude.{Bool, List, if◌then◌else◌}
+use Rattle.std.proofs.Common.{sym, subst}
+use Rattle.std.specs.Prelude.{Bool, if◌then◌else◌}
 use Rattle.lb_registry.specs.Registry.{IsRegistryAfter}
-use Rattle.lb_registry.specs.RegistryEvents.{Event}
 use Rattle.lb_health.specs.Joined.{registry_changed}
 use Rattle.lb_health.proofs.view.ViewCore.update.Goals as goal
 
