@@ -1,6 +1,6 @@
 //! Views, flags, readiness and passes of checks at worked values, which come from the rules of upstream's health checks.
 //! What a pass tells a check and writes to the log is counted and kept, since no contract sees it.
-use crate::made::set_of;
+use crate::fixtures::set_of;
 use lb_health::backends::Backends;
 use lb_health::discovery::{BoxedDiscovery, Discovered, DiscoverySource, ServiceDiscovery, Static};
 use lb_health::registry::HealthRegistry;
