@@ -33,6 +33,29 @@ pub trait HealthCheck {
         ensures { result ≡ threshold self.now success };
 }
 
+/// A check behind a box, for a registry that is to take any.
+pub type BoxedCheck = Box<dyn HealthCheck + Send + Sync + Drop>;
+
+impl HealthCheck for BoxedCheck {
+    ghost threshold = { λ b success. (HealthCheck-box b).threshold b.value success };
+
+    fn check(&self, alloc: Global, target: &Backend) -> Result<(), CheckError> {
+        (**self).check(alloc, target)
+    }
+
+    fn health_status_change(&self, target: &Backend, healthy: bool) {
+        (**self).health_status_change(target, healthy);
+    }
+
+    fn backend_summary(&self, alloc: Global, target: &Backend) -> Result<String, Refusal> {
+        (**self).backend_summary(alloc, target)
+    }
+
+    fn health_threshold(&self, success: bool) -> usize {
+        (**self).health_threshold(success)
+    }
+}
+
 /// Is told of changes of health.
 pub trait HealthObserve {
     /// The backend became healthy, or unhealthy.

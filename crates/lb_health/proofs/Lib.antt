@@ -1,0 +1,3 @@
+pub mod FlagLemmas
+pub mod SnapshotLemmas
+pub mod ViewLemmas

@@ -1,0 +1,12 @@
+use Rattle.std.proofs.Common.{◌≡◌, List}
+use Rattle.lb_health.specs.ViewEvents.{ViewEvent}
+use Rattle.lb_health.specs.Views.{IsViewAfter}
+use Rattle.lb_health.specs.Joined.{after_settings, settings_of}
+use Rattle.lb_health.proofs.view.ViewCore.set_members.Given as goal
+
+abbrev pub invariant-loop-addr : goal.invariant-loop-addr
+invariant-loop-addr l = record {
+  id : l.self.id ≡ l.fn.self.id;
+  after : (views : List ViewEvent) → IsViewAfter views l.fn.self
+      → (now : List ViewEvent) × (IsViewAfter now l.self × (after_settings (settings_of l.addr-iterator) now ≡ after_settings (settings_of l.fn.settings.entries) views));
+}

@@ -1,0 +1,7 @@
+pub mod Discoveries
+pub mod Joined
+pub mod Passes
+pub mod Snapshots
+pub mod Updates
+pub mod ViewEvents
+pub mod Views

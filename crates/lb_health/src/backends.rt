@@ -1,0 +1,171 @@
+//! The backends of one discovery: a view with the registry that it belongs to.
+//! Whoever has it updates it and runs its checks; the forms that threads share stand above.
+ghost use Rattle.std.specs.Prelude.{◌≡◌, ◌↔◌, ◌∷◌, ℕ, Bool, List, [], Ok, Err, Some, None, IfOk, OnOk, OnErr, IsSome, IsTrue};
+ghost use Rattle.std.specs.Arc.{arc_value};
+ghost use Rattle.lb_select.specs.Backends.{Member};
+ghost use Rattle.lb_registry.specs.Registry.{IsRegistryAfter, IsGrowthRefusal};
+ghost use Rattle.lb_registry.specs.RegistryEvents.{Event, Applied, Registered};
+ghost use Rattle.lb_health.specs.Joined.{IsReady};
+ghost use Rattle.lb_health.specs.Passes.{PassesWith, target_cells};
+ghost use Rattle.lb_health.specs.Updates.{IsUpdated, IsBackendsRefusal};
+ghost use Rattle.lb_health.specs.ViewEvents.{ViewEvent, Set, generation_after, membership_after};
+ghost use Rattle.lb_health.specs.Views.{IsViewAfter};
+
+use crate::discovery::{DiscoverySource, ServiceDiscovery};
+use crate::registry::HealthRegistry;
+use crate::view::ViewCore;
+use lb_probe::health_check::HealthCheck;
+use lb_registry::keys::KeyRule;
+use lb_select::backend::Backend;
+use lb_select::refusal::Refusal;
+use log::Log;
+use std::alloc::Global;
+use std::collections::BTreeSet;
+use std::marker::Model;
+use std::sync::Arc;
+
+/// A discovery, a registry, and the view of the one in the other.
+#[derive(Drop)]
+pub struct Backends<D, R, C> {
+    discovery: DiscoverySource<D>,
+    registry: HealthRegistry<R, C>,
+    view: ViewCore,
+}
+
+/// The name of `Backends` where it is handed round as the view of a registry.
+pub type BackendView<D, R, C> = Backends<D, R, C>;
+
+impl<D, R, C> Model for Backends<D, R, C> {
+    ghost use Rattle.lb_health.specs.Updates.{BackendsValue};
+
+    ghost Value = { BackendsValue D R C };
+
+    ghost view = { λ b. record { discovery = b.discovery; health = b.registry; view = b.view } };
+}
+
+impl<D: ServiceDiscovery + Drop, R: KeyRule + Drop, C: HealthCheck + Drop> Backends<D, R, C> {
+    /// A view of this discovery, registered in the registry: generation 0, without backends.
+    ///
+    /// # Errors
+    ///
+    /// `NumbersExhausted` where no number is left for a view or a cell; `OutOfMemory` where memory is refused.
+    pub fn new_with_health_registry(
+        alloc: Global,
+        discovery: DiscoverySource<D>,
+        registry: HealthRegistry<R, C>,
+    ) -> Result<Backends<D, R, C>, Refusal>
+        ensures ok { IfOk result (λ b. (key_of : Member → Member) (events : List Event)
+            → IsRegistryAfter R.gives key_of events registry.registry
+            → IsViewAfter [] b.view × IsRegistryAfter R.gives key_of (Applied ∷ Registered ∷ events) b.health.registry) }
+        ensures refused { OnErr result (IsGrowthRefusal result) }
+    {
+        let mut registry = registry;
+        let id = registry.registry.register_view(alloc)?;
+        let view = ViewCore::new(alloc, id)?;
+        Ok(Backends {
+            discovery,
+            registry,
+            view,
+        })
+    }
+
+    /// The newest generation.
+    pub fn generation(&self) -> u64
+        ensures { (views : List ViewEvent) → IsViewAfter views self.now.view → result ≡ generation_after views }
+    {
+        self.view.generation()
+    }
+
+    /// Whether a backend is ready in the newest membership. It takes no memory.
+    pub fn ready(&self, backend: &Backend) -> bool
+        ensures { (key_of : Member → Member) (views : List ViewEvent) (events : List Event) → IsViewAfter views self.now.view
+            → IsRegistryAfter R.gives key_of events self.now.health.registry
+            → (IsTrue result ↔ IsReady key_of views events (generation_after views) backend.now) }
+    {
+        self.view.ready(&self.registry.registry, backend)
+    }
+
+    /// Enables or disables a backend that a living snapshot lists. It takes no memory.
+    pub fn set_enable(&mut self, backend: &Backend, enabled: bool)
+        ensures view { (views : List ViewEvent) → IsViewAfter views self.old.view
+            → IsViewAfter (Set backend.now enabled ∷ views) self.new.view }
+        ensures health { self.new.health ≡ self.old.health }
+    {
+        self.view.set_enable(backend, enabled);
+    }
+
+    /// The newest membership. Refused `OutOfMemory` where std refuses one more owner.
+    pub fn get_backend(&self) -> Result<Arc<BTreeSet<Backend>>, Refusal>
+        ensures members { IfOk result (λ set. (views : List ViewEvent) → IsViewAfter views self.now.view
+            → (arc_value set).keys ≡ membership_after views) }
+        ensures refused { OnErr result (result ≡ Err Refusal.OutOfMemory) }
+    {
+        self.view.get_backend()
+    }
+
+    /// Sets the check of the registry. Refused `HealthCheckSet` where one is set.
+    pub fn set_health_check(&mut self, check: C) -> Result<(), Refusal>
+        ensures set { self.old.health.check ≡ None
+            → (result ≡ Ok tt) × (self.new.health ≡ record self.old.health { check = Some check }) }
+        ensures refused { IsSome self.old.health.check → (result ≡ Err Refusal.HealthCheckSet) × (self.new.health ≡ self.old.health) }
+        ensures view { self.new.view ≡ self.old.view }
+    {
+        self.registry.set_health_check(check)
+    }
+
+    /// Discovers, and updates the view by it. `changed` is lent a membership that is another one once it is the newest; its
+    /// answer comes back, or `None` where the membership is the same.
+    ///
+    /// # Errors
+    ///
+    /// `Discovery` where the discovery answers a fault; as `ViewCore::update` beside it. View, flags and registry are then as
+    /// before.
+    pub fn update<T, F: FnOnce(&BTreeSet<Backend>) -> T>(
+        &mut self,
+        alloc: Global,
+        changed: F,
+    ) -> Result<Option<T>, Refusal>
+        requires { F.IsAlwaysCallable changed }
+        ensures ok { OnOk result ((key_of : Member → Member) (views : List ViewEvent) (events : List Event)
+            → IsViewAfter views self.old.view
+            → IsRegistryAfter R.gives key_of events self.old.health.registry
+            → IsUpdated R.gives key_of views events self.old.view.id self.new) }
+        ensures err { OnErr result ((key_of : Member → Member) (views : List ViewEvent) (events : List Event)
+            → IsViewAfter views self.old.view
+            → IsRegistryAfter R.gives key_of events self.old.health.registry
+            → IsViewAfter views self.new.view × IsRegistryAfter R.gives key_of events self.new.health.registry) }
+        ensures refused { OnErr result (IsBackendsRefusal result) }
+        ensures discovery { self.new.discovery ≡ self.old.discovery }
+        ensures check { self.new.health.check ≡ self.old.health.check }
+    {
+        let (backends, settings) = self.discovery.discover(alloc)?;
+        let answer = self.view.update(
+            alloc,
+            &mut self.registry.registry,
+            backends,
+            settings,
+            changed,
+        )?;
+        Ok(answer)
+    }
+
+    /// Checks the targets of the whole registry, one after another.
+    ///
+    /// # Errors
+    ///
+    /// `NumbersExhausted` where no number is left for a cell; `OutOfMemory` where memory is refused; both before the first check.
+    pub fn run_health_check<L: Log>(&mut self, rt: &L, alloc: Global) -> Result<(), Refusal>
+        ensures ok { OnOk result ((key_of : Member → Member) (events : List Event)
+            → IsRegistryAfter R.gives key_of events self.old.health.registry
+            → (after : List Event)
+            × PassesWith C.threshold key_of self.old.health.check (target_cells key_of (Applied ∷ events)) (Applied ∷ events) after
+            × IsRegistryAfter R.gives key_of after self.new.health.registry) }
+        ensures err { OnErr result ((key_of : Member → Member) (events : List Event)
+            → IsRegistryAfter R.gives key_of events self.old.health.registry
+            → IsRegistryAfter R.gives key_of events self.new.health.registry) }
+        ensures refused { OnErr result (IsGrowthRefusal result) }
+        ensures view { self.new.view ≡ self.old.view }
+    {
+        self.registry.run_health_check(rt, alloc)
+    }
+}

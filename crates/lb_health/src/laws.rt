@@ -1,0 +1,33 @@
+//! Laws of views, as functions whose contracts state them.
+//! No program needs to call one.
+ghost use Rattle.std.specs.Prelude.{◌↔◌, ◌∷◌, List, IsTrue};
+ghost use Rattle.lb_select.specs.Backends.{Member};
+ghost use Rattle.lb_registry.specs.Registry.{IsRegistryAfter};
+ghost use Rattle.lb_registry.specs.RegistryEvents.{Event};
+ghost use Rattle.lb_health.specs.Joined.{IsReady};
+ghost use Rattle.lb_health.specs.ViewEvents.{ViewEvent, Set, generation_after};
+ghost use Rattle.lb_health.specs.Views.{IsViewAfter};
+
+use crate::view::ViewCore;
+use lb_registry::keys::KeyRule;
+use lb_registry::registry::Registry;
+use lb_select::backend::Backend;
+
+/// A flag set in one view changes readiness in no other: after it, readiness in another view goes by the same history of that
+/// view and of the registry as before.
+pub fn flags_are_of_one_view<R: KeyRule + Drop>(
+    view: &mut ViewCore,
+    other: &ViewCore,
+    registry: &Registry<R>,
+    backend: &Backend,
+    enabled: bool,
+    asked: &Backend,
+) -> bool
+    ensures view { (views : List ViewEvent) → IsViewAfter views view.old → IsViewAfter (Set backend.now enabled ∷ views) view.new }
+    ensures other { (key_of : Member → Member) (others : List ViewEvent) (events : List Event) → IsViewAfter others other.now
+        → IsRegistryAfter R.gives key_of events registry.now
+        → (IsTrue result ↔ IsReady key_of others events (generation_after others) asked.now) }
+{
+    view.set_enable(backend, enabled);
+    other.ready(registry, asked)
+}

@@ -1,0 +1,10 @@
+//! Views of backends and their health: discovery, memberships in numbered generations, flags, readiness, and passes of checks.
+//! A view is told by the history of its events, and a registry of cells by its own; a call says what it adds to each.
+#![tactic(auto)]
+
+pub mod backends;
+pub mod discovery;
+pub mod laws;
+pub mod registry;
+mod snapshot;
+pub mod view;

@@ -1,0 +1,52 @@
+//! Snapshots of a view: a generation with its members and their cells.
+//! A snapshot lives while it is the current one of its view or held.
+ghost use Rattle.std.specs.Prelude.{◌≡◌, map, ◌==◌, ◌∷◌};
+ghost use Rattle.std.specs.List.{list_any, position};
+ghost use Rattle.lb_select.specs.Backends.{same_member};
+ghost use Rattle.lb_health.specs.Snapshots.{snapshot_of, lists_in};
+
+use lb_select::backend::Backend;
+use std::collections::{BTreeMap, BTreeSet};
+use std::sync::Arc;
+
+/// A generation of a view, with its members and the cells of their keys when the membership was shown.
+#[derive(Drop)]
+pub(crate) struct ViewSnapshot {
+    pub(crate) generation: u64,
+    pub(crate) members: Arc<BTreeSet<Backend>>,
+    pub(crate) cells: BTreeMap<Backend, u64>,
+    pub(crate) holds: u64,
+}
+
+// Whether the current snapshot or one of the others lists the backend.
+pub(crate) fn lists(current: &ViewSnapshot, others: &[ViewSnapshot], backend: &Backend) -> bool
+    ensures { result ≡ lists_in backend.now (snapshot_of current.now ∷ map snapshot_of others.now) }
+{
+    if current.members.contains(backend) {
+        return true;
+    }
+    for snapshot in others {
+        if snapshot.members.contains(backend) {
+            return true;
+        }
+    }
+    false
+}
+
+// The place of the snapshot of this generation, or `None` where none is there.
+pub(crate) fn place_of(snapshots: &[ViewSnapshot], generation: u64) -> Option<usize>
+    ensures { result ≡ position (λ s. s.generation == generation) snapshots.now }
+{
+    snapshots
+        .iter()
+        .position(|snapshot| snapshot.generation == generation)
+}
+
+// Whether one of the snapshots is of this generation.
+pub(crate) fn is_among(snapshots: &[ViewSnapshot], generation: u64) -> bool
+    ensures { result ≡ list_any (λ s. s.generation == generation) snapshots.now }
+{
+    snapshots
+        .iter()
+        .any(|snapshot| snapshot.generation == generation)
+}

@@ -1,0 +1,5 @@
+-- Definitions that only proofs need: what a table is while it changes, what was gathered of the targets so far, and what a
+-- view's update prepares and gives.
+pub mod Changing
+pub mod Gathering
+pub mod Replacing

@@ -1,0 +1,40 @@
+-- A change of a table on its way: the cells of the keys that start are stored, and the numbering isn't exchanged yet.
+use Rattle.std.specs.Prelude.{◌≡◌, ◌≤◌, ◌<◌, ℕ, Bool, true, List, [], Some}
+use Rattle.std.specs.declared.cmp.Ordering.{Ordering}
+use Rattle.std.specs.Ordering.{eq_by_cmp, nat_cmp}
+use Rattle.std.specs.Option.{IsSomeAnd}
+use Rattle.lb_registry.specs.declared.table.Cell.{Cell}
+use Rattle.lb_registry.specs.CellEvents.{CellEvent, changes, verdicts_of, holds_after, configured, given_after, start_of}
+use Rattle.lb_registry.specs.Starts.{cell_now, value_at, IsNumbered}
+use Rattle.lb_registry.specs.Table.{TableValue, IsTableAfter}
+use Rattle.lb_registry.specs.Verdicts.{IsHealthAfter}
+
+-- the cells from this number on that targets have are stored, as they began
+abbrev pub AreStored : {K : Type 0} → (K → K → Ordering) → ℕ → Bool → List (List K) → List (ℕ × Cell K) → Type 0
+AreStored {K} cmp first start all cells =
+    (k : K) (c : ℕ) → cell_now (eq_by_cmp cmp) all k ≡ Some c → first ≤ c
+    → IsSomeAnd (value_at nat_cmp cells c) (λ x. (eq_by_cmp cmp k x.key ≡ true) × IsHealthAfter start [] x.health)
+
+-- later is these events and further changes
+pub record Extends {K : Type 0} (cmp : K → K → Ordering) (events later : List (CellEvent K)) : Type 0 where
+  pub verdicts : (c : ℕ) → verdicts_of c later ≡ verdicts_of c events
+  pub holds : holds_after later ≡ holds_after events
+  pub start : configured later ≡ configured events
+  pub grows : given_after (eq_by_cmp cmp) events ≤ given_after (eq_by_cmp cmp) later
+  -- a cell that was given before is of a key that had it before
+  pub old :
+      (k : K) (c : ℕ) → cell_now (eq_by_cmp cmp) (changes later) k ≡ Some c → c < given_after (eq_by_cmp cmp) events
+      → cell_now (eq_by_cmp cmp) (changes events) k ≡ Some c
+  -- cells begin as configured
+  pub begun : (c : ℕ) → c < given_after (eq_by_cmp cmp) events → start_of (eq_by_cmp cmp) c later ≡ start_of (eq_by_cmp cmp) c events
+  pub begins :
+      (c : ℕ) → given_after (eq_by_cmp cmp) events ≤ c → c < given_after (eq_by_cmp cmp) later
+      → start_of (eq_by_cmp cmp) c later ≡ configured events
+
+-- the table is after events still, and has the cells for the numbering after later
+pub record IsStarted {K : Type 0} (cmp : K → K → Ordering) (events later : List (CellEvent K)) (t : TableValue K)
+    (by_key : List (K × ℕ)) (next : ℕ) : Type 0 where
+  pub extends : Extends cmp events later
+  pub table : IsTableAfter cmp events t
+  pub numbering : IsNumbered cmp (changes later) by_key next
+  pub stored : AreStored cmp (given_after (eq_by_cmp cmp) events) t.start (changes later) t.cells

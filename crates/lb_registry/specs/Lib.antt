@@ -1,0 +1,9 @@
+pub mod CellEvents
+pub mod Internal
+pub mod Keys
+pub mod Registry
+pub mod RegistryEvents
+pub mod Starts
+pub mod Table
+pub mod Targets
+pub mod Verdicts

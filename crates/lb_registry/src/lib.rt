@@ -1,0 +1,11 @@
+//! The health of backends: cells that verdicts of checks change, and the registry that gives cells to the targets of its views.
+//! A registry is told by the history of its calls, newest first: each thing that can be seen of it is a short recursion over that list.
+#![tactic(auto)]
+
+mod change;
+pub mod health;
+pub mod keys;
+mod numbering;
+pub mod registry;
+mod table;
+pub mod targets;
