@@ -9,6 +9,8 @@ mod made;
 #[cfg(test)]
 mod noting;
 #[cfg(test)]
+mod registry;
+#[cfg(test)]
 mod ring;
 #[cfg(test)]
 mod selection;

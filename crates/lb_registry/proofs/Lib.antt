@@ -1,0 +1,5 @@
+pub mod CellLemmas
+pub mod NumberLemmas
+pub mod TableLemmas
+pub mod TargetLemmas
+pub mod ChangeLemmas
