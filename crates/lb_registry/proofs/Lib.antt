@@ -3,3 +3,4 @@ pub mod NumberLemmas
 pub mod TableLemmas
 pub mod TargetLemmas
 pub mod ChangeLemmas
+pub mod StateLemmas

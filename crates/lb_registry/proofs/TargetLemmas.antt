@@ -19,7 +19,7 @@ use Rattle.lb_select.specs.Unique.{distinct, firsts}
 use Rattle.lb_select.proofs.Laws.{distinct-append}
 use Rattle.lb_registry.specs.declared.targets.Gathered.{Gathered}
 use Rattle.lb_registry.specs.declared.targets.Place.{Place}
-use Rattle.lb_registry.specs.Internal.Gathering.{Gathers}
+use Rattle.lb_registry.specs.Internal.Gathering.{Gathers, IsGathering}
 use Rattle.lb_registry.specs.Targets.{ViewValue, live, place_cmp, Candidate, same_key, candidates_of, candidates, in_order}
 
 -- backends are in a total order, and identity is an equivalence
@@ -85,6 +85,38 @@ gathers-first cs g h c before new taken order =
           order ∙ ap (λ es. insert_entry place_cmp es c.place c.key) before.order
           ∙ sym (fold-append (λ sorted d. insert_entry place_cmp sorted d.place d.key) [] (distinct same_key cs) (c ∷ []))
           ∙ ap in_order (sym (distinct-new cs c (sym (before.taken c.key) ∙ new)));
+    }
+
+-- one more member of a view, whose key has its target
+pub gathering-known :
+    (key_of : Member → Member) (id : ℕ) (rest more : List Member) (whole : List Candidate) (g : Gathered) (b k : Member)
+    → IsGathering key_of id rest whole g → rest ≡ b ∷ more → k ≡ key_of b → contains member_cmp g.taken k ≡ true
+    → IsGathering key_of id more whole g
+gathering-known key_of id rest more whole g b k so is key known =
+    let c : Candidate = record { place = record { backend = b; view = id }; key = key_of b } in
+    record {
+      passed = so.passed ++ c ∷ [];
+      gathers = gathers-known so.passed g c so.gathers (ap (contains member_cmp g.taken) (sym key) ∙ known);
+      left = append_assoc so.passed (c ∷ []) (candidates_of key_of id more) ∙ ap (λ ms. so.passed ++ candidates_of key_of id ms) (sym is) ∙ so.left;
+    }
+
+-- one more member, which is the target of its key
+pub gathering-first :
+    (key_of : Member → Member) (id : ℕ) (rest more : List Member) (whole : List Candidate) (g h : Gathered) (b c k l : Member)
+    → IsGathering key_of id rest whole g → rest ≡ b ∷ more → k ≡ key_of b → contains member_cmp g.taken k ≡ false → c ≡ b → l ≡ k
+    → ((q : Member) → contains member_cmp h.taken q ≡ cond (same_member l q) true (contains member_cmp g.taken q))
+    → h.order.entries ≡ insert_entry place_cmp g.order.entries (record { backend = c; view = id }) k
+    → IsGathering key_of id more whole h
+gathering-first key_of id rest more whole g h b c k l so is key new copy twin taken order =
+    let d : Candidate = record { place = record { backend = b; view = id }; key = key_of b } in
+    record {
+      passed = so.passed ++ d ∷ [];
+      gathers =
+          gathers-first so.passed g h d so.gathers (ap (contains member_cmp g.taken) (sym key) ∙ new)
+          (λ q. taken q ∙ ap (λ m. cond (same_member m q) true (contains member_cmp g.taken q)) (twin ∙ key))
+          (order ∙ ap (λ m. insert_entry place_cmp g.order.entries (record { backend = m; view = id }) k) copy
+          ∙ ap (λ m. insert_entry place_cmp g.order.entries (record { backend = b; view = id }) m) key);
+      left = append_assoc so.passed (d ∷ []) (candidates_of key_of id more) ∙ ap (λ ms. so.passed ++ candidates_of key_of id ms) (sym is) ∙ so.left;
     }
 
 -- one more view: by its mark

@@ -1,6 +1,6 @@
-use Rattle.std.proofs.Common.{◌≡◌, List, ◌++◌}
+use Rattle.std.proofs.Common.{List, ◌++◌}
 use Rattle.lb_select.specs.Backends.{Member}
-use Rattle.lb_registry.specs.Internal.Gathering.{Gathers}
+use Rattle.lb_registry.specs.Internal.Gathering.{Gathers, IsGathering}
 use Rattle.lb_registry.specs.Keys.{IsRuleOf}
 use Rattle.lb_registry.specs.Targets.{Candidate, candidates_of}
 use Rattle.lb_registry.proofs.targets.gather.Given as goal
@@ -8,5 +8,4 @@ use Rattle.lb_registry.proofs.targets.gather.Given as goal
 abbrev pub invariant-loop-backend : goal.invariant-loop-backend
 invariant-loop-backend g l =
     (key_of : Member → Member) (before : List Candidate) → IsRuleOf g.R.KeyRule.gives l.rule key_of → Gathers before l.fn.gathered
-    → (now : List Candidate) × Gathers now l.gathered
-    × (now ++ candidates_of key_of l.id l.backend-iterator ≡ before ++ candidates_of key_of l.id l.members.keys)
+    → IsGathering key_of l.id l.backend-iterator (before ++ candidates_of key_of l.id l.members.keys) l.gathered
