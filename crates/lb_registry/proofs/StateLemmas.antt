@@ -1,21 +1,30 @@
 -- Views and table together after a change: the marks applied, one view's membership exchanged, and a refused change put back.
-use Rattle.std.proofs.Common.{◌≡◌, ◌<◌, ◌≤◌, ℕ, zero, suc, Bool, List, [], ◌∷◌, map, length, filter, not, position, set, get_or, Option, Some, None, Result, Ok, Err, OnOk, ◌++◌, ◌+◌, refl, sym, ap, subst, ◌∙◌, nat_lt, length-set, get_or-set_same, arith}
+use Rattle.std.proofs.Common.{◌≡◌, ◌<◌, ◌≤◌, ℕ, zero, suc, ◌==◌, ◌⊎◌, inl, inr, Bool, true, false, cond, ◌&&◌, ◌||◌, List, [], ◌∷◌, map, length, filter, not, position, set, get_or, Option, Some, None, Result, Ok, Err, OnOk, ◌++◌, ◌+◌, refl, sym, ap, subst, ◌∙◌, nat_lt, length-set, get_or-set_same, arith}
 use Rattle.std.proofs.lemmas.List.{map-append}
 use Rattle.std.proofs.lemmas.Option.{cond_some, same_Some, slice_get_read}
-use Rattle.std.specs.List.{slice_get, prefix_len}
+use Rattle.std.specs.List.{list_any, slice_get, prefix_len}
+use Rattle.std.specs.Ordering.{eq_by_cmp, nat_cmp}
 use borrow.Author.Tests.{ltb-true}
 use Rattle.lb_select.specs.Backends.{Member, member_cmp, same_member}
+use Rattle.lb_select.specs.Memberships.{same_members}
+use Rattle.lb_select.specs.declared.refusal.Refusal.{Refusal}
+use Rattle.lb_select.specs.declared.refusal.Refusal.TheVariants.{NoSuch}
 use Rattle.lb_registry.specs.declared.change.Shown.{Shown}
 use Rattle.lb_registry.specs.declared.numbering.Numbering.{Numbering}
 use Rattle.lb_registry.specs.declared.targets.View.{View}
-use Rattle.lb_registry.specs.CellEvents.{CellEvent, Changed, changes}
+use Rattle.lb_registry.specs.CellEvents as cell
+use Rattle.lb_registry.specs.CellEvents.{CellEvent, Changed, Hold, changes, IsKept}
 use Rattle.lb_registry.specs.Internal.Changing.{IsStarted}
 use Rattle.lb_registry.specs.Internal.Replacing.{IsShown, IsPrepared, IsReplaced}
-use Rattle.lb_registry.specs.Registry.{IsStateAfter, RegistryValue, IsRegistryAfter}
-use Rattle.lb_registry.specs.RegistryEvents.{Event, Registered, Applied, Updated, is_view, at_view, with_members, new_view, registered_after, views_after, cell_events}
+use Rattle.lb_registry.specs.Registry.{IsStateAfter, RegistryValue, IsRegistryAfter, IsGrowthRefusal}
+use Rattle.lb_registry.specs.RegistryEvents.{Event, Registered, Applied, Updated, is_view, at_view, with_members, new_view, has_view, members_of, after_update, after_show, cells_by, cells_in, changes_after, registered_after, views_after, cell_events}
 use Rattle.lb_registry.specs.Table.{TableValue, IsTableAfter}
 use Rattle.lb_registry.specs.Targets.{ViewValue, view_value, live, target_keys}
-use Rattle.lb_registry.proofs.ChangeLemmas.{map-filter, live-at_view, at_place}
+use Rattle.lb_registry.proofs.ChangeLemmas.{map-filter, live-at_view, at_place, members_at, cells_kept}
+
+and_false : (b : Bool) → (b && false) ≡ false
+and_false true = refl
+and_false false = refl
 
 -- the view at the place that a search gave
 pub at_found :
@@ -134,3 +143,70 @@ set_found (w ∷ xs) (suc place) x y at = set_found xs place x y at
 -- a refusal is the same, whatever the call would have given
 pub same_refusal : {A B E : Type 0} (x y : E) → ◌≡◌ {A = Result A E} (Err x) (Err y) → ◌≡◌ {A = Result B E} (Err x) (Err y)
 same_refusal {A} {B} {E} x y e = let it : x ≡ y = cc in ap Err it
+
+-- an answer is no refusal
+pub not_refused : {A E : Type 0} (x : A) (e : E) → ◌≡◌ {A = Result A E} (Ok x) (Err e) → ⊥
+not_refused x e h = cc
+
+-- what a growth is refused for is no missing view
+pub growth_not_such : {A : Type 0} (e : Refusal) → IsGrowthRefusal {A = A} (Err e) → e ≡ NoSuch → ⊥
+growth_not_such e (inl h) is = cc
+growth_not_such e (inr h) is = cc
+
+-- what an update does, by whether the membership is the same
+pub updates_as :
+    (b : Bool) (id place : ℕ) (members : List Member) (events : List Event) (items : List View) (x : View)
+    → map view_value items ≡ views_after events → position (λ v. is_view id (view_value v)) items ≡ Some place → x ≡ get_or items place x
+    → same_members members x.members.keys ≡ b → after_update id members events ≡ cond b events (Updated id members ∷ Applied ∷ events)
+updates_as b id place members events items x listed found at is =
+    let there : members_of id (views_after events) ≡ x.members.keys
+    = ap (members_of id) (sym listed) ∙ members_at view_value id items place x found (at_found (λ v. is_view id (view_value v)) items place x found at) in
+    ap (λ t. cond t events (Updated id members ∷ Applied ∷ events)) (ap (same_members members) there ∙ is)
+
+-- room for one more live snapshot changes nothing
+pub roomier :
+    (events : List (CellEvent Member)) (t : TableValue Member) (held : List Hold) → held ≡ t.held → IsTableAfter member_cmp events t
+    → IsTableAfter member_cmp events (record t { held = held })
+roomier events t held is table = let After : List Hold → Type 0 = λ hs. IsTableAfter member_cmp events (record t { held = hs }) in subst After (sym is) table
+
+has_live : (id : ℕ) (vs : List ViewValue) → has_view id (live vs) ≡ has_view id vs
+has_live id [] = refl
+has_live id (v ∷ vs) = by_mark v.marked refl (has_live id vs) where
+  by_mark :
+      (m : Bool) → v.marked ≡ m → has_view id (live vs) ≡ has_view id vs
+      → has_view id (cond (not m) (v ∷ live vs) (live vs)) ≡ (is_view id v || has_view id vs)
+  by_mark true e ih = ih ∙ sym (ap (λ b. ((v.id == id) && not b) || has_view id vs) e ∙ ap (λ b. b || has_view id vs) (and_false (v.id == id)))
+  by_mark false e ih = ap (λ b. is_view id v || b) ih
+
+members_shown : (id : ℕ) (members : List Member) (vs : List ViewValue) → has_view id vs ≡ true → members_of id (at_view id (with_members members) vs) ≡ members
+members_shown id members [] e = absurd (cc)
+members_shown id members (v ∷ vs) e = shown_by (is_view id v) refl e (members_shown id members vs) where
+  shown_by :
+      (b : Bool) → is_view id v ≡ b → (b || has_view id vs) ≡ true → (has_view id vs ≡ true → members_of id (at_view id (with_members members) vs) ≡ members)
+      → members_of id (cond b (with_members members v ∷ vs) (v ∷ at_view id (with_members members) vs)) ≡ members
+  shown_by true f e ih = ap (λ b. cond b members (members_of id vs)) f
+  shown_by false f e ih = ap (λ b. cond b v.members (members_of id (at_view id (with_members members) vs))) f ∙ ih e
+
+-- a view's next snapshot is held
+pub shows :
+    (key_of : Member → Member) (events : List Event) (id generation : ℕ) (members : List Member) (shown : Shown) (views : List ViewValue)
+    (t more : TableValue Member)
+    → IsReplaced key_of (Updated id members ∷ Applied ∷ events) members shown views t → has_view id (views_after events) ≡ true
+    → ((es : List (CellEvent Member)) → IsTableAfter member_cmp es t
+    → ((c : ℕ) → list_any (eq_by_cmp nat_cmp c) shown.numbers.keys ≡ true → IsKept member_cmp es c)
+    → IsTableAfter member_cmp (cell.Held id generation shown.numbers.keys ∷ es) more)
+    → IsStateAfter key_of (after_show id generation members events) views more
+shows key_of events id generation members shown views t more out has holds =
+    let now = Updated id members ∷ Applied ∷ events in
+    let there : members_of id (views_after now) ≡ members = members_shown id members (live (views_after events)) (has_live id (views_after events) ∙ has) in
+    let numbers : shown.numbers.keys ≡ cells_in (cells_by key_of (changes_after key_of now) (members_of id (views_after now)))
+    = out.cells.numbers ∙ ap (λ ms. cells_in (cells_by key_of (changes_after key_of now) ms)) (sym there) in
+    let HeldAs : List ℕ → Type 0 = λ cs. IsTableAfter member_cmp (cell.Held id generation cs ∷ cell_events key_of now) more in
+    record {
+      listed = out.state.listed;
+      cells =
+          subst HeldAs numbers
+          (holds (cell_events key_of now) out.state.cells
+          (λ c e.
+          inl (cells_kept key_of (changes_after key_of now) members c (ap (list_any (eq_by_cmp nat_cmp c)) (sym out.cells.numbers) ∙ e))));
+    }

@@ -5,6 +5,7 @@ use Rattle.lb_registry.specs.Registry.{RegistryValue, IsRegistryAfter}
 use Rattle.lb_registry.specs.RegistryEvents.{is_view, at_view, with_mark}
 use Rattle.lb_registry.specs.Targets.{view_value}
 use Rattle.lb_registry.proofs.ChangeLemmas.{at_place, at_nowhere, missing_view}
+use Rattle.lb_registry.proofs.StateLemmas.{at_found}
 use Rattle.lb_registry.proofs.registry.Registry.remove_view.Goals as goal
 
 pub returns-in-Some : goal.returns-in-Some
@@ -18,7 +19,7 @@ returns-in-Some g c =
       registered = now.registered;
       state = record {
         listed =
-            at_place view_value c.args.id with_mark c.self.inside.views.items c.in-Some.place c.index_mut.result.now _ found c.index_mut.ensures.value refl
+            at_place view_value c.args.id with_mark c.self.inside.views.items c.in-Some.place c.index_mut.result.now _ found (at_found (λ (v : View). is_view c.args.id (view_value v)) c.self.inside.views.items c.in-Some.place c.index_mut.result.now found c.index_mut.ensures.value) refl
             ∙ ap (at_view c.args.id with_mark) now.state.listed;
         cells = now.state.cells;
       };

@@ -1,9 +1,12 @@
-use Rattle.std.proofs.Common.{List, map}
+use Rattle.std.proofs.Common.{List, ◌∷◌, ◌++◌, map, ap, ◌∙◌}
+use Rattle.std.specs.List.{filter_map}
 use Rattle.lb_select.specs.Backends.{Member}
-use Rattle.lb_registry.specs.Registry.{IsRegistryAfter}
-use Rattle.lb_registry.specs.RegistryEvents.{Event}
+use Rattle.lb_registry.specs.declared.targets.Target.{Target}
+use Rattle.lb_registry.specs.declared.targets.View.{View}
+use Rattle.lb_registry.specs.Registry.{IsRegistryAfter, target_at}
+use Rattle.lb_registry.specs.RegistryEvents.{Event, Applied}
 use Rattle.lb_registry.specs.Table.{table_value}
-use Rattle.lb_registry.specs.Targets.{view_value}
+use Rattle.lb_registry.specs.Targets.{view_value, live, targets_in}
 use Rattle.lb_registry.proofs.StateLemmas.{seen}
 use Rattle.lb_registry.proofs.TableLemmas.{refused_for}
 use Rattle.lb_registry.proofs.registry.Registry.targets.Goals as goal
@@ -35,4 +38,11 @@ returns-in_err-apply-clause-err g c =
     refused_for c.from_residual-in_err-apply.result stays
 
 pub returns-clause-targets : goal.returns-clause-targets
-returns-clause-targets g c = ?
+returns-clause-targets g c =
+    λ key_of events r.
+    let now = seen g.R.KeyRule.gives key_of events _ _ c.self.view_is r in
+    let order = c.in_ok-order.ensures.ok key_of now.rule ∙ ap (λ (vs : List View). targets_in key_of (live (map view_value vs))) c.deref.ensures.value
+    ∙ ap (λ vs. targets_in key_of (live vs)) now.state.listed in
+    c.with_targets.ensures key_of (Applied ∷ events) (c.in_ok-apply.ensures.ok key_of events now.rule now.state).cells
+    ∙ ap (λ (ts : List Target). ts ++ filter_map (target_at key_of (Applied ∷ events)) c.in_ok-order.order.entries) (c.in_ok-reserve.ensures.items ∙ c.new-targets.ensures.items)
+    ∙ ap (filter_map (target_at key_of (Applied ∷ events))) order
