@@ -1,6 +1,6 @@
 -- Views and table together after a change: the marks applied, one view's membership exchanged, and a refused change put back.
-use Rattle.std.proofs.Common.{◌≡◌, ◌<◌, ◌≤◌, ℕ, zero, suc, ◌==◌, ◌⊎◌, inl, inr, Bool, true, false, cond, ◌&&◌, ◌||◌, List, [], ◌∷◌, map, length, filter, not, position, set, get_or, Option, Some, None, Result, Ok, Err, OnOk, ◌++◌, ◌+◌, refl, sym, ap, subst, ◌∙◌, nat_lt, length-set, get_or-set_same, arith}
-use Rattle.std.proofs.lemmas.List.{map-append}
+use Rattle.std.proofs.Common.{◌≡◌, ◌<◌, ◌≤◌, ℕ, zero, suc, ◌==◌, ◌⊎◌, inl, inr, Bool, true, false, cond, ◌&&◌, ◌||◌, List, [], ◌∷◌, map, length, filter, not, position, set, get_or, Option, Some, None, Result, Ok, Err, OnOk, ◌++◌, ◌+◌, refl, sym, ap, subst, ◌∙◌, nat_lt, length-append, take, ◌-◌, arith}
+use Rattle.std.proofs.lemmas.List.{map-append, take-append-le, take_all}
 use Rattle.std.proofs.lemmas.Option.{cond_some, same_Some, slice_get_read}
 use Rattle.std.specs.List.{list_any, slice_get, prefix_len}
 use Rattle.std.specs.Ordering.{eq_by_cmp, nat_cmp}
@@ -210,3 +210,11 @@ shows key_of events id generation members shown views t more out has holds =
           (λ c e.
           inl (cells_kept key_of (changes_after key_of now) members c (ap (list_any (eq_by_cmp nat_cmp c)) (sym out.cells.numbers) ∙ e))));
     }
+
+-- what was pushed last is taken off again
+pub popped :
+    {X : Type 0} (xs old more : List X) (x : X) (n : ℕ) → old ≡ xs ++ x ∷ [] → n ≡ length old → more ≡ take (n - 1) old → more ≡ xs
+popped xs old more x n is long rest =
+    let one : n - 1 ≡ length xs = omega (arith, long, ap length is, length-append xs (x ∷ [])) in
+    let short : length xs ≤ length xs = omega arith in
+    rest ∙ ap (λ k. take k old) one ∙ ap (take (length xs)) is ∙ take-append-le (length xs) xs (x ∷ []) short ∙ take_all (length xs) xs short
