@@ -1,10 +1,10 @@
 -- Changes of the views: the marks that are applied, the membership of one view, and the cells that its snapshot holds.
-use Rattle.std.proofs.Common.{◌≡◌, ◌<◌, ◌≤◌, ◌+◌, ℕ, zero, suc, ◌==◌, Bool, true, false, cond, not, ◌&&◌, ◌||◌, List, [], ◌∷◌, ◌++◌, map, length, filter, fold, position, set, Option, Some, None, refl, sym, ap, subst, ◌∙◌, arith, true≢false, nat_lt}
+use Rattle.std.proofs.Common.{◌≡◌, ◌+◌, ℕ, zero, suc, ◌==◌, Bool, true, false, cond, not, ◌&&◌, ◌||◌, List, [], ◌∷◌, map, length, filter, fold, position, set, Option, Some, None, refl, sym, ap, subst, ◌∙◌, arith, true≢false, nat_lt}
 use Rattle.std.specs.BTreeMap.{insert_entry}
 use Rattle.std.specs.BTreeSet.{insert_key}
 use Rattle.std.specs.List.{list_any, filter_map, cons_option, prefix_len, slice_get, AllByRecursion as Each}
 use Rattle.std.specs.Map.{values_of}
-use Rattle.std.specs.Option.{IsSomeAnd, option_map}
+use Rattle.std.specs.Option.{option_map}
 use Rattle.std.specs.Ordering.{eq_by_cmp, nat_cmp, match_ordering}
 use Rattle.std.specs.Cmp.{unsigned_tied}
 use Rattle.std.specs.declared.cmp.Ordering.{Ordering}
@@ -14,7 +14,7 @@ use borrow.Author.Tests.{eqb-true, lt-ltb, le-ltb, ltb-true, ltb-false}
 use Rattle.lb_select.specs.Backends.{Member, member_cmp, same_member}
 use Rattle.lb_registry.specs.Starts.{cell_now}
 use Rattle.lb_registry.specs.Targets.{ViewValue, live}
-use Rattle.lb_registry.specs.RegistryEvents.{is_view, has_view, at_view, members_of, with_members, with_mark, in_map, cell_pair, cells_by, cells_in}
+use Rattle.lb_registry.specs.RegistryEvents.{is_view, has_view, at_view, members_of, with_members, cell_pair, cells_by, cells_in}
 use Rattle.lb_registry.proofs.CellLemmas.{either}
 
 -- a filter before a map is one after it

@@ -1,7 +1,6 @@
 -- The table of cells after each event: what is stored stays right.
-use Rattle.std.proofs.Common.{◌≡◌, ◌<◌, ◌≤◌, ◌+◌, ℕ, ◌==◌, ◌⊎◌, inl, inr, ⊎_elim, Bool, true, false, cond, not, ◌&&◌, ◌||◌, List, [], ◌∷◌, ◌++◌, map, length, filter, Option, Some, None, Result, Ok, Err, OnErr, refl, sym, ap, subst, ◌∙◌, arith, true≢false, eqb}
+use Rattle.std.proofs.Common.{◌≡◌, ◌<◌, ◌≤◌, ℕ, ◌==◌, ◌⊎◌, inl, inr, ⊎_elim, Bool, true, false, cond, not, ◌||◌, List, [], ◌∷◌, ◌++◌, map, filter, Option, Some, None, Result, Ok, Err, OnErr, refl, sym, ap, subst, ◌∙◌, arith, true≢false}
 use Rattle.std.proofs.Math.Bool.{or-false}
-use Rattle.std.proofs.lemmas.List.{map-append}
 use Rattle.std.proofs.lemmas.List.Folds.{list_any-append}
 use Rattle.std.proofs.lemmas.Map.{lookup-none}
 use Rattle.std.proofs.lemmas.Map.Entries.{none_past_head}
@@ -9,21 +8,21 @@ use Rattle.std.proofs.lemmas.Map.Keys.{IsDistinct-from_sorted}
 use Rattle.std.proofs.lemmas.Option.{same_Some}
 use Rattle.std.specs.declared.cmp.Ordering.{Ordering}
 use Rattle.std.specs.BTreeMap.{is_at}
-use Rattle.std.specs.Cmp.{IsEquivalence, IsTotalOrder, eq_by_cmp_equiv, nat_cmp_total, unsigned_tied}
+use Rattle.std.specs.Cmp.{IsTotalOrder, eq_by_cmp_equiv, nat_cmp_total, unsigned_tied}
 use Rattle.std.specs.List.{list_any, IsDistinct}
 use Rattle.std.specs.List.Sorted.{IsStrictlySortedBy}
 use Rattle.std.specs.Map.{keys_of, lookup}
-use Rattle.std.specs.Option.{IsSomeAnd, IsSome, is_some}
+use Rattle.std.specs.Option.{IsSomeAnd, is_some}
 use Rattle.std.specs.Ordering.{eq_by_cmp, nat_cmp}
 use Rattle.std.proofs.lemmas.Bool.{cases_lt}
 use borrow.Author.Tests.{eqb-true, eq-eqb, ne_eqb, lt-ltb, le-ltb}
 use Rattle.lb_registry.specs.declared.table.Cell.{Cell}
 use Rattle.lb_registry.specs.declared.table.Held as declared
-use Rattle.lb_registry.specs.CellEvents.{CellEvent, Hold, Changed, Observed, Held, Released, Configured, is_hold_of, changes, verdicts_of, holds_after, configured, is_held, given_after, start_of, health_of, IsKept}
+use Rattle.lb_registry.specs.CellEvents.{CellEvent, Hold, Changed, Observed, Held, Released, is_hold_of, changes, verdicts_of, holds_after, configured, is_held, given_after, start_of, IsKept}
 use Rattle.lb_registry.specs.Internal.Changing.{AreStored, is_cell, keeps_cell, Extends, IsStarted}
 use Rattle.lb_registry.specs.Starts.{cell_now, value_at, IsNumbered}
 use Rattle.lb_registry.specs.Table.{TableValue, hold_of, IsTableAfter, IsPruned}
-use Rattle.lb_registry.specs.Verdicts.{Verdict, HealthValue, IsHealthAfter}
+use Rattle.lb_registry.specs.Verdicts.{Verdict, IsHealthAfter}
 use Rattle.lb_registry.proofs.CellLemmas.{either, cell_now-same, cell_now-lt, old_cell, starts-grow}
 
 -- what follows from what holds of a value that is there

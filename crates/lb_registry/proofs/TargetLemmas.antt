@@ -1,24 +1,21 @@
 -- The targets, gathered from the backends of the views one by one.
-use Rattle.std.proofs.Common.{◌≡◌, ◌<◌, ◌≤◌, ◌+◌, ℕ, ◌==◌, Bool, true, false, cond, not, ◌&&◌, ◌||◌, List, [], ◌∷◌, ◌++◌, map, length, filter, fold, Option, Some, None, refl, sym, ap, subst, ◌∙◌, arith, append_assoc, rules}
+use Rattle.std.proofs.Common.{◌≡◌, ℕ, Bool, true, false, cond, not, ◌||◌, List, [], ◌∷◌, ◌++◌, refl, sym, ap, ◌∙◌, append_assoc, rules}
 use Rattle.std.proofs.Math.Bool.{or-false}
 use Rattle.std.proofs.lemmas.Grind.{flat_map-append}
-use Rattle.std.proofs.lemmas.List.{append-nil, map-append}
+use Rattle.std.proofs.lemmas.List.{append-nil}
 use Rattle.std.proofs.lemmas.List.Elements.{filter-append}
 use Rattle.std.proofs.lemmas.List.Folds.{list_any-append}
 use Rattle.std.proofs.lemmas.List.Sums.{fold-append}
 use Rattle.std.proofs.lemmas.Map.Steps.{list_any_congr}
-use Rattle.std.specs.declared.cmp.Ordering.{Ordering}
 use Rattle.std.specs.BTreeMap.{insert_entry}
 use Rattle.std.specs.BTreeSet.{contains}
 use Rattle.std.specs.Cmp.{IsEquivalence, IsTotalOrder, eq_by_cmp_equiv}
 use Rattle.std.specs.Cmp.Rules.{comparing}
 use Rattle.std.specs.List.{list_any, flat_map}
-use Rattle.std.specs.Ordering.{eq_by_cmp}
 use Rattle.lb_select.specs.Backends.{Member, member_cmp, same_member}
-use Rattle.lb_select.specs.Unique.{distinct, firsts}
+use Rattle.lb_select.specs.Unique.{distinct}
 use Rattle.lb_select.proofs.Laws.{distinct-append}
 use Rattle.lb_registry.specs.declared.targets.Gathered.{Gathered}
-use Rattle.lb_registry.specs.declared.targets.Place.{Place}
 use Rattle.lb_registry.specs.Internal.Gathering.{Gathers, IsGathering}
 use Rattle.lb_registry.specs.Targets.{ViewValue, live, place_cmp, Candidate, same_key, candidates_of, candidates, in_order}
 

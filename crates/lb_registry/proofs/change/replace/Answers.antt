@@ -1,4 +1,4 @@
-use Rattle.std.proofs.Common.{◌≡◌, ◌≤◌, ◌<◌, ◌^◌, List, ◌∷◌, map, set, get_or, length, not, refl, sym, ap, subst, ◌∙◌, rules, arith, get_or-set_same}
+use Rattle.std.proofs.Common.{◌≡◌, ◌≤◌, ◌<◌, ◌^◌, List, ◌∷◌, map, length, not, refl, sym, ap, subst, ◌∙◌, rules, arith, get_or-set_same}
 use Rattle.std.proofs.lemmas.Fn.{filter_same}
 use Rattle.std.proofs.lemmas.Option.{slice_get_read}
 use Rattle.std.specs.List.{slice_get}

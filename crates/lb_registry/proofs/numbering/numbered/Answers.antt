@@ -1,9 +1,7 @@
-use Rattle.std.proofs.Common.{◌≡◌, ◌<◌, ◌≤◌, ◌+◌, ◌^◌, ⊎_elim, ℕ, List, [], ◌∷◌, ◌++◌, Some, None, take, drop, refl, sym, ap, ◌∙◌, arith}
+use Rattle.std.proofs.Common.{◌≡◌, ◌<◌, ◌≤◌, ◌+◌, ◌^◌, ⊎_elim, ℕ, List, [], ◌∷◌, ◌++◌, None, take, drop, refl, sym, ap, ◌∙◌, arith}
 use Rattle.std.proofs.lemmas.Bool.{cases_lt}
-use Rattle.std.proofs.lemmas.List.{take_more, take_all, take-append-drop}
+use Rattle.std.proofs.lemmas.List.{take_more, take-append-drop}
 use Rattle.std.specs.Ordering.{nat_cmp}
-use Rattle.std.specs.BTreeMap as tree
-use Rattle.lb_registry.specs.Internal.Changing.{AreStored}
 use Rattle.lb_registry.specs.Starts.{value_at}
 use Rattle.lb_registry.proofs.NumberLemmas.{apart, numbered-had, numbered-new, stored-stays, stored-had, stored-new, untargeted, exhausted_by}
 use Rattle.lb_registry.proofs.numbering.numbered.Goals as goal

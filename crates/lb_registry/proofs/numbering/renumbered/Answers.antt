@@ -1,4 +1,4 @@
-use Rattle.std.proofs.Common.{◌≡◌, ◌<◌, ◌≤◌, arith, refl, rules}
+use Rattle.std.proofs.Common.{arith, refl}
 use Rattle.lb_registry.proofs.NumberLemmas.{starting}
 use Rattle.lb_registry.proofs.numbering.renumbered.Goals as goal
 

@@ -1,9 +1,7 @@
-use Rattle.std.proofs.Common.{◌≡◌, ◌+◌, false, List, [], ◌∷◌, map, sym, ap, ◌∙◌, inr, arith}
-use Rattle.lb_select.specs.Backends.{Member}
+use Rattle.std.proofs.Common.{◌≡◌, ◌+◌, false, ◌∷◌, map, ap, ◌∙◌, inr, arith}
 use Rattle.lb_select.specs.declared.refusal.Refusal.TheVariants.{NumbersExhausted}
 use Rattle.lb_registry.specs.declared.targets.View.{View}
-use Rattle.lb_registry.specs.Registry.{IsStateAfter}
-use Rattle.lb_registry.specs.RegistryEvents.{Event, Registered, new_view, registered_after}
+use Rattle.lb_registry.specs.RegistryEvents.{Registered, new_view, registered_after}
 use Rattle.lb_registry.specs.Table.{table_value}
 use Rattle.lb_registry.specs.Targets.{view_value}
 use Rattle.lb_registry.proofs.StateLemmas.{seen, registered, popped, same_refusal}

@@ -1,5 +1,4 @@
-use Rattle.std.proofs.Common.{◌≡◌, List, map, position, refl, sym, ap, subst, ◌∙◌}
-use Rattle.lb_select.specs.Backends.{Member}
+use Rattle.std.proofs.Common.{List, position, refl, sym, ap, subst, ◌∙◌}
 use Rattle.lb_registry.specs.declared.targets.View.{View}
 use Rattle.lb_registry.specs.Registry.{RegistryValue, IsRegistryAfter}
 use Rattle.lb_registry.specs.RegistryEvents.{is_view, at_view, with_mark}

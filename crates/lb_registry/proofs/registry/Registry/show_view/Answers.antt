@@ -1,8 +1,8 @@
-use Rattle.std.proofs.Common.{◌≡◌, ◌≤◌, ◌^◌, ⊎_elim, Bool, true, false, List, ◌∷◌, map, position, Some, Err, Result, refl, sym, ap, subst, ◌∙◌, rules, true≢false}
+use Rattle.std.proofs.Common.{◌≡◌, List, map, position, Err, refl, sym, ap, ◌∙◌, rules, true≢false}
 use Rattle.lb_select.specs.Backends.{Member}
 use Rattle.lb_select.specs.declared.refusal.Refusal.TheVariants.{NoSuch, OutOfMemory, NumbersExhausted}
 use Rattle.lb_registry.specs.declared.targets.View.{View}
-use Rattle.lb_registry.specs.Registry.{RegistryValue, IsRegistryAfter, IsStateAfter}
+use Rattle.lb_registry.specs.Registry.{IsRegistryAfter, IsStateAfter}
 use Rattle.lb_registry.specs.RegistryEvents.{Event, is_view, has_view, cell_events}
 use Rattle.lb_registry.specs.Table.{hold_of, table_value}
 use Rattle.lb_registry.specs.Targets.{view_value}

@@ -1,9 +1,9 @@
-use Rattle.std.proofs.Common.{◌≡◌, ◌≤◌, ◌^◌, Bool, true, false, List, ◌∷◌, map, position, Some, Err, refl, sym, ap, subst, ◌∙◌, rules, true≢false}
+use Rattle.std.proofs.Common.{◌≡◌, ◌≤◌, ◌^◌, true, false, List, map, position, Err, refl, sym, ap, subst, ◌∙◌, rules, true≢false}
 use Rattle.lb_select.specs.Backends.{Member}
 use Rattle.lb_select.specs.declared.refusal.Refusal.TheVariants.{NoSuch, NumbersExhausted}
 use Rattle.lb_registry.specs.declared.targets.View.{View}
 use Rattle.lb_registry.specs.Registry.{RegistryValue, IsRegistryAfter}
-use Rattle.lb_registry.specs.RegistryEvents.{Event, is_view, has_view, after_update, cells_given}
+use Rattle.lb_registry.specs.RegistryEvents.{Event, is_view, has_view, cells_given}
 use Rattle.lb_registry.specs.Table.{table_value}
 use Rattle.lb_registry.specs.Targets.{view_value}
 use Rattle.lb_registry.proofs.ChangeLemmas.{missing_view, found_view}

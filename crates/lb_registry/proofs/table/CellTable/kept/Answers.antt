@@ -1,4 +1,4 @@
-use Rattle.std.proofs.Common.{◌≡◌, List, true, map, sym, ap, ◌∙◌, true≢false}
+use Rattle.std.proofs.Common.{List, map, sym, ap, ◌∙◌, true≢false}
 use Rattle.lb_registry.specs.declared.table.Held.{Held}
 use Rattle.lb_registry.specs.Internal.Changing.{keeps_cell}
 use Rattle.lb_registry.specs.Table.{hold_of, table_value}

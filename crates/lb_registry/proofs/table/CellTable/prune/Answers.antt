@@ -1,4 +1,4 @@
-use Rattle.std.proofs.Common.{◌≡◌, ℕ, map, filter, rules}
+use Rattle.std.proofs.Common.{ℕ, map, rules}
 use Rattle.std.proofs.lemmas.Map.Made.{filter_same_pairs}
 use Rattle.lb_registry.specs.declared.table.Cell.{Cell}
 use Rattle.lb_registry.specs.Internal.Changing.{keeps_cell}
