@@ -1,13 +1,13 @@
 -- What a selector of one of the kinds was built of, and what is left of a walk of one.
 use Rattle.std.specs.Prelude.{◌≡◌, Bool, true, false, List, []}
 use Rattle.std.specs.Arc.{arc_value}
+use Rattle.lb_select.specs.Algorithms.{hash_word, ticket_word}
 use Rattle.lb_select.specs.Backends.{Member}
 use Rattle.lb_select.specs.Draws.{Draw}
-use Rattle.lb_select.specs.Weights.{IsWeightedRest}
-use Rattle.lb_select.specs.WalkLaws.{rest_none, rest_ends}
+use Rattle.lb_weighted.specs.Weights.{IsWeightedRest}
+use Rattle.lb_weighted.specs.WeightLaws.{rest_none, rest_ends}
 use Rattle.lb_ring.specs.Placed.{IsWalkFrom}
 use Rattle.lb_ring.specs.RingLaws.{walk_starts, walk_ends}
-use Rattle.lb_kinds.specs.Kinds.{hash_word, ticket_word}
 use Rattle.lb_kinds.specs.declared.kinds.Kind.{Kind}
 use Rattle.lb_kinds.specs.declared.kinds.Kind.TheVariants as kind
 use Rattle.lb_kinds.specs.declared.kinds.Chosen.{Chosen}

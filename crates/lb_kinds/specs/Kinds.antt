@@ -2,23 +2,16 @@
 use Rattle.std.specs.Prelude.{◌≡◌, ◌≤◌, ℕ, max, Bool, false, List, [], ◌∷◌, length, Option}
 use Rattle.std.specs.List.{AllByRecursion as Each}
 use Rattle.lb_select.specs.Backends.{Member}
-use Rattle.lb_select.specs.Draws.{Draw, ticket, IsNotRandom, words_in}
-use Rattle.lb_select.specs.Fnv.{fnv}
-use Rattle.lb_select.specs.Weights.{IsWeightedWalk, weighted_refusal}
-use Rattle.lb_select.specs.WalkLaws.{none_drawn, ticket_drawn, no_word, one_ticket, Each-words, few_words}
+use Rattle.lb_select.specs.Draws.{Draw, IsNotRandom, words_in}
+use Rattle.lb_select.specs.Algorithms.{hash_word, ticket_word}
+use Rattle.lb_weighted.specs.Weights.{IsWeightedWalk, weighted_refusal}
+use Rattle.lb_select.specs.AlgorithmLaws.{none_drawn, ticket_drawn, no_word, one_ticket}
+use Rattle.lb_weighted.specs.WeightLaws.{Each-words, few_words}
 use Rattle.lb_ring.specs.Choices.{IsRingWalk, ring_refusal}
 use Rattle.lb_ring.specs.RingLaws.{walk_undrawn, walk_few_words}
 use Rattle.lb_select.specs.declared.refusal.Refusal.{Refusal}
 use Rattle.lb_kinds.specs.declared.kinds.Kind.{Kind}
 use Rattle.lb_kinds.specs.declared.kinds.Kind.TheVariants.{Fnv, RoundRobin, Ketama}
-
--- the word of a key is its hash, and nothing is drawn
-abbrev pub hash_word : List ℕ → List Draw → ℕ → Type 0
-hash_word key ds w = (ds ≡ []) × (w ≡ fnv key)
-
--- the word is the next ticket, whatever the key
-abbrev pub ticket_word : List ℕ → List Draw → ℕ → Type 0
-ticket_word key ds w = ds ≡ ticket w ∷ []
 
 -- the walks of a kind over a set
 abbrev pub kind_walks : List Member → Kind → List ℕ → List Draw → List Member → Bool → Type 0

@@ -1,5 +1,4 @@
 pub mod Apart
-pub mod Causes
 pub mod GateStores
 pub mod Groups
 pub mod Listed

@@ -2,12 +2,11 @@
 use Rattle.std.proofs.Common.{◌≡◌, ◌&&◌, ℕ, Bool, true, false, nat_le, MatchBool, List, [], ◌∷◌, length, ap, subst, Option, Some, None, Result, Ok, Err, take}
 use Rattle.std.specs.List.{AllByRecursion as Each}
 use Rattle.lb_select.specs.Backends.{Member, same_member}
-use Rattle.lb_select.specs.Draws.{Draw}
+use Rattle.lb_select.specs.Draws.{Draw, HandedValue, HandedGives}
 use Rattle.lb_select.specs.Selections.{IsAnswer, Selects}
 use Rattle.lb_select.specs.Unique.{distinct}
 use Rattle.lb_select.specs.declared.refusal.Refusal.{Refusal}
 use Rattle.lb_select.specs.declared.refusal.Refusal.TheVariants.{NotEnoughWords}
-use Rattle.lb_rebuild.specs.Handed.{Handed, HandedGives}
 use Rattle.lb_rebuild.specs.Selecting.{SelectedAt}
 use Rattle.lb_rebuild.specs.Views.{ServingView, SlotView}
 
@@ -31,16 +30,16 @@ module _ {B : Type 0} (same : B → B → Bool) (P Q : B → Bool → Type 0) (m
 module _ {C : Type 0} (random : List Member → C → Bool) (walks : List Member → C → List ℕ → List Draw → List Member → Bool → Type 0) where
   -- the words that were drawn from the ones handed in are counted in the slot
   pub selected : (key : List ℕ) (limit : ℕ) (words : List ℕ) (x : SlotView C) (st : ServingView C)
-      (r : Result (Option Member) Refusal) (s t : Handed) (m : ℕ)
+      (r : Result (Option Member) Refusal) (s t : HandedValue) (m : ℕ)
       → st ≡ x.serving → (random st.members st.config && nat_le (length words) limit) ≡ false
       → s ≡ record { tickets = st.tickets; words = words } → m ≡ t.tickets
       → Selects same_member (λ b a. a ≡ true) limit HandedGives (walks st.members st.config key) s r t
       → SelectedAt random walks key limit words x r (record x { serving = record { generation = st.generation; members = st.members; config = st.config; tickets = m } })
   selected key limit words x st r s t m is enough begins drawn answer =
       let found : Selects same_member (λ b a. a ≡ true) limit HandedGives (walks st.members st.config key) (record { tickets = st.tickets; words = words }) r t =
-      subst (λ (h : Handed). Selects same_member (λ b a. a ≡ true) limit HandedGives (walks st.members st.config key) h r t) begins answer in
+      subst (λ (h : HandedValue). Selects same_member (λ b a. a ≡ true) limit HandedGives (walks st.members st.config key) h r t) begins answer in
       let Here : ServingView C → Type 0 = λ z. MatchBool (random z.members z.config && nat_le (length words) limit)
       ((r ≡ Err NotEnoughWords) × (record x { serving = record st { tickets = m } } ≡ x))
-      ((u : Handed) × Selects same_member (λ b a. a ≡ true) limit HandedGives (walks z.members z.config key) (record { tickets = z.tickets; words = words }) r u
+      ((u : HandedValue) × Selects same_member (λ b a. a ≡ true) limit HandedGives (walks z.members z.config key) (record { tickets = z.tickets; words = words }) r u
       × (record x { serving = record st { tickets = m } } ≡ record x { serving = record z { tickets = u.tickets } })) in
       subst Here is (rw enough (t, found, ap (λ (k : ℕ). record x { serving = record st { tickets = k } }) drawn))

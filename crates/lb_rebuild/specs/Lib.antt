@@ -3,9 +3,7 @@ pub mod Fresh
 pub mod Gate
 pub mod GateRule
 pub mod Groups
-pub mod Handed
 pub mod Kept
-pub mod Least
 pub mod Memberships
 pub mod Selecting
 pub mod Views

@@ -1,11 +1,10 @@
 -- A selection from a slot: what it answers, and the tickets that it draws.
 use Rattle.std.specs.Prelude.{◌≡◌, ◌&&◌, ℕ, Bool, true, MatchBool, MatchOption, nat_le, List, length, slice_get, Option, None, Result, Ok, Err}
 use Rattle.lb_select.specs.Backends.{Member, same_member}
-use Rattle.lb_select.specs.Draws.{Draw}
+use Rattle.lb_select.specs.Draws.{Draw, HandedValue, HandedGives}
 use Rattle.lb_select.specs.Selections.{Selects}
 use Rattle.lb_select.specs.declared.refusal.Refusal.{Refusal}
 use Rattle.lb_select.specs.declared.refusal.Refusal.TheVariants.{NotEnoughWords}
-use Rattle.lb_rebuild.specs.Handed.{Handed, HandedGives}
 use Rattle.lb_rebuild.specs.Views.{SlotView, GroupView, with_slot}
 
 -- the slot with another number of tickets drawn from what it serves
@@ -20,7 +19,7 @@ abbrev pub SelectedAt :
 SelectedAt random walks key limit words x r y =
     MatchBool (random x.serving.members x.serving.config && nat_le (length words) limit)
     ((r ≡ Err NotEnoughWords) × (y ≡ x))
-    ((t : Handed)
+    ((t : HandedValue)
     × Selects same_member (λ b a. a ≡ true) limit HandedGives (walks x.serving.members x.serving.config key)
     (record { tickets = x.serving.tickets; words = words }) r t
     × (y ≡ drawn_slot x t.tickets))

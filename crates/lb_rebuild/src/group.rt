@@ -3,12 +3,11 @@
 ghost use Rattle.std.specs.Prelude.{◌≡◌, [], map, not, IfOk, ◌<◌, ◌≤◌, length, slice_get, slice_index, IfSome, IfNone, false, filter_map};
 ghost use Rattle.std.specs.Option.{IsSomeAnd};
 ghost use Rattle.std.specs.Arc.{arc_value};
-ghost use Rattle.lb_select.specs.Refusals.{Refuses};
+ghost use Rattle.lb_select.specs.Refusals.{Refuses, least};
 ghost use Rattle.lb_rebuild.specs.Gate.{gate as gate_view};
 ghost use Rattle.lb_rebuild.specs.Fresh.{fresh_group};
 ghost use Rattle.lb_rebuild.specs.Groups.{ScheduledIn};
 ghost use Rattle.lb_rebuild.specs.Kept.{AreFresh};
-ghost use Rattle.lb_rebuild.specs.Least.{least};
 ghost use Rattle.lb_select.specs.Memberships.{same_members};
 ghost use Rattle.lb_rebuild.specs.Selecting.{SelectedIn};
 ghost use Rattle.lb_rebuild.specs.Views.{served_list, with_slot};
@@ -16,7 +15,7 @@ ghost use Rattle.lb_rebuild.specs.Calls.{Asked, PublishedIn, Rises, FailedIn, En
 
 use crate::gate::{GateCore, Permit};
 use crate::job::{Built, Job};
-use crate::least::least_refusal;
+use lb_select::causes::least_refusal;
 use crate::schedule::{
     Scheduled, hand_out, lists_members, orders_for, same_members as is_same, turns_of,
 };

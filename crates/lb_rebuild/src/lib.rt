@@ -6,8 +6,6 @@ mod close;
 pub mod gate;
 mod gate_rule;
 pub mod group;
-pub mod handed;
 pub mod job;
-pub mod least;
 pub mod schedule;
 pub mod slot;

@@ -9,7 +9,7 @@ ghost use Rattle.lb_rebuild.specs.Gate.{GateId};
 ghost use Rattle.lb_rebuild.specs.Kept.{IsWithoutPermit};
 
 use crate::gate::{GateCore, Permit};
-use crate::handed::HandedWords;
+use lb_select::words::HandedWords;
 use crate::job::{Built, Job, Order};
 use crate::schedule::SlotTurn;
 use lb_select::backend::Backend;

@@ -4,5 +4,4 @@ pub mod LinesLemmas
 pub mod NumbersLemmas
 pub mod ParseLemmas
 pub mod RunLemmas
-pub mod StreamLemmas
 pub mod WordsLemmas

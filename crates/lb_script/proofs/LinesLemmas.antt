@@ -4,7 +4,7 @@ use Rattle.std.proofs.lemmas.Bool.{false_from_ne_true, cases_Bool}
 use Rattle.std.proofs.lemmas.List.{take_all}
 use Rattle.memchr.specs.Find.{IsFirstByte, is_byte}
 use Rattle.std.specs.Io.KnownBytes.{prepend_known}
-use Rattle.lb_script.specs.Stream.{OnBytes}
+use Rattle.lb_counted.specs.Stream.{OnBytes}
 use Rattle.lb_script.specs.Lines.{lines_of, first_line, after_line}
 
 -- what the bytes of an unfinished line are: whatever follows them, they stand at the front of the first line

@@ -11,10 +11,10 @@ use Rattle.lb_kinds.specs.declared.kinds.Kind.{Kind}
 use Rattle.lb_script.specs.Lines.{lines_of, first_line, after_line}
 use Rattle.lb_script.specs.Output.{IsOutput, ends, answered, bad_line, too_long, no_memory, read_fails, Wrote, WroteFront}
 use Rattle.lb_script.specs.Session.{Holds, AnsweredLine, AnswersNext}
-use Rattle.lb_script.specs.Stream.{OnBytes, AppendsFront}
+use Rattle.lb_counted.specs.Stream.{OnBytes, AppendsFront}
 use Rattle.lb_script.specs.Texts.{answer_text, error_text}
 use Rattle.lb_script.proofs.LinesLemmas.{lines_cons, first_of_none}
-use Rattle.lb_script.proofs.StreamLemmas.{front_more, front_after}
+use Rattle.lb_counted.proofs.StreamLemmas.{front_more, front_after}
 
 -- the bytes that are known after a call
 known_after : (left now : Option (List ℕ)) (rest : List ℕ) (P : List ℕ → List ℕ → Type 0) → left ≡ Some rest → OnBytes left now P

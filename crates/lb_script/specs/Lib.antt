@@ -1,9 +1,9 @@
-pub mod Counted
 pub mod Lines
 pub mod Numbers
 pub mod Output
 pub mod Session
 pub mod StepLines
-pub mod Stream
 pub mod Texts
 pub mod Words
+pub use Rattle.lb_counted.specs.Counted
+pub use Rattle.lb_counted.specs.Stream

@@ -13,7 +13,7 @@ use Rattle.lb_script.specs.declared.error.ScriptError.TheVariants as error
 use Rattle.lb_kinds.specs.declared.kinds.Kind.{Kind}
 use Rattle.lb_script.specs.Lines.{lines_of}
 use Rattle.lb_script.specs.StepLines.{step_of}
-use Rattle.lb_script.specs.Stream.{AppendsFront}
+use Rattle.lb_counted.specs.Stream.{AppendsFront}
 use Rattle.lb_script.specs.Texts.{answer_text, error_text}
 
 -- whether a step makes a registry, and whether an answer says that one was made

@@ -54,11 +54,10 @@ abbrev pub is_marked : List ℕ → Bool
 is_marked [] = false
 is_marked (x ∷ xs) = x == 33 || x == 43
 
--- a backend: an address, a slash and a weight. A path needs a byte. None within is an address that is refused.
+-- a backend: an address, a slash and a weight. None within is an address that is refused, as is `unix:` with no path.
 abbrev pub backend_in : Option (List ℕ × List ℕ) → Option (Option Member)
 backend_in None = None
 backend_in (Some p) =
-    if bytes_eq p.0 (codes "unix:") then None else
     option_map (λ weight. option_map (bare_member weight) (address_of_text p.0)) (small p.1)
 
 abbrev pub backend_of : List ℕ → Option (Option Member)

@@ -2,9 +2,9 @@
 //! A line of a stream is then found by a search of what is held, and not byte by byte.
 ghost use Rattle.std.specs.Prelude.{◌≡◌, ℕ, ◌<◌, ◌≤◌, List, [], length, drop, slice_range, false, true, OnOk, OnErr, IfOk};
 ghost use Rattle.std.specs.Io.KnownBytes.{Keeps, IsAtEnd, prepend_known};
-ghost use Rattle.lb_script.specs.Counted.{inner_of, has_failed};
+ghost use Rattle.lb_counted.specs.Counted.{inner_of, has_failed};
 
-use crate::counted::Counted;
+use lb_counted::counted::Counted;
 use std::io;
 use std::io::Read;
 use std::marker::Model;

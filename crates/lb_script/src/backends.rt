@@ -31,9 +31,6 @@ fn backend(alloc: Global, word: &str) -> Result<Option<Backend>, ScriptError>
     let Some((address, weight)) = divide(word) else {
         return Err(ScriptError::BadLine);
     };
-    if address == "unix:" {
-        return Err(ScriptError::BadLine);
-    }
     let Some(weight) = number(weight) else {
         return Err(ScriptError::BadLine);
     };

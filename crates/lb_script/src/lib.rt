@@ -4,7 +4,6 @@
 
 pub mod ahead;
 pub mod backends;
-pub mod counted;
 pub mod error;
 pub mod lines;
 pub mod numbers;
@@ -13,3 +12,5 @@ pub mod run;
 mod session;
 pub mod texts;
 pub mod words;
+
+pub use lb_counted::counted;

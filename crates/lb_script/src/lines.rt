@@ -2,12 +2,12 @@
 //! What came instead of a line is told apart: the end, a line too long, a failed read, no memory.
 ghost use Rattle.std.specs.Prelude.{◌≡◌, ◌≢◌, ◌≤◌, true, length, vec_len};
 ghost use Rattle.std.specs.Io.KnownBytes.{prepend_known};
-ghost use Rattle.lb_script.specs.Counted.{inner_of, has_failed};
+ghost use Rattle.lb_counted.specs.Counted.{inner_of, has_failed};
 ghost use Rattle.lb_script.specs.Lines.{Finds, first_line};
-ghost use Rattle.lb_script.specs.Stream.{OnBytes};
+ghost use Rattle.lb_counted.specs.Stream.{OnBytes};
 
 use crate::ahead::ReadAhead;
-use crate::counted::Counted;
+use lb_counted::counted::Counted;
 use memchr::memchr;
 use std::io::Read;
 

@@ -3,15 +3,15 @@
 ghost use Rattle.std.specs.Prelude.{◌≡◌, ℕ, ◌++◌, false, true, codes, OnOk, OnErr, IfOk, IfSome};
 ghost use Rattle.std.specs.Io.KnownBytes.{Appends};
 ghost use Rattle.lb_world.specs.Meanings.{meaning};
-ghost use Rattle.lb_script.specs.Counted.{inner_of, has_failed};
+ghost use Rattle.lb_counted.specs.Counted.{inner_of, has_failed};
 ghost use Rattle.lb_script.specs.Output.{Wrote, WroteFront};
-ghost use Rattle.lb_script.specs.Stream.{AppendsFront};
+ghost use Rattle.lb_counted.specs.Stream.{AppendsFront};
 ghost use Rattle.lb_script.specs.Texts.{error_text};
 
-use crate::counted::Counted;
 use crate::error::ScriptError;
 use crate::session::Session;
 use itoa::Buffer;
+use lb_counted::counted::Counted;
 use lb_kinds::kinds::{Chosen, Kind};
 use lb_select::walk::BackendSelection;
 use std::alloc::Global;

@@ -1,11 +1,9 @@
 pub mod AddressRoundTrip
 pub mod AddressTexts
 pub mod Clones
-pub mod Determined
-pub mod Laws
+pub mod LeastCauses
 pub mod Lists
 pub mod SameBackends
 pub mod Searches
-pub mod Shares
+pub mod SelectionLaws
 pub mod Turns
-pub mod WeightLemmas

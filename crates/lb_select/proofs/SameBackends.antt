@@ -2,9 +2,8 @@
 use Rattle.std.proofs.Common.{◌≡◌, ℕ, IsTrue, ◌↔◌, rules, subst}
 use Rattle.std.specs.Cmp.{IsEquivalence}
 use Rattle.std.specs.Cmp.Rules.{comparing}
-use Rattle.lb_select.specs.Backends.{Address, Member, same_member}
+use Rattle.lb_select.specs.Backends.{Address, Member, same_member, identity_of}
 use Rattle.lb_select.specs.Identity.{same_means}
-use Rattle.lb_select.specs.SameBackend.{identity_of}
 
 same_equivalence : IsEquivalence same_member
 same_equivalence = search (comparing, rules) depth 9

@@ -1,175 +1,161 @@
--- A selection on its way: what the unique walk has gone past and refused, and what each end of the search answers.
-use Rattle.std.specs.Prelude.{◌≡◌, ℕ, ◌+◌, ◌-◌, ◌<◌, ◌≤◌, Bool, true, false, List, [], ◌∷◌, ◌++◌, length, Option, Some, None, Result, Ok, Err, refl}
-use Rattle.std.proofs.Common.{sym, ap, ◌∙◌, append_assoc, arith, inl, inr, length-append}
+-- A selection on its way: the candidates that were looked at and refused, and what each end of the search answers.
+use Rattle.std.specs.Prelude.{◌≡◌, ℕ, ◌+◌, ◌<◌, ◌≤◌, Bool, true, false, ◌||◌, List, [], ◌∷◌, ◌++◌, length, Option, Some, None, Result, Ok, Err, refl}
+use Rattle.std.proofs.Common.{sym, ap, ◌∙◌, arith, inl, inr, length-append}
 use Rattle.std.specs.List.{AllByRecursion as Each}
 use Rattle.std.specs.Result.{IsErrAnd}
 use Rattle.std.proofs.lemmas.List.{take_all, take_at}
 use Rattle.lb_select.specs.declared.refusal.Refusal.{Refusal}
-use Rattle.lb_select.specs.declared.unique.UniqueIterator.{UniqueIterator}
+use Rattle.lb_select.specs.declared.refusal.Refusal.TheVariants.{OutOfMemory}
+use Rattle.lb_select.specs.declared.seen.SeenBackends.{SeenBackends}
 use Rattle.lb_select.specs.Backends.{Member, same_member}
 use Rattle.lb_select.specs.Draws.{Draw, Gives}
-use Rattle.lb_select.specs.Walks.{Continues, Begins}
-use Rattle.lb_select.specs.Unique.{distinct, StandsAt, IsTurn}
-use Rattle.lb_select.specs.Selections.{IsWalked, EndsDistinct, Selects}
-use Rattle.lb_select.proofs.Lists.{Each-push}
-use Rattle.lb_select.proofs.Turns.{Gives-append, Continues-append, Continues-closed}
+use Rattle.lb_select.specs.Walks.{Continues, IsStep, Begins}
+use Rattle.lb_select.specs.Unique.{distinct, has_backend}
+use Rattle.lb_select.specs.UniqueLaws.{AreSeen}
+use Rattle.lb_select.specs.Selections.{IsWalked, Selects}
+use Rattle.lb_select.proofs.Lists.{append-nil, Each-push, distinct-new}
+use Rattle.lb_select.proofs.Turns.{Gives-append, Continues-append, Continues-closed, seen_repeats, seen_new}
 
 module _ {I S : Type 0} (gives : S → Draw → S → Type 0) (walk : I → List Draw → List Member → Bool → Type 0)
-    (accepts : Member → Bool → Type 0) (limit : ℕ) where
-  -- from i and s to u and t: all distinct ones among the candidates so far were refused
-  pub record Searched (i : I) (s : S) (u : UniqueIterator I) (t : S) : Type 0 where
+    (accepts : Member → Bool → Type 0) where
+  -- from i and s to j and t, so many candidates: all distinct ones among them were refused, and are seen
+  pub record Searched (i : I) (s : S) (seen : SeenBackends) (j : I) (t : S) (steps : ℕ) : Type 0 where
     pub draws : List Draw
     pub searched : List Member
     pub drawn : Gives gives s draws t
-    pub goes : Continues walk i draws searched u.iter
-    pub stands : StandsAt u searched
+    pub goes : Continues walk i draws searched j
+    pub counted : length searched ≡ steps
+    pub known : AreSeen seen searched
     pub rejects : Each (λ x. accepts x false) (distinct same_member searched)
-    pub within : u.max_iterations ≡ limit
 
   -- it begins so
-  pub searched_none : (u : UniqueIterator I) (s : S) → StandsAt u [] → u.max_iterations ≡ limit → Searched u.iter s u s
-  searched_none u s stands within = record {
+  pub searched_none : (i : I) (s : S) (seen : SeenBackends) → ((q : Member) → has_backend seen q ≡ false) → Searched i s seen i s 0
+  searched_none i s seen none = record {
     draws = [];
     searched = [];
     drawn = refl;
     goes = λ es cs e h. h;
-    stands = stands;
+    counted = refl;
+    known = none;
     rejects = tt;
-    within = within;
   }
 
-  -- and goes on past one more that is refused
-  pub searched_more : {i : I} {s : S} {u : UniqueIterator I} {t : S} (b : Member) (n : UniqueIterator I) (v : S)
-      → Searched i s u t → IsTurn gives walk u t (Ok (Some b)) n v → accepts b false → Searched i s n v
-  searched_more {i} {s} {u} {t} b n v p turn refused =
-      let new = turn.gave.1.2 p.searched p.stands in
+  -- and goes on past a repeat
+  pub searched_repeat : {i : I} {s : S} {seen : SeenBackends} {j : I} {t : S} {steps : ℕ} (b : Member) (n : I) (v : S)
+      → Searched i s seen j t steps → IsStep gives walk j t (Some b) n v → has_backend seen b ≡ true
+      → Searched i s seen n v (steps + 1)
+  searched_repeat {i} {s} {seen} {j} {t} {steps} b n v p step old =
+      let more = seen_repeats seen seen p.searched (b ∷ []) (λ q. refl) (old, tt) p.known in
       record {
-        draws = p.draws ++ turn.draws;
-        searched = p.searched ++ turn.passed;
-        drawn = Gives-append gives s t v p.draws turn.draws p.drawn turn.drawn;
-        goes = Continues-append walk i u.iter n.iter p.draws turn.draws p.searched turn.passed p.goes turn.gave.0;
-        stands = new.0;
-        rejects = rw new.2 (Each-push (λ x. accepts x false) (distinct same_member p.searched) b p.rejects refused);
-        within = turn.limit ∙ p.within;
+        draws = p.draws ++ step.0;
+        searched = p.searched ++ b ∷ [];
+        drawn = Gives-append gives s t v p.draws step.0 p.drawn step.1;
+        goes = Continues-append walk i j n p.draws step.0 p.searched (b ∷ []) p.goes step.2;
+        counted = length-append p.searched (b ∷ []) ∙ ap (λ k. k + 1) p.counted;
+        known = more.0;
+        rejects = rw more.1 p.rejects;
       }
 
-  -- each turn that finds one comes nearer to the limit
-  pub steps_on : {i : I} {s : S} {u : UniqueIterator I} {t : S} (b : Member) (n : UniqueIterator I) (v : S)
-      → Searched i s u t → IsTurn gives walk u t (Ok (Some b)) n v → n.max_iterations - n.steps < u.max_iterations - u.steps
-  steps_on {i} {s} {u} {t} b n v p turn =
-      let new = turn.gave.1.2 p.searched p.stands in
-      let last : turn.passed ≡ turn.gave.1.0 ++ b ∷ [] = turn.gave.1.1 in
-      let more : length turn.passed ≡ length turn.gave.1.0 + 1 = ap length last ∙ length-append turn.gave.1.0 (b ∷ []) in
-      let sum : length (p.searched ++ turn.passed) ≡ length p.searched + length turn.passed = length-append p.searched turn.passed in
-      let there : n.steps ≡ length (p.searched ++ turn.passed) = new.0.steps in
-      let room : length (p.searched ++ turn.passed) ≤ n.max_iterations = new.0.limit in
-      let here : u.steps ≡ length p.searched = p.stands.steps in
-      let same : n.max_iterations ≡ u.max_iterations = turn.limit in
-      omega arith
+  -- and past a new one that is refused
+  pub searched_new : {i : I} {s : S} {seen : SeenBackends} {j : I} {t : S} {steps : ℕ} (b : Member) (after : SeenBackends) (n : I) (v : S)
+      → Searched i s seen j t steps → IsStep gives walk j t (Some b) n v → has_backend seen b ≡ false → accepts b false
+      → ((q : Member) → has_backend after q ≡ (has_backend seen q || same_member q b))
+      → Searched i s after n v (steps + 1)
+  searched_new {i} {s} {seen} {j} {t} {steps} b after n v p step new refused remembered =
+      let more = seen_new seen after p.searched b remembered new p.known in
+      record {
+        draws = p.draws ++ step.0;
+        searched = p.searched ++ b ∷ [];
+        drawn = Gives-append gives s t v p.draws step.0 p.drawn step.1;
+        goes = Continues-append walk i j n p.draws step.0 p.searched (b ∷ []) p.goes step.2;
+        counted = length-append p.searched (b ∷ []) ∙ ap (λ k. k + 1) p.counted;
+        known = more.0;
+        rejects = rw more.1 (Each-push (λ x. accepts x false) (distinct same_member p.searched) b p.rejects refused);
+      }
 
-  module _ (walks : List Draw → List Member → Bool → Type 0) where
+  module _ (walks : List Draw → List Member → Bool → Type 0) (limit : ℕ) (starts : (j : I) → walk j [] [] false) where
     -- a walk with what was drawn before its first candidate
-    begun : (s₀ : S) (i : I) (s t : S) (ds : List Draw) (cs : List Member) (e : Bool)
+    begun : {s₀ s : S} (i : I) (t : S) (ds : List Draw) (cs : List Member) (e : Bool)
         → Begins gives walk walks s₀ (Ok i) s → Gives gives s ds t → walk i ds cs e → IsWalked gives walks s₀ t cs e
-    begun s₀ i s t ds cs e begins drawn w = record {
+    begun {s₀} {s} i t ds cs e begins drawn w = record {
       draws = begins.0 ++ ds;
       drawn = Gives-append gives s₀ s t begins.0 ds begins.1 drawn;
       walked = begins.2 ds cs e w;
     }
 
+    -- and with one more candidate
+    one_more : {s₀ s : S} {i : I} {seen : SeenBackends} {j : I} {t : S} {steps : ℕ} (b : Member) (n : I) (v : S)
+        → Begins gives walk walks s₀ (Ok i) s → (p : Searched i s seen j t steps) → IsStep gives walk j t (Some b) n v
+        → IsWalked gives walks s₀ v (p.searched ++ b ∷ []) false
+    one_more {s₀} {s} {i} {seen} {j} {t} b n v begins p step =
+        let goes = Continues-append walk i j n p.draws step.0 p.searched (b ∷ []) p.goes step.2 in
+        let w = Continues-closed walk i n (p.draws ++ step.0) (p.searched ++ b ∷ []) false goes (starts n) in
+        begun i v (p.draws ++ step.0) (p.searched ++ b ∷ []) false begins (Gives-append gives s t v p.draws step.0 p.drawn step.1) w
+
     -- the first that is accepted is answered
-    pub finds : {s₀ : S} {i : I} {s : S} {u : UniqueIterator I} {t : S} (b : Member) (n : UniqueIterator I) (v : S)
-        → Begins gives walk walks s₀ (Ok i) s → Searched i s u t → IsTurn gives walk u t (Ok (Some b)) n v → accepts b true
-        → ((j : I) → walk j [] [] false) → Selects same_member accepts limit gives walks s₀ (Ok (Some b)) v
-    finds {s₀} {i} {s} {u} {t} b n v begins p turn accepted starts =
-        let cs = p.searched ++ turn.passed in
-        let skipped = turn.gave.1.0 in
-        let new = turn.gave.1.2 p.searched p.stands in
-        let goes = Continues-append walk i u.iter n.iter p.draws turn.draws p.searched turn.passed p.goes turn.gave.0 in
-        let w = Continues-closed walk i n.iter (p.draws ++ turn.draws) cs false goes (starts n.iter) in
-        let drawn = Gives-append gives s t v p.draws turn.draws p.drawn turn.drawn in
-        let room : length cs ≤ n.max_iterations = new.0.limit in
-        let same : n.max_iterations ≡ u.max_iterations = turn.limit in
-        let bound : u.max_iterations ≡ limit = p.within in (
+    pub finds : {s₀ s : S} {i : I} {seen : SeenBackends} {j : I} {t : S} {steps : ℕ} (b : Member) (n : I) (v : S)
+        → Begins gives walk walks s₀ (Ok i) s → Searched i s seen j t steps → IsStep gives walk j t (Some b) n v
+        → has_backend seen b ≡ false → accepts b true → steps < limit
+        → Selects same_member accepts limit gives walks s₀ (Ok (Some b)) v
+    finds {s₀} {s} {i} {seen} {j} {t} {steps} b n v begins p step new accepted room =
+        let cs = p.searched ++ b ∷ [] in
+        let counted : length p.searched ≡ steps = p.counted in
+        let long : length cs ≡ length p.searched + 1 = length-append p.searched (b ∷ []) in (
           cs,
           false,
-          begun s₀ i s v (p.draws ++ turn.draws) cs false begins drawn w,
+          one_more b n v begins p step,
           (
-            p.searched ++ skipped,
-            ap (λ xs. p.searched ++ xs) turn.gave.1.1 ∙ sym (append_assoc p.searched skipped (b ∷ [])),
+            p.searched,
+            refl,
             omega arith,
-            new.2 ∙ ap (λ xs. xs ++ b ∷ []) (sym new.1),
-            rw new.1 p.rejects,
+            distinct-new same_member p.searched b (sym (p.known b) ∙ new),
+            p.rejects,
             accepted,
           ),
         )
 
-    -- none is answered where the walk ended, or one more came past the limit
-    pub finds_none : {s₀ : S} {i : I} {s : S} {u : UniqueIterator I} {t : S} (n : UniqueIterator I) (v : S)
-        → Begins gives walk walks s₀ (Ok i) s → Searched i s u t → IsTurn gives walk u t (Ok None) n v
-        → ((j : I) → walk j [] [] false) → Selects same_member accepts limit gives walks s₀ (Ok None) v
-    finds_none {s₀} {i} {s} {u} {t} n v begins p turn starts =
-        let cs = p.searched ++ turn.passed in
-        let ds = p.draws ++ turn.draws in
-        let new = turn.gave.0 p.searched p.stands in
-        let drawn = Gives-append gives s t v p.draws turn.draws p.drawn turn.drawn in
-        let room : length cs ≤ n.max_iterations = new.0.limit in
-        let there : n.steps ≡ length cs = new.0.steps in
-        let same : n.max_iterations ≡ u.max_iterations = turn.limit in
-        let bound : u.max_iterations ≡ limit = p.within in
+    -- none is answered where the walk ended within the limit
+    pub ends : {s₀ s : S} {i : I} {seen : SeenBackends} {j : I} {t : S} {steps : ℕ} (n : I) (v : S)
+        → Begins gives walk walks s₀ (Ok i) s → Searched i s seen j t steps → IsStep gives walk j t None n v → steps ≤ limit
+        → Selects same_member accepts limit gives walks s₀ (Ok None) v
+    ends {s₀} {s} {i} {seen} {j} {t} {steps} n v begins p step room =
+        let cs = p.searched in
+        let counted : length cs ≡ steps = p.counted in
         let few : length cs ≤ limit = omega arith in
-        let rejects : Each (λ x. accepts x false) (distinct same_member cs) = rw new.1 p.rejects in
-        elim turn.gave.1 [
-          | inl ended ↦ (
-            cs,
-            true,
-            begun s₀ i s v ds cs true begins drawn (p.goes turn.draws turn.passed true ended.0),
-            (rw (take_all limit cs few) rejects, inr (refl, few)),
-          )
-          | inr past ↦
-              let b = past.1.0 in
-              let full : n.max_iterations ≤ n.steps = past.0 in
-              let exact : length cs ≡ limit = omega arith in
-              let whole : p.searched ++ (turn.passed ++ b ∷ []) ≡ cs ++ b ∷ [] = sym (append_assoc p.searched turn.passed (b ∷ [])) in
-              let goes = Continues-append walk i u.iter n.iter p.draws turn.draws p.searched (turn.passed ++ b ∷ []) p.goes past.1.1 in
-              let w = Continues-closed walk i n.iter ds (p.searched ++ (turn.passed ++ b ∷ [])) false goes (starts n.iter) in
-              let one_more : length (cs ++ b ∷ []) ≡ length cs + 1 = length-append cs (b ∷ []) in (
-                cs ++ b ∷ [],
-                false,
-                begun s₀ i s v ds (cs ++ b ∷ []) false begins drawn (rw whole at w),
-                (rw (take_at cs (b ∷ []) limit exact) rejects, inl (omega arith)),
-              )
-        ]
+        let w : walk i (p.draws ++ step.0) cs true = rw append-nil at (p.goes step.0 [] true step.2.0) in (
+          cs,
+          true,
+          begun i v (p.draws ++ step.0) cs true begins (Gives-append gives s t v p.draws step.0 p.drawn step.1) w,
+          (rw (take_all limit cs few) p.rejects, inr (refl, few)),
+        )
 
-    -- where a turn is refused, so is the selection
-    pub finds_refused : {s₀ : S} {i : I} {s : S} {u : UniqueIterator I} {t : S} (e : Refusal) (n : UniqueIterator I) (v : S)
-        → Begins gives walk walks s₀ (Ok i) s → Searched i s u t → IsTurn gives walk u t (Err e) n v
-        → ((j : I) → walk j [] [] false) → (r : Result (Option Member) Refusal) → IsErrAnd r (λ y. y ≡ e)
+    -- or where the limit was met, and one more was drawn
+    pub at_limit : {s₀ s : S} {i : I} {seen : SeenBackends} {j : I} {t : S} {steps : ℕ} (r : Option Member) (n : I) (v : S)
+        → Begins gives walk walks s₀ (Ok i) s → Searched i s seen j t steps → IsStep gives walk j t r n v → steps ≡ limit
+        → Selects same_member accepts limit gives walks s₀ (Ok None) v
+    at_limit None n v begins p step full = ends n v begins p step (omega (arith, full))
+    at_limit {s₀} {s} {i} {seen} {j} {t} {steps} (Some b) n v begins p step full =
+        let cs = p.searched ++ b ∷ [] in
+        let exact : length p.searched ≡ limit = p.counted ∙ full in
+        let long : length cs ≡ length p.searched + 1 = length-append p.searched (b ∷ []) in (
+          cs,
+          false,
+          one_more b n v begins p step,
+          (rw (take_at p.searched (b ∷ []) limit exact) p.rejects, inl (long ∙ ap (λ k. k + 1) exact)),
+        )
+
+    -- where there is no memory at a new candidate, the selection is refused
+    pub refused_at : {s₀ s : S} {i : I} {seen : SeenBackends} {j : I} {t : S} {steps : ℕ} (b : Member) (n : I) (v : S)
+        → Begins gives walk walks s₀ (Ok i) s → Searched i s seen j t steps → IsStep gives walk j t (Some b) n v
+        → has_backend seen b ≡ false → steps < limit → (r : Result (Option Member) Refusal) → IsErrAnd r (λ e. e ≡ OutOfMemory)
         → Selects same_member accepts limit gives walks s₀ r v
-    finds_refused e n v begins p turn starts (Ok o) refused = absurd refused
-    finds_refused {s₀} {i} {s} {u} {t} e n v begins p turn starts (Err y) refused =
-        let cs = p.searched ++ turn.passed in
-        let ds = p.draws ++ turn.draws in
-        let goes = Continues-append walk i u.iter n.iter p.draws turn.draws p.searched turn.passed p.goes turn.gave.2 in
-        let w = Continues-closed walk i n.iter ds cs false goes (starts n.iter) in
-        let drawn = Gives-append gives s t v p.draws turn.draws p.drawn turn.drawn in
-        let sum : length cs ≡ length p.searched + length turn.passed = length-append p.searched turn.passed in
-        let here : u.steps ≡ length p.searched = p.stands.steps in
-        let there : n.steps ≡ u.steps + length turn.passed = turn.gave.4 in
-        let room : n.steps ≤ n.max_iterations = turn.gave.5 in
-        let same : n.max_iterations ≡ u.max_iterations = turn.limit in
-        let bound : u.max_iterations ≡ limit = p.within in
+    refused_at b n v begins p step new room (Ok o) refused = absurd refused
+    refused_at {s₀} {s} {i} {seen} {j} {t} {steps} b n v begins p step new room (Err e) refused =
+        let cs = p.searched ++ b ∷ [] in
+        let counted : length p.searched ≡ steps = p.counted in
+        let long : length cs ≡ length p.searched + 1 = length-append p.searched (b ∷ []) in
         let few : length cs ≤ limit = omega arith in
-        let skipped = turn.gave.6.0 in
-        let b = turn.gave.6.1 in
-        let new = turn.gave.6.3 p.searched p.stands in
-        let new_last : EndsDistinct same_member cs = (
-          p.searched ++ skipped,
-          b,
-          ap (λ xs. p.searched ++ xs) turn.gave.6.2 ∙ sym (append_assoc p.searched skipped (b ∷ [])),
-          new.1 ∙ ap (λ xs. xs ++ b ∷ []) (sym new.0),
-        ) in
-        (refused ∙ turn.gave.0, inr (cs, begun s₀ i s v ds cs false begins drawn w, few, new_last))
+        (refused, inr (cs, one_more b n v begins p step, few, (p.searched, b, refl, distinct-new same_member p.searched b (sym (p.known b) ∙ new))))
 
     -- a walk that could not be begun has drawn nothing
     pub begins_refused : {s₀ s : S} (e : Refusal) → Begins gives walk walks s₀ (Err e) s

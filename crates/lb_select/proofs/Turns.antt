@@ -1,5 +1,5 @@
 -- Turns of the unique walk: what the loop of a turn has gone past, and what each of its ends gives.
-use Rattle.std.specs.Prelude.{◌≡◌, ◌+◌, ◌<◌, ◌≤◌, Bool, true, false, cond, ◌||◌, List, [], ◌∷◌, ◌++◌, length, Option, Some, None, Result, Ok, Err, refl}
+use Rattle.std.specs.Prelude.{◌≡◌, ◌+◌, ◌<◌, ◌≤◌, max, Bool, true, false, cond, ◌||◌, List, [], ◌∷◌, ◌++◌, length, Option, Some, None, Result, Ok, Err, refl}
 use Rattle.std.proofs.Common.{sym, ap, ◌∙◌, append_assoc, arith, inl, inr, length-append, subst}
 use Rattle.std.specs.List.{AllByRecursion as Each, list_any}
 use Rattle.std.specs.Result.{IsErrAnd}
@@ -11,12 +11,13 @@ use Rattle.std.proofs.lemmas.Cmp.{eq_by_cmp_equiv}
 use Rattle.std.proofs.lemmas.List.Folds.{list_any-append}
 use Rattle.lb_select.specs.declared.refusal.Refusal.{Refusal}
 use Rattle.lb_select.specs.declared.refusal.Refusal.TheVariants.{OutOfMemory}
-use Rattle.lb_select.specs.declared.unique.SeenBackends.{SeenBackends}
+use Rattle.lb_select.specs.declared.seen.SeenBackends.{SeenBackends}
 use Rattle.lb_select.specs.declared.unique.UniqueIterator.{UniqueIterator}
 use Rattle.lb_select.specs.Backends.{Member, member_cmp, same_member}
 use Rattle.lb_select.specs.Draws.{Draw, Gives}
 use Rattle.lb_select.specs.Walks.{Continues, IsStep}
-use Rattle.lb_select.specs.Unique.{distinct, has_backend, has_seen, with_kept, StandsAt, EndsNew, IsTurn}
+use Rattle.lb_select.specs.Unique.{distinct, has_backend, has_seen, SeesSame, AreRepeats, IsTurn}
+use Rattle.lb_select.specs.UniqueLaws.{AreSeen}
 use Rattle.lb_select.proofs.Lists.{append-nil, Each-push, Each-weaker, distinct-new, distinct-repeats, any-repeats}
 
 -- backends are in one order, so identity is an equivalence
@@ -61,86 +62,47 @@ seen_more s n b updates q =
 
 -- the backend that came last goes into the set, and nothing else changes
 pub placed : (s : SeenBackends) (n : BTreeSet Member) (taken after : Option Member) (b : Member)
-    → taken ≡ s.last → taken ≡ Some b → after ≡ None → Updates member_cmp s.set n b true
-    → (q : Member) → has_backend (record { set = n; last = after }) q ≡ has_backend s q
+    → taken ≡ s.last → taken ≡ Some b → after ≡ None → Updates member_cmp s.identities n b true
+    → (q : Member) → has_backend (record s { identities = n; last = after }) q ≡ has_backend s q
 placed s n taken after b was is empty updates q =
     let last : s.last ≡ Some b = sym was ∙ is in
-    let more : contains member_cmp n q ≡ (contains member_cmp s.set q || same_member q b) = seen_more s.set n b updates q in
+    let more : contains member_cmp n q ≡ (contains member_cmp s.identities q || same_member q b) = seen_more s.identities n b updates q in
     rw (empty, last) (or-false (contains member_cmp n q) ∙ more)
-
--- a backend that comes last, where no other does, is seen beside what was seen
-pub kept_more : (s : SeenBackends) (b : Member) → s.last ≡ None
-    → (q : Member) → has_backend (record s { last = Some b }) q ≡ (has_backend s q || same_member q b)
-kept_more s b place q = rw place (ap (λ v. v || same_member q b) (sym (or-false (contains member_cmp s.set q))))
 
 -- what is found in a list with one more at its end
 any-push : {B : Type 0} (p : B → Bool) (xs : List B) (x : B) → list_any p (xs ++ x ∷ []) ≡ (list_any p xs || p x)
 any-push p xs x = let e : list_any p (xs ++ x ∷ []) ≡ (list_any p xs || (p x || false)) = list_any-append p xs (x ∷ []) in
     e ∙ ap (λ v. list_any p xs || v) (or-false (p x))
 
+-- past repeats the same backends are seen, and there is no distinct one more
+pub seen_repeats : (s n : SeenBackends) (cs bs : List Member) → ((q : Member) → has_backend n q ≡ has_backend s q)
+    → Each (λ b. has_backend s b ≡ true) bs → AreSeen s cs
+    → AreSeen n (cs ++ bs) × (distinct same_member (cs ++ bs) ≡ distinct same_member cs)
+seen_repeats s n cs bs same repeats seen =
+    let old = Each-weaker (λ b. has_backend s b ≡ true) (λ b. list_any (same_member b) cs ≡ true)
+    (λ (b : Member) (h : has_backend s b ≡ true). sym (seen b) ∙ h) bs repeats in (
+      λ q. same q ∙ seen q ∙ sym (any-repeats same_member same_equiv cs bs old q),
+      distinct-repeats same_member cs bs old,
+    )
+
+-- past a new one it is seen too, and there is one distinct backend more
+pub seen_new : (s n : SeenBackends) (cs : List Member) (b : Member)
+    → ((q : Member) → has_backend n q ≡ (has_backend s q || same_member q b)) → has_backend s b ≡ false → AreSeen s cs
+    → AreSeen n (cs ++ b ∷ []) × (distinct same_member (cs ++ b ∷ []) ≡ distinct same_member cs ++ b ∷ [])
+seen_new s n cs b more new seen = (
+  λ q. more q ∙ ap (λ v. v || same_member q b) (seen q) ∙ sym (any-push (same_member q) cs b),
+  distinct-new same_member cs b (sym (seen b) ∙ new),
+)
+
 module _ {I : Type 0} where
-  -- past repeats the unique walk stands further on, with nothing new
-  stands_repeats : (u n : UniqueIterator I) (cs bs : List Member)
-      → n.max_iterations ≡ u.max_iterations → n.steps ≡ u.steps + length bs → (u.steps ≤ u.max_iterations → n.steps ≤ n.max_iterations)
-      → ((q : Member) → has_seen n q ≡ has_seen u q) → Each (λ b. has_seen u b ≡ true) bs
-      → StandsAt u cs → StandsAt n (cs ++ bs) × (distinct same_member (cs ++ bs) ≡ distinct same_member cs)
-  stands_repeats u n cs bs limit counted within kept repeats stands =
-      let old = Each-weaker (λ b. has_seen u b ≡ true) (λ b. list_any (same_member b) cs ≡ true)
-      (λ (b : Member) (h : has_seen u b ≡ true). sym (stands.seen b) ∙ h) bs repeats in
-      let sum : length (cs ++ bs) ≡ length cs + length bs = length-append cs bs in
-      let begun : u.steps ≡ length cs = stands.steps in
-      let low : length cs ≤ u.max_iterations = stands.limit in
-      let begun_within : u.steps ≤ u.max_iterations = omega arith in
-      let inside : n.steps ≤ n.max_iterations = within begun_within in (
-        record {
-          steps = omega arith;
-          limit = omega arith;
-          seen = λ q. kept q ∙ stands.seen q ∙ sym (any-repeats same_member same_equiv cs bs old q);
-        },
-        distinct-repeats same_member cs bs old,
-      )
+  -- one more candidate is counted
+  counted_more : (u n : UniqueIterator I) (bs : List Member) (b : Member)
+      → n.steps ≡ u.steps + length bs → n.steps + 1 ≡ u.steps + length (bs ++ b ∷ [])
+  counted_more u n bs b counted = let l : length (bs ++ b ∷ []) ≡ length bs + 1 = length-append bs (b ∷ []) in omega arith
 
-  -- past repeats and a new one there is one distinct backend more
-  distinct_more : (u : UniqueIterator I) (cs skipped : List Member) (b : Member)
-      → Each (λ x. has_seen u x ≡ true) skipped → has_seen u b ≡ false → StandsAt u cs
-      → (distinct same_member (cs ++ skipped) ≡ distinct same_member cs)
-      × (distinct same_member (cs ++ (skipped ++ b ∷ [])) ≡ distinct same_member cs ++ b ∷ [])
-      × ((q : Member) → list_any (same_member q) (cs ++ (skipped ++ b ∷ [])) ≡ (has_seen u q || same_member q b))
-  distinct_more u cs skipped b repeats new stands =
-      let old = Each-weaker (λ x. has_seen u x ≡ true) (λ x. list_any (same_member x) cs ≡ true)
-      (λ (x : Member) (h : has_seen u x ≡ true). sym (stands.seen x) ∙ h) skipped repeats in
-      let whole : cs ++ (skipped ++ b ∷ []) ≡ (cs ++ skipped) ++ b ∷ [] = sym (append_assoc cs skipped (b ∷ [])) in
-      let kept : distinct same_member (cs ++ skipped) ≡ distinct same_member cs = distinct-repeats same_member cs skipped old in
-      let found : (q : Member) → list_any (same_member q) (cs ++ skipped) ≡ has_seen u q
-      = λ q. any-repeats same_member same_equiv cs skipped old q ∙ sym (stands.seen q) in (
-        kept,
-        ap (distinct same_member) whole ∙ distinct-new same_member (cs ++ skipped) b (found b ∙ new) ∙ ap (λ xs. xs ++ b ∷ []) kept,
-        λ q. ap (list_any (same_member q)) whole ∙ any-push (same_member q) (cs ++ skipped) b ∙ ap (λ v. v || same_member q b) (found q),
-      )
-
-  -- and the unique walk stands further on, with that one
-  stands_new : (u n : UniqueIterator I) (cs skipped : List Member) (b : Member)
-      → n.max_iterations ≡ u.max_iterations → n.steps ≡ u.steps + length (skipped ++ b ∷ []) → (u.steps ≤ u.max_iterations → n.steps ≤ n.max_iterations)
-      → ((q : Member) → has_seen n q ≡ (has_seen u q || same_member q b)) → Each (λ x. has_seen u x ≡ true) skipped → has_seen u b ≡ false
-      → StandsAt u cs
-      → StandsAt n (cs ++ (skipped ++ b ∷ []))
-      × (distinct same_member (cs ++ skipped) ≡ distinct same_member cs)
-      × (distinct same_member (cs ++ (skipped ++ b ∷ [])) ≡ distinct same_member cs ++ b ∷ [])
-  stands_new u n cs skipped b limit counted within more repeats new stands =
-      let now = distinct_more u cs skipped b repeats new stands in
-      let sum : length (cs ++ (skipped ++ b ∷ [])) ≡ length cs + length (skipped ++ b ∷ []) = length-append cs (skipped ++ b ∷ []) in
-      let begun : u.steps ≡ length cs = stands.steps in
-      let low : length cs ≤ u.max_iterations = stands.limit in
-      let begun_within : u.steps ≤ u.max_iterations = omega arith in
-      let inside : n.steps ≤ n.max_iterations = within begun_within in (
-        record {
-          steps = omega arith;
-          limit = omega arith;
-          seen = λ q. more q ∙ sym (now.2 q);
-        },
-        now.0,
-        now.1,
-      )
+  -- where the limit leaves room for it
+  room_more : (u n : UniqueIterator I) → n.max_iterations ≡ u.max_iterations → n.steps < n.max_iterations → n.steps + 1 ≤ max u.steps u.max_iterations
+  room_more u n limit room = omega arith
 
 module _ {I S : Type 0} (gives : S → Draw → S → Type 0) (walk : I → List Draw → List Member → Bool → Type 0) where
   -- a turn on its way: from u and s to n and t by repeats alone, each of which was counted
@@ -150,10 +112,10 @@ module _ {I S : Type 0} (gives : S → Draw → S → Type 0) (walk : I → List
     pub drawn : Gives gives s draws t
     pub goes : Continues walk u.iter draws passed n.iter
     pub counted : n.steps ≡ u.steps + length passed
-    pub repeats : Each (λ b. has_seen u b ≡ true) passed
-    pub kept : (q : Member) → has_seen n q ≡ has_seen u q
+    pub repeats : AreRepeats u passed
+    pub same : SeesSame u n
     pub limit : n.max_iterations ≡ u.max_iterations
-    pub within : u.steps ≤ u.max_iterations → n.steps ≤ u.max_iterations
+    pub within : n.steps ≤ max u.steps u.max_iterations
 
   -- it begins so
   pub turning_none : (u : UniqueIterator I) (s : S) → Turning u s u s
@@ -164,9 +126,9 @@ module _ {I S : Type 0} (gives : S → Draw → S → Type 0) (walk : I → List
     goes = λ es cs e h. h;
     counted = omega arith;
     repeats = tt;
-    kept = λ q. refl;
+    same = λ q. refl;
     limit = refl;
-    within = λ h. h;
+    within = omega arith;
   }
 
   -- and goes on past one more repeat
@@ -178,11 +140,11 @@ module _ {I S : Type 0} (gives : S → Draw → S → Type 0) (walk : I → List
     passed = p.passed ++ b ∷ [];
     drawn = Gives-append gives s t v p.draws step.0 p.drawn step.1;
     goes = Continues-append walk u.iter n.iter j p.draws step.0 p.passed (b ∷ []) p.goes step.2;
-    counted = let l : length (p.passed ++ b ∷ []) ≡ length p.passed + 1 = length-append p.passed (b ∷ []) in let c = p.counted in omega arith;
-    repeats = Each-push (λ x. has_seen u x ≡ true) p.passed b p.repeats (sym (p.kept b) ∙ old);
-    kept = p.kept;
+    counted = counted_more u n p.passed b p.counted;
+    repeats = Each-push (λ x. has_seen u x ≡ true) p.passed b p.repeats (sym (p.same b) ∙ old);
+    same = p.same;
     limit = p.limit;
-    within = λ h. let e : n.max_iterations ≡ u.max_iterations = p.limit in omega arith;
+    within = room_more u n p.limit room;
   }
 
   -- it ends where the walk ends
@@ -193,8 +155,11 @@ module _ {I S : Type 0} (gives : S → Draw → S → Type 0) (walk : I → List
     passed = p.passed;
     drawn = Gives-append gives s t v p.draws step.0 p.drawn step.1;
     limit = p.limit;
+    counted = p.counted;
+    within = p.within;
     gave = (
-      λ cs stands. stands_repeats u (record n { iter = j }) cs p.passed p.limit p.counted (λ h. rw p.limit (p.within h)) p.kept p.repeats stands,
+      p.repeats,
+      p.same,
       inl (let w : walk u.iter (p.draws ++ step.0) (p.passed ++ []) true = p.goes step.0 [] true step.2.0 in rw append-nil at w, step.2.1),
     );
   }
@@ -208,65 +173,51 @@ module _ {I S : Type 0} (gives : S → Draw → S → Type 0) (walk : I → List
     passed = p.passed;
     drawn = Gives-append gives s t v p.draws step.0 p.drawn step.1;
     limit = p.limit;
+    counted = p.counted;
+    within = p.within;
     gave = (
-      λ cs stands. stands_repeats u (record n { iter = j }) cs p.passed p.limit p.counted (λ h. rw p.limit (p.within h)) p.kept p.repeats stands,
-      inr (full, (b, Continues-append walk u.iter n.iter j p.draws step.0 p.passed (b ∷ []) p.goes step.2)),
+      p.repeats,
+      p.same,
+      inr (rw p.limit at full, (b, Continues-append walk u.iter n.iter j p.draws step.0 p.passed (b ∷ []) p.goes step.2)),
     );
   }
 
-  -- or at a new backend, which is then the one that came last
+  -- or at a new backend, which is seen from then on
   pub turn_found : {u : UniqueIterator I} {s : S} {n : UniqueIterator I} {t : S} (b : Member) (j : I) (seen : SeenBackends) (v : S)
       → Turning u s n t → IsStep gives walk n.iter t (Some b) j v → has_seen n b ≡ false → n.steps < n.max_iterations
-      → ((q : Member) → has_backend seen q ≡ has_seen n q) → seen.last ≡ None
-      → IsTurn gives walk u s (Ok (Some b)) (with_kept (record n { iter = j; steps = n.steps + 1; seen = seen }) (Ok (Some b))) v
-  turn_found {u} {s} {n} {t} b j seen v p step new room same place = record {
+      → ((q : Member) → has_backend seen q ≡ (has_seen n q || same_member q b))
+      → IsTurn gives walk u s (Ok (Some b)) (record n { iter = j; steps = n.steps + 1; seen = seen }) v
+  turn_found {u} {s} {n} {t} b j seen v p step new room more = record {
     draws = p.draws ++ step.0;
     passed = p.passed ++ b ∷ [];
     drawn = Gives-append gives s t v p.draws step.0 p.drawn step.1;
     limit = p.limit;
-    gave =
-        let m : UniqueIterator I = record n { iter = j; steps = n.steps + 1; seen = record seen { last = Some b } } in
-        let l : length (p.passed ++ b ∷ []) ≡ length p.passed + 1 = length-append p.passed (b ∷ []) in
-        let c = p.counted in
-        let limit = p.limit in
-        let sum : n.steps + 1 ≡ u.steps + length (p.passed ++ b ∷ []) = omega arith in (
-          Continues-append walk u.iter n.iter j p.draws step.0 p.passed (b ∷ []) p.goes step.2,
-          (
-            p.passed,
-            refl,
-            λ cs stands. stands_new u m cs p.passed b p.limit sum (λ h. omega arith)
-                (λ q. kept_more seen b place q ∙ ap (λ x. x || same_member q b) (same q ∙ p.kept q)) p.repeats (sym (p.kept b) ∙ new) stands,
-          ),
-        );
+    counted = counted_more u n p.passed b p.counted;
+    within = room_more u n p.limit room;
+    gave = (
+      Continues-append walk u.iter n.iter j p.draws step.0 p.passed (b ∷ []) p.goes step.2,
+      λ q. more q ∙ ap (λ x. x || same_member q b) (p.same q),
+      (p.passed, refl, p.repeats, sym (p.same b) ∙ new),
+    );
   }
 
   -- or is refused there, with nothing new seen
   pub turn_refused : {u : UniqueIterator I} {s : S} {n : UniqueIterator I} {t : S} (b : Member) (j : I) (seen : SeenBackends) (v : S) (r : Result (Option Member) Refusal)
       → Turning u s n t → IsStep gives walk n.iter t (Some b) j v → has_seen n b ≡ false → n.steps < n.max_iterations
       → ((q : Member) → has_backend seen q ≡ has_seen n q) → IsErrAnd r (λ e. e ≡ OutOfMemory)
-      → IsTurn gives walk u s r (with_kept (record n { iter = j; steps = n.steps + 1; seen = seen }) r) v
+      → IsTurn gives walk u s r (record n { iter = j; steps = n.steps + 1; seen = seen }) v
   turn_refused b j seen v (Ok o) p step new room same refused = absurd refused
   turn_refused {u} {s} {n} {t} b j seen v (Err e) p step new room same refused = record {
     draws = p.draws ++ step.0;
     passed = p.passed ++ b ∷ [];
     drawn = Gives-append gives s t v p.draws step.0 p.drawn step.1;
     limit = p.limit;
-    gave =
-        let l : length (p.passed ++ b ∷ []) ≡ length p.passed + 1 = length-append p.passed (b ∷ []) in
-        let c = p.counted in
-        let ends : EndsNew u (p.passed ++ b ∷ []) = (
-          p.passed,
-          b,
-          refl,
-          λ cs stands.
-              let now = distinct_more u cs p.passed b p.repeats (sym (p.kept b) ∙ new) stands in (now.0, now.1),
-        ) in (
-          refused,
-          omega arith,
-          Continues-append walk u.iter n.iter j p.draws step.0 p.passed (b ∷ []) p.goes step.2,
-          λ q. same q ∙ p.kept q,
-          omega arith,
-          omega arith,
-          ends,
-        );
+    counted = counted_more u n p.passed b p.counted;
+    within = room_more u n p.limit room;
+    gave = (
+      refused,
+      Continues-append walk u.iter n.iter j p.draws step.0 p.passed (b ∷ []) p.goes step.2,
+      λ q. same q ∙ p.same q,
+      (b, (p.passed, refl, p.repeats, sym (p.same b) ∙ new)),
+    );
   }

@@ -18,11 +18,11 @@ pub record Member : Type 0 where
   pub weight : ℕ
   pub ext : List (List ℕ × List ℕ)
 
--- IPv4 comes first, then IPv6, then Unix
-abbrev pub kind_of : Address → ℕ
-kind_of (ipv4 octets port) = 0
-kind_of (ipv6 octets port) = 1
-kind_of (unix path) = 2
+-- the address family: IPv4 comes first, then IPv6, then Unix
+abbrev pub family_of : Address → ℕ
+family_of (ipv4 octets port) = 0
+family_of (ipv6 octets port) = 1
+family_of (unix path) = 2
 
 -- the octets, or the bytes of the path
 abbrev pub bytes_of : Address → List ℕ
@@ -38,13 +38,17 @@ port_of (unix path) = 0
 
 -- by kind, then by octets or path, then by port
 abbrev pub address_cmp : Address → Address → Ordering
-address_cmp = then_cmp (on kind_of nat_cmp) (then_cmp (on bytes_of (slice_cmp nat_cmp)) (on port_of nat_cmp))
+address_cmp = then_cmp (on family_of nat_cmp) (then_cmp (on bytes_of (slice_cmp nat_cmp)) (on port_of nat_cmp))
 
 -- by address, then by weight
 abbrev pub member_cmp : Member → Member → Ordering
 member_cmp = then_cmp (on (λ m. m.address) address_cmp) (on (λ m. m.weight) nat_cmp)
 
--- backend identity: the same address and the same weight
+-- the identity of a backend
+abbrev pub identity_of : Member → Address × ℕ
+identity_of m = (m.address, m.weight)
+
+-- the same identity
 abbrev pub same_member : Member → Member → Bool
 same_member = eq_by_cmp member_cmp
 

@@ -40,3 +40,19 @@ CoreGives tickets stream load_of a (ticket w) b =
 CoreGives tickets stream load_of a (random w) b =
     ((w, stream b) ≡ next_u64 (stream a)) × (tickets b ≡ tickets a) × (load_of b ≡ load_of a)
 CoreGives tickets stream load_of a (load m l) b = (l ≡ load_of a m) × (b ≡ a)
+
+-- Words that are handed in: the next ticket of a counter, and the random words that are left.
+pub record HandedValue : Type 0 where
+  pub tickets : ℕ
+  pub words : List ℕ
+
+-- a random word is the first that is left, and 0 where none is
+abbrev pub TakesFirst : List ℕ → ℕ → List ℕ → Type 0
+TakesFirst [] w after = (w ≡ 0) × (after ≡ [])
+TakesFirst (x ∷ xs) w after = (w ≡ x) × (after ≡ xs)
+
+-- a ticket is the counter's, which wraps at 2 ^ 64; a random word is the first that is left; there are no loads
+abbrev pub HandedGives : HandedValue → Draw → HandedValue → Type 0
+HandedGives a (ticket w) b = (w ≡ a.tickets) × (b.tickets ≡ (a.tickets + 1) % 2 ^ 64) × (b.words ≡ a.words)
+HandedGives a (random w) b = TakesFirst a.words w b.words × (b.tickets ≡ a.tickets)
+HandedGives a (load m l) b = ⊥

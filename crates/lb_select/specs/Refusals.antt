@@ -1,5 +1,5 @@
--- Refusals: their numbers, and what it is for a call to be refused exactly for its cause.
-use Rattle.std.specs.Prelude.{◌≡◌, ◌⊎◌, ℕ, List, codes, Option, Some, None, Result, Ok, Err}
+-- Refusals: their numbers, what it is for a call to be refused exactly for its cause, and the least of several causes.
+use Rattle.std.specs.Prelude.{◌≡◌, ◌⊎◌, ℕ, nat_lt, List, [], ◌∷◌, codes, Option, Some, None, Result, Ok, Err, if◌then◌else◌}
 use Rattle.lb_select.specs.declared.refusal.Refusal.{Refusal}
 use Rattle.lb_select.specs.declared.refusal.Refusal.TheVariants.{InvalidAddress, Discovery, TooManyBackends, WeightTooLarge, TooManyPoints, HealthCheckSet, GenerationsExhausted, GroupCancelled, NoSuch, OutOfMemory, StillRead, NothingInFlight, NothingBuilt, NothingRetired, NoSuchReader, NotEnoughWords, NumbersExhausted}
 
@@ -47,3 +47,20 @@ refusal_name NumbersExhausted = codes "NumbersExhausted"
 abbrev pub Refuses : {T : Type 0} → Option Refusal → (T → Type 0) → Result T Refusal → Type 0
 Refuses cause made (Ok t) = (cause ≡ None) × made t
 Refuses cause made (Err e) = (cause ≡ Some e) ⊎ ((cause ≡ None) × (e ≡ OutOfMemory))
+
+-- a cause other than the want of memory
+abbrev pub memory_apart : Option Refusal → Option Refusal
+memory_apart None = None
+memory_apart (Some OutOfMemory) = None
+memory_apart (Some e) = Some e
+
+-- of two causes the one of the lesser number; the first one where the numbers are equal
+abbrev pub earlier : Option Refusal → Option Refusal → Option Refusal
+earlier None b = b
+earlier (Some e) None = Some e
+earlier (Some e) (Some f) = if nat_lt (refusal_number f) (refusal_number e) then Some f else Some e
+
+-- of all causes the one of the least number, or none where none stands
+abbrev pub least : List (Option Refusal) → Option Refusal
+least [] = None
+least (c ∷ cs) = earlier (memory_apart c) (least cs)

@@ -1,12 +1,11 @@
 //! Addresses as texts: what is written for an address, and the internet address that a text spells.
 //! Both are Rust's texts of std::net::SocketAddr; a Unix socket is written as `unix:` and its path.
-ghost use Rattle.std.specs.Prelude.{◌≡◌, [], length, Some, option_map};
+ghost use Rattle.std.specs.Prelude.{◌≡◌, Some, option_map};
 ghost use Rattle.std.specs.Option.{ok_or};
 ghost use Rattle.std.specs.Result.{result_map_both};
 ghost use Rattle.std.specs.Net.Addr.{ipv6_octets};
 ghost use Rattle.std.specs.Net.Socket.{socket_flowinfo};
-ghost use Rattle.lb_select.specs.AddressText.{address_of_text, address_text, internet_of_text, socket_seen};
-ghost use Rattle.lb_select.specs.Backends.{ipv4, ipv6, unix};
+ghost use Rattle.lb_select.specs.AddressText.{address_text, internet_of_text, socket_seen};
 ghost use Rattle.lb_select.specs.declared.refusal.Refusal.TheVariants.{InvalidAddress};
 ghost use Rattle.lb_select.specs.Seen.{address_seen, inet_seen};
 
@@ -99,43 +98,6 @@ impl fmt::Display for SocketAddr {
         match self {
             SocketAddr::Inet(inet) => write!(f, "{inet}"),
             SocketAddr::Unix(path) => write!(f, "unix:{path}"),
-        }
-    }
-}
-
-// The text of an IPv4 address spells it.
-fn ipv4_text_spells(octets: &[u8], port: u16)
-    requires { length octets.now ≡ 4 }
-    ensures { internet_of_text (address_text (ipv4 octets.now port)) ≡ Some (ipv4 octets.now port) }
-{}
-
-// The text of an IPv6 address spells it.
-fn ipv6_text_spells(octets: &[u8], port: u16)
-    requires { length octets.now ≡ 16 }
-    ensures { internet_of_text (address_text (ipv6 octets.now port)) ≡ Some (ipv6 octets.now port) }
-{}
-
-impl InetAddr {
-    /// A law: the text of an internet address spells it.
-    pub fn text_spells_address(&self)
-        ensures { internet_of_text (address_text (inet_seen self.now)) ≡ Some (inet_seen self.now) }
-    {
-        match self {
-            InetAddr::V4(octets, port) => ipv4_text_spells(octets, *port),
-            InetAddr::V6(octets, port) => ipv6_text_spells(octets, *port),
-        }
-    }
-}
-
-impl SocketAddr {
-    /// A law: the text of an address spells that address, and an internet address is not spelled as a path is. The empty path
-    /// has no such text.
-    pub fn text_spells_address(&self)
-        requires { ¬ (address_seen self.now ≡ unix []) }
-        ensures { address_of_text (address_text (address_seen self.now)) ≡ Some (address_seen self.now) }
-    {
-        if let SocketAddr::Inet(inet) = self {
-            inet.text_spells_address();
         }
     }
 }

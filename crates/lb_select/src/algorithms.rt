@@ -1,10 +1,9 @@
 //! How a walk gets its words: hashed from the key, from the selector's counter, or at random.
 //! Each algorithm is a type without state; what it draws from is the source that is passed.
-ghost use Rattle.std.specs.Prelude.{◌≡◌, ℕ, [], ◌∷◌, false, true};
+ghost use Rattle.std.specs.Prelude.{◌≡◌, false, true};
 ghost use Rattle.std.proofs.Common.{true≢false};
-ghost use Rattle.lb_select.specs.Draws.{ticket, random};
-ghost use Rattle.lb_select.specs.Fnv.{fnv};
-ghost use Rattle.lb_select.specs.WalkLaws.{none_drawn, ticket_drawn, no_word, one_ticket, one_random};
+ghost use Rattle.lb_select.specs.Algorithms.{fnv, hash_word, ticket_word, random_word};
+ghost use Rattle.lb_select.specs.AlgorithmLaws.{none_drawn, ticket_drawn, no_word, one_ticket, one_random};
 
 use crate::walk::SelectionAlgorithm;
 use crate::words::WordSource;
@@ -37,7 +36,7 @@ fn fnv_of(key: &[u8]) -> u64
 }
 
 impl SelectionAlgorithm for FnvHasher {
-    ghost gives_word = { λ key ds w. (ds ≡ []) × (w ≡ fnv key) };
+    ghost gives_word = { hash_word };
 
     ghost may_draw_random = { false };
 
@@ -59,7 +58,7 @@ impl SelectionAlgorithm for FnvHasher {
 }
 
 impl SelectionAlgorithm for RoundRobin {
-    ghost gives_word = { λ key ds w. ds ≡ ticket w ∷ [] };
+    ghost gives_word = { ticket_word };
 
     ghost may_draw_random = { false };
 
@@ -81,7 +80,7 @@ impl SelectionAlgorithm for RoundRobin {
 }
 
 impl SelectionAlgorithm for Random {
-    ghost gives_word = { λ key ds w. ds ≡ random w ∷ [] };
+    ghost gives_word = { random_word };
 
     ghost may_draw_random = { true };
 

@@ -1,16 +1,15 @@
 //! Backends: an address, a weight, and what a user attaches to them.
 //! A backend is compared, ordered and hashed by address and weight alone: that pair is its identity.
-ghost use Rattle.std.specs.Prelude.{◌≡◌, ◌↔◌, IsTrue, IfOk, IfErr, MatchResult, Some, None, map, option_map};
+ghost use Rattle.std.specs.Prelude.{◌≡◌, IfOk, MatchResult, Some, None, option_map};
 ghost use Rattle.std.specs.Option.{ok_or};
 ghost use Rattle.std.specs.Cmp.{partial_order_from_own_ties};
 ghost use Rattle.std.specs.Cmp.Rules.{comparing};
 ghost use Rattle.std.specs.Ordering.{as_partial_cmp};
 ghost use Rattle.std.proofs.Common.{rules};
 ghost use Rattle.lb_select.specs.AddressText.{IsInternetText, internet_of_text, address_of_text, address_refusal, bare_member, path_of_text, path_refusal, member_text, GivesSocket};
-ghost use Rattle.lb_select.specs.Backends.{Address, unix, Member, member_cmp, same_member, member_hash};
+ghost use Rattle.lb_select.specs.Backends.{Address, unix, Member, member_cmp, same_member, member_hash, identity_of};
 ghost use Rattle.lb_select.specs.Refusals.{Refuses};
 ghost use Rattle.lb_select.specs.declared.refusal.Refusal.TheVariants.{InvalidAddress};
-ghost use Rattle.lb_select.specs.SameBackend.{identity_of};
 ghost use Rattle.lb_select.specs.Seen.{address_seen, entries_seen};
 ghost use Rattle.lb_select.specs.Identity.{hash_alike};
 
@@ -115,17 +114,20 @@ impl Backend {
         }
     }
 
+    // A backend of the same identity, with nothing attached.
+    pub(crate) fn clone_identity(&self, alloc: Global) -> Result<Backend, AllocError>
+        ensures { IfOk result (λ c. c ≡ bare_member self.now.weight self.now.address) }
+    {
+        let addr = self.addr.clone()?;
+        Ok(Backend::bare(alloc, addr, self.weight))
+    }
+
     /// What makes two backends the same: the address and the weight.
     pub fn identity(&self) -> (&SocketAddr, usize)
         ensures { (address_seen result.0.now, result.1) ≡ identity_of self.now }
     {
         (&self.addr, self.weight)
     }
-
-    /// A law: backends are equal exactly where their identities are.
-    pub fn equal_by_identity(&self, other: &Backend)
-        ensures { IsTrue (same_member self.now other.now) ↔ (identity_of self.now ≡ identity_of other.now) }
-    {}
 
     /// The one socket address of an internet address; nothing is looked up. Refused `InvalidAddress` for a Unix address.
     pub fn to_socket_addrs<N: net::Net>(

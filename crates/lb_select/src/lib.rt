@@ -5,11 +5,11 @@
 mod address;
 pub mod algorithms;
 pub mod backend;
-pub mod fairness;
+pub mod causes;
+pub mod laws;
 pub mod refusal;
+mod seen;
 pub mod select;
-pub mod selection;
 pub mod unique;
 pub mod walk;
-pub mod weighted;
 pub mod words;

@@ -4,11 +4,12 @@ ghost use Rattle.std.specs.Fn.{FnReturnsAt};
 ghost use Rattle.std.specs.Arc.{arc_value};
 ghost use Rattle.lb_select.specs.Backends.{same_member};
 ghost use Rattle.lb_select.specs.Selections.{Selects};
+ghost use Rattle.lb_select.specs.Selectors.{walks_of};
 
 use crate::backend::Backend;
 use crate::refusal::Refusal;
-use crate::unique::UniqueIterator;
-use crate::walk::BackendSelection;
+use crate::seen::SeenBackends;
+use crate::walk::{BackendIter, BackendSelection};
 use crate::words::WordSource;
 use std::alloc::Global;
 use std::sync::Arc;
@@ -25,15 +26,25 @@ pub fn select<S: BackendSelection, W: WordSource, F: Fn(&Backend) -> bool>(
     accept: &F,
 ) -> Result<Option<Backend>, Refusal>
     requires { F.IsAlwaysCallable accept.now }
-    ensures { Selects same_member (λ b r. FnReturnsAt F.Fn accept.now b r) limit W.gives (S.walks (S.members (arc_value selector.now)) (S.built_with (arc_value selector.now)) key.now) words.old result words.new }
+    ensures { Selects same_member (λ b r. FnReturnsAt F.Fn accept.now b r) limit W.gives
+        (walks_of S.BackendSelection (arc_value selector.now) key.now) words.old result words.new }
 {
-    let iter = S::iter(selector, key, words)?;
-    let mut unique = UniqueIterator::new(alloc, iter, limit);
-    while let Some(backend) = unique.find(words)? {
-        if accept(&backend) {
-            return Ok(Some(backend));
+    let mut iter = S::iter(selector, key, words)?;
+    let mut seen = SeenBackends::new(alloc);
+    for _ in 0..limit {
+        let Some(candidate) = iter.next(words) else {
+            return Ok(None);
+        };
+        if seen.contains(candidate) {
+            continue;
         }
-        unique.keep(backend);
+        if accept(candidate) {
+            let answer = candidate.clone()?;
+            return Ok(Some(answer));
+        }
+        seen.remember(candidate)?;
     }
+    // The candidate past the limit is drawn too, and not looked at.
+    let _past = iter.next(words);
     Ok(None)
 }

@@ -1,11 +1,12 @@
-//! Sources of the words that walks draw: tickets of a counter, random words of a generator.
+//! Sources of the words that walks draw: tickets of a counter; random words of a generator, or handed in.
 //! What a source may give is one relation over draws, so that a walk is told by the list of its draws.
 ghost use Rattle.std.specs.Prelude.{◌≡◌, ℕ, ⊤};
 ghost use Rattle.lb_select.specs.Backends.{Member};
-ghost use Rattle.lb_select.specs.Draws.{Draw, ticket, random, CoreGives};
+ghost use Rattle.lb_select.specs.Draws.{Draw, ticket, random, CoreGives, HandedGives};
 
 use rand_core::Rng;
 use rand_pcg::Pcg64;
+use std::marker::Model;
 use std::sync::atomic::{AtomicU64, Ordering};
 use std::sync::{Mutex, Wait};
 
@@ -66,6 +67,62 @@ impl<W: WordSource> WordSource for &mut W {
 
     fn random(&mut self) -> u64 {
         (**self).random()
+    }
+}
+
+/// Words that are handed in: a counter that wraps at 2^64, and random words that somebody drew before.
+///
+/// Contracts see the next ticket and the random words that are left.
+#[derive(Drop)]
+pub struct HandedWords<'a> {
+    tickets: u64,
+    rest: &'a [u64],
+}
+
+impl<'a> Model for HandedWords<'a> {
+    ghost use Rattle.lb_select.specs.Draws.{HandedValue};
+
+    ghost Value = { HandedValue };
+
+    ghost view = { λ h. record { tickets = h.tickets; words = h.rest.now } };
+}
+
+impl<'a> HandedWords<'a> {
+    /// A source whose next ticket is `tickets`, and whose random words are these in their order, and 0 after them.
+    pub fn new(tickets: u64, random: &'a [u64]) -> Self
+        ensures { result ≡ record { tickets = tickets; words = random.now } }
+    {
+        HandedWords {
+            tickets,
+            rest: random,
+        }
+    }
+
+    /// The next ticket.
+    pub fn tickets(&self) -> u64
+        ensures { result ≡ self.now.tickets }
+    {
+        self.tickets
+    }
+}
+
+impl<'a> WordSource for HandedWords<'a> {
+    ghost gives = { HandedGives };
+
+    fn ticket(&mut self) -> u64 {
+        let ticket = self.tickets;
+        self.tickets = ticket.wrapping_add(1);
+        ticket
+    }
+
+    fn random(&mut self) -> u64 {
+        match self.rest.split_first() {
+            Some((word, rest)) => {
+                self.rest = rest;
+                *word
+            }
+            None => 0,
+        }
     }
 }
 

@@ -2,7 +2,7 @@
 //! Selectors count in `Noting` when they are gone.
 ghost use Rattle.std.specs.Prelude.{◌≡◌};
 
-use crate::made::set_of;
+use crate::fixtures::set_of;
 use crate::noting::{Gone, Noting};
 use lb_rebuild::gate::GateCore;
 use lb_rebuild::group::GroupCore;

@@ -5,7 +5,9 @@
 #[cfg(test)]
 mod destruction;
 #[cfg(test)]
-mod made;
+mod fixtures;
+#[cfg(test)]
+mod list_iterator;
 #[cfg(test)]
 mod noting;
 #[cfg(test)]
@@ -14,3 +16,5 @@ mod registry;
 mod ring;
 #[cfg(test)]
 mod selection;
+#[cfg(test)]
+mod unique_walk;

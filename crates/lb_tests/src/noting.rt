@@ -8,10 +8,10 @@ ghost use Rattle.lb_kinds.specs.declared.kinds.Kind.TheVariants.{RoundRobin as i
 use lb_select::algorithms;
 use lb_select::backend::Backend;
 use lb_select::refusal::Refusal;
-use lb_select::selection::RoundRobin;
 use lb_select::walk::BackendSelection;
-use lb_select::weighted::WeightedIterator;
 use lb_select::words::WordSource;
+use lb_weighted::selection::RoundRobin;
+use lb_weighted::weighted::WeightedIterator;
 use std::alloc::Global;
 use std::collections::BTreeSet;
 use std::marker::Model;

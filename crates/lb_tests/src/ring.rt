@@ -1,5 +1,5 @@
 //! The ring at worked values, and the choices of a ring of backends.
-use crate::made::{set_of, walked};
+use crate::fixtures::{set_of, walked};
 use lb_ring::crc::crc32;
 use lb_ring::ketama::KetamaHashing;
 use lb_ring::ring::Ring;

@@ -1,12 +1,12 @@
 //! Weighted selection and the unique walk at worked values, which come from the rules of FNV-1a and of the walks.
-use crate::made::{set_of, walked};
+use crate::fixtures::{set_of, walked};
 use lb_select::backend::{Backend, SocketAddr};
 use lb_select::refusal::Refusal;
 use lb_select::select::select;
-use lb_select::selection::{FNVHash, Random, RoundRobin};
 use lb_select::unique::UniqueIterator;
 use lb_select::walk::BackendSelection;
 use lb_select::words::{CoreWords, SharedWords, WordSource};
+use lb_weighted::selection::{FNVHash, Random, RoundRobin};
 use rand_pcg::Pcg64;
 use std::alloc::Global;
 use std::collections::BTreeSet;
@@ -134,18 +134,28 @@ fn a_ticket_that_wraps(rt: HostRuntime) -> Result<(), Fail> {
     Ok(())
 }
 
+// The words are those of the generator's published algorithm, by their rest modulo 3: 0 2 2 0, and 2 1 1 0.
 #[test]
 fn random_words_select(rt: HostRuntime) -> Result<(), Fail> {
     let alloc = rt.alloc();
-    let set = set_of(alloc, &WEIGHTS)?;
+    let set = set_of(
+        alloc,
+        &[("1.1.1.1:80", 1), ("1.0.0.1:80", 1), ("1.0.0.255:80", 1)],
+    )?;
     let selector = Arc::new(alloc, Random::build(alloc, &set)?)?;
     let mut core = words();
-    let found = select(alloc, &selector, b"k", &mut core, 3, &|_: &Backend| true)?;
-    assert_eq!(rt; found.is_some(), true);
+    for wanted in ["1.0.0.1:80", "1.1.1.1:80", "1.1.1.1:80", "1.0.0.1:80"] {
+        let found = select(alloc, &selector, b"k", &mut core, 3, &|_: &Backend| true)?;
+        let Backend { addr, .. } = found.ok_or("a backend")?;
+        assert_eq!(rt; format!(in alloc; "{addr}")?.as_str(), wanted);
+    }
     let shared = SharedWords::new(Pcg64::new(3, 4));
-    let mut lent = shared.lend(&rt);
-    let found = select(alloc, &selector, b"k", &mut lent, 3, &|_: &Backend| true)?;
-    assert_eq!(rt; found.is_some(), true);
+    for wanted in ["1.1.1.1:80", "1.0.0.255:80", "1.0.0.255:80", "1.0.0.1:80"] {
+        let mut lent = shared.lend(&rt);
+        let found = select(alloc, &selector, b"k", &mut lent, 3, &|_: &Backend| true)?;
+        let Backend { addr, .. } = found.ok_or("a backend")?;
+        assert_eq!(rt; format!(in alloc; "{addr}")?.as_str(), wanted);
+    }
     Ok(())
 }
 

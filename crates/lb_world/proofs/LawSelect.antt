@@ -2,12 +2,11 @@
 use Rattle.std.proofs.Common.{◌≡◌, inl, inr, ℕ, Bool, true, false, List, refl, ◌∙◌, arith}
 use Rattle.std.specs.Prelude.{Option, Some, None, Result, Ok, Err, MatchBool}
 use Rattle.lb_select.specs.Backends.{Member, same_member}
-use Rattle.lb_select.specs.Draws.{Draw}
+use Rattle.lb_select.specs.Draws.{Draw, HandedValue, HandedGives}
 use Rattle.lb_select.specs.Selections.{IsAnswer, Selects}
 use Rattle.lb_select.specs.declared.refusal.Refusal.{Refusal}
 use Rattle.lb_select.specs.declared.refusal.Refusal.TheVariants as refusal
-use Rattle.lb_select.proofs.Laws.{first_accepted as first_found}
-use Rattle.lb_rebuild.specs.Handed.{Handed, HandedGives}
+use Rattle.lb_select.proofs.SelectionLaws.{first_accepted as first_found}
 use Rattle.lb_world.specs.Steps as step
 use Rattle.lb_world.specs.declared.answer.Answer.{Answer}
 use Rattle.lb_world.specs.Meanings.{Meaning}
@@ -31,7 +30,7 @@ enough_drawn limit cs ended (Some b) answered = tt
 -- what a selection found is the first that is accepted
 found_first : (walks : List Draw → List Member → Bool → Type 0) (b : Bool) (limit : ℕ) (words : List ℕ) (t : ℕ) (r : Option Member) (A : Refusal) (u : ℕ)
     → MatchBool b ((Ok r ≡ Err A) × (u ≡ t))
-    ((left : Handed)
+    ((left : HandedValue)
     × Selects same_member (λ b a. a ≡ true) limit HandedGives walks (record { tickets = t; words = words }) (Ok r) left
     × (u ≡ left.tickets))
     → IsFirstAccepted walks limit words t r

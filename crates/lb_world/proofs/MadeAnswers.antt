@@ -4,7 +4,7 @@ use Rattle.std.specs.Prelude.{Option, Some, None, slice_get, nat_lt}
 use Rattle.std.proofs.lemmas.Bool.{lt-ltb, le-ltb}
 use Rattle.lb_select.specs.Backends.{Member}
 use Rattle.lb_select.specs.Memberships.{same_members}
-use Rattle.lb_rebuild.specs.Least.{earlier, least}
+use Rattle.lb_select.specs.Refusals.{earlier, least}
 use Rattle.lb_select.specs.declared.refusal.Refusal.{Refusal}
 use Rattle.lb_select.specs.declared.refusal.Refusal.TheVariants as refusal
 use Rattle.lb_world.specs.Steps.{StepView}

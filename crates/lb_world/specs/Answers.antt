@@ -5,7 +5,7 @@ use Rattle.std.specs.Prelude.{◌≡◌, ◌⊎◌, ℕ, ◌+◌, ◌-◌, ◌^�
 use Rattle.std.specs.List.{list_any}
 use Rattle.lb_select.specs.Backends.{Member}
 use Rattle.lb_select.specs.Memberships.{same_members}
-use Rattle.lb_rebuild.specs.Least.{earlier, least}
+use Rattle.lb_select.specs.Refusals.{earlier, least}
 use Rattle.lb_select.specs.declared.refusal.Refusal.{Refusal}
 use Rattle.lb_select.specs.declared.refusal.Refusal.TheVariants as refusal
 use Rattle.lb_world.specs.Selecting.{SelectsServed}

@@ -2,11 +2,10 @@
 use Rattle.std.specs.Prelude.{◌≡◌, ◌<◌, ◌≤◌, ◌==◌, ◌+◌, ◌⊎◌, ℕ, Bool, true, max, List, [], ◌∷◌, ◌++◌, length, take, sum_by, find, Option, Some, None, is_some, MatchOption, if◌then◌else◌}
 use Rattle.std.specs.List.{range_with_len}
 use Rattle.lb_select.specs.Backends.{Member, same_member}
-use Rattle.lb_select.specs.Draws.{Draw, Gives}
+use Rattle.lb_select.specs.Draws.{Draw, Gives, HandedValue, HandedGives}
 use Rattle.lb_select.specs.Unique.{distinct}
 use Rattle.lb_select.specs.declared.refusal.Refusal.{Refusal}
 use Rattle.lb_select.specs.declared.refusal.Refusal.TheVariants as refusal
-use Rattle.lb_rebuild.specs.Handed.{Handed, HandedGives}
 use Rattle.lb_world.specs.Steps.{StepView}
 use Rattle.lb_world.specs.Steps as step
 use Rattle.lb_world.specs.declared.answer.Answer.{Answer}
@@ -118,7 +117,7 @@ pub record IsFirstAccepted (walks : List Draw → List Member → Bool → Type 
   pub draws : List Draw
   pub candidates : List Member
   pub ended : Bool
-  pub left : Handed
+  pub left : HandedValue
   pub drawn : Gives HandedGives (record { tickets = t; words = words }) draws left
   pub walked : walks draws candidates ended
   pub first : (more : List Member) → (ended ≡ true → more ≡ []) → find accepted (distinct same_member (take limit (candidates ++ more))) ≡ r

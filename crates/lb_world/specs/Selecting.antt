@@ -1,11 +1,10 @@
 -- A selection from what a slot serves, by the words of its counter and those that are handed in.
 use Rattle.std.specs.Prelude.{◌≡◌, ℕ, Bool, true, ◌&&◌, MatchBool, nat_le, List, length, Option, Result, Err}
 use Rattle.lb_select.specs.Backends.{Member, same_member}
-use Rattle.lb_select.specs.Draws.{Draw}
+use Rattle.lb_select.specs.Draws.{Draw, HandedValue, HandedGives}
 use Rattle.lb_select.specs.Selections.{Selects}
 use Rattle.lb_select.specs.declared.refusal.Refusal.{Refusal}
 use Rattle.lb_select.specs.declared.refusal.Refusal.TheVariants.{NotEnoughWords}
-use Rattle.lb_rebuild.specs.Handed.{Handed, HandedGives}
 
 -- With t the next ticket before and u the next one after: the first of the distinct among the first `limit` candidates, since
 -- each is accepted, or none. Where the walks may draw random words, more of them than the limit must be handed in; else the
@@ -14,5 +13,5 @@ abbrev pub SelectsServed : (List Draw → List Member → Bool → Type 0) → B
 SelectsServed walks random limit words t r u =
     MatchBool (random && nat_le (length words) limit)
     ((r ≡ Err NotEnoughWords) × (u ≡ t))
-    ((s : Handed)
+    ((s : HandedValue)
     × Selects same_member (λ b a. a ≡ true) limit HandedGives walks (record { tickets = t; words = words }) r s × (u ≡ s.tickets))

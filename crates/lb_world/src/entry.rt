@@ -2,8 +2,7 @@
 //! A job and a built selector lie here between the steps that ask, build and publish.
 ghost use Rattle.std.specs.Prelude.{◌≡◌, [], map, not, length, replicate, IfOk, MatchOption};
 ghost use Rattle.lb_select.specs.Memberships.{same_members};
-ghost use Rattle.lb_select.specs.Refusals.{Refuses};
-ghost use Rattle.lb_rebuild.specs.Least.{least};
+ghost use Rattle.lb_select.specs.Refusals.{Refuses, least};
 ghost use Rattle.lb_world.specs.Views.{nothing, building, ready};
 ghost use Rattle.lb_world.specs.Answers.{select_answer};
 ghost use Rattle.lb_world.specs.Works.{work_view};

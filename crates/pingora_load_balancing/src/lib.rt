@@ -2,10 +2,12 @@
 //! It passes on what the layers below prove, under the upstream crate's names.
 #![tactic(auto)]
 
+pub mod health_check;
+pub mod rebuild;
 pub mod script;
 pub mod selection;
 pub mod world;
 
 pub use lb_select::backend::{Backend, Ext, InetAddr, SocketAddr};
 pub use lb_select::refusal::Refusal;
-pub use lb_select::words::{CoreWords, SharedWords, WordSource};
+pub use lb_select::words::{CoreWords, LentWords, SharedWords, WordSource};

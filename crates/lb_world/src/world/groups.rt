@@ -7,12 +7,12 @@ ghost use Rattle.lb_world.specs.History.{History, present};
 ghost use Rattle.lb_world.specs.Meanings.{meaning};
 ghost use Rattle.lb_world.specs.Steps as seen;
 ghost use Rattle.lb_world.specs.Stands.{Stands};
-ghost use Rattle.lb_rebuild.specs.Least.{earlier as earlier_of};
+ghost use Rattle.lb_select.specs.Refusals.{earlier as earlier_of};
 
 use super::World;
 use crate::answer::Answer;
 use crate::entry::Entry;
-use lb_rebuild::least::least_refusal;
+use lb_select::causes::least_refusal;
 use lb_select::backend::Backend;
 use lb_select::refusal::Refusal;
 use lb_select::walk::BackendSelection;

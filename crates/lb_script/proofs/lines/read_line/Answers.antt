@@ -1,9 +1,9 @@
 use Rattle.std.proofs.Common.{◌≡◌, ℕ, List, ◌++◌, ◌+◌, ◌<◌, ◌≤◌, arith, length, length-take, take, drop, subst, ap, ◌∙◌}
 use Rattle.std.specs.Io.KnownBytes.{prepend_known}
-use Rattle.lb_script.specs.Counted.{inner_of}
+use Rattle.lb_counted.specs.Counted.{inner_of}
 use Rattle.lb_script.specs.Lines.{first_line}
 use Rattle.lb_script.proofs.LinesLemmas.{line_too_long, line_has_byte, line_ends, line_goes_on, front_goes_on, grown_by}
-use Rattle.lb_script.proofs.StreamLemmas.{OnBytes-kept}
+use Rattle.lb_counted.proofs.StreamLemmas.{OnBytes-kept}
 use Rattle.lb_script.proofs.lines.read_line.Goals as goal
 
 pub returns-then-count-len-clause-found : goal.returns-then-count-len-clause-found

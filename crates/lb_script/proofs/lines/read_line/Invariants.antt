@@ -1,7 +1,7 @@
 use Rattle.std.proofs.Common.{◌≡◌, ◌≤◌, ◌-◌, ◌++◌, vec_len}
 use Rattle.std.specs.Io.KnownBytes.{prepend_known}
-use Rattle.lb_script.specs.Counted.{inner_of, has_failed}
-use Rattle.lb_script.specs.Stream.{OnBytes}
+use Rattle.lb_counted.specs.Counted.{inner_of, has_failed}
+use Rattle.lb_counted.specs.Stream.{OnBytes}
 use Rattle.lb_script.proofs.LinesLemmas.{IsFront}
 use Rattle.lb_script.proofs.lines.read_line.Given as goal
 

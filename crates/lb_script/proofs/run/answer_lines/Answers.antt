@@ -1,10 +1,10 @@
 use Rattle.std.proofs.Common.{◌∙◌, ap, subst, Ok, Err, string_bytes, arith}
 use Rattle.std.specs.Io.KnownBytes.{Appends, prepend_known}
 use Rattle.lb_world.specs.Meanings.{meaning}
-use Rattle.lb_script.specs.Counted.{inner_of, has_failed}
-use Rattle.lb_script.specs.Stream.{AppendsFront}
+use Rattle.lb_counted.specs.Counted.{inner_of, has_failed}
+use Rattle.lb_counted.specs.Stream.{AppendsFront}
 use Rattle.lb_script.proofs.RunLemmas.{begins, goes_on, is_over, ends_early, ends_in_part, stops_in_line, runs_out, runs_out_in_part}
-use Rattle.lb_script.proofs.StreamLemmas.{on_err}
+use Rattle.lb_counted.proofs.StreamLemmas.{on_err}
 use Rattle.lb_script.proofs.run.answer_lines.Goals as goal
 
 pub returns-in_err-put-in-Ok-true-clause-part : goal.returns-in_err-put-in-Ok-true-clause-part

@@ -1,5 +1,0 @@
-use Rattle.lb_select.proofs.Shares.{consecutive}
-use Rattle.lb_select.proofs.fairness.tickets_are_consecutive.Goals as goal
-
-pub returns : goal.returns
-returns g c = consecutive _ _ _

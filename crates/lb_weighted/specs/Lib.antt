@@ -1,0 +1,4 @@
+pub mod Shares
+pub mod Sums
+pub mod WeightLaws
+pub mod Weights

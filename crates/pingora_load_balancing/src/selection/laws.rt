@@ -1,0 +1,4 @@
+//! Laws of selection, for users to cite: functions that do nothing, and whose contracts hold of every set and key.
+//! They are about the definitions that the selectors' contracts are stated by.
+pub use lb_ring::laws as ring;
+pub use lb_weighted::laws as weighted;

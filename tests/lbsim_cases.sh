@@ -1,0 +1,103 @@
+#!/bin/bash
+# What ./lbsim does around the program, tried on a copy with a made 'rt': it proves nothing and takes about a second.
+# A line for each case; the last line is 'N passed, M failed'.
+set -euo pipefail
+unset CDPATH
+
+here=$(dirname "$(readlink -f "${BASH_SOURCE[0]}")")
+room=$(mktemp -d)
+trap 'rm -rf "$room"' EXIT
+repository=$room/repository
+lbsim=$repository/lbsim
+script=$room/one.script
+passed=0
+failed=0
+
+# A repository of four crates under the script, one of them apart from the program.
+mkdir -p "$repository"/crates/{low,mid,apart,lbsim}/{src,specs,proofs} "$room"/{bin,tools}
+cp "$here/../lbsim" "$lbsim"
+printf '%s\n' '# lowest first' 'low may_wait=2: rand_core' 'mid: low memchr # on low' 'apart: low' 'lbsim: mid' >"$repository/crates.txt"
+printf 'gate\n' >"$script"
+
+# The made rt builds a program that tells how it was called; it refuses a crate in which a file 'open' lies.
+cat >"$room/bin/rt" <<'END'
+#!/bin/bash
+crate=$(basename "$PWD")
+echo "rt $1 in $crate"
+[ ! -e open ] || { echo "open goal in $crate"; exit 1; }
+[ "$1" = run ] || exit 0
+mkdir -p out
+printf '#!/bin/sh\necho "arguments $#"\ncat\n' >out/lbsim
+chmod +x out/lbsim
+END
+chmod +x "$room/bin/rt"
+
+# Another folder for the PATH, with what the script uses beside rt.
+for tool in bash cat dirname find flock mkdir mv readlink sed tail touch; do
+    ln -s "$(command -v "$tool")" "$room/tools/$tool"
+done
+
+answers=$'arguments 0\ngate'
+built=$'crate 1 of 3: low\ncrate 2 of 3: mid\ncrate 3 of 3: lbsim\n'"$answers"
+
+# Whether a command ends with the status and says the text: 'says' somewhere, 'says_just' as the whole.
+says() { judge "$1" "$2" "*$3*" "${@:4}"; }
+says_just() { judge "$1" "$2" "$3" "${@:4}"; }
+judge() {
+    local name=$1 wanted=$2 pattern=$3 said status=0
+    said=$("${@:4}" 2>&1 </dev/null) || status=$?
+    # shellcheck disable=SC2053 # the right side is a pattern
+    if [ "$status" -eq "$wanted" ] && [[ $said == $pattern ]]; then
+        echo "$name: as it should be"
+        passed=$((passed + 1))
+    else
+        printf '%s: status %s, said:\n%s\n' "$name" "$status" "$said"
+        failed=$((failed + 1))
+    fi
+}
+
+from_folder() { (cd "$1" && "${@:2}"); }
+without_rt() { PATH=$room/tools "$@"; }
+fed() { "$@" <"$script"; }
+only_output() { "$@" 2>/dev/null; }
+
+says 'help' 0 'usage: ./lbsim [[]SCRIPT]' "$lbsim" --help
+says 'short help' 0 'usage: ./lbsim [[]SCRIPT]' "$lbsim" -h
+says 'two arguments' 2 'usage: ./lbsim [[]SCRIPT]' "$lbsim" a b
+says 'an option that is not there' 2 'there is no option --fast' "$lbsim" --fast
+says 'a file that is not there' 2 'there is no file none.script' "$lbsim" none.script
+says 'a directory' 2 'is a directory' "$lbsim" "$room"
+says 'no rt' 2 'install the Rattle toolchain' without_rt "$lbsim" "$script"
+
+export PATH=$room/bin:$PATH
+touch "$repository/crates/mid/open"
+says 'a crate that is not proved' 2 'open goal in mid' "$lbsim" "$script"
+says 'still not proved' 2 "mid isn't proved" "$lbsim" "$script"
+rm "$repository/crates/mid/open"
+says 'a line for each crate' 0 "$built" "$lbsim" "$script"
+says_just 'nothing to build' 0 "$answers" "$lbsim" "$script"
+says_just 'nothing to build, and no rt' 0 "$answers" without_rt "$lbsim" "$script"
+
+says_just 'standard input' 0 "$answers" fed "$lbsim"
+says_just 'standard input by its sign' 0 "$answers" fed "$lbsim" -
+says_just 'from another folder' 0 "$answers" from_folder "$room" repository/lbsim one.script
+says_just 'with CDPATH' 0 "$answers" from_folder "$room" env CDPATH="$repository:/usr" repository/lbsim one.script
+ln -s repository/lbsim "$room/linked"
+ln -s ../linked "$room/bin/twice"
+says_just 'through a symlink' 0 "$answers" from_folder / "$room/linked" "$script"
+says_just 'through two, on the PATH' 0 "$answers" from_folder "$room" twice one.script
+
+for source in crates/low/src/a.rt crates/mid/specs/A.antt crates/lbsim/proofs/A.antt crates.txt; do
+    touch "$repository/$source"
+    says "$source is newer" 0 "$built" "$lbsim" "$script"
+    says_just "$source was built" 0 "$answers" "$lbsim" "$script"
+done
+rm "$repository/crates/low/src/a.rt"
+says 'a source is gone' 0 "$built" "$lbsim" "$script"
+touch "$repository/crates/apart/src/a.rt"
+says_just 'a crate apart is newer' 0 "$answers" "$lbsim" "$script"
+touch "$repository/crates/low/src/a.rt"
+says_just 'only the program writes to standard output' 0 "$answers" only_output "$lbsim" "$script"
+
+echo "$passed passed, $failed failed"
+[ "$failed" -eq 0 ]
