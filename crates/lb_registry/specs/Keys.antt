@@ -1,6 +1,6 @@
 -- Health keys: backends of one key share their health. A key is a backend with nothing attached.
 -- Upstream keys health by the backend's hash; here identity and address stand for themselves, and a caller's rule gives numbers.
-use Rattle.std.specs.Prelude.{◌≡◌, ℕ, List, [], ◌∷◌}
+use Rattle.std.specs.Prelude.{◌≡◌, ℕ, [], ◌∷◌}
 use Rattle.lb_select.specs.AddressText.{bare_member}
 use Rattle.lb_select.specs.Backends.{Member, ipv4}
 use Rattle.lb_registry.specs.declared.keys.Rule.{Rule}

@@ -1,6 +1,7 @@
 //! Changes of a registry's views, and of its table with them: all that may be refused comes first, so that a refused change
 //! applies no mark and leaves views and table as they were for all who see them.
 ghost use Rattle.std.specs.Prelude.{◌≡◌, ◌<◌, ◌≤◌, ◌^◌, ℕ, List, [], ◌∷◌, length, map, position, Some, IfOk, OnOk, OnErr, IsErrOf, Err, slice_get, vec_len};
+ghost use Rattle.std.specs.List.{list_all, list_any};
 ghost use Rattle.std.specs.Option.{IsSomeAnd};
 ghost use Rattle.lb_select.specs.Backends.{Member, member_cmp, same_member};
 ghost use Rattle.lb_select.specs.Memberships.{same_members};
@@ -37,12 +38,18 @@ pub(crate) fn place_of(views: &[View], id: u64) -> Option<usize>
     views.iter().position(|view| view.id == id && !view.marked)
 }
 
+// Whether each of these backends is among the others, by identity.
+fn is_among(members: &BTreeSet<Backend>, others: &BTreeSet<Backend>) -> bool
+    ensures { result ≡ list_all (λ x. list_any (same_member x) others.now.keys) members.now.keys }
+{
+    members.iter().all(|backend| others.contains(backend))
+}
+
 // Whether two memberships list the same backends, by identity.
 pub(crate) fn is_same(members: &BTreeSet<Backend>, others: &BTreeSet<Backend>) -> bool
     ensures { result ≡ same_members members.now.keys others.now.keys }
 {
-    members.iter().all(|backend| others.contains(backend))
-        && others.iter().all(|backend| members.contains(backend))
+    is_among(members, others) && is_among(others, members)
 }
 
 // Applies the marks that wait.

@@ -31,9 +31,8 @@ fn starting_count<K: HealthKey>(before: &Numbering<K>, keys: &[K]) -> usize
         .count()
 }
 
-// The numbering after a change to these keys, where the cells that start are stored with the rest. Refused
-// `NumbersExhausted` exactly where a cell would get number 18446744073709551615 or one past it, whatever memory is left.
-pub(crate) fn renumbered<K: HealthKey>(
+// Numbers the keys one by one. A key with a number keeps it, another one gets the next, and its cell is stored.
+fn numbered<K: HealthKey>(
     alloc: Global,
     before: &Numbering<K>,
     keys: &[K],
@@ -45,13 +44,12 @@ pub(crate) fn renumbered<K: HealthKey>(
     ensures stored { IfOk result (λ after. (all : List (List K)) (first : ℕ) → IsNumbered K.cmp all before.now.by_key.entries before.now.next
         → AreStored K.cmp first start all cells.old.entries → AreStored K.cmp first start (keys.now ∷ all) cells.new.entries) }
     ensures others { (c : ℕ) → c < before.now.next → value_at nat_cmp cells.new.entries c ≡ value_at nat_cmp cells.old.entries c }
-    ensures exhausted { (all : List (List K)) → IsNumbered K.cmp all before.now.by_key.entries before.now.next
-        → (IsErrOf result Refusal.NumbersExhausted ↔ (2 ^ 64 ≤ length (starts (eq_by_cmp K.cmp) (keys.now ∷ all)))) }
+    ensures fits { IfOk result (λ after. after.next < 2 ^ 64) }
+    ensures exhausted { IsErrOf result Refusal.NumbersExhausted
+        → (all : List (List K)) → IsNumbered K.cmp all before.now.by_key.entries before.now.next
+        → 2 ^ 64 ≤ length (starts (eq_by_cmp K.cmp) (keys.now ∷ all)) }
     ensures refused { OnErr result (IsGrowthRefusal result) }
 {
-    if starting_count(before, keys) as u64 > u64::MAX - before.next {
-        return Err(Refusal::NumbersExhausted);
-    }
     let mut by_key = BTreeMap::new(alloc);
     let mut next = before.next;
     for key in keys {
@@ -75,4 +73,28 @@ pub(crate) fn renumbered<K: HealthKey>(
         }
     }
     Ok(Numbering { by_key, next })
+}
+
+// The numbering after a change to these keys, where the cells that start are stored with the rest. Refused
+// `NumbersExhausted` exactly where more cells start than there are numbers, whatever memory is left.
+pub(crate) fn renumbered<K: HealthKey>(
+    alloc: Global,
+    before: &Numbering<K>,
+    keys: &[K],
+    start: bool,
+    cells: &mut BTreeMap<u64, Cell<K>>,
+) -> Result<Numbering<K>, Refusal>
+    ensures ok { IfOk result (λ after. (all : List (List K)) → IsNumbered K.cmp all before.now.by_key.entries before.now.next
+        → IsNumbered K.cmp (keys.now ∷ all) after.by_key.entries after.next) }
+    ensures stored { IfOk result (λ after. (all : List (List K)) (first : ℕ) → IsNumbered K.cmp all before.now.by_key.entries before.now.next
+        → AreStored K.cmp first start all cells.old.entries → AreStored K.cmp first start (keys.now ∷ all) cells.new.entries) }
+    ensures others { (c : ℕ) → c < before.now.next → value_at nat_cmp cells.new.entries c ≡ value_at nat_cmp cells.old.entries c }
+    ensures exhausted { (all : List (List K)) → IsNumbered K.cmp all before.now.by_key.entries before.now.next
+        → (IsErrOf result Refusal.NumbersExhausted ↔ (2 ^ 64 ≤ length (starts (eq_by_cmp K.cmp) (keys.now ∷ all)))) }
+    ensures refused { OnErr result (IsGrowthRefusal result) }
+{
+    if starting_count(before, keys) as u64 > u64::MAX - before.next {
+        return Err(Refusal::NumbersExhausted);
+    }
+    numbered(alloc, before, keys, start, cells)
 }

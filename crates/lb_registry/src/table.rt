@@ -1,13 +1,13 @@
 //! The table of cells: the health of each cell that is kept, the numbers of the targets' cells, and the live snapshots that
 //! keep cells of targets that are gone.
-ghost use Rattle.std.specs.Prelude.{◌≡◌, ◌≢◌, ◌↔◌, ◌<◌, ◌≤◌, ◌^◌, ℕ, List, [], ◌∷◌, Bool, true, IsTrue, IfOk, OnOk, OnErr, IsOk, IsErrOf, IsSome, Err, MatchOption, vec_len, vec_capacity};
+ghost use Rattle.std.specs.Prelude.{◌≡◌, ◌≢◌, ◌↔◌, ◌<◌, ◌≤◌, ◌^◌, ℕ, List, [], ◌∷◌, Bool, true, IsTrue, IfOk, OnOk, OnErr, IsOk, IsErrOf, IsSome, Err, MatchOption, map, vec_len, vec_capacity};
 ghost use Rattle.std.specs.Ordering.{eq_by_cmp, nat_cmp};
 ghost use Rattle.std.specs.List.{list_any};
 ghost use Rattle.lb_registry.specs.CellEvents.{CellEvent, Changed, Observed, Held as HeldNow, Released, Configured, verdicts_of, start_of, health_of, given_after, IsKept};
-ghost use Rattle.lb_registry.specs.Internal.Changing.{IsStarted};
+ghost use Rattle.lb_registry.specs.Internal.Changing.{IsStarted, is_cell, keeps_cell};
 ghost use Rattle.lb_registry.specs.Registry.{IsGrowthRefusal};
 ghost use Rattle.lb_registry.specs.Starts.{value_at};
-ghost use Rattle.lb_registry.specs.Table.{table_value, IsTableAfter, IsPruned};
+ghost use Rattle.lb_registry.specs.Table.{hold_of, table_value, IsTableAfter, IsPruned};
 ghost use Rattle.lb_registry.specs.Verdicts.{Verdict, IsHealthAfter};
 
 use crate::health::Health;
@@ -48,6 +48,28 @@ fn has_cell(held: &[Held], cell: u64) -> bool
     held.iter().any(|snapshot| snapshot.cells.contains(&cell))
 }
 
+// Whether it is this number.
+fn is_number(now: Option<u64>, cell: u64) -> bool
+    ensures { result ≡ is_cell cell now }
+{
+    match now {
+        Some(now) => now == cell,
+        None => false,
+    }
+}
+
+// Whether a cell that is stored with this key is kept: the target of the key has it, or a live snapshot.
+#[tactic(auto, using(crate::proofs::TableLemmas::any_holds))]
+fn keeps<K: HealthKey>(numbering: &Numbering<K>, held: &[Held], cell: u64, key: &K) -> bool
+    ensures { result ≡ keeps_cell K.cmp numbering.now.by_key.entries (map hold_of held.now) cell key.now }
+{
+    let now = numbering.by_key.get(key).copied();
+    if is_number(now, cell) {
+        return true;
+    }
+    has_cell(held, cell)
+}
+
 impl<K: HealthKey> CellTable<K> {
     // A table without cells, whose cells begin healthy.
     pub(crate) fn new(alloc: Global) -> CellTable<K>
@@ -80,8 +102,7 @@ impl<K: HealthKey> CellTable<K> {
         ensures stored { IsSome result → IsSome (value_at nat_cmp (table_value self.now).cells cell) }
     {
         let stored = self.cells.get(&cell)?;
-        let now = self.numbering.by_key.get(&stored.key).copied();
-        if now == Some(cell) || has_cell(&self.held, cell) {
+        if keeps(&self.numbering, &self.held, cell, &stored.key) {
             Some(stored.health)
         } else {
             None
@@ -157,7 +178,8 @@ impl<K: HealthKey> CellTable<K> {
         ensures held { self.new.held ≡ self.old.held }
     {
         let between = renumbered(alloc, &self.numbering, first, self.start, &mut self.cells)?;
-        renumbered(alloc, &between, second, self.start, &mut self.cells)
+        let after = renumbered(alloc, &between, second, self.start, &mut self.cells)?;
+        Ok(after)
     }
 
     // Makes a numbering the table's. It takes no memory.
@@ -198,10 +220,15 @@ impl<K: HealthKey> CellTable<K> {
             → IsPruned K.cmp events (table_value self.new) }
         ensures held { self.new.held ≡ self.old.held }
     {
-        let by_key = &self.numbering.by_key;
+        let numbering = &self.numbering;
         let held = &self.held;
-        self.cells.retain(|cell, stored| {
-            by_key.get(&stored.key).copied() == Some(*cell) || has_cell(held, *cell)
-        });
+        self.cells.retain(
+            |cell, stored|
+                ensures value { result ≡ keeps_cell K.cmp numbering.entry.now.by_key.entries (map hold_of held.entry.now.items) cell.now stored.old.key }
+                ensures same { stored.new ≡ stored.old }
+                ensures numbering_stays { numbering.exit ≡ numbering.entry }
+                ensures held_stays { held.exit ≡ held.entry }
+            { keeps(numbering, held, *cell, &stored.key) },
+        );
     }
 }

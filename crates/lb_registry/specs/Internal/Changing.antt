@@ -1,10 +1,11 @@
 -- A change of a table on its way: the cells of the keys that start are stored, and the numbering isn't exchanged yet.
-use Rattle.std.specs.Prelude.{◌≡◌, ◌≤◌, ◌<◌, ℕ, Bool, true, List, [], Some}
+use Rattle.std.specs.Prelude.{◌≡◌, ◌≤◌, ◌<◌, ℕ, ◌==◌, ◌||◌, Bool, true, false, List, [], Option, Some, None}
 use Rattle.std.specs.declared.cmp.Ordering.{Ordering}
 use Rattle.std.specs.Ordering.{eq_by_cmp, nat_cmp}
+use Rattle.std.specs.List.{list_any}
 use Rattle.std.specs.Option.{IsSomeAnd}
 use Rattle.lb_registry.specs.declared.table.Cell.{Cell}
-use Rattle.lb_registry.specs.CellEvents.{CellEvent, changes, verdicts_of, holds_after, configured, given_after, start_of}
+use Rattle.lb_registry.specs.CellEvents.{CellEvent, Hold, changes, verdicts_of, holds_after, configured, given_after, start_of}
 use Rattle.lb_registry.specs.Starts.{cell_now, value_at, IsNumbered}
 use Rattle.lb_registry.specs.Table.{TableValue, IsTableAfter}
 use Rattle.lb_registry.specs.Verdicts.{IsHealthAfter}
@@ -14,6 +15,15 @@ abbrev pub AreStored : {K : Type 0} → (K → K → Ordering) → ℕ → Bool 
 AreStored {K} cmp first start all cells =
     (k : K) (c : ℕ) → cell_now (eq_by_cmp cmp) all k ≡ Some c → first ≤ c
     → IsSomeAnd (value_at nat_cmp cells c) (λ x. (eq_by_cmp cmp k x.key ≡ true) × IsHealthAfter start [] x.health)
+
+-- whether it is this number
+abbrev pub is_cell : ℕ → Option ℕ → Bool
+is_cell c None = false
+is_cell c (Some d) = d == c
+
+-- whether a stored cell is kept: the target of its key has it, or a live snapshot
+abbrev pub keeps_cell : {K : Type 0} → (K → K → Ordering) → List (K × ℕ) → List Hold → ℕ → K → Bool
+keeps_cell cmp by_key held c k = is_cell c (value_at cmp by_key k) || list_any (λ h. list_any (eq_by_cmp nat_cmp c) h.cells) held
 
 -- later is these events and further changes
 pub record Extends {K : Type 0} (cmp : K → K → Ordering) (events later : List (CellEvent K)) : Type 0 where

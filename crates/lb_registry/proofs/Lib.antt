@@ -1,0 +1,6 @@
+pub mod CellLemmas
+pub mod NumberLemmas
+pub mod TableLemmas
+pub mod TargetLemmas
+pub mod ChangeLemmas
+pub mod StateLemmas

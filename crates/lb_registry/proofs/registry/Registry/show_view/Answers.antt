@@ -1,0 +1,107 @@
+use Rattle.std.proofs.Common.{◌≡◌, List, map, position, Err, refl, sym, ap, ◌∙◌, rules, true≢false}
+use Rattle.lb_select.specs.Backends.{Member}
+use Rattle.lb_select.specs.declared.refusal.Refusal.TheVariants.{NoSuch, OutOfMemory, NumbersExhausted}
+use Rattle.lb_registry.specs.declared.targets.View.{View}
+use Rattle.lb_registry.specs.Registry.{IsRegistryAfter, IsStateAfter}
+use Rattle.lb_registry.specs.RegistryEvents.{Event, is_view, has_view, cell_events}
+use Rattle.lb_registry.specs.Table.{hold_of, table_value}
+use Rattle.lb_registry.specs.Targets.{view_value}
+use Rattle.lb_registry.proofs.ChangeLemmas.{missing_view, found_view}
+use Rattle.lb_registry.proofs.StateLemmas.{seen, roomier, shows, not_refused, growth_not_such}
+use Rattle.lb_registry.proofs.TableLemmas.{refused_for}
+use Rattle.lb_registry.proofs.registry.Registry.show_view.Goals as goal
+
+pub returns-in_default-clause-unknown : goal.returns-in_default-clause-unknown
+returns-in_default-clause-unknown g c =
+    λ key_of events r.
+    let now = seen g.R.KeyRule.gives key_of events _ _ c.self.view_is r in
+    let none = ap (λ (vs : List View). position (λ v. is_view c.args.id (view_value v)) vs) (sym c.deref.ensures.value) ∙ sym c.place_of.ensures ∙ c.in_default.is in
+    (λ e. ap (has_view c.args.id) (sym now.state.listed) ∙ missing_view view_value c.args.id c.self.inside.views.items none, λ f. refl)
+
+pub returns-in_err-reserve-clause-unknown : goal.returns-in_err-reserve-clause-unknown
+returns-in_err-reserve-clause-unknown g c =
+    λ key_of events r.
+    let now = seen g.R.KeyRule.gives key_of events _ _ c.self.view_is r in
+    let found = ap (λ (vs : List View). position (λ v. is_view c.args.id (view_value v)) vs) (sym c.deref.ensures.value) ∙ sym c.place_of.ensures ∙ c.in-Some.is in
+    let has = ap (has_view c.args.id) (sym now.state.listed) ∙ found_view view_value c.args.id c.self.inside.views.items c.in-Some.place found in
+    (λ e. let no : OutOfMemory ≡ NoSuch = search rules in absurd (cc), λ f. absurd (true≢false (sym has ∙ f)))
+
+pub returns-in_err-shown-clause-err : goal.returns-in_err-shown-clause-err
+returns-in_err-shown-clause-err g c =
+    let inside = c.self.inside in
+    let stays :
+    (key_of : Member → Member) (events : List Event) → IsRegistryAfter g.R.KeyRule.gives key_of events c.args.self.now
+    → IsRegistryAfter g.R.KeyRule.gives key_of events
+    (record { rule = inside.rule; views = map view_value c.replace.new.views.items; registered = inside.registered; table = table_value c.replace.new.table })
+    = λ key_of events r.
+    let now = seen g.R.KeyRule.gives key_of events _ _ c.self.view_is r in
+    record {
+      rule = now.rule;
+      registered = now.registered;
+      state = c.in_err-shown.ensures.err key_of events (record {
+        listed = now.state.listed;
+        cells = roomier (cell_events key_of events) (table_value inside.table) (map hold_of c.reserve.new.self.items) (ap (map hold_of) c.in_ok-reserve.ensures.items) now.state.cells;
+      });
+    } in
+    refused_for c.from_residual-in_err-shown.result stays
+
+pub returns-in_err-shown-clause-unknown : goal.returns-in_err-shown-clause-unknown
+returns-in_err-shown-clause-unknown g c =
+    λ key_of events r.
+    let now = seen g.R.KeyRule.gives key_of events _ _ c.self.view_is r in
+    let found = ap (λ (vs : List View). position (λ v. is_view c.args.id (view_value v)) vs) (sym c.deref.ensures.value) ∙ sym c.place_of.ensures ∙ c.in-Some.is in
+    let has = ap (has_view c.args.id) (sym now.state.listed) ∙ found_view view_value c.args.id c.self.inside.views.items c.in-Some.place found in (
+      λ e. let is : c.in_err-shown.field-0.0 ≡ NoSuch = search rules in absurd (growth_not_such _ c.in_err-shown.ensures.refused is),
+      λ f. absurd (true≢false (sym has ∙ f)),
+    )
+
+pub returns-in_err-shown-clause-exhausted : goal.returns-in_err-shown-clause-exhausted
+returns-in_err-shown-clause-exhausted g c =
+    λ key_of events r e.
+    let inside = c.self.inside in
+    let now = seen g.R.KeyRule.gives key_of events _ _ c.self.view_is r in
+    let found = ap (λ (vs : List View). position (λ v. is_view c.args.id (view_value v)) vs) (sym c.deref.ensures.value) ∙ sym c.place_of.ensures ∙ c.in-Some.is in
+    let is : c.in_err-shown.field-0.0 ≡ NumbersExhausted = search rules in
+    c.in_err-shown.ensures.exhausted key_of events c.args.id now.rule found (record {
+      listed = now.state.listed;
+      cells = roomier (cell_events key_of events) (table_value inside.table) (map hold_of c.reserve.new.self.items) (ap (map hold_of) c.in_ok-reserve.ensures.items) now.state.cells;
+    }) (ap Err is)
+
+pub returns-clause-ok : goal.returns-clause-ok
+returns-clause-ok g c =
+    λ key_of events r.
+    let inside = c.self.inside in
+    let now = seen g.R.KeyRule.gives key_of events _ _ c.self.view_is r in
+    let found = ap (λ (vs : List View). position (λ v. is_view c.args.id (view_value v)) vs) (sym c.deref.ensures.value) ∙ sym c.place_of.ensures ∙ c.in-Some.is in
+    let has = ap (has_view c.args.id) (sym now.state.listed) ∙ found_view view_value c.args.id inside.views.items c.in-Some.place found in
+    let state : IsStateAfter key_of events (map view_value inside.views.items) (record (table_value inside.table) { held = map hold_of c.reserve.new.self.items })
+    = record {
+      listed = now.state.listed;
+      cells = roomier (cell_events key_of events) (table_value inside.table) (map hold_of c.reserve.new.self.items) (ap (map hold_of) c.in_ok-reserve.ensures.items) now.state.cells;
+    } in
+    record {
+      rule = now.rule;
+      registered = now.registered;
+      state =
+          shows key_of events c.args.id c.args.generation c.args.members.keys c.in_ok-shown.shown (map view_value c.replace.new.views.items) (table_value c.replace.new.table)
+          (table_value c.hold.new.self) (c.in_ok-shown.ensures.ok key_of events c.args.id now.rule found state) has c.hold.ensures;
+    }
+
+pub returns-clause-cells : goal.returns-clause-cells
+returns-clause-cells g c =
+    λ key_of events r.
+    let inside = c.self.inside in
+    let now = seen g.R.KeyRule.gives key_of events _ _ c.self.view_is r in
+    let found = ap (λ (vs : List View). position (λ v. is_view c.args.id (view_value v)) vs) (sym c.deref.ensures.value) ∙ sym c.place_of.ensures ∙ c.in-Some.is in
+    (c.in_ok-shown.ensures.ok key_of events c.args.id now.rule found (record {
+      listed = now.state.listed;
+      cells = roomier (cell_events key_of events) (table_value inside.table) (map hold_of c.reserve.new.self.items) (ap (map hold_of) c.in_ok-reserve.ensures.items) now.state.cells;
+    })).cells.pairs
+
+pub returns-clause-unknown : goal.returns-clause-unknown
+returns-clause-unknown g c =
+    λ key_of events r.
+    let now = seen g.R.KeyRule.gives key_of events _ _ c.self.view_is r in
+    let found = ap (λ (vs : List View). position (λ v. is_view c.args.id (view_value v)) vs) (sym c.deref.ensures.value) ∙ sym c.place_of.ensures ∙ c.in-Some.is in
+    let has = ap (has_view c.args.id) (sym now.state.listed) ∙ found_view view_value c.args.id c.self.inside.views.items c.in-Some.place found in
+    (λ e. absurd (not_refused _ _ e), λ f. absurd (true≢false (sym has ∙ f)))

@@ -1,0 +1,35 @@
+use Rattle.std.proofs.Common.{List, map}
+use Rattle.lb_select.specs.Backends.{Member}
+use Rattle.lb_registry.specs.Registry.{IsRegistryAfter}
+use Rattle.lb_registry.specs.RegistryEvents.{Event}
+use Rattle.lb_registry.specs.Table.{table_value}
+use Rattle.lb_registry.specs.Targets.{view_value}
+use Rattle.lb_registry.proofs.StateLemmas.{seen}
+use Rattle.lb_registry.proofs.TableLemmas.{refused_for}
+use Rattle.lb_registry.proofs.registry.Registry.target_count.Goals as goal
+
+pub returns-clause-ok : goal.returns-clause-ok
+returns-clause-ok g c =
+    λ key_of events r.
+    let now = seen g.R.KeyRule.gives key_of events _ _ c.self.view_is r in
+    record {
+      rule = now.rule;
+      registered = now.registered;
+      state = c.in_ok-apply.ensures.ok key_of events now.rule now.state;
+    }
+
+pub returns-in_err-apply-clause-err : goal.returns-in_err-apply-clause-err
+returns-in_err-apply-clause-err g c =
+    let inside = c.self.inside in
+    let stays :
+    (key_of : Member → Member) (events : List Event) → IsRegistryAfter g.R.KeyRule.gives key_of events c.args.self.now
+    → IsRegistryAfter g.R.KeyRule.gives key_of events
+    (record { rule = inside.rule; views = map view_value c.apply.new.views.items; registered = inside.registered; table = table_value c.apply.new.table })
+    = λ key_of events r.
+    let now = seen g.R.KeyRule.gives key_of events _ _ c.self.view_is r in
+    record {
+      rule = now.rule;
+      registered = now.registered;
+      state = c.in_err-apply.ensures.err key_of events now.rule now.state;
+    } in
+    refused_for c.from_residual-in_err-apply.result stays
