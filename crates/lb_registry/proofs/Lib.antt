@@ -4,3 +4,4 @@ pub mod TableLemmas
 pub mod TargetLemmas
 pub mod ChangeLemmas
 pub mod StateLemmas
+pub mod LawLemmas

@@ -7,7 +7,8 @@ use Rattle.std.specs.Option.{IsSomeAnd}
 use Rattle.lb_registry.specs.declared.table.Cell.{Cell}
 use Rattle.lb_registry.specs.declared.table.Held.{Held}
 use Rattle.lb_registry.specs.declared.table.CellTable.{CellTable}
-use Rattle.lb_registry.specs.CellEvents.{CellEvent, Hold, changes, verdicts_of, holds_after, configured, is_held, given_after, start_of, IsKept}
+use Rattle.lb_registry.specs.CellEvents.{CellEvent, Hold, changes, verdicts_of, holds_after, configured}
+use Rattle.lb_registry.specs.CellEvents.{is_held, given_after, start_of, IsKept}
 use Rattle.lb_registry.specs.Starts.{cell_now, value_at, IsNumbered}
 use Rattle.lb_registry.specs.Verdicts.{IsHealthAfter}
 

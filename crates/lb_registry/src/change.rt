@@ -1,6 +1,7 @@
 //! Changes of a registry's views, and of its table with them: all that may be refused comes first, so that a refused change
 //! applies no mark and leaves views and table as they were for all who see them.
-ghost use Rattle.std.specs.Prelude.{◌≡◌, ◌<◌, ◌≤◌, ◌^◌, ℕ, List, [], ◌∷◌, length, map, position, Some, IfOk, OnOk, OnErr, IsErrOf, Err, slice_get, vec_len};
+ghost use Rattle.std.specs.Prelude.{◌≡◌, ◌<◌, ◌≤◌, ◌^◌, ℕ, List, [], ◌∷◌, length, map, position, Some, IfOk, OnOk, OnErr};
+ghost use Rattle.std.specs.Prelude.{IsErrOf, Err, slice_get, vec_len};
 ghost use Rattle.std.specs.List.{list_all, list_any};
 ghost use Rattle.std.specs.Option.{IsSomeAnd};
 ghost use Rattle.lb_select.specs.Backends.{Member, member_cmp, same_member};
@@ -158,8 +159,10 @@ pub(crate) fn replace<R: KeyRule>(
     ensures ok { IfOk result (λ shown. (key_of : Member → Member) (events : List Event) (id : ℕ) → IsRuleOf R.gives rule.now key_of
         → position (λ v. is_view id (view_value v)) views.old.items ≡ Some place
         → IsStateAfter key_of events (map view_value views.old.items) (table_value table.old)
-        → IsReplaced key_of (Updated id members.keys ∷ Applied ∷ events) members.keys shown (map view_value views.new.items) (table_value table.new)) }
-    ensures err { OnErr result ((key_of : Member → Member) (events : List Event) → IsStateAfter key_of events (map view_value views.old.items) (table_value table.old)
+        → IsReplaced key_of (Updated id members.keys ∷ Applied ∷ events) members.keys shown
+        (map view_value views.new.items) (table_value table.new)) }
+    ensures err { OnErr result ((key_of : Member → Member) (events : List Event)
+        → IsStateAfter key_of events (map view_value views.old.items) (table_value table.old)
         → IsStateAfter key_of events (map view_value views.new.items) (table_value table.new)) }
     ensures exhausted { (key_of : Member → Member) (events : List Event) (id : ℕ) → IsRuleOf R.gives rule.now key_of
         → position (λ v. is_view id (view_value v)) views.old.items ≡ Some place

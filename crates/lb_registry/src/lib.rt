@@ -5,6 +5,7 @@
 mod change;
 pub mod health;
 pub mod keys;
+pub mod laws;
 mod numbering;
 pub mod registry;
 mod table;

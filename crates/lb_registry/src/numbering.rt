@@ -41,7 +41,8 @@ fn numbered<K: HealthKey>(
 ) -> Result<Numbering<K>, Refusal>
     ensures ok { IfOk result (λ after. (all : List (List K)) → IsNumbered K.cmp all before.now.by_key.entries before.now.next
         → IsNumbered K.cmp (keys.now ∷ all) after.by_key.entries after.next) }
-    ensures stored { IfOk result (λ after. (all : List (List K)) (first : ℕ) → IsNumbered K.cmp all before.now.by_key.entries before.now.next
+    ensures stored { IfOk result (λ after. (all : List (List K)) (first : ℕ)
+        → IsNumbered K.cmp all before.now.by_key.entries before.now.next
         → AreStored K.cmp first start all cells.old.entries → AreStored K.cmp first start (keys.now ∷ all) cells.new.entries) }
     ensures others { (c : ℕ) → c < before.now.next → value_at nat_cmp cells.new.entries c ≡ value_at nat_cmp cells.old.entries c }
     ensures fits { IfOk result (λ after. after.next < 2 ^ 64) }
@@ -86,7 +87,8 @@ pub(crate) fn renumbered<K: HealthKey>(
 ) -> Result<Numbering<K>, Refusal>
     ensures ok { IfOk result (λ after. (all : List (List K)) → IsNumbered K.cmp all before.now.by_key.entries before.now.next
         → IsNumbered K.cmp (keys.now ∷ all) after.by_key.entries after.next) }
-    ensures stored { IfOk result (λ after. (all : List (List K)) (first : ℕ) → IsNumbered K.cmp all before.now.by_key.entries before.now.next
+    ensures stored { IfOk result (λ after. (all : List (List K)) (first : ℕ)
+        → IsNumbered K.cmp all before.now.by_key.entries before.now.next
         → AreStored K.cmp first start all cells.old.entries → AreStored K.cmp first start (keys.now ∷ all) cells.new.entries) }
     ensures others { (c : ℕ) → c < before.now.next → value_at nat_cmp cells.new.entries c ≡ value_at nat_cmp cells.old.entries c }
     ensures exhausted { (all : List (List K)) → IsNumbered K.cmp all before.now.by_key.entries before.now.next

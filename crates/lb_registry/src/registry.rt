@@ -1,11 +1,14 @@
 //! The registry of health: its views, and the cells that their targets share by health key.
 //! Contracts tell it by the history of its calls, newest first; a refused call leaves each history as it was, and applies no mark.
-ghost use Rattle.std.specs.Prelude.{◌≡◌, ◌≢◌, ◌↔◌, ◌⊎◌, ◌+◌, ◌<◌, ◌≤◌, ◌^◌, ℕ, List, [], ◌∷◌, length, true, false, IsTrue, IfOk, OnOk, OnErr, IsOk, IsErrOf, Err, ◌++◌, vec_len, vec_capacity};
+ghost use Rattle.std.specs.Prelude.{◌≡◌, ◌≢◌, ◌↔◌, ◌⊎◌, ◌+◌, ◌<◌, ◌≤◌, ◌^◌, ℕ, List, [], ◌∷◌, length, true, false, IsTrue, IfOk};
+ghost use Rattle.std.specs.Prelude.{OnOk, OnErr, IsOk, IsErrOf, Err, ◌++◌, vec_len, vec_capacity};
 ghost use Rattle.std.specs.List.{filter_map};
 ghost use Rattle.lb_select.specs.Backends.{Member, member_cmp};
 ghost use Rattle.lb_registry.specs.Keys.{by_identity, by_address, IsRuleOf};
 ghost use Rattle.lb_registry.specs.Registry.{IsRegistryAfter, target_at, targets_after, IsGrowthRefusal, IsUpdateRefusal};
-ghost use Rattle.lb_registry.specs.RegistryEvents.{Event, Registered, Applied, Updated, Marked, Observed, Released, Configured, has_view, registered_after, views_after, after_update, after_show, shown_cells, cells_given, cell_events, cell_health, IsCellKept};
+ghost use Rattle.lb_registry.specs.RegistryEvents.{Event, Registered, Applied, Updated, Marked, Observed, Released, Configured};
+ghost use Rattle.lb_registry.specs.RegistryEvents.{has_view, registered_after, views_after, after_update, after_show};
+ghost use Rattle.lb_registry.specs.RegistryEvents.{shown_cells, cells_given, cell_events, cell_health, IsCellKept};
 ghost use Rattle.lb_registry.specs.Table.{table_value, IsTableAfter};
 ghost use Rattle.lb_registry.specs.Targets.{target_keys};
 ghost use Rattle.lb_registry.specs.Verdicts.{Verdict};
@@ -39,7 +42,12 @@ impl<R> Model for Registry<R> {
 
     ghost Value = { RegistryValue R };
 
-    ghost view = { λ r. record { rule = r.rule; views = map view_value r.views.items; registered = r.registered; table = table_value r.table } };
+    ghost view = { λ r. record {
+      rule = r.rule;
+      views = map view_value r.views.items;
+      registered = r.registered;
+      table = table_value r.table;
+    } };
 }
 
 /// The registry of health: keyed by identity, by address, or by a caller's rule.
@@ -100,7 +108,8 @@ impl<R: KeyRule + Drop> Registry<R> {
     pub fn register_view(&mut self, alloc: Global) -> Result<u64, Refusal>
         ensures ok { OnOk result ((key_of : Member → Member) (events : List Event) → IsRegistryAfter R.gives key_of events self.old
             → IsRegistryAfter R.gives key_of (Applied ∷ Registered ∷ events) self.new) }
-        ensures number { IfOk result (λ id. (key_of : Member → Member) (events : List Event) → IsRegistryAfter R.gives key_of events self.old
+        ensures number { IfOk result (λ id. (key_of : Member → Member) (events : List Event)
+            → IsRegistryAfter R.gives key_of events self.old
             → id ≡ registered_after events + 1) }
         ensures err { OnErr result ((key_of : Member → Member) (events : List Event) → IsRegistryAfter R.gives key_of events self.old
             → IsRegistryAfter R.gives key_of events self.new) }
@@ -187,7 +196,8 @@ impl<R: KeyRule + Drop> Registry<R> {
     ) -> Result<BTreeMap<Backend, u64>, Refusal>
         ensures ok { OnOk result ((key_of : Member → Member) (events : List Event) → IsRegistryAfter R.gives key_of events self.old
             → IsRegistryAfter R.gives key_of (after_show id generation members.keys events) self.new) }
-        ensures cells { IfOk result (λ cells. (key_of : Member → Member) (events : List Event) → IsRegistryAfter R.gives key_of events self.old
+        ensures cells { IfOk result (λ cells. (key_of : Member → Member) (events : List Event)
+            → IsRegistryAfter R.gives key_of events self.old
             → cells.entries ≡ shown_cells key_of id members.keys events) }
         ensures err { OnErr result ((key_of : Member → Member) (events : List Event) → IsRegistryAfter R.gives key_of events self.old
             → IsRegistryAfter R.gives key_of events self.new) }
@@ -245,7 +255,8 @@ impl<R: KeyRule + Drop> Registry<R> {
     pub fn observe(&mut self, cell: u64, verdict: bool, threshold: usize) -> Result<bool, Refusal>
         ensures after { OnOk result ((key_of : Member → Member) (events : List Event) → IsRegistryAfter R.gives key_of events self.old
             → IsRegistryAfter R.gives key_of (Observed cell (record { ok = verdict; threshold = threshold }) ∷ events) self.new) }
-        ensures flipped { IfOk result (λ flipped. (key_of : Member → Member) (events : List Event) → IsRegistryAfter R.gives key_of events self.old
+        ensures flipped { IfOk result (λ flipped. (key_of : Member → Member) (events : List Event)
+            → IsRegistryAfter R.gives key_of events self.old
             → (IsTrue flipped ↔ (cell_health key_of cell (Observed cell (record { ok = verdict; threshold = threshold }) ∷ events)
             ≢ cell_health key_of cell events))) }
         ensures kept { (key_of : Member → Member) (events : List Event) → IsRegistryAfter R.gives key_of events self.old
@@ -271,7 +282,8 @@ impl<R: KeyRule + Drop> Registry<R> {
     pub fn target_count(&mut self, alloc: Global) -> Result<usize, Refusal>
         ensures ok { OnOk result ((key_of : Member → Member) (events : List Event) → IsRegistryAfter R.gives key_of events self.old
             → IsRegistryAfter R.gives key_of (Applied ∷ events) self.new) }
-        ensures count { IfOk result (λ count. (key_of : Member → Member) (events : List Event) → IsRegistryAfter R.gives key_of events self.old
+        ensures count { IfOk result (λ count. (key_of : Member → Member) (events : List Event)
+            → IsRegistryAfter R.gives key_of events self.old
             → count ≡ length (target_keys key_of (views_after (Applied ∷ events)))) }
         ensures err { OnErr result ((key_of : Member → Member) (events : List Event) → IsRegistryAfter R.gives key_of events self.old
             → IsRegistryAfter R.gives key_of events self.new) }
@@ -292,7 +304,8 @@ impl<R: KeyRule + Drop> Registry<R> {
     pub fn targets(&mut self, alloc: Global) -> Result<Vec<Target>, Refusal>
         ensures ok { OnOk result ((key_of : Member → Member) (events : List Event) → IsRegistryAfter R.gives key_of events self.old
             → IsRegistryAfter R.gives key_of (Applied ∷ events) self.new) }
-        ensures targets { IfOk result (λ targets. (key_of : Member → Member) (events : List Event) → IsRegistryAfter R.gives key_of events self.old
+        ensures targets { IfOk result (λ targets. (key_of : Member → Member) (events : List Event)
+            → IsRegistryAfter R.gives key_of events self.old
             → targets.items ≡ targets_after key_of (Applied ∷ events)) }
         ensures err { OnErr result ((key_of : Member → Member) (events : List Event) → IsRegistryAfter R.gives key_of events self.old
             → IsRegistryAfter R.gives key_of events self.new) }

@@ -1,9 +1,11 @@
 //! The table of cells: the health of each cell that is kept, the numbers of the targets' cells, and the live snapshots that
 //! keep cells of targets that are gone.
-ghost use Rattle.std.specs.Prelude.{◌≡◌, ◌≢◌, ◌↔◌, ◌<◌, ◌≤◌, ◌^◌, ℕ, List, [], ◌∷◌, Bool, true, IsTrue, IfOk, OnOk, OnErr, IsOk, IsErrOf, IsSome, Err, MatchOption, map, vec_len, vec_capacity};
+ghost use Rattle.std.specs.Prelude.{◌≡◌, ◌≢◌, ◌↔◌, ◌<◌, ◌≤◌, ◌^◌, ℕ, List, [], ◌∷◌, Bool, true, IsTrue, IfOk, OnOk, OnErr, IsOk};
+ghost use Rattle.std.specs.Prelude.{IsErrOf, IsSome, Err, MatchOption, map, vec_len, vec_capacity};
 ghost use Rattle.std.specs.Ordering.{eq_by_cmp, nat_cmp};
 ghost use Rattle.std.specs.List.{list_any};
-ghost use Rattle.lb_registry.specs.CellEvents.{CellEvent, Changed, Observed, Held as HeldNow, Released, Configured, verdicts_of, start_of, health_of, given_after, IsKept};
+ghost use Rattle.lb_registry.specs.CellEvents.{CellEvent, Changed, Observed, Held as HeldNow, Released, Configured, verdicts_of};
+ghost use Rattle.lb_registry.specs.CellEvents.{start_of, health_of, given_after, IsKept};
 ghost use Rattle.lb_registry.specs.Internal.Changing.{IsStarted, is_cell, keeps_cell};
 ghost use Rattle.lb_registry.specs.Registry.{IsGrowthRefusal};
 ghost use Rattle.lb_registry.specs.Starts.{value_at};
@@ -132,7 +134,8 @@ impl<K: HealthKey> CellTable<K> {
         ensures flipped { IfOk result (λ flipped. (events : List (CellEvent K)) → IsTableAfter K.cmp events (table_value self.old)
             → (IsTrue flipped ↔ (health_of (eq_by_cmp K.cmp) cell (Observed cell (record { ok = verdict; threshold = threshold }) ∷ events)
             ≢ health_of (eq_by_cmp K.cmp) cell events))) }
-        ensures kept { (events : List (CellEvent K)) → IsTableAfter K.cmp events (table_value self.old) → (IsOk result ↔ IsKept K.cmp events cell) }
+        ensures kept { (events : List (CellEvent K)) → IsTableAfter K.cmp events (table_value self.old)
+            → (IsOk result ↔ IsKept K.cmp events cell) }
         ensures refused { OnErr result ((result ≡ Err Refusal.NoSuch) × (self.new ≡ self.old)) }
     {
         let Some(mut health) = self.kept(cell) else {
@@ -169,11 +172,13 @@ impl<K: HealthKey> CellTable<K> {
         second: &[K],
     ) -> Result<Numbering<K>, Refusal>
         ensures ok { IfOk result (λ after. (events : List (CellEvent K)) → IsTableAfter K.cmp events (table_value self.old)
-            → IsStarted K.cmp events (Changed second.now ∷ Changed first.now ∷ events) (table_value self.new) after.by_key.entries after.next) }
+            → IsStarted K.cmp events (Changed second.now ∷ Changed first.now ∷ events) (table_value self.new)
+            after.by_key.entries after.next) }
         ensures err { OnErr result ((events : List (CellEvent K)) → IsTableAfter K.cmp events (table_value self.old)
             → IsTableAfter K.cmp events (table_value self.new)) }
         ensures exhausted { (events : List (CellEvent K)) → IsTableAfter K.cmp events (table_value self.old)
-            → IsErrOf result Refusal.NumbersExhausted → 2 ^ 64 ≤ given_after (eq_by_cmp K.cmp) (Changed second.now ∷ Changed first.now ∷ events) }
+            → IsErrOf result Refusal.NumbersExhausted
+            → 2 ^ 64 ≤ given_after (eq_by_cmp K.cmp) (Changed second.now ∷ Changed first.now ∷ events) }
         ensures refused { OnErr result (IsGrowthRefusal result) }
         ensures held { self.new.held ≡ self.old.held }
     {
@@ -224,7 +229,8 @@ impl<K: HealthKey> CellTable<K> {
         let held = &self.held;
         self.cells.retain(
             |cell, stored|
-                ensures value { result ≡ keeps_cell K.cmp numbering.entry.now.by_key.entries (map hold_of held.entry.now.items) cell.now stored.old.key }
+                ensures value { result ≡ keeps_cell K.cmp numbering.entry.now.by_key.entries (map hold_of held.entry.now.items)
+                    cell.now stored.old.key }
                 ensures same { stored.new ≡ stored.old }
                 ensures numbering_stays { numbering.exit ≡ numbering.entry }
                 ensures held_stays { held.exit ≡ held.entry }

@@ -1,0 +1,41 @@
+//! Laws of the registry's definitions, for every history: each is what its function ensures.
+//! There is no code here.
+ghost use Rattle.std.specs.Prelude.{◌≡◌, ◌≢◌, ◌≤◌, ℕ, List, ◌∷◌, length, true, false, Some};
+ghost use Rattle.lb_select.specs.Backends.{Member, same_member};
+ghost use Rattle.lb_registry.specs.Registry.{IsRegistryAfter, targets_after};
+ghost use Rattle.lb_registry.specs.RegistryEvents.{Event, Applied, Observed, views_after, cell_health};
+ghost use Rattle.lb_registry.specs.Starts.{is_target, starts, cell_now};
+ghost use Rattle.lb_registry.specs.Targets.{target_keys};
+ghost use Rattle.lb_registry.specs.Verdicts.{Verdict};
+
+use crate::keys::KeyRule;
+use crate::registry::Registry;
+
+/// A law: verdicts for different cells leave the same registry and the same health of each cell, in either order.
+pub fn verdicts_commute<R: KeyRule>(registry: &Registry<R>)
+    ensures state { (key_of : Member → Member) (events : List Event) (c d : ℕ) (v w : Verdict) → c ≢ d
+        → IsRegistryAfter R.gives key_of (Observed c v ∷ Observed d w ∷ events) registry.now
+        → IsRegistryAfter R.gives key_of (Observed d w ∷ Observed c v ∷ events) registry.now }
+    ensures health { (key_of : Member → Member) (events : List Event) (c d e : ℕ) (v w : Verdict) → c ≢ d
+        → cell_health key_of e (Observed c v ∷ Observed d w ∷ events) ≡ cell_health key_of e (Observed d w ∷ Observed c v ∷ events) }
+{}
+
+/// A law: a key that stays a target keeps its cell.
+pub fn targets_keep_their_cells()
+    ensures { (all : List (List Member)) (keys : List Member) (k : Member)
+        → is_target same_member all k ≡ true → is_target same_member (keys ∷ all) k ≡ true
+        → cell_now same_member (keys ∷ all) k ≡ cell_now same_member all k }
+{}
+
+/// A law: a number is never used again. A key that becomes a target gets one past all that were given.
+pub fn numbers_are_never_used_again()
+    ensures { (all : List (List Member)) (keys : List Member) (k : Member) (c : ℕ)
+        → is_target same_member all k ≡ false → cell_now same_member (keys ∷ all) k ≡ Some c
+        → length (starts same_member all) ≤ c }
+{}
+
+/// A law: each target has a cell, so that the list of targets leaves none out.
+pub fn targets_have_cells()
+    ensures { (key_of : Member → Member) (events : List Event)
+        → length (targets_after key_of (Applied ∷ events)) ≡ length (target_keys key_of (views_after (Applied ∷ events))) }
+{}
