@@ -14,7 +14,7 @@ use Rattle.std.specs.Cmp.Rules.{comparing}
 use Rattle.std.specs.List.{list_any, flat_map}
 use Rattle.lb_select.specs.Backends.{Member, member_cmp, same_member}
 use Rattle.lb_select.specs.Unique.{distinct}
-use Rattle.lb_select.proofs.Laws.{distinct-append}
+use Rattle.lb_select.proofs.SelectionLaws.{distinct-append}
 use Rattle.lb_registry.specs.declared.targets.Gathered.{Gathered}
 use Rattle.lb_registry.specs.Internal.Gathering.{Gathers, IsGathering}
 use Rattle.lb_registry.specs.Targets.{ViewValue, live, place_cmp, Candidate, same_key, candidates_of, candidates, in_order}
