@@ -54,11 +54,17 @@ fn views_share_a_cell_by_address(rt: HostRuntime) -> Result<(), Fail> {
     assert_eq!(rt; registry.register_view(alloc)?, 2);
     registry.update_view(alloc, 1, set_of(alloc, &[("1.0.0.1:80", 1)])?)?;
     registry.update_view(alloc, 2, set_of(alloc, &[("1.0.0.1:80", 2)])?)?;
-    assert_eq!(rt; targets_text(alloc, &mut registry)?.as_str(), "1.0.0.1:80/1=0:ok ");
+    assert_eq!(rt;
+        targets_text(alloc, &mut registry)?.as_str(),
+        "1.0.0.1:80/1=0:ok "
+    );
     assert_eq!(rt; registry.target_count(alloc)?, 1);
     assert!(rt; registry.observe(0, false, 1)?);
     registry.remove_view(1);
-    assert_eq!(rt; targets_text(alloc, &mut registry)?.as_str(), "1.0.0.1:80/2=0:bad ");
+    assert_eq!(rt;
+        targets_text(alloc, &mut registry)?.as_str(),
+        "1.0.0.1:80/2=0:bad "
+    );
     registry.remove_view(2);
     assert_eq!(rt; targets_text(alloc, &mut registry)?.as_str(), "");
     assert!(rt; matches!(registry.observe(0, true, 1), Err(Refusal::NoSuch)));
@@ -100,6 +106,9 @@ fn cells_start_unhealthy(rt: HostRuntime) -> Result<(), Fail> {
     registry.release(id, 1);
     assert!(rt; !registry.cell_ready(0));
     registry.show_view(alloc, id, 3, set_of(alloc, &[("1.0.0.1:80", 1)])?)?;
-    assert_eq!(rt; targets_text(alloc, &mut registry)?.as_str(), "1.0.0.1:80/1=1:bad ");
+    assert_eq!(rt;
+        targets_text(alloc, &mut registry)?.as_str(),
+        "1.0.0.1:80/1=1:bad "
+    );
     Ok(())
 }
