@@ -1,5 +1,5 @@
 //! Health of a cell, and the registry's calls, by worked values from outside.
-use crate::made::set_of;
+use crate::fixtures::set_of;
 use lb_registry::health::Health;
 use lb_registry::registry::RegistryCore;
 use lb_select::refusal::Refusal;
