@@ -7,15 +7,9 @@ mod destruction;
 #[cfg(test)]
 mod fixtures;
 #[cfg(test)]
-mod groups;
-#[cfg(test)]
-mod health;
-#[cfg(test)]
 mod list_iterator;
 #[cfg(test)]
 mod noting;
-#[cfg(test)]
-mod registry;
 #[cfg(test)]
 mod ring;
 #[cfg(test)]
