@@ -1,5 +1,6 @@
 pub mod Head
 pub mod Parts
+pub mod Ports
 pub mod Framing
 pub mod Body
 pub mod Chunked

@@ -79,7 +79,17 @@ impl<N> HttpHealthCheck<N> {
 
 impl<N, V, O, S: Drop> HttpHealthCheck<N, V, O, S> {
     /// The same check with that summary.
-    pub fn set_backend_summary<T: BackendSummary>(self, summary: T) -> HttpHealthCheck<N, V, O, T> {
+    pub fn set_backend_summary<T: BackendSummary>(self, summary: T) -> HttpHealthCheck<N, V, O, T>
+        ensures summary { result.backend_summary_callback ≡ summary }
+        ensures validator { result.validator ≡ self.validator }
+        ensures observer { result.health_changed_callback ≡ self.health_changed_callback }
+        ensures asks { result.req ≡ self.req }
+        ensures limit { result.max_body_bytes ≡ self.max_body_bytes }
+        ensures port { result.port_override ≡ self.port_override }
+        ensures peer { result.peer_template ≡ self.peer_template }
+        ensures success { result.consecutive_success ≡ self.consecutive_success }
+        ensures failure { result.consecutive_failure ≡ self.consecutive_failure }
+    {
         let HttpHealthCheck {
             net,
             consecutive_success,
@@ -102,6 +112,51 @@ impl<N, V, O, S: Drop> HttpHealthCheck<N, V, O, S> {
             max_body_bytes,
             port_override,
             health_changed_callback,
+            backend_summary_callback: summary,
+        }
+    }
+}
+
+impl<N, V: Drop, O: Drop, S: Drop> HttpHealthCheck<N, V, O, S> {
+    /// The same check with that validator, observer and summary in place of its own.
+    pub fn with_callbacks<W: Validate, P: HealthObserve, T: BackendSummary>(
+        self,
+        validator: Option<W>,
+        observer: Option<P>,
+        summary: T,
+    ) -> HttpHealthCheck<N, W, P, T>
+        ensures validator { result.validator ≡ validator }
+        ensures observer { result.health_changed_callback ≡ observer }
+        ensures summary { result.backend_summary_callback ≡ summary }
+        ensures asks { result.req ≡ self.req }
+        ensures limit { result.max_body_bytes ≡ self.max_body_bytes }
+        ensures port { result.port_override ≡ self.port_override }
+        ensures peer { result.peer_template ≡ self.peer_template }
+        ensures success { result.consecutive_success ≡ self.consecutive_success }
+        ensures failure { result.consecutive_failure ≡ self.consecutive_failure }
+    {
+        let HttpHealthCheck {
+            net,
+            consecutive_success,
+            consecutive_failure,
+            peer_template,
+            req,
+            validator: _,
+            max_body_bytes,
+            port_override,
+            health_changed_callback: _,
+            backend_summary_callback: _,
+        } = self;
+        HttpHealthCheck {
+            net,
+            consecutive_success,
+            consecutive_failure,
+            peer_template,
+            req,
+            validator,
+            max_body_bytes,
+            port_override,
+            health_changed_callback: observer,
             backend_summary_callback: summary,
         }
     }

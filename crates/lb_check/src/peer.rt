@@ -1,5 +1,9 @@
 //! How long a check waits for its peer, and connections to one.
 //! No name is looked up: a backend's address is where it is reached.
+ghost use Rattle.std.specs.Prelude.{◌≡◌, Some, None, ◌*◌, ◌^◌, ◌<◌, max, IfSome};
+ghost use Rattle.std.specs.Duration.{as_nanos};
+ghost use Rattle.lb_check.specs.Ports.{at_port};
+
 use lb_probe::error::CheckError;
 use lb_select::backend::InetAddr;
 use std::net::{Net, SocketAddr, TcpStream};
@@ -17,7 +21,9 @@ pub struct BasicPeer {
 
 impl BasicPeer {
     /// A limit of one second.
-    pub fn new() -> BasicPeer {
+    pub fn new() -> BasicPeer
+        ensures { result.connection_timeout ≡ Some SECOND }
+    {
         BasicPeer {
             connection_timeout: Some(SECOND),
         }
@@ -35,7 +41,11 @@ pub struct HttpPeer {
 
 impl HttpPeer {
     /// A limit of one second to connect and for each read, and none for writes.
-    pub fn new() -> HttpPeer {
+    pub fn new() -> HttpPeer
+        ensures connect { result.connection_timeout ≡ Some SECOND }
+        ensures read { result.read_timeout ≡ Some SECOND }
+        ensures write { result.write_timeout ≡ None }
+    {
         HttpPeer {
             connection_timeout: Some(SECOND),
             read_timeout: Some(SECOND),
@@ -45,14 +55,19 @@ impl HttpPeer {
 }
 
 /// A limit as std takes it.
-pub(crate) fn duration_of(limit: Option<u128>) -> Option<Duration> {
+pub(crate) fn duration_of(limit: Option<u128>) -> Option<Duration>
+    ensures none { limit ≡ None → result ≡ None }
+    ensures some { IfSome limit (λ nanos. nanos < 2 ^ 64 * SECOND → IfSome result (λ d. as_nanos d ≡ max nanos 1)) }
+{
     let nanos = limit?.max(1);
     let seconds = (nanos / SECOND).min(u64::MAX as u128) as u64;
     Some(Duration::new(seconds, (nanos % SECOND) as u32))
 }
 
 /// The address with that port, if one is given.
-pub(crate) fn with_port(addr: InetAddr, port: Option<u16>) -> InetAddr {
+pub(crate) fn with_port(addr: InetAddr, port: Option<u16>) -> InetAddr
+    ensures { result ≡ at_port addr port }
+{
     match (addr, port) {
         (InetAddr::V4(octets, _), Some(port)) => InetAddr::V4(octets, port),
         (InetAddr::V6(octets, _), Some(port)) => InetAddr::V6(octets, port),

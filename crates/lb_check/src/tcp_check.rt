@@ -1,5 +1,5 @@
 //! A check that connects and no more.
-ghost use Rattle.std.specs.Prelude.{◌≡◌, if◌then◌else◌};
+ghost use Rattle.std.specs.Prelude.{◌≡◌, Some, None, if◌then◌else◌};
 
 use crate::peer::{BasicPeer, connect, connect_unix};
 use lb_probe::error::CheckError;
@@ -28,7 +28,11 @@ pub struct TcpHealthCheck<N, O = HealthObserveCallback, S = IdentitySummary> {
 
 impl<N> TcpHealthCheck<N> {
     /// A check over that network: thresholds of 1, a second to connect.
-    pub fn new(net: N) -> TcpHealthCheck<N> {
+    pub fn new(net: N) -> TcpHealthCheck<N>
+        ensures thresholds { (result.consecutive_success ≡ 1) × (result.consecutive_failure ≡ 1) }
+        ensures limit { result.peer_template.connection_timeout ≡ Some 1000000000 }
+        ensures silent { result.health_changed_callback ≡ None }
+    {
         TcpHealthCheck {
             net,
             consecutive_success: 1,
@@ -36,6 +40,37 @@ impl<N> TcpHealthCheck<N> {
             peer_template: BasicPeer::new(),
             health_changed_callback: None,
             summary: IdentitySummary,
+        }
+    }
+}
+
+impl<N, O: Drop, S: Drop> TcpHealthCheck<N, O, S> {
+    /// The same check with that observer and summary in place of its own.
+    pub fn with_callbacks<P: HealthObserve, T: BackendSummary>(
+        self,
+        observer: Option<P>,
+        summary: T,
+    ) -> TcpHealthCheck<N, P, T>
+        ensures observer { result.health_changed_callback ≡ observer }
+        ensures peer { result.peer_template ≡ self.peer_template }
+        ensures success { result.consecutive_success ≡ self.consecutive_success }
+        ensures failure { result.consecutive_failure ≡ self.consecutive_failure }
+    {
+        let TcpHealthCheck {
+            net,
+            consecutive_success,
+            consecutive_failure,
+            peer_template,
+            health_changed_callback: _,
+            summary: _,
+        } = self;
+        TcpHealthCheck {
+            net,
+            consecutive_success,
+            consecutive_failure,
+            peer_template,
+            health_changed_callback: observer,
+            summary,
         }
     }
 }

@@ -10,11 +10,14 @@ mod streams;
 use http::Method;
 use large::{blank_lines, head_of_size};
 use lb_probe::error::CheckError;
-use loopback::{Serves, told_of, told_of_nobody};
+use loopback::{
+    Serves, told_of, told_of_nobody, told_of_override, told_of_silence, told_of_unix,
+    told_of_unread,
+};
 use row::{Row, agrees};
 use std::net::{Net, TcpListener, TcpStream};
 use std::process::ExitCode;
-use std::rt::Files;
+use std::rt::{Clock, Files};
 use std::thread::Threads;
 use std::{fs, io};
 use streams::{cut_everywhere, failing_reads, failing_writes};
@@ -142,10 +145,10 @@ fn made_rows<R: Files + Print + AllocGlobal>(rt: &R) -> io::Result<bool> {
     Ok(all)
 }
 
-// Reports the checks of servers on the own loopback; the answer is whether all of them agreed.
+// Reports the checks of servers on the own loopback that answer; the answer is whether all of them agreed.
 fn served_rows<R>(rt: &R) -> io::Result<bool>
 where
-    R: Net<Listener = TcpListener, Stream = TcpStream> + Threads + Print + AllocGlobal,
+    R: Net<Listener = TcpListener, Stream = TcpStream> + Threads + Files + Print + AllocGlobal,
 {
     let answer = b"HTTP/1.1 200 OK\r\nContent-Length: 2\r\n\r\nok";
     let cut = &answer[..answer.len() - 1];
@@ -155,8 +158,23 @@ where
     all &= report(rt, "a served answer, byte by byte", slow)?;
     let ended = told_of(rt, Serves::Answer(cut))? == Err(CheckError::EndInMessage);
     all &= report(rt, "a server that closes in the body", ended)?;
-    let silent = told_of(rt, Serves::Silence)? == Err(CheckError::Read);
-    all &= report(rt, "a server that says nothing", silent)?;
+    let elsewhere = told_of_override(rt, Serves::Answer(answer))? == Ok(());
+    all &= report(rt, "a server at another port", elsewhere)?;
+    let by_path = told_of_unix(rt, Serves::Answer(answer))?
+        == [Err(CheckError::Connect), Ok(()), Ok(())];
+    all &= report(rt, "a server behind a Unix socket", by_path)?;
+    Ok(all)
+}
+
+// Reports the checks of servers on the own loopback that don't answer; the answer is whether all of them agreed.
+fn unserved_rows<R>(rt: &R) -> io::Result<bool>
+where
+    R: Net<Listener = TcpListener, Stream = TcpStream> + Threads + Clock + Print + AllocGlobal,
+{
+    let silent = told_of_silence(rt)? == (Err(CheckError::Read), true);
+    let mut all = report(rt, "a server that says nothing", silent)?;
+    let unread = told_of_unread(rt)? == (Err(CheckError::Write), true);
+    all &= report(rt, "a server that reads nothing", unread)?;
     let refused = told_of_nobody(rt)? == [Err(CheckError::Connect), Err(CheckError::Connect)];
     all &= report(rt, "a closed port", refused)?;
     Ok(all)
@@ -165,12 +183,14 @@ where
 // Reports every row; the answer is whether all of them agreed.
 fn rows<R>(rt: &R) -> io::Result<bool>
 where
-    R: Net<Listener = TcpListener, Stream = TcpStream> + Threads + Files + Print + AllocGlobal,
+    R: Net<Listener = TcpListener, Stream = TcpStream>,
+    R: Threads + Clock + Files + Print + AllocGlobal,
 {
     let filed = filed_rows(rt)?;
     let made = made_rows(rt)?;
     let served = served_rows(rt)?;
-    Ok(filed && made && served)
+    let unserved = unserved_rows(rt)?;
+    Ok(filed && made && served && unserved)
 }
 
 fn main(rt: HostRuntime) -> ExitCode {
