@@ -50,7 +50,8 @@ impl<S: BackendSelection> Model for GroupCore<S> {
 
     ghost use Rattle.lb_rebuild.specs.Kept.{slot_view, AllKept};
 
-    ghost view = { λ g. record { gate = g.gate.value.id; newest = g.newest; current = (arc_value g.current).keys; slots = map slot_view g.slots.items } };
+    ghost view = { λ g. record { gate = g.gate.value.id; newest = g.newest; current = (arc_value g.current).keys;
+        slots = map slot_view g.slots.items } };
 
     ghost invariant = { λ g. AllKept g.gate.value.id g.newest g.slots.items };
 }
@@ -219,7 +220,8 @@ impl<S: BackendSelection> GroupCore<S> {
     /// Gives an entry back to its slot.
     pub fn leave(&mut self, reader: Reader<S>)
         requires { IsSomeAnd (slice_get self.old.slots reader.slot) (λ x. 0 < readers_at x reader.generation) }
-        ensures { IsSomeAnd (slice_get self.old.slots reader.slot) (λ x. self.new ≡ with_slot self.old reader.slot (left_slot reader.generation x)) }
+        ensures { IsSomeAnd (slice_get self.old.slots reader.slot)
+            (λ x. self.new ≡ with_slot self.old reader.slot (left_slot reader.generation x)) }
     {
         let Reader {
             slot,
