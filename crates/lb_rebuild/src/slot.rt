@@ -3,6 +3,7 @@
 ghost use Rattle.std.specs.Prelude.{◌≡◌, Bool, true, [], ◌+◌, ◌<◌, ◌⊎◌, ℕ, IfOk, IfErr, OnErr};
 ghost use Rattle.std.specs.Arc.{arc_value};
 ghost use Rattle.std.specs.Fn.{FnReturnsAt};
+ghost use Rattle.lb_select.specs.Refusals.{Refuses};
 ghost use Rattle.lb_select.specs.Backends.{Member, same_member};
 ghost use Rattle.lb_select.specs.Selections.{Selects};
 ghost use Rattle.lb_rebuild.specs.Gate.{GateId};
@@ -145,7 +146,7 @@ impl<S: BackendSelection> Slot<S> {
         backends: &BTreeSet<Backend>,
         config: S::Config,
     ) -> Result<Slot<S>, Refusal>
-        ensures { IfOk result (λ x. (backends.now.keys ≡ []) → IsFresh config x) }
+        ensures { Refuses (S.refusal backends.now.keys config) (λ x. (backends.now.keys ≡ []) → IsFresh config x) result }
     {
         let selector = S::build_with_config(alloc, backends, &config)?;
         Ok(Slot {

@@ -41,6 +41,10 @@ abbrev pub no_such : Bool → Option Refusal
 no_such true = None
 no_such false = Some refusal.NoSuch
 
+-- a refusal is for this cause, or for memory where there is none
+abbrev pub IsFor : Option Refusal → Refusal → Type 0
+IsFor cause e = (cause ≡ Some e) ⊎ ((cause ≡ None) × (e ≡ refusal.OutOfMemory))
+
 -- a changed membership after the last generation is refused
 abbrev pub update_answer : ℕ → Bool → Answer
 update_answer n true = answer.Same n
