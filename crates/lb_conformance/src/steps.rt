@@ -1,8 +1,8 @@
 //! Rows as lists of steps: a world that takes them in one run answers them as the script is answered.
 //! Lines are read by the script's own parser; a line that ends its script is no step.
 use crate::outcome::Outcome;
-use lb_script::parse::parse;
-use lb_script::texts::push_answer;
+use lb_step_text::parse::parse;
+use lb_step_text::texts::push_answer;
 use pingora_load_balancing::world::{Chosen, World};
 use std::alloc::Global;
 use std::io;

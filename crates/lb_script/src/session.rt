@@ -3,21 +3,21 @@
 ghost use Rattle.std.specs.Prelude.{◌≡◌, ◌≢◌, [], Err, true};
 ghost use Rattle.std.specs.Io.KnownBytes.{Keeps, prepend_known};
 ghost use Rattle.lb_world.specs.History.{History};
-ghost use Rattle.lb_world.specs.Meanings.{meaning};
+ghost use Rattle.lb_world.specs.Meanings.{meaning_of};
 ghost use Rattle.lb_world.specs.Steps.{step_seen};
 ghost use Rattle.lb_counted.specs.Counted.{inner_of, has_failed};
 ghost use Rattle.lb_counted.specs.Stream.{OnBytes};
 ghost use Rattle.lb_script.specs.Output.{makes_registry, made_registry};
 ghost use Rattle.lb_script.specs.Session.{Holds, AnswersLine, TakesTurn};
 
-use crate::error::ScriptError;
-use crate::lines::{LineRead, read_line};
-use crate::parse::parse;
-use crate::read_ahead::ReadAhead;
-use crate::texts::push_answer;
 use lb_counted::counted::Counted;
 use lb_kinds::kinds::Kind;
+use lb_lines::lines::{LineRead, read_line};
+use lb_lines::read_ahead::ReadAhead;
 use lb_select::walk::BackendSelection;
+use lb_step_text::error::ScriptError;
+use lb_step_text::parse::parse;
+use lb_step_text::texts::push_answer;
 use lb_world::answer::Answer;
 use lb_world::step::Step;
 use lb_world::world::World;
@@ -52,7 +52,7 @@ pub(crate) struct Session<S: BackendSelection> {
 impl<S: BackendSelection<Config = Kind>> Session<S> {
     /// A run that has read nothing.
     pub(crate) fn new(alloc: Global) -> Session<S>
-        ensures holds { Holds (meaning S.walks S.refusal S.may_draw_random) result.world result.has_registry [] }
+        ensures holds { Holds (meaning_of S.BackendSelection) result.world result.has_registry [] }
         ensures ahead { result.ahead ≡ [] }
     {
         Session {
@@ -71,7 +71,7 @@ impl<S: BackendSelection<Config = Kind>> Session<S> {
         reader: &mut Counted<R>,
         writer: &mut Counted<W>,
     ) -> Turn
-        ensures turn { let M = meaning S.walks S.refusal S.may_draw_random in
+        ensures turn { let M = meaning_of S.BackendSelection in
             (h : History Kind) → Holds M self.old.world self.old.has_registry h
             → OnBytes (prepend_known self.old.ahead (R.remaining (inner_of reader.old)))
             (prepend_known self.new.ahead (R.remaining (inner_of reader.new)))
@@ -102,7 +102,7 @@ impl<S: BackendSelection<Config = Kind>> Session<S> {
 
     // Takes the step that the line asks for, and makes the text that of its answer and a line feed.
     fn answer(&mut self, alloc: Global) -> Result<(), ScriptError>
-        ensures line { let M = meaning S.walks S.refusal S.may_draw_random in
+        ensures line { let M = meaning_of S.BackendSelection in
             (h : History Kind) → Holds M self.old.world self.old.has_registry h
             → AnswersLine M h self.old.line.items self.new.world self.new.has_registry (self.new.text.items) result }
         ensures own { result ≢ Err ScriptError.Read }

@@ -1,0 +1,4 @@
+pub mod Numbers
+pub mod StepLines
+pub mod Texts
+pub mod Words
