@@ -1,15 +1,13 @@
 //! Numbers as a script spells them: decimal digits, with no 0 before others.
 //! So a number has one spelling, which is how it is printed.
 ghost use Rattle.std.specs.Prelude.{◌≡◌, ◌^◌};
-ghost use Rattle.std.specs.Char.{is_ascii_digit};
-ghost use Rattle.std.specs.List.{list_all};
-ghost use Rattle.lb_step_text.specs.Numbers.{is_number_text, number_of};
+ghost use Rattle.lb_step_text.specs.Numbers.{has_plain_front, number_of};
 
 /// The number below 2^64 that the word spells, if it spells one.
 pub fn number(word: &str) -> Option<u64>
     ensures { result ≡ number_of (2 ^ 64) word.now }
 {
-    if is_spelled(word.as_bytes()) {
+    if has_plain_front(word.as_bytes()) {
         word.parse::<u64>().ok()
     } else {
         None
@@ -20,25 +18,19 @@ pub fn number(word: &str) -> Option<u64>
 pub fn wide_number(word: &str) -> Option<u128>
     ensures { result ≡ number_of (2 ^ 128) word.now }
 {
-    if is_spelled(word.as_bytes()) {
+    if has_plain_front(word.as_bytes()) {
         word.parse::<u128>().ok()
     } else {
         None
     }
 }
 
-// Whether the word is one digit or more, with no 0 before others.
-fn is_spelled(word: &[u8]) -> bool
-    ensures { result ≡ is_number_text word.now }
+// Whether the word has no sign, and no 0 before others. That all of it is digits is left to `parse`.
+fn has_plain_front(word: &[u8]) -> bool
+    ensures { result ≡ has_plain_front word.now }
 {
     match word {
-        [] | [b'0', _, ..] => false,
-        _ => all_digits(word),
+        [b'+', ..] | [b'0', _, ..] => false,
+        _ => true,
     }
-}
-
-fn all_digits(bytes: &[u8]) -> bool
-    ensures { result ≡ list_all is_ascii_digit bytes.now }
-{
-    bytes.iter().all(|byte| byte.is_ascii_digit())
 }
