@@ -14,7 +14,7 @@ pub(crate) fn run_agrees(alloc: Global, script: &[u8], wanted: &Outcome<'_>) -> 
     let mut steps = Vec::with_capacity(alloc, count)?;
     for line in script.split(|byte| *byte == b'\n').take(count) {
         match parse(alloc, line) {
-            Ok(step) => steps.push(step)?,
+            Ok(step) => steps.push(step.into_step(alloc)?)?,
             Err(_) => return Ok(false),
         }
     }

@@ -1,3 +1,4 @@
+pub mod LineSteps
 pub mod Numbers
 pub mod StepLines
 pub mod Texts

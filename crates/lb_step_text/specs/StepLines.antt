@@ -130,12 +130,16 @@ plain_step_of first words =
     if bytes_eq first (codes "registry") then registry_of words else
     if bytes_eq first (codes "gate") then gate_of words else None
 
+-- a step that isn't a selection, by its first word
+abbrev pub other_step_of : List ℕ → List (List ℕ) → Option (StepView Kind)
+other_step_of first words =
+    if bytes_eq first (codes "update") then update_of words else
+    if bytes_eq first (codes "group") then group_of words else plain_step_of first words
+
 abbrev pub step_of_words : List (List ℕ) → Option (StepView Kind)
 step_of_words [] = None
 step_of_words (first ∷ words) =
-    if bytes_eq first (codes "select") then select_of words else
-    if bytes_eq first (codes "update") then update_of words else
-    if bytes_eq first (codes "group") then group_of words else plain_step_of first words
+    if bytes_eq first (codes "select") then select_of words else other_step_of first words
 
 -- the step that a line asks for; none where it is none that a script may have
 abbrev pub step_of : List ℕ → Option (StepView Kind)

@@ -1,9 +1,10 @@
 //! The step that a line of a script asks for.
 //! A line's first word says which kind of step it is; the words after it are read without memory, but for lists and keys.
-ghost use Rattle.std.specs.Prelude.{◌≡◌, option_map};
+ghost use Rattle.std.specs.Prelude.{◌≡◌, option_map, IfOk};
 ghost use Rattle.lb_step_text.specs.StepLines.{Reads, both, selector_kind_of, slot_of, slot_moment_of, lone_of};
 ghost use Rattle.lb_step_text.specs.StepLines.{registry_of, gate_of, count, group_parts_of, group_of, update_of};
-ghost use Rattle.lb_step_text.specs.StepLines.{select_parts_of, select_of, plain_step_of, step_of_words, step_of};
+ghost use Rattle.lb_step_text.specs.StepLines.{select_parts_of, select_of, plain_step_of, other_step_of, step_of_words, step_of};
+ghost use Rattle.lb_step_text.specs.LineSteps.{line_step_seen};
 ghost use Rattle.lb_world.specs.Steps.{step_seen};
 
 use crate::backends::backends;
@@ -12,16 +13,53 @@ use crate::numbers::{number, wide_number};
 use crate::words::Words;
 use lb_kinds::kinds::Kind;
 use lb_world::step::{HealthKey, Step};
-use std::alloc::Global;
+use std::alloc::{AllocError, Global};
 use std::str;
 
 /// The most slots that a script may give a group.
 pub const SLOT_LIMIT: u64 = 1024;
 
+/// A step that a line asks for.
+#[derive(Drop)]
+pub enum LineStep<'a> {
+    /// A selection, with no random words handed in. Its key is lent from the line, so that it takes no memory.
+    Select {
+        group: u64,
+        slot: u64,
+        key: &'a [u8],
+        limit: u64,
+    },
+    /// Any other step.
+    Other(Step<Kind>),
+}
+
+impl<'a> LineStep<'a> {
+    /// The step by itself, apart from the line. Memory is taken for a key.
+    pub fn into_step(self, alloc: Global) -> Result<Step<Kind>, AllocError>
+        ensures { IfOk result (λ step. step_seen step ≡ line_step_seen self.entry) }
+    {
+        match self {
+            LineStep::Select {
+                group,
+                slot,
+                key,
+                limit,
+            } => Ok(Step::Select {
+                group,
+                slot,
+                key: Vec::from_slice(alloc, key)?,
+                limit,
+                words: Vec::new(alloc),
+            }),
+            LineStep::Other(step) => Ok(step),
+        }
+    }
+}
+
 /// The step that the line asks for, the line given without its line feed. A bad line where it asks for none; memory is
-/// taken where the step has a list or a key.
-pub fn parse(alloc: Global, line: &[u8]) -> Result<Step<Kind>, ScriptError>
-    ensures { Reads step_seen (step_of line.now) result }
+/// taken where the step has a list.
+pub fn parse(alloc: Global, line: &[u8]) -> Result<LineStep<'_>, ScriptError>
+    ensures { Reads line_step_seen (step_of line.now) result }
 {
     match str::from_utf8(line) {
         Ok(text) => step(alloc, Words::of(text)),
@@ -30,15 +68,25 @@ pub fn parse(alloc: Global, line: &[u8]) -> Result<Step<Kind>, ScriptError>
 }
 
 // The step that these words ask for.
-fn step(alloc: Global, mut words: Words<'_>) -> Result<Step<Kind>, ScriptError>
-    ensures { Reads step_seen (step_of_words words.entry) result }
+fn step<'a>(alloc: Global, mut words: Words<'a>) -> Result<LineStep<'a>, ScriptError>
+    ensures { Reads line_step_seen (step_of_words words.entry) result }
 {
     let Some(first) = words.next() else {
         return Err(ScriptError::BadLine);
     };
     if first == "select" {
-        return select(alloc, words);
+        return select(words).ok_or(ScriptError::BadLine);
     }
+    match other_step(alloc, first, words) {
+        Ok(step) => Ok(LineStep::Other(step)),
+        Err(error) => Err(error),
+    }
+}
+
+// A step that isn't a selection, by its first word.
+fn other_step(alloc: Global, first: &str, words: Words<'_>) -> Result<Step<Kind>, ScriptError>
+    ensures { Reads step_seen (other_step_of first.now words.entry) result }
+{
     if first == "update" {
         return update(alloc, words);
     }
@@ -210,19 +258,15 @@ fn update(alloc: Global, mut words: Words<'_>) -> Result<Step<Kind>, ScriptError
     })
 }
 
-fn select(alloc: Global, words: Words<'_>) -> Result<Step<Kind>, ScriptError>
-    ensures { Reads step_seen (select_of words.entry) result }
+fn select<'a>(words: Words<'a>) -> Option<LineStep<'a>>
+    ensures { option_map line_step_seen result ≡ select_of words.entry }
 {
-    let Some(((group, slot), (key, limit))) = select_parts(words) else {
-        return Err(ScriptError::BadLine);
-    };
-    let key = Vec::from_slice(alloc, key.as_bytes())?;
-    Ok(Step::Select {
+    let ((group, slot), (key, limit)) = select_parts(words)?;
+    Some(LineStep::Select {
         group,
         slot,
-        key,
+        key: key.as_bytes(),
         limit,
-        words: Vec::new(alloc),
     })
 }
 
