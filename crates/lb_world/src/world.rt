@@ -115,7 +115,7 @@ impl<S: BackendSelection> World<S> {
                 key,
                 limit,
                 words,
-            } => self.select(group, slot, key, limit, words),
+            } => self.select(group, slot, &key, limit, &words),
         }
     }
 
