@@ -165,9 +165,8 @@ impl Walk {
 /// The backends of a weight above 0, by their load for each unit of weight.
 fn by_load(backends: &[Backend], loads: &BTreeMap<Backend, u64>) -> Vec<usize> {
     let weighed = backends.iter().enumerate().filter(|(_, backend)| backend.weight > 0);
-    let mut read: Vec<(usize, u64, u64)> = weighed
-        .map(|(index, backend)| (index, backend.weight, loads.get(backend).copied().unwrap_or(0)))
-        .collect();
+    let mut read: Vec<(usize, u64, u64)> =
+        weighed.map(|(index, backend)| (index, backend.weight, loads.get(backend).copied().unwrap_or(0))).collect();
     read.sort_unstable_by(|(index, weight, load), (other, other_weight, other_load)| {
         let this = u128::from(*load) * u128::from(*other_weight);
         this.cmp(&(u128::from(*other_load) * u128::from(*weight))).then(index.cmp(other))
