@@ -1,12 +1,12 @@
 -- A pass of checks: the cells of its targets are kept all the while.
-use Rattle.std.proofs.Common.{◌≡◌, ◌⊎◌, inl, inr, ℕ, List, [], ◌∷◌, map, Option, Some, None, refl}
-use Rattle.std.specs.List.{filter_map, cons_option, AllByRecursion as Each}
+use Rattle.std.proofs.Common.{◌≡◌, inl, inr, ℕ, List, [], ◌∷◌, map, Option, Some, None, refl}
+use Rattle.std.specs.List.{filter_map, cons_option}
 use Rattle.std.specs.Option.{option_map}
 use Rattle.lb_select.specs.Backends.{Member, same_member}
 use Rattle.lb_registry.specs.declared.targets.Place.{Place}
 use Rattle.lb_registry.specs.declared.targets.Target.{Target}
-use Rattle.lb_registry.specs.Registry.{target_at, targets_after}
-use Rattle.lb_registry.specs.RegistryEvents.{Event, Observed, changes_after, views_after, cell_health, IsCellKept}
+use Rattle.lb_registry.specs.Registry.{target_at}
+use Rattle.lb_registry.specs.RegistryEvents.{Event, Observed, changes_after, views_after, cell_health}
 use Rattle.lb_registry.specs.Starts.{cell_now}
 use Rattle.lb_registry.specs.Targets.{targets_in}
 use Rattle.lb_registry.specs.Verdicts.{Verdict}

@@ -1,13 +1,17 @@
 //! The backends of one discovery: a view with the registry that it belongs to.
 //! Whoever has it updates it and runs its checks; the forms that threads share stand above.
 ghost use Rattle.std.specs.Prelude.{◌≡◌, ◌↔◌, ◌⊎◌, ◌+◌, ◌^◌, ◌≤◌, ◌∷◌, ℕ, Bool, List, [], Ok, Err, Some, None, IfOk, OnOk, OnErr};
-ghost use Rattle.std.specs.Prelude.{IsErrOf, IsSome, IsTrue, false};
+ghost use Rattle.std.specs.Prelude.{IsErrOf, IsSome, IsTrue, MatchOption, false};
 ghost use Rattle.std.specs.Arc.{arc_value};
+ghost use Rattle.std.specs.BTreeSet.{BTreeSet};
+ghost use Rattle.std.specs.Fn.{FnOnceReturnsAt};
+ghost use Rattle.std.proofs.Common.{Global};
 ghost use Rattle.lb_select.specs.Backends.{Member};
 ghost use Rattle.lb_registry.specs.Keys.{by_identity, rule_gives};
 ghost use Rattle.lb_registry.specs.Registry.{IsRegistryAfter, IsGrowthRefusal};
 ghost use Rattle.lb_registry.specs.RegistryEvents.{Event, Applied, Registered, registered_after, views_after, has_view, cells_given};
 ghost use Rattle.lb_health.specs.Joined.{IsReady};
+ghost use Rattle.lb_health.specs.Snapshots.{IfHead};
 ghost use Rattle.lb_health.specs.Passes.{PassesWith, target_cells};
 ghost use Rattle.lb_health.specs.Updates.{IsUpdated, IsBackendsRefusal};
 ghost use Rattle.lb_health.specs.ViewEvents.{ViewEvent, Set, generation_after, membership_after};
@@ -162,6 +166,9 @@ impl<D: ServiceDiscovery + Drop, R: KeyRule + Drop, C: HealthCheck + Drop> Backe
             → IsViewAfter views self.old.view
             → IsRegistryAfter R.gives key_of events self.old.health.registry
             → IsUpdated R.gives key_of views events self.old.view.id self.new) }
+        ensures told { IfOk result (λ answer. MatchOption answer (self.new.view.generation ≡ self.old.view.generation)
+            (λ t. (self.new.view.generation ≡ self.old.view.generation + 1) × IfHead self.new.view.snapshots
+            (λ s. (set : BTreeSet Member Global) × (set.keys ≡ s.members) × FnOnceReturnsAt F.FnOnce changed set t))) }
         ensures err { OnErr result ((key_of : Member → Member) (views : List ViewEvent) (events : List Event)
             → IsViewAfter views self.old.view
             → IsRegistryAfter R.gives key_of events self.old.health.registry

@@ -112,6 +112,8 @@ impl ViewCore {
     pub fn set_enable(&mut self, backend: &Backend, enabled: bool)
         ensures after { (views : List ViewEvent) → IsViewAfter views self.old → IsViewAfter (Set backend.now enabled ∷ views) self.new }
         ensures id { self.new.id ≡ self.old.id }
+        ensures generation { self.new.generation ≡ self.old.generation }
+        ensures snapshots { self.new.snapshots ≡ self.old.snapshots }
     {
         if lists(&self.current, self.earlier.as_slice(), backend) {
             if let Some(flag) = self.flags.get_mut(backend) {
@@ -273,6 +275,9 @@ impl ViewCore {
             → MatchOption answer (same_members discovered.keys (membership_after views) ≡ true)
             (λ t. (same_members discovered.keys (membership_after views) ≡ false)
             × ((set : BTreeSet Member Global) × (set.keys ≡ discovered.keys) × FnOnceReturnsAt F.FnOnce changed set t))) }
+        ensures told { IfOk result (λ answer. MatchOption answer (self.new.generation ≡ self.old.generation)
+            (λ t. (self.new.generation ≡ self.old.generation + 1) × IfHead self.new.snapshots (λ s. (set : BTreeSet Member Global)
+            × (set.keys ≡ s.members) × FnOnceReturnsAt F.FnOnce changed set t))) }
         ensures view_err { OnErr result ((views : List ViewEvent) → IsViewAfter views self.old → IsViewAfter views self.new) }
         ensures registry_err { OnErr result ((key_of : Member → Member) (events : List Event)
             → IsRegistryAfter R.gives key_of events registry.old
@@ -320,6 +325,7 @@ impl ViewCore {
             → IsRegistryAfter R.gives key_of events registry.old
             → IsRegistryAfter R.gives key_of (registry_changed key_of self.old.id members.keys views events) registry.new) }
         ensures shown { OnOk result (IfHead self.new.snapshots (λ s. s.members ≡ members.keys)) }
+        ensures next { OnOk result (self.new.generation ≡ self.old.generation + 1) }
         ensures view_err { OnErr result ((views : List ViewEvent) → IsViewAfter views self.old → IsViewAfter views self.new) }
         ensures registry_err { OnErr result ((key_of : Member → Member) (events : List Event)
             → IsRegistryAfter R.gives key_of events registry.old
@@ -369,6 +375,8 @@ impl ViewCore {
         ensures after { (views : List ViewEvent) → IsViewAfter views self.old
             → IsViewAfter (after_settings (settings_of settings.entries) views) self.new }
         ensures id { self.new.id ≡ self.old.id }
+        ensures generation { self.new.generation ≡ self.old.generation }
+        ensures snapshots { self.new.snapshots ≡ self.old.snapshots }
     {
         for ((addr, weight), enabled) in settings {
             let backend = Backend {

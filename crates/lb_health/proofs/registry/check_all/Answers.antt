@@ -1,4 +1,4 @@
-use Rattle.std.proofs.Common.{◌≡◌, ◌+◌, ◌<◌, sym, subst, List, ◌∷◌, map, drop, length, add-one, drop-cons, ap, ◌∙◌, suc, rules}
+use Rattle.std.proofs.Common.{◌≡◌, ◌+◌, ◌<◌, sym, subst, List, ◌∷◌, map, drop, length, add-one, drop-cons, ap, ◌∙◌, suc}
 use Rattle.lb_registry.specs.declared.targets.Target.{Target}
 use Rattle.lb_health.specs.Passes.{Passes, AreKept}
 use Rattle.lb_health.proofs.PassLemmas.{reached}

@@ -1,4 +1,4 @@
-use Rattle.std.proofs.Common.{◌≡◌, ◌⊎◌, inl, inr, [], Result, Ok, Err, IfOk, OnErr, IsErrOf, arith}
+use Rattle.std.proofs.Common.{◌≡◌, inl, inr, [], Result, Ok, Err, IfOk, OnErr, IsErrOf, arith}
 use Rattle.lb_select.specs.declared.refusal.Refusal.{Refusal}
 use Rattle.lb_select.specs.declared.refusal.Refusal.TheVariants.{OutOfMemory, NumbersExhausted}
 use Rattle.lb_registry.specs.Keys.{by_identity}

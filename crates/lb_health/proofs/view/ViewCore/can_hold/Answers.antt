@@ -1,4 +1,4 @@
-use Rattle.std.proofs.Common.{◌≡◌, ◌<◌, ◌^◌, ◌+◌, ℕ, ◌==◌, Bool, true, false, not, ◌||◌, nat_lt, List, All, get_or, sym, subst, ap, ◌∙◌, rules}
+use Rattle.std.proofs.Common.{◌≡◌, ◌<◌, ◌^◌, ◌+◌, ℕ, ◌==◌, true, not, ◌||◌, nat_lt, List, get_or, sym, ap, ◌∙◌, rules}
 use Rattle.std.proofs.lemmas.List.Sums.{AllPass-from_list_all, list_all-from_AllPass}
 use Rattle.std.specs.List.{list_all}
 use borrow.Author.Tests.{eqb-true, ltb-true, lt-ltb}
