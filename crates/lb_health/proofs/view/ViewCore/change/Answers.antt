@@ -105,3 +105,8 @@ returns-clause-registry g c = λ key_of views events h r.
           (w.release.ensures key_of after held))))
       | else-not-lives w ↦ let yes : c.lives.result ≡ true = search rules in subst Left (sym yes) (rw w.registry-is held)
     ])
+
+pub returns-clause-next : goal.returns-clause-next
+returns-clause-next g c =
+    c.prune.ensures.generation ∙ ap (λ (s : ViewSnapshot). s.generation) c.replace.ensures.after ∙ c.in-Some.ensures.1
+    ∙ ap (λ (v : ViewValue). v.generation + 1) c.self.view_is
