@@ -1,0 +1,9 @@
+pub mod Placing
+pub mod Accepted
+pub mod Readers
+pub mod Runs
+pub mod Absent
+pub mod Holders
+pub mod Extras
+pub mod Counting
+pub mod Promised

@@ -1,0 +1,8 @@
+pub mod Answers
+pub mod History
+pub mod Meanings
+pub mod Promises
+pub mod Replies
+pub mod Rows
+pub mod Shared
+pub mod Steps

@@ -1,0 +1,30 @@
+//! Laws of every run of a world: each is what its function ensures, over histories alone.
+//! There is no code here and no world: whatever answers as a run does keeps them.
+ghost use Rattle.std.specs.Prelude.{◌≡◌, ◌∷◌, ℕ, None};
+ghost use Rattle.lb_group.specs.GroupHistory.{IsPast};
+ghost use Rattle.lb_history.specs.Answers.{IsRun};
+ghost use Rattle.lb_history.specs.History.{History, made_at, past};
+ghost use Rattle.lb_history.specs.Meanings.{meaning_of};
+ghost use Rattle.lb_history.specs.Promises.{Promised, NeverFalls, Untouched};
+ghost use Rattle.lb_history.specs.Replies.{Answer};
+ghost use Rattle.lb_history.specs.Steps.{Step};
+
+use lb_select::walk::BackendSelection;
+
+/// What happens to each slot is a past that can happen, so every law of the crate of groups holds of it.
+pub fn pasts_can_happen<S: BackendSelection>()
+    ensures { (h : History S.Config) → IsRun (meaning_of S.BackendSelection) h → (g s : ℕ) → IsPast (past g s h) }
+{}
+
+/// To a group that isn't there nothing has happened, and nothing is held of its jobs.
+pub fn absent_groups<S: BackendSelection>()
+    ensures { (h : History S.Config) → IsRun (meaning_of S.BackendSelection) h → (g : ℕ) → made_at g h ≡ None → Untouched g h }
+{}
+
+/// After every step: one extra for each gate, pointwise and counted; the ledger; exact readers; each selector's members are those
+/// of its generation; slots that neither build nor wait serve the newest; free gates grant. And what a slot serves never falls.
+pub fn promises<S: BackendSelection>()
+    ensures now { (h : History S.Config) → IsRun (meaning_of S.BackendSelection) h → Promised (meaning_of S.BackendSelection) h }
+    ensures falls { (h : History S.Config) (st : Step S.Config) (a : Answer)
+        → IsRun (meaning_of S.BackendSelection) ((st, a) ∷ h) → NeverFalls h st a }
+{}
