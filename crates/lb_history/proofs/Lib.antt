@@ -7,3 +7,5 @@ pub mod Holders
 pub mod Extras
 pub mod Counting
 pub mod Promised
+pub mod Selecting
+pub mod Steps

@@ -4,5 +4,6 @@ pub mod Meanings
 pub mod Promises
 pub mod Replies
 pub mod Rows
+pub mod Selected
 pub mod Shared
 pub mod Steps

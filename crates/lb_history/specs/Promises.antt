@@ -1,6 +1,7 @@
 -- What holds of every run, in the words of the promises. What is promised of a slot alone is said by the crate of groups, of the
 -- slot's past.
 use Rattle.std.specs.Prelude.{◌≡◌, ◌≤◌, ◌<◌, ◌==◌, ◌+◌, ◌-◌, ◌&&◌, ℕ, Bool, true, false, List, [], ◌∷◌, length, count_by, Some, if◌then◌else◌, slice_get}
+use Rattle.lb_select.specs.declared.refusal.Refusal.TheVariants as refusal
 use Rattle.lb_group.specs.GroupHistory as group
 use Rattle.lb_group.specs.Laws.{number, extras_from, Balanced, HasMembers}
 use Rattle.lb_history.specs.Steps.{Step}
@@ -9,6 +10,7 @@ use Rattle.lb_history.specs.Replies.{Answer}
 use Rattle.lb_history.specs.Replies as answer
 use Rattle.lb_history.specs.Meanings.{Meaning}
 use Rattle.lb_history.specs.History.{History, Made, idle, is_at, reads, made, made_at, slot_gate, gate_in, entries, group_at, work, group_events, past, is_grant, is_failure, is_destruction, is_out}
+use Rattle.lb_history.specs.Shared.{registry_at, registry_events, view_events}
 use Rattle.lb_history.specs.Answers.{answer_after}
 
 module _ {C : Type 0} where
@@ -77,6 +79,21 @@ module _ {C : Type 0} where
   Raises h (step.publish g s) (answer.Published n) =
       (group.served (past g s h) < n) × (group.served (past g s ((step.publish g s, answer.Published n) ∷ h)) ≡ n)
   Raises h st a = Unit {0}
+
+  -- A retired selector is destroyed where no reader is in it, and else it is told how many are.
+  abbrev pub DestroysExactly : History C → Step C → Answer → Type 0
+  DestroysExactly h (step.destroy g s) answer.Destroyed =
+      (n : ℕ) × (group.extra (past g s h) ≡ group.retired n) × (count_by (reads g s n) (entries h) ≡ 0)
+  DestroysExactly h (step.destroy g s) (answer.Refused (refusal.StillRead m)) =
+      (n : ℕ) × (group.extra (past g s h) ≡ group.retired n) × (count_by (reads g s n) (entries h) ≡ m) × (0 < m)
+  DestroysExactly h st a = Unit {0}
+
+  -- what a step does at one group changes no other's events, those of the views included, and those of no other registry
+  pub record OthersStay (h : History C) (st : Step C) (a : Answer) : Type 0 where
+    pub groups : (g : ℕ) → is_at g (group_at h st) ≡ false → group_events g ((st, a) ∷ h) ≡ group_events g h
+    pub views : (g : ℕ) (m : Made C) → made_at g h ≡ Some m → is_at g (group_at h st) ≡ false
+        → view_events g ((st, a) ∷ h) ≡ view_events g h
+    pub registries : (r : ℕ) → is_at r (registry_at h st) ≡ false → registry_events r ((st, a) ∷ h) ≡ registry_events r h
 
   -- to a group that isn't there nothing has happened
   pub record Untouched (g : ℕ) (h : History C) : Type 0 where

@@ -5,7 +5,8 @@ ghost use Rattle.lb_group.specs.GroupHistory.{IsPast};
 ghost use Rattle.lb_history.specs.Answers.{IsRun};
 ghost use Rattle.lb_history.specs.History.{History, made_at, past};
 ghost use Rattle.lb_history.specs.Meanings.{meaning_of};
-ghost use Rattle.lb_history.specs.Promises.{Promised, NeverFalls, Untouched};
+ghost use Rattle.lb_history.specs.Promises.{Promised, NeverFalls, Raises, DestroysExactly, OthersStay, Untouched};
+ghost use Rattle.lb_history.specs.Selected.{FirstAccepted};
 ghost use Rattle.lb_history.specs.Replies.{Answer};
 ghost use Rattle.lb_history.specs.Steps.{Step};
 
@@ -19,6 +20,27 @@ pub fn pasts_can_happen<S: BackendSelection>()
 /// To a group that isn't there nothing has happened, and nothing is held of its jobs.
 pub fn absent_groups<S: BackendSelection>()
     ensures { (h : History S.Config) → IsRun (meaning_of S.BackendSelection) h → (g : ℕ) → made_at g h ≡ None → Untouched g h }
+{}
+
+/// A step at one group changes no other's events, neither of its slots nor of its view, and those of no other registry.
+pub fn others_stay<S: BackendSelection>()
+    ensures { (h : History S.Config) (st : Step S.Config) (a : Answer) → OthersStay h st a }
+{}
+
+/// A selection that is not refused answers the first accepted backend among the distinct of the first `limit` candidates of the one
+/// generation that its slot serves, judged by the snapshot of that generation, or none.
+pub fn selections_answer_the_first<S: BackendSelection>()
+    ensures { (h : History S.Config) (st : Step S.Config) (a : Answer) → IsRun (meaning_of S.BackendSelection) ((st, a) ∷ h)
+        → FirstAccepted (meaning_of S.BackendSelection) h st a }
+{}
+
+/// A publication raises what its slot serves, to the generation that it tells; a retired selector is destroyed exactly where no
+/// reader is in it, and else it is told how many are.
+pub fn steps_tell<S: BackendSelection>()
+    ensures raises { (h : History S.Config) (st : Step S.Config) (a : Answer) → IsRun (meaning_of S.BackendSelection) ((st, a) ∷ h)
+        → Raises h st a }
+    ensures destroys { (h : History S.Config) (st : Step S.Config) (a : Answer) → IsRun (meaning_of S.BackendSelection) ((st, a) ∷ h)
+        → DestroysExactly h st a }
 {}
 
 /// After every step: one extra for each gate, pointwise and counted; the ledger; exact readers; each selector's members are those
