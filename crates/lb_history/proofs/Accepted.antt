@@ -163,6 +163,14 @@ changed-told : (n : ℕ) (b : Bool) (m : ℕ) → update_answer n b ≡ answer.G
 changed-told n true m e = (refl, cc)
 changed-told n false m e = absurd (cc)
 
+unchanged-told : (n : ℕ) (b : Bool) (m : ℕ) → update_answer n b ≡ answer.Same m → b ≡ false
+unchanged-told n true m e = absurd (cc)
+unchanged-told n false m e = refl
+
+unrefused-same : (b : Bool) (x : Answer) (m : ℕ) → (if b then refuse refusal.InvalidAddress else x) ≡ answer.Same m → x ≡ answer.Same m
+unrefused-same true x m e = absurd (cc)
+unrefused-same false x m e = e
+
 pub unrefused-address : (b : Bool) (x : Answer) (m : ℕ) → (if b then refuse refusal.InvalidAddress else x) ≡ answer.Generation m → x ≡ answer.Generation m
 unrefused-address true x m e = absurd (cc)
 unrefused-address false x m e = e
@@ -268,3 +276,12 @@ module _ {C : Type 0} (M : Meaning C) (h : History C) where
             (group.is_cancelled (group_events g h)) (earlier-none (schedule_refusal (members_in listings) (group_events g h)) _ u.0),
         c.1,
       )
+
+  -- and the same membership is no change
+  pub unchanging : (g now : ℕ) (listings : List Listing) (n : ℕ) → Answers M h (step.update g now listings) (answer.Same n)
+      → is_change (members_in listings) (group_events g h) ≡ false
+  unchanging g now listings n right =
+      let told = right-is {C = C} (step.update g now listings) (answer_after M h (step.update g now listings)) (answer.Same n) right refl in
+      let m = there (made_at g h) _ (answer.Same n) (unrefused-same (has_refused listings) _ n told) refl in
+      let u = unrefused _ _ (answer.Same n) m.1.1 refl in
+      unchanged-told (group.newest (group_events g h)) (is_change (members_in listings) (group_events g h)) n u.1

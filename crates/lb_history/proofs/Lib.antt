@@ -9,3 +9,5 @@ pub mod Counting
 pub mod Promised
 pub mod Selecting
 pub mod Steps
+pub mod Viewing
+pub mod Joining

@@ -1,7 +1,13 @@
 -- What holds of every run, in the words of the promises. What is promised of a slot alone is said by the crate of groups, of the
 -- slot's past.
 use Rattle.std.specs.Prelude.{◌≡◌, ◌≤◌, ◌<◌, ◌==◌, ◌+◌, ◌-◌, ◌&&◌, ℕ, Bool, true, false, List, [], ◌∷◌, length, count_by, Some, if◌then◌else◌, slice_get}
+use Rattle.std.specs.List.{AllByRecursion as Each, list_any}
+use Rattle.std.specs.Option.{IsSomeAnd}
+use Rattle.lb_select.specs.Backends.{Member, same_member}
 use Rattle.lb_select.specs.declared.refusal.Refusal.TheVariants as refusal
+use Rattle.lb_registry.specs.RegistryEvents.{IsCellKept, cell_health}
+use Rattle.lb_health.specs.Snapshots.{SnapshotValue, value_at}
+use Rattle.lb_health.specs.ViewEvents.{generation_after, membership_after, snapshots_after, flag_after}
 use Rattle.lb_group.specs.GroupHistory as group
 use Rattle.lb_group.specs.Laws.{number, extras_from, Balanced, HasMembers}
 use Rattle.lb_history.specs.Steps.{Step}
@@ -9,8 +15,8 @@ use Rattle.lb_history.specs.Steps as step
 use Rattle.lb_history.specs.Replies.{Answer}
 use Rattle.lb_history.specs.Replies as answer
 use Rattle.lb_history.specs.Meanings.{Meaning}
-use Rattle.lb_history.specs.History.{History, Made, idle, is_at, reads, made, made_at, slot_gate, gate_in, entries, group_at, work, group_events, past, is_grant, is_failure, is_destruction, is_out}
-use Rattle.lb_history.specs.Shared.{registry_at, registry_events, view_events}
+use Rattle.lb_history.specs.History.{History, Made, idle, is_at, reads, made, made_at, slot_gate, gate_in, entries, group_at, work, group_events, past, is_grant, is_failure, is_destruction, is_out, registry_of}
+use Rattle.lb_history.specs.Shared.{key_of, events_in, cells_of, registry_at, registry_events, view_events}
 use Rattle.lb_history.specs.Answers.{answer_after}
 
 module _ {C : Type 0} where
@@ -94,6 +100,25 @@ module _ {C : Type 0} where
     pub views : (g : ℕ) (m : Made C) → made_at g h ≡ Some m → is_at g (group_at h st) ≡ false
         → view_events g ((st, a) ∷ h) ≡ view_events g h
     pub registries : (r : ℕ) → is_at r (registry_at h st) ≡ false → registry_events r ((st, a) ∷ h) ≡ registry_events r h
+
+  -- A group's view is at its newest generation and membership, and each snapshot that lives has the members and the cells of its own
+  -- generation.
+  abbrev pub IsSnapshotOf : ℕ → History C → SnapshotValue → Type 0
+  IsSnapshotOf g h s =
+      (s.generation ≤ group.newest (group_events g h)) × (s.members ≡ group.members_of s.generation (group_events g h))
+      × (s.cells ≡ cells_of g s.generation h)
+
+  pub record ViewFollows (g : ℕ) (h : History C) : Type 0 where
+    pub generation : generation_after (view_events g h) ≡ group.newest (group_events g h)
+    pub membership : membership_after (view_events g h) ≡ group.members_of (group.newest (group_events g h)) (group_events g h)
+    pub snapshots : Each (IsSnapshotOf g h) (snapshots_after (view_events g h))
+
+  -- A backend is judged ready in a generation only by the members and the cells of that generation.
+  pub record JudgedBy (g n : ℕ) (b : Member) (h : History C) : Type 0 where
+    pub listed : list_any (same_member b) (group.members_of n (group_events g h)) ≡ true
+    pub enabled : flag_after (view_events g h) b ≡ true
+    pub cell : IsSomeAnd (value_at (cells_of g n h) b)
+        (λ c. IsCellKept (key_of g h) c (events_in (registry_of g h) h) × (cell_health (key_of g h) c (events_in (registry_of g h) h) ≡ true))
 
   -- to a group that isn't there nothing has happened
   pub record Untouched (g : ℕ) (h : History C) : Type 0 where

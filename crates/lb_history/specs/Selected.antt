@@ -27,13 +27,15 @@ AreEnough limit cs ended (Some b) = Unit {0}
 -- A walk with draws from this source gave candidates. However it would have gone on, r is the first accepted backend among the
 -- distinct of its first `limit` candidates, or None where none of them is accepted.
 pub record IsFirstAccepted (judged : Member → Bool → Type 0) (gives : HandedValue → Draw → HandedValue → Type 0)
-    (walks : List Draw → List Member → Bool → Type 0) (limit : ℕ) (source left : HandedValue) (r : Option Member) : Type 0 where
+    (walks : List Draw → List Member → Bool → Type 0) (limit : ℕ) (source left : HandedValue) (r : Option Member)
+    : Type 0 where
   pub draws : List Draw
   pub candidates : List Member
   pub ended : Bool
   pub drawn : Gives gives source draws left
   pub walked : walks draws candidates ended
-  pub first : (more : List Member) → (ended ≡ true → more ≡ []) → IsFirst judged (distinct same_member (take limit (candidates ++ more))) r
+  pub first : (more : List Member) → (ended ≡ true → more ≡ [])
+      → IsFirst judged (distinct same_member (take limit (candidates ++ more))) r
   pub enough : AreEnough limit candidates ended r
 
 module _ {C : Type 0} (M : Meaning C) where

@@ -150,3 +150,15 @@ module _ {C : Type 0} where
   view_events g ((step.group r a configs, answer.Group n) ∷ h) =
       if length (made h) == g then held_at_first configs else view_events g h
   view_events g ((st, a) ∷ h) = if is_at g (group_at h st) then showed h st a (view_events g h) else view_events g h
+
+  -- the cells that the backends of generation n had when it was shown
+  abbrev pub cells_of : ℕ → ℕ → History C → List (Member × ℕ)
+  cells_of g n [] = []
+  cells_of g n ((step.update at now listings, answer.Generation m) ∷ h) =
+      if at == g
+      then
+      if group.newest (group_events g h) + 1 == n
+      then registry.shown_cells (key_of g h) (view_in (made_at g h)) (members_in listings) (events_in (registry_of g h) h)
+      else cells_of g n h
+      else cells_of g n h
+  cells_of g n ((st, a) ∷ h) = cells_of g n h

@@ -1,13 +1,16 @@
 //! Laws of every run of a world: each is what its function ensures, over histories alone.
 //! There is no code here and no world: whatever answers as a run does keeps them.
 ghost use Rattle.std.specs.Prelude.{◌≡◌, ◌∷◌, ℕ, None};
+ghost use Rattle.lb_select.specs.Backends.{Member};
+ghost use Rattle.lb_health.specs.Joined.{IsReady};
 ghost use Rattle.lb_group.specs.GroupHistory.{IsPast};
 ghost use Rattle.lb_history.specs.Answers.{IsRun};
-ghost use Rattle.lb_history.specs.History.{History, made_at, past};
+ghost use Rattle.lb_history.specs.History.{History, made_at, registry_of, past};
 ghost use Rattle.lb_history.specs.Meanings.{meaning_of};
-ghost use Rattle.lb_history.specs.Promises.{Promised, NeverFalls, Raises, DestroysExactly, OthersStay, Untouched};
+ghost use Rattle.lb_history.specs.Promises.{Promised, NeverFalls, Raises, DestroysExactly, OthersStay, Untouched, ViewFollows, JudgedBy};
 ghost use Rattle.lb_history.specs.Selected.{FirstAccepted};
 ghost use Rattle.lb_history.specs.Replies.{Answer};
+ghost use Rattle.lb_history.specs.Shared.{key_of, events_in, view_events};
 ghost use Rattle.lb_history.specs.Steps.{Step};
 
 use lb_select::walk::BackendSelection;
@@ -32,6 +35,15 @@ pub fn others_stay<S: BackendSelection>()
 pub fn selections_answer_the_first<S: BackendSelection>()
     ensures { (h : History S.Config) (st : Step S.Config) (a : Answer) → IsRun (meaning_of S.BackendSelection) ((st, a) ∷ h)
         → FirstAccepted (meaning_of S.BackendSelection) h st a }
+{}
+
+/// A group's view is at the group's newest generation and membership, and each snapshot that lives has the members and the cells of
+/// its own generation. So readiness in a generation is by that generation's members, by the cells that they had when it was shown, and
+/// by the flags as they are: no answer mixes one generation's membership or cells with another's.
+pub fn generations_do_not_mix<S: BackendSelection>()
+    ensures views { (h : History S.Config) → IsRun (meaning_of S.BackendSelection) h → (g : ℕ) → ViewFollows g h }
+    ensures judged { (h : History S.Config) → IsRun (meaning_of S.BackendSelection) h → (g n : ℕ) (b : Member)
+        → IsReady (key_of g h) (view_events g h) (events_in (registry_of g h) h) n b → JudgedBy g n b h }
 {}
 
 /// A publication raises what its slot serves, to the generation that it tells; a retired selector is destroyed exactly where no
