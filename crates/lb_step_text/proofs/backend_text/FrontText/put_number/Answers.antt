@@ -1,4 +1,4 @@
-use Rattle.std.proofs.Common.{◌≡◌, ◌+◌, ◌≤◌, ◌<◌, ◌^◌, arith, ap, length, length-drop, length-append, drop, decimal, lit<, ◌∙◌, sym}
+use Rattle.std.proofs.Common.{◌≡◌, ◌+◌, ◌≤◌, ◌<◌, ◌^◌, arith, ap, length, length-drop, length-append, drop, decimal, lit<, ◌∙◌}
 use Rattle.std.proofs.lemmas.Fmt.{length-decimal-le}
 use Rattle.lb_step_text.proofs.backend_text.FrontText.put_number.Goals as goal
 

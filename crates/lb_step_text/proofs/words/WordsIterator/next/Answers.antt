@@ -1,4 +1,4 @@
-use Rattle.std.proofs.Common.{rules, ℕ, ◌≡◌, ◌<◌, ◌==◌, length, [], ◌∷◌, ◌∙◌, subst, List, arith}
+use Rattle.std.proofs.Common.{rules, ℕ, ◌≡◌, ◌<◌, ◌==◌, length, [], ◌∷◌, ◌∙◌, subst, arith}
 use Rattle.std.specs.Str.{IsUtf8}
 use Rattle.std.proofs.lemmas.List.Sums.{position_or_len_is}
 use Rattle.lb_step_text.specs.Words.{words_of}
