@@ -118,7 +118,8 @@ module _ {C : Type 0} where
     pub listed : list_any (same_member b) (group.members_of n (group_events g h)) ≡ true
     pub enabled : flag_after (view_events g h) b ≡ true
     pub cell : IsSomeAnd (value_at (cells_of g n h) b)
-        (λ c. IsCellKept (key_of g h) c (events_in (registry_of g h) h) × (cell_health (key_of g h) c (events_in (registry_of g h) h) ≡ true))
+        (λ c. IsCellKept (key_of g h) c (events_in (registry_of g h) h)
+        × (cell_health (key_of g h) c (events_in (registry_of g h) h) ≡ true))
 
   -- to a group that isn't there nothing has happened
   pub record Untouched (g : ℕ) (h : History C) : Type 0 where
