@@ -12,7 +12,7 @@ use Rattle.lb_health.specs.ViewEvents.{ViewEvent, Shown, Held, Released, Set, ge
 use Rattle.lb_health.specs.Joined.{after_settings}
 
 module _ {X : Type 0} (P : X → Type 0) where
-  each-filter : (t : X → Bool) (xs : List X) → Each P xs → Each P (filter t xs)
+  pub each-filter : (t : X → Bool) (xs : List X) → Each P xs → Each P (filter t xs)
   each-filter t [] each = tt
   each-filter t (x ∷ xs) each = kept (t x) (each-filter t xs each.1)
     where
@@ -20,17 +20,17 @@ module _ {X : Type 0} (P : X → Type 0) where
       kept true rest = (each.0, rest)
       kept false rest = rest
 
-  each-append : (xs ys : List X) → Each P xs → Each P ys → Each P (xs ++ ys)
+  pub each-append : (xs ys : List X) → Each P xs → Each P ys → Each P (xs ++ ys)
   each-append [] ys each rest = rest
   each-append (x ∷ xs) ys each rest = (each.0, each-append xs ys each.1 rest)
 
 module _ {X : Type 0} (P Q : X → Type 0) (weaker : (x : X) → P x → Q x) where
-  each-weaker : (xs : List X) → Each P xs → Each Q xs
+  pub each-weaker : (xs : List X) → Each P xs → Each Q xs
   each-weaker [] each = tt
   each-weaker (x ∷ xs) each = (weaker x each.0, each-weaker xs each.1)
 
 module _ (P : SnapshotValue → Type 0) where
-  each-at : (g : ℕ) (f : SnapshotValue → SnapshotValue) (ss : List SnapshotValue) → ((s : SnapshotValue) → P s → P (f s)) → Each P ss
+  pub each-at : (g : ℕ) (f : SnapshotValue → SnapshotValue) (ss : List SnapshotValue) → ((s : SnapshotValue) → P s → P (f s)) → Each P ss
       → Each P (at_generation g f ss)
   each-at g f [] keeps each = tt
   each-at g f (s ∷ ss) keeps each = either (s.generation == g) (each-at g f ss keeps each.1)
@@ -39,7 +39,7 @@ module _ (P : SnapshotValue → Type 0) where
       either true rest = (keeps s each.0, each.1)
       either false rest = (each.0, rest)
 
-  each-age : (ss : List SnapshotValue) → Each P ss → Each P (by_age ss)
+  pub each-age : (ss : List SnapshotValue) → Each P ss → Each P (by_age ss)
   each-age [] each = tt
   each-age (s ∷ ss) each = each-append P ss (s ∷ []) each.1 (each.0, tt)
 

@@ -6,6 +6,7 @@ use Rattle.std.specs.Option.{IsSomeAnd}
 use Rattle.lb_select.specs.Backends.{Member, same_member}
 use Rattle.lb_select.specs.declared.refusal.Refusal.TheVariants as refusal
 use Rattle.lb_registry.specs.RegistryEvents.{IsCellKept, cell_health}
+use Rattle.lb_health.specs.Joined.{lives}
 use Rattle.lb_health.specs.Snapshots.{SnapshotValue, value_at}
 use Rattle.lb_health.specs.ViewEvents.{generation_after, membership_after, snapshots_after, flag_after}
 use Rattle.lb_group.specs.GroupHistory as group
@@ -16,7 +17,7 @@ use Rattle.lb_history.specs.Replies.{Answer}
 use Rattle.lb_history.specs.Replies as answer
 use Rattle.lb_history.specs.Meanings.{Meaning}
 use Rattle.lb_history.specs.History.{History, Made, idle, is_at, reads, made, made_at, slot_gate, gate_in, entries, group_at, work, group_events, past, is_grant, is_failure, is_destruction, is_out, registry_of}
-use Rattle.lb_history.specs.Shared.{key_of, events_in, cells_of, registry_at, registry_events, view_events}
+use Rattle.lb_history.specs.Shared.{is_live, key_of, events_in, cells_of, registry_at, registry_events, view_events}
 use Rattle.lb_history.specs.Answers.{answer_after}
 
 module _ {C : Type 0} where
@@ -113,12 +114,20 @@ module _ {C : Type 0} where
     pub membership : membership_after (view_events g h) ≡ group.members_of (group.newest (group_events g h)) (group_events g h)
     pub snapshots : Each (IsSnapshotOf g h) (snapshots_after (view_events g h))
 
+  -- A snapshot of a group's view lives exactly while it is the newest or some slot holds it: as what it serves, or as a flight, a lost
+  -- flight or a retired selector.
+  abbrev pub LivesExactly : History C → Type 0
+  LivesExactly h =
+      (g : ℕ) (m : Made C) → made_at g h ≡ Some m → (n : ℕ)
+      → lives n (snapshots_after (view_events g h)) ≡ is_live n m.configs (group_events g h)
+
   -- A backend is judged ready in a generation only by the members and the cells of that generation.
   pub record JudgedBy (g n : ℕ) (b : Member) (h : History C) : Type 0 where
     pub listed : list_any (same_member b) (group.members_of n (group_events g h)) ≡ true
     pub enabled : flag_after (view_events g h) b ≡ true
     pub cell : IsSomeAnd (value_at (cells_of g n h) b)
-        (λ c. IsCellKept (key_of g h) c (events_in (registry_of g h) h) × (cell_health (key_of g h) c (events_in (registry_of g h) h) ≡ true))
+        (λ c. IsCellKept (key_of g h) c (events_in (registry_of g h) h)
+        × (cell_health (key_of g h) c (events_in (registry_of g h) h) ≡ true))
 
   -- to a group that isn't there nothing has happened
   pub record Untouched (g : ℕ) (h : History C) : Type 0 where

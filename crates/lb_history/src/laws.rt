@@ -7,7 +7,7 @@ ghost use Rattle.lb_group.specs.GroupHistory.{IsPast};
 ghost use Rattle.lb_history.specs.Answers.{IsRun};
 ghost use Rattle.lb_history.specs.History.{History, made_at, registry_of, past};
 ghost use Rattle.lb_history.specs.Meanings.{meaning_of};
-ghost use Rattle.lb_history.specs.Promises.{Promised, NeverFalls, Raises, DestroysExactly, OthersStay, Untouched, ViewFollows, JudgedBy};
+ghost use Rattle.lb_history.specs.Promises.{Promised, NeverFalls, Raises, DestroysExactly, OthersStay, Untouched, ViewFollows, LivesExactly, JudgedBy};
 ghost use Rattle.lb_history.specs.Selected.{FirstAccepted};
 ghost use Rattle.lb_history.specs.Replies.{Answer};
 ghost use Rattle.lb_history.specs.Shared.{key_of, events_in, view_events};
@@ -38,10 +38,11 @@ pub fn selections_answer_the_first<S: BackendSelection>()
 {}
 
 /// A group's view is at the group's newest generation and membership, and each snapshot that lives has the members and the cells of
-/// its own generation. So readiness in a generation is by that generation's members, by the cells that they had when it was shown, and
+/// its own generation; it lives exactly while it is the newest or some slot holds it. So readiness in a generation is by that generation's members, by the cells that they had when it was shown, and
 /// by the flags as they are: no answer mixes one generation's membership or cells with another's.
 pub fn generations_do_not_mix<S: BackendSelection>()
     ensures views { (h : History S.Config) → IsRun (meaning_of S.BackendSelection) h → (g : ℕ) → ViewFollows g h }
+    ensures lives { (h : History S.Config) → IsRun (meaning_of S.BackendSelection) h → LivesExactly h }
     ensures judged { (h : History S.Config) → IsRun (meaning_of S.BackendSelection) h → (g n : ℕ) (b : Member)
         → IsReady (key_of g h) (view_events g h) (events_in (registry_of g h) h) n b → JudgedBy g n b h }
 {}
