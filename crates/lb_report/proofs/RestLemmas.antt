@@ -1,5 +1,5 @@
 -- Lemmas on bytes that are counted behind what a check read.
-use Rattle.std.proofs.Common.{◌≡◌, ℕ, ◌+◌, Bool, true, List, [], ◌++◌, Result, Ok, Err, length, refl, ap, ◌∙◌, sym, append_assoc, length-append, arith}
+use Rattle.std.proofs.Common.{ℕ, ◌+◌, Bool, true, List, [], ◌++◌, Result, Ok, Err, refl, ap, ◌∙◌, sym, append_assoc, length-append, arith}
 use Rattle.lb_counted.specs.Stream.{Takes}
 use Rattle.lb_probe.specs.declared.error.CheckError.{CheckError}
 use Rattle.lb_probe.specs.declared.error.CheckError.TheVariants.{Write, Read, OutOfMemory}
