@@ -1,5 +1,5 @@
 -- What selectors of each kind mean: the walks, the refusals of a build, and that none draws a random word.
-use Rattle.std.specs.Prelude.{◌≡◌, ◌≤◌, ℕ, max, Bool, false, List, [], ◌∷◌, length, Option, None}
+use Rattle.std.specs.Prelude.{◌≡◌, ◌≤◌, ℕ, max, Bool, false, List, ◌∷◌, length, Option, None}
 use Rattle.std.specs.List.{AllByRecursion as Each}
 use Rattle.lb_select.specs.Backends.{Member}
 use Rattle.lb_select.specs.Draws.{Draw, IsNotRandom, words_in}
