@@ -74,7 +74,8 @@ impl<S: BackendSelection> GroupCore<S> {
         ensures gate { IfOk result (λ g. g.group.gate ≡ gate.now.id) }
         ensures id { IfOk result (λ g. (key_of : Member → Member) (events : List Event) → IsRegistryAfter R.gives key_of events registry.old
             → g.view.id ≡ registered_after events + 1) }
-        ensures registry { OnOk result ((key_of : Member → Member) (events : List Event) → IsRegistryAfter R.gives key_of events registry.old
+        ensures registry { OnOk result ((key_of : Member → Member) (events : List Event)
+            → IsRegistryAfter R.gives key_of events registry.old
             → IsRegistryAfter R.gives key_of (Applied ∷ Registered ∷ events) registry.new) }
         ensures err { OnErr result ((key_of : Member → Member) (events : List Event) → IsRegistryAfter R.gives key_of events registry.old
             → IsRegistryAfter R.gives key_of events registry.new) }
@@ -123,7 +124,8 @@ impl<S: BackendSelection> GroupCore<S> {
         ensures stands { OnOk result ((key_of : Member → Member) (events : List Event) → IsRegistryAfter R.gives key_of events registry.old
             → After self.old (λ made e. Stands made
             (after_schedule key_of self.old.view.id discovered.keys (settings_of settings.entries) now events e) self.new)) }
-        ensures registry { OnOk result ((key_of : Member → Member) (events : List Event) → IsRegistryAfter R.gives key_of events registry.old
+        ensures registry { OnOk result ((key_of : Member → Member) (events : List Event)
+            → IsRegistryAfter R.gives key_of events registry.old
             → After self.old (λ made e. IsRegistryAfter R.gives key_of
             (registry_updated key_of self.old.view.id discovered.keys (views_of made e) events) registry.new)) }
         ensures err { OnErr result (After self.old (λ made e. Stands made e self.new)) }
@@ -366,7 +368,8 @@ impl<S: BackendSelection> GroupCore<S> {
         limit: usize,
         random: &[u64],
     ) -> Selection
-        ensures answers { After self.old (λ made e. SelectsIn S.may_draw_random S.walks made (group_events e) slot key.now limit random.now result) }
+        ensures answers { After self.old (λ made e.
+            SelectsIn S.may_draw_random S.walks made (group_events e) slot key.now limit random.now result) }
         ensures stands { After self.old (λ made e. Stands made (after_select made slot result e) self.new) }
         ensures site { SameSite self.old self.new }
     {
