@@ -17,7 +17,7 @@ use crate::schedule::{Prepared, Scheduled, hand_out, orders_for, same_members, s
 use crate::slot::Slot;
 use lb_rebuild::gate::{GateCore, Permit};
 use lb_select::backend::Backend;
-use lb_select::causes::least_refusal;
+use lb_select::causes::{earlier, memory_apart};
 use lb_select::refusal::Refusal;
 use lb_select::walk::BackendSelection;
 use std::alloc::Global;
@@ -86,21 +86,15 @@ impl<S: BackendSelection> GroupCore<S> {
             (λ g. StandsFor (record { gate = gate.now.id; configs = configs.items }) [] g) result }
         ensures gate { IfOk result (λ g. g.gate ≡ gate.now.id) }
     {
-        if let Some(refusal) = least_refusal::<S>(alloc, &configs) {
-            return Err(refusal);
-        }
-        // Every configuration gives a selector, so what is refused from here on is memory.
-        match fresh_slots(alloc, configs) {
-            Ok((current, slots)) => Ok(GroupCore {
-                gate: Snapshot::of(gate),
-                newest: 0,
-                current,
-                scheduled: 0,
-                cancelled: false,
-                slots,
-            }),
-            Err(_) => Err(Refusal::OutOfMemory),
-        }
+        let slots = fresh_slots(alloc, configs)?;
+        Ok(GroupCore {
+            gate: Snapshot::of(gate),
+            newest: 0,
+            current: Arc::new(alloc, BTreeSet::new(alloc))?,
+            scheduled: 0,
+            cancelled: false,
+            slots,
+        })
     }
 
     /// Some history of the group, for whoever knows none.
@@ -481,17 +475,31 @@ impl<S: BackendSelection> GroupCore<S> {
     }
 }
 
-// No backends, and a slot over them for each configuration.
+// A slot over no backends for each configuration. Each selector is built once; after a refusal the others are built to find the
+// least cause.
 fn fresh_slots<S: BackendSelection>(
     alloc: Global,
     configs: Vec<S::Config>,
-) -> Result<(Arc<BTreeSet<Backend>>, Vec<Slot<S>>), Refusal>
-    ensures { IfOk result (λ r. ((arc_value r.0).keys ≡ []) × (map slot_value r.1.items ≡ map fresh_slot configs.items)) }
+) -> Result<Vec<Slot<S>>, Refusal>
+    ensures { Refuses (least (map (S.refusal []) configs.items))
+        (λ slots. map slot_value slots.items ≡ map fresh_slot configs.items) result }
 {
-    let empty = Arc::new(alloc, BTreeSet::new(alloc))?;
+    let empty = BTreeSet::new(alloc);
     let mut slots = Vec::new(alloc);
+    let mut cause = None;
+    let mut is_whole = true;
     for config in configs {
-        slots.push(Slot::fresh(alloc, &empty, config)?)?;
+        match Slot::fresh(alloc, &empty, config) {
+            Ok(slot) => is_whole = slots.push(slot).is_ok() && is_whole,
+            Err(refusal) => {
+                is_whole = false;
+                cause = earlier(cause, memory_apart(refusal));
+            }
+        }
     }
-    Ok((empty, slots))
+    match cause {
+        Some(refusal) => Err(refusal),
+        None if is_whole => Ok(slots),
+        None => Err(Refusal::OutOfMemory),
+    }
 }

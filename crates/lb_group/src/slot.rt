@@ -3,6 +3,7 @@
 ghost use Rattle.std.specs.Prelude.{◌≡◌, ◌&&◌, not, Bool, true, [], ◌<◌, ◌⊎◌, ℕ, IfOk, IfErr, OnErr, nat_lt, if◌then◌else◌};
 ghost use Rattle.std.specs.Arc.{arc_value};
 ghost use Rattle.std.specs.Fn.{FnReturnsAt};
+ghost use Rattle.lb_select.specs.Refusals.{Refuses};
 ghost use Rattle.lb_select.specs.Backends.{Member, same_member};
 ghost use Rattle.lb_select.specs.Selections.{Selects};
 ghost use Rattle.lb_group.specs.SlotSeen.{permit_of};
@@ -65,7 +66,8 @@ impl<S: BackendSelection> Slot<S> {
         backends: &BTreeSet<Backend>,
         config: S::Config,
     ) -> Result<Slot<S>, Refusal>
-        ensures { IfOk result (λ x. (backends.now.keys ≡ []) → slot_value x ≡ fresh_slot config) }
+        ensures { Refuses (S.refusal backends.now.keys config)
+            (λ x. (backends.now.keys ≡ []) → slot_value x ≡ fresh_slot config) result }
     {
         let selector = S::build_with_config(alloc, backends, &config)?;
         Ok(Slot {
