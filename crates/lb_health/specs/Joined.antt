@@ -33,6 +33,10 @@ after_settings [] views = views
 after_settings (e ∷ rest) views =
     after_settings rest (if list_any (same_member e.0) (membership_after views) then Set e.0 e.1 ∷ views else views)
 
+-- a membership of other identities is shown, with these cells
+abbrev pub with_membership : List Member → List (Member × ℕ) → List ViewEvent → List ViewEvent
+with_membership members cells views = (if same_members members (membership_after views) then views else Shown members cells ∷ views)
+
 -- a new membership: the view shows it with the cells of its backends' keys
 abbrev pub view_changed : (Member → Member) → ℕ → List Member → List registry.Event → List ViewEvent → List ViewEvent
 view_changed key_of id members events views = Shown members (registry.shown_cells key_of id members events) ∷ views

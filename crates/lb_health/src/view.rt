@@ -10,12 +10,12 @@ ghost use Rattle.std.proofs.Common.{Global};
 ghost use Rattle.lb_select.specs.Backends.{Member, same_member};
 ghost use Rattle.lb_select.specs.Memberships.{same_members};
 ghost use Rattle.lb_health.specs.Snapshots.{held_less, at_generation, living, flags_listed, value_at, snapshot_of, IfHead};
-ghost use Rattle.lb_health.specs.ViewEvents.{ViewEvent, Held, Released, Set, generation_after, membership_after, listed, flag_after};
+ghost use Rattle.lb_health.specs.ViewEvents.{ViewEvent, Shown, Held, Released, Set, generation_after, membership_after, listed, flag_after};
 ghost use Rattle.lb_health.specs.Views.{IsViewAfter, Flags, IsViewRefusal};
-ghost use Rattle.lb_health.specs.Joined.{lives, registry_released, settings_of, after_settings, view_changed, registry_changed};
+ghost use Rattle.lb_health.specs.Joined.{lives, registry_released, settings_of, after_settings, with_membership, view_changed, registry_changed};
 ghost use Rattle.lb_health.specs.Joined.{view_updated, registry_updated, IsHealthyIn, IsReadyIn, IsReady};
-ghost use Rattle.lb_registry.specs.Registry.{IsRegistryAfter};
-ghost use Rattle.lb_registry.specs.RegistryEvents.{Event, Updated, Applied, has_view, views_after, cells_given};
+ghost use Rattle.lb_registry.specs.Registry.{IsRegistryAfter, IsGrowthRefusal};
+ghost use Rattle.lb_registry.specs.RegistryEvents.{Event, Registered, Updated, Applied, registered_after, has_view, views_after, cells_given};
 
 use crate::snapshot::{ViewSnapshot, have_room, is_among, lists, place_of};
 use lb_registry::keys::KeyRule;
@@ -74,6 +74,30 @@ impl ViewCore {
             earlier: Vec::new(alloc),
             flags: BTreeMap::new(alloc),
         })
+    }
+
+    /// A view that is registered in the registry, at generation 0. The marks that wait there are applied.
+    ///
+    /// # Errors
+    ///
+    /// `NumbersExhausted` where no number is left for a view or a cell; `OutOfMemory` where memory is refused. The registry is
+    /// then as before.
+    pub fn register<R: KeyRule + Drop>(
+        alloc: Global,
+        registry: &mut Registry<R>,
+    ) -> Result<ViewCore, Refusal>
+        ensures made { IfOk result (λ v. IsViewAfter [] v) }
+        ensures id { IfOk result (λ v. (key_of : Member → Member) (events : List Event) → IsRegistryAfter R.gives key_of events registry.old
+            → v.id ≡ registered_after events + 1) }
+        ensures registry { OnOk result ((key_of : Member → Member) (events : List Event) → IsRegistryAfter R.gives key_of events registry.old
+            → IsRegistryAfter R.gives key_of (Applied ∷ Registered ∷ events) registry.new) }
+        ensures err { OnErr result ((key_of : Member → Member) (events : List Event) → IsRegistryAfter R.gives key_of events registry.old
+            → IsRegistryAfter R.gives key_of events registry.new) }
+        ensures refused { OnErr result (IsGrowthRefusal result) }
+    {
+        let mut view = ViewCore::new(alloc, 0)?;
+        view.id = registry.register_view(alloc)?;
+        Ok(view)
     }
 
     /// The number of the view in its registry.
@@ -271,6 +295,8 @@ impl ViewCore {
             → IsViewAfter views self.old
             → IsRegistryAfter R.gives key_of events registry.old
             → IsRegistryAfter R.gives key_of (registry_updated key_of self.old.id discovered.keys views events) registry.new) }
+        ensures some { OnOk result ((cells : List (Member × ℕ)) × ((views : List ViewEvent) → IsViewAfter views self.old
+            → IsViewAfter (after_settings (settings_of settings.entries) (with_membership discovered.keys cells views)) self.new)) }
         ensures called { IfOk result (λ answer. (views : List ViewEvent) → IsViewAfter views self.old
             → MatchOption answer (same_members discovered.keys (membership_after views) ≡ true)
             (λ t. (same_members discovered.keys (membership_after views) ≡ false)
@@ -325,6 +351,8 @@ impl ViewCore {
             → IsRegistryAfter R.gives key_of events registry.old
             → IsRegistryAfter R.gives key_of (registry_changed key_of self.old.id members.keys views events) registry.new) }
         ensures shown { OnOk result (IfHead self.new.snapshots (λ s. s.members ≡ members.keys)) }
+        ensures some { OnOk result ((cells : List (Member × ℕ)) × ((views : List ViewEvent) → IsViewAfter views self.old
+            → IsViewAfter (Shown members.keys cells ∷ views) self.new)) }
         ensures next { OnOk result (self.new.generation ≡ self.old.generation + 1) }
         ensures view_err { OnErr result ((views : List ViewEvent) → IsViewAfter views self.old → IsViewAfter views self.new) }
         ensures registry_err { OnErr result ((key_of : Member → Member) (events : List Event)

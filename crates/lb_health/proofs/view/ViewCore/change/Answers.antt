@@ -7,7 +7,7 @@ use Rattle.lb_registry.specs.RegistryEvents.{shown_cells, Event, Released, after
 use Rattle.lb_health.specs.Joined.{lives, view_changed}
 use Rattle.lb_health.specs.declared.snapshot.ViewSnapshot.{ViewSnapshot}
 use Rattle.lb_health.specs.Snapshots.{SnapshotValue, ViewValue, snapshot_of, living}
-use Rattle.lb_health.specs.ViewEvents.{ViewEvent, by_age, new_snapshot, snapshots_after, generation_after}
+use Rattle.lb_health.specs.ViewEvents.{ViewEvent, Shown, by_age, new_snapshot, snapshots_after, generation_after}
 use Rattle.lb_health.specs.Views.{IsViewAfter, Flags}
 use Rattle.lb_health.proofs.SnapshotLemmas.{shown_snapshots}
 use Rattle.lb_health.proofs.ViewLemmas.{roomier, shown, on_err}
@@ -42,8 +42,8 @@ returns-in_err-cells-clause-view_err g c =
     still _ c.args.self.now _ _ c.self.view_is refl
     (ap (λ (ss : List ViewSnapshot). snapshot_of c.self.inside.current ∷ map snapshot_of ss) c.reserve.ensures.items) c.flag_all.ensures.flags
 
-pub returns-clause-view : goal.returns-clause-view
-returns-clause-view g c = λ key_of views events h r.
+pub returns-clause-some : goal.returns-clause-some
+returns-clause-some g c = (c.in_ok-cells.cells.entries, λ views h.
     let before = subst (λ v. IsViewAfter views v) (sym c.self.view_is) h in
     let prepared = roomier views _ (record {
       id = c.self.inside.id;
@@ -59,9 +59,6 @@ returns-clause-view g c = λ key_of views events h r.
     let items : c.push_reserved.new.self.items ≡ c.reserve.new.self.items ++ c.self.inside.current ∷ [] = c.push_reserved.ensures.items
     ∙ ap (λ (s : ViewSnapshot). c.reserve.new.self.items ++ s ∷ []) c.replace.ensures.value in
     let members : (arc_value c.in_ok-members.members).keys ≡ c.args.members.keys = ap (λ s. s.keys) c.in_ok-members.ensures.ok in
-    let cells : c.in_ok-cells.cells.entries ≡ shown_cells key_of c.args.self.now.id c.args.members.keys events = c.in_ok-cells.ensures.cells key_of events r
-    ∙ ap (λ ms. shown_cells key_of c.self.inside.id ms events) c.in_ok-copy.ensures.ok
-    ∙ ap (λ (v : ViewValue). shown_cells key_of v.id c.args.members.keys events) c.self.view_is in
     let others : List SnapshotValue = by_age (snapshot_of c.self.inside.current ∷ map snapshot_of c.reserve.new.self.items) in
     shown views _ c.prune.new.self c.args.members.keys _ prepared
     c.in_ok-flag_all.ensures.all
@@ -71,9 +68,16 @@ returns-clause-view g c = λ key_of views events h r.
     ∙ ap (λ (ss : List ViewSnapshot). living n (snapshot_of new ∷ map snapshot_of ss)) items
     ∙ shown_snapshots n new c.self.inside.current c.reserve.new.self.items refl
     ∙ ap (λ ms. new_snapshot n ms c.in_ok-cells.cells.entries ∷ living n others) members
-    ∙ ap (λ cs. new_snapshot n c.args.members.keys cs ∷ living n others) cells
-    ∙ ap (λ m. new_snapshot m c.args.members.keys (shown_cells key_of c.args.self.now.id c.args.members.keys events) ∷ living m others) next)
-    c.prune.ensures.flags
+    ∙ ap (λ m. new_snapshot m c.args.members.keys c.in_ok-cells.cells.entries ∷ living m others) next)
+    c.prune.ensures.flags)
+
+pub returns-clause-view : goal.returns-clause-view
+unfolding returns-clause-some
+returns-clause-view g c = λ key_of views events h r.
+    let cells : c.in_ok-cells.cells.entries ≡ shown_cells key_of c.args.self.now.id c.args.members.keys events = c.in_ok-cells.ensures.cells key_of events r
+    ∙ ap (λ ms. shown_cells key_of c.self.inside.id ms events) c.in_ok-copy.ensures.ok
+    ∙ ap (λ (v : ViewValue). shown_cells key_of v.id c.args.members.keys events) c.self.view_is in
+    subst (λ cs. IsViewAfter (Shown c.args.members.keys cs ∷ views) c.prune.new.self) cells ((returns-clause-some g c).1 views h)
 
 pub returns-clause-registry : goal.returns-clause-registry
 returns-clause-registry g c = λ key_of views events h r.

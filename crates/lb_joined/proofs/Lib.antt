@@ -1,0 +1,6 @@
+pub mod Totals
+pub mod Slots
+pub mod Counting
+pub mod Histories
+pub mod Holds
+pub mod Joins

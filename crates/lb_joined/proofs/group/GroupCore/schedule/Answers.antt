@@ -1,0 +1,93 @@
+-- A membership reaches group and view, or neither.
+use Rattle.std.proofs.Common.{◌≡◌, ◌∷◌, ap, sym, subst, true, false, rules, Err}
+use Rattle.std.proofs.lemmas.Bool.{false≢true}
+use Rattle.lb_group.specs.GroupHistory.{Scheduled}
+use Rattle.lb_group.specs.Stands.{StandsFor}
+use Rattle.lb_registry.specs.Registry.{IsRegistryAfter}
+use Rattle.lb_registry.specs.RegistryEvents.{shown_cells}
+use Rattle.lb_health.specs.Joined.{settings_of, view_updated, registry_updated}
+use Rattle.lb_health.specs.Views.{IsViewAfter}
+use Rattle.lb_joined.specs.JoinedCalls.{Schedules}
+use Rattle.lb_joined.specs.JoinedHistory.{group_events}
+use Rattle.lb_joined.specs.Stands.{JoinedValue, views_of}
+use Rattle.lb_joined.proofs.Joins.{group-part, view-part, none-change, some-change, refused-schedule, view-refused, schedules}
+use Rattle.lb_joined.proofs.group.GroupCore.schedule.Goals as goal
+
+pub returns-in_err-update-clause-answers : goal.returns-in_err-update-clause-answers
+returns-in_err-update-clause-answers g c made e s =
+    let own = group-part made e _ _ _ c.self.view_is s in
+    let seen = view-part made e _ _ _ c.self.view_is s in
+    let is : c.from_residual-in_err-update.result ≡ Err c.in_err-update.field-0.0 = search rules in
+    subst (λ r. Schedules made e c.args.discovered.keys r) (sym is)
+    (refused-schedule made e c.args.discovered.keys _ c.in_ok-prepared.prepared c.in_err-update.field-0.0 own (c.in_ok-prepared.ensures.answers made (group_events e) own) c.in_ok-prepared.ensures.fits
+    (λ same. absurd (false≢true (c.in_err-update.ensures.same (views_of made e) seen same)))
+    (λ why. c.in_err-update.ensures.last (ap Err why) (views_of made e) seen)
+    (view-refused c.in_err-update.field-0.0 c.in_err-update.ensures.refused))
+
+pub invariant_of-self-in-None : goal.invariant_of-self-in-None
+invariant_of-self-in-None g c =
+    let p = c.self.invariant in
+    let s = p.1.1 in
+    let shown = c.in_ok-update.ensures.some in (
+      p.0,
+      (
+        _,
+        schedules p.0 p.1.0 c.args.discovered.keys shown.0 (settings_of c.args.settings.entries) c.args.now false c.self.inside.group c.update.new.self s.few
+            (none-change p.0 (group_events p.1.0) c.args.discovered.keys c.in_ok-prepared.prepared c.in-None.is (c.in_ok-prepared.ensures.answers p.0 (group_events p.1.0) s.group))
+            s.group (shown.1 (views_of p.0 p.1.0) s.view),
+      ),
+    )
+
+pub invariant_of-self-in-Some : goal.invariant_of-self-in-Some
+invariant_of-self-in-Some g c =
+    let p = c.self.invariant in
+    let s = p.1.1 in
+    let shown = c.in_ok-update.ensures.some in
+    let change = some-change p.0 (group_events p.1.0) c.args.discovered.keys c.in_ok-prepared.prepared c.in-Some.prepared c.in-Some.is (c.in_ok-prepared.ensures.answers p.0 (group_events p.1.0) s.group) in
+    let after : StandsFor p.0 (Scheduled c.args.discovered.keys c.args.now ∷ group_events p.1.0) c.commit.new.self =
+    subst (λ ms. StandsFor p.0 (Scheduled ms c.args.now ∷ group_events p.1.0) c.commit.new.self) change.1 (c.commit.ensures.stands p.0 (group_events p.1.0) s.group) in (
+      p.0,
+      (
+        _,
+        schedules p.0 p.1.0 c.args.discovered.keys shown.0 (settings_of c.args.settings.entries) c.args.now true c.commit.new.self c.update.new.self s.few change.0
+            after (shown.1 (views_of p.0 p.1.0) s.view),
+      ),
+    )
+
+pub returns-in-None-clause-stands : goal.returns-in-None-clause-stands
+returns-in-None-clause-stands g c key_of events r made e s =
+    let own = group-part made e _ _ _ c.self.view_is s in
+    let seen = view-part made e _ _ _ c.self.view_is s in
+    let id = ap (λ (v : JoinedValue g.row.S-Config.Denot). v.view.id) c.self.view_is in
+    let now : IsViewAfter (view_updated key_of c.args.self.now.view.id c.args.discovered.keys (settings_of c.args.settings.entries) events (views_of made e)) c.update.new.self =
+    subst (λ i. IsViewAfter (view_updated key_of i c.args.discovered.keys (settings_of c.args.settings.entries) events (views_of made e)) c.update.new.self) id
+    (c.in_ok-update.ensures.view key_of (views_of made e) events seen r) in
+    schedules made e c.args.discovered.keys (shown_cells key_of c.args.self.now.view.id c.args.discovered.keys events) (settings_of c.args.settings.entries) c.args.now false c.self.inside.group c.update.new.self s.few
+    (none-change made (group_events e) c.args.discovered.keys c.in_ok-prepared.prepared c.in-None.is (c.in_ok-prepared.ensures.answers made (group_events e) own))
+    own now
+
+pub returns-in-Some-clause-stands : goal.returns-in-Some-clause-stands
+returns-in-Some-clause-stands g c key_of events r made e s =
+    let own = group-part made e _ _ _ c.self.view_is s in
+    let seen = view-part made e _ _ _ c.self.view_is s in
+    let id = ap (λ (v : JoinedValue g.row.S-Config.Denot). v.view.id) c.self.view_is in
+    let change = some-change made (group_events e) c.args.discovered.keys c.in_ok-prepared.prepared c.in-Some.prepared c.in-Some.is (c.in_ok-prepared.ensures.answers made (group_events e) own) in
+    let after : StandsFor made (Scheduled c.args.discovered.keys c.args.now ∷ group_events e) c.commit.new.self =
+    subst (λ ms. StandsFor made (Scheduled ms c.args.now ∷ group_events e) c.commit.new.self) change.1 (c.commit.ensures.stands made (group_events e) own) in
+    let now : IsViewAfter (view_updated key_of c.args.self.now.view.id c.args.discovered.keys (settings_of c.args.settings.entries) events (views_of made e)) c.update.new.self =
+    subst (λ i. IsViewAfter (view_updated key_of i c.args.discovered.keys (settings_of c.args.settings.entries) events (views_of made e)) c.update.new.self) id
+    (c.in_ok-update.ensures.view key_of (views_of made e) events seen r) in
+    schedules made e c.args.discovered.keys (shown_cells key_of c.args.self.now.view.id c.args.discovered.keys events) (settings_of c.args.settings.entries) c.args.now true c.commit.new.self c.update.new.self s.few change.0
+    after now
+
+pub returns-in-None-clause-registry : goal.returns-in-None-clause-registry
+returns-in-None-clause-registry g c key_of events r made e s =
+    subst (λ i. IsRegistryAfter g.R.KeyRule.gives key_of (registry_updated key_of i c.args.discovered.keys (views_of made e) events) c.update.new.registry)
+    (ap (λ (v : JoinedValue g.row.S-Config.Denot). v.view.id) c.self.view_is)
+    (c.in_ok-update.ensures.registry key_of (views_of made e) events (view-part made e _ _ _ c.self.view_is s) r)
+
+pub returns-in-Some-clause-registry : goal.returns-in-Some-clause-registry
+returns-in-Some-clause-registry g c key_of events r made e s =
+    subst (λ i. IsRegistryAfter g.R.KeyRule.gives key_of (registry_updated key_of i c.args.discovered.keys (views_of made e) events) c.update.new.registry)
+    (ap (λ (v : JoinedValue g.row.S-Config.Denot). v.view.id) c.self.view_is)
+    (c.in_ok-update.ensures.registry key_of (views_of made e) events (view-part made e _ _ _ c.self.view_is s) r)

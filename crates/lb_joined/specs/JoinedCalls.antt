@@ -1,0 +1,54 @@
+-- What the calls of a joined group answer beside what the group's own calls do, and what they do to the registry.
+use Rattle.std.specs.Prelude.{◌≡◌, ◌⊎◌, ℕ, Bool, true, List, ◌∷◌, ◌++◌, Option, Some, None, Result, Ok, Err, if◌then◌else◌}
+use Rattle.lb_select.specs.Backends.{Member}
+use Rattle.lb_select.specs.declared.refusal.Refusal.{Refusal}
+use Rattle.lb_select.specs.declared.refusal.Refusal.TheVariants.{OutOfMemory, NumbersExhausted, NoSuch}
+use Rattle.lb_group.specs.GroupCalls as group
+use Rattle.lb_group.specs.GroupHistory.{past_of, extra, generation_of}
+use Rattle.lb_group.specs.Stands.{Made}
+use Rattle.lb_group.specs.declared.answers.Selection.{Selection}
+use Rattle.lb_group.specs.declared.schedule.Scheduled.{Scheduled}
+use Rattle.lb_health.specs.Joined.{registry_released}
+use Rattle.lb_health.specs.ViewEvents.{ViewEvent}
+use Rattle.lb_registry.specs.RegistryEvents as registry
+use Rattle.lb_joined.specs.JoinedHistory.{History, Shown, group_events, in_group, after_settings}
+
+-- a membership that another call below may refuse for memory, because no number is left for a cell, or because no such view is
+-- registered
+abbrev pub IsSharedRefusal : Refusal → Type 0
+IsSharedRefusal e = (e ≡ OutOfMemory) ⊎ ((e ≡ NumbersExhausted) ⊎ (e ≡ NoSuch))
+
+-- A group is refused for the least cause of its configurations; where there is none, for memory or because no number is left.
+abbrev pub IsMakingRefusal : {A : Type 0} → Option Refusal → Result A Refusal → Type 0
+IsMakingRefusal cause (Ok a) = cause ≡ None
+IsMakingRefusal cause (Err e) = (cause ≡ Some e) ⊎ ((cause ≡ None) × ((e ≡ OutOfMemory) ⊎ (e ≡ NumbersExhausted)))
+
+-- As for a group alone; the registry of another membership may refuse it too.
+abbrev pub Schedules : {C : Type 0} → Made C → History → List Member → Result Scheduled Refusal → Type 0
+Schedules made e members (Ok s) = group.Schedules made (group_events e) members (Ok s)
+Schedules made e members (Err r) =
+    (group.schedule_refusal members (group_events e) ≡ Some r)
+    ⊎ ((group.schedule_refusal members (group_events e) ≡ None) × (group.is_change members (group_events e) ≡ true) × IsSharedRefusal r)
+
+-- another membership is shown, with these cells
+abbrev pub with_membership : List Member → List (Member × ℕ) → ℕ → History → History
+with_membership members cells now e = (if group.is_change members (group_events e) then Shown members cells now ∷ e else e)
+
+-- The cells are those that the registry gives its backends; then the settings reach the newest membership.
+abbrev pub after_schedule :
+    (Member → Member) → ℕ → List Member → List (Member × Bool) → ℕ → List registry.Event → History → History
+after_schedule key_of id members settings now events e =
+    after_settings settings (with_membership members (registry.shown_cells key_of id members events) now e)
+
+-- the registry of a view after a call that lets a snapshot go where it isn't refused
+abbrev pub released_where : {A B : Type 0} → Result A B → ℕ → ℕ → List ViewEvent → List registry.Event → List registry.Event
+released_where (Ok a) id g views events = registry_released id g views events
+released_where (Err b) id g views events = events
+
+-- the generation of what stands in a slot beside what it serves
+abbrev pub generation_at : ℕ → History → ℕ
+generation_at slot e = generation_of (extra (past_of slot (group_events e)))
+
+-- a selection moves the counter of its slot
+abbrev pub after_select : {C : Type 0} → Made C → ℕ → Selection → History → History
+after_select made slot s e = in_group (group.select_events made slot s) ++ e

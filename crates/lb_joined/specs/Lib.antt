@@ -1,0 +1,4 @@
+pub mod JoinedCalls
+pub mod JoinedHistory
+pub mod JoinedLaws
+pub mod Stands

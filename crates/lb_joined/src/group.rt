@@ -1,0 +1,440 @@
+//! A group joined with its view: a membership reaches both or neither, and each slot holds the snapshots that it has in use.
+//! A call tests all that it can refuse for before it changes anything; builds run elsewhere, between `ask` and `publish`.
+ghost use Rattle.std.specs.Prelude.{◌≡◌, ◌↔◌, ◌≤◌, ◌+◌, ◌^◌, ◌∷◌, [], ℕ, List, false, map, replicate, IfOk, IsTrue, OnOk, OnErr, IsErrOf, slice_get};
+ghost use Rattle.std.specs.Arc.{arc_value};
+ghost use Rattle.lb_select.specs.Backends.{Member};
+ghost use Rattle.lb_select.specs.Refusals.{least};
+ghost use Rattle.lb_group.specs.GroupHistory.{Cancelled, WorkerLost, Entered, Left, TakenOut, Destroyed, past_of, newest as newest_after, served as served_after, is_cancelled, timing as timing_after};
+ghost use Rattle.lb_group.specs.Values.{configs_of};
+ghost use Rattle.lb_group.specs.Stands.{Made, counts_after};
+ghost use Rattle.lb_group.specs.GroupCalls.{IsOwnJob, Asks, ask_events, gate_after, Fails, fail_events, gate_back, Publishes, publish_events, Abandons, abandon_events, Unless, lose_refusal, done_at, Enters, Leaves, Takes, Reports, at_slot, SelectsIn, select_events};
+ghost use Rattle.lb_health.specs.Joined.{IsReady, settings_of, registry_updated};
+ghost use Rattle.lb_health.specs.ViewEvents.{Held};
+ghost use Rattle.lb_health.specs.Views.{IsViewAfter};
+ghost use Rattle.lb_registry.specs.Registry.{IsRegistryAfter};
+ghost use Rattle.lb_registry.specs.RegistryEvents.{Event, Registered, Applied, Updated, Marked, registered_after, views_after, has_view, cells_given};
+ghost use Rattle.lb_joined.specs.JoinedCalls.{IsMakingRefusal, Schedules, after_schedule, released_where, generation_at, after_select};
+ghost use Rattle.lb_joined.specs.JoinedHistory.{History, Set, group_events, in_group, members_now};
+ghost use Rattle.lb_joined.specs.Stands.{Stands, After, Becomes, SameSite, views_of};
+
+use lb_group::answers::{Ask, Counts, Selection, Timing, Told};
+use lb_group::group;
+use lb_group::job::{Built, Job};
+use lb_group::retired::{Reader, Retired};
+use lb_group::schedule::Scheduled;
+use lb_health::view::{Settings, ViewCore};
+use lb_rebuild::gate::{GateCore, Permit};
+use lb_registry::keys::KeyRule;
+use lb_registry::registry::Registry;
+use lb_select::backend::Backend;
+use lb_select::refusal::Refusal;
+use lb_select::walk::BackendSelection;
+use std::alloc::Global;
+use std::collections::BTreeSet;
+use std::marker::Model;
+use std::sync::Arc;
+
+/// A group of slots with the view of a registry: each slot serves one selector, built from one of the view's memberships, and the
+/// view keeps the snapshots of the generations that a slot serves, builds, or still has to destroy.
+///
+/// Contracts see the group and the view, and tell both by one history; some history stands behind every joined group. A registry,
+/// a gate, jobs, built selectors, readers and permits that are handed to its calls are its own.
+#[derive(Drop)]
+pub struct GroupCore<S: BackendSelection> {
+    group: group::GroupCore<S>,
+    view: ViewCore,
+}
+
+impl<S: BackendSelection> Model for GroupCore<S> {
+    ghost use Rattle.lb_joined.specs.Stands.{JoinedValue, IsFounded};
+
+    ghost Value = { JoinedValue S.Config };
+
+    ghost view = { λ g. record { group = g.group; view = g.view } };
+
+    ghost invariant = { λ g. IsFounded (record { group = g.group; view = g.view }) };
+}
+
+impl<S: BackendSelection> GroupCore<S> {
+    /// A group of one slot for each configuration, with a view of its own in the registry. Each slot serves a selector over no
+    /// backends, and `gate` allows its extra selectors one at a time.
+    ///
+    /// # Errors
+    ///
+    /// The least cause for which one of the configurations gives no selector over no backends; where there is none,
+    /// `NumbersExhausted` where no number is left for a view or a cell, and `OutOfMemory` where memory is refused. The registry is
+    /// then as before.
+    pub fn new<R: KeyRule + Drop>(
+        alloc: Global,
+        registry: &mut Registry<R>,
+        gate: &GateCore,
+        configs: Vec<S::Config>,
+    ) -> Result<GroupCore<S>, Refusal>
+        ensures stands { IfOk result (λ g. Stands (record { gate = gate.now.id; configs = configs.items }) [] g) }
+        ensures gate { IfOk result (λ g. g.group.gate ≡ gate.now.id) }
+        ensures id { IfOk result (λ g. (key_of : Member → Member) (events : List Event) → IsRegistryAfter R.gives key_of events registry.old
+            → g.view.id ≡ registered_after events + 1) }
+        ensures registry { OnOk result ((key_of : Member → Member) (events : List Event)
+            → IsRegistryAfter R.gives key_of events registry.old
+            → IsRegistryAfter R.gives key_of (Applied ∷ Registered ∷ events) registry.new) }
+        ensures err { OnErr result ((key_of : Member → Member) (events : List Event) → IsRegistryAfter R.gives key_of events registry.old
+            → IsRegistryAfter R.gives key_of events registry.new) }
+        ensures refused { IsMakingRefusal (least (map (S.refusal []) configs.items)) result }
+    {
+        let slots = configs.len();
+        let group = group::GroupCore::new(alloc, gate, configs)?;
+        let mut view = ViewCore::register(alloc, registry)?;
+        hold_first(&mut view, slots);
+        Ok(GroupCore { group, view })
+    }
+
+    /// Some history of the group and its view, for whoever knows none.
+    pub fn past(&self)
+        ensures { (made : Made S.Config) × ((e : History) × Stands made e self.now) }
+    {
+        let _view = &self.view;
+    }
+
+    /// The number of the group's view in its registry.
+    pub fn id(&self) -> u64
+        ensures { result ≡ self.now.view.id }
+    {
+        self.view.id()
+    }
+
+    /// Makes what was discovered the newest membership where it has other backends than the newest one, at the moment `now`: the
+    /// view shows it, and each slot gets an order for it. Then the settings reach the backends of the newest membership, that of
+    /// before or this one.
+    ///
+    /// # Errors
+    ///
+    /// `GenerationsExhausted` where the membership is another one and the newest generation is 18446744073709551615;
+    /// `GroupCancelled` in a cancelled group; where neither holds and the membership is another one, `NoSuch` where the registry
+    /// has no such view, `NumbersExhausted` where no number is left for a cell, and `OutOfMemory` where memory is refused. Group,
+    /// view and registry are then as before.
+    pub fn schedule<R: KeyRule + Drop>(
+        &mut self,
+        alloc: Global,
+        registry: &mut Registry<R>,
+        discovered: BTreeSet<Backend>,
+        settings: Settings,
+        now: u128,
+    ) -> Result<Scheduled, Refusal>
+        ensures answers { After self.old (λ made e. Schedules made e discovered.keys result) }
+        ensures stands { OnOk result ((key_of : Member → Member) (events : List Event) → IsRegistryAfter R.gives key_of events registry.old
+            → After self.old (λ made e. Stands made
+            (after_schedule key_of self.old.view.id discovered.keys (settings_of settings.entries) now events e) self.new)) }
+        ensures registry { OnOk result ((key_of : Member → Member) (events : List Event)
+            → IsRegistryAfter R.gives key_of events registry.old
+            → After self.old (λ made e. IsRegistryAfter R.gives key_of
+            (registry_updated key_of self.old.view.id discovered.keys (views_of made e) events) registry.new)) }
+        ensures err { OnErr result (After self.old (λ made e. Stands made e self.new)) }
+        ensures registry_err { OnErr result ((key_of : Member → Member) (events : List Event)
+            → IsRegistryAfter R.gives key_of events registry.old
+            → IsRegistryAfter R.gives key_of events registry.new) }
+        ensures unknown { IsErrOf result Refusal.NoSuch → (key_of : Member → Member) (events : List Event)
+            → IsRegistryAfter R.gives key_of events registry.old → has_view self.old.view.id (views_after events) ≡ false }
+        ensures numbers { IsErrOf result Refusal.NumbersExhausted → (key_of : Member → Member) (events : List Event)
+            → IsRegistryAfter R.gives key_of events registry.old
+            → 2 ^ 64 ≤ cells_given key_of (Updated self.old.view.id discovered.keys ∷ Applied ∷ events) }
+        ensures site { SameSite self.old self.new }
+    {
+        let prepared = self.group.prepare(alloc, &discovered)?;
+        self.view
+            .update(alloc, registry, discovered, settings, |_members| ())?;
+        match prepared {
+            None => Ok(Scheduled {
+                generation: self.group.newest(),
+                changed: false,
+                turns: Vec::new(alloc),
+            }),
+            Some(prepared) => Ok(self.group.commit(prepared, now)),
+        }
+    }
+
+    /// Stops the rebuilds for good, and marks the view for removal: the registry forgets it at the next call that applies marks.
+    /// Selections and readers go on, and what is under way can still come back. It takes no memory.
+    pub fn cancel<R: KeyRule + Drop>(&mut self, registry: &mut Registry<R>)
+        ensures stands { Becomes self.old (in_group (Cancelled ∷ [])) self.new }
+        ensures site { SameSite self.old self.new }
+        ensures registry { (key_of : Member → Member) (events : List Event) → IsRegistryAfter R.gives key_of events registry.old
+            → IsRegistryAfter R.gives key_of (Marked self.old.view.id ∷ events) registry.new }
+    {
+        self.group.cancel();
+        registry.remove_view(self.view.id());
+    }
+
+    /// Asks for the build that a slot needs next; a job holds the newest snapshot. It takes no memory.
+    ///
+    /// # Errors
+    ///
+    /// `NoSuch` where no such slot is there.
+    pub fn ask(&mut self, slot: usize, gate: &mut GateCore, now: u128) -> Result<Ask<S>, Refusal>
+        requires { gate.old.id ≡ self.old.group.gate }
+        ensures answers { After self.old (λ made e. Asks made (group_events e) slot gate.old.out now result) }
+        ensures stands { Becomes self.old (in_group (ask_events slot now result)) self.new }
+        ensures site { SameSite self.old self.new }
+        ensures own { IfOk result (λ a. IsOwnJob self.new.group a) }
+        ensures gate { gate.new ≡ gate_after result gate.old }
+        ensures one_gate { gate.new.id ≡ gate.old.id }
+    {
+        let answer = self.group.ask(slot, gate, now)?;
+        if let Ask::Job(_job) = &answer {
+            self.view.hold(self.group.newest());
+        }
+        Ok(answer)
+    }
+
+    /// Ends the flight or the lost flight of a job that failed, gives its permit back, and lets its snapshot go. A slot whose job
+    /// was of the newest generation waits again. It takes no memory.
+    ///
+    /// # Errors
+    ///
+    /// The job, where its slot has no flight and no lost flight of its generation. Nothing changes then.
+    pub fn fail<R: KeyRule + Drop>(
+        &mut self,
+        job: Job<S>,
+        registry: &mut Registry<R>,
+        gate: &mut GateCore,
+        now: u128,
+    ) -> Result<(), Job<S>>
+        requires permit { job.permit ≡ self.old.group.gate }
+        requires config { slice_get (configs_of self.old.group) job.slot ≡ Some job.config }
+        requires gate { gate.old.id ≡ self.old.group.gate }
+        ensures answers { After self.old (λ made e. Fails (group_events e) job result) }
+        ensures stands { Becomes self.old (in_group (fail_events job now result)) self.new }
+        ensures site { SameSite self.old self.new }
+        ensures registry { (key_of : Member → Member) (events : List Event) → IsRegistryAfter R.gives key_of events registry.old
+            → After self.old (λ made e. IsRegistryAfter R.gives key_of
+            (released_where result self.old.view.id job.generation (views_of made e) events) registry.new) }
+        ensures gate { gate.new ≡ gate_back result gate.old }
+        ensures one_gate { gate.new.id ≡ gate.old.id }
+    {
+        let generation = job.generation();
+        match self.group.fail(job, gate, now) {
+            Ok(()) => {}
+            Err(job) => return Err(job),
+        }
+        self.view.release(registry, generation);
+        Ok(())
+    }
+
+    /// Serves the selector of a flight, and retires what its slot served before with its readers. In a cancelled group, and for a
+    /// lost flight, the selector is retired unserved, as by `abandon`. It takes no memory.
+    ///
+    /// # Errors
+    ///
+    /// The selector, where its slot has no flight and no lost flight of its generation. Nothing changes then.
+    pub fn publish(&mut self, built: Built<S>) -> Result<Told, Built<S>>
+        requires permit { built.task.permit ≡ self.old.group.gate }
+        requires config { slice_get (configs_of self.old.group) built.task.slot ≡ Some built.task.config }
+        ensures answers { After self.old (λ made e. Publishes (group_events e) built result) }
+        ensures stands { Becomes self.old (in_group (publish_events built result)) self.new }
+        ensures site { SameSite self.old self.new }
+    {
+        self.group.publish(built)
+    }
+
+    /// Retires the selector of a flight or of a lost flight unserved. A slot whose selector was of the newest generation waits
+    /// again. It takes no memory.
+    ///
+    /// # Errors
+    ///
+    /// The selector, where its slot has no flight and no lost flight of its generation. Nothing changes then.
+    pub fn abandon(&mut self, built: Built<S>) -> Result<(), Built<S>>
+        requires permit { built.task.permit ≡ self.old.group.gate }
+        requires config { slice_get (configs_of self.old.group) built.task.slot ≡ Some built.task.config }
+        ensures answers { After self.old (λ made e. Abandons (group_events e) built result) }
+        ensures stands { Becomes self.old (in_group (abandon_events built result)) self.new }
+        ensures site { SameSite self.old self.new }
+    {
+        self.group.abandon(built)
+    }
+
+    /// Ends a slot's flight as lost: its job or its selector goes on with the permit, but is not served any more. It takes no
+    /// memory.
+    ///
+    /// # Errors
+    ///
+    /// `NoSuch` where no such slot is there, and `NothingInFlight` where it has no flight.
+    pub fn worker_lost(&mut self, slot: usize) -> Result<(), Refusal>
+        ensures answers { After self.old (λ made e. Unless (lose_refusal made slot (group_events e)) result) }
+        ensures stands { Becomes self.old (in_group (done_at slot WorkerLost result)) self.new }
+        ensures site { SameSite self.old self.new }
+    {
+        self.group.worker_lost(slot)
+    }
+
+    /// Enters the selector that a slot serves.
+    ///
+    /// # Errors
+    ///
+    /// `NoSuch` where no such slot is there; `NumbersExhausted` where its readers are at 18446744073709551615; `OutOfMemory`
+    /// where neither holds and memory is refused. Nothing changes then.
+    pub fn enter(&mut self, slot: usize) -> Result<Reader<S>, Refusal>
+        ensures answers { After self.old (λ made e. Enters made (group_events e) slot result) }
+        ensures stands { Becomes self.old (in_group (done_at slot Entered result)) self.new }
+        ensures site { SameSite self.old self.new }
+        ensures own { IfOk result (λ r. r.gate ≡ self.new.group.gate) }
+    {
+        self.group.enter(slot)
+    }
+
+    /// Whether a backend is ready in the snapshot of the generation that a reader entered: listed in it, enabled, and the cell that
+    /// it has there kept and healthy. It takes no memory.
+    pub fn ready<R: KeyRule + Drop>(
+        &self,
+        reader: &Reader<S>,
+        registry: &Registry<R>,
+        backend: &Backend,
+    ) -> bool
+        requires { reader.now.gate ≡ self.now.group.gate }
+        ensures { (key_of : Member → Member) (events : List Event) → IsRegistryAfter R.gives key_of events registry.now
+            → After self.now (λ made e. IsTrue result ↔ IsReady key_of (views_of made e) events reader.now.generation backend.now) }
+    {
+        self.view.ready_in(registry, reader.generation(), backend)
+    }
+
+    /// Gives an entry back to its slot. It takes no memory.
+    ///
+    /// # Errors
+    ///
+    /// The reader, where its slot counts no reader of its generation. Nothing changes then.
+    pub fn leave(&mut self, reader: Reader<S>) -> Result<(), Reader<S>>
+        requires { reader.gate ≡ self.old.group.gate }
+        ensures answers { After self.old (λ made e. Leaves made (group_events e) reader result) }
+        ensures stands { Becomes self.old (in_group (done_at reader.slot (Left reader.generation) result)) self.new }
+        ensures site { SameSite self.old self.new }
+    {
+        self.group.leave(reader)
+    }
+
+    /// Takes a retired selector out of its slot, to be destroyed and then reported. It takes no memory.
+    ///
+    /// # Errors
+    ///
+    /// `NoSuch` where no such slot is there; `StillRead` with the number of readers that are left in it; `NothingRetired`
+    /// where no retired selector is there. Nothing changes then.
+    pub fn take_retired(&mut self, slot: usize) -> Result<Retired<S>, Refusal>
+        ensures answers { After self.old (λ made e. Takes made (group_events e) slot result) }
+        ensures stands { Becomes self.old (in_group (done_at slot TakenOut result)) self.new }
+        ensures site { SameSite self.old self.new }
+        ensures own { IfOk result (λ r. r.permit ≡ self.new.group.gate) }
+    {
+        self.group.take_retired(slot)
+    }
+
+    /// The report that the selector which was taken out of that slot is destroyed; its permit goes back to the gate, and its
+    /// snapshot is let go. It takes no memory.
+    ///
+    /// # Errors
+    ///
+    /// The permit, where no selector of the slot was taken out. Nothing changes then.
+    pub fn destroyed<R: KeyRule + Drop>(
+        &mut self,
+        slot: usize,
+        permit: Permit,
+        registry: &mut Registry<R>,
+        gate: &mut GateCore,
+    ) -> Result<(), Permit>
+        requires permit { permit ≡ self.old.group.gate }
+        requires gate { gate.old.id ≡ self.old.group.gate }
+        ensures answers { After self.old (λ made e. Reports made (group_events e) slot permit result) }
+        ensures stands { Becomes self.old (in_group (done_at slot Destroyed result)) self.new }
+        ensures site { SameSite self.old self.new }
+        ensures registry { (key_of : Member → Member) (events : List Event) → IsRegistryAfter R.gives key_of events registry.old
+            → After self.old (λ made e. IsRegistryAfter R.gives key_of
+            (released_where result self.old.view.id (generation_at slot e) (views_of made e) events) registry.new) }
+        ensures gate { gate.new ≡ gate_back result gate.old }
+        ensures one_gate { gate.new.id ≡ gate.old.id }
+    {
+        let Some(generation) = self.group.taken_out(slot) else {
+            return Err(permit);
+        };
+        match self.group.destroyed(slot, permit, gate) {
+            Ok(()) => {}
+            Err(permit) => return Err(permit),
+        }
+        self.view.release(registry, generation);
+        Ok(())
+    }
+
+    /// Selects from what a slot serves, as `lb_group::group::GroupCore::select` does.
+    pub fn select(
+        &mut self,
+        alloc: Global,
+        slot: usize,
+        key: &[u8],
+        limit: usize,
+        random: &[u64],
+    ) -> Selection
+        ensures answers { After self.old (λ made e.
+            SelectsIn S.may_draw_random S.walks made (group_events e) slot key.now limit random.now result) }
+        ensures stands { After self.old (λ made e. Stands made (after_select made slot result e) self.new) }
+        ensures site { SameSite self.old self.new }
+    {
+        self.group.select(alloc, slot, key, limit, random)
+    }
+
+    /// Enables or disables a backend that a living snapshot lists, by identity; another is left alone. It takes no memory.
+    pub fn set_enable(&mut self, backend: &Backend, enabled: bool)
+        ensures stands { Becomes self.old (Set backend.now enabled ∷ []) self.new }
+        ensures site { SameSite self.old self.new }
+    {
+        self.view.set_enable(backend, enabled);
+    }
+
+    /// The membership of the newest generation. Refused `OutOfMemory` where std refuses one more owner.
+    pub fn get_backend(&self) -> Result<Arc<BTreeSet<Backend>>, Refusal>
+        ensures members { IfOk result (λ set. After self.now (λ made e. (arc_value set).keys ≡ members_now e)) }
+        ensures refused { OnErr result (result ≡ Err Refusal.OutOfMemory) }
+    {
+        self.view.get_backend()
+    }
+
+    /// The newest generation; 0 before the first membership.
+    pub fn newest(&self) -> u64
+        ensures { After self.now (λ made e. result ≡ newest_after (group_events e)) }
+    {
+        self.group.newest()
+    }
+
+    /// Whether the group is cancelled.
+    pub fn is_cancelled(&self) -> bool
+        ensures { After self.now (λ made e. result ≡ is_cancelled (group_events e)) }
+    {
+        self.group.is_cancelled()
+    }
+
+    /// The generation that a slot serves, or `None` where no such slot is there.
+    pub fn served(&self, slot: usize) -> Option<u64>
+        ensures { After self.now (λ made e. result ≡ at_slot made slot (served_after (past_of slot (group_events e)))) }
+    {
+        self.group.served(slot)
+    }
+
+    /// The counts of a slot, or `None` where no such slot is there.
+    pub fn counts(&self, slot: usize) -> Option<Counts>
+        ensures { After self.now (λ made e. result ≡ at_slot made slot (counts_after (past_of slot (group_events e)))) }
+    {
+        self.group.counts(slot)
+    }
+
+    /// The timing of a slot's last publication: `None` where no such slot is there, and none in it before the first.
+    pub fn timing(&self, slot: usize) -> Option<Option<Timing>>
+        ensures { After self.now (λ made e. result ≡ at_slot made slot (timing_after (past_of slot (group_events e)))) }
+    {
+        self.group.timing(slot)
+    }
+}
+
+// Holds the snapshot of generation 0 of a new view once for each slot.
+fn hold_first(view: &mut ViewCore, slots: usize)
+    requires { IsViewAfter [] view.old }
+    ensures held { IsViewAfter (replicate slots (Held 0)) view.new }
+    ensures id { view.new.id ≡ view.old.id }
+{
+    for _ in 0..slots {
+        view.hold(0);
+    }
+}
