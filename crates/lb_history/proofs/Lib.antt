@@ -1,0 +1,16 @@
+pub mod Placing
+pub mod Accepted
+pub mod Readers
+pub mod Runs
+pub mod Absent
+pub mod Holders
+pub mod Extras
+pub mod Counting
+pub mod Promised
+pub mod Selecting
+pub mod Steps
+pub mod Viewing
+pub mod Joining
+pub mod Totals
+pub mod Holding
+pub mod Living

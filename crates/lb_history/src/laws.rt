@@ -1,0 +1,65 @@
+//! Laws of every run of a world: each is what its function ensures, over histories alone.
+//! There is no code here and no world: whatever answers as a run does keeps them.
+ghost use Rattle.std.specs.Prelude.{◌≡◌, ◌∷◌, ℕ, None};
+ghost use Rattle.lb_select.specs.Backends.{Member};
+ghost use Rattle.lb_health.specs.Joined.{IsReady};
+ghost use Rattle.lb_group.specs.GroupHistory.{IsPast};
+ghost use Rattle.lb_history.specs.Answers.{IsRun};
+ghost use Rattle.lb_history.specs.History.{History, made_at, registry_of, past};
+ghost use Rattle.lb_history.specs.Meanings.{meaning_of};
+ghost use Rattle.lb_history.specs.Promises.{Promised, NeverFalls, Raises, DestroysExactly, OthersStay, Untouched, ViewFollows, LivesExactly, JudgedBy};
+ghost use Rattle.lb_history.specs.Selected.{FirstAccepted};
+ghost use Rattle.lb_history.specs.Replies.{Answer};
+ghost use Rattle.lb_history.specs.Shared.{key_of, events_in, view_events};
+ghost use Rattle.lb_history.specs.Steps.{Step};
+
+use lb_select::walk::BackendSelection;
+
+/// What happens to each slot is a past that can happen, so every law of the crate of groups holds of it.
+pub fn pasts_can_happen<S: BackendSelection>()
+    ensures { (h : History S.Config) → IsRun (meaning_of S.BackendSelection) h → (g s : ℕ) → IsPast (past g s h) }
+{}
+
+/// To a group that isn't there nothing has happened, and nothing is held of its jobs.
+pub fn absent_groups<S: BackendSelection>()
+    ensures { (h : History S.Config) → IsRun (meaning_of S.BackendSelection) h → (g : ℕ) → made_at g h ≡ None → Untouched g h }
+{}
+
+/// A step at one group changes no other's events, neither of its slots nor of its view, and those of no other registry.
+pub fn others_stay<S: BackendSelection>()
+    ensures { (h : History S.Config) (st : Step S.Config) (a : Answer) → OthersStay h st a }
+{}
+
+/// A selection that is not refused answers the first accepted backend among the distinct of the first `limit` candidates of the one
+/// generation that its slot serves, judged by the snapshot of that generation, or none.
+pub fn selections_answer_the_first<S: BackendSelection>()
+    ensures { (h : History S.Config) (st : Step S.Config) (a : Answer) → IsRun (meaning_of S.BackendSelection) ((st, a) ∷ h)
+        → FirstAccepted (meaning_of S.BackendSelection) h st a }
+{}
+
+/// A group's view is at the group's newest generation and membership, and each snapshot that lives has the members and the cells of
+/// its own generation; it lives exactly while it is the newest or some slot holds it. So readiness in a generation is by that generation's members, by the cells that they had when it was shown, and
+/// by the flags as they are: no answer mixes one generation's membership or cells with another's.
+pub fn generations_do_not_mix<S: BackendSelection>()
+    ensures views { (h : History S.Config) → IsRun (meaning_of S.BackendSelection) h → (g : ℕ) → ViewFollows g h }
+    ensures lives { (h : History S.Config) → IsRun (meaning_of S.BackendSelection) h → LivesExactly h }
+    ensures judged { (h : History S.Config) → IsRun (meaning_of S.BackendSelection) h → (g n : ℕ) (b : Member)
+        → IsReady (key_of g h) (view_events g h) (events_in (registry_of g h) h) n b → JudgedBy g n b h }
+{}
+
+/// A publication raises what its slot serves, to the generation that it tells; a retired selector is destroyed exactly where no
+/// reader is in it, and else it is told how many are.
+pub fn steps_tell<S: BackendSelection>()
+    ensures raises { (h : History S.Config) (st : Step S.Config) (a : Answer) → IsRun (meaning_of S.BackendSelection) ((st, a) ∷ h)
+        → Raises h st a }
+    ensures destroys { (h : History S.Config) (st : Step S.Config) (a : Answer) → IsRun (meaning_of S.BackendSelection) ((st, a) ∷ h)
+        → DestroysExactly h st a }
+{}
+
+/// After every step: one extra for each gate, pointwise and counted; the ledger; exact readers; each selector's members are those
+/// of its generation; slots that neither build nor wait serve the newest; free gates grant. And what a slot serves never falls.
+pub fn promises<S: BackendSelection>()
+    ensures now { (h : History S.Config) → IsRun (meaning_of S.BackendSelection) h → Promised (meaning_of S.BackendSelection) h }
+    ensures falls { (h : History S.Config) (st : Step S.Config) (a : Answer)
+        → IsRun (meaning_of S.BackendSelection) ((st, a) ∷ h) → NeverFalls h st a }
+{}
