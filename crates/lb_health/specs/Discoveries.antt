@@ -11,6 +11,11 @@ abbrev pub Discovers : {D : Type 0} → DiscoverySource D → List Member → Li
 Discovers (source.Static backends) members settings = (members ≡ backends) × (settings ≡ [])
 Discovers (source.Boxed discovery) members settings = ⊤
 
+-- a caller's discovery may answer a fault, and a set that stays never does
+abbrev pub MayFault : {D : Type 0} → DiscoverySource D → Type 0
+MayFault (source.Static backends) = ⊥
+MayFault (source.Boxed discovery) = ⊤
+
 -- a fault of the discovery, or refused memory
 abbrev pub IsDiscoveryRefusal : {A : Type 0} → Result A Refusal → Type 0
 IsDiscoveryRefusal r = (r ≡ Err Discovery) ⊎ (r ≡ Err OutOfMemory)

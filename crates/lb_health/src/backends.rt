@@ -10,6 +10,7 @@ ghost use Rattle.lb_select.specs.Backends.{Member};
 ghost use Rattle.lb_registry.specs.Keys.{by_identity, rule_gives};
 ghost use Rattle.lb_registry.specs.Registry.{IsRegistryAfter, IsGrowthRefusal};
 ghost use Rattle.lb_registry.specs.RegistryEvents.{Event, Applied, Registered, registered_after, views_after, has_view, cells_given};
+ghost use Rattle.lb_health.specs.Discoveries.{MayFault};
 ghost use Rattle.lb_health.specs.Joined.{IsReady};
 ghost use Rattle.lb_health.specs.Snapshots.{IfHead};
 ghost use Rattle.lb_health.specs.Passes.{PassesWith, target_cells};
@@ -174,6 +175,7 @@ impl<D: ServiceDiscovery + Drop, R: KeyRule + Drop, C: HealthCheck + Drop> Backe
             → IsRegistryAfter R.gives key_of events self.old.health.registry
             → IsViewAfter views self.new.view × IsRegistryAfter R.gives key_of events self.new.health.registry) }
         ensures refused { OnErr result (IsBackendsRefusal result) }
+        ensures fault { IsErrOf result Refusal.Discovery → MayFault self.old.discovery }
         ensures last { IsErrOf result Refusal.GenerationsExhausted → (views : List ViewEvent) → IsViewAfter views self.old.view
             → generation_after views + 1 ≡ 2 ^ 64 }
         ensures unknown { IsErrOf result Refusal.NoSuch → (key_of : Member → Member) (events : List Event)

@@ -1,11 +1,11 @@
 //! Discovery: where the backends of a view come from.
 //! A discovery gives a set and settings; of a backend that the settings omit the flag stays.
-ghost use Rattle.std.specs.Prelude.{◌≡◌, [], IfOk, OnErr, Err};
+ghost use Rattle.std.specs.Prelude.{◌≡◌, [], IfOk, IsErrOf, OnErr, Err};
 ghost use Rattle.std.specs.Iterator.{IsFinite};
 ghost use Rattle.std.specs.Option.{option_map};
 ghost use Rattle.lb_select.specs.AddressText.{socket_seen};
 ghost use Rattle.lb_select.specs.Seen.{inet_seen};
-ghost use Rattle.lb_health.specs.Discoveries.{Discovers, IsDiscoveryRefusal, IsLookupRefusal};
+ghost use Rattle.lb_health.specs.Discoveries.{Discovers, MayFault, IsDiscoveryRefusal, IsLookupRefusal};
 ghost use Rattle.lb_health.specs.Joined.{settings_of};
 
 use crate::view::Settings;
@@ -137,6 +137,7 @@ impl<D: ServiceDiscovery> ServiceDiscovery for DiscoverySource<D> {
     fn discover(&self, alloc: Global) -> Result<Discovered, Refusal>
         ensures ok { IfOk result (λ found. Discovers self.now found.0.keys (settings_of found.1.entries)) }
         ensures refused { OnErr result (IsDiscoveryRefusal result) }
+        ensures fault { IsErrOf result Refusal.Discovery → MayFault self.now }
     {
         match self {
             DiscoverySource::Static(backends) => backends.discover(alloc),

@@ -3,7 +3,7 @@ use Rattle.lb_select.specs.Backends.{Member}
 use Rattle.lb_select.specs.declared.refusal.Refusal.TheVariants.{NoSuch, OutOfMemory, NumbersExhausted}
 use Rattle.lb_registry.specs.declared.targets.View.{View}
 use Rattle.lb_registry.specs.Registry.{IsRegistryAfter, IsStateAfter}
-use Rattle.lb_registry.specs.RegistryEvents.{Event, is_view, has_view, cell_events}
+use Rattle.lb_registry.specs.RegistryEvents.{Event, is_view, has_view}
 use Rattle.lb_registry.specs.Table.{hold_of, table_value}
 use Rattle.lb_registry.specs.Targets.{view_value}
 use Rattle.lb_registry.proofs.ChangeLemmas.{missing_view, found_view}

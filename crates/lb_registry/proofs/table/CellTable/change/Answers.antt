@@ -1,8 +1,8 @@
-use Rattle.std.proofs.Common.{List, ◌∷◌}
+use Rattle.std.proofs.Common.{◌∷◌}
 use Rattle.std.specs.Ordering.{eq_by_cmp}
-use Rattle.lb_registry.specs.CellEvents.{CellEvent, Changed, changes, given_after}
-use Rattle.lb_registry.specs.Table.{table_value, IsTableAfter}
-use Rattle.lb_registry.proofs.TableLemmas.{started-none, started-more, refused-stays, refused_for}
+use Rattle.lb_registry.specs.CellEvents.{Changed, changes, given_after}
+use Rattle.lb_registry.specs.Table.{table_value}
+use Rattle.lb_registry.proofs.TableLemmas.{started-none, started-more, refused-stays}
 use Rattle.lb_registry.proofs.table.CellTable.change.Goals as goal
 
 pub returns-in-Ok-clause-ok : goal.returns-in-Ok-clause-ok
