@@ -14,3 +14,4 @@ pub mod Joining
 pub mod Totals
 pub mod Holding
 pub mod Living
+pub mod Rows
