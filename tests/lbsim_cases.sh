@@ -15,7 +15,7 @@ failed=0
 
 # A repository of four crates under the script, one of them apart from the program.
 mkdir -p "$repository"/crates/{low,mid,apart,lbsim}/{src,specs,proofs} "$room"/{bin,tools}
-cp "$here/../lbsim" "$lbsim"
+cp "$here/../lbsim" "$here/../launcher.sh" "$repository"
 printf '%s\n' '# lowest first' 'low may_wait=2: rand_core' 'mid: low memchr # on low' 'apart: low' 'lbsim: mid' >"$repository/crates.txt"
 printf 'gate\n' >"$script"
 

@@ -1,13 +1,8 @@
 //! The yardstick: a plain Rust program without dependencies or proofs that answers the scripts of lbsim.
-//! It does what one would write by hand: an expanded list of weights, a sorted ring, a hash set of the backends seen.
-mod script;
-mod selection;
-mod world;
-
-use script::{parse, Line};
+use plainsim::script::{parse, Line};
+use plainsim::world::World;
 use std::io::{self, BufRead, BufWriter, Write};
 use std::process::ExitCode;
-use world::World;
 
 const LINE_LIMIT: u64 = 16777216;
 

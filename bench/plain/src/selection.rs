@@ -1,11 +1,12 @@
-//! Backends and the selectors over them: by weight for a hash or in turn, and by a ring.
+//! Backends and the selectors over them: by weight for a hash or in turn, by a ring, and by loads.
 
 use std::collections::hash_map::DefaultHasher;
-use std::collections::{BTreeSet, HashSet};
+use std::collections::{BTreeMap, BTreeSet, HashSet};
 use std::fmt;
 use std::hash::{Hash, Hasher};
 use std::net::{IpAddr, SocketAddr};
 use std::sync::OnceLock;
+use std::vec;
 
 #[derive(Clone, PartialEq, Eq, PartialOrd, Ord, Hash)]
 pub enum Address {
@@ -54,6 +55,7 @@ pub enum Kind {
     Fnv,
     RoundRobin,
     Ketama,
+    Least,
 }
 
 /// Why a selector can't be built.
@@ -74,12 +76,15 @@ const MOST_EXPANDED: u64 = 1 << 26;
 enum Method {
     Weighted { in_turn: bool, places: Places, total: u64 },
     Ring(Vec<(u32, u32)>),
+    Loads,
 }
 
 pub struct Selector {
     backends: Vec<Backend>,
     method: Method,
     ticket: u64,
+    /// How busy each backend is; 0 where nothing is said.
+    pub loads: BTreeMap<Backend, u64>,
 }
 
 impl Selector {
@@ -89,8 +94,9 @@ impl Selector {
             Kind::Fnv => weighted(&backends, false)?,
             Kind::RoundRobin => weighted(&backends, true)?,
             Kind::Ketama => ring(&backends)?,
+            Kind::Least => Method::Loads,
         };
-        Ok(Selector { backends, method, ticket: 0 })
+        Ok(Selector { backends, method, ticket: 0, loads: BTreeMap::new() })
     }
 
     /// The first of the distinct candidates for the key, of which at most `limit` are looked at.
@@ -101,6 +107,7 @@ impl Selector {
                 let place = crc(key);
                 Walk::Point(points.partition_point(|(point, _)| *point < place))
             }
+            Method::Loads => Walk::Listed(by_load(&self.backends, &self.loads).into_iter()),
         };
         let mut seen = HashSet::new();
         for step in 0.. {
@@ -117,11 +124,12 @@ impl Selector {
     }
 }
 
-/// Where a walk is: before its first word's candidate, after a word, or before a point.
+/// Where a walk is: before its first word's candidate, after a word, before a point, or in a list of indexes.
 enum Walk {
     First(u64),
     After(u64),
     Point(usize),
+    Listed(vec::IntoIter<usize>),
 }
 
 impl Walk {
@@ -138,7 +146,7 @@ impl Walk {
                     *self = Walk::After(word);
                     Some((word % count as u64) as usize)
                 }
-                Walk::Point(_) => None,
+                Walk::Point(_) | Walk::Listed(_) => None,
             },
             Method::Ring(points) => {
                 let Walk::Point(at) = *self else { return None };
@@ -146,8 +154,24 @@ impl Walk {
                 *self = Walk::Point(if at < points.len() { at + 1 } else { 1 });
                 Some(*owner as usize)
             }
+            Method::Loads => match self {
+                Walk::Listed(order) => order.next(),
+                _ => None,
+            },
         }
     }
+}
+
+/// The backends of a weight above 0, by their load for each unit of weight.
+fn by_load(backends: &[Backend], loads: &BTreeMap<Backend, u64>) -> Vec<usize> {
+    let weighed = backends.iter().enumerate().filter(|(_, backend)| backend.weight > 0);
+    let mut read: Vec<(usize, u64, u64)> =
+        weighed.map(|(index, backend)| (index, backend.weight, loads.get(backend).copied().unwrap_or(0))).collect();
+    read.sort_unstable_by(|(index, weight, load), (other, other_weight, other_load)| {
+        let this = u128::from(*load) * u128::from(*other_weight);
+        this.cmp(&(u128::from(*other_load) * u128::from(*weight))).then(index.cmp(other))
+    });
+    read.into_iter().map(|(index, ..)| index).collect()
 }
 
 fn place(places: &Places, place: u64) -> usize {

@@ -1,6 +1,7 @@
 pub mod AnswerLemmas
 pub mod BodyLemmas
 pub mod ChunkLemmas
+pub mod ChunkLineLemmas
 pub mod ChunksLemmas
 pub mod ExactLemmas
 pub mod FieldLemmas

@@ -1,13 +1,9 @@
 -- Lemmas on lines: where the first line feed of a text stands.
-use Rattle.std.proofs.Common.{◌≡◌, ◌≢◌, ℕ, suc, ◌<◌, ◌≤◌, Bool, true, false, List, [], ◌∷◌, ◌++◌, Option, None, Some, Result, Ok, length, refl, sym, ap, ◌∙◌, subst, append_assoc, append-nil, length-append, drop, arith}
-use Rattle.httparse.specs.Grammar.{AllPass, ChunkLine, IsChunkLine, IsExtension, print_chunk_line, print_extension, is_extension_byte, is_ows, HasNoChunkLine, NeverHasChunkLine}
+use Rattle.std.proofs.Common.{◌≡◌, ◌≢◌, ℕ, suc, ◌<◌, ◌≤◌, Bool, true, false, List, [], ◌∷◌, ◌++◌, Option, None, Some, length, refl, sym, ap, ◌∙◌, subst, append_assoc, append-nil, length-append, arith}
+use Rattle.httparse.specs.Grammar.{AllPass, ChunkLine, IsChunkLine, IsExtension, print_chunk_line, print_extension, is_extension_byte, is_ows}
 use Rattle.std.specs.Char.{is_ascii_hexdigit}
 use Rattle.httparse.specs.Ascii.{crlf_bytes}
-use Rattle.httparse.specs.Outcome.{IfComplete, OnPartial}
-use Rattle.httparse.specs.declared.Status.{Status}
-use Rattle.httparse.specs.declared.Status.TheVariants.{Complete, Partial}
-use Rattle.httparse.specs.Spans.{IsChunkLineAt}
-use Rattle.lb_check.specs.Steps.{NoFeed, IsLineText, IsChunkLineOf, IsNoChunkLine}
+use Rattle.lb_check.specs.Steps.{NoFeed, IsLineText}
 
 pub NoFeed-append : (a b : List ℕ) → NoFeed a → NoFeed b → NoFeed (a ++ b)
 NoFeed-append [] b p q = q
@@ -105,31 +101,3 @@ line_grows line b p other = NoFeed-append line (b ∷ []) p (other, tt)
 
 pub line_goes_on : (line s m r : List ℕ) (b : ℕ) → s ≡ line ++ m → m ≡ b ∷ r → s ≡ (line ++ b ∷ []) ++ r
 line_goes_on line s m r b e f = e ∙ ap (λ (l : List ℕ). line ++ l) f ∙ sym (append_assoc line (b ∷ []) r)
-
--- ---- what the parser of a chunk line says of a whole line
-
-pub chunk_line_here : (line : List ℕ) (len n : ℕ) → IsLineText line → (l : ChunkLine) → IsChunkLineAt line len n l → IsChunkLineOf line n
-chunk_line_here line len n p l at =
-    let same = line_same (print_chunk_line l) line (drop len line) [] (chunk_line_text l at.reads.0) p
-    (sym at.reads.1 ∙ sym (append-nil line)) in
-    (l, at.reads.0, sym same.0, at.size_is)
-
-pub no_chunk_line_here : (line : List ℕ) → HasNoChunkLine line → IsNoChunkLine line
-no_chunk_line_here line nothing l valid e = nothing l [] (valid, e ∙ sym (append-nil (print_chunk_line l)))
-
--- the same, of the parser's result
-pub size_here : {E : Type 0} (line : List ℕ) (r : Result (Status (ℕ × ℕ)) E)
-    → IfComplete r (λ p. (l : ChunkLine) × IsChunkLineAt line p.0 p.1 l) → (len n : ℕ) → r ≡ Ok (Complete (len, n))
-    → IsLineText line → IsChunkLineOf line n
-size_here {E} line r h len n e p =
-    let at = subst (λ (q : Result (Status (ℕ × ℕ)) E). IfComplete q (λ p. (l : ChunkLine) × IsChunkLineAt line p.0 p.1 l)) e h in
-    chunk_line_here line len n p at.0 at.1
-
-pub no_size_here : {E : Type 0} (line : List ℕ) (r : Result (Status (ℕ × ℕ)) E) → OnPartial r (HasNoChunkLine line)
-    → r ≡ Ok Partial → IsNoChunkLine line
-no_size_here {E} line r h e =
-    no_chunk_line_here line (subst (λ (q : Result (Status (ℕ × ℕ)) E). OnPartial q (HasNoChunkLine line)) e h)
-
-pub never_chunk_line_here : (line : List ℕ) → NeverHasChunkLine line → IsNoChunkLine line
-never_chunk_line_here line nothing = no_chunk_line_here line
-    (λ l rest reads. nothing [] l rest (reads.0, append-nil line ∙ reads.1))

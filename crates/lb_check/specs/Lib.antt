@@ -4,5 +4,6 @@ pub mod Framing
 pub mod Body
 pub mod Chunked
 pub mod Steps
+pub mod ChunkLines
 pub mod Request
 pub mod Check

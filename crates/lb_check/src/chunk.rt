@@ -1,15 +1,15 @@
 //! A body in chunks. Each chunk's line is read whole before its size is looked at.
-ghost use Rattle.std.specs.Prelude.{◌≡◌, ◌≢◌, ◌≤◌, true, IfOk, MatchOption};
+ghost use Rattle.std.specs.Prelude.{◌≡◌, ◌≢◌, ◌≤◌, true, IfOk};
 ghost use Rattle.lb_counted.specs.Counted.{inner_of, has_failed};
 ghost use Rattle.lb_counted.specs.Stream.{OnBytes};
 ghost use Rattle.lb_check.specs.Body.{BodyOutcome};
-ghost use Rattle.lb_check.specs.Steps.{IsLineText, IsNoChunkLine, IsChunkLineOf, ContentOutcome, StepOutcome};
+ghost use Rattle.lb_check.specs.Steps.{ContentOutcome, StepOutcome};
 
 use crate::body::skip;
+use crate::chunk_line::size_of;
 use crate::framing::Framing;
 use crate::line::{expect, read_line};
 use crate::trailers::read_trailers;
-use httparse::{Status, parse_chunk_size};
 use lb_counted::counted::Counted;
 use lb_probe::error::CheckError;
 use std::alloc::Global;
@@ -17,18 +17,6 @@ use std::io::Read;
 
 /// The most bytes that a chunk line may have, with its CR LF.
 pub(crate) const CHUNK_LINE_LIMIT: u64 = 4096;
-
-// The size that a chunk line writes, or `None` where the line is no chunk line.
-fn size_of(line: &[u8]) -> Option<u64>
-    requires { IsLineText line.now }
-    ensures { MatchOption result (IsNoChunkLine line.now) (IsChunkLineOf line.now) }
-{
-    match parse_chunk_size(line) {
-        Ok(Status::Complete((_, size))) => Some(size),
-        Ok(Status::Partial) => None,
-        Err(_) => None,
-    }
-}
 
 // The bytes of a chunk, and the CR LF after them.
 fn read_content<R: Read>(reader: &mut Counted<R>, size: u64) -> Result<(), CheckError>

@@ -4,6 +4,7 @@
 
 mod body;
 mod chunk;
+mod chunk_line;
 mod engine;
 mod framing;
 mod head;

@@ -1,5 +1,6 @@
 //! Lines of a body in chunks, each read up to its line feed and within a limit, and single bytes.
-ghost use Rattle.std.specs.Prelude.{◌≡◌, ◌≢◌, ◌≤◌, true, IfOk, length, vec_len};
+ghost use Rattle.std.specs.Prelude.{◌≡◌, ◌≢◌, ◌≤◌, true, IfOk, MatchBool, length, vec_len};
+ghost use Rattle.httparse.specs.Ascii.{crlf_bytes};
 ghost use Rattle.lb_counted.specs.Counted.{inner_of, has_failed};
 ghost use Rattle.lb_counted.specs.Stream.{OnBytes};
 ghost use Rattle.lb_check.specs.Steps.{IsLineText, LineOutcome, ExpectOutcome};
@@ -54,4 +55,11 @@ pub(crate) fn expect<R: Read>(reader: &mut Counted<R>, byte: u8) -> Result<(), C
         Ok(None) => Err(CheckError::EndInMessage),
         Err(_) => Err(CheckError::Read),
     }
+}
+
+/// Whether the line is the empty line, CR LF.
+pub(crate) fn is_end(line: &[u8]) -> bool
+    ensures { MatchBool result (line.now ≡ crlf_bytes) (line.now ≢ crlf_bytes) }
+{
+    line == b"\r\n".as_slice()
 }

@@ -1,11 +1,10 @@
 //! The trailer lines of a body in chunks, and the empty line after them. What they say is not looked at.
 ghost use Rattle.std.specs.Prelude.{◌≡◌, ◌≢◌, true, MatchBool};
-ghost use Rattle.httparse.specs.Ascii.{crlf_bytes};
 ghost use Rattle.lb_counted.specs.Counted.{inner_of, has_failed};
 ghost use Rattle.lb_counted.specs.Stream.{OnBytes};
 ghost use Rattle.lb_check.specs.Steps.{IsTrailerLine, TrailersOutcome};
 
-use crate::line::read_line;
+use crate::line::{is_end, read_line};
 use lb_counted::counted::Counted;
 use lb_probe::error::CheckError;
 use std::alloc::Global;
@@ -28,13 +27,6 @@ fn is_trailer(line: &[u8]) -> bool
         }
     }
     true
-}
-
-// Whether the line is the empty line.
-fn is_end(line: &[u8]) -> bool
-    ensures { MatchBool result (line.now ≡ crlf_bytes) (line.now ≢ crlf_bytes) }
-{
-    line == b"\r\n".as_slice()
 }
 
 /// Passes over the trailers and the empty line after them. Faults: `Read`, `BadFraming`, `EndInMessage`, `OutOfMemory`.

@@ -1,8 +1,8 @@
 //! Rows as lists of steps: a world that takes them in one run answers them as the script is answered.
 //! Lines are read by the script's own parser; a line that ends its script is no step.
 use crate::outcome::Outcome;
-use lb_script::parse::parse;
-use lb_script::texts::push_answer;
+use lb_step_text::parse::parse;
+use lb_step_text::texts::push_answer;
 use pingora_load_balancing::world::{Chosen, World};
 use std::alloc::Global;
 use std::io;
@@ -14,7 +14,7 @@ pub(crate) fn run_agrees(alloc: Global, script: &[u8], wanted: &Outcome<'_>) -> 
     let mut steps = Vec::with_capacity(alloc, count)?;
     for line in script.split(|byte| *byte == b'\n').take(count) {
         match parse(alloc, line) {
-            Ok(step) => steps.push(step)?,
+            Ok(step) => steps.push(step.into_step(alloc)?)?,
             Err(_) => return Ok(false),
         }
     }

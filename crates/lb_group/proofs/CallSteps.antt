@@ -111,6 +111,12 @@ module _ {C : Type 0} where
   taken-own made h k slot (Ok q) v s is = is.3 ∙ sym (ap (λ (w : GroupValue C). w.gate) s.shows)
   taken-own made h k slot (Err e) v s is = tt
 
+module _ {C : Type 0} where
+  -- a reader that enters is of the group's gate
+  pub entered-own : (made : Made C) (h k : History) (slot : ℕ) (r : Result (ReaderValue C) Refusal) (v : GroupValue C) → StandsFor made k v → Enters made h slot r → IfOk r (λ q. q.gate ≡ v.gate)
+  entered-own made h k slot (Ok q) v s is = is.5 ∙ sym (ap (λ (w : GroupValue C). w.gate) s.shows)
+  entered-own made h k slot (Err e) v s is = tt
+
 module _ {S I C : Type 0} {made : Made C} {h : History} {id : GateId} {n : ℕ} {ms : List Member} {at : ℕ} {st : Bool} {xs : List (Slot S I C)} {i : ℕ} {x y : Slot S I C}
     (f : Facing made h id n ms at st xs i x y) where
   abbrev Past : History
@@ -239,19 +245,20 @@ module _ {S I C : Type 0} {made : Made C} {h : History} {id : GateId} {n : ℕ} 
       (rw (lt-ltb i (length made.configs) f.inside, none) (ap Some (sym is.1)), f.same is.2)
 
   pub enters : (r : Result (ReaderValue C) Refusal)
-      → IfOk r (λ t. ((slot_value x).readers < 18446744073709551615) × (t ≡ reader_of i (slot_value x)) × (slot_value y ≡ entered_slot (slot_value x)))
+      → IfOk r (λ t. ((slot_value x).readers < 18446744073709551615) × (t ≡ reader_of id i (slot_value x)) × (slot_value y ≡ entered_slot (slot_value x)))
       → IfErr r (λ e. (((slot_value x).readers ≡ 18446744073709551615) × (e ≡ refusal.NumbersExhausted)) ⊎ (((slot_value x).readers < 18446744073709551615) × (e ≡ refusal.OutOfMemory)))
       → OnErr r (slot_value y ≡ slot_value x)
       → Enters made h i r × StandsFor made (done_at i Entered r ++ h) (group_of id n ms at st (set xs i y))
   enters (Ok t) ok err same =
       let few : readers (served Past) Past < 18446744073709551615 = subst (λ (z : SlotValue C). z.readers < 18446744073709551615) f.slot ok.0 in
-      let reader : t ≡ reader_of i (slot_after made.gate f.config Past) = ok.1 ∙ ap (reader_of i) f.slot in (
+      let reader : t ≡ reader_of id i (slot_after made.gate f.config Past) = ok.1 ∙ ap (reader_of id i) f.slot in (
         (
           rw (lt-ltb i (length made.configs) f.inside, ne_eqb (readers (served Past) Past) 18446744073709551615 (λ e. omega arith)) refl,
           ap (λ (q : ReaderValue C). q.slot) reader,
           ap (λ (q : ReaderValue C). q.generation) reader,
           ap (λ (q : ReaderValue C). q.members) reader,
           f.there ∙ ap (λ (q : ReaderValue C). Some q.config) (sym reader),
+          ap (λ (q : ReaderValue C). q.gate) reader ∙ f.gate,
         ),
         f.step Entered tt (ok.2 ∙ ap (λ (z : SlotValue C). entered_slot z) f.slot ∙ entered-step made.gate f.config i Past f.past),
       )

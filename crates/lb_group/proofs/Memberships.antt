@@ -5,13 +5,13 @@ use Rattle.lb_select.specs.Backends.{Member}
 use Rattle.lb_select.specs.Memberships.{same_members}
 use Rattle.lb_rebuild.specs.Gate.{GateId}
 use Rattle.lb_group.specs.GroupHistory.{Scheduled, Cancelled, History, past_of, newest, members_of, is_cancelled, IsGroupHistory}
-use Rattle.lb_group.specs.Values.{SlotValue, GroupValue}
+use Rattle.lb_group.specs.Values.{OrderValue, PreparedValue, SlotValue, GroupValue}
 use Rattle.lb_group.specs.Stands.{Made, slot_after, slots_after, group_after, StandsFor}
 use Rattle.lb_group.specs.SlotCalls.{ordered_slot}
 use Rattle.lb_group.specs.SlotSeen.{slot_value}
 use Rattle.lb_group.specs.Fresh.{fresh_slot, turn_of}
 use Rattle.lb_group.specs.Orders.{order_for, AreOrdered}
-use Rattle.lb_group.specs.GroupCalls.{is_change, schedule_refusal, turn_after, turns_after}
+use Rattle.lb_group.specs.GroupCalls.{is_change, schedule_refusal, turn_after, turns_after, Fits}
 use Rattle.lb_group.specs.declared.schedule.SlotTurn.{SlotTurn}
 use Rattle.lb_group.specs.declared.slot.Slot.{Slot}
 use Rattle.lb_group.proofs.Pasts.{newest-past, cancelled-past}
@@ -131,3 +131,24 @@ module _ {S I C : Type 0} where
         rw change (next ∙ ap (λ (k : ℕ). k + 1) is),
         rw change (are ∙ turns-are made h id n old at st xs v e s),
       )
+
+  -- what a prepared membership has for each slot
+  pub orders-map : (n : ℕ) (ms : List Member) (xs : List (Slot S I C))
+      → map (λ (x : Slot S I C). order_for (n + 1) ms (slot_value x)) xs ≡ map (λ (z : SlotValue C). order_for (n + 1) ms z) (map slot_value xs)
+  orders-map n ms [] = refl
+  orders-map n ms (x ∷ xs) = ap (λ (l : List (OrderValue C)). order_for (n + 1) ms (slot_value x) ∷ l) (orders-map n ms xs)
+
+  -- a membership that was prepared is the newest
+  pub commits : (made : Made C) (h : History) (id : GateId) (n m : ℕ) (old ms : List Member) (at now : ℕ) (st : Bool) (xs ys : List (Slot S I C)) (turns : List SlotTurn) (os : List (OrderValue C))
+      (v : GroupValue C) (p : PreparedValue C)
+      → group_of id n old at st xs ≡ v → (let own : PreparedValue C = record { generation = m; members = ms; turns = turns; orders = os } in own ≡ p) → Fits v p → StandsFor made h v → AreOrdered n xs os ys
+      → StandsFor made (Scheduled p.members now ∷ h) (group_of id m ms now st ys)
+  commits made h id n m old ms at now st xs ys turns os v p e q f s are =
+      let next : m ≡ n + 1 = ap (λ (z : PreparedValue C). z.generation) q ∙ f.generation ∙ ap (λ (w : GroupValue C). w.newest + 1) (sym e) in
+      let fits : n + 1 < 2 ^ 64 = subst (λ (w : GroupValue C). w.newest + 1 < 2 ^ 64) (sym e) f.bounded in
+      let live : st ≡ false = ap (λ (w : GroupValue C). w.cancelled) e ∙ f.live in
+      let orders : os ≡ map (λ (x : Slot S I C). order_for (n + 1) p.members (slot_value x)) xs =
+      ap (λ (z : PreparedValue C). z.orders) q ∙ f.orders
+      ∙ ap (λ (w : GroupValue C). map (λ (x : SlotValue C). order_for (w.newest + 1) p.members x) w.slots) (sym e) ∙ sym (orders-map n p.members xs) in
+      schedules made h id n m old p.members ms at now st xs ys v e s next fits live (ap (λ (z : PreparedValue C). z.members) q)
+      (subst (λ (l : List (OrderValue C)). AreOrdered n xs l ys) orders are)

@@ -66,13 +66,13 @@ served-granted (At i (Granted now) ∷ h) = omega (arith, served-granted h, gran
 served-granted (At i (Published ended ms) ∷ h) = omega arith
 served-granted (e ∷ h) = served-granted h
 
--- A flight or a lost flight is the last job and above what is served; a retired selector is not the one that is served.
+-- A flight or a lost flight is the last job and above what is served; what is retired or taken out is not what is served.
 abbrev pub AloftFits : ℕ → ℕ → Extra → Type 0
 AloftFits s g nothing = Unit {0}
 AloftFits s g (flight n) = (n ≡ g) × (s < n)
 AloftFits s g (lost n) = (n ≡ g) × (s < n)
 AloftFits s g (retired n) = ¬ (n ≡ s)
-AloftFits s g (taken_out n) = Unit {0}
+AloftFits s g (taken_out n) = ¬ (n ≡ s)
 
 pub flies : (s g : ℕ) (e : Extra) → is_flight e ≡ true → AloftFits s g e → s < g
 flies s g nothing e f = absurd (cc)
@@ -94,6 +94,13 @@ waits-above s n e none w =
     let less : max s 0 < n = ltb-true (max s 0) n below in
     omega arith
 
+went-out : (s g : ℕ) (e : Extra) → is_retired_of (generation_of e) e ≡ true → AloftFits s g e → ¬ (generation_of e ≡ s)
+went-out s g nothing e f = absurd (cc)
+went-out s g (flight n) e f = absurd (cc)
+went-out s g (lost n) e f = absurd (cc)
+went-out s g (retired n) e f = f
+went-out s g (taken_out n) e f = absurd (cc)
+
 pub aloft-fits : (h : History) → IsPast h → AloftFits (served h) (granted h) (extra h)
 aloft-fits [] p = tt
 aloft-fits (Scheduled ms now ∷ h) p = aloft-fits h p.0
@@ -107,7 +114,7 @@ aloft-fits (At i (Abandoned ms) ∷ h) p =
     let up : served h < granted h = is_up (served h) (granted h) (extra h) p.1 (aloft-fits h p.0) in
     λ e. omega arith
 aloft-fits (At i WorkerLost ∷ h) p = (refl, flies (served h) (granted h) (extra h) p.1 (aloft-fits h p.0))
-aloft-fits (At i TakenOut ∷ h) p = tt
+aloft-fits (At i TakenOut ∷ h) p = went-out (served h) (granted h) (extra h) p.1.0 (aloft-fits h p.0)
 aloft-fits (At i Destroyed ∷ h) p = tt
 aloft-fits (At i e ∷ h) p = aloft-fits h p.0
 

@@ -2,10 +2,11 @@
 use Rattle.std.proofs.Common.{◌≡◌, ◌&&◌, ℕ, Bool, true, false, nat_le, List, [], ◌∷◌, length, subst, Option, Some, None, Result, Ok, Err, take}
 use Rattle.std.specs.List.{AllByRecursion as Each}
 use Rattle.lb_select.specs.Backends.{Member, same_member}
-use Rattle.lb_select.specs.Draws.{Draw, HandedValue, HandedGives}
+use Rattle.lb_select.specs.Draws.{Draw}
 use Rattle.lb_select.specs.Selections.{IsAnswer, Selects}
 use Rattle.lb_select.specs.Unique.{distinct}
 use Rattle.lb_select.specs.declared.refusal.Refusal.{Refusal}
+use Rattle.lb_group.specs.Drawn.{DrawnValue, DrawnGives}
 use Rattle.lb_group.specs.SlotCalls.{SelectsFrom}
 use Rattle.lb_group.specs.Values.{ServingValue}
 use Rattle.lb_group.specs.declared.answers.Selection.{Selection}
@@ -28,14 +29,14 @@ module _ {B : Type 0} (same : B → B → Bool) (P Q : B → Bool → Type 0) (m
   selects_more gives walks s t (Err e) refused = refused
 
 module _ {C : Type 0} (random : List Member → C → Bool) (walks : List Member → C → List ℕ → List Draw → List Member → Bool → Type 0) where
-  -- the tickets that were drawn from the counter are those of the selection
-  pub selected : (key : List ℕ) (limit : ℕ) (words : List ℕ) (sv st : ServingValue C) (a : Selection) (s t : HandedValue)
+  -- the words that were drawn, and where they left the counter, are those of the selection
+  pub selected : (key : List ℕ) (limit : ℕ) (words : List ℕ) (sv st : ServingValue C) (a : Selection) (s t : DrawnValue)
       → st ≡ sv → (random st.members st.config && nat_le (length words) limit) ≡ false
-      → s ≡ record { tickets = st.tickets; words = words } → a.tickets ≡ t.tickets
-      → Selects same_member (λ b a. a ≡ true) limit HandedGives (walks st.members st.config key) s a.answer t
+      → s ≡ record { words = record { tickets = st.tickets; words = words }; drawn = 0 } → a.drawn ≡ t.drawn → a.tickets ≡ t.words.tickets
+      → Selects same_member (λ b a. a ≡ true) limit DrawnGives (walks st.members st.config key) s a.answer t
       → SelectsFrom random walks key limit words sv.members sv.config sv.tickets a
-  selected key limit words sv st a s t is enough begins drawn answer =
-      let found : Selects same_member (λ b a. a ≡ true) limit HandedGives (walks st.members st.config key) (record { tickets = st.tickets; words = words }) a.answer t =
-      subst (λ (h : HandedValue). Selects same_member (λ b a. a ≡ true) limit HandedGives (walks st.members st.config key) h a.answer t) begins answer in
+  selected key limit words sv st a s t is enough begins count drawn answer =
+      let found : Selects same_member (λ b a. a ≡ true) limit DrawnGives (walks st.members st.config key) (record { words = record { tickets = st.tickets; words = words }; drawn = 0 }) a.answer t =
+      subst (λ (h : DrawnValue). Selects same_member (λ b a. a ≡ true) limit DrawnGives (walks st.members st.config key) h a.answer t) begins answer in
       let Here : ServingValue C → Type 0 = λ z. SelectsFrom random walks key limit words z.members z.config z.tickets a in
-      subst Here is (rw enough (t, found, drawn))
+      subst Here is (rw enough (t, found, count, drawn))

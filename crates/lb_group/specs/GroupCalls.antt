@@ -1,14 +1,15 @@
 -- What the calls on a group answer after its history, and which events they add to it. An answer is told by cases; the events
 -- are a function of the call and its answer, so that what two calls did one after the other is the one list before the other.
-use Rattle.std.specs.Prelude.{◌≡◌, ◌==◌, ◌&&◌, ◌||◌, ◌+◌, ◌<◌, ◌≤◌, ◌⊎◌, ℕ, Bool, true, false, not, nat_lt, List, [], ◌∷◌, length, slice_get, Option, Some, None, Result, Ok, Err, MatchOption, if◌then◌else◌}
+use Rattle.std.specs.Prelude.{◌≡◌, ◌==◌, ◌&&◌, ◌||◌, ◌+◌, ◌<◌, ◌≤◌, ◌^◌, ◌⊎◌, ℕ, Bool, true, false, not, nat_lt, List, [], ◌∷◌, map, length, slice_get, Option, Some, None, Result, Ok, Err, MatchOption, if◌then◌else◌}
 use Rattle.lb_select.specs.Backends.{Member}
 use Rattle.lb_select.specs.Draws.{Draw}
 use Rattle.lb_select.specs.Memberships.{same_members}
 use Rattle.lb_select.specs.declared.refusal.Refusal.{Refusal}
 use Rattle.lb_select.specs.declared.refusal.Refusal.TheVariants as refusal
 use Rattle.lb_rebuild.specs.Gate.{GateId, GateView, gate}
-use Rattle.lb_group.specs.GroupHistory.{SlotEvent, Granted, Failed, Published, Abandoned, Drew, Scheduled, At, History, past_of, newest, members_of, is_cancelled, order_members, served, served_members, is_flight, is_aloft, is_taken_out, generation_of, extra, waits, readers, drawn, AskAnswer, cancelled, building, up_to_date, not_due, busy, job, ask_answer}
-use Rattle.lb_group.specs.Values.{Task, BuiltValue, RetiredValue, ReaderValue, GroupValue, configs_of}
+use Rattle.lb_group.specs.GroupHistory.{SlotEvent, Granted, Failed, Published, Abandoned, Drew, Scheduled, At, History, past_of, newest, members_of, is_cancelled, order_members, served, served_members, is_flight, is_aloft, is_taken_out, taken_out_number, generation_of, extra, waits, readers, drawn, AskAnswer, cancelled, building, up_to_date, not_due, busy, job, ask_answer}
+use Rattle.lb_group.specs.Orders.{order_for}
+use Rattle.lb_group.specs.Values.{Task, BuiltValue, RetiredValue, ReaderValue, SlotValue, PreparedValue, GroupValue, configs_of}
 use Rattle.lb_group.specs.Stands.{Made, left_readers}
 use Rattle.lb_group.specs.SlotCalls.{ask_told, asked_gate, take_refusal, SelectsFrom}
 use Rattle.lb_group.specs.declared.answers.Ask.{Ask}
@@ -52,6 +53,31 @@ Schedules made h members (Err e) =
 abbrev pub schedule_events : List Member → ℕ → Result answer.Scheduled Refusal → History
 schedule_events members now (Ok s) = if s.changed then Scheduled members now ∷ [] else []
 schedule_events members now (Err e) = []
+
+-- what a membership is prepared as: nothing where it is the same
+abbrev pub Prepares : {C : Type 0} → Made C → History → List Member → Result (Option (PreparedValue C)) Refusal → Type 0
+Prepares made h members (Ok None) = (schedule_refusal members h ≡ None) × (is_change members h ≡ false)
+Prepares made h members (Ok (Some p)) =
+    (schedule_refusal members h ≡ None) × (is_change members h ≡ true) × (p.generation ≡ newest h + 1) × (p.members ≡ members)
+    × (p.turns ≡ turns_after 0 made.configs h)
+Prepares made h members (Err e) =
+    (schedule_refusal members h ≡ Some e)
+    ⊎ ((schedule_refusal members h ≡ None) × (is_change members h ≡ true) × (e ≡ refusal.OutOfMemory))
+
+-- it is the next membership of this group, with an order for each of its slots as they are
+pub record Fits {C : Type 0} (v : GroupValue C) (p : PreparedValue C) : Type 0 where
+  pub generation : p.generation ≡ v.newest + 1
+  pub bounded : v.newest + 1 < 2 ^ 64
+  pub live : v.cancelled ≡ false
+  pub orders : p.orders ≡ map (λ (x : SlotValue C). order_for (v.newest + 1) p.members x) v.slots
+
+abbrev pub FitsIfThere : {C : Type 0} → GroupValue C → Option (PreparedValue C) → Type 0
+FitsIfThere v None = Unit {0}
+FitsIfThere v (Some p) = Fits v p
+
+-- the answer to a membership that was prepared
+abbrev pub IsCommitted : {C : Type 0} → PreparedValue C → answer.Scheduled → Type 0
+IsCommitted p s = (s.generation ≡ p.generation) × (s.changed ≡ true) × (s.turns.items ≡ p.turns)
 
 -- A job is of its slot and of the newest generation, with the members of its order, the slot's configuration and the permit.
 pub record IsJob {C : Type 0} (made : Made C) (h : History) (slot : ℕ) (j : Task C) : Type 0 where
@@ -169,7 +195,7 @@ enter_refusal made slot h =
 abbrev pub Enters : {C : Type 0} → Made C → History → ℕ → Result (ReaderValue C) Refusal → Type 0
 Enters made h slot (Ok r) =
     (enter_refusal made slot h ≡ None) × (r.slot ≡ slot) × (r.generation ≡ served (past_of slot h))
-    × (r.members ≡ served_members (past_of slot h)) × (slice_get made.configs slot ≡ Some r.config)
+    × (r.members ≡ served_members (past_of slot h)) × (slice_get made.configs slot ≡ Some r.config) × (r.gate ≡ made.gate)
 Enters made h slot (Err e) = (enter_refusal made slot h ≡ Some e) ⊎ ((enter_refusal made slot h ≡ None) × (e ≡ refusal.OutOfMemory))
 
 -- whether readers of that generation are in the slot
@@ -196,6 +222,10 @@ Takes made h slot (Err e) = taken_refusal made slot h ≡ Some e
 abbrev pub is_owed : {C : Type 0} → Made C → ℕ → History → Bool
 is_owed made slot h = nat_lt slot (length made.configs) && is_taken_out (extra (past_of slot h))
 
+-- the generation of what was taken out of a slot and is not reported yet
+abbrev pub taken_out_at : {C : Type 0} → Made C → ℕ → History → Option ℕ
+taken_out_at made slot h = if nat_lt slot (length made.configs) then taken_out_number (extra (past_of slot h)) else None
+
 -- the permit of a report that is not owed is handed back
 abbrev pub Reports : {C : Type 0} → Made C → History → ℕ → GateId → Result (Unit {0}) GateId → Type 0
 Reports made h slot permit (Ok u) = is_owed made slot h ≡ true
@@ -210,7 +240,7 @@ abbrev pub SelectsIn :
     {C : Type 0} → (List Member → C → Bool) → (List Member → C → List ℕ → List Draw → List Member → Bool → Type 0)
     → Made C → History → ℕ → List ℕ → ℕ → List ℕ → Selection → Type 0
 SelectsIn {C} random walks made h slot key limit words s =
-    MatchOption (slice_get made.configs slot) ((s.answer ≡ Ok None) × (s.tickets ≡ 0))
+    MatchOption (slice_get made.configs slot) ((s.answer ≡ Ok None) × (s.drawn ≡ 0) × (s.tickets ≡ 0))
     (λ (c : C). SelectsFrom random walks key limit words (served_members (past_of slot h)) c (drawn (past_of slot h)) s)
 
 abbrev pub select_events : {C : Type 0} → Made C → ℕ → Selection → History

@@ -156,6 +156,14 @@ is_taken_out (lost n) = false
 is_taken_out (retired n) = false
 is_taken_out (taken_out n) = true
 
+-- the generation of what was taken out
+abbrev pub taken_out_number : Extra → Option ℕ
+taken_out_number nothing = None
+taken_out_number (flight n) = None
+taken_out_number (lost n) = None
+taken_out_number (retired n) = None
+taken_out_number (taken_out n) = Some n
+
 -- the generation of a flight, or 0
 abbrev pub flight_number : Extra → ℕ
 flight_number nothing = 0

@@ -1,3 +1,4 @@
+pub mod Drawn
 pub mod Fresh
 pub mod GroupCalls
 pub mod GroupHistory

@@ -1,11 +1,12 @@
 -- What the calls on one slot answer and leave, as functions of what contracts see of it.
 use Rattle.std.specs.Prelude.{◌≡◌, ◌==◌, ◌&&◌, ◌||◌, ◌+◌, ◌-◌, ℕ, Bool, true, false, not, min, max, nat_lt, nat_le, MatchBool, List, length, Option, Some, None, is_none, Result, Ok, Err, if◌then◌else◌}
 use Rattle.lb_select.specs.Backends.{Member, same_member}
-use Rattle.lb_select.specs.Draws.{Draw, HandedValue, HandedGives}
+use Rattle.lb_select.specs.Draws.{Draw}
 use Rattle.lb_select.specs.Selections.{Selects}
 use Rattle.lb_select.specs.declared.refusal.Refusal.{Refusal}
 use Rattle.lb_select.specs.declared.refusal.Refusal.TheVariants as refusal
 use Rattle.lb_rebuild.specs.Gate.{GateId, GateView, gate}
+use Rattle.lb_group.specs.Drawn.{DrawnValue, DrawnGives}
 use Rattle.lb_group.specs.GroupHistory.{Extra, nothing, flight, lost, retired, taken_out, is_flight, is_extra, is_aloft, is_retired_of, flight_number, generation_of, due_after, AskAnswer, cancelled, building, up_to_date, not_due, busy, job}
 use Rattle.lb_group.specs.Values.{OrderValue, Task, BuiltValue, RetiredValue, ReaderValue, SlotValue, order_of}
 use Rattle.lb_group.specs.declared.answers.Ask.{Ask}
@@ -130,8 +131,9 @@ abbrev pub entered_slot : {C : Type 0} → SlotValue C → SlotValue C
 entered_slot x = record x { readers = x.readers + 1 }
 
 -- what a reader that enters a slot gets
-abbrev pub reader_of : {C : Type 0} → ℕ → SlotValue C → ReaderValue C
-reader_of slot x = record { slot = slot; generation = x.serving.generation; members = x.serving.members; config = x.serving.config }
+abbrev pub reader_of : {C : Type 0} → GateId → ℕ → SlotValue C → ReaderValue C
+reader_of id slot x =
+    record { gate = id; slot = slot; generation = x.serving.generation; members = x.serving.members; config = x.serving.config }
 
 -- how many readers of that generation are in the slot
 abbrev pub readers_at : {C : Type 0} → ℕ → SlotValue C → ℕ
@@ -204,8 +206,8 @@ abbrev pub SelectsFrom :
     → List ℕ → ℕ → List ℕ → List Member → C → ℕ → Selection → Type 0
 SelectsFrom random walks key limit words members config tickets s =
     MatchBool (random members config && nat_le (length words) limit)
-    ((s.answer ≡ Err refusal.NotEnoughWords) × (s.tickets ≡ tickets))
-    ((t : HandedValue)
-    × Selects same_member (λ b a. a ≡ true) limit HandedGives (walks members config key)
-    (record { tickets = tickets; words = words }) s.answer t
-    × (s.tickets ≡ t.tickets))
+    ((s.answer ≡ Err refusal.NotEnoughWords) × (s.drawn ≡ 0) × (s.tickets ≡ tickets))
+    ((t : DrawnValue)
+    × Selects same_member (λ b a. a ≡ true) limit DrawnGives (walks members config key)
+    (record { words = record { tickets = tickets; words = words }; drawn = 0 }) s.answer t
+    × (s.drawn ≡ t.drawn) × (s.tickets ≡ t.words.tickets))

@@ -5,6 +5,7 @@ use Rattle.lb_rebuild.specs.Gate.{GateId}
 use Rattle.lb_group.specs.GroupHistory.{Extra}
 use Rattle.lb_group.specs.declared.answers.Counts.{Counts}
 use Rattle.lb_group.specs.declared.answers.Timing.{Timing}
+use Rattle.lb_group.specs.declared.schedule.SlotTurn.{SlotTurn}
 
 -- a slot's share of a membership and of its configuration, from which one selector can be built
 pub record OrderValue (C : Type 0) : Type 0 where
@@ -32,14 +33,22 @@ pub record ServingValue (C : Type 0) : Type 0 where
   pub config : C
   pub tickets : ℕ
 
+-- a changed membership of which all that takes memory is at hand: what it finds each slot doing, and each slot's order
+pub record PreparedValue (C : Type 0) : Type 0 where
+  pub generation : ℕ
+  pub members : List Member
+  pub turns : List SlotTurn
+  pub orders : List (OrderValue C)
+
 -- a selector that was retired and taken out
 pub record RetiredValue : Type 0 where
   pub slot : ℕ
   pub generation : ℕ
   pub permit : GateId
 
--- an entry into the selector that a slot served then
+-- an entry into the selector that a slot of a group of this gate served then
 pub record ReaderValue (C : Type 0) : Type 0 where
+  pub gate : GateId
   pub slot : ℕ
   pub generation : ℕ
   pub members : List Member

@@ -30,12 +30,14 @@ pub enum Told {
     Abandoned(u64),
 }
 
-/// A selection's answer, and where it left the slot's counter of tickets. A selection that is refused for memory may have drawn
-/// tickets all the same.
+/// A selection's answer, how many words it drew, and where it left the slot's counter of tickets. A selection that is refused for
+/// memory may have drawn words all the same.
 #[derive(Debug, Drop)]
 pub struct Selection {
     /// The backend, or none, or why the selection was refused.
     pub answer: Result<Option<Backend>, Refusal>,
+    /// How many words this selection drew, tickets and random ones.
+    pub drawn: u64,
     /// How many tickets were drawn from the served selector so far, modulo 2^64.
     pub tickets: u64,
 }

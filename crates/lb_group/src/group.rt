@@ -3,21 +3,21 @@
 ghost use Rattle.std.specs.Prelude.{◌≡◌, ◌++◌, ◌∷◌, [], map, IfOk, slice_get};
 ghost use Rattle.std.specs.Arc.{arc_value};
 ghost use Rattle.lb_select.specs.Refusals.{Refuses, least};
-ghost use Rattle.lb_group.specs.GroupHistory.{History, Cancelled, WorkerLost, Entered, Left, TakenOut, Destroyed, past_of, newest as newest_after, served as served_after, is_cancelled, timing as timing_after};
+ghost use Rattle.lb_group.specs.GroupHistory.{History, Scheduled as ScheduledEvent, Cancelled, WorkerLost, Entered, Left, TakenOut, Destroyed, past_of, newest as newest_after, served as served_after, is_cancelled, timing as timing_after};
 ghost use Rattle.lb_group.specs.Fresh.{fresh_slot};
 ghost use Rattle.lb_group.specs.SlotSeen.{slot_value};
 ghost use Rattle.lb_group.specs.Values.{configs_of};
 ghost use Rattle.lb_group.specs.Stands.{Made, StandsFor, SameSite, After, Becomes, counts_after};
-ghost use Rattle.lb_group.specs.GroupCalls.{Schedules, schedule_events, IsOwnJob, Asks, ask_events, gate_after, Fails, fail_events, gate_back, Publishes, publish_events, Abandons, abandon_events, Unless, lose_refusal, done_at, Enters, Leaves, Takes, Reports, at_slot, SelectsIn, select_events};
+ghost use Rattle.lb_group.specs.GroupCalls.{Schedules, schedule_events, Prepares, Fits, FitsIfThere, IsCommitted, IsOwnJob, Asks, ask_events, gate_after, Fails, fail_events, gate_back, Publishes, publish_events, Abandons, abandon_events, Unless, lose_refusal, done_at, Enters, Leaves, Takes, Reports, at_slot, taken_out_at, SelectsIn, select_events};
 
 use crate::answers::{Ask, Counts, Selection, Timing, Told};
 use crate::job::{Built, Job};
 use crate::retired::{Reader, Retired};
-use crate::schedule::{Scheduled, hand_out, orders_for, same_members, turns_of};
+use crate::schedule::{Prepared, Scheduled, hand_out, orders_for, same_members, shared, turns_of};
 use crate::slot::Slot;
 use lb_rebuild::gate::{GateCore, Permit};
 use lb_select::backend::Backend;
-use lb_select::causes::least_refusal;
+use lb_select::causes::{earlier, memory_apart};
 use lb_select::refusal::Refusal;
 use lb_select::walk::BackendSelection;
 use std::alloc::Global;
@@ -86,21 +86,15 @@ impl<S: BackendSelection> GroupCore<S> {
             (λ g. StandsFor (record { gate = gate.now.id; configs = configs.items }) [] g) result }
         ensures gate { IfOk result (λ g. g.gate ≡ gate.now.id) }
     {
-        if let Some(refusal) = least_refusal::<S>(alloc, &configs) {
-            return Err(refusal);
-        }
-        // Every configuration gives a selector, so what is refused from here on is memory.
-        match fresh_slots(alloc, configs) {
-            Ok((current, slots)) => Ok(GroupCore {
-                gate: Snapshot::of(gate),
-                newest: 0,
-                current,
-                scheduled: 0,
-                cancelled: false,
-                slots,
-            }),
-            Err(_) => Err(Refusal::OutOfMemory),
-        }
+        let slots = fresh_slots(alloc, configs)?;
+        Ok(GroupCore {
+            gate: Snapshot::of(gate),
+            newest: 0,
+            current: Arc::new(alloc, BTreeSet::new(alloc))?,
+            scheduled: 0,
+            cancelled: false,
+            slots,
+        })
     }
 
     /// Some history of the group, for whoever knows none.
@@ -128,15 +122,35 @@ impl<S: BackendSelection> GroupCore<S> {
         ensures stands { Becomes self.old (schedule_events discovered.keys now result) self.new }
         ensures site { SameSite self.old self.new }
     {
-        if same_members(&discovered, &self.current) {
-            if self.cancelled {
-                return Err(Refusal::GroupCancelled);
-            }
-            return Ok(Scheduled {
+        match self.prepare(alloc, &discovered)? {
+            None => Ok(Scheduled {
                 generation: self.newest,
                 changed: false,
                 turns: Vec::new(alloc),
-            });
+            }),
+            Some(prepared) => Ok(self.commit(prepared, now)),
+        }
+    }
+
+    /// Gets at hand all the memory that this membership takes, where it has other backends than the newest one; `None` where it
+    /// has the same. Nothing changes yet, so a caller can do more that may be refused before it commits.
+    ///
+    /// # Errors
+    ///
+    /// As `schedule`.
+    pub fn prepare(
+        &self,
+        alloc: Global,
+        discovered: &BTreeSet<Backend>,
+    ) -> Result<Option<Prepared<S::Config>>, Refusal>
+        ensures answers { After self.now (λ made h. Prepares made h discovered.now.keys result) }
+        ensures fits { IfOk result (λ prepared. FitsIfThere self.now prepared) }
+    {
+        if same_members(discovered, &self.current) {
+            if self.cancelled {
+                return Err(Refusal::GroupCancelled);
+            }
+            return Ok(None);
         }
         let newest = self.newest;
         let Some(generation) = newest.checked_add(1) else {
@@ -145,18 +159,39 @@ impl<S: BackendSelection> GroupCore<S> {
         if self.cancelled {
             return Err(Refusal::GroupCancelled);
         }
-        let members = Arc::new(alloc, discovered)?;
+        let members = shared(alloc, discovered)?;
         let turns = turns_of(alloc, &self.slots, newest)?;
         let orders = orders_for(alloc, &self.slots, generation, &members)?;
-        hand_out(&mut self.slots, newest, orders);
+        Ok(Some(Prepared {
+            generation,
+            members,
+            turns,
+            orders,
+        }))
+    }
+
+    /// Makes a membership the newest at the moment `now`, for which this group has just got the memory. It takes none.
+    pub fn commit(&mut self, prepared: Prepared<S::Config>, now: u128) -> Scheduled
+        requires { Fits self.old prepared }
+        ensures answers { IsCommitted prepared result }
+        ensures stands { Becomes self.old (ScheduledEvent prepared.members now ∷ []) self.new }
+        ensures site { SameSite self.old self.new }
+    {
+        let Prepared {
+            generation,
+            members,
+            turns,
+            orders,
+        } = prepared;
+        hand_out(&mut self.slots, self.newest, orders);
         self.newest = generation;
         self.current = members;
         self.scheduled = now;
-        Ok(Scheduled {
+        Scheduled {
             generation,
             changed: true,
             turns,
-        })
+        }
     }
 
     /// Stops the rebuilds for good. Selections and readers go on, and what is under way can still come back.
@@ -281,19 +316,21 @@ impl<S: BackendSelection> GroupCore<S> {
         ensures answers { After self.old (λ made h. Enters made h slot result) }
         ensures stands { Becomes self.old (done_at slot Entered result) self.new }
         ensures site { SameSite self.old self.new }
+        ensures own { IfOk result (λ r. r.gate ≡ self.new.gate) }
     {
         if slot >= self.slots.len() {
             return Err(Refusal::NoSuch);
         }
-        self.slots[slot].enter(slot)
+        self.slots[slot].enter(slot, &self.gate)
     }
 
-    /// Gives an entry back to its slot. It takes no memory.
+    /// Gives an entry back to its slot; it is one of a group of this gate. It takes no memory.
     ///
     /// # Errors
     ///
     /// The reader, where its slot counts no reader of its generation. Nothing changes then.
     pub fn leave(&mut self, reader: Reader<S>) -> Result<(), Reader<S>>
+        requires { reader.gate ≡ self.old.gate }
         ensures answers { After self.old (λ made h. Leaves made h reader result) }
         ensures stands { Becomes self.old (done_at reader.slot (Left reader.generation) result) self.new }
         ensures site { SameSite self.old self.new }
@@ -358,7 +395,7 @@ impl<S: BackendSelection> GroupCore<S> {
     /// nothing.
     ///
     /// The selection is refused `NotEnoughWords` where walks over the selector may draw random words and at most `limit` of them
-    /// are handed in, and then no ticket is drawn; or `OutOfMemory`, and then at most `limit + 1` words are drawn.
+    /// are handed in, and then no word is drawn; or `OutOfMemory`. The answer says how many words were drawn, refused or not.
     pub fn select(
         &mut self,
         alloc: Global,
@@ -374,6 +411,7 @@ impl<S: BackendSelection> GroupCore<S> {
         if slot >= self.slots.len() {
             return Selection {
                 answer: Ok(None),
+                drawn: 0,
                 tickets: 0,
             };
         }
@@ -405,6 +443,17 @@ impl<S: BackendSelection> GroupCore<S> {
         Some(serving.generation)
     }
 
+    /// The generation of the selector that was taken out of a slot and is not yet reported destroyed, or `None` where there is
+    /// none.
+    pub fn taken_out(&self, slot: usize) -> Option<u64>
+        ensures { After self.now (λ made h. result ≡ taken_out_at made slot h) }
+    {
+        if slot >= self.slots.len() {
+            return None;
+        }
+        self.slots[slot].taken_out()
+    }
+
     /// The counts of a slot, or `None` where no such slot is there.
     pub fn counts(&self, slot: usize) -> Option<Counts>
         ensures { After self.now (λ made h. result ≡ at_slot made slot (counts_after (past_of slot h))) }
@@ -426,17 +475,31 @@ impl<S: BackendSelection> GroupCore<S> {
     }
 }
 
-// No backends, and a slot over them for each configuration.
+// A slot over no backends for each configuration. Each selector is built once; after a refusal the others are built to find the
+// least cause.
 fn fresh_slots<S: BackendSelection>(
     alloc: Global,
     configs: Vec<S::Config>,
-) -> Result<(Arc<BTreeSet<Backend>>, Vec<Slot<S>>), Refusal>
-    ensures { IfOk result (λ r. ((arc_value r.0).keys ≡ []) × (map slot_value r.1.items ≡ map fresh_slot configs.items)) }
+) -> Result<Vec<Slot<S>>, Refusal>
+    ensures { Refuses (least (map (S.refusal []) configs.items))
+        (λ slots. map slot_value slots.items ≡ map fresh_slot configs.items) result }
 {
-    let empty = Arc::new(alloc, BTreeSet::new(alloc))?;
+    let empty = BTreeSet::new(alloc);
     let mut slots = Vec::new(alloc);
+    let mut cause = None;
+    let mut is_whole = true;
     for config in configs {
-        slots.push(Slot::fresh(alloc, &empty, config)?)?;
+        match Slot::fresh(alloc, &empty, config) {
+            Ok(slot) => is_whole = slots.push(slot).is_ok() && is_whole,
+            Err(refusal) => {
+                is_whole = false;
+                cause = earlier(cause, memory_apart(refusal));
+            }
+        }
     }
-    Ok((empty, slots))
+    match cause {
+        Some(refusal) => Err(refusal),
+        None if is_whole => Ok(slots),
+        None => Err(Refusal::OutOfMemory),
+    }
 }

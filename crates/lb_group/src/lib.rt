@@ -10,3 +10,4 @@ pub mod retired;
 mod retry;
 pub mod schedule;
 mod slot;
+mod words;

@@ -2,9 +2,10 @@
 //! A retired selector holds the permit of the extra selector that it is, until it is destroyed and reported.
 ghost use Rattle.std.specs.Prelude.{◌≡◌};
 
-use lb_rebuild::gate::Permit;
+use lb_rebuild::gate::{GateCore, Permit};
 use lb_select::walk::BackendSelection;
 use std::marker::Model;
+use std::snapshot::Snapshot;
 use std::sync::Arc;
 
 // A selector with the generation that it was built for, and the tickets drawn from its counter so far.
@@ -70,8 +71,11 @@ impl<S: BackendSelection> Retired<S> {
 
 /// An entry into the selector that a slot served then. It is to be given back to the slot, and cannot be dropped.
 ///
-/// Contracts see the slot, the generation, and of which members and with which configuration the selector was built.
+/// Contracts see of which gate its group is, the slot, the generation, and of which members and with which configuration the
+/// selector was built.
 pub struct Reader<S: BackendSelection> {
+    // A snapshot of the group's own one; neither has bytes.
+    pub(crate) gate: Snapshot<Snapshot<GateCore>>,
     pub(crate) slot: usize,
     pub(crate) generation: u64,
     pub(crate) selector: Arc<S>,
@@ -84,6 +88,7 @@ impl<S: BackendSelection> Model for Reader<S> {
     ghost Value = { ReaderValue S.Config };
 
     ghost view = { λ r. record {
+      gate = r.gate.value.value.id;
       slot = r.slot;
       generation = r.generation;
       members = S.members (arc_value r.selector);
@@ -109,6 +114,7 @@ impl<S: BackendSelection> Reader<S> {
     /// Lets the reader go for good: the selector that it is in can't be destroyed from then on.
     pub fn close(self) {
         let Reader {
+            gate: _,
             slot: _,
             generation: _,
             selector: _,

@@ -15,6 +15,7 @@ use lb_select::backend::Backend;
 use lb_select::walk::BackendSelection;
 use std::alloc::{AllocError, Global};
 use std::collections::BTreeSet;
+use std::marker::Model;
 use std::sync::Arc;
 
 /// What a membership did to a slot.
@@ -37,6 +38,31 @@ pub struct Scheduled {
     pub turns: Vec<SlotTurn>,
 }
 
+/// A changed membership of which a group has all at hand that takes memory. Nothing has changed yet.
+///
+/// Contracts see the generation, the members, what it finds each slot doing, and each slot's order.
+#[derive(Drop)]
+pub struct Prepared<C: Drop> {
+    pub(crate) generation: u64,
+    pub(crate) members: Arc<BTreeSet<Backend>>,
+    pub(crate) turns: Vec<SlotTurn>,
+    pub(crate) orders: Vec<Order<C>>,
+}
+
+impl<C: Drop> Model for Prepared<C> {
+    ghost use Rattle.std.specs.Arc.{arc_value};
+    ghost use Rattle.lb_group.specs.Values.{PreparedValue};
+
+    ghost Value = { PreparedValue C };
+
+    ghost view = { λ p. record {
+      generation = p.generation;
+      members = (arc_value p.members).keys;
+      turns = p.turns.items;
+      orders = p.orders.items;
+    } };
+}
+
 // Whether two memberships list the same backends, by identity.
 pub(crate) fn same_members(discovered: &BTreeSet<Backend>, current: &BTreeSet<Backend>) -> bool
     ensures { result ≡ are_same discovered.now.keys current.now.keys }
@@ -48,6 +74,17 @@ fn is_subset(backends: &BTreeSet<Backend>, others: &BTreeSet<Backend>) -> bool
     ensures { result ≡ list_all (λ x. list_any (same_member x) others.now.keys) backends.now.keys }
 {
     backends.iter().all(|backend| others.contains(backend))
+}
+
+// A shared copy of a membership.
+pub(crate) fn shared(
+    alloc: Global,
+    members: &BTreeSet<Backend>,
+) -> Result<Arc<BTreeSet<Backend>>, AllocError>
+    ensures { IfOk result (λ copy. (arc_value copy).keys ≡ members.now.keys) }
+{
+    let copy = Arc::new(alloc, members.clone()?)?;
+    Ok(copy)
 }
 
 // What a new membership does to each slot, where `newest` is the generation before it.

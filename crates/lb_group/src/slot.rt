@@ -3,25 +3,28 @@
 ghost use Rattle.std.specs.Prelude.{◌≡◌, ◌&&◌, not, Bool, true, [], ◌<◌, ◌⊎◌, ℕ, IfOk, IfErr, OnErr, nat_lt, if◌then◌else◌};
 ghost use Rattle.std.specs.Arc.{arc_value};
 ghost use Rattle.std.specs.Fn.{FnReturnsAt};
+ghost use Rattle.lb_select.specs.Refusals.{Refuses};
 ghost use Rattle.lb_select.specs.Backends.{Member, same_member};
 ghost use Rattle.lb_select.specs.Selections.{Selects};
 ghost use Rattle.lb_group.specs.SlotSeen.{permit_of};
-ghost use Rattle.lb_group.specs.GroupHistory.{is_flight, is_aloft as aloft, is_retired_of, is_taken_out};
+ghost use Rattle.lb_group.specs.GroupHistory.{is_flight, is_aloft as aloft, is_retired_of, is_taken_out, taken_out_number};
 
 use crate::answers::{Ask, Counts, Selection, Timing, Told};
 use crate::job::{Built, Job, Order};
 use crate::retired::{Reader, Retired, Serving};
 use crate::retry::due;
 use crate::schedule::SlotTurn;
+use crate::words::DrawnWords;
 use lb_rebuild::gate::{GateCore, Permit};
 use lb_select::backend::Backend;
 use lb_select::refusal::Refusal;
 use lb_select::select::select;
 use lb_select::walk::BackendSelection;
-use lb_select::words::{HandedWords, WordSource};
+use lb_select::words::WordSource;
 use std::alloc::Global;
 use std::collections::BTreeSet;
 use std::mem;
+use std::snapshot::Snapshot;
 use std::sync::Arc;
 
 // What stands in a slot beside what it serves, each with its generation. A flight goes from the slot's job to its failure or
@@ -63,7 +66,8 @@ impl<S: BackendSelection> Slot<S> {
         backends: &BTreeSet<Backend>,
         config: S::Config,
     ) -> Result<Slot<S>, Refusal>
-        ensures { IfOk result (λ x. (backends.now.keys ≡ []) → slot_value x ≡ fresh_slot config) }
+        ensures { Refuses (S.refusal backends.now.keys config)
+            (λ x. (backends.now.keys ≡ []) → slot_value x ≡ fresh_slot config) result }
     {
         let selector = S::build_with_config(alloc, backends, &config)?;
         Ok(Slot {
@@ -354,9 +358,14 @@ impl<S: BackendSelection> Slot<S> {
         Ok(())
     }
 
-    // One reader more of the selector that is served.
-    pub(crate) fn enter(&mut self, slot: usize) -> Result<Reader<S>, Refusal>
-        ensures ok { IfOk result (λ r. (slot_value self.old).readers < 18446744073709551615 × (r ≡ reader_of slot (slot_value self.old))
+    // One reader more of the selector that is served; `gate` is the group's.
+    pub(crate) fn enter(
+        &mut self,
+        slot: usize,
+        gate: &Snapshot<GateCore>,
+    ) -> Result<Reader<S>, Refusal>
+        ensures ok { IfOk result (λ r. (slot_value self.old).readers < 18446744073709551615
+            × (r ≡ reader_of gate.now.value.id slot (slot_value self.old))
             × (slot_value self.new ≡ entered_slot (slot_value self.old))) }
         ensures err { IfErr result (λ e. ((slot_value self.old).readers ≡ 18446744073709551615 × (e ≡ Refusal.NumbersExhausted))
             ⊎ ((slot_value self.old).readers < 18446744073709551615 × (e ≡ Refusal.OutOfMemory))) }
@@ -370,6 +379,7 @@ impl<S: BackendSelection> Slot<S> {
         let generation = serving.generation;
         self.readers += 1;
         Ok(Reader {
+            gate: Snapshot::of(gate),
             slot,
             generation,
             selector,
@@ -442,6 +452,16 @@ impl<S: BackendSelection> Slot<S> {
         }
     }
 
+    // The generation of the selector that was taken out, where one was.
+    pub(crate) fn taken_out(&self) -> Option<u64>
+        ensures { result ≡ taken_out_number (extra_of self.now.stage) }
+    {
+        match &self.stage {
+            Stage::TakenOut(generation) => Some(*generation),
+            Stage::Free | Stage::Flight(_) | Stage::Lost(_) | Stage::Retired(_) => None,
+        }
+    }
+
     // The selector that was taken out is destroyed, where one was.
     pub(crate) fn report(&mut self) -> bool
         ensures out { result ≡ is_taken_out (extra_of self.old.stage) }
@@ -470,14 +490,16 @@ impl<S: BackendSelection> Slot<S> {
         if serving.selector.draws_random() && random.len() <= limit {
             return Selection {
                 answer: Err(Refusal::NotEnoughWords),
+                drawn: 0,
                 tickets: serving.tickets,
             };
         }
-        let mut words = HandedWords::new(serving.tickets, random);
+        let mut words = DrawnWords::new(serving.tickets, random);
         let answer = first(alloc, &serving.selector, key, &mut words, limit, &every);
         serving.tickets = words.tickets();
         Selection {
             answer,
+            drawn: words.drawn(),
             tickets: serving.tickets,
         }
     }

@@ -1,3 +1,4 @@
 pub mod FlagLemmas
 pub mod SnapshotLemmas
 pub mod ViewLemmas
+pub mod PassLemmas

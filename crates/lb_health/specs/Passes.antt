@@ -1,5 +1,6 @@
 -- A pass of checks over the targets of a registry, and what contracts see of a registry with its check.
 use Rattle.std.specs.Prelude.{◌≡◌, ◌⊎◌, ℕ, Bool, List, [], ◌∷◌, map, Option, Some, None}
+use Rattle.std.specs.List.{AllByRecursion as Each}
 use Rattle.lb_select.specs.Backends.{Member}
 use Rattle.lb_registry.specs.Registry.{RegistryValue, targets_after}
 use Rattle.lb_registry.specs.RegistryEvents.{Event, Observed, IsCellKept}
@@ -19,14 +20,17 @@ abbrev pub Reaches : (Member → Member) → ℕ → Verdict → List Event → 
 Reaches key_of cell verdict events after =
     (IsCellKept key_of cell events × (after ≡ Observed cell verdict ∷ events)) ⊎ ((IsCellKept key_of cell events → ⊥) × (after ≡ events))
 
--- one verdict for each of these cells, in order, each with the check's threshold for it
-abbrev pub Passes : (Bool → ℕ) → (Member → Member) → List ℕ → List Event → List Event → Type 0
-Passes threshold key_of [] events after = after ≡ events
-Passes threshold key_of (cell ∷ cells) events after =
-    (ok : Bool) × (between : List Event) × Reaches key_of cell (record { ok = ok; threshold = threshold ok }) events between
-    × Passes threshold key_of cells between after
+-- one verdict reaches each of these cells, in order, each with the check's threshold for it
+abbrev pub Passes : (Bool → ℕ) → List ℕ → List Event → List Event → Type 0
+Passes threshold [] events after = after ≡ events
+Passes threshold (cell ∷ cells) events after =
+    (ok : Bool) × Passes threshold cells (Observed cell (record { ok = ok; threshold = threshold ok }) ∷ events) after
 
 -- a pass, which without a check does nothing more than what came before
-abbrev pub PassesWith : {C : Type 0} → (C → Bool → ℕ) → (Member → Member) → Option C → List ℕ → List Event → List Event → Type 0
-PassesWith threshold key_of None cells events after = after ≡ events
-PassesWith threshold key_of (Some check) cells events after = Passes (threshold check) key_of cells events after
+abbrev pub PassesWith : {C : Type 0} → (C → Bool → ℕ) → Option C → List ℕ → List Event → List Event → Type 0
+PassesWith threshold None cells events after = after ≡ events
+PassesWith threshold (Some check) cells events after = Passes (threshold check) cells events after
+
+-- each of these cells is kept
+abbrev pub AreKept : (Member → Member) → List ℕ → List Event → Type 0
+AreKept key_of cells events = Each (λ c. IsCellKept key_of c events) cells

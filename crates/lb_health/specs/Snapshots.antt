@@ -1,5 +1,5 @@
 -- What contracts see of a view: its snapshots, each with its members and their cells, and the flags.
-use Rattle.std.specs.Prelude.{ℕ, ◌+◌, ◌-◌, Bool, ◌||◌, ◌==◌, nat_lt, List, [], ◌∷◌, filter, find, Option, if◌then◌else◌}
+use Rattle.std.specs.Prelude.{◌≡◌, ◌⊎◌, ℕ, ◌+◌, ◌-◌, Bool, not, ◌||◌, ◌==◌, ◌^◌, nat_lt, List, [], ◌∷◌, filter, find, Option, if◌then◌else◌}
 use Rattle.std.specs.Arc.{arc_value}
 use Rattle.std.specs.List.{list_any}
 use Rattle.std.specs.Map.{lookup}
@@ -31,6 +31,10 @@ held_more s = record s { holds = s.holds + 1 }
 abbrev pub held_less : SnapshotValue → SnapshotValue
 held_less s = record s { holds = s.holds - 1 }
 
+-- whether it is of another generation or can be held once more
+abbrev pub can_hold : ℕ → SnapshotValue → Bool
+can_hold g s = not (s.generation == g) || nat_lt (s.holds + 1) (2 ^ 64)
+
 -- the snapshots with that of this generation changed
 abbrev pub at_generation : ℕ → (SnapshotValue → SnapshotValue) → List SnapshotValue → List SnapshotValue
 at_generation g f [] = []
@@ -47,6 +51,11 @@ lists_in b ss = list_any (λ s. list_any (same_member b) s.members) ss
 -- the snapshot of this generation
 abbrev pub snapshot_at : ℕ → List SnapshotValue → Option SnapshotValue
 snapshot_at g ss = find (λ s. s.generation == g) ss
+
+-- this snapshot is one of these
+abbrev pub IsAmong : SnapshotValue → List SnapshotValue → Type 0
+IsAmong s [] = ⊥
+IsAmong s (t ∷ ts) = (t ≡ s) ⊎ IsAmong s ts
 
 -- the cell of a backend in a snapshot, or its flag in a view
 abbrev pub value_at : {V : Type 0} → List (Member × V) → Member → Option V

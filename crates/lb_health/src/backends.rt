@@ -1,11 +1,17 @@
 //! The backends of one discovery: a view with the registry that it belongs to.
 //! Whoever has it updates it and runs its checks; the forms that threads share stand above.
-ghost use Rattle.std.specs.Prelude.{◌≡◌, ◌↔◌, ◌∷◌, ℕ, Bool, List, [], Ok, Err, Some, None, IfOk, OnOk, OnErr, IsSome, IsTrue};
+ghost use Rattle.std.specs.Prelude.{◌≡◌, ◌↔◌, ◌⊎◌, ◌+◌, ◌^◌, ◌≤◌, ◌∷◌, ℕ, Bool, List, [], Ok, Err, Some, None, IfOk, OnOk, OnErr};
+ghost use Rattle.std.specs.Prelude.{IsErrOf, IsSome, IsTrue, MatchOption, false};
 ghost use Rattle.std.specs.Arc.{arc_value};
+ghost use Rattle.std.specs.BTreeSet.{BTreeSet};
+ghost use Rattle.std.specs.Fn.{FnOnceReturnsAt};
+ghost use Rattle.std.proofs.Common.{Global};
 ghost use Rattle.lb_select.specs.Backends.{Member};
+ghost use Rattle.lb_registry.specs.Keys.{by_identity, rule_gives};
 ghost use Rattle.lb_registry.specs.Registry.{IsRegistryAfter, IsGrowthRefusal};
-ghost use Rattle.lb_registry.specs.RegistryEvents.{Event, Applied, Registered};
+ghost use Rattle.lb_registry.specs.RegistryEvents.{Event, Applied, Registered, registered_after, views_after, has_view, cells_given};
 ghost use Rattle.lb_health.specs.Joined.{IsReady};
+ghost use Rattle.lb_health.specs.Snapshots.{IfHead};
 ghost use Rattle.lb_health.specs.Passes.{PassesWith, target_cells};
 ghost use Rattle.lb_health.specs.Updates.{IsUpdated, IsBackendsRefusal};
 ghost use Rattle.lb_health.specs.ViewEvents.{ViewEvent, Set, generation_after, membership_after};
@@ -15,7 +21,7 @@ use crate::discovery::{DiscoverySource, ServiceDiscovery};
 use crate::registry::HealthRegistry;
 use crate::view::ViewCore;
 use lb_probe::health_check::HealthCheck;
-use lb_registry::keys::KeyRule;
+use lb_registry::keys::{KeyRule, Rule};
 use lb_select::backend::Backend;
 use lb_select::refusal::Refusal;
 use log::Log;
@@ -43,6 +49,26 @@ impl<D, R, C> Model for Backends<D, R, C> {
     ghost view = { λ b. record { discovery = b.discovery; health = b.registry; view = b.view } };
 }
 
+impl<D: ServiceDiscovery + Drop, N: KeyRule + Drop, C: HealthCheck + Drop> Backends<D, Rule<N>, C> {
+    /// A view of this discovery in a registry of its own, keyed by identity, without a check: generation 0, without backends.
+    ///
+    /// # Errors
+    ///
+    /// `OutOfMemory` where memory is refused.
+    pub fn new(
+        alloc: Global,
+        discovery: DiscoverySource<D>,
+    ) -> Result<Backends<D, Rule<N>, C>, Refusal>
+        ensures ok { IfOk result (λ b. IsViewAfter [] b.view
+            × IsRegistryAfter (rule_gives N.gives) by_identity (Applied ∷ Registered ∷ []) b.health.registry) }
+        ensures id { IfOk result (λ b. b.view.id ≡ 1) }
+        ensures parts { IfOk result (λ b. (b.discovery ≡ discovery) × (b.health.check ≡ None)) }
+        ensures refused { OnErr result (result ≡ Err Refusal.OutOfMemory) }
+    {
+        Backends::new_with_health_registry(alloc, discovery, HealthRegistry::new(alloc))
+    }
+}
+
 impl<D: ServiceDiscovery + Drop, R: KeyRule + Drop, C: HealthCheck + Drop> Backends<D, R, C> {
     /// A view of this discovery, registered in the registry: generation 0, without backends.
     ///
@@ -57,6 +83,13 @@ impl<D: ServiceDiscovery + Drop, R: KeyRule + Drop, C: HealthCheck + Drop> Backe
         ensures ok { IfOk result (λ b. (key_of : Member → Member) (events : List Event)
             → IsRegistryAfter R.gives key_of events registry.registry
             → IsViewAfter [] b.view × IsRegistryAfter R.gives key_of (Applied ∷ Registered ∷ events) b.health.registry) }
+        ensures id { IfOk result (λ b. (key_of : Member → Member) (events : List Event)
+            → IsRegistryAfter R.gives key_of events registry.registry
+            → b.view.id ≡ registered_after events + 1) }
+        ensures parts { IfOk result (λ b. (b.discovery ≡ discovery) × (b.health.check ≡ registry.check)) }
+        ensures exhausted { (key_of : Member → Member) (events : List Event) → IsRegistryAfter R.gives key_of events registry.registry
+            → IsErrOf result Refusal.NumbersExhausted
+            → (registered_after events + 1 ≡ 2 ^ 64) ⊎ (2 ^ 64 ≤ cells_given key_of (Applied ∷ Registered ∷ events)) }
         ensures refused { OnErr result (IsGrowthRefusal result) }
     {
         let mut registry = registry;
@@ -90,6 +123,8 @@ impl<D: ServiceDiscovery + Drop, R: KeyRule + Drop, C: HealthCheck + Drop> Backe
         ensures view { (views : List ViewEvent) → IsViewAfter views self.old.view
             → IsViewAfter (Set backend.now enabled ∷ views) self.new.view }
         ensures health { self.new.health ≡ self.old.health }
+        ensures discovery { self.new.discovery ≡ self.old.discovery }
+        ensures id { self.new.view.id ≡ self.old.view.id }
     {
         self.view.set_enable(backend, enabled);
     }
@@ -109,6 +144,7 @@ impl<D: ServiceDiscovery + Drop, R: KeyRule + Drop, C: HealthCheck + Drop> Backe
             → (result ≡ Ok tt) × (self.new.health ≡ record self.old.health { check = Some check }) }
         ensures refused { IsSome self.old.health.check → (result ≡ Err Refusal.HealthCheckSet) × (self.new.health ≡ self.old.health) }
         ensures view { self.new.view ≡ self.old.view }
+        ensures discovery { self.new.discovery ≡ self.old.discovery }
     {
         self.registry.set_health_check(check)
     }
@@ -130,11 +166,19 @@ impl<D: ServiceDiscovery + Drop, R: KeyRule + Drop, C: HealthCheck + Drop> Backe
             → IsViewAfter views self.old.view
             → IsRegistryAfter R.gives key_of events self.old.health.registry
             → IsUpdated R.gives key_of views events self.old.view.id self.new) }
+        ensures told { IfOk result (λ answer. MatchOption answer (self.new.view.generation ≡ self.old.view.generation)
+            (λ t. (self.new.view.generation ≡ self.old.view.generation + 1) × IfHead self.new.view.snapshots
+            (λ s. (set : BTreeSet Member Global) × (set.keys ≡ s.members) × FnOnceReturnsAt F.FnOnce changed set t))) }
         ensures err { OnErr result ((key_of : Member → Member) (views : List ViewEvent) (events : List Event)
             → IsViewAfter views self.old.view
             → IsRegistryAfter R.gives key_of events self.old.health.registry
             → IsViewAfter views self.new.view × IsRegistryAfter R.gives key_of events self.new.health.registry) }
         ensures refused { OnErr result (IsBackendsRefusal result) }
+        ensures last { IsErrOf result Refusal.GenerationsExhausted → (views : List ViewEvent) → IsViewAfter views self.old.view
+            → generation_after views + 1 ≡ 2 ^ 64 }
+        ensures unknown { IsErrOf result Refusal.NoSuch → (key_of : Member → Member) (events : List Event)
+            → IsRegistryAfter R.gives key_of events self.old.health.registry → has_view self.old.view.id (views_after events) ≡ false }
+        ensures id { self.new.view.id ≡ self.old.view.id }
         ensures discovery { self.new.discovery ≡ self.old.discovery }
         ensures check { self.new.health.check ≡ self.old.health.check }
     {
@@ -158,13 +202,18 @@ impl<D: ServiceDiscovery + Drop, R: KeyRule + Drop, C: HealthCheck + Drop> Backe
         ensures ok { OnOk result ((key_of : Member → Member) (events : List Event)
             → IsRegistryAfter R.gives key_of events self.old.health.registry
             → (after : List Event)
-            × PassesWith C.threshold key_of self.old.health.check (target_cells key_of (Applied ∷ events)) (Applied ∷ events) after
+            × PassesWith C.threshold self.old.health.check (target_cells key_of (Applied ∷ events)) (Applied ∷ events) after
             × IsRegistryAfter R.gives key_of after self.new.health.registry) }
         ensures err { OnErr result ((key_of : Member → Member) (events : List Event)
             → IsRegistryAfter R.gives key_of events self.old.health.registry
             → IsRegistryAfter R.gives key_of events self.new.health.registry) }
+        ensures exhausted { (key_of : Member → Member) (events : List Event)
+            → IsRegistryAfter R.gives key_of events self.old.health.registry
+            → IsErrOf result Refusal.NumbersExhausted → 2 ^ 64 ≤ cells_given key_of (Applied ∷ events) }
         ensures refused { OnErr result (IsGrowthRefusal result) }
         ensures view { self.new.view ≡ self.old.view }
+        ensures discovery { self.new.discovery ≡ self.old.discovery }
+        ensures check { self.new.health.check ≡ self.old.health.check }
     {
         self.registry.run_health_check(rt, alloc)
     }

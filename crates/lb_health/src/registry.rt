@@ -1,16 +1,18 @@
 //! A registry of health with its check, and the passes that check its targets one by one.
 //! A verdict reaches the cell of its target; where that flips, the check is told, and then a line is logged.
-ghost use Rattle.std.specs.Prelude.{◌≡◌, ◌∷◌, Bool, List, map, length, Ok, Err, Some, None, IfOk, OnOk, OnErr, IsSome};
+ghost use Rattle.std.specs.Prelude.{◌≡◌, ◌≤◌, ◌^◌, ◌∷◌, [], Bool, false, List, map, length, Ok, Err, Some, None, IfOk, OnOk, OnErr};
+ghost use Rattle.std.specs.Prelude.{IsErrOf, IsSome};
 ghost use Rattle.lb_select.specs.Backends.{Member};
+ghost use Rattle.lb_registry.specs.Keys.{by_identity, by_address, rule_gives, IsRuleOf};
 ghost use Rattle.lb_registry.specs.Registry.{IsRegistryAfter, IsGrowthRefusal, targets_after};
-ghost use Rattle.lb_registry.specs.RegistryEvents.{Event, Applied, views_after};
+ghost use Rattle.lb_registry.specs.RegistryEvents.{Event, Applied, Configured, views_after, cells_given};
 ghost use Rattle.lb_registry.specs.Targets.{target_keys};
 ghost use Rattle.lb_registry.specs.declared.targets.Target.{Target as TargetValue};
-ghost use Rattle.lb_health.specs.Passes.{Reaches, Passes, PassesWith, target_cells};
+ghost use Rattle.lb_health.specs.Passes.{Reaches, Passes, PassesWith, AreKept, target_cells};
 
 use lb_probe::error::CheckError;
 use lb_probe::health_check::HealthCheck;
-use lb_registry::keys::KeyRule;
+use lb_registry::keys::{KeyRule, Rule};
 use lb_registry::registry::Registry;
 use lb_registry::targets::Target;
 use lb_select::backend::Backend;
@@ -34,6 +36,42 @@ impl<R, C> Model for HealthRegistry<R, C> {
     ghost view = { λ h. record { registry = h.registry; check = h.check } };
 }
 
+impl<N: KeyRule + Drop, C: HealthCheck + Drop> HealthRegistry<Rule<N>, C> {
+    /// A registry without views and without a check, whose backends share a cell where their address and weight are the same.
+    pub fn new(alloc: Global) -> HealthRegistry<Rule<N>, C>
+        ensures registry { IsRegistryAfter (rule_gives N.gives) by_identity [] result.registry }
+        ensures check { result.check ≡ None }
+    {
+        HealthRegistry {
+            registry: Registry::with_rule(alloc, Rule::Identity),
+            check: None,
+        }
+    }
+
+    /// The same, whose backends share a cell where their address is the same.
+    pub fn by_address(alloc: Global) -> HealthRegistry<Rule<N>, C>
+        ensures registry { IsRegistryAfter (rule_gives N.gives) by_address [] result.registry }
+        ensures check { result.check ≡ None }
+    {
+        HealthRegistry {
+            registry: Registry::with_rule(alloc, Rule::Address),
+            check: None,
+        }
+    }
+
+    /// The same, whose backends share a cell where the caller's rule gives them the same key, as `ByNumber` does by a number.
+    pub fn with_equivalence(alloc: Global, rule: N) -> HealthRegistry<Rule<N>, C>
+        ensures registry { (key_of : Member → Member) → IsRuleOf N.gives rule key_of
+            → IsRegistryAfter (rule_gives N.gives) key_of [] result.registry }
+        ensures check { result.check ≡ None }
+    {
+        HealthRegistry {
+            registry: Registry::with_rule(alloc, Rule::Equivalence(rule)),
+            check: None,
+        }
+    }
+}
+
 impl<R: KeyRule + Drop, C: HealthCheck + Drop> HealthRegistry<R, C> {
     /// This registry, without a check.
     pub fn over(registry: Registry<R>) -> HealthRegistry<R, C>
@@ -43,6 +81,19 @@ impl<R: KeyRule + Drop, C: HealthCheck + Drop> HealthRegistry<R, C> {
         HealthRegistry {
             registry,
             check: None,
+        }
+    }
+
+    /// The registry with cells that begin unhealthy from now on; those that are there stay. It takes no memory.
+    pub fn start_unhealthy(self) -> HealthRegistry<R, C>
+        ensures registry { (key_of : Member → Member) (events : List Event) → IsRegistryAfter R.gives key_of events self.registry
+            → IsRegistryAfter R.gives key_of (Configured false ∷ events) result.registry }
+        ensures check { result.check ≡ self.check }
+    {
+        let HealthRegistry { registry, check } = self;
+        HealthRegistry {
+            registry: registry.start_unhealthy(),
+            check,
         }
     }
 
@@ -73,6 +124,8 @@ impl<R: KeyRule + Drop, C: HealthCheck + Drop> HealthRegistry<R, C> {
         ensures err { OnErr result ((key_of : Member → Member) (events : List Event)
             → IsRegistryAfter R.gives key_of events self.old.registry
             → IsRegistryAfter R.gives key_of events self.new.registry) }
+        ensures exhausted { (key_of : Member → Member) (events : List Event) → IsRegistryAfter R.gives key_of events self.old.registry
+            → IsErrOf result Refusal.NumbersExhausted → 2 ^ 64 ≤ cells_given key_of (Applied ∷ events) }
         ensures refused { OnErr result (IsGrowthRefusal result) }
         ensures check { self.new.check ≡ self.old.check }
     {
@@ -94,13 +147,16 @@ impl<R: KeyRule + Drop, C: HealthCheck + Drop> HealthRegistry<R, C> {
         ensures err { OnErr result ((key_of : Member → Member) (events : List Event)
             → IsRegistryAfter R.gives key_of events self.old.registry
             → IsRegistryAfter R.gives key_of events self.new.registry) }
+        ensures exhausted { (key_of : Member → Member) (events : List Event) → IsRegistryAfter R.gives key_of events self.old.registry
+            → IsErrOf result Refusal.NumbersExhausted → 2 ^ 64 ≤ cells_given key_of (Applied ∷ events) }
         ensures refused { OnErr result (IsGrowthRefusal result) }
         ensures check { self.new.check ≡ self.old.check }
     {
         self.registry.targets(alloc)
     }
 
-    /// Applies the marks that wait, and then checks each target once, one after another, if a check is set.
+    /// Applies the marks that wait, and then checks each target once, one after another, if a check is set. Each verdict reaches
+    /// the cell of its target.
     ///
     /// # Errors
     ///
@@ -109,11 +165,13 @@ impl<R: KeyRule + Drop, C: HealthCheck + Drop> HealthRegistry<R, C> {
         ensures ok { OnOk result ((key_of : Member → Member) (events : List Event)
             → IsRegistryAfter R.gives key_of events self.old.registry
             → (after : List Event)
-            × PassesWith C.threshold key_of self.old.check (target_cells key_of (Applied ∷ events)) (Applied ∷ events) after
+            × PassesWith C.threshold self.old.check (target_cells key_of (Applied ∷ events)) (Applied ∷ events) after
             × IsRegistryAfter R.gives key_of after self.new.registry) }
         ensures err { OnErr result ((key_of : Member → Member) (events : List Event)
             → IsRegistryAfter R.gives key_of events self.old.registry
             → IsRegistryAfter R.gives key_of events self.new.registry) }
+        ensures exhausted { (key_of : Member → Member) (events : List Event) → IsRegistryAfter R.gives key_of events self.old.registry
+            → IsErrOf result Refusal.NumbersExhausted → 2 ^ 64 ≤ cells_given key_of (Applied ∷ events) }
         ensures refused { OnErr result (IsGrowthRefusal result) }
         ensures check { self.new.check ≡ self.old.check }
     {
@@ -125,7 +183,7 @@ impl<R: KeyRule + Drop, C: HealthCheck + Drop> HealthRegistry<R, C> {
     }
 }
 
-// Checks each of the targets once.
+// Checks each of the targets once. Their cells are kept all the while, so that each verdict reaches its cell.
 fn check_all<R: KeyRule + Drop, C: HealthCheck, L: Log>(
     rt: &L,
     alloc: Global,
@@ -134,7 +192,8 @@ fn check_all<R: KeyRule + Drop, C: HealthCheck, L: Log>(
     targets: &[Target],
 )
     ensures { (key_of : Member → Member) (events : List Event) → IsRegistryAfter R.gives key_of events registry.old
-        → (after : List Event) × Passes (C.threshold check.now) key_of (map (λ (t : TargetValue). t.cell) targets.now) events after
+        → AreKept key_of (map (λ (t : TargetValue). t.cell) targets.now) events
+        → (after : List Event) × Passes (C.threshold check.now) (map (λ (t : TargetValue). t.cell) targets.now) events after
         × IsRegistryAfter R.gives key_of after registry.new }
 {
     for target in targets {

@@ -1,9 +1,9 @@
 //! Snapshots of a view: a generation with its members and their cells.
 //! A snapshot lives while it is the current one of its view or held.
 ghost use Rattle.std.specs.Prelude.{◌≡◌, map, ◌==◌, ◌∷◌};
-ghost use Rattle.std.specs.List.{list_any, position};
+ghost use Rattle.std.specs.List.{list_all, list_any, position};
 ghost use Rattle.lb_select.specs.Backends.{same_member};
-ghost use Rattle.lb_health.specs.Snapshots.{snapshot_of, lists_in};
+ghost use Rattle.lb_health.specs.Snapshots.{snapshot_of, can_hold, lists_in};
 
 use lb_select::backend::Backend;
 use std::collections::{BTreeMap, BTreeSet};
@@ -31,6 +31,30 @@ pub(crate) fn lists(current: &ViewSnapshot, others: &[ViewSnapshot], backend: &B
         }
     }
     false
+}
+
+// Whether the snapshot is of another generation or can be held once more.
+fn has_room(snapshot: &ViewSnapshot, generation: u64) -> bool
+    ensures { result ≡ can_hold generation (snapshot_of snapshot.now) }
+{
+    snapshot.generation != generation || snapshot.holds < u64::MAX
+}
+
+// Whether the current snapshot and the others each are.
+pub(crate) fn have_room(current: &ViewSnapshot, others: &[ViewSnapshot], generation: u64) -> bool
+    ensures { result ≡ list_all (can_hold generation) (snapshot_of current.now ∷ map snapshot_of others.now) }
+{
+    if !has_room(current, generation) {
+        return false;
+    }
+    others_have_room(others, generation)
+}
+
+// Whether each of these is.
+fn others_have_room(others: &[ViewSnapshot], generation: u64) -> bool
+    ensures { result ≡ list_all (λ s. can_hold generation (snapshot_of s)) others.now }
+{
+    others.iter().all(|snapshot| has_room(snapshot, generation))
 }
 
 // The place of the snapshot of this generation, or `None` where none is there.

@@ -1,6 +1,6 @@
 //! The view of a registry: a membership in numbered generations, the snapshots that live, and the flags of their backends.
 //! It is told by the list of its events, newest first.
-ghost use Rattle.std.specs.Prelude.{◌≡◌, ◌+◌, ◌<◌, ◌^◌, ◌∷◌, [], All, IfOk, IsOk, OnOk, OnErr};
+ghost use Rattle.std.specs.Prelude.{◌≡◌, ◌≢◌, ◌+◌, ◌<◌, ◌^◌, ◌∷◌, [], All, IfOk, IsOk, OnOk, OnErr};
 ghost use Rattle.std.specs.Prelude.{IsErrOf, IsSome, IsTrue, MatchOption, Err, List, ℕ, true, false, ◌↔◌, ◌≤◌};
 ghost use Rattle.std.specs.List.{list_any, list_all};
 ghost use Rattle.std.specs.Arc.{arc_value};
@@ -17,7 +17,7 @@ ghost use Rattle.lb_health.specs.Joined.{view_updated, registry_updated, IsHealt
 ghost use Rattle.lb_registry.specs.Registry.{IsRegistryAfter};
 ghost use Rattle.lb_registry.specs.RegistryEvents.{Event, Updated, Applied, has_view, views_after, cells_given};
 
-use crate::snapshot::{ViewSnapshot, is_among, lists, place_of};
+use crate::snapshot::{ViewSnapshot, have_room, is_among, lists, place_of};
 use lb_registry::keys::KeyRule;
 use lb_registry::registry::Registry;
 use lb_select::backend::{Backend, Ext, SocketAddr};
@@ -112,6 +112,8 @@ impl ViewCore {
     pub fn set_enable(&mut self, backend: &Backend, enabled: bool)
         ensures after { (views : List ViewEvent) → IsViewAfter views self.old → IsViewAfter (Set backend.now enabled ∷ views) self.new }
         ensures id { self.new.id ≡ self.old.id }
+        ensures generation { self.new.generation ≡ self.old.generation }
+        ensures snapshots { self.new.snapshots ≡ self.old.snapshots }
     {
         if lists(&self.current, self.earlier.as_slice(), backend) {
             if let Some(flag) = self.flags.get_mut(backend) {
@@ -120,8 +122,16 @@ impl ViewCore {
         }
     }
 
+    /// Whether the snapshot of this generation may be held once more: it is held fewer than 18446744073709551615 times, or none
+    /// lives. It takes no memory.
+    pub fn can_hold(&self, generation: u64) -> bool
+        ensures { IsTrue result ↔ All (λ s. s.generation ≡ generation → s.holds + 1 < 2 ^ 64) self.now.snapshots }
+    {
+        have_room(&self.current, self.earlier.as_slice(), generation)
+    }
+
     /// Holds the snapshot of this generation once more; where none lives, nothing changes. The caller keeps the count below
-    /// 18446744073709551615. It takes no memory.
+    /// 18446744073709551615, as `can_hold` tells. It takes no memory.
     pub fn hold(&mut self, generation: u64)
         requires { All (λ s. s.generation ≡ generation → s.holds + 1 < 2 ^ 64) self.old.snapshots }
         ensures after { (views : List ViewEvent) → IsViewAfter views self.old → IsViewAfter (Held generation ∷ views) self.new }
@@ -265,6 +275,9 @@ impl ViewCore {
             → MatchOption answer (same_members discovered.keys (membership_after views) ≡ true)
             (λ t. (same_members discovered.keys (membership_after views) ≡ false)
             × ((set : BTreeSet Member Global) × (set.keys ≡ discovered.keys) × FnOnceReturnsAt F.FnOnce changed set t))) }
+        ensures told { IfOk result (λ answer. MatchOption answer (self.new.generation ≡ self.old.generation)
+            (λ t. (self.new.generation ≡ self.old.generation + 1) × IfHead self.new.snapshots (λ s. (set : BTreeSet Member Global)
+            × (set.keys ≡ s.members) × FnOnceReturnsAt F.FnOnce changed set t))) }
         ensures view_err { OnErr result ((views : List ViewEvent) → IsViewAfter views self.old → IsViewAfter views self.new) }
         ensures registry_err { OnErr result ((key_of : Member → Member) (events : List Event)
             → IsRegistryAfter R.gives key_of events registry.old
@@ -276,6 +289,9 @@ impl ViewCore {
             → result ≡ Err Refusal.GenerationsExhausted }
         ensures last { IsErrOf result Refusal.GenerationsExhausted → (views : List ViewEvent) → IsViewAfter views self.old
             → generation_after views + 1 ≡ 2 ^ 64 }
+        ensures missing { (key_of : Member → Member) (views : List ViewEvent) (events : List Event) → IsViewAfter views self.old
+            → IsRegistryAfter R.gives key_of events registry.old → same_members discovered.keys (membership_after views) ≡ false
+            → generation_after views + 1 ≢ 2 ^ 64 → has_view self.old.id (views_after events) ≡ false → result ≡ Err Refusal.NoSuch }
         ensures unknown { IsErrOf result Refusal.NoSuch → (key_of : Member → Member) (events : List Event)
             → IsRegistryAfter R.gives key_of events registry.old → has_view self.old.id (views_after events) ≡ false }
         ensures numbers { IsErrOf result Refusal.NumbersExhausted → (key_of : Member → Member) (events : List Event)
@@ -309,12 +325,15 @@ impl ViewCore {
             → IsRegistryAfter R.gives key_of events registry.old
             → IsRegistryAfter R.gives key_of (registry_changed key_of self.old.id members.keys views events) registry.new) }
         ensures shown { OnOk result (IfHead self.new.snapshots (λ s. s.members ≡ members.keys)) }
+        ensures next { OnOk result (self.new.generation ≡ self.old.generation + 1) }
         ensures view_err { OnErr result ((views : List ViewEvent) → IsViewAfter views self.old → IsViewAfter views self.new) }
         ensures registry_err { OnErr result ((key_of : Member → Member) (events : List Event)
             → IsRegistryAfter R.gives key_of events registry.old
             → IsRegistryAfter R.gives key_of events registry.new) }
         ensures exhausted { self.old.generation + 1 ≡ 2 ^ 64 → result ≡ Err Refusal.GenerationsExhausted }
         ensures last { IsErrOf result Refusal.GenerationsExhausted → self.old.generation + 1 ≡ 2 ^ 64 }
+        ensures missing { (key_of : Member → Member) (events : List Event) → IsRegistryAfter R.gives key_of events registry.old
+            → self.old.generation + 1 ≢ 2 ^ 64 → has_view self.old.id (views_after events) ≡ false → result ≡ Err Refusal.NoSuch }
         ensures unknown { IsErrOf result Refusal.NoSuch → (key_of : Member → Member) (events : List Event)
             → IsRegistryAfter R.gives key_of events registry.old → has_view self.old.id (views_after events) ≡ false }
         ensures numbers { IsErrOf result Refusal.NumbersExhausted → (key_of : Member → Member) (events : List Event)
@@ -327,6 +346,9 @@ impl ViewCore {
         let Some(next) = last.checked_add(1) else {
             return Err(Refusal::GenerationsExhausted);
         };
+        if !registry.has_view(self.id) {
+            return Err(Refusal::NoSuch);
+        }
         self.earlier.reserve(1)?;
         flag_all(&mut self.flags, &members)?;
         let copy = copied(&members)?;
@@ -353,6 +375,8 @@ impl ViewCore {
         ensures after { (views : List ViewEvent) → IsViewAfter views self.old
             → IsViewAfter (after_settings (settings_of settings.entries) views) self.new }
         ensures id { self.new.id ≡ self.old.id }
+        ensures generation { self.new.generation ≡ self.old.generation }
+        ensures snapshots { self.new.snapshots ≡ self.old.snapshots }
     {
         for ((addr, weight), enabled) in settings {
             let backend = Backend {

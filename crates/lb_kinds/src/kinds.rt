@@ -17,6 +17,7 @@ use lb_select::backend::Backend;
 use lb_select::refusal::Refusal;
 use lb_select::walk::{BackendIter, BackendSelection};
 use lb_select::words::WordSource;
+use lb_weighted::least::{LeastConnections, LeastIterator};
 use lb_weighted::selection::{FNVHash, RoundRobin};
 use lb_weighted::weighted::WeightedIterator;
 use std::alloc::Global;
@@ -32,6 +33,8 @@ pub enum Kind {
     RoundRobin,
     /// By the points of a Ketama ring.
     Ketama,
+    /// By the least load for each unit of weight.
+    Least,
 }
 
 /// A selector of one of the kinds.
@@ -40,6 +43,7 @@ pub enum Chosen {
     Fnv(Arc<FNVHash>),
     RoundRobin(Arc<RoundRobin>),
     Ketama(Arc<KetamaHashing>),
+    Least(Arc<LeastConnections>),
 }
 
 /// A walk of a selector of one of the kinds.
@@ -48,6 +52,7 @@ pub enum ChosenIterator {
     Fnv(WeightedIterator<FnvHasher>),
     RoundRobin(WeightedIterator<algorithms::RoundRobin>),
     Ketama(OwnedNodeIterator),
+    Least(LeastIterator),
 }
 
 impl ChosenIterator {
@@ -61,6 +66,7 @@ impl ChosenIterator {
             ChosenIterator::Fnv(walk) => walk.advance(words),
             ChosenIterator::RoundRobin(walk) => walk.advance(words),
             ChosenIterator::Ketama(walk) => walk.advance(),
+            ChosenIterator::Least(walk) => walk.advance(),
         }
     }
 
@@ -72,6 +78,7 @@ impl ChosenIterator {
             ChosenIterator::Fnv(walk) => walk.backend(index),
             ChosenIterator::RoundRobin(walk) => walk.backend(index),
             ChosenIterator::Ketama(walk) => walk.backend(index),
+            ChosenIterator::Least(walk) => walk.backend(index),
         }
     }
 }
@@ -137,6 +144,11 @@ impl BackendSelection for Chosen {
                 let selector = Arc::new(alloc, selector)?;
                 Ok(Chosen::Ketama(selector))
             }
+            Kind::Least => {
+                let selector = LeastConnections::build(alloc, backends)?;
+                let selector = Arc::new(alloc, selector)?;
+                Ok(Chosen::Least(selector))
+            }
         }
     }
 
@@ -158,6 +170,10 @@ impl BackendSelection for Chosen {
             Chosen::Ketama(selector) => {
                 let walk = KetamaHashing::iter(selector, key, words)?;
                 Ok(ChosenIterator::Ketama(walk))
+            }
+            Chosen::Least(selector) => {
+                let walk = LeastConnections::iter(selector, key, words)?;
+                Ok(ChosenIterator::Least(walk))
             }
         }
     }

@@ -1,9 +1,11 @@
 -- What the calls on a slot and on a group do: relations by cases on the answer, between what contracts see before and after.
-use Rattle.std.specs.Prelude.{◌≡◌, ◌≤◌, slice_index, ◌<◌, ◌+◌, ◌-◌, ◌==◌, ◌&&◌, ◌⊎◌, ℕ, Bool, true, false, not, slice_get, Option, Some, None, Result, Ok, Err, IsSome, MatchOption, if◌then◌else◌}
+use Rattle.std.specs.Prelude.{◌≡◌, ◌≤◌, slice_index, ◌<◌, ◌+◌, ◌-◌, ◌==◌, ◌&&◌, ◌⊎◌, ℕ, Bool, true, false, not, slice_get, Option, Some}
+use Rattle.std.specs.Prelude.{None, Result, Ok, Err, IsSome, MatchOption, if◌then◌else◌}
 use Rattle.lb_select.specs.declared.refusal.Refusal.{Refusal}
 use Rattle.lb_select.specs.declared.refusal.Refusal.TheVariants as refusal
 use Rattle.lb_rebuild.specs.Gate.{GateView, gate}
-use Rattle.lb_rebuild.specs.Views.{StageView, free, flight, retired, taken_out, OrderView, Task, ServingView, RetiredView, ReaderView, SlotView, GroupView, with_slot, served_list, is_flying}
+use Rattle.lb_rebuild.specs.Views.{StageView, free, flight, retired, taken_out, OrderView, Task, ServingView, RetiredView, ReaderView}
+use Rattle.lb_rebuild.specs.Views.{SlotView, GroupView, with_slot, served_list, is_flying}
 use Rattle.lb_rebuild.specs.declared.slot.Ask.{Ask}
 use Rattle.lb_rebuild.specs.declared.slot.Ask.TheVariants.{Building, Nothing, Busy, Job}
 use Rattle.lb_rebuild.specs.declared.slot.Told.{Told}

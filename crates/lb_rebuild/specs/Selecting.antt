@@ -1,5 +1,6 @@
 -- A selection from a slot: what it answers, and the tickets that it draws.
-use Rattle.std.specs.Prelude.{◌≡◌, ◌&&◌, ℕ, Bool, true, MatchBool, MatchOption, nat_le, List, length, slice_get, Option, None, Result, Ok, Err}
+use Rattle.std.specs.Prelude.{◌≡◌, ◌&&◌, ℕ, Bool, true, MatchBool, MatchOption, nat_le, List, length, slice_get, Option, None, Result, Ok}
+use Rattle.std.specs.Prelude.{Err}
 use Rattle.lb_select.specs.Backends.{Member, same_member}
 use Rattle.lb_select.specs.Draws.{Draw, HandedValue, HandedGives}
 use Rattle.lb_select.specs.Selections.{Selects}

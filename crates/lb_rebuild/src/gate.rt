@@ -1,4 +1,5 @@
-//! The gate of selector rebuilds: it gives out one permit at a time, and a permit goes with each extra selector until that selector is destroyed.
+//! The gate of selector rebuilds: it gives out one permit at a time, and a permit goes with each extra selector until that
+//! selector is destroyed.
 //! The permit carries the only writing seat of the gate's word, so two permits of one gate cannot both exist, whichever threads hold them.
 ghost use Rattle.std.specs.Prelude.{◌≡◌, ◌≢◌, true, false, IfOk, IfErr, IfSome, IfNone};
 ghost use Rattle.lb_rebuild.specs.Gate.{gate};
@@ -50,7 +51,8 @@ impl Model for GateCore {
 
     ghost view = { λ g. record { id = g.table.shared.table_id; out = is_absent g.home } };
 
-    ghost invariant = { λ g. (g.table.shared.table_id.words ≡ 1) × IfSome g.home (λ s. (s.table_id ≡ g.table.shared.table_id) × (s.id ≡ 0) × (s.me ≡ (writer 0, []))) };
+    ghost invariant = { λ g. (g.table.shared.table_id.words ≡ 1)
+        × IfSome g.home (λ s. (s.table_id ≡ g.table.shared.table_id) × (s.id ≡ 0) × (s.me ≡ (writer 0, []))) };
 }
 
 impl GateCore {

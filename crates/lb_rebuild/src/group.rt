@@ -20,7 +20,7 @@ use crate::schedule::{
 };
 use crate::slot::{Ask, Reader, Retired, Slot, Told};
 use lb_select::backend::Backend;
-use lb_select::causes::least_refusal;
+use lb_select::causes::{earlier, memory_apart};
 use lb_select::refusal::Refusal;
 use lb_select::walk::BackendSelection;
 use std::alloc::Global;
@@ -50,7 +50,8 @@ impl<S: BackendSelection> Model for GroupCore<S> {
 
     ghost use Rattle.lb_rebuild.specs.Kept.{slot_view, AllKept};
 
-    ghost view = { λ g. record { gate = g.gate.value.id; newest = g.newest; current = (arc_value g.current).keys; slots = map slot_view g.slots.items } };
+    ghost view = { λ g. record { gate = g.gate.value.id; newest = g.newest; current = (arc_value g.current).keys;
+        slots = map slot_view g.slots.items } };
 
     ghost invariant = { λ g. AllKept g.gate.value.id g.newest g.slots.items };
 }
@@ -70,19 +71,13 @@ impl<S: BackendSelection> GroupCore<S> {
     ) -> Result<GroupCore<S>, Refusal>
         ensures { Refuses (least (map (S.refusal []) configs.items)) (λ g. g ≡ fresh_group gate.now.id configs.items) result }
     {
-        if let Some(refusal) = least_refusal::<S>(alloc, &configs) {
-            return Err(refusal);
-        }
-        // Every configuration gives a selector, so what is refused from here on is memory.
-        match fresh_slots(alloc, configs) {
-            Ok((current, slots)) => Ok(GroupCore {
-                gate: Snapshot::of(gate),
-                newest: 0,
-                current,
-                slots,
-            }),
-            Err(_) => Err(Refusal::OutOfMemory),
-        }
+        let slots = fresh_slots(alloc, configs)?;
+        Ok(GroupCore {
+            gate: Snapshot::of(gate),
+            newest: 0,
+            current: Arc::new(alloc, BTreeSet::new(alloc))?,
+            slots,
+        })
     }
 
     /// Whether this list has other backends than the newest membership, by identity; `None` stands for no backend. It takes no
@@ -219,7 +214,8 @@ impl<S: BackendSelection> GroupCore<S> {
     /// Gives an entry back to its slot.
     pub fn leave(&mut self, reader: Reader<S>)
         requires { IsSomeAnd (slice_get self.old.slots reader.slot) (λ x. 0 < readers_at x reader.generation) }
-        ensures { IsSomeAnd (slice_get self.old.slots reader.slot) (λ x. self.new ≡ with_slot self.old reader.slot (left_slot reader.generation x)) }
+        ensures { IsSomeAnd (slice_get self.old.slots reader.slot)
+            (λ x. self.new ≡ with_slot self.old reader.slot (left_slot reader.generation x)) }
     {
         let Reader {
             slot,
@@ -282,17 +278,30 @@ impl<S: BackendSelection> GroupCore<S> {
     }
 }
 
-// No backends, and a slot over them for each configuration.
+// A slot over no backends for each configuration. Each selector is built once; after a refusal the others are built to find the
+// least cause.
 fn fresh_slots<S: BackendSelection>(
     alloc: Global,
     configs: Vec<S::Config>,
-) -> Result<(Arc<BTreeSet<Backend>>, Vec<Slot<S>>), Refusal>
-    ensures { IfOk result (λ r. ((arc_value r.0).keys ≡ []) × AreFresh r.1.items configs.items) }
+) -> Result<Vec<Slot<S>>, Refusal>
+    ensures { Refuses (least (map (S.refusal []) configs.items)) (λ slots. AreFresh slots.items configs.items) result }
 {
-    let empty = Arc::new(alloc, BTreeSet::new(alloc))?;
+    let empty = BTreeSet::new(alloc);
     let mut slots = Vec::new(alloc);
+    let mut cause = None;
+    let mut is_whole = true;
     for config in configs {
-        slots.push(Slot::fresh(alloc, &empty, config)?)?;
+        match Slot::fresh(alloc, &empty, config) {
+            Ok(slot) => is_whole = slots.push(slot).is_ok() && is_whole,
+            Err(refusal) => {
+                is_whole = false;
+                cause = earlier(cause, memory_apart(refusal));
+            }
+        }
     }
-    Ok((empty, slots))
+    match cause {
+        Some(refusal) => Err(refusal),
+        None if is_whole => Ok(slots),
+        None => Err(Refusal::OutOfMemory),
+    }
 }

@@ -3,6 +3,7 @@
 ghost use Rattle.std.specs.Prelude.{◌≡◌, Bool, true, [], ◌+◌, ◌<◌, ◌⊎◌, ℕ, IfOk, IfErr, OnErr};
 ghost use Rattle.std.specs.Arc.{arc_value};
 ghost use Rattle.std.specs.Fn.{FnReturnsAt};
+ghost use Rattle.lb_select.specs.Refusals.{Refuses};
 ghost use Rattle.lb_select.specs.Backends.{Member, same_member};
 ghost use Rattle.lb_select.specs.Selections.{Selects};
 ghost use Rattle.lb_rebuild.specs.Gate.{GateId};
@@ -36,7 +37,8 @@ impl<S: BackendSelection> Model for Serving<S> {
 
     ghost Value = { ServingView S.Config };
 
-    ghost view = { λ s. record { generation = s.generation; members = S.members (arc_value s.selector); config = S.built_with (arc_value s.selector); tickets = s.tickets } };
+    ghost view = { λ s. record { generation = s.generation; members = S.members (arc_value s.selector);
+        config = S.built_with (arc_value s.selector); tickets = s.tickets } };
 }
 
 /// A selector that is no longer served, with the readers that are left in it and the permit of the extra selector that it is.
@@ -106,7 +108,8 @@ impl<S: BackendSelection> Model for Reader<S> {
 
     ghost Value = { ReaderView S.Config };
 
-    ghost view = { λ r. record { slot = r.slot; generation = r.generation; members = S.members (arc_value r.selector); config = S.built_with (arc_value r.selector) } };
+    ghost view = { λ r. record { slot = r.slot; generation = r.generation; members = S.members (arc_value r.selector);
+        config = S.built_with (arc_value r.selector) } };
 }
 
 /// What a slot that was asked for its next build answers. The answer holds a job where there is one, so it cannot be dropped.
@@ -133,7 +136,8 @@ pub enum Told {
 impl<S: BackendSelection> Slot<S> {
     ghost use Rattle.lb_rebuild.specs.Groups.{turn_of};
     ghost use Rattle.lb_rebuild.specs.Selecting.{SelectedAt};
-    ghost use Rattle.lb_rebuild.specs.Calls.{AskedAt, PublishedAt, failed_slot, reader_of, enter_refusal, entered_slot, readers_at, left_slot, TakenAt, reported_stage};
+    ghost use Rattle.lb_rebuild.specs.Calls.{AskedAt, PublishedAt, failed_slot, reader_of, enter_refusal, entered_slot, readers_at};
+    ghost use Rattle.lb_rebuild.specs.Calls.{left_slot, TakenAt, reported_stage};
     ghost use Rattle.lb_rebuild.specs.Kept.{slot_view, IsFresh, IsKept, IsOrdered, HoldsOf};
 
     // A slot that serves a selector of generation 0 over these backends, of which there are none.
@@ -142,7 +146,7 @@ impl<S: BackendSelection> Slot<S> {
         backends: &BTreeSet<Backend>,
         config: S::Config,
     ) -> Result<Slot<S>, Refusal>
-        ensures { IfOk result (λ x. (backends.now.keys ≡ []) → IsFresh config x) }
+        ensures { Refuses (S.refusal backends.now.keys config) (λ x. (backends.now.keys ≡ []) → IsFresh config x) result }
     {
         let selector = S::build_with_config(alloc, backends, &config)?;
         Ok(Slot {
@@ -422,7 +426,8 @@ fn first<S: BackendSelection, W: WordSource, F: Fn(&Backend) -> bool>(
 ) -> Result<Option<Backend>, Refusal>
     requires call { F.IsAlwaysCallable accept.now }
     requires all { (b : Member) (a : Bool) → FnReturnsAt F.Fn accept.now b a → a ≡ true }
-    ensures { Selects same_member (λ b a. a ≡ true) limit W.gives (S.walks (S.members (arc_value selector.now)) (S.built_with (arc_value selector.now)) key.now) words.old result words.new }
+    ensures { Selects same_member (λ b a. a ≡ true) limit W.gives
+        (S.walks (S.members (arc_value selector.now)) (S.built_with (arc_value selector.now)) key.now) words.old result words.new }
 {
     select(alloc, selector, key, words, limit, accept)
 }

@@ -5,3 +5,4 @@ pub mod TargetLemmas
 pub mod ChangeLemmas
 pub mod StateLemmas
 pub mod LawLemmas
+pub mod KeptLemmas

@@ -18,7 +18,7 @@ use Rattle.lb_registry.specs.Internal.Changing.{IsStarted}
 use Rattle.lb_registry.specs.Internal.Replacing.{IsShown, IsPrepared, IsReplaced}
 use Rattle.lb_registry.specs.Registry.{IsStateAfter, RegistryValue, IsRegistryAfter, IsGrowthRefusal}
 use Rattle.lb_registry.specs.RegistryEvents.{Event, Registered, Applied, Updated, is_view, at_view, with_members, new_view, has_view, members_of, after_update, after_show, cells_by, cells_in, changes_after, registered_after, views_after, cell_events}
-use Rattle.lb_registry.specs.Table.{TableValue, IsTableAfter}
+use Rattle.lb_registry.specs.Table.{TableValue, IsTableAfter, IsPruned}
 use Rattle.lb_registry.specs.Targets.{ViewValue, view_value, live, target_keys}
 use Rattle.lb_registry.proofs.ChangeLemmas.{map-filter, live-at_view, at_place, members_at, cells_kept}
 
@@ -42,12 +42,16 @@ pub applied :
     → IsStateAfter key_of events (map view_value items) t → kept ≡ filter (λ (v : View). not v.marked) items
     → keys ≡ target_keys key_of (live (map view_value items))
     → IsTableAfter member_cmp (Changed keys ∷ cell_events key_of events) more
+    → IsPruned member_cmp (Changed keys ∷ cell_events key_of events) more
     → IsStateAfter key_of (Applied ∷ events) (map view_value kept) more
-applied key_of events items kept keys t more state is keyed table =
+applied key_of events items kept keys t more state is keyed table only =
     let AfterKeys : List Member → Type 0 = λ ks. IsTableAfter member_cmp (Changed ks ∷ cell_events key_of events) more in
+    let OnlyAfter : List Member → Type 0 = λ ks. IsPruned member_cmp (Changed ks ∷ cell_events key_of events) more in
+    let keyed_now = keyed ∙ ap (λ vs. target_keys key_of (live vs)) state.listed in
     record {
       listed = ap (map view_value) is ∙ map-filter view_value (λ v. not v.marked) items ∙ ap live state.listed;
-      cells = subst AfterKeys (keyed ∙ ap (λ vs. target_keys key_of (live vs)) state.listed) table;
+      cells = subst AfterKeys keyed_now table;
+      pruned = subst OnlyAfter keyed_now only;
     }
 
 -- the views after one's membership is exchanged, before the marks are applied
@@ -87,10 +91,13 @@ pub replaced :
     (Changed (target_keys key_of (live (map view_value (set items place y)))) ∷ Changed marked ∷ cell_events key_of events) members numbering shown t2
     → ((before later : List (CellEvent Member)) → IsStarted member_cmp before later t2 numbering.by_key.entries numbering.next
     → IsTableAfter member_cmp later more)
+    → ((before later : List (CellEvent Member)) → IsStarted member_cmp before later t2 numbering.by_key.entries numbering.next
+    → IsPruned member_cmp later more)
     → IsReplaced key_of (Updated id members ∷ Applied ∷ events) members shown (map view_value kept) more
-replaced key_of events id place members marked items kept x y t t2 more numbering shown state found at is keyed left prepared commits =
+replaced key_of events id place members marked items kept x y t t2 more numbering shown state found at is keyed left prepared commits prunes =
     let later = later_is key_of events id place members marked items x y t state found at is keyed in
     let AfterAll : List (CellEvent Member) → Type 0 = λ es. IsTableAfter member_cmp es more in
+    let OnlyAfter : List (CellEvent Member) → Type 0 = λ es. IsPruned member_cmp es more in
     let ShownAfter : List (CellEvent Member) → Type 0 = λ es. IsShown key_of (changes es) members shown in
     record {
       state = record {
@@ -98,6 +105,7 @@ replaced key_of events id place members marked items kept x y t t2 more numberin
             ap (map view_value) left ∙ map-filter view_value (λ v. not v.marked) (set items place y)
             ∙ exchanged key_of events id place members items x y t state found at is;
         cells = subst AfterAll later (commits (cell_events key_of events) _ prepared.started);
+        pruned = subst OnlyAfter later (prunes (cell_events key_of events) _ prepared.started);
       };
       cells = subst ShownAfter later prepared.cells;
     }
@@ -110,10 +118,10 @@ put_back [] place x y z at is = absurd (cc)
 put_back (w ∷ items) zero x y z at is = ap (λ v. v ∷ map view_value items) (is ∙ ap view_value (sym (same_Some w x at)))
 put_back (w ∷ items) (suc place) x y z at is = ap (λ vs. view_value w ∷ vs) (put_back items place x y z at is)
 
--- a clause of a call that went well, from its callee's
-pub on_ok : {A E : Type 0} {P Q : Type 0} (r : Result A E) → OnOk r P → (P → Q) → OnOk r Q
-on_ok (Ok x) h f = f h
-on_ok (Err e) h f = tt
+-- a clause of a call that went well, from two of its callee's
+pub on_both : {A E : Type 0} {P Q S : Type 0} (r : Result A E) → OnOk r P → OnOk r Q → (P → Q → S) → OnOk r S
+on_both (Ok x) h k f = f h k
+on_both (Err e) h k f = tt
 
 -- a registry as its fields show it
 pub seen :
@@ -132,6 +140,7 @@ registered key_of events items more v t state is new =
           ap (map view_value) is ∙ map-append view_value items (v ∷ []) ∙ ap (λ vs. vs ++ view_value v ∷ []) state.listed
           ∙ ap (λ w. views_after events ++ w ∷ []) new;
       cells = state.cells;
+      pruned = state.pruned;
     }
 
 -- what was put at a place is there
@@ -165,9 +174,10 @@ updates_as b id place members events items x listed found at is =
 
 -- room for one more live snapshot changes nothing
 pub roomier :
-    (events : List (CellEvent Member)) (t : TableValue Member) (held : List Hold) → held ≡ t.held → IsTableAfter member_cmp events t
-    → IsTableAfter member_cmp events (record t { held = held })
-roomier events t held is table = let After : List Hold → Type 0 = λ hs. IsTableAfter member_cmp events (record t { held = hs }) in subst After (sym is) table
+    (key_of : Member → Member) (events : List Event) (views : List ViewValue) (t : TableValue Member) (held : List Hold) → held ≡ t.held
+    → IsStateAfter key_of events views t → IsStateAfter key_of events views (record t { held = held })
+roomier key_of events views t held is state =
+    let After : List Hold → Type 0 = λ hs. IsStateAfter key_of events views (record t { held = hs }) in subst After (sym is) state
 
 has_live : (id : ℕ) (vs : List ViewValue) → has_view id (live vs) ≡ has_view id vs
 has_live id [] = refl
@@ -195,13 +205,15 @@ pub shows :
     → ((es : List (CellEvent Member)) → IsTableAfter member_cmp es t
     → ((c : ℕ) → list_any (eq_by_cmp nat_cmp c) shown.numbers.keys ≡ true → IsKept member_cmp es c)
     → IsTableAfter member_cmp (cell.Held id generation shown.numbers.keys ∷ es) more)
+    → ((es : List (CellEvent Member)) → IsPruned member_cmp es t → IsPruned member_cmp (cell.Held id generation shown.numbers.keys ∷ es) more)
     → IsStateAfter key_of (after_show id generation members events) views more
-shows key_of events id generation members shown views t more out has holds =
+shows key_of events id generation members shown views t more out has holds only =
     let now = Updated id members ∷ Applied ∷ events in
     let there : members_of id (views_after now) ≡ members = members_shown id members (live (views_after events)) (has_live id (views_after events) ∙ has) in
     let numbers : shown.numbers.keys ≡ cells_in (cells_by key_of (changes_after key_of now) (members_of id (views_after now)))
     = out.cells.numbers ∙ ap (λ ms. cells_in (cells_by key_of (changes_after key_of now) ms)) (sym there) in
     let HeldAs : List ℕ → Type 0 = λ cs. IsTableAfter member_cmp (cell.Held id generation cs ∷ cell_events key_of now) more in
+    let OnlyAs : List ℕ → Type 0 = λ cs. IsPruned member_cmp (cell.Held id generation cs ∷ cell_events key_of now) more in
     record {
       listed = out.state.listed;
       cells =
@@ -209,6 +221,7 @@ shows key_of events id generation members shown views t more out has holds =
           (holds (cell_events key_of now) out.state.cells
           (λ c e.
           inl (cells_kept key_of (changes_after key_of now) members c (ap (list_any (eq_by_cmp nat_cmp c)) (sym out.cells.numbers) ∙ e))));
+      pruned = subst OnlyAs numbers (only (cell_events key_of now) out.state.pruned);
     }
 
 -- what was pushed last is taken off again

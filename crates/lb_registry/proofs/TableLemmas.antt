@@ -85,7 +85,7 @@ filtered {X} p c (y ∷ es) x d e = found_by (is_at (nat_cmp c) y.0) refl (p y) 
   found_by false f false g e ih = ih e
 
 -- a test of some that were left
-any-filtered : {X : Type 0} (p q : X → Bool) (xs : List X) → list_any p (filter q xs) ≡ true → list_any p xs ≡ true
+pub any-filtered : {X : Type 0} (p q : X → Bool) (xs : List X) → list_any p (filter q xs) ≡ true → list_any p xs ≡ true
 any-filtered p q [] e = e
 any-filtered {X} p q (x ∷ xs) e = any_by (q x) (p x) refl e (any-filtered p q xs) where
   any_by :
@@ -107,11 +107,11 @@ pub refused_for : {A E : Type 0} {P : Type 0} (r : Result A E) → P → OnErr r
 refused_for (Ok x) p = tt
 refused_for (Err e) p = p
 
-or_true : (b : Bool) → (b || true) ≡ true
+pub or_true : (b : Bool) → (b || true) ≡ true
 or_true true = refl
 or_true false = refl
 
-eqb-refl : (c : ℕ) → (c == c) ≡ true
+pub eqb-refl : (c : ℕ) → (c == c) ≡ true
 eqb-refl c = eq-eqb c c refl
 
 -- the number that is there
@@ -424,7 +424,31 @@ module _ {K : Type 0} {cmp : K → K → Ordering} (total : IsTotalOrder cmp) wh
           subst P (sym (at_apart d s))
           (subst V (sym (ap (λ b. cond b (v ∷ verdicts_of d events) (verdicts_of d events)) s)) (table.kept d f))
 
+  pub observed_only :
+      (events : List (CellEvent K)) (t : TableValue K) (c : ℕ) (v : Verdict) (x made : Cell K) (more : List (ℕ × Cell K))
+      → value_at nat_cmp t.cells c ≡ Some x
+      → ((d : ℕ) → value_at nat_cmp more d ≡ cond (is_at (nat_cmp c) d) (Some made) (value_at nat_cmp t.cells d))
+      → IsPruned cmp events t → IsPruned cmp (Observed c v ∷ events) (record t { cells = more })
+  observed_only events t c v x made more e u only d some =
+      either (is_at (nat_cmp c) d)
+      (λ s. only d (ap (λ n. is_some (value_at nat_cmp t.cells n)) (sym (eqb-true c d (sym (unsigned_tied c d) ∙ s))) ∙ ap is_some e))
+      (λ s. only d (sym (ap is_some (u d ∙ ap (λ b. cond b (Some made) (value_at nat_cmp t.cells d)) s)) ∙ some))
+
   -- a snapshot begins to live
+  pub holding_only :
+      (events : List (CellEvent K)) (t : TableValue K) (view generation : ℕ) (cells : List ℕ) (more : List Hold)
+      → IsPruned cmp events t → IsPruned cmp (Held view generation cells ∷ events) (record t { held = more })
+  holding_only events t view generation cells more only c some = widen (only c some) where
+    has : Hold → Bool
+    has h = list_any (eq_by_cmp nat_cmp c) h.cells
+
+    widen : IsKept cmp events c → IsKept cmp (Held view generation cells ∷ events) c
+    widen (inl h) = inl h
+    widen (inr h) =
+        inr
+        (list_any-append has (holds_after events) (record { view = view; generation = generation; cells = cells } ∷ [])
+        ∙ ap (λ b. b || list_any has (record { view = view; generation = generation; cells = cells } ∷ [])) h)
+
   pub holding :
       (events : List (CellEvent K)) (t : TableValue K) → IsTableAfter cmp events t → (view generation : ℕ) (cells : List ℕ) (more : List Hold)
       → ((c : ℕ) → list_any (eq_by_cmp nat_cmp c) cells ≡ true → IsKept cmp events c)

@@ -10,7 +10,7 @@ use Rattle.lb_registry.specs.declared.targets.Target.{Target}
 use Rattle.lb_registry.specs.Keys.{IsRuleOf}
 use Rattle.lb_registry.specs.RegistryEvents.{Event, views_after, registered_after, cell_events, changes_after, cell_health}
 use Rattle.lb_registry.specs.Starts.{cell_now}
-use Rattle.lb_registry.specs.Table.{TableValue, IsTableAfter}
+use Rattle.lb_registry.specs.Table.{TableValue, IsTableAfter, IsPruned}
 use Rattle.lb_registry.specs.Targets.{ViewValue, targets_in}
 
 -- what contracts see of a registry: plain lists, and its rule
@@ -21,10 +21,11 @@ pub record RegistryValue (R : Type 0) : Type 0 where
   pub registered : ℕ
   pub table : TableValue Member
 
--- views and table after these events
+-- views and table after these events, where no cell is stored but those that are kept
 pub record IsStateAfter (key_of : Member → Member) (events : List Event) (views : List ViewValue) (table : TableValue Member) : Type 0 where
   pub listed : views ≡ views_after events
   pub cells : IsTableAfter member_cmp (cell_events key_of events) table
+  pub pruned : IsPruned member_cmp (cell_events key_of events) table
 
 -- the registry after these events, where its rule, which may give these keys, is the function key_of
 pub record IsRegistryAfter {R : Type 0} (gives : R → Member → Member → Type 0) (key_of : Member → Member) (events : List Event)

@@ -1,7 +1,7 @@
 -- What happens to a registry, told by a history of events that begins with the newest: its views, and what their changes do
 -- to its cells.
 use Rattle.std.specs.Prelude.{ℕ, ◌+◌, Bool, true, false, not, ◌==◌, ◌&&◌, List, [], ◌∷◌, ◌++◌, fold, if◌then◌else◌, Option}
-use Rattle.std.specs.Ordering.{nat_cmp}
+use Rattle.std.specs.Ordering.{eq_by_cmp, nat_cmp}
 use Rattle.std.specs.BTreeMap.{insert_entry}
 use Rattle.std.specs.BTreeSet.{insert_key}
 use Rattle.std.specs.List.{filter_map, list_any}
@@ -101,6 +101,21 @@ module _ (key_of : Member → Member) (changes : List (List Member)) where
 abbrev pub cells_in : List (Member × ℕ) → List ℕ
 cells_in entries = fold (insert_key nat_cmp) [] (values_of entries)
 
+-- whether this event ends the life of that view's snapshot of that generation
+abbrev pub is_release : ℕ → ℕ → Event → Bool
+is_release id generation Registered = false
+is_release id generation Applied = false
+is_release id generation (Updated view members) = false
+is_release id generation (Marked view) = false
+is_release id generation (Observed c v) = false
+is_release id generation (Held view g) = false
+is_release id generation (Released view g) = id == view && generation == g
+is_release id generation (Configured healthy) = false
+
+-- whether one of these events does
+abbrev pub is_released : ℕ → ℕ → List Event → Bool
+is_released id generation events = list_any (is_release id generation) events
+
 module _ (key_of : Member → Member) where
   -- what the events do to the cells: a change leaves the targets of the views that are there after it
   abbrev pub cell_events : List Event → List (cell.CellEvent Member)
@@ -120,6 +135,15 @@ module _ (key_of : Member → Member) where
   -- the changes of targets
   abbrev pub changes_after : List Event → List (List Member)
   changes_after events = cell.changes (cell_events events)
+
+  -- the cells that a view's snapshot has when it begins to live: those of its membership
+  abbrev pub held_cells : ℕ → List Event → List ℕ
+  held_cells id events = cells_in (cells_by key_of (changes_after events) (members_of id (views_after events)))
+
+  -- whether that view's snapshot of that generation lives and has the cell
+  abbrev pub holds_cell : ℕ → ℕ → ℕ → List Event → Bool
+  holds_cell id generation c events =
+      list_any (λ h. cell.is_hold_of id generation h && list_any (eq_by_cmp nat_cmp c) h.cells) (cell.holds_after (cell_events events))
 
   -- how many numbers of cells were given
   abbrev pub cells_given : List Event → ℕ

@@ -181,6 +181,7 @@ pub(crate) fn replace<R: KeyRule>(
         }
         Err(refusal) => {
             mem::swap(&mut views[place].members, &mut members);
+            table.prune();
             Err(refusal)
         }
     }

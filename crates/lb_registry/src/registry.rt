@@ -141,6 +141,17 @@ impl<R: KeyRule + Drop> Registry<R> {
         }
     }
 
+    /// Whether there is a view of this number whose removal doesn't wait. It takes no memory.
+    pub fn has_view(&self, id: u64) -> bool
+        ensures { (key_of : Member → Member) (events : List Event) → IsRegistryAfter R.gives key_of events self.now
+            → result ≡ has_view id (views_after events) }
+    {
+        match place_of(&self.views, id) {
+            Some(_) => true,
+            None => false,
+        }
+    }
+
     /// Gives a view another membership, after the marks that wait are applied. The same membership, by identity, changes nothing
     /// and applies no mark.
     ///

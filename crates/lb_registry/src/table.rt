@@ -75,7 +75,8 @@ fn keeps<K: HealthKey>(numbering: &Numbering<K>, held: &[Held], cell: u64, key: 
 impl<K: HealthKey> CellTable<K> {
     // A table without cells, whose cells begin healthy.
     pub(crate) fn new(alloc: Global) -> CellTable<K>
-        ensures { IsTableAfter K.cmp [] (table_value result) }
+        ensures after { IsTableAfter K.cmp [] (table_value result) }
+        ensures pruned { IsPruned K.cmp [] (table_value result) }
     {
         CellTable {
             numbering: Numbering {
@@ -90,8 +91,10 @@ impl<K: HealthKey> CellTable<K> {
 
     // Cells that start from now on begin so.
     pub(crate) fn configure(&mut self, healthy: bool)
-        ensures { (events : List (CellEvent K)) → IsTableAfter K.cmp events (table_value self.old)
+        ensures after { (events : List (CellEvent K)) → IsTableAfter K.cmp events (table_value self.old)
             → IsTableAfter K.cmp (Configured healthy ∷ events) (table_value self.new) }
+        ensures pruned { (events : List (CellEvent K)) → IsPruned K.cmp events (table_value self.old)
+            → IsPruned K.cmp (Configured healthy ∷ events) (table_value self.new) }
     {
         self.start = healthy;
     }
@@ -136,6 +139,8 @@ impl<K: HealthKey> CellTable<K> {
             ≢ health_of (eq_by_cmp K.cmp) cell events))) }
         ensures kept { (events : List (CellEvent K)) → IsTableAfter K.cmp events (table_value self.old)
             → (IsOk result ↔ IsKept K.cmp events cell) }
+        ensures pruned { OnOk result ((events : List (CellEvent K)) → IsPruned K.cmp events (table_value self.old)
+            → IsPruned K.cmp (Observed cell (record { ok = verdict; threshold = threshold }) ∷ events) (table_value self.new)) }
         ensures refused { OnErr result ((result ≡ Err Refusal.NoSuch) × (self.new ≡ self.old)) }
     {
         let Some(mut health) = self.kept(cell) else {
@@ -156,11 +161,22 @@ impl<K: HealthKey> CellTable<K> {
             → IsTableAfter K.cmp events (table_value self.new)) }
         ensures exhausted { (events : List (CellEvent K)) → IsTableAfter K.cmp events (table_value self.old)
             → (IsErrOf result Refusal.NumbersExhausted ↔ (2 ^ 64 ≤ given_after (eq_by_cmp K.cmp) (Changed keys.now ∷ events))) }
+        ensures pruned { OnOk result ((events : List (CellEvent K)) → IsTableAfter K.cmp events (table_value self.old)
+            → IsPruned K.cmp (Changed keys.now ∷ events) (table_value self.new)) }
+        ensures pruned_err { OnErr result ((events : List (CellEvent K)) → IsTableAfter K.cmp events (table_value self.old)
+            → IsPruned K.cmp events (table_value self.new)) }
         ensures refused { OnErr result (IsGrowthRefusal result) }
     {
-        let numbering = renumbered(alloc, &self.numbering, keys, self.start, &mut self.cells)?;
-        self.commit(numbering);
-        Ok(())
+        match renumbered(alloc, &self.numbering, keys, self.start, &mut self.cells) {
+            Ok(numbering) => {
+                self.commit(numbering);
+                Ok(())
+            }
+            Err(refusal) => {
+                self.prune();
+                Err(refusal)
+            }
+        }
     }
 
     // The numbering after two changes, to `first` and then to `second`; the cells that start are stored already. The table
@@ -192,6 +208,9 @@ impl<K: HealthKey> CellTable<K> {
         ensures after { (events later : List (CellEvent K))
             → IsStarted K.cmp events later (table_value self.old) numbering.by_key.entries numbering.next
             → IsTableAfter K.cmp later (table_value self.new) }
+        ensures pruned { (events later : List (CellEvent K))
+            → IsStarted K.cmp events later (table_value self.old) numbering.by_key.entries numbering.next
+            → IsPruned K.cmp later (table_value self.new) }
         ensures held { self.new.held ≡ self.old.held }
     {
         self.numbering = numbering;
@@ -201,24 +220,28 @@ impl<K: HealthKey> CellTable<K> {
     // Lets a snapshot live: its cells are kept from now on, whatever becomes of their targets. It takes no memory.
     pub(crate) fn hold(&mut self, held: Held)
         requires { vec_len self.old.held < vec_capacity self.old.held }
-        ensures { (events : List (CellEvent K)) → IsTableAfter K.cmp events (table_value self.old)
+        ensures after { (events : List (CellEvent K)) → IsTableAfter K.cmp events (table_value self.old)
             → ((c : ℕ) → list_any (eq_by_cmp nat_cmp c) held.cells.keys ≡ true → IsKept K.cmp events c)
             → IsTableAfter K.cmp (HeldNow held.view held.generation held.cells.keys ∷ events) (table_value self.new) }
+        ensures pruned { (events : List (CellEvent K)) → IsPruned K.cmp events (table_value self.old)
+            → IsPruned K.cmp (HeldNow held.view held.generation held.cells.keys ∷ events) (table_value self.new) }
     {
         self.held.push_reserved(held);
     }
 
     // Ends the life of a view's snapshot of a generation. It takes no memory.
     pub(crate) fn release(&mut self, view: u64, generation: u64)
-        ensures { (events : List (CellEvent K)) → IsTableAfter K.cmp events (table_value self.old)
+        ensures after { (events : List (CellEvent K)) → IsTableAfter K.cmp events (table_value self.old)
             → IsTableAfter K.cmp (Released view generation ∷ events) (table_value self.new) }
+        ensures pruned { (events : List (CellEvent K)) → IsTableAfter K.cmp events (table_value self.old)
+            → IsPruned K.cmp (Released view generation ∷ events) (table_value self.new) }
     {
         self.held.retain(|held| !(held.view == view && held.generation == generation));
         self.prune();
     }
 
-    // Forgets the cells that aren't kept any more.
-    fn prune(&mut self)
+    // Forgets the cells that aren't kept. It takes no memory.
+    pub(crate) fn prune(&mut self)
         ensures after { (events : List (CellEvent K)) → IsTableAfter K.cmp events (table_value self.old)
             → IsTableAfter K.cmp events (table_value self.new) }
         ensures pruned { (events : List (CellEvent K)) → IsTableAfter K.cmp events (table_value self.old)

@@ -6,17 +6,17 @@ use Rattle.std.proofs.KnownBytes.{Appends-nil, Appends-trans, Appends-kept}
 use Rattle.lb_world.specs.History.{History}
 use Rattle.lb_world.specs.Meanings.{Meaning}
 use Rattle.lb_world.specs.Views.{WorldView}
-use Rattle.lb_script.specs.declared.error.ScriptError.{ScriptError}
-use Rattle.lb_script.specs.declared.error.ScriptError.TheVariants.{BadLine, LineTooLong, Read, OutOfMemory}
+use Rattle.lb_step_text.specs.declared.error.ScriptError.{ScriptError}
+use Rattle.lb_step_text.specs.declared.error.ScriptError.TheVariants.{BadLine, LineTooLong, Read, OutOfMemory}
 use Rattle.lb_script.specs.declared.session.Turn.{Turn}
 use Rattle.lb_script.specs.declared.session.Turn.TheVariants.{Answered, LastAnswered, Ended, Failed}
 use Rattle.lb_kinds.specs.declared.kinds.Kind.{Kind}
-use Rattle.lb_script.specs.Lines.{lines_of, whole_lines, first_line, IsLine}
+use Rattle.lb_lines.specs.Lines.{lines_of, whole_lines, first_line, IsLine}
 use Rattle.lb_script.specs.Output.{IsOutput, ends, answered, bad_line, too_long, no_memory, read_fails, IsToAnswer, Wrote, WroteFront}
 use Rattle.lb_script.specs.Session.{Holds, AnsweredLine, TakesTurn}
 use Rattle.lb_counted.specs.Stream.{OnBytes, AppendsFront}
-use Rattle.lb_script.specs.Texts.{error_text}
-use Rattle.lb_script.proofs.LinesLemmas.{lines_first, lines_feed, lines_last, whole_feed, whole_none, first_of_none}
+use Rattle.lb_step_text.specs.Texts.{error_text}
+use Rattle.lb_lines.proofs.LinesLemmas.{lines_first, lines_feed, lines_last, whole_feed, whole_none, first_of_none}
 use Rattle.lb_counted.proofs.StreamLemmas.{front_more, front_after}
 
 -- the bytes that are known after a call

@@ -7,16 +7,16 @@ use Rattle.lb_world.specs.Steps.{StepView}
 use Rattle.lb_world.specs.Views.{WorldView}
 use Rattle.lb_world.specs.declared.answer.Answer.{Answer}
 use Rattle.lb_world.specs.declared.answer.Answer.TheVariants as answer
-use Rattle.lb_script.specs.declared.error.ScriptError.{ScriptError}
-use Rattle.lb_script.specs.declared.error.ScriptError.TheVariants.{BadLine, LineTooLong, Read, OutOfMemory}
-use Rattle.lb_script.specs.declared.lines.LineRead.TheVariants.{Line}
+use Rattle.lb_step_text.specs.declared.error.ScriptError.{ScriptError}
+use Rattle.lb_step_text.specs.declared.error.ScriptError.TheVariants.{BadLine, LineTooLong, Read, OutOfMemory}
+use Rattle.lb_lines.specs.declared.lines.LineRead.TheVariants.{Line}
 use Rattle.lb_script.specs.declared.session.Turn.TheVariants.{Failed}
 use Rattle.lb_kinds.specs.declared.kinds.Kind.{Kind}
 use Rattle.lb_counted.specs.Stream.{OnBytes}
-use Rattle.lb_script.specs.Lines.{Finds}
+use Rattle.lb_lines.specs.Lines.{Finds}
 use Rattle.lb_script.specs.Output.{step_after, made_registry}
 use Rattle.lb_script.specs.Session.{AnswersLine, TakesTurn}
-use Rattle.lb_script.proofs.LinesLemmas.{first_of_stream}
+use Rattle.lb_lines.proofs.LinesLemmas.{first_of_stream}
 
 or_true : (b : Bool) → (b || true) ≡ true
 or_true true = refl

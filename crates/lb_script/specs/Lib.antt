@@ -1,9 +1,2 @@
-pub mod Lines
-pub mod Numbers
 pub mod Output
 pub mod Session
-pub mod StepLines
-pub mod Texts
-pub mod Words
-pub use Rattle.lb_counted.specs.Counted
-pub use Rattle.lb_counted.specs.Stream

@@ -10,12 +10,12 @@ use Rattle.lb_world.specs.Steps.{StepView}
 use Rattle.lb_world.specs.Steps as step
 use Rattle.lb_world.specs.declared.answer.Answer.{Answer}
 use Rattle.lb_world.specs.declared.answer.Answer.TheVariants as answer
-use Rattle.lb_script.specs.declared.error.ScriptError.TheVariants as error
+use Rattle.lb_step_text.specs.declared.error.ScriptError.TheVariants as error
 use Rattle.lb_kinds.specs.declared.kinds.Kind.{Kind}
-use Rattle.lb_script.specs.Lines.{lines_of, whole_lines}
-use Rattle.lb_script.specs.StepLines.{step_of}
+use Rattle.lb_lines.specs.Lines.{lines_of, whole_lines}
+use Rattle.lb_step_text.specs.StepLines.{step_of}
 use Rattle.lb_counted.specs.Stream.{AppendsFront}
-use Rattle.lb_script.specs.Texts.{answer_text, error_text}
+use Rattle.lb_step_text.specs.Texts.{answer_text, error_text}
 
 -- whether a step makes a registry, and whether an answer says that one was made
 abbrev pub makes_registry : StepView Kind → Bool

@@ -7,14 +7,14 @@ use Rattle.lb_world.specs.Steps.{StepView}
 use Rattle.lb_world.specs.declared.answer.Answer.{Answer}
 use Rattle.lb_world.specs.Stands.{Stands}
 use Rattle.lb_world.specs.Views.{WorldView}
-use Rattle.lb_script.specs.declared.error.ScriptError.{ScriptError}
-use Rattle.lb_script.specs.declared.error.ScriptError.TheVariants.{BadLine, LineTooLong, Read, OutOfMemory}
+use Rattle.lb_step_text.specs.declared.error.ScriptError.{ScriptError}
+use Rattle.lb_step_text.specs.declared.error.ScriptError.TheVariants.{BadLine, LineTooLong, Read, OutOfMemory}
 use Rattle.lb_script.specs.declared.session.Turn.{Turn}
 use Rattle.lb_script.specs.declared.session.Turn.TheVariants.{Answered, LastAnswered, Ended, Failed, WriteFailed}
 use Rattle.lb_kinds.specs.declared.kinds.Kind.{Kind}
-use Rattle.lb_script.specs.Lines.{first_line, HasNoFeed, IsLine}
+use Rattle.lb_lines.specs.Lines.{first_line, HasNoFeed, IsLine}
 use Rattle.lb_script.specs.Output.{step_after}
-use Rattle.lb_script.specs.Texts.{answer_text}
+use Rattle.lb_step_text.specs.Texts.{answer_text}
 
 module _ (M : Meaning Kind) where
   -- the world stands for the history, and the mark says whether it has a registry

@@ -2,18 +2,18 @@
 //! The text is that of a world's run, whatever reader and writer stand at the ends.
 ghost use Rattle.std.specs.Prelude.{◌≡◌, ℕ, ◌++◌, false, true, codes, OnOk, OnErr, IfSome, is_none};
 ghost use Rattle.std.specs.Io.KnownBytes.{Appends};
-ghost use Rattle.lb_world.specs.Meanings.{meaning};
+ghost use Rattle.lb_world.specs.Meanings.{meaning_of};
 ghost use Rattle.lb_counted.specs.Counted.{inner_of, has_failed, is_flushed};
 ghost use Rattle.lb_counted.specs.Stream.{AppendsFront};
 ghost use Rattle.lb_script.specs.Output.{Wrote, WroteFront};
-ghost use Rattle.lb_script.specs.Texts.{error_text};
+ghost use Rattle.lb_step_text.specs.Texts.{error_text};
 
-use crate::error::ScriptError;
 use crate::session::{Session, Turn};
 use itoa::Buffer;
 use lb_counted::counted::Counted;
 use lb_kinds::kinds::{Chosen, Kind};
 use lb_select::walk::BackendSelection;
+use lb_step_text::error::ScriptError;
 use std::alloc::Global;
 use std::io;
 use std::io::{Read, Write};
@@ -32,14 +32,10 @@ where
     requires fresh_reader { has_failed reader.old ≡ false }
     requires fresh_writer { has_failed writer.old ≡ false }
     ensures whole { has_failed writer.new ≡ false → IfSome (R.remaining (inner_of reader.old)) (λ script.
-        let M = meaning ⟦<Chosen as BackendSelection>⟧.walks ⟦<Chosen as BackendSelection>⟧.refusal
-        ⟦<Chosen as BackendSelection>⟧.may_draw_random in
-        Wrote M (has_failed reader.new) script (R.remaining (inner_of reader.new))
+        Wrote (meaning_of ⟦<Chosen as BackendSelection>⟧) (has_failed reader.new) script (R.remaining (inner_of reader.new))
         (W.contents (inner_of writer.old)) (W.contents (inner_of writer.new)) result) }
     ensures part { has_failed writer.new ≡ true → IfSome (R.remaining (inner_of reader.old)) (λ script.
-        let M = meaning ⟦<Chosen as BackendSelection>⟧.walks ⟦<Chosen as BackendSelection>⟧.refusal
-        ⟦<Chosen as BackendSelection>⟧.may_draw_random in
-        WroteFront M (has_failed reader.new) script (R.remaining (inner_of reader.new))
+        WroteFront (meaning_of ⟦<Chosen as BackendSelection>⟧) (has_failed reader.new) script (R.remaining (inner_of reader.new))
         (W.contents (inner_of writer.old)) (W.contents (inner_of writer.new))) }
     ensures failed { has_failed writer.new ≡ true → result ≡ 1 }
     ensures flushed { has_failed writer.new ≡ false → is_flushed writer.new ≡ true }
@@ -60,10 +56,10 @@ where
     requires fresh_reader { has_failed reader.old ≡ false }
     requires fresh_writer { has_failed writer.old ≡ false }
     ensures whole { has_failed writer.new ≡ false → IfSome (R.remaining (inner_of reader.old)) (λ script.
-        Wrote (meaning S.walks S.refusal S.may_draw_random) (has_failed reader.new) script (R.remaining (inner_of reader.new))
+        Wrote (meaning_of S.BackendSelection) (has_failed reader.new) script (R.remaining (inner_of reader.new))
         (W.contents (inner_of writer.old)) (W.contents (inner_of writer.new)) result) }
     ensures part { has_failed writer.new ≡ true → IfSome (R.remaining (inner_of reader.old)) (λ script.
-        WroteFront (meaning S.walks S.refusal S.may_draw_random) (has_failed reader.new) script (R.remaining (inner_of reader.new))
+        WroteFront (meaning_of S.BackendSelection) (has_failed reader.new) script (R.remaining (inner_of reader.new))
         (W.contents (inner_of writer.old)) (W.contents (inner_of writer.new))) }
     ensures failed { has_failed writer.new ≡ true → result ≡ 1 }
     ensures flushed { has_failed writer.new ≡ false → is_flushed writer.new ≡ true }
@@ -90,10 +86,10 @@ where
     requires fresh_reader { has_failed reader.old ≡ false }
     requires fresh_writer { has_failed writer.old ≡ false }
     ensures some { IfSome result (λ status. IfSome (R.remaining (inner_of reader.old)) (λ script.
-        Wrote (meaning S.walks S.refusal S.may_draw_random) (has_failed reader.new) script (R.remaining (inner_of reader.new))
+        Wrote (meaning_of S.BackendSelection) (has_failed reader.new) script (R.remaining (inner_of reader.new))
         (W.contents (inner_of writer.old)) (W.contents (inner_of writer.new)) status)) }
     ensures none { result ≡ None → IfSome (R.remaining (inner_of reader.old)) (λ script.
-        WroteFront (meaning S.walks S.refusal S.may_draw_random) (has_failed reader.new) script (R.remaining (inner_of reader.new))
+        WroteFront (meaning_of S.BackendSelection) (has_failed reader.new) script (R.remaining (inner_of reader.new))
         (W.contents (inner_of writer.old)) (W.contents (inner_of writer.new))) }
     ensures writer_failed { has_failed writer.new ≡ is_none result }
 {

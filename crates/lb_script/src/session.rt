@@ -1,23 +1,25 @@
 //! One line of a script at a time: it is read, its step is taken, and the text of the answer is prepared.
 //! What a run keeps between its lines stands here; the buffers are used again for each line.
-ghost use Rattle.std.specs.Prelude.{◌≡◌, ◌≢◌, [], Err, true};
+ghost use Rattle.std.specs.Prelude.{◌≡◌, ◌≢◌, ◌&&◌, [], ◌∷◌, Err, None, IfSome, true, false};
 ghost use Rattle.std.specs.Io.KnownBytes.{Keeps, prepend_known};
 ghost use Rattle.lb_world.specs.History.{History};
-ghost use Rattle.lb_world.specs.Meanings.{meaning};
+ghost use Rattle.lb_world.specs.Meanings.{meaning_of};
+ghost use Rattle.lb_world.specs.Stands.{Stands};
 ghost use Rattle.lb_world.specs.Steps.{step_seen};
+ghost use Rattle.lb_step_text.specs.LineSteps.{line_step_seen};
 ghost use Rattle.lb_counted.specs.Counted.{inner_of, has_failed};
 ghost use Rattle.lb_counted.specs.Stream.{OnBytes};
 ghost use Rattle.lb_script.specs.Output.{makes_registry, made_registry};
 ghost use Rattle.lb_script.specs.Session.{Holds, AnswersLine, TakesTurn};
 
-use crate::error::ScriptError;
-use crate::lines::{LineRead, read_line};
-use crate::parse::parse;
-use crate::read_ahead::ReadAhead;
-use crate::texts::push_answer;
 use lb_counted::counted::Counted;
 use lb_kinds::kinds::Kind;
+use lb_lines::lines::{LineRead, read_line};
+use lb_lines::read_ahead::ReadAhead;
 use lb_select::walk::BackendSelection;
+use lb_step_text::error::ScriptError;
+use lb_step_text::parse::{LineStep, parse};
+use lb_step_text::texts::push_answer;
 use lb_world::answer::Answer;
 use lb_world::step::Step;
 use lb_world::world::World;
@@ -52,7 +54,7 @@ pub(crate) struct Session<S: BackendSelection> {
 impl<S: BackendSelection<Config = Kind>> Session<S> {
     /// A run that has read nothing.
     pub(crate) fn new(alloc: Global) -> Session<S>
-        ensures holds { Holds (meaning S.walks S.refusal S.may_draw_random) result.world result.has_registry [] }
+        ensures holds { Holds (meaning_of S.BackendSelection) result.world result.has_registry [] }
         ensures ahead { result.ahead ≡ [] }
     {
         Session {
@@ -71,7 +73,7 @@ impl<S: BackendSelection<Config = Kind>> Session<S> {
         reader: &mut Counted<R>,
         writer: &mut Counted<W>,
     ) -> Turn
-        ensures turn { let M = meaning S.walks S.refusal S.may_draw_random in
+        ensures turn { let M = meaning_of S.BackendSelection in
             (h : History Kind) → Holds M self.old.world self.old.has_registry h
             → OnBytes (prepend_known self.old.ahead (R.remaining (inner_of reader.old)))
             (prepend_known self.new.ahead (R.remaining (inner_of reader.new)))
@@ -102,22 +104,48 @@ impl<S: BackendSelection<Config = Kind>> Session<S> {
 
     // Takes the step that the line asks for, and makes the text that of its answer and a line feed.
     fn answer(&mut self, alloc: Global) -> Result<(), ScriptError>
-        ensures line { let M = meaning S.walks S.refusal S.may_draw_random in
+        ensures line { let M = meaning_of S.BackendSelection in
             (h : History Kind) → Holds M self.old.world self.old.has_registry h
             → AnswersLine M h self.old.line.items self.new.world self.new.has_registry (self.new.text.items) result }
         ensures own { result ≢ Err ScriptError.Read }
         ensures ahead { self.new.ahead ≡ self.old.ahead }
     {
         let step = parse(alloc, &self.line)?;
-        if self.has_registry && makes_registry(&step) {
+        let Some(answer) = take_step(&mut self.world, self.has_registry, step) else {
             return Err(ScriptError::BadLine);
-        }
-        let answer = self.world.step(step);
+        };
         self.has_registry |= made_registry(&answer);
         self.text.clear();
         push_answer(alloc, &mut self.text, &answer)?;
         self.text.push(b'\n')?;
         Ok(())
+    }
+}
+
+// Takes the step of a line, unless it makes a registry where one is already.
+fn take_step<S: BackendSelection<Config = Kind>>(
+    world: &mut World<S>,
+    has_registry: bool,
+    step: LineStep<'_>,
+) -> Option<Answer>
+    ensures second { result ≡ None → (has_registry && makes_registry (line_step_seen step.entry)) ≡ true }
+    ensures first { IfSome result (λ _. (has_registry && makes_registry (line_step_seen step.entry)) ≡ false) }
+    ensures taken { IfSome result (λ answer. (h : History Kind) → Stands (meaning_of S.BackendSelection) world.old h
+        → Stands (meaning_of S.BackendSelection) world.new ((line_step_seen step.entry, answer) ∷ h)) }
+{
+    match step {
+        LineStep::Select {
+            group,
+            slot,
+            key,
+            limit,
+        } => Some(world.select(group, slot, key, limit, &[])),
+        LineStep::Other(step) => {
+            if has_registry && makes_registry(&step) {
+                return None;
+            }
+            Some(world.step(step))
+        }
     }
 }
 

@@ -1,8 +1,9 @@
 -- The earlier of three causes, however they are taken.
-use Rattle.std.proofs.Common.{◌≡◌, ℕ, suc, ◌+◌, ◌∙◌, sym, ap, List, [], ◌∷◌, map, drop, length, get_or, drop-cons, ◌<◌, ◌≤◌, nat_lt, cond, true, false, Bool, refl, Option, Some, None, arith}
+use Rattle.std.proofs.Common.{◌≡◌, ℕ, suc, ◌+◌, ◌∙◌, ◌++◌, ◌⊎◌, inl, inr, sym, ap, List, [], ◌∷◌, map, drop, length, get_or, drop-cons, ◌<◌, ◌≤◌, nat_lt, cond, true, false, Bool, refl, Option, Some, None, arith}
 use Rattle.std.proofs.lemmas.Bool.Decides.{nat_tests}
-use Rattle.std.proofs.lemmas.List.{drop_all}
+use Rattle.std.proofs.lemmas.List.{drop_all, map-append}
 use Rattle.lb_select.specs.declared.refusal.Refusal.{Refusal}
+use Rattle.lb_select.specs.declared.refusal.Refusal.TheVariants.{OutOfMemory}
 use Rattle.lb_select.specs.Refusals.{refusal_number, least, earlier, memory_apart}
 
 above : (a b c : ℕ) → nat_lt b a ≡ true → nat_lt c b ≡ true → nat_lt c a ≡ false → ⊥
@@ -51,3 +52,20 @@ module _ {A : Type 0} (f : A → Option Refusal) where
       let next : suc i ≡ i + 1 = omega arith in
       let split : drop i xs ≡ x ∷ drop (i + 1) xs = drop-cons xs i x h ∙ ap (λ (y : A). y ∷ drop (suc i) xs) (sym is) ∙ ap (λ (k : ℕ). x ∷ drop k xs) next in
       earlier-assoc a b rest ∙ ap (λ (o : Option Refusal). earlier a (earlier o rest)) of ∙ sym (ap (λ (l : List A). earlier a (least (map f l))) split) ∙ e
+
+-- one cause more, from the back
+pub least-push : (cs : List (Option Refusal)) (c : Option Refusal) → least (cs ++ c ∷ []) ≡ earlier (least cs) (memory_apart c)
+least-push [] c = earlier-none (memory_apart c)
+least-push (b ∷ cs) c =
+    ap (λ (o : Option Refusal). earlier (memory_apart b) o) (least-push cs c) ∙ sym (earlier-assoc (memory_apart b) (least cs) (memory_apart c))
+
+module _ {A : Type 0} (f : A → Option Refusal) where
+  -- one more was looked at, and it is refused: for this cause, or for memory
+  pub refused_more : (xs : List A) (x : A) (e : Refusal) → (f x ≡ Some e) ⊎ ((f x ≡ None) × (e ≡ OutOfMemory))
+      → earlier (least (map f xs)) (memory_apart (Some e)) ≡ least (map f (xs ++ x ∷ []))
+  refused_more xs x e (inl is) = sym (rw (map-append f xs (x ∷ []), least-push (map f xs) (f x), is) refl)
+  refused_more xs x e (inr is) = sym (rw (map-append f xs (x ∷ []), least-push (map f xs) (f x), is.0, is.1) refl)
+
+  -- one more was looked at, and it is not refused
+  pub granted_more : (xs : List A) (x : A) → f x ≡ None → least (map f xs) ≡ least (map f (xs ++ x ∷ []))
+  granted_more xs x is = sym (rw (map-append f xs (x ∷ []), least-push (map f xs) (f x), is) (earlier-none (least (map f xs))))

@@ -122,6 +122,17 @@ impl Backend {
         Ok(Backend::bare(alloc, addr, self.weight))
     }
 
+    // The same backend. Where nothing is attached, no map is cloned.
+    pub(crate) fn copied(&self, alloc: Global) -> Result<Backend, AllocError>
+        ensures { IfOk result (λ c. c ≡ self.now) }
+    {
+        if self.ext.is_empty() {
+            self.clone_identity(alloc)
+        } else {
+            self.clone()
+        }
+    }
+
     /// What makes two backends the same: the address and the weight.
     pub fn identity(&self) -> (&SocketAddr, usize)
         ensures { (address_seen result.0.now, result.1) ≡ identity_of self.now }

@@ -1,7 +1,7 @@
 //! The least cause for which a selector of one of several configurations cannot be built, memory apart.
 //! A group asks for it before it takes memory for itself, so that a refusal for memory hides no other.
-ghost use Rattle.std.specs.Prelude.{◌≡◌, [], map};
-ghost use Rattle.lb_select.specs.Refusals.{least, earlier as earlier_of, memory_apart};
+ghost use Rattle.std.specs.Prelude.{◌≡◌, Some, [], map};
+ghost use Rattle.lb_select.specs.Refusals.{least, earlier as earlier_of, memory_apart as apart};
 
 use crate::backend::Backend;
 use crate::refusal::Refusal;
@@ -28,16 +28,26 @@ fn refusal_over<S: BackendSelection>(
     backends: &BTreeSet<Backend>,
     config: &S::Config,
 ) -> Option<Refusal>
-    ensures { result ≡ memory_apart (S.refusal backends.now.keys config.now) }
+    ensures { result ≡ apart (S.refusal backends.now.keys config.now) }
 {
     match S::build_with_config(alloc, backends, config) {
-        Ok(_) | Err(Refusal::OutOfMemory) => None,
-        Err(refusal) => Some(refusal),
+        Ok(_) => None,
+        Err(refusal) => memory_apart(refusal),
     }
 }
 
-// The one of the lesser number, or else the first.
-fn earlier(first: Option<Refusal>, second: Option<Refusal>) -> Option<Refusal>
+/// This refusal as a cause, or `None` where it is for memory.
+pub fn memory_apart(refusal: Refusal) -> Option<Refusal>
+    ensures { result ≡ apart (Some refusal) }
+{
+    match refusal {
+        Refusal::OutOfMemory => None,
+        other => Some(other),
+    }
+}
+
+/// The one of the lesser number, or else the first.
+pub fn earlier(first: Option<Refusal>, second: Option<Refusal>) -> Option<Refusal>
     ensures { result ≡ earlier_of first second }
 {
     match (first, second) {

@@ -38,7 +38,7 @@ pub fn select<S: BackendSelection, W: WordSource, F: Fn(&Backend) -> bool>(
             continue;
         }
         if accept(candidate) {
-            let answer = candidate.clone()?;
+            let answer = candidate.copied(alloc)?;
             return Ok(Some(answer));
         }
         seen.remember(candidate)?;

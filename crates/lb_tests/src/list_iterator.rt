@@ -22,7 +22,8 @@ impl ListIterator {
 
     // Goes one backend on: the index of that backend, or `None` after the last.
     fn advance(&mut self) -> Option<usize>
-        ensures step { IsListStep self.old.backends.items self.old.at (option_and_then (slice_get self.old.backends.items) result) self.new.at }
+        ensures step { IsListStep self.old.backends.items self.old.at
+            (option_and_then (slice_get self.old.backends.items) result) self.new.at }
         ensures backends { self.new.backends ≡ self.old.backends }
     {
         let index = self.at;

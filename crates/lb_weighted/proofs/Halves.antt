@@ -1,6 +1,7 @@
 -- A search by halves: what is left of the sums, and how many reads were made and are to come.
 use Rattle.std.specs.Prelude.{◌≡◌, ℕ, zero, suc, ◌+◌, ◌-◌, ◌/◌, ◌^◌, ◌<◌, ◌≤◌, List, Some, length, slice_index, slice_get}
-use Rattle.std.proofs.Common.{arith, sym, subst}
+use Rattle.std.proofs.Common.{arith, sym, subst, ⊎_elim}
+use Rattle.std.proofs.lemmas.Bool.{cases_lt}
 use Rattle.std.proofs.Math.Nat.{pow-succ'}
 use Rattle.std.proofs.lemmas.Option.{get_or_from_slice_get}
 use Rattle.lb_weighted.specs.Sums.{HasBinaryDigits, NeverFalls, IsBelowLast, IsPlaceAt}
@@ -61,7 +62,7 @@ digits_left size count made half two half_is digits k h =
     subst (HasBinaryDigits (count - 1)) same (digits (suc k) one_more)
 
 -- one read: where the sum before the half is not above the place, the later half is left
-pub halved_above :
+halved_above :
     {sums : List ℕ} {count place start size old now : ℕ} (half read next : ℕ)
     → Halved sums count place start size old now → NeverFalls sums → length sums ≡ count → 1 < size → half ≡ size / 2
     → slice_get sums (start + half - 1) ≡ Some read → read ≤ place → next ≡ now + 1
@@ -82,7 +83,7 @@ halved_above {sums} {count} {place} {start} {size} half read next p rising long 
     }
 
 -- otherwise the earlier one
-pub halved_below :
+halved_below :
     {sums : List ℕ} {count place start size old now : ℕ} (half read next : ℕ)
     → Halved sums count place start size old now → NeverFalls sums → length sums ≡ count → 1 < size → half ≡ size / 2
     → slice_get sums (start + half - 1) ≡ Some read → place < read → next ≡ now + 1
@@ -107,6 +108,25 @@ halved_below {sums} {count} {place} {start} {size} half read next p rising long 
       few = omega (arith, p.few, half_is, two);
       digits = digits_left size count p.made half two half_is p.digits;
     }
+
+-- so one read goes on by the half or by nothing
+pub halved_more :
+    {sums : List ℕ} {count place start size old now : ℕ} (half read step next : ℕ)
+    → Halved sums count place start size old now → NeverFalls sums → length sums ≡ count → 1 < size → half ≡ size / 2
+    → slice_get sums (start + half - 1) ≡ Some read → (read ≤ place → step ≡ half) → (place < read → step ≡ 0) → next ≡ now + 1
+    → Halved sums count place (start + step) (size - half) old next
+halved_more {sums} {count} {place} {start} {size} {old} half read step next p rising long two half_is got past before next_is =
+    let P : ℕ → Type 0 = λ s. Halved sums count place s (size - half) old next in
+    ⊎_elim
+    (λ (high : place < read).
+    let none : step ≡ 0 = before high in
+    let same : start ≡ start + step = omega (arith, none) in
+    subst P same (halved_below half read next p rising long two half_is got high next_is))
+    (λ (low : read ≤ place).
+    let all : step ≡ half = past low in
+    let same : start + half ≡ start + step = omega (arith, all) in
+    subst P same (halved_above half read next p rising long two half_is got low next_is))
+    (cases_lt place read)
 
 -- one is left: it is the first above the place
 pub halved_found :

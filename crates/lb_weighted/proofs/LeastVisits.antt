@@ -1,6 +1,6 @@
 -- A whole walk by least connections gives each backend of weight above 0 once, and no other.
-use Rattle.std.specs.Prelude.{◌≡◌, ℕ, zero, suc, ◌+◌, ◌<◌, ◌≤◌, nat_lt, Bool, true, false, List, [], ◌∷◌, map, length, get_or, Some, cond, Contains, count_by, refl}
-use Rattle.std.proofs.Common.{arith, sym, ap, subst, ◌∙◌, ◌⊎◌, inl, inr, ⊎_elim, true≢false, is_eq, Less}
+use Rattle.std.specs.Prelude.{◌≡◌, ℕ, zero, suc, ◌<◌, ◌≤◌, Bool, true, false, List, [], ◌∷◌, map, length, Some, cond, Contains, count_by, refl}
+use Rattle.std.proofs.Common.{arith, sym, ap, subst, ◌∙◌, ⊎_elim, true≢false, is_eq, Less}
 use Rattle.std.specs.List.{filter, slice_get, AllZip, AllByRecursion as Each}
 use Rattle.std.specs.List.Sorted.{IsStrictlySortedBy}
 use Rattle.std.specs.Ordering.{is_lt}
@@ -12,7 +12,7 @@ use Rattle.std.proofs.lemmas.Option.{slice_get-get_or, get_or_from_slice_get, sa
 use Rattle.std.proofs.lemmas.Slice.Zip.{AllZip-long}
 use Rattle.lb_select.specs.Backends.{Member, member_cmp}
 use Rattle.lb_select.specs.Draws.{Draw}
-use Rattle.lb_weighted.specs.LeastLoads.{load_cmp, weighs, IsLeastCandidate, IsLeastWalk, ComesOnce, LeastVisitsAll}
+use Rattle.lb_weighted.specs.LeastLoads.{load_cmp, weighs, IsLeastWalk, ComesOnce, LeastVisitsAll}
 use Rattle.lb_weighted.specs.Readings.{reading_cmp, IsReading}
 use Rattle.lb_weighted.specs.declared.reading.Reading.{Reading}
 use Rattle.lb_weighted.proofs.LeastOrder.{reading_order, apart_less}

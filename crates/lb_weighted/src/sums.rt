@@ -1,6 +1,6 @@
 //! The search for the interval of partial sums that holds a place.
 //! It reads sums by a lent reader alone, whose one call counts, so that no read goes uncounted.
-ghost use Rattle.std.specs.Prelude.{◌≡◌, ◌+◌, ◌-◌, ◌^◌, ◌<◌, ℕ, List, Some, length, slice_get};
+ghost use Rattle.std.specs.Prelude.{◌≡◌, ◌+◌, ◌-◌, ◌^◌, ◌<◌, ◌≤◌, ℕ, List, Some, length, slice_get};
 ghost use Rattle.lb_weighted.specs.Sums.{NeverFalls, IsBelowLast, IsPlaceAt, HasBinaryDigits};
 
 /// Partial sums that are read one by one.
@@ -38,6 +38,16 @@ impl<'a> ReadSums for CountedSums<'a> {
     }
 }
 
+// The half where its last sum is not above the place, else 0. The difference borrows where it is, and the borrow is the mask:
+// a branch would be foretold wrongly at every second read.
+fn half_past(half: usize, sum: u64, place: u64) -> usize
+    ensures past { sum ≤ place → result ≡ half }
+    ensures before { place < sum → result ≡ 0 }
+{
+    let borrow = u128::from(place).wrapping_sub(u128::from(sum)) >> 64;
+    half & !(borrow as usize)
+}
+
 /// The index of the first sum above a place, found by halves. Each read halves what is left, so the number of reads is that
 /// of the binary digits of the last index, whatever the place.
 pub(crate) fn index_of_place<R: ReadSums>(reader: &mut R, count: usize, place: u64) -> usize
@@ -53,9 +63,8 @@ pub(crate) fn index_of_place<R: ReadSums>(reader: &mut R, count: usize, place: u
     let mut size = count;
     while size > 1 {
         let half = size / 2;
-        if reader.read(start + half - 1) <= place {
-            start += half;
-        }
+        let sum = reader.read(start + half - 1);
+        start += half_past(half, sum, place);
         size -= half;
     }
     start

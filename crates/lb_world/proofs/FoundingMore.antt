@@ -10,7 +10,7 @@ use Rattle.lb_world.specs.Steps as step
 use Rattle.lb_world.specs.declared.answer.Answer.TheVariants as answer
 use Rattle.lb_world.specs.Meanings.{Meaning}
 use Rattle.lb_world.specs.History.{History, Entered}
-use Rattle.lb_world.specs.Answers.{has_refused}
+use Rattle.lb_world.specs.Answers.{has_refused, IsFor}
 use Rattle.lb_world.specs.Views.{EntryView, WorldView}
 use Rattle.lb_world.specs.Sound.{IsSound}
 use Rattle.lb_world.specs.Stands.{Stands}
@@ -81,6 +81,15 @@ module _ {C : Type 0} (M : Meaning C) where
       → Stands M w ((step.group registry gate configs, answer.Refused refusal.OutOfMemory) ∷ h)
   group_lacks w h registry gate configs sound stands free =
       inert_stands M w h _ _ sound stands (group_memory M w h registry gate configs stands free) refl refl
+
+  -- there is no group, for its cause or for memory
+  pub group_is_refused :
+      (w : WorldView C) (h : History C) (registry gate : ℕ) (configs : List C) (r : Refusal) → IsSound w → Stands M w h
+      → IsFor (group_refusal M w registry gate configs) r
+      → Stands M w ((step.group registry gate configs, answer.Refused r) ∷ h)
+  group_is_refused w h registry gate configs r sound stands (inl cause) = group_refuses w h registry gate configs r sound stands cause
+  group_is_refused w h registry gate configs r sound stands (inr free) =
+      rw free.1 (group_lacks w h registry gate configs sound stands free.0)
 
   pub update_bad :
       (w : WorldView C) (h : History C) (g now : ℕ) (backends : List (Option Member)) → IsSound w → Stands M w h

@@ -1,7 +1,8 @@
 -- The right answer to a step after a history: for every kind of step but a selection a function of the history, and what
 -- may come in its place where memory is refused. A selection's answer is a relation, since one that was refused for memory
 -- may have drawn words.
-use Rattle.std.specs.Prelude.{◌≡◌, ◌⊎◌, ℕ, ◌+◌, ◌-◌, ◌^◌, Bool, true, false, not, ◌&&◌, ◌==◌, List, [], ◌∷◌, length, map, Option, Some, None, is_some, Result, Ok, Err, if◌then◌else◌, nat_lt, slice_get, MatchBool, MatchOption}
+use Rattle.std.specs.Prelude.{◌≡◌, ◌⊎◌, ℕ, ◌+◌, ◌-◌, ◌^◌, Bool, true, false, not, ◌&&◌, ◌==◌, List, [], ◌∷◌, length, map, Option, Some}
+use Rattle.std.specs.Prelude.{None, is_some, Result, Ok, Err, if◌then◌else◌, nat_lt, slice_get, MatchBool, MatchOption}
 use Rattle.std.specs.List.{list_any}
 use Rattle.lb_select.specs.Backends.{Member}
 use Rattle.lb_select.specs.Memberships.{same_members}
@@ -9,7 +10,8 @@ use Rattle.lb_select.specs.Refusals.{earlier, least}
 use Rattle.lb_select.specs.declared.refusal.Refusal.{Refusal}
 use Rattle.lb_select.specs.declared.refusal.Refusal.TheVariants as refusal
 use Rattle.lb_world.specs.Selecting.{SelectsServed}
-use Rattle.lb_world.specs.History.{History, Made, Entered, names, present, made, config, registries, gates, groups, newest, members, events, served, flight, ready, retired, entries, readers_in, extras}
+use Rattle.lb_world.specs.History.{History, Made, Entered, names, present, made, config, registries, gates, groups, newest, members}
+use Rattle.lb_world.specs.History.{events, served, flight, ready, retired, entries, readers_in, extras}
 use Rattle.lb_world.specs.Meanings.{Meaning}
 use Rattle.lb_world.specs.Steps.{StepView}
 use Rattle.lb_world.specs.Steps as step
@@ -38,6 +40,10 @@ gate_number (Some m) = m.gate
 abbrev pub no_such : Bool → Option Refusal
 no_such true = None
 no_such false = Some refusal.NoSuch
+
+-- a refusal is for this cause, or for memory where there is none
+abbrev pub IsFor : Option Refusal → Refusal → Type 0
+IsFor cause e = (cause ≡ Some e) ⊎ ((cause ≡ None) × (e ≡ refusal.OutOfMemory))
 
 -- a changed membership after the last generation is refused
 abbrev pub update_answer : ℕ → Bool → Answer
@@ -123,7 +129,8 @@ module _ {C : Type 0} (meaning : Meaning C) where
       (update_answer (newest group h) (same_members (present backends) (members group (newest group h) h)))
   answer_after h (step.ask group slot now) =
       at_slot (config group slot h)
-      (λ c. ask_answer (flight (events group slot h)) (served (events group slot h)) (newest group h) (extras (gate_number (made group h)) h))
+      (λ c. ask_answer (flight (events group slot h)) (served (events group slot h)) (newest group h)
+      (extras (gate_number (made group h)) h))
   answer_after h (step.build group slot now) =
       at_slot (config group slot h)
       (λ c. build_answer (flight (events group slot h)) (ready (events group slot h)) (λ n. meaning.refusal (members group n h) c))

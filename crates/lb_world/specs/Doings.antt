@@ -1,5 +1,6 @@
 -- What the steps do at one slot of one group: relations by cases on the answer, between what is seen before and after.
-use Rattle.std.specs.Prelude.{◌≡◌, ◌≢◌, ◌<◌, ◌+◌, ◌-◌, ◌^◌, ◌⊎◌, ◌&&◌, ℕ, Bool, true, false, not, List, length, map, replicate, Option, Some, None, IsSome, Result, Ok, Err, slice_get}
+use Rattle.std.specs.Prelude.{◌≡◌, ◌≢◌, ◌<◌, ◌+◌, ◌-◌, ◌^◌, ◌⊎◌, ◌&&◌, ℕ, Bool, true, false, not, List, length, map, replicate, Option}
+use Rattle.std.specs.Prelude.{Some, None, IsSome, Result, Ok, Err, slice_get}
 use Rattle.lb_select.specs.Backends.{Member}
 use Rattle.lb_select.specs.Draws.{Draw}
 use Rattle.lb_select.specs.Memberships.{same_members}
@@ -57,7 +58,10 @@ module _ {C : Type 0} where
   DidAsk e s z (answer.Build n) e' z' =
       (x : SlotView C) × (k : WorkView C) × (o : OrderView C) × IsAt e s x k
       × (n ≡ o.generation) × (x.stage ≡ free) × (x.waiting ≡ Some o) × (z.out ≡ false)
-      × (e' ≡ with_place e s (record { slot = record x { waiting = None; stage = flight o.generation }; work = building (job_of e s o) }))
+      × (e' ≡ with_place e s (record {
+        slot = record x { waiting = None; stage = flight o.generation };
+        work = building (job_of e s o);
+      }))
       × (z' ≡ gate z.id true)
   DidAsk e s z a e' z' = ⊥
 
@@ -78,7 +82,10 @@ module _ {C : Type 0} where
   DidBuild cause e s z (answer.BuildFailed n r) e' z' =
       (x : SlotView C) × (t : Task C) × IsAt e s x (building t)
       × (n ≡ t.generation) × ((cause t.members t.config ≡ Some r) ⊎ ((cause t.members t.config ≡ None) × (r ≡ refusal.OutOfMemory)))
-      × (e' ≡ with_place e s (record { slot = record x { waiting = put_back e.core.newest t x.waiting; stage = free }; work = nothing }))
+      × (e' ≡ with_place e s (record {
+        slot = record x { waiting = put_back e.core.newest t x.waiting; stage = free };
+        work = nothing;
+      }))
       × (z' ≡ gate z.id false)
   DidBuild cause e s z a e' z' = ⊥
 
@@ -95,7 +102,10 @@ module _ {C : Type 0} where
   DidPublish e s (answer.Published n) e' =
       (x : SlotView C) × (t : Task C) × IsAt e s x (ready t)
       × (n ≡ t.generation)
-      × (e' ≡ with_place e s (record { slot = record x { serving = serving_of t; readers = 0; stage = retired x.serving.generation x.readers }; work = nothing }))
+      × (e' ≡ with_place e s (record {
+        slot = record x { serving = serving_of t; readers = 0; stage = retired x.serving.generation x.readers };
+        work = nothing;
+      }))
   DidPublish e s a e' = ⊥
 
   abbrev pub DidDestroy : EntryView C → ℕ → GateView → Answer → EntryView C → GateView → Type 0
@@ -103,7 +113,10 @@ module _ {C : Type 0} where
       (NoSlot e s r ⊎ ((x : SlotView C) × (k : WorkView C) × IsAt e s x k × StageKeeps x.stage r)) × Same e z e' z'
   DidDestroy e s z answer.Destroyed e' z' =
       (x : SlotView C) × (k : WorkView C) × (n : ℕ) × IsAt e s x k × (x.stage ≡ retired n 0)
-      × (e' ≡ with_place e s (record { slot = record x { stage = free }; work = k })) × (z' ≡ gate z.id false)
+      × (e' ≡ with_place e s (record {
+        slot = record x { stage = free };
+        work = k;
+      })) × (z' ≡ gate z.id false)
   DidDestroy e s z a e' z' = ⊥
 
   -- a reader entered what the slot serves, or nobody did: there is no such slot, its readers are at the greatest number, or
@@ -112,7 +125,10 @@ module _ {C : Type 0} where
   DidEnter e s (Ok r) e' =
       (x : SlotView C) × (k : WorkView C) × IsAt e s x k
       × (x.readers < 2 ^ 64 - 1) × (r ≡ reader_of s x)
-      × (e' ≡ with_place e s (record { slot = record x { readers = x.readers + 1 }; work = k }))
+      × (e' ≡ with_place e s (record {
+        slot = record x { readers = x.readers + 1 };
+        work = k;
+      }))
   DidEnter e s (Err r) e' =
       (NoSlot e s r
       ⊎ ((x : SlotView C) × (k : WorkView C) × IsAt e s x k
@@ -136,7 +152,13 @@ module _ {C : Type 0} where
   -- the group with a new membership, for which each slot has an order
   abbrev pub with_members : EntryView C → List Member → EntryView C
   with_members e ms =
-      record e { core = record e.core { newest = e.core.newest + 1; current = ms; slots = map (ordered (e.core.newest + 1) ms) e.core.slots } }
+      record e {
+        core = record e.core {
+          newest = e.core.newest + 1;
+          current = ms;
+          slots = map (ordered (e.core.newest + 1) ms) e.core.slots;
+        };
+      }
 
   -- the set of backends is the newest membership already, or becomes it; it does not where it is another one and no generation
   -- is left, or else memory is refused

@@ -1,6 +1,7 @@
 -- A history: the steps that a world took, each with its answer, the last first. What can be seen of the world is told by
 -- short recursions over it: no table, no permit, no pending request.
-use Rattle.std.specs.Prelude.{ℕ, ◌+◌, ◌-◌, Bool, true, false, ◌&&◌, ◌==◌, List, [], ◌∷◌, ◌++◌, Option, Some, None, if◌then◌else◌, slice_get, slice_set, count_by, filter_map}
+use Rattle.std.specs.Prelude.{ℕ, ◌+◌, ◌-◌, Bool, true, false, ◌&&◌, ◌==◌, List, [], ◌∷◌, ◌++◌, Option, Some, None, if◌then◌else◌}
+use Rattle.std.specs.Prelude.{slice_get, slice_set, count_by, filter_map}
 use Rattle.lb_select.specs.Backends.{Member}
 use Rattle.lb_select.specs.Memberships.{set_of}
 use Rattle.lb_world.specs.Steps.{StepView}

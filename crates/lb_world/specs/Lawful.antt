@@ -1,5 +1,6 @@
 -- What holds of a history after every step, in the words of the promises.
-use Rattle.std.specs.Prelude.{◌≡◌, ◌<◌, ◌≤◌, ◌==◌, ◌+◌, ◌⊎◌, ℕ, Bool, true, max, List, [], ◌∷◌, ◌++◌, length, take, sum_by, find, Option, Some, None, is_some, MatchOption, if◌then◌else◌}
+use Rattle.std.specs.Prelude.{◌≡◌, ◌<◌, ◌≤◌, ◌==◌, ◌+◌, ◌⊎◌, ℕ, Bool, true, max, List, [], ◌∷◌, ◌++◌, length, take, sum_by, find, Option}
+use Rattle.std.specs.Prelude.{Some, None, is_some, MatchOption, if◌then◌else◌}
 use Rattle.std.specs.List.{range_with_len}
 use Rattle.lb_select.specs.Backends.{Member, same_member}
 use Rattle.lb_select.specs.Draws.{Draw, Gives, HandedValue, HandedGives}
@@ -11,7 +12,8 @@ use Rattle.lb_world.specs.Steps as step
 use Rattle.lb_world.specs.declared.answer.Answer.{Answer}
 use Rattle.lb_world.specs.declared.answer.Answer.TheVariants as answer
 use Rattle.lb_world.specs.Meanings.{Meaning}
-use Rattle.lb_world.specs.History.{History, names, made, config, served, flight, ready, retired, events, newest, members, gates, groups, is_on, bit, readers_in, extras}
+use Rattle.lb_world.specs.History.{History, names, made, config, served, flight, ready, retired, events, newest, members, gates, groups}
+use Rattle.lb_world.specs.History.{is_on, bit, readers_in, extras}
 use Rattle.lb_world.specs.Answers.{gate_number, slots_of, HasDrawn}
 
 -- a number, or 0 where there is none
@@ -113,7 +115,8 @@ AreEnough limit cs ended (Some b) = Unit {0}
 -- A walk with these draws, its tickets from t on and its random words from those handed in, gave these candidates. However it
 -- would have gone on, r is the first accepted backend among the distinct of its first `limit` candidates, or None where none
 -- of them is accepted.
-pub record IsFirstAccepted (walks : List Draw → List Member → Bool → Type 0) (limit : ℕ) (words : List ℕ) (t : ℕ) (r : Option Member) : Type 0 where
+pub record IsFirstAccepted (walks : List Draw → List Member → Bool → Type 0) (limit : ℕ) (words : List ℕ) (t : ℕ)
+    (r : Option Member) : Type 0 where
   pub draws : List Draw
   pub candidates : List Member
   pub ended : Bool

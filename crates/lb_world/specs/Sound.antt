@@ -38,7 +38,8 @@ pub record IsPlaceSound {C : Type 0} (readers : List (Option Entered)) (g s : �
 
 pub record IsSound {C : Type 0} (w : WorldView C) : Type 0 where
   pub gates_in : (g : ℕ) (e : EntryView C) → slice_get w.groups g ≡ Some e → e.gate < length w.gates
-  pub ids : (g : ℕ) (e : EntryView C) (z : GateView) → slice_get w.groups g ≡ Some e → slice_get w.gates e.gate ≡ Some z → z.id ≡ e.core.gate
+  pub ids : (g : ℕ) (e : EntryView C) (z : GateView) → slice_get w.groups g ≡ Some e
+      → slice_get w.gates e.gate ≡ Some z → z.id ≡ e.core.gate
   pub works_in : (g : ℕ) (e : EntryView C) → slice_get w.groups g ≡ Some e → length e.works ≡ length e.core.slots
   pub places : (g : ℕ) (e : EntryView C) (s : ℕ) (x : SlotView C) (k : WorkView C)
       → slice_get w.groups g ≡ Some e → slice_get e.core.slots s ≡ Some x → slice_get e.works s ≡ Some k

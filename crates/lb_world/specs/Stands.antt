@@ -2,7 +2,8 @@
 use Rattle.std.specs.Prelude.{◌≡◌, ℕ, ◌+◌, [], Some, None, length, slice_get}
 use Rattle.lb_rebuild.specs.Views.{Task, SlotView}
 use Rattle.lb_world.specs.Meanings.{Meaning}
-use Rattle.lb_world.specs.History.{History, Made, made, config, registries, gates, groups, generations, newest, members, events, served, flight, ready, retired, entries, count_on, grants, fails, destroys}
+use Rattle.lb_world.specs.History.{History, Made, made, config, registries, gates, groups, generations, newest, members, events, served}
+use Rattle.lb_world.specs.History.{flight, ready, retired, entries, count_on, grants, fails, destroys}
 use Rattle.lb_world.specs.Answers.{IsRun, HasDrawn}
 use Rattle.lb_world.specs.Views.{WorkView, PlaceView, EntryView, WorldView, task_of, ready_of, flight_of, retired_of, holders}
 use Rattle.lb_world.specs.Lawful.{Always, OneExtra, InOrder}

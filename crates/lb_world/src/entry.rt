@@ -7,7 +7,8 @@ ghost use Rattle.lb_world.specs.Views.{nothing, building, ready};
 ghost use Rattle.lb_world.specs.Answers.{select_answer};
 ghost use Rattle.lb_world.specs.Works.{work_view};
 ghost use Rattle.lb_world.specs.History.{present};
-ghost use Rattle.lb_world.specs.Doings.{AgreesAt, DidAsk, DidBuild, DidPublish, DidDestroy, DidEnter, IsInside, DidLeave, fresh_entry, DidUpdate, DidSelect, IsNotBuilding, IsNotReady};
+ghost use Rattle.lb_world.specs.Doings.{AgreesAt, DidAsk, DidBuild, DidPublish, DidDestroy, DidEnter, IsInside, DidLeave, fresh_entry};
+ghost use Rattle.lb_world.specs.Doings.{DidUpdate, DidSelect, IsNotBuilding, IsNotReady};
 
 use crate::answer::Answer;
 use lb_rebuild::gate::GateCore;
@@ -102,7 +103,8 @@ impl<S: BackendSelection> Entry<S> {
         gate: &GateCore,
         configs: Vec<S::Config>,
     ) -> Result<Entry<S>, Refusal>
-        ensures { Refuses (least (map (S.refusal []) configs.items)) (λ e. e ≡ fresh_entry registry number gate.now.id configs.items) result }
+        ensures { Refuses (least (map (S.refusal []) configs.items))
+            (λ e. e ≡ fresh_entry registry number gate.now.id configs.items) result }
     {
         let count = configs.len();
         let core = GroupCore::new(alloc, gate, configs)?;
@@ -322,7 +324,8 @@ fn hold<S: BackendSelection>(place: &mut Place<S>, work: Work<S>)
 
 // Takes the job that is held; built work stays.
 fn take_job<S: BackendSelection>(place: &mut Place<S>) -> Option<Job<S>>
-    ensures { MatchOption result (IsNotBuilding place.old × (place.new ≡ place.old)) (λ t. (place.old ≡ building t) × (place.new ≡ nothing)) }
+    ensures { MatchOption result (IsNotBuilding place.old × (place.new ≡ place.old))
+        (λ t. (place.old ≡ building t) × (place.new ≡ nothing)) }
 {
     match mem::replace(&mut place.work, Work::Nothing) {
         Work::Building(job) => Some(job),

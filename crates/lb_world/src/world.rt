@@ -6,7 +6,8 @@ ghost use Rattle.lb_world.specs.Meanings.{meaning_of};
 ghost use Rattle.lb_world.specs.Steps as seen;
 ghost use Rattle.lb_world.specs.Steps.{step_seen};
 ghost use Rattle.lb_world.specs.Stands.{Stands};
-ghost use Rattle.lb_world.specs.Lawful.{Always, EachStep, FirstAccepted, NewestServed, NeverFalls, FreeGateGrants, OneExtra, ExtrasAre, ReadersExact};
+ghost use Rattle.lb_world.specs.Lawful.{Always, EachStep, FirstAccepted, NewestServed, NeverFalls, FreeGateGrants, OneExtra, ExtrasAre};
+ghost use Rattle.lb_world.specs.Lawful.{ReadersExact};
 
 mod groups;
 mod readers;
@@ -114,7 +115,7 @@ impl<S: BackendSelection> World<S> {
                 key,
                 limit,
                 words,
-            } => self.select(group, slot, key, limit, words),
+            } => self.select(group, slot, &key, limit, &words),
         }
     }
 

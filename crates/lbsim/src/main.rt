@@ -2,7 +2,8 @@
 //! It takes no arguments; everything that matters is in the library.
 #![tactic(auto)]
 
-use pingora_load_balancing::script::{Counted, run_script};
+use lb_counted::counted::Counted;
+use lb_script::run::run_script;
 use std::env;
 use std::io::{self, BufWriter, Write};
 use std::process::ExitCode;

@@ -6,6 +6,6 @@ pub use lb_check::{
 };
 pub use lb_probe::error::CheckError;
 pub use lb_probe::health_check::{
-    BackendSummary, HealthCheck, HealthObserve, HealthObserveCallback, IdentitySummary,
+    BackendSummary, BoxedCheck, HealthCheck, HealthObserve, HealthObserveCallback, IdentitySummary,
     identity_summary,
 };

@@ -2,6 +2,8 @@
 //! It passes on what the layers below prove, under the upstream crate's names.
 #![tactic(auto)]
 
+pub mod discovery;
+pub mod health;
 pub mod health_check;
 pub mod prelude;
 pub mod rebuild;
@@ -9,6 +11,8 @@ pub mod script;
 pub mod selection;
 pub mod world;
 
+pub use lb_health::backends::{BackendView, Backends};
+pub use lb_health::registry::HealthRegistry;
 pub use lb_select::backend::{Backend, Ext, InetAddr, SocketAddr};
 pub use lb_select::refusal::Refusal;
 pub use lb_select::words::{CoreWords, HandedWords, LentWords, SharedWords, WordSource};

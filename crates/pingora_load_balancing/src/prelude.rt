@@ -1,4 +1,5 @@
 //! What most users want, under the upstream crate's names.
-//! The balancers and views of upstream's prelude are to come.
+//! The balancers and the service of checks of upstream's prelude are to come.
 pub use crate::health_check::TcpHealthCheck;
 pub use crate::selection::RoundRobin;
+pub use crate::{BackendView, HealthRegistry};

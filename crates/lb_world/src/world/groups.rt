@@ -1,13 +1,13 @@
 //! Steps that make groups and change their memberships.
 //! Every cause of refusal is tested before memory is taken.
-ghost use Rattle.std.specs.Prelude.{◌≡◌, ◌∷◌, IfOk, IfErr};
+ghost use Rattle.std.specs.Prelude.{◌≡◌, ◌∷◌, [], map, IfOk, IfErr};
 ghost use Rattle.lb_select.specs.Memberships.{set_of};
-ghost use Rattle.lb_world.specs.Answers.{has_refused as refused_among, no_such};
+ghost use Rattle.lb_world.specs.Answers.{has_refused as refused_among, no_such, IsFor};
 ghost use Rattle.lb_world.specs.History.{History, present};
 ghost use Rattle.lb_world.specs.Meanings.{meaning_of};
 ghost use Rattle.lb_world.specs.Steps as seen;
 ghost use Rattle.lb_world.specs.Stands.{Stands};
-ghost use Rattle.lb_select.specs.Refusals.{earlier as earlier_of};
+ghost use Rattle.lb_select.specs.Refusals.{earlier as earlier_of, least};
 
 use super::World;
 use crate::answer::Answer;
@@ -25,21 +25,17 @@ impl<S: BackendSelection> World<S> {
             → Stands (meaning_of S.BackendSelection) self.new ((seen.group registry gate configs.items, result) ∷ h) }
     {
         let is_there = registry < self.registries.len() as u64 && gate < self.gates.len() as u64;
-        let cause = least_refusal::<S>(self.alloc, &configs);
-        if let Some(refusal) = group_cause(is_there, cause) {
-            return Answer::Refused(refusal);
-        }
         let number = self.groups.len() as u64;
         let at = gate as usize;
-        let Ok(()) = self.groups.reserve(1) else {
-            return Answer::Refused(Refusal::OutOfMemory);
-        };
+        if !is_there || self.groups.reserve(1).is_err() {
+            return Answer::Refused(group_refusal::<S>(self.alloc, is_there, &configs));
+        }
         match Entry::new(self.alloc, registry, at, &self.gates[at], configs) {
             Ok(entry) => {
                 self.groups.push_reserved(entry);
                 Answer::Group(number)
             }
-            Err(_) => Answer::Refused(Refusal::OutOfMemory),
+            Err(refusal) => Answer::Refused(refusal),
         }
     }
 
@@ -63,6 +59,18 @@ impl<S: BackendSelection> World<S> {
         };
         entry.update(self.alloc, set)
     }
+}
+
+// Why there is no group, where the registry or the gate isn't there or memory was refused.
+fn group_refusal<S: BackendSelection>(
+    alloc: Global,
+    is_there: bool,
+    configs: &[S::Config],
+) -> Refusal
+    ensures { IsFor (earlier_of (no_such is_there) (least (map (S.refusal []) configs.now))) result }
+{
+    let cause = least_refusal::<S>(alloc, configs);
+    group_cause(is_there, cause).unwrap_or(Refusal::OutOfMemory)
 }
 
 // The cause of the least number: that the registry or the gate isn't there, or that a selector can't be built.

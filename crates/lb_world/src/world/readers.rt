@@ -63,22 +63,17 @@ impl<S: BackendSelection> World<S> {
         }
     }
 
-    pub(super) fn select(
-        &mut self,
-        group: u64,
-        slot: u64,
-        key: Vec<u8>,
-        limit: u64,
-        words: Vec<u64>,
-    ) -> Answer
+    /// Takes a step that selects, and answers it as `step` does. Key and random words are lent, so that the step takes no memory
+    /// for them.
+    pub fn select(&mut self, group: u64, slot: u64, key: &[u8], limit: u64, words: &[u64]) -> Answer
         ensures { (h : History S.Config) → Stands (meaning_of S.BackendSelection) self.old h
-            → Stands (meaning_of S.BackendSelection) self.new ((seen.select group slot key.items limit words.items, result) ∷ h) }
+            → Stands (meaning_of S.BackendSelection) self.new ((seen.select group slot key.now limit words.now, result) ∷ h) }
     {
         if group as usize >= self.groups.len() {
             return Answer::Refused(Refusal::NoSuch);
         }
         let alloc = self.alloc;
         let entry = &mut self.groups[group as usize];
-        entry.select(alloc, slot as usize, &key, limit as usize, &words)
+        entry.select(alloc, slot as usize, key, limit as usize, words)
     }
 }

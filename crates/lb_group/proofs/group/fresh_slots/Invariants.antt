@@ -1,7 +1,10 @@
-use Rattle.std.proofs.Common.{◌≡◌, map}
+use Rattle.std.proofs.Common.{◌≡◌, [], map, true, None}
+use Rattle.lb_select.specs.Refusals.{least}
 use Rattle.lb_group.specs.Fresh.{fresh_slot}
 use Rattle.lb_group.specs.SlotSeen.{slot_value}
 use Rattle.lb_group.proofs.group.fresh_slots.Given as goal
 
 abbrev pub invariant-loop-config : goal.invariant-loop-config
-invariant-loop-config g l = map slot_value l.slots.items ≡ map fresh_slot l.yielded
+invariant-loop-config g l =
+    (l.cause ≡ least (map (g.S.BackendSelection.refusal []) l.yielded))
+    × (l.cause ≡ None → l.is_whole ≡ true → map slot_value l.slots.items ≡ map fresh_slot l.yielded)

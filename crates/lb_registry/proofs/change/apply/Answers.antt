@@ -14,3 +14,4 @@ returns-clause-ok g c =
     (filter_same _ (λ (v : View). not v.marked) _ (λ x b f' t. search rules) _ _ c.retain.ensures.filtered)
     (c.deref-2.ensures.value ∙ c.in_ok-keys.ensures.ok key_of rule ∙ ap (λ (vs : List View). target_keys key_of (live (map view_value vs))) c.deref.ensures.value)
     (c.in_ok-change.ensures.ok (cell_events key_of events) state.cells)
+    (c.in_ok-change.ensures.pruned (cell_events key_of events) state.cells)

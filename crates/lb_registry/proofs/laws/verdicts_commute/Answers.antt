@@ -11,6 +11,7 @@ returns-clause-state g c =
       state = record {
         listed = r.state.listed;
         cells = table-commutes member_cmp (cell_events key_of events) a b v w c.args.registry.now.table ne r.state.cells;
+        pruned = r.state.pruned;
       };
     }
 

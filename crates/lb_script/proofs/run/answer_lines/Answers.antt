@@ -1,6 +1,6 @@
 use Rattle.std.proofs.Common.{◌∙◌, ap, subst, sym, arith}
 use Rattle.std.specs.Io.KnownBytes.{Appends, prepend_known}
-use Rattle.lb_world.specs.Meanings.{meaning}
+use Rattle.lb_world.specs.Meanings.{meaning_of}
 use Rattle.lb_counted.specs.Counted.{inner_of, has_failed}
 use Rattle.lb_counted.specs.Stream.{AppendsFront}
 use Rattle.lb_script.specs.declared.session.Turn.TheVariants.{Failed}
@@ -11,12 +11,12 @@ pub loop-number-init : goal.loop-number-init
 loop-number-init g c = record {
   fresh_reader = c.requires.fresh_reader;
   fresh_writer = c.requires.fresh_writer;
-  so_far = begins (meaning g.S.BackendSelection.walks g.S.BackendSelection.refusal g.S.BackendSelection.may_draw_random) (g.R.Read.remaining (inner_of c.args.reader.now)) c.new-session.result.ahead (g.W.Write.contents (inner_of c.args.writer.now)) c.new-session.result.world c.new-session.result.has_registry c.new-session.ensures.ahead c.new-session.ensures.holds;
+  so_far = begins (meaning_of g.S.BackendSelection) (g.R.Read.remaining (inner_of c.args.reader.now)) c.new-session.result.ahead (g.W.Write.contents (inner_of c.args.writer.now)) c.new-session.result.world c.new-session.result.has_registry c.new-session.ensures.ahead c.new-session.ensures.holds;
 }
 
 pub returns-in_err-ok-in-Answered-clause-none : goal.returns-in_err-ok-in-Answered-clause-none
 returns-in_err-ok-in-Answered-clause-none g c =
-    let M = meaning g.S.BackendSelection.walks g.S.BackendSelection.refusal g.S.BackendSelection.may_draw_random in
+    let M = meaning_of g.S.BackendSelection in
     let all = g.R.Read.remaining (inner_of c.args.reader.now) in
     let left = prepend_known c.loop-number.session.ahead (g.R.Read.remaining (inner_of c.loop-number.reader)) in
     let unread = g.R.Read.remaining (inner_of c.take_turn.new.reader) in
@@ -35,7 +35,7 @@ returns-in_err-ok-in-Answered-clause-none g c =
 
 pub returns-in_err-ok-in-LastAnswered-clause-none : goal.returns-in_err-ok-in-LastAnswered-clause-none
 returns-in_err-ok-in-LastAnswered-clause-none g c =
-    let M = meaning g.S.BackendSelection.walks g.S.BackendSelection.refusal g.S.BackendSelection.may_draw_random in
+    let M = meaning_of g.S.BackendSelection in
     let all = g.R.Read.remaining (inner_of c.args.reader.now) in
     let left = prepend_known c.loop-number.session.ahead (g.R.Read.remaining (inner_of c.loop-number.reader)) in
     let unread = g.R.Read.remaining (inner_of c.take_turn.new.reader) in
@@ -54,7 +54,7 @@ returns-in_err-ok-in-LastAnswered-clause-none g c =
 
 pub returns-in-LastAnswered-clause-some : goal.returns-in-LastAnswered-clause-some
 returns-in-LastAnswered-clause-some g c =
-    let M = meaning g.S.BackendSelection.walks g.S.BackendSelection.refusal g.S.BackendSelection.may_draw_random in
+    let M = meaning_of g.S.BackendSelection in
     let all = g.R.Read.remaining (inner_of c.args.reader.now) in
     let left = prepend_known c.loop-number.session.ahead (g.R.Read.remaining (inner_of c.loop-number.reader)) in
     let unread = g.R.Read.remaining (inner_of c.take_turn.new.reader) in
@@ -73,7 +73,7 @@ returns-in-LastAnswered-clause-some g c =
 
 pub returns-in-Ended-clause-some : goal.returns-in-Ended-clause-some
 returns-in-Ended-clause-some g c =
-    let M = meaning g.S.BackendSelection.walks g.S.BackendSelection.refusal g.S.BackendSelection.may_draw_random in
+    let M = meaning_of g.S.BackendSelection in
     let all = g.R.Read.remaining (inner_of c.args.reader.now) in
     let left = prepend_known c.loop-number.session.ahead (g.R.Read.remaining (inner_of c.loop-number.reader)) in
     let unread = g.R.Read.remaining (inner_of c.take_turn.new.reader) in
@@ -92,7 +92,7 @@ returns-in-Ended-clause-some g c =
 
 pub returns-in_err-ok-in-Failed-clause-none : goal.returns-in_err-ok-in-Failed-clause-none
 returns-in_err-ok-in-Failed-clause-none g c =
-    let M = meaning g.S.BackendSelection.walks g.S.BackendSelection.refusal g.S.BackendSelection.may_draw_random in
+    let M = meaning_of g.S.BackendSelection in
     let all = g.R.Read.remaining (inner_of c.args.reader.now) in
     let left = prepend_known c.loop-number.session.ahead (g.R.Read.remaining (inner_of c.loop-number.reader)) in
     let unread = g.R.Read.remaining (inner_of c.take_turn.new.reader) in
@@ -111,7 +111,7 @@ returns-in_err-ok-in-Failed-clause-none g c =
 
 pub returns-in-Failed-clause-some : goal.returns-in-Failed-clause-some
 returns-in-Failed-clause-some g c =
-    let M = meaning g.S.BackendSelection.walks g.S.BackendSelection.refusal g.S.BackendSelection.may_draw_random in
+    let M = meaning_of g.S.BackendSelection in
     let all = g.R.Read.remaining (inner_of c.args.reader.now) in
     let left = prepend_known c.loop-number.session.ahead (g.R.Read.remaining (inner_of c.loop-number.reader)) in
     let unread = g.R.Read.remaining (inner_of c.take_turn.new.reader) in
@@ -130,7 +130,7 @@ returns-in-Failed-clause-some g c =
 
 pub returns-in-WriteFailed-clause-none : goal.returns-in-WriteFailed-clause-none
 returns-in-WriteFailed-clause-none g c =
-    let M = meaning g.S.BackendSelection.walks g.S.BackendSelection.refusal g.S.BackendSelection.may_draw_random in
+    let M = meaning_of g.S.BackendSelection in
     let all = g.R.Read.remaining (inner_of c.args.reader.now) in
     let left = prepend_known c.loop-number.session.ahead (g.R.Read.remaining (inner_of c.loop-number.reader)) in
     let unread = g.R.Read.remaining (inner_of c.take_turn.new.reader) in
@@ -149,7 +149,7 @@ returns-in-WriteFailed-clause-none g c =
 
 pub loop-number-preserved : goal.loop-number-preserved
 loop-number-preserved g c =
-    let M = meaning g.S.BackendSelection.walks g.S.BackendSelection.refusal g.S.BackendSelection.may_draw_random in
+    let M = meaning_of g.S.BackendSelection in
     let all = g.R.Read.remaining (inner_of c.args.reader.now) in
     let left = prepend_known c.loop-number.session.ahead (g.R.Read.remaining (inner_of c.loop-number.reader)) in
     let unread = g.R.Read.remaining (inner_of c.take_turn.new.reader) in
@@ -172,7 +172,7 @@ loop-number-preserved g c =
 
 pub returns-in_err-ok-clause-none : goal.returns-in_err-ok-clause-none
 returns-in_err-ok-clause-none g c =
-    let M = meaning g.S.BackendSelection.walks g.S.BackendSelection.refusal g.S.BackendSelection.may_draw_random in
+    let M = meaning_of g.S.BackendSelection in
     let all = g.R.Read.remaining (inner_of c.args.reader.now) in
     let unread = g.R.Read.remaining (inner_of c.loop-number.reader) in
     let left = prepend_known c.loop-number.session.ahead unread in
@@ -182,7 +182,7 @@ returns-in_err-ok-clause-none g c =
 
 pub returns-clause-some : goal.returns-clause-some
 returns-clause-some g c =
-    let M = meaning g.S.BackendSelection.walks g.S.BackendSelection.refusal g.S.BackendSelection.may_draw_random in
+    let M = meaning_of g.S.BackendSelection in
     let all = g.R.Read.remaining (inner_of c.args.reader.now) in
     let unread = g.R.Read.remaining (inner_of c.loop-number.reader) in
     let left = prepend_known c.loop-number.session.ahead unread in

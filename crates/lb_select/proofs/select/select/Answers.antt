@@ -22,7 +22,7 @@ returns-in_err-answer g c =
 pub returns-then-accept : goal.returns-then-accept
 returns-then-accept g c =
     let accepted : FnReturnsAt g.F.Fn c.args.accept.now c.in-Some.candidate.now true = search rules in
-    rw c.in_ok-answer.ensures.cases
+    rw c.in_ok-answer.ensures
     (finds _ _ _ _ _ g.met.S.Iter.BackendIter.starts c.in-Some.candidate.now _ _ c.in_ok-iter.ensures c.loop.invariant (rw c.in-Some.is at c.next.follows.holds-at-none)
     (sym c.contains.ensures ∙ c.if-contains.false) accepted c.loop-test.true)
 

@@ -1,7 +1,9 @@
 -- The slot is put back in its place.
-use Rattle.std.proofs.Common.{arith, refl, length, ◌≤◌, inl}
+use Rattle.std.proofs.Common.{arith, refl, length, ◌≤◌, inl, subst}
+use Rattle.lb_group.specs.Values.{GroupValue}
+use Rattle.lb_group.specs.Stands.{StandsFor}
 use Rattle.lb_group.proofs.GroupSteps.{facing, count-is, site-of}
-use Rattle.lb_group.proofs.CallSteps.{enters}
+use Rattle.lb_group.proofs.CallSteps.{enters, entered-own}
 use Rattle.lb_group.proofs.Pasts.{lt-false}
 use Rattle.lb_group.proofs.group.GroupCore.enter.Goals as goal
 
@@ -25,3 +27,9 @@ returns-clause-stands g c made h s =
 
 pub returns-clause-site : goal.returns-clause-site
 returns-clause-site g c = site-of _ _ _ _ c.self.invariant c.self.view_is (returns-clause-stands g c)
+
+pub returns-clause-own : goal.returns-clause-own
+returns-clause-own g c =
+    let p = c.self.invariant in
+    let s : StandsFor p.0 p.1.0 c.args.self.now = subst (λ (w : GroupValue g.row.S-Config.Denot). StandsFor p.0 p.1.0 w) c.self.view_is p.1.1 in
+    entered-own p.0 p.1.0 _ c.args.slot c.enter.result _ (returns-clause-stands g c p.0 p.1.0 s) (returns-clause-answers g c p.0 p.1.0 s)

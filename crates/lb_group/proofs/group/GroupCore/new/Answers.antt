@@ -1,14 +1,16 @@
 -- The slots are at their start.
-use Rattle.std.proofs.Common.{rules, ap, refl, []}
+use Rattle.std.proofs.Common.{◌≡◌, ◌∙◌, ap, refl, []}
+use Rattle.std.specs.Arc.{arc_value}
 use Rattle.lb_rebuild.specs.Gate.{GateView}
 use Rattle.lb_group.proofs.Memberships.{starts}
 use Rattle.lb_group.proofs.group.GroupCore.new.Goals as goal
 
 pub invariant_of-result : goal.invariant_of-result
-invariant_of-result g c = (record { gate = c.of.result.value.id; configs = c.args.configs.items }, ([], starts _ _ _ _ _ refl c.in-Ok.ensures.0 c.in-Ok.ensures.1))
+invariant_of-result g c =
+    let none : (arc_value c.in_ok-new.field-0).keys ≡ [] = ap (λ (t : _). t.keys) c.in_ok-new.ensures.ok ∙ c.new.ensures.empty in
+    (record { gate = c.of.result.value.id; configs = c.args.configs.items }, ([], starts _ _ _ _ _ refl none c.in_ok-slots.ensures.1))
 
-pub returns-in-Ok-clause-stands : goal.returns-in-Ok-clause-stands
-returns-in-Ok-clause-stands g c = (search rules, starts _ _ _ _ _ (ap (λ (v : GateView). v.id) c.of.ensures) c.in-Ok.ensures.0 c.in-Ok.ensures.1)
-
-pub returns-in-Ok-clause-gate : goal.returns-in-Ok-clause-gate
-returns-in-Ok-clause-gate g c = ap (λ (v : GateView). v.id) c.of.ensures
+pub returns-clause-stands : goal.returns-clause-stands
+returns-clause-stands g c =
+    let none : (arc_value c.in_ok-new.field-0).keys ≡ [] = ap (λ (t : _). t.keys) c.in_ok-new.ensures.ok ∙ c.new.ensures.empty in
+    (c.in_ok-slots.ensures.0, starts _ _ _ _ _ (ap (λ (v : GateView). v.id) c.of.ensures) none c.in_ok-slots.ensures.1)

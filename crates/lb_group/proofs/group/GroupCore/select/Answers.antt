@@ -9,7 +9,7 @@ use Rattle.lb_group.proofs.group.GroupCore.select.Goals as goal
 pub returns-then-slot-len-clause-answers : goal.returns-then-slot-len-clause-answers
 returns-then-slot-len-clause-answers g c made h s =
     let few : length made.configs ≤ c.args.slot = omega (arith, count-is made h _ _ _ _ _ _ _ c.self.view_is s) in
-    rw (slice_get_past made.configs c.args.slot few) (refl, refl)
+    rw (slice_get_past made.configs c.args.slot few) (refl, refl, refl)
 
 pub returns-then-slot-len-clause-stands : goal.returns-then-slot-len-clause-stands
 returns-then-slot-len-clause-stands g c made h s =

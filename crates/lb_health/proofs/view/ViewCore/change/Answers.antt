@@ -1,51 +1,46 @@
-use Rattle.std.proofs.Common.{◌≡◌, ap, sym, ◌∙◌, refl, subst, map, List, [], ◌∷◌, ◌++◌, ◌+◌, ℕ, rules}
+use Rattle.std.proofs.Common.{◌≡◌, ap, sym, ◌∙◌, refl, subst, map, List, [], ◌∷◌, ◌++◌, ◌+◌, ℕ, rules, Result, OnErr}
 use Rattle.std.specs.Arc.{arc_value}
 use Rattle.std.specs.Prelude.{Bool, true, false, if◌then◌else◌}
+use Rattle.lb_select.specs.Backends.{Member}
 use Rattle.lb_registry.specs.Registry.{IsRegistryAfter}
 use Rattle.lb_registry.specs.RegistryEvents.{shown_cells, Event, Released, after_show}
 use Rattle.lb_health.specs.Joined.{lives, view_changed}
-use Rattle.lb_health.specs.contracts.view.ViewCore.{the_view}
 use Rattle.lb_health.specs.declared.snapshot.ViewSnapshot.{ViewSnapshot}
 use Rattle.lb_health.specs.Snapshots.{SnapshotValue, ViewValue, snapshot_of, living}
 use Rattle.lb_health.specs.ViewEvents.{ViewEvent, by_age, new_snapshot, snapshots_after, generation_after}
-use Rattle.lb_health.specs.Views.{IsViewAfter}
+use Rattle.lb_health.specs.Views.{IsViewAfter, Flags}
 use Rattle.lb_health.proofs.SnapshotLemmas.{shown_snapshots}
 use Rattle.lb_health.proofs.ViewLemmas.{roomier, shown, on_err}
 use Rattle.lb_health.proofs.view.ViewCore.change.Goals as goal
 use Rattle.lb_health.proofs.view.ViewCore.change.Goals.{then-not-lives, else-not-lives}
 
 -- room was made, and nothing else
+still :
+    {T E : Type 0} (r : Result T E) (now before after : ViewValue) → before ≡ now → after.generation ≡ before.generation
+    → after.snapshots ≡ before.snapshots → ((q : Member) → Flags before.flags after.flags q)
+    → OnErr r ((views : List ViewEvent) → IsViewAfter views now → IsViewAfter views after)
+still r now before after is g s flags =
+    on_err r (λ (views : List ViewEvent) h. roomier views before after (subst (λ v. IsViewAfter views v) (sym is) h) g s flags)
+
 pub returns-in_err-flag_all-clause-view_err : goal.returns-in_err-flag_all-clause-view_err
 returns-in_err-flag_all-clause-view_err g c =
-    let kept : (views : List ViewEvent) → IsViewAfter views c.args.self.now
-    → IsViewAfter views (the_view (record { id = c.self.inside.id; current = c.self.inside.current; earlier = c.reserve.new.self; flags = c.flag_all.new.flags })) = λ views h.
-    roomier views _ _ (subst (λ v. IsViewAfter views v) (sym c.self.view_is) h) refl
-    (ap (λ (ss : List ViewSnapshot). snapshot_of c.self.inside.current ∷ map snapshot_of ss) c.reserve.ensures.items) c.flag_all.ensures.flags in
-    on_err _ kept
+    still _ c.args.self.now _ _ c.self.view_is refl
+    (ap (λ (ss : List ViewSnapshot). snapshot_of c.self.inside.current ∷ map snapshot_of ss) c.reserve.ensures.items) c.flag_all.ensures.flags
 
 pub returns-in_err-copy-clause-view_err : goal.returns-in_err-copy-clause-view_err
 returns-in_err-copy-clause-view_err g c =
-    let kept : (views : List ViewEvent) → IsViewAfter views c.args.self.now
-    → IsViewAfter views (the_view (record { id = c.self.inside.id; current = c.self.inside.current; earlier = c.reserve.new.self; flags = c.flag_all.new.flags })) = λ views h.
-    roomier views _ _ (subst (λ v. IsViewAfter views v) (sym c.self.view_is) h) refl
-    (ap (λ (ss : List ViewSnapshot). snapshot_of c.self.inside.current ∷ map snapshot_of ss) c.reserve.ensures.items) c.flag_all.ensures.flags in
-    on_err _ kept
+    still _ c.args.self.now _ _ c.self.view_is refl
+    (ap (λ (ss : List ViewSnapshot). snapshot_of c.self.inside.current ∷ map snapshot_of ss) c.reserve.ensures.items) c.flag_all.ensures.flags
 
 pub returns-in_err-members-clause-view_err : goal.returns-in_err-members-clause-view_err
 returns-in_err-members-clause-view_err g c =
-    let kept : (views : List ViewEvent) → IsViewAfter views c.args.self.now
-    → IsViewAfter views (the_view (record { id = c.self.inside.id; current = c.self.inside.current; earlier = c.reserve.new.self; flags = c.flag_all.new.flags })) = λ views h.
-    roomier views _ _ (subst (λ v. IsViewAfter views v) (sym c.self.view_is) h) refl
-    (ap (λ (ss : List ViewSnapshot). snapshot_of c.self.inside.current ∷ map snapshot_of ss) c.reserve.ensures.items) c.flag_all.ensures.flags in
-    on_err _ kept
+    still _ c.args.self.now _ _ c.self.view_is refl
+    (ap (λ (ss : List ViewSnapshot). snapshot_of c.self.inside.current ∷ map snapshot_of ss) c.reserve.ensures.items) c.flag_all.ensures.flags
 
 pub returns-in_err-cells-clause-view_err : goal.returns-in_err-cells-clause-view_err
 returns-in_err-cells-clause-view_err g c =
-    let kept : (views : List ViewEvent) → IsViewAfter views c.args.self.now
-    → IsViewAfter views (the_view (record { id = c.self.inside.id; current = c.self.inside.current; earlier = c.reserve.new.self; flags = c.flag_all.new.flags })) = λ views h.
-    roomier views _ _ (subst (λ v. IsViewAfter views v) (sym c.self.view_is) h) refl
-    (ap (λ (ss : List ViewSnapshot). snapshot_of c.self.inside.current ∷ map snapshot_of ss) c.reserve.ensures.items) c.flag_all.ensures.flags in
-    on_err _ kept
+    still _ c.args.self.now _ _ c.self.view_is refl
+    (ap (λ (ss : List ViewSnapshot). snapshot_of c.self.inside.current ∷ map snapshot_of ss) c.reserve.ensures.items) c.flag_all.ensures.flags
 
 pub returns-clause-view : goal.returns-clause-view
 returns-clause-view g c = λ key_of views events h r.
@@ -105,3 +100,8 @@ returns-clause-registry g c = λ key_of views events h r.
           (w.release.ensures key_of after held))))
       | else-not-lives w ↦ let yes : c.lives.result ≡ true = search rules in subst Left (sym yes) (rw w.registry-is held)
     ])
+
+pub returns-clause-next : goal.returns-clause-next
+returns-clause-next g c =
+    c.prune.ensures.generation ∙ ap (λ (s : ViewSnapshot). s.generation) c.replace.ensures.after ∙ c.in-Some.ensures.1
+    ∙ ap (λ (v : ViewValue). v.generation + 1) c.self.view_is

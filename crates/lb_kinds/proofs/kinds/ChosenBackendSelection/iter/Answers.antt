@@ -10,3 +10,6 @@ returns-in_ok-walk-in-RoundRobin g c = rw (sym c.deref-chosen.ensures ∙ c.in-R
 
 pub returns-in_ok-walk-in-Ketama : goal.returns-in_ok-walk-in-Ketama
 returns-in_ok-walk-in-Ketama g c = rw (sym c.deref-chosen.ensures ∙ c.in-Ketama.is) c.in_ok-walk-in-Ketama.ensures
+
+pub returns-in_ok-walk-in-Least : goal.returns-in_ok-walk-in-Least
+returns-in_ok-walk-in-Least g c = rw (sym c.deref-chosen.ensures ∙ c.in-Least.is) c.in_ok-walk-in-Least.ensures

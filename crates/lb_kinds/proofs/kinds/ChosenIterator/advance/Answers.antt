@@ -11,3 +11,8 @@ returns-in-RoundRobin-clause-step g c = rw c.in-RoundRobin.is c.advance-in-Round
 -- the ring draws nothing
 pub returns-in-Ketama-clause-step : goal.returns-in-Ketama-clause-step
 returns-in-Ketama-clause-step g c = rw (c.in-Ketama.is, c.advance-in-Ketama.ensures.ring) ([], refl, c.advance-in-Ketama.ensures.step)
+
+-- nor does the order of loads, which are read when a walk begins
+pub returns-in-Least-clause-step : goal.returns-in-Least-clause-step
+returns-in-Least-clause-step g c =
+    rw (c.in-Least.is, c.advance-in-Least.ensures.backend, c.advance-in-Least.ensures.order) ([], refl, c.advance-in-Least.ensures.step)

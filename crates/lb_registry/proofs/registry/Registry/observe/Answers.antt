@@ -3,10 +3,10 @@ use Rattle.lb_select.specs.Backends.{Member, member_cmp}
 use Rattle.lb_registry.specs.CellEvents as cell
 use Rattle.lb_registry.specs.Registry.{IsRegistryAfter}
 use Rattle.lb_registry.specs.RegistryEvents.{Event, Observed, cell_events}
-use Rattle.lb_registry.specs.Table.{table_value, IsTableAfter}
+use Rattle.lb_registry.specs.Table.{table_value, IsTableAfter, IsPruned}
 use Rattle.lb_registry.specs.Targets.{view_value}
 use Rattle.lb_registry.specs.Verdicts.{Verdict}
-use Rattle.lb_registry.proofs.StateLemmas.{on_ok, seen}
+use Rattle.lb_registry.proofs.StateLemmas.{on_both, seen}
 use Rattle.lb_registry.proofs.registry.Registry.observe.Goals as goal
 
 pub returns-clause-after : goal.returns-clause-after
@@ -15,10 +15,11 @@ returns-clause-after g c =
     let inside = c.self.inside in
     let step :
     ((es : List (cell.CellEvent Member)) → IsTableAfter member_cmp es (table_value inside.table) → IsTableAfter member_cmp (cell.Observed c.args.cell v ∷ es) (table_value c.observe.new.self))
+    → ((es : List (cell.CellEvent Member)) → IsPruned member_cmp es (table_value inside.table) → IsPruned member_cmp (cell.Observed c.args.cell v ∷ es) (table_value c.observe.new.self))
     → (key_of : Member → Member) (events : List Event) → IsRegistryAfter g.R.KeyRule.gives key_of events c.args.self.now
     → IsRegistryAfter g.R.KeyRule.gives key_of (Observed c.args.cell v ∷ events)
     (record { rule = inside.rule; views = map view_value inside.views.items; registered = inside.registered; table = table_value c.observe.new.self })
-    = λ h key_of events r.
+    = λ h only key_of events r.
     let now = seen g.R.KeyRule.gives key_of events _ _ c.self.view_is r in
     record {
       rule = now.rule;
@@ -26,6 +27,7 @@ returns-clause-after g c =
       state = record {
         listed = now.state.listed;
         cells = h (cell_events key_of events) now.state.cells;
+        pruned = only (cell_events key_of events) now.state.pruned;
       };
     } in
-    on_ok c.observe.result c.observe.ensures.after step
+    on_both c.observe.result c.observe.ensures.after c.observe.ensures.pruned step

@@ -40,6 +40,7 @@ returns-in-Err-clause-err g c =
       state = record {
         listed = ap (map view_value) back ∙ now.state.listed;
         cells = (c.in-Err.ensures.err key_of (Registered ∷ events) now.rule more).cells;
+        pruned = (c.in-Err.ensures.err key_of (Registered ∷ events) now.rule more).pruned;
       };
     }
 

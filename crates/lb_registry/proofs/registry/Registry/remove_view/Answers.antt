@@ -21,6 +21,7 @@ returns-in-Some g c =
             at_place view_value c.args.id with_mark c.self.inside.views.items c.in-Some.place c.index_mut.result.now _ found (at_found (λ (v : View). is_view c.args.id (view_value v)) c.self.inside.views.items c.in-Some.place c.index_mut.result.now found c.index_mut.ensures.value) refl
             ∙ ap (at_view c.args.id with_mark) now.state.listed;
         cells = now.state.cells;
+        pruned = now.state.pruned;
       };
     }
 
@@ -37,5 +38,6 @@ returns-in_default g c =
       state = record {
         listed = r.state.listed ∙ stays;
         cells = r.state.cells;
+        pruned = r.state.pruned;
       };
     }

@@ -38,10 +38,7 @@ returns-in_err-shown-clause-err g c =
     record {
       rule = now.rule;
       registered = now.registered;
-      state = c.in_err-shown.ensures.err key_of events (record {
-        listed = now.state.listed;
-        cells = roomier (cell_events key_of events) (table_value inside.table) (map hold_of c.reserve.new.self.items) (ap (map hold_of) c.in_ok-reserve.ensures.items) now.state.cells;
-      });
+      state = c.in_err-shown.ensures.err key_of events (roomier key_of events (map view_value inside.views.items) (table_value inside.table) (map hold_of c.reserve.new.self.items) (ap (map hold_of) c.in_ok-reserve.ensures.items) now.state);
     } in
     refused_for c.from_residual-in_err-shown.result stays
 
@@ -62,10 +59,7 @@ returns-in_err-shown-clause-exhausted g c =
     let now = seen g.R.KeyRule.gives key_of events _ _ c.self.view_is r in
     let found = ap (λ (vs : List View). position (λ v. is_view c.args.id (view_value v)) vs) (sym c.deref.ensures.value) ∙ sym c.place_of.ensures ∙ c.in-Some.is in
     let is : c.in_err-shown.field-0.0 ≡ NumbersExhausted = search rules in
-    c.in_err-shown.ensures.exhausted key_of events c.args.id now.rule found (record {
-      listed = now.state.listed;
-      cells = roomier (cell_events key_of events) (table_value inside.table) (map hold_of c.reserve.new.self.items) (ap (map hold_of) c.in_ok-reserve.ensures.items) now.state.cells;
-    }) (ap Err is)
+    c.in_err-shown.ensures.exhausted key_of events c.args.id now.rule found (roomier key_of events (map view_value inside.views.items) (table_value inside.table) (map hold_of c.reserve.new.self.items) (ap (map hold_of) c.in_ok-reserve.ensures.items) now.state) (ap Err is)
 
 pub returns-clause-ok : goal.returns-clause-ok
 returns-clause-ok g c =
@@ -75,16 +69,13 @@ returns-clause-ok g c =
     let found = ap (λ (vs : List View). position (λ v. is_view c.args.id (view_value v)) vs) (sym c.deref.ensures.value) ∙ sym c.place_of.ensures ∙ c.in-Some.is in
     let has = ap (has_view c.args.id) (sym now.state.listed) ∙ found_view view_value c.args.id inside.views.items c.in-Some.place found in
     let state : IsStateAfter key_of events (map view_value inside.views.items) (record (table_value inside.table) { held = map hold_of c.reserve.new.self.items })
-    = record {
-      listed = now.state.listed;
-      cells = roomier (cell_events key_of events) (table_value inside.table) (map hold_of c.reserve.new.self.items) (ap (map hold_of) c.in_ok-reserve.ensures.items) now.state.cells;
-    } in
+    = roomier key_of events (map view_value inside.views.items) (table_value inside.table) (map hold_of c.reserve.new.self.items) (ap (map hold_of) c.in_ok-reserve.ensures.items) now.state in
     record {
       rule = now.rule;
       registered = now.registered;
       state =
           shows key_of events c.args.id c.args.generation c.args.members.keys c.in_ok-shown.shown (map view_value c.replace.new.views.items) (table_value c.replace.new.table)
-          (table_value c.hold.new.self) (c.in_ok-shown.ensures.ok key_of events c.args.id now.rule found state) has c.hold.ensures;
+          (table_value c.hold.new.self) (c.in_ok-shown.ensures.ok key_of events c.args.id now.rule found state) has c.hold.ensures.after c.hold.ensures.pruned;
     }
 
 pub returns-clause-cells : goal.returns-clause-cells
@@ -93,10 +84,7 @@ returns-clause-cells g c =
     let inside = c.self.inside in
     let now = seen g.R.KeyRule.gives key_of events _ _ c.self.view_is r in
     let found = ap (λ (vs : List View). position (λ v. is_view c.args.id (view_value v)) vs) (sym c.deref.ensures.value) ∙ sym c.place_of.ensures ∙ c.in-Some.is in
-    (c.in_ok-shown.ensures.ok key_of events c.args.id now.rule found (record {
-      listed = now.state.listed;
-      cells = roomier (cell_events key_of events) (table_value inside.table) (map hold_of c.reserve.new.self.items) (ap (map hold_of) c.in_ok-reserve.ensures.items) now.state.cells;
-    })).cells.pairs
+    (c.in_ok-shown.ensures.ok key_of events c.args.id now.rule found (roomier key_of events (map view_value inside.views.items) (table_value inside.table) (map hold_of c.reserve.new.self.items) (ap (map hold_of) c.in_ok-reserve.ensures.items) now.state)).cells.pairs
 
 pub returns-clause-unknown : goal.returns-clause-unknown
 returns-clause-unknown g c =

@@ -5,20 +5,36 @@ use Rattle.lb_registry.specs.Table.{table_value, IsTableAfter}
 use Rattle.lb_registry.proofs.TableLemmas.{started-none, started-more, refused-stays, refused_for}
 use Rattle.lb_registry.proofs.table.CellTable.change.Goals as goal
 
-pub returns-clause-ok : goal.returns-clause-ok
-returns-clause-ok g c =
+pub returns-in-Ok-clause-ok : goal.returns-in-Ok-clause-ok
+returns-in-Ok-clause-ok g c =
     λ events table.
     let t = table_value c.args.self.now in
     let none = started-none g.met.K.Ord.total events t table in
     c.commit.ensures.after events (Changed c.args.keys.now ∷ events)
-    (started-more g.met.K.Ord.total events events c.args.keys.now t t.by_key c.in_ok-numbering.numbering.by_key.entries t.next c.in_ok-numbering.numbering.next
-    c.renumbered.new.cells.entries none c.renumbered.ensures.others (c.in_ok-numbering.ensures.ok (changes events) table.numbering)
-    (c.in_ok-numbering.ensures.stored (changes events) (given_after (eq_by_cmp g.K.Ord.cmp) events) table.numbering none.stored))
+    (started-more g.met.K.Ord.total events events c.args.keys.now t t.by_key c.in-Ok.numbering.by_key.entries t.next c.in-Ok.numbering.next
+    c.renumbered.new.cells.entries none c.renumbered.ensures.others (c.in-Ok.ensures.ok (changes events) table.numbering)
+    (c.in-Ok.ensures.stored (changes events) (given_after (eq_by_cmp g.K.Ord.cmp) events) table.numbering none.stored))
 
-pub returns-in_err-numbering-clause-err : goal.returns-in_err-numbering-clause-err
-returns-in_err-numbering-clause-err g c =
+pub returns-in-Ok-clause-pruned : goal.returns-in-Ok-clause-pruned
+returns-in-Ok-clause-pruned g c =
+    λ events table.
     let t = table_value c.args.self.now in
-    let stays : (events : List (CellEvent g.row.K.Denot)) → IsTableAfter g.K.Ord.cmp events t → IsTableAfter g.K.Ord.cmp events (record t { cells = c.renumbered.new.cells.entries })
-    = λ events table.
-    refused-stays g.met.K.Ord.total events events t t.by_key t.next c.renumbered.new.cells.entries (started-none g.met.K.Ord.total events t table) c.renumbered.ensures.others in
-    refused_for c.from_residual.result stays
+    let none = started-none g.met.K.Ord.total events t table in
+    c.commit.ensures.pruned events (Changed c.args.keys.now ∷ events)
+    (started-more g.met.K.Ord.total events events c.args.keys.now t t.by_key c.in-Ok.numbering.by_key.entries t.next c.in-Ok.numbering.next
+    c.renumbered.new.cells.entries none c.renumbered.ensures.others (c.in-Ok.ensures.ok (changes events) table.numbering)
+    (c.in-Ok.ensures.stored (changes events) (given_after (eq_by_cmp g.K.Ord.cmp) events) table.numbering none.stored))
+
+pub returns-in-Err-clause-err : goal.returns-in-Err-clause-err
+returns-in-Err-clause-err g c =
+    λ events table.
+    let t = table_value c.args.self.now in
+    c.prune.ensures.after events
+    (refused-stays g.met.K.Ord.total events events t t.by_key t.next c.renumbered.new.cells.entries (started-none g.met.K.Ord.total events t table) c.renumbered.ensures.others)
+
+pub returns-in-Err-clause-pruned_err : goal.returns-in-Err-clause-pruned_err
+returns-in-Err-clause-pruned_err g c =
+    λ events table.
+    let t = table_value c.args.self.now in
+    c.prune.ensures.pruned events
+    (refused-stays g.met.K.Ord.total events events t t.by_key t.next c.renumbered.new.cells.entries (started-none g.met.K.Ord.total events t table) c.renumbered.ensures.others)

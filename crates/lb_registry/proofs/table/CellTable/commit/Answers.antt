@@ -7,3 +7,9 @@ returns-clause-after g c =
     λ events later s.
     c.prune.ensures.after later
     (committed g.met.K.Ord.total events later (table_value c.args.self.now) c.args.numbering.by_key.entries c.args.numbering.next s)
+
+pub returns-clause-pruned : goal.returns-clause-pruned
+returns-clause-pruned g c =
+    λ events later s.
+    c.prune.ensures.pruned later
+    (committed g.met.K.Ord.total events later (table_value c.args.self.now) c.args.numbering.by_key.entries c.args.numbering.next s)

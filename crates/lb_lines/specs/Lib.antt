@@ -1,0 +1,3 @@
+pub mod Lines
+pub use Rattle.lb_counted.specs.Counted
+pub use Rattle.lb_counted.specs.Stream

@@ -1,0 +1,14 @@
+use Rattle.std.proofs.Common.{◌≡◌, ℕ, ◌+◌, List, []}
+use Rattle.lb_counted.specs.Stream.{Takes}
+use Rattle.lb_check.proofs.Streams.{OnBytes-then}
+use Rattle.lb_report.proofs.RestLemmas.{takes_more}
+use Rattle.lb_report.proofs.stored.count_rest.Goals as goal
+
+pub loop-count-preserved : goal.loop-count-preserved
+loop-count-preserved g c =
+    let count = c.loop-count.count in
+    let more = c.in-Ok.some in
+    let P : List ℕ → List ℕ → Type 0 = Takes count in
+    let Q : List ℕ → List ℕ → Type 0 = λ s t. Takes more s t × (more ≡ 0 → t ≡ []) in
+    let S : List ℕ → List ℕ → Type 0 = Takes (count + more) in
+    OnBytes-then P Q S _ _ _ c.loop-count.invariant c.in-Ok.ensures.bytes (λ x y z p q. takes_more count more x y z p q.0)

@@ -1,0 +1,4 @@
+pub mod BackendsLemmas
+pub mod NumbersLemmas
+pub mod ParseLemmas
+pub mod WordsLemmas

@@ -1,0 +1,5 @@
+pub mod LineSteps
+pub mod Numbers
+pub mod StepLines
+pub mod Texts
+pub mod Words

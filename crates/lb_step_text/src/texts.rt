@@ -1,0 +1,82 @@
+//! The texts of answers, and of the last line of a script that ends early.
+//! Texts are appended to bytes that are used again, so that a line takes no memory once these have grown.
+ghost use Rattle.std.specs.Prelude.{◌≡◌, ◌++◌, codes, decimal, OnOk};
+ghost use Rattle.lb_step_text.specs.Texts.{readers_text, refusal_text, answer_text};
+
+use crate::backend_text::push_backend;
+use itoa::Buffer;
+use lb_select::refusal::Refusal;
+use lb_world::answer::Answer;
+use std::alloc::{AllocError, Global};
+
+/// Appends the text of an answer, without a line feed.
+pub fn push_answer(alloc: Global, text: &mut Vec<u8>, answer: &Answer) -> Result<(), AllocError>
+    ensures { OnOk result (text.new.items ≡ text.old.items ++ answer_text answer.now) }
+{
+    match answer {
+        Answer::Registry(n) => push_numbered(text, b"registry ", *n),
+        Answer::Gate(n) => push_numbered(text, b"gate ", *n),
+        Answer::Group(n) => push_numbered(text, b"group ", *n),
+        Answer::Generation(n) => push_numbered(text, b"generation ", *n),
+        Answer::Same(n) => push_numbered(text, b"same ", *n),
+        Answer::Build(n) => push_numbered(text, b"build ", *n),
+        Answer::Busy => text.extend_from_slice(b"busy"),
+        Answer::Idle => text.extend_from_slice(b"idle"),
+        Answer::Building => text.extend_from_slice(b"building"),
+        Answer::Built(n) => push_numbered(text, b"built ", *n),
+        Answer::BuildFailed(n, refusal) => push_failure(text, *n, refusal),
+        Answer::Published(n) => push_numbered(text, b"published ", *n),
+        Answer::Reader(n) => push_numbered(text, b"reader ", *n),
+        Answer::Left => text.extend_from_slice(b"left"),
+        Answer::Destroyed => text.extend_from_slice(b"destroyed"),
+        Answer::Backend(backend) => {
+            text.extend_from_slice(b"backend ")?;
+            push_backend(alloc, text, backend)
+        },
+        Answer::NoBackend => text.extend_from_slice(b"none"),
+        Answer::Refused(refusal) => push_refused(text, refusal),
+    }
+}
+
+// Words and a number.
+fn push_numbered(text: &mut Vec<u8>, words: &[u8], n: u64) -> Result<(), AllocError>
+    ensures { OnOk result (text.new.items ≡ text.old.items ++ (words.now ++ decimal n)) }
+{
+    let mut buffer = Buffer::new();
+    text.extend_from_slice(words)?;
+    text.extend_from_slice(buffer.format(n).as_bytes())
+}
+
+fn push_failure(text: &mut Vec<u8>, n: u64, refusal: &Refusal) -> Result<(), AllocError>
+    ensures { OnOk result (text.new.items ≡ text.old.items ++ (codes "failed " ++ decimal n ++ codes " " ++ refusal_text refusal.now)) }
+{
+    push_numbered(text, b"failed ", n)?;
+    text.extend_from_slice(b" ")?;
+    push_refusal(text, refusal)
+}
+
+fn push_refused(text: &mut Vec<u8>, refusal: &Refusal) -> Result<(), AllocError>
+    ensures { OnOk result (text.new.items ≡ text.old.items ++ (codes "refused " ++ refusal_text refusal.now)) }
+{
+    text.extend_from_slice(b"refused ")?;
+    push_refusal(text, refusal)
+}
+
+// The number and the name, and the number of readers where they are the reason.
+fn push_refusal(text: &mut Vec<u8>, refusal: &Refusal) -> Result<(), AllocError>
+    ensures { OnOk result (text.new.items ≡ text.old.items ++ refusal_text refusal.now) }
+{
+    push_numbered(text, b"", refusal.number())?;
+    text.extend_from_slice(b" ")?;
+    text.extend_from_slice(refusal.name().as_bytes())?;
+    push_readers(text, refusal)
+}
+
+fn push_readers(text: &mut Vec<u8>, refusal: &Refusal) -> Result<(), AllocError>
+    ensures { OnOk result (text.new.items ≡ text.old.items ++ readers_text refusal.now) }
+{
+    match refusal {
+        Refusal::StillRead(readers) => push_numbered(text, b" ", *readers),
+        _ => Ok(()),
+    }
+}
