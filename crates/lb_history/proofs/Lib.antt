@@ -15,3 +15,4 @@ pub mod Totals
 pub mod Holding
 pub mod Living
 pub mod Rows
+pub mod Sharing

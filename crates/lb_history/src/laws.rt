@@ -7,7 +7,7 @@ ghost use Rattle.lb_group.specs.GroupHistory.{IsPast};
 ghost use Rattle.lb_history.specs.Answers.{IsRun};
 ghost use Rattle.lb_history.specs.History.{History, made_at, registry_of, past};
 ghost use Rattle.lb_history.specs.Meanings.{meaning_of};
-ghost use Rattle.lb_history.specs.Promises.{Promised, NeverFalls, Raises, DestroysExactly, OthersStay, Untouched, ViewFollows, LivesExactly, JudgedBy};
+ghost use Rattle.lb_history.specs.Promises.{Promised, NeverFalls, Raises, DestroysExactly, SharesAlike, OthersStay, Untouched, ViewFollows, LivesExactly, JudgedBy};
 ghost use Rattle.lb_history.specs.Selected.{FirstAccepted};
 ghost use Rattle.lb_history.specs.Replies.{Answer};
 ghost use Rattle.lb_history.specs.Shared.{key_of, events_in, view_events};
@@ -48,12 +48,14 @@ pub fn generations_do_not_mix<S: BackendSelection>()
 {}
 
 /// A publication raises what its slot serves, to the generation that it tells; a retired selector is destroyed exactly where no
-/// reader is in it, and else it is told how many are.
+/// reader is in it, and else it is told how many are; and what a step does to a registry is what the calls of a view do to theirs.
 pub fn steps_tell<S: BackendSelection>()
     ensures raises { (h : History S.Config) (st : Step S.Config) (a : Answer) → IsRun (meaning_of S.BackendSelection) ((st, a) ∷ h)
         → Raises h st a }
     ensures destroys { (h : History S.Config) (st : Step S.Config) (a : Answer) → IsRun (meaning_of S.BackendSelection) ((st, a) ∷ h)
         → DestroysExactly h st a }
+    ensures shares { (h : History S.Config) (st : Step S.Config) (a : Answer) → IsRun (meaning_of S.BackendSelection) ((st, a) ∷ h)
+        → SharesAlike h st a }
 {}
 
 /// After every step: one extra for each gate, pointwise and counted; the ledger; exact readers; each selector's members are those
