@@ -38,8 +38,9 @@ pub fn selections_answer_the_first<S: BackendSelection>()
 {}
 
 /// A group's view is at the group's newest generation and membership, and each snapshot that lives has the members and the cells of
-/// its own generation; it lives exactly while it is the newest or some slot holds it. So readiness in a generation is by that generation's members, by the cells that they had when it was shown, and
-/// by the flags as they are: no answer mixes one generation's membership or cells with another's.
+/// its own generation; it lives exactly while it is the newest or some slot holds it. So readiness in a generation is by that
+/// generation's members, by the cells that they had when it was shown, and by the flags as they are: no answer mixes one
+/// generation's membership or cells with another's.
 pub fn generations_do_not_mix<S: BackendSelection>()
     ensures views { (h : History S.Config) → IsRun (meaning_of S.BackendSelection) h → (g : ℕ) → ViewFollows g h }
     ensures lives { (h : History S.Config) → IsRun (meaning_of S.BackendSelection) h → LivesExactly h }
