@@ -16,3 +16,4 @@ pub mod Holding
 pub mod Living
 pub mod Rows
 pub mod Sharing
+pub mod Numbering

@@ -1,16 +1,17 @@
 //! Laws of every run of a world: each is what its function ensures, over histories alone.
 //! There is no code here and no world: whatever answers as a run does keeps them.
-ghost use Rattle.std.specs.Prelude.{◌≡◌, ◌∷◌, ℕ, None};
+ghost use Rattle.std.specs.Prelude.{◌≡◌, ◌<◌, ◌∷◌, ℕ, length, None};
 ghost use Rattle.lb_select.specs.Backends.{Member};
+ghost use Rattle.lb_registry.specs.RegistryEvents.{registered_after};
 ghost use Rattle.lb_health.specs.Joined.{IsReady};
 ghost use Rattle.lb_group.specs.GroupHistory.{IsPast};
 ghost use Rattle.lb_history.specs.Answers.{IsRun};
-ghost use Rattle.lb_history.specs.History.{History, made_at, registry_of, past};
+ghost use Rattle.lb_history.specs.History.{History, registries, made, over, made_at, registry_of, past};
 ghost use Rattle.lb_history.specs.Meanings.{meaning_of};
 ghost use Rattle.lb_history.specs.Promises.{Promised, NeverFalls, Raises, DestroysExactly, SharesAlike, OthersStay, Untouched, ViewFollows, LivesExactly, JudgedBy};
 ghost use Rattle.lb_history.specs.Selected.{FirstAccepted};
 ghost use Rattle.lb_history.specs.Replies.{Answer};
-ghost use Rattle.lb_history.specs.Shared.{key_of, events_in, view_events};
+ghost use Rattle.lb_history.specs.Shared.{key_of, events_in, registry_events, view_events};
 ghost use Rattle.lb_history.specs.Steps.{Step};
 
 use lb_select::walk::BackendSelection;
@@ -46,6 +47,12 @@ pub fn generations_do_not_mix<S: BackendSelection>()
     ensures lives { (h : History S.Config) → IsRun (meaning_of S.BackendSelection) h → LivesExactly h }
     ensures judged { (h : History S.Config) → IsRun (meaning_of S.BackendSelection) h → (g n : ℕ) (b : Member)
         → IsReady (key_of g h) (view_events g h) (events_in (registry_of g h) h) n b → JudgedBy g n b h }
+{}
+
+/// A registry has registered as many views as groups were made over it, so the number of a group's view is its number there.
+pub fn views_are_numbered<S: BackendSelection>()
+    ensures { (h : History S.Config) → IsRun (meaning_of S.BackendSelection) h → (r : ℕ) → r < length (registries h)
+        → registered_after (registry_events r h) ≡ over r (made h) }
 {}
 
 /// A publication raises what its slot serves, to the generation that it tells; a retired selector is destroyed exactly where no
