@@ -145,7 +145,7 @@ left-told None n h = absurd (cc)
 left-told (Some None) n h = absurd (cc)
 left-told (Some (Some e)) n h = (e, (refl, cc))
 
-earlier-none : (a b : Option Refusal) → earlier a b ≡ None → a ≡ None
+pub earlier-none : (a b : Option Refusal) → earlier a b ≡ None → a ≡ None
 earlier-none None b e = refl
 earlier-none (Some r) None e = e
 earlier-none (Some r) (Some q) e = absurd (lesser (nat_lt (refusal_number q) (refusal_number r)) e)

@@ -14,3 +14,6 @@ pub mod Joining
 pub mod Totals
 pub mod Holding
 pub mod Living
+pub mod Rows
+pub mod Sharing
+pub mod Numbering

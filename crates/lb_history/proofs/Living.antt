@@ -49,7 +49,7 @@ place-kept s e k same n r =
     (λ off. ap (λ (p : group.History). holds n p) (past-other r s e k off))
 
 -- settings leave the snapshots
-settings-leave : (settings : List (Member × Bool)) (views : List ViewEvent) → snapshots_after (after_settings settings views) ≡ snapshots_after views
+pub settings-leave : (settings : List (Member × Bool)) (views : List ViewEvent) → snapshots_after (after_settings settings views) ≡ snapshots_after views
 settings-leave [] views = refl
 settings-leave (e ∷ rest) views =
     settings-leave rest _ ∙ either (list_any (same_member e.0) (membership_after views)) e views

@@ -3,7 +3,6 @@ pub mod History
 pub mod Meanings
 pub mod Promises
 pub mod Replies
-pub mod Rows
 pub mod Selected
 pub mod Shared
 pub mod Steps

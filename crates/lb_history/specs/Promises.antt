@@ -6,7 +6,7 @@ use Rattle.std.specs.Option.{IsSomeAnd}
 use Rattle.lb_select.specs.Backends.{Member, same_member}
 use Rattle.lb_select.specs.declared.refusal.Refusal.TheVariants as refusal
 use Rattle.lb_registry.specs.RegistryEvents.{IsCellKept, cell_health}
-use Rattle.lb_health.specs.Joined.{lives}
+use Rattle.lb_health.specs.Joined.{lives, registry_released, registry_updated}
 use Rattle.lb_health.specs.Snapshots.{SnapshotValue, value_at}
 use Rattle.lb_health.specs.ViewEvents.{generation_after, membership_after, snapshots_after, flag_after}
 use Rattle.lb_group.specs.GroupHistory as group
@@ -16,8 +16,8 @@ use Rattle.lb_history.specs.Steps as step
 use Rattle.lb_history.specs.Replies.{Answer}
 use Rattle.lb_history.specs.Replies as answer
 use Rattle.lb_history.specs.Meanings.{Meaning}
-use Rattle.lb_history.specs.History.{History, Made, idle, is_at, reads, made, made_at, slot_gate, gate_in, entries, group_at, work, group_events, past, is_grant, is_failure, is_destruction, is_out, registry_of}
-use Rattle.lb_history.specs.Shared.{is_live, key_of, events_in, cells_of, registry_at, registry_events, view_events}
+use Rattle.lb_history.specs.History.{History, Made, idle, is_at, members_in, reads, made, made_at, slot_gate, gate_in, entries, group_at, work, group_events, past, is_grant, is_failure, is_destruction, is_out, registry_of}
+use Rattle.lb_history.specs.Shared.{is_live, extra_at, key_of, events_in, cells_of, registry_at, registry_events, view_events}
 use Rattle.lb_history.specs.Answers.{answer_after}
 
 module _ {C : Type 0} where
@@ -120,6 +120,26 @@ module _ {C : Type 0} where
   LivesExactly h =
       (g : ℕ) (m : Made C) → made_at g h ≡ Some m → (n : ℕ)
       → lives n (snapshots_after (view_events g h)) ≡ is_live n m.configs (group_events g h)
+
+  -- What a step does to a group's registry is what the view's own calls do to theirs: an update, and the end of a hold.
+  abbrev pub SharesAlike : History C → Step C → Answer → Type 0
+  SharesAlike h (step.update g now listings) (answer.Generation n) =
+      (m : Made C) → made_at g h ≡ Some m
+      → registry_events m.registry ((step.update g now listings, answer.Generation n) ∷ h)
+      ≡ registry_updated (key_of g h) m.view (members_in listings) (view_events g h) (registry_events m.registry h)
+  SharesAlike h (step.build g s now) (answer.BuildFailed n r) =
+      (m : Made C) → made_at g h ≡ Some m
+      → registry_events m.registry ((step.build g s now, answer.BuildFailed n r) ∷ h)
+      ≡ registry_released m.view (extra_at g s h) (view_events g h) (registry_events m.registry h)
+  SharesAlike h (step.failbuild g s now) (answer.Failed n) =
+      (m : Made C) → made_at g h ≡ Some m
+      → registry_events m.registry ((step.failbuild g s now, answer.Failed n) ∷ h)
+      ≡ registry_released m.view (extra_at g s h) (view_events g h) (registry_events m.registry h)
+  SharesAlike h (step.destroy g s) answer.Destroyed =
+      (m : Made C) → made_at g h ≡ Some m
+      → registry_events m.registry ((step.destroy g s, answer.Destroyed) ∷ h)
+      ≡ registry_released m.view (extra_at g s h) (view_events g h) (registry_events m.registry h)
+  SharesAlike h st a = Unit {0}
 
   -- A backend is judged ready in a generation only by the members and the cells of that generation.
   pub record JudgedBy (g n : ℕ) (b : Member) (h : History C) : Type 0 where

@@ -1,16 +1,17 @@
 //! Laws of every run of a world: each is what its function ensures, over histories alone.
 //! There is no code here and no world: whatever answers as a run does keeps them.
-ghost use Rattle.std.specs.Prelude.{◌≡◌, ◌∷◌, ℕ, None};
+ghost use Rattle.std.specs.Prelude.{◌≡◌, ◌<◌, ◌∷◌, ℕ, length, None};
 ghost use Rattle.lb_select.specs.Backends.{Member};
+ghost use Rattle.lb_registry.specs.RegistryEvents.{registered_after};
 ghost use Rattle.lb_health.specs.Joined.{IsReady};
 ghost use Rattle.lb_group.specs.GroupHistory.{IsPast};
 ghost use Rattle.lb_history.specs.Answers.{IsRun};
-ghost use Rattle.lb_history.specs.History.{History, made_at, registry_of, past};
+ghost use Rattle.lb_history.specs.History.{History, registries, made, over, made_at, registry_of, past};
 ghost use Rattle.lb_history.specs.Meanings.{meaning_of};
-ghost use Rattle.lb_history.specs.Promises.{Promised, NeverFalls, Raises, DestroysExactly, OthersStay, Untouched, ViewFollows, LivesExactly, JudgedBy};
+ghost use Rattle.lb_history.specs.Promises.{Promised, NeverFalls, Raises, DestroysExactly, SharesAlike, OthersStay, Untouched, ViewFollows, LivesExactly, JudgedBy};
 ghost use Rattle.lb_history.specs.Selected.{FirstAccepted};
 ghost use Rattle.lb_history.specs.Replies.{Answer};
-ghost use Rattle.lb_history.specs.Shared.{key_of, events_in, view_events};
+ghost use Rattle.lb_history.specs.Shared.{key_of, events_in, registry_events, view_events};
 ghost use Rattle.lb_history.specs.Steps.{Step};
 
 use lb_select::walk::BackendSelection;
@@ -38,8 +39,9 @@ pub fn selections_answer_the_first<S: BackendSelection>()
 {}
 
 /// A group's view is at the group's newest generation and membership, and each snapshot that lives has the members and the cells of
-/// its own generation; it lives exactly while it is the newest or some slot holds it. So readiness in a generation is by that generation's members, by the cells that they had when it was shown, and
-/// by the flags as they are: no answer mixes one generation's membership or cells with another's.
+/// its own generation; it lives exactly while it is the newest or some slot holds it. So readiness in a generation is by that
+/// generation's members, by the cells that they had when it was shown, and by the flags as they are: no answer mixes one
+/// generation's membership or cells with another's.
 pub fn generations_do_not_mix<S: BackendSelection>()
     ensures views { (h : History S.Config) → IsRun (meaning_of S.BackendSelection) h → (g : ℕ) → ViewFollows g h }
     ensures lives { (h : History S.Config) → IsRun (meaning_of S.BackendSelection) h → LivesExactly h }
@@ -47,13 +49,21 @@ pub fn generations_do_not_mix<S: BackendSelection>()
         → IsReady (key_of g h) (view_events g h) (events_in (registry_of g h) h) n b → JudgedBy g n b h }
 {}
 
+/// A registry has registered as many views as groups were made over it, so the number of a group's view is its number there.
+pub fn views_are_numbered<S: BackendSelection>()
+    ensures { (h : History S.Config) → IsRun (meaning_of S.BackendSelection) h → (r : ℕ) → r < length (registries h)
+        → registered_after (registry_events r h) ≡ over r (made h) }
+{}
+
 /// A publication raises what its slot serves, to the generation that it tells; a retired selector is destroyed exactly where no
-/// reader is in it, and else it is told how many are.
+/// reader is in it, and else it is told how many are; and what a step does to a registry is what the calls of a view do to theirs.
 pub fn steps_tell<S: BackendSelection>()
     ensures raises { (h : History S.Config) (st : Step S.Config) (a : Answer) → IsRun (meaning_of S.BackendSelection) ((st, a) ∷ h)
         → Raises h st a }
     ensures destroys { (h : History S.Config) (st : Step S.Config) (a : Answer) → IsRun (meaning_of S.BackendSelection) ((st, a) ∷ h)
         → DestroysExactly h st a }
+    ensures shares { (h : History S.Config) (st : Step S.Config) (a : Answer) → IsRun (meaning_of S.BackendSelection) ((st, a) ∷ h)
+        → SharesAlike h st a }
 {}
 
 /// After every step: one extra for each gate, pointwise and counted; the ledger; exact readers; each selector's members are those

@@ -1,6 +1,7 @@
 -- By cases on the step.
 use Rattle.lb_history.specs.Meanings.{meaning_of}
 use Rattle.lb_history.proofs.Steps.{raises, destroys}
+use Rattle.lb_history.proofs.Sharing.{shares}
 use Rattle.lb_history.proofs.laws.steps_tell.Goals as goal
 
 pub returns-clause-raises : goal.returns-clause-raises
@@ -8,3 +9,6 @@ returns-clause-raises g c = λ h st a run. raises (meaning_of g.S.BackendSelecti
 
 pub returns-clause-destroys : goal.returns-clause-destroys
 returns-clause-destroys g c = λ h st a run. destroys (meaning_of g.S.BackendSelection) h st a run
+
+pub returns-clause-shares : goal.returns-clause-shares
+returns-clause-shares g c = λ h st a run. shares (meaning_of g.S.BackendSelection) h st a run
