@@ -3,7 +3,8 @@ use Rattle.std.specs.Prelude.{◌≡◌, ◌≢◌, ℕ, ◌<◌, ◌≤◌, ◌
 use Rattle.http.specs.declared.response.Parts.{Parts}
 use Rattle.httparse.specs.Grammar.{ResponseHead, status_code}
 use Rattle.lb_probe.specs.declared.error.CheckError.{CheckError}
-use Rattle.lb_probe.specs.declared.error.CheckError.TheVariants.{BadHead, HeadTooLarge, Interim, Status, Rejected, BadFraming, EndInMessage, BodyTooLarge, Write, Read, OutOfMemory}
+use Rattle.lb_probe.specs.declared.error.CheckError.TheVariants.{BadHead, HeadTooLarge, Interim, Status, Rejected, BadFraming}
+use Rattle.lb_probe.specs.declared.error.CheckError.TheVariants.{EndInMessage, BodyTooLarge, Write, Read, OutOfMemory}
 use Rattle.lb_check.specs.declared.framing.Framing.{Framing}
 use Rattle.lb_check.specs.Head.{BeginsWithHead, HasBadHead, HasLargeHead, EndsInHead}
 use Rattle.lb_check.specs.Parts.{parts_of}

@@ -93,7 +93,8 @@ pub fn check_over<V: Validate, R: Read, W: Write>(
     requires writer { has_failed writer.old ≡ false }
     ensures outcome { result ≢ Err CheckError.Write → OnBytes (R.remaining (inner_of reader.old)) (R.remaining (inner_of reader.new))
         (CheckOutcome (asks_for_head (head_of req.now)) max_body_bytes (accepts_of V.accepts validator.now) result) }
-    ensures written { OnOk result (Appends (W.contents (inner_of writer.old)) (W.contents (inner_of writer.new)) (text_of (head_of req.now))) }
+    ensures written { OnOk result (Appends (W.contents (inner_of writer.old)) (W.contents (inner_of writer.new))
+        (text_of (head_of req.now))) }
     ensures flushed { OnOk result (is_flushed writer.new ≡ true) }
     ensures only { OnBytes (R.remaining (inner_of reader.old)) (R.remaining (inner_of reader.new)) (λ stream rest.
         (other : List ℕ) → IsGood (asks_for_head (head_of req.now)) max_body_bytes (accepts_of V.accepts validator.now) stream other

@@ -1,13 +1,17 @@
 -- What the calls on a group answer after its history, and which events they add to it. An answer is told by cases; the events
 -- are a function of the call and its answer, so that what two calls did one after the other is the one list before the other.
-use Rattle.std.specs.Prelude.{◌≡◌, ◌==◌, ◌&&◌, ◌||◌, ◌+◌, ◌<◌, ◌≤◌, ◌^◌, ◌⊎◌, ℕ, Bool, true, false, not, nat_lt, List, [], ◌∷◌, map, length, slice_get, Option, Some, None, Result, Ok, Err, MatchOption, if◌then◌else◌}
+use Rattle.std.specs.Prelude.{◌≡◌, ◌==◌, ◌&&◌, ◌||◌, ◌+◌, ◌<◌, ◌≤◌, ◌^◌, ◌⊎◌, ℕ, Bool, true, false, not, nat_lt, List, [], ◌∷◌, map}
+use Rattle.std.specs.Prelude.{length, slice_get, Option, Some, None, Result, Ok, Err, MatchOption, if◌then◌else◌}
 use Rattle.lb_select.specs.Backends.{Member}
 use Rattle.lb_select.specs.Draws.{Draw}
 use Rattle.lb_select.specs.Memberships.{same_members}
 use Rattle.lb_select.specs.declared.refusal.Refusal.{Refusal}
 use Rattle.lb_select.specs.declared.refusal.Refusal.TheVariants as refusal
 use Rattle.lb_rebuild.specs.Gate.{GateId, GateView, gate}
-use Rattle.lb_group.specs.GroupHistory.{SlotEvent, Granted, Failed, Published, Abandoned, Drew, Scheduled, At, History, past_of, newest, members_of, is_cancelled, order_members, served, served_members, is_flight, is_aloft, is_taken_out, taken_out_number, generation_of, extra, waits, readers, drawn, AskAnswer, cancelled, building, up_to_date, not_due, busy, job, ask_answer}
+use Rattle.lb_group.specs.GroupHistory.{SlotEvent, Granted, Failed, Published, Abandoned, Drew, Scheduled, At, History, past_of, newest}
+use Rattle.lb_group.specs.GroupHistory.{members_of, is_cancelled, order_members, served, served_members, is_flight, is_aloft}
+use Rattle.lb_group.specs.GroupHistory.{is_taken_out, taken_out_number, generation_of, extra, waits, readers, drawn, AskAnswer, cancelled}
+use Rattle.lb_group.specs.GroupHistory.{building, up_to_date, not_due, busy, job, ask_answer}
 use Rattle.lb_group.specs.Orders.{order_for}
 use Rattle.lb_group.specs.Values.{Task, BuiltValue, RetiredValue, ReaderValue, SlotValue, PreparedValue, GroupValue, configs_of}
 use Rattle.lb_group.specs.Stands.{Made, left_readers}

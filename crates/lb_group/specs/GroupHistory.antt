@@ -1,5 +1,6 @@
 -- What happens to a group, and what can be seen of its slots after it: each as one short recursion over the events.
-use Rattle.std.specs.Prelude.{◌≡◌, ◌==◌, ◌&&◌, ◌||◌, ◌+◌, ◌-◌, ◌*◌, ◌^◌, ◌<◌, ℕ, Bool, true, false, not, min, max, nat_lt, List, [], ◌∷◌, filter, Option, Some, None, if◌then◌else◌}
+use Rattle.std.specs.Prelude.{◌≡◌, ◌==◌, ◌&&◌, ◌||◌, ◌+◌, ◌-◌, ◌*◌, ◌^◌, ◌<◌, ℕ, Bool, true, false, not, min, max, nat_lt, List, [], ◌∷◌}
+use Rattle.std.specs.Prelude.{filter, Option, Some, None, if◌then◌else◌}
 use Rattle.lb_select.specs.Backends.{Member}
 use Rattle.lb_group.specs.declared.answers.Timing.{Timing}
 

@@ -1,6 +1,9 @@
 -- What holds of every history of a group that can be.
 use Rattle.std.specs.Prelude.{◌≡◌, ◌+◌, ◌≤◌, ◌<◌, ℕ, zero, suc, Bool, true, false, [], ◌∷◌}
-use Rattle.lb_group.specs.GroupHistory.{Granted, Failed, Published, Destroyed, GroupEvent, At, History, past_of, newest, members_of, is_cancelled, granted, granted_members, served, served_members, order_members, is_aloft, is_flight, is_extra, extra, waits, published, coalesced, superseded, due_moment, AskAnswer, cancelled, building, up_to_date, not_due, busy, job, ask_answer}
+use Rattle.lb_group.specs.GroupHistory.{Granted, Failed, Published, Destroyed, GroupEvent, At, History, past_of, newest, members_of}
+use Rattle.lb_group.specs.GroupHistory.{is_cancelled, granted, granted_members, served, served_members, order_members, is_aloft}
+use Rattle.lb_group.specs.GroupHistory.{is_flight, is_extra, extra, waits, published, coalesced, superseded, due_moment, AskAnswer}
+use Rattle.lb_group.specs.GroupHistory.{cancelled, building, up_to_date, not_due, busy, job, ask_answer}
 
 abbrev pub number : Bool → ℕ
 number true = 1

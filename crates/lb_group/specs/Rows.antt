@@ -1,7 +1,9 @@
 -- Worked rows of builds, failures, lost workers, cancellation, timing and delays, as equations that compute.
 use Rattle.std.specs.Prelude.{◌≡◌, true, false, List, [], ◌∷◌, map, Some, None, refl}
 use Rattle.lb_select.specs.Backends.{Member}
-use Rattle.lb_group.specs.GroupHistory.{Granted, Failed, Published, Abandoned, WorkerLost, TakenOut, Destroyed, Entered, Left, Scheduled, Cancelled, At, History, past_of, served, extra, flight, waits, readers, retry_delay, timing, cancelled, building, not_due, busy, job, ask_answer}
+use Rattle.lb_group.specs.GroupHistory.{Granted, Failed, Published, Abandoned, WorkerLost, TakenOut, Destroyed, Entered, Left, Scheduled}
+use Rattle.lb_group.specs.GroupHistory.{Cancelled, At, History, past_of, served, extra, flight, waits, readers, retry_delay, timing}
+use Rattle.lb_group.specs.GroupHistory.{cancelled, building, not_due, busy, job, ask_answer}
 use Rattle.lb_group.specs.Stands.{counts_after}
 
 -- the nine delays after failed builds of one generation, in milliseconds

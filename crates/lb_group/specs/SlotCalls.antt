@@ -1,5 +1,6 @@
 -- What the calls on one slot answer and leave, as functions of what contracts see of it.
-use Rattle.std.specs.Prelude.{◌≡◌, ◌==◌, ◌&&◌, ◌||◌, ◌+◌, ◌-◌, ℕ, Bool, true, false, not, min, max, nat_lt, nat_le, MatchBool, List, length, Option, Some, None, is_none, Result, Ok, Err, if◌then◌else◌}
+use Rattle.std.specs.Prelude.{◌≡◌, ◌==◌, ◌&&◌, ◌||◌, ◌+◌, ◌-◌, ℕ, Bool, true, false, not, min, max, nat_lt, nat_le, MatchBool, List}
+use Rattle.std.specs.Prelude.{length, Option, Some, None, is_none, Result, Ok, Err, if◌then◌else◌}
 use Rattle.lb_select.specs.Backends.{Member, same_member}
 use Rattle.lb_select.specs.Draws.{Draw}
 use Rattle.lb_select.specs.Selections.{Selects}
@@ -7,7 +8,9 @@ use Rattle.lb_select.specs.declared.refusal.Refusal.{Refusal}
 use Rattle.lb_select.specs.declared.refusal.Refusal.TheVariants as refusal
 use Rattle.lb_rebuild.specs.Gate.{GateId, GateView, gate}
 use Rattle.lb_group.specs.Drawn.{DrawnValue, DrawnGives}
-use Rattle.lb_group.specs.GroupHistory.{Extra, nothing, flight, lost, retired, taken_out, is_flight, is_extra, is_aloft, is_retired_of, flight_number, generation_of, due_after, AskAnswer, cancelled, building, up_to_date, not_due, busy, job}
+use Rattle.lb_group.specs.GroupHistory.{Extra, nothing, flight, lost, retired, taken_out, is_flight, is_extra, is_aloft, is_retired_of}
+use Rattle.lb_group.specs.GroupHistory.{flight_number, generation_of, due_after, AskAnswer, cancelled, building, up_to_date, not_due}
+use Rattle.lb_group.specs.GroupHistory.{busy, job}
 use Rattle.lb_group.specs.Values.{OrderValue, Task, BuiltValue, RetiredValue, ReaderValue, SlotValue, order_of}
 use Rattle.lb_group.specs.declared.answers.Ask.{Ask}
 use Rattle.lb_group.specs.declared.answers.Ask.TheVariants as asked

@@ -1,7 +1,10 @@
 -- What contracts see of a group is a function of its history.
 use Rattle.std.specs.Prelude.{◌≡◌, ◌+◌, ◌^◌, ◌<◌, ◌&&◌, ℕ, not, List, [], ◌∷◌, ◌++◌, Option, Some, None, if◌then◌else◌}
 use Rattle.lb_rebuild.specs.Gate.{GateId}
-use Rattle.lb_group.specs.GroupHistory.{History, Extra, nothing, flight, lost, retired, taken_out, past_of, newest, members_of, scheduled_at, is_cancelled, granted, asked_at, served, served_members, order_members, extra, is_lost_of, waits, readers, drawn, published, coalesced, superseded, failed, failures, failed_at, timing, IsGroupHistory}
+use Rattle.lb_group.specs.GroupHistory.{History, Extra, nothing, flight, lost, retired, taken_out, past_of, newest, members_of}
+use Rattle.lb_group.specs.GroupHistory.{scheduled_at, is_cancelled, granted, asked_at, served, served_members, order_members, extra}
+use Rattle.lb_group.specs.GroupHistory.{is_lost_of, waits, readers, drawn, published, coalesced, superseded, failed, failures, failed_at}
+use Rattle.lb_group.specs.GroupHistory.{timing, IsGroupHistory}
 use Rattle.lb_group.specs.Values.{OrderValue, SlotValue, GroupValue, configs_of}
 use Rattle.lb_group.specs.declared.answers.Counts.{Counts}
 use Rattle.std.specs.Prelude.{min}

@@ -3,12 +3,17 @@
 ghost use Rattle.std.specs.Prelude.{◌≡◌, ◌++◌, ◌∷◌, [], map, IfOk, slice_get};
 ghost use Rattle.std.specs.Arc.{arc_value};
 ghost use Rattle.lb_select.specs.Refusals.{Refuses, least};
-ghost use Rattle.lb_group.specs.GroupHistory.{History, Scheduled as ScheduledEvent, Cancelled, WorkerLost, Entered, Left, TakenOut, Destroyed, past_of, newest as newest_after, served as served_after, is_cancelled, timing as timing_after};
+ghost use Rattle.lb_group.specs.GroupHistory.{History, Scheduled as ScheduledEvent, Cancelled, WorkerLost, Entered, Left, TakenOut};
+ghost use Rattle.lb_group.specs.GroupHistory.{Destroyed, past_of, newest as newest_after, served as served_after, is_cancelled};
+ghost use Rattle.lb_group.specs.GroupHistory.{timing as timing_after};
 ghost use Rattle.lb_group.specs.Fresh.{fresh_slot};
 ghost use Rattle.lb_group.specs.SlotSeen.{slot_value};
 ghost use Rattle.lb_group.specs.Values.{configs_of};
 ghost use Rattle.lb_group.specs.Stands.{Made, StandsFor, SameSite, After, Becomes, counts_after};
-ghost use Rattle.lb_group.specs.GroupCalls.{Schedules, schedule_events, Prepares, Fits, FitsIfThere, IsCommitted, IsOwnJob, Asks, ask_events, gate_after, Fails, fail_events, gate_back, Publishes, publish_events, Abandons, abandon_events, Unless, lose_refusal, done_at, Enters, Leaves, Takes, Reports, at_slot, taken_out_at, SelectsIn, select_events};
+ghost use Rattle.lb_group.specs.GroupCalls.{Schedules, schedule_events, Prepares, Fits, FitsIfThere, IsCommitted, IsOwnJob, Asks};
+ghost use Rattle.lb_group.specs.GroupCalls.{ask_events, gate_after, Fails, fail_events, gate_back, Publishes, publish_events, Abandons};
+ghost use Rattle.lb_group.specs.GroupCalls.{abandon_events, Unless, lose_refusal, done_at, Enters, Leaves, Takes, Reports, at_slot};
+ghost use Rattle.lb_group.specs.GroupCalls.{taken_out_at, SelectsIn, select_events};
 
 use crate::answers::{Ask, Counts, Selection, Timing, Told};
 use crate::job::{Built, Job};

@@ -3,7 +3,8 @@
 ghost use Rattle.std.specs.Prelude.{◌≡◌, ◌∷◌, Bool, ℕ, slice_get};
 ghost use Rattle.lb_group.specs.GroupCalls.{IsJob};
 ghost use Rattle.lb_group.specs.GroupHistory.{At, Granted, GroupEvent, History, IsPast, IsFaithful, IsGroupHistory, ask_answer};
-ghost use Rattle.lb_group.specs.Laws.{Accounted, Balanced, Bounded, FlightFits, GetsJob, HasMembers, IsWithin, RisesAt, ServesNewest, SlotsAccount, Tells};
+ghost use Rattle.lb_group.specs.Laws.{Accounted, Balanced, Bounded, FlightFits, GetsJob, HasMembers, IsWithin, RisesAt, ServesNewest};
+ghost use Rattle.lb_group.specs.Laws.{SlotsAccount, Tells};
 ghost use Rattle.lb_group.specs.Stands.{Made, StandsFor, permit_in};
 ghost use Rattle.lb_group.specs.Tasks.{IsTaskOf, TakesBack};
 ghost use Rattle.lb_group.specs.Values.{GroupValue, SlotValue, Task};

@@ -58,7 +58,10 @@ pub(crate) struct Slot<S: BackendSelection> {
 impl<S: BackendSelection> Slot<S> {
     ghost use Rattle.lb_group.specs.Fresh.{fresh_slot, turn_of};
     ghost use Rattle.lb_group.specs.SlotSeen.{slot_value, extra_of};
-    ghost use Rattle.lb_group.specs.SlotCalls.{slot_waits, slot_answer, ask_told, asked_slot, asked_gate, IsJobOf, ordered_slot, failed_slot, published_slot, abandoned_slot, lost_slot, entered_slot, reader_of, readers_at, left_slot, TakesAt, destroyed_slot, drawn_slot, superseded_more, SelectsFrom, FailsAt, PublishesAt, AbandonsAt, LosesAt, LeavesAt};
+    ghost use Rattle.lb_group.specs.SlotCalls.{slot_waits, slot_answer, ask_told, asked_slot, asked_gate, IsJobOf, ordered_slot};
+    ghost use Rattle.lb_group.specs.SlotCalls.{failed_slot, published_slot, abandoned_slot, lost_slot, entered_slot, reader_of};
+    ghost use Rattle.lb_group.specs.SlotCalls.{readers_at, left_slot, TakesAt, destroyed_slot, drawn_slot, superseded_more, SelectsFrom};
+    ghost use Rattle.lb_group.specs.SlotCalls.{FailsAt, PublishesAt, AbandonsAt, LosesAt, LeavesAt};
 
     // A slot that serves a selector of generation 0 over these backends, of which there are none.
     pub(crate) fn fresh(

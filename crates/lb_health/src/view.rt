@@ -12,10 +12,12 @@ ghost use Rattle.lb_select.specs.Memberships.{same_members};
 ghost use Rattle.lb_health.specs.Snapshots.{held_less, at_generation, living, flags_listed, value_at, snapshot_of, IfHead};
 ghost use Rattle.lb_health.specs.ViewEvents.{ViewEvent, Shown, Held, Released, Set, generation_after, membership_after, listed, flag_after};
 ghost use Rattle.lb_health.specs.Views.{IsViewAfter, Flags, IsViewRefusal};
-ghost use Rattle.lb_health.specs.Joined.{lives, registry_released, settings_of, after_settings, with_membership, view_changed, registry_changed};
+ghost use Rattle.lb_health.specs.Joined.{lives, registry_released, settings_of, after_settings, with_membership, view_changed};
+ghost use Rattle.lb_health.specs.Joined.{registry_changed};
 ghost use Rattle.lb_health.specs.Joined.{view_updated, registry_updated, IsHealthyIn, IsReadyIn, IsReady};
 ghost use Rattle.lb_registry.specs.Registry.{IsRegistryAfter, IsGrowthRefusal};
-ghost use Rattle.lb_registry.specs.RegistryEvents.{Event, Registered, Updated, Applied, registered_after, has_view, views_after, cells_given};
+ghost use Rattle.lb_registry.specs.RegistryEvents.{Event, Registered, Updated, Applied, registered_after, has_view, views_after};
+ghost use Rattle.lb_registry.specs.RegistryEvents.{cells_given};
 
 use crate::snapshot::{ViewSnapshot, have_room, is_among, lists, place_of};
 use lb_registry::keys::KeyRule;
@@ -89,7 +91,8 @@ impl ViewCore {
         ensures made { IfOk result (λ v. IsViewAfter [] v) }
         ensures id { IfOk result (λ v. (key_of : Member → Member) (events : List Event) → IsRegistryAfter R.gives key_of events registry.old
             → v.id ≡ registered_after events + 1) }
-        ensures registry { OnOk result ((key_of : Member → Member) (events : List Event) → IsRegistryAfter R.gives key_of events registry.old
+        ensures registry { OnOk result ((key_of : Member → Member) (events : List Event)
+            → IsRegistryAfter R.gives key_of events registry.old
             → IsRegistryAfter R.gives key_of (Applied ∷ Registered ∷ events) registry.new) }
         ensures err { OnErr result ((key_of : Member → Member) (events : List Event) → IsRegistryAfter R.gives key_of events registry.old
             → IsRegistryAfter R.gives key_of events registry.new) }

@@ -1,6 +1,7 @@
 -- The right answer to a step after a history. For most steps it is a function of the history, with what may come in its place
 -- where memory is refused; readiness, verdicts and selections are relations, as what they rest on is.
-use Rattle.std.specs.Prelude.{◌≡◌, ◌⊎◌, ◌↔◌, ℕ, ◌+◌, ◌^◌, Bool, true, false, not, ◌&&◌, ◌||◌, ◌==◌, nat_lt, nat_le, List, [], ◌∷◌, length, map, Option, Some, None, is_none, Result, Ok, Err, IsTrue, if◌then◌else◌, slice_get, MatchBool, MatchOption}
+use Rattle.std.specs.Prelude.{◌≡◌, ◌⊎◌, ◌↔◌, ℕ, ◌+◌, ◌^◌, Bool, true, false, not, ◌&&◌, ◌||◌, ◌==◌, nat_lt, nat_le, List, [], ◌∷◌, length}
+use Rattle.std.specs.Prelude.{map, Option, Some, None, is_none, Result, Ok, Err, IsTrue, if◌then◌else◌, slice_get, MatchBool, MatchOption}
 use Rattle.std.specs.List.{list_any}
 use Rattle.lb_select.specs.Backends.{Member, same_member}
 use Rattle.lb_select.specs.Draws.{Draw, HandedValue, HandedGives}
@@ -22,7 +23,8 @@ use Rattle.lb_history.specs.Steps as step
 use Rattle.lb_history.specs.Replies.{Answer, SlotCounts}
 use Rattle.lb_history.specs.Replies as answer
 use Rattle.lb_history.specs.Meanings.{Meaning}
-use Rattle.lb_history.specs.History.{History, Entered, Work, idle, building, built, members_in, registries, gates, made, made_at, config, registry_of, entries, work, group_events, past, is_out, load_of}
+use Rattle.lb_history.specs.History.{History, Entered, Work, idle, building, built, members_in, registries, gates, made, made_at, config}
+use Rattle.lb_history.specs.History.{registry_of, entries, work, group_events, past, is_out, load_of}
 use Rattle.lb_history.specs.Shared.{key_by, key_at, key_of, registry_events, events_in, view_events}
 
 abbrev pub refuse : Refusal → Answer

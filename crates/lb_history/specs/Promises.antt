@@ -1,6 +1,7 @@
 -- What holds of every run, in the words of the promises. What is promised of a slot alone is said by the crate of groups, of the
 -- slot's past.
-use Rattle.std.specs.Prelude.{◌≡◌, ◌≤◌, ◌<◌, ◌==◌, ◌+◌, ◌-◌, ◌&&◌, ℕ, Bool, true, false, List, [], ◌∷◌, length, count_by, Some, if◌then◌else◌, slice_get}
+use Rattle.std.specs.Prelude.{◌≡◌, ◌≤◌, ◌<◌, ◌==◌, ◌+◌, ◌-◌, ◌&&◌, ℕ, Bool, true, false, List, [], ◌∷◌, length, count_by, Some}
+use Rattle.std.specs.Prelude.{if◌then◌else◌, slice_get}
 use Rattle.std.specs.List.{AllByRecursion as Each, list_any}
 use Rattle.std.specs.Option.{IsSomeAnd}
 use Rattle.lb_select.specs.Backends.{Member, same_member}
@@ -16,7 +17,8 @@ use Rattle.lb_history.specs.Steps as step
 use Rattle.lb_history.specs.Replies.{Answer}
 use Rattle.lb_history.specs.Replies as answer
 use Rattle.lb_history.specs.Meanings.{Meaning}
-use Rattle.lb_history.specs.History.{History, Made, idle, is_at, members_in, reads, made, made_at, slot_gate, gate_in, entries, group_at, work, group_events, past, is_grant, is_failure, is_destruction, is_out, registry_of}
+use Rattle.lb_history.specs.History.{History, Made, idle, is_at, members_in, reads, made, made_at, slot_gate, gate_in, entries, group_at}
+use Rattle.lb_history.specs.History.{work, group_events, past, is_grant, is_failure, is_destruction, is_out, registry_of}
 use Rattle.lb_history.specs.Shared.{is_live, extra_at, key_of, events_in, cells_of, registry_at, registry_events, view_events}
 use Rattle.lb_history.specs.Answers.{answer_after}
 

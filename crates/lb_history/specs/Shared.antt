@@ -1,7 +1,8 @@
 -- What a history did to each registry and to the view of each group, in the words of the registry's and the view's own events.
 -- A snapshot of a view lives while it is the newest or some slot holds it, which the events of its group tell: so the events of
 -- a registry need no view, and those of a view need none but its own group and registry.
-use Rattle.std.specs.Prelude.{ℕ, ◌+◌, Bool, true, false, ◌&&◌, ◌||◌, ◌==◌, nat_lt, List, [], ◌∷◌, length, map, fold, Option, Some, None, if◌then◌else◌, slice_get}
+use Rattle.std.specs.Prelude.{ℕ, ◌+◌, Bool, true, false, ◌&&◌, ◌||◌, ◌==◌, nat_lt, List, [], ◌∷◌, length, map, fold, Option, Some, None}
+use Rattle.std.specs.Prelude.{if◌then◌else◌, slice_get}
 use Rattle.std.specs.List.{filter_map}
 use Rattle.std.specs.BTreeMap.{insert_entry}
 use Rattle.lb_select.specs.Backends.{Member, member_cmp}
@@ -16,7 +17,8 @@ use Rattle.lb_history.specs.Steps.{KeyRule, identity, address, Listing, Step}
 use Rattle.lb_history.specs.Steps as step
 use Rattle.lb_history.specs.Replies.{Answer}
 use Rattle.lb_history.specs.Replies as answer
-use Rattle.lb_history.specs.History.{History, RegistryMade, Made, is_at, members_in, registries, made, made_at, registry_of, group_at, group_events, past}
+use Rattle.lb_history.specs.History.{History, RegistryMade, Made, is_at, members_in, registries, made, made_at, registry_of, group_at}
+use Rattle.lb_history.specs.History.{group_events, past}
 
 -- the key of a backend by a registry's rule
 abbrev pub key_by : KeyRule → Member → Member

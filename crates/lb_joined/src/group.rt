@@ -1,18 +1,23 @@
 //! A group joined with its view: a membership reaches both or neither, and each slot holds the snapshots that it has in use.
 //! A call tests all that it can refuse for before it changes anything; builds run elsewhere, between `ask` and `publish`.
-ghost use Rattle.std.specs.Prelude.{◌≡◌, ◌↔◌, ◌≤◌, ◌+◌, ◌^◌, ◌∷◌, [], ℕ, List, false, map, replicate, IfOk, IsTrue, OnOk, OnErr, IsErrOf, slice_get};
+ghost use Rattle.std.specs.Prelude.{◌≡◌, ◌↔◌, ◌≤◌, ◌+◌, ◌^◌, ◌∷◌, [], ℕ, List, false, map, replicate, IfOk, IsTrue, OnOk, OnErr, IsErrOf};
+ghost use Rattle.std.specs.Prelude.{slice_get};
 ghost use Rattle.std.specs.Arc.{arc_value};
 ghost use Rattle.lb_select.specs.Backends.{Member};
 ghost use Rattle.lb_select.specs.Refusals.{least};
-ghost use Rattle.lb_group.specs.GroupHistory.{Cancelled, WorkerLost, Entered, Left, TakenOut, Destroyed, past_of, newest as newest_after, served as served_after, is_cancelled, timing as timing_after};
+ghost use Rattle.lb_group.specs.GroupHistory.{Cancelled, WorkerLost, Entered, Left, TakenOut, Destroyed, past_of, newest as newest_after};
+ghost use Rattle.lb_group.specs.GroupHistory.{served as served_after, is_cancelled, timing as timing_after};
 ghost use Rattle.lb_group.specs.Values.{configs_of};
 ghost use Rattle.lb_group.specs.Stands.{Made, counts_after};
-ghost use Rattle.lb_group.specs.GroupCalls.{IsOwnJob, Asks, ask_events, gate_after, Fails, fail_events, gate_back, Publishes, publish_events, Abandons, abandon_events, Unless, lose_refusal, done_at, Enters, Leaves, Takes, Reports, at_slot, SelectsIn, select_events};
+ghost use Rattle.lb_group.specs.GroupCalls.{IsOwnJob, Asks, ask_events, gate_after, Fails, fail_events, gate_back, Publishes};
+ghost use Rattle.lb_group.specs.GroupCalls.{publish_events, Abandons, abandon_events, Unless, lose_refusal, done_at, Enters, Leaves};
+ghost use Rattle.lb_group.specs.GroupCalls.{Takes, Reports, at_slot, SelectsIn, select_events};
 ghost use Rattle.lb_health.specs.Joined.{IsReady, settings_of, registry_updated};
 ghost use Rattle.lb_health.specs.ViewEvents.{Held};
 ghost use Rattle.lb_health.specs.Views.{IsViewAfter};
 ghost use Rattle.lb_registry.specs.Registry.{IsRegistryAfter};
-ghost use Rattle.lb_registry.specs.RegistryEvents.{Event, Registered, Applied, Updated, Marked, registered_after, views_after, has_view, cells_given};
+ghost use Rattle.lb_registry.specs.RegistryEvents.{Event, Registered, Applied, Updated, Marked, registered_after, views_after, has_view};
+ghost use Rattle.lb_registry.specs.RegistryEvents.{cells_given};
 ghost use Rattle.lb_joined.specs.JoinedCalls.{IsMakingRefusal, Schedules, after_schedule, released_where, generation_at, after_select};
 ghost use Rattle.lb_joined.specs.JoinedHistory.{History, Set, group_events, in_group, members_now};
 ghost use Rattle.lb_joined.specs.Stands.{Stands, After, Becomes, SameSite, views_of};
