@@ -18,7 +18,12 @@ stage_view (stage.TakenOut n) = taken_out n
 -- the slot, as contracts see it
 abbrev pub slot_view : {S I C : Type 0} → Slot S I C → SlotView C
 slot_view x = record {
-  serving = x.serving; readers = x.readers; config = arc_value x.config; waiting = x.waiting; stage = stage_view x.stage }
+  serving = x.serving;
+  readers = x.readers;
+  config = arc_value x.config;
+  waiting = x.waiting;
+  stage = stage_view x.stage;
+}
 
 -- a retired selector holds a permit of this gate
 abbrev pub HoldsOf : {S I C : Type 0} → GateId → Stage S I C → Type 0
@@ -66,7 +71,7 @@ pub record IsOrdered {S I C : Type 0} (x : Slot S I C) (o : OrderView C) (y : Sl
 pub record AreOrdered {S I C : Type 0} (xs : List (Slot S I C)) (os : List (OrderView C)) (ys : List (Slot S I C)) : Type 0 where
   pub count : length ys ≡ length xs
   pub each : (k : ℕ) (d : Slot S I C) (o : OrderView C) → k < length xs
-    → IsOrdered (slice_index_or xs k d) (slice_index_or os k o) (slice_index_or ys k d)
+      → IsOrdered (slice_index_or xs k d) (slice_index_or os k o) (slice_index_or ys k d)
 
 -- a slot at its start, which the type of every group keeps
 pub record IsFresh {S I C : Type 0} (c : C) (x : Slot S I C) : Type 0 where

@@ -50,8 +50,12 @@ impl<S: BackendSelection> Model for GroupCore<S> {
 
     ghost use Rattle.lb_rebuild.specs.Kept.{slot_view, AllKept};
 
-    ghost view = { λ g. record { gate = g.gate.value.id; newest = g.newest; current = (arc_value g.current).keys;
-        slots = map slot_view g.slots.items } };
+    ghost view = { λ g. record {
+      gate = g.gate.value.id;
+      newest = g.newest;
+      current = (arc_value g.current).keys;
+      slots = map slot_view g.slots.items;
+    } };
 
     ghost invariant = { λ g. AllKept g.gate.value.id g.newest g.slots.items };
 }

@@ -44,8 +44,13 @@ impl<S: BackendSelection> Model for Job<S> {
 
     ghost Value = { Task S.Config };
 
-    ghost view = { λ j. record { slot = j.slot; generation = j.order.generation; members = j.order.members;
-        config = j.order.config; permit = j.permit } };
+    ghost view = { λ j. record {
+      slot = j.slot;
+      generation = j.order.generation;
+      members = j.order.members;
+      config = j.order.config;
+      permit = j.permit;
+    } };
 }
 
 /// A selector that was built and is not yet published. Contracts see of it what they saw of its job.
@@ -63,8 +68,13 @@ impl<S: BackendSelection> Model for Built<S> {
 
     ghost Value = { Task S.Config };
 
-    ghost view = { λ b. record { slot = b.slot; generation = b.order.generation; members = b.order.members;
-        config = b.order.config; permit = b.permit } };
+    ghost view = { λ b. record {
+      slot = b.slot;
+      generation = b.order.generation;
+      members = b.order.members;
+      config = b.order.config;
+      permit = b.permit;
+    } };
 
     ghost invariant = { λ b. (S.members (arc_value b.selector) ≡ b.order.members)
         × (S.built_with (arc_value b.selector) ≡ b.order.config) };
@@ -99,7 +109,7 @@ impl<S: BackendSelection> Job<S> {
         ensures built { IfOk result (λ b. (S.refusal self.members self.config ≡ None) × (b ≡ self)) }
         ensures failed { IfErr result (λ f. (f.job ≡ self)
             × ((S.refusal self.members self.config ≡ Some f.refusal)
-                ⊎ ((S.refusal self.members self.config ≡ None) × (f.refusal ≡ Refusal.OutOfMemory)))) }
+            ⊎ ((S.refusal self.members self.config ≡ None) × (f.refusal ≡ Refusal.OutOfMemory)))) }
     {
         let order = &self.order;
         match S::build_with_config(alloc, &order.members, &order.config) {

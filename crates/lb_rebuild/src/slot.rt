@@ -37,8 +37,12 @@ impl<S: BackendSelection> Model for Serving<S> {
 
     ghost Value = { ServingView S.Config };
 
-    ghost view = { λ s. record { generation = s.generation; members = S.members (arc_value s.selector);
-        config = S.built_with (arc_value s.selector); tickets = s.tickets } };
+    ghost view = { λ s. record {
+      generation = s.generation;
+      members = S.members (arc_value s.selector);
+      config = S.built_with (arc_value s.selector);
+      tickets = s.tickets;
+    } };
 }
 
 /// A selector that is no longer served, with the readers that are left in it and the permit of the extra selector that it is.
@@ -108,8 +112,12 @@ impl<S: BackendSelection> Model for Reader<S> {
 
     ghost Value = { ReaderView S.Config };
 
-    ghost view = { λ r. record { slot = r.slot; generation = r.generation; members = S.members (arc_value r.selector);
-        config = S.built_with (arc_value r.selector) } };
+    ghost view = { λ r. record {
+      slot = r.slot;
+      generation = r.generation;
+      members = S.members (arc_value r.selector);
+      config = S.built_with (arc_value r.selector);
+    } };
 }
 
 /// What a slot that was asked for its next build answers. The answer holds a job where there is one, so it cannot be dropped.

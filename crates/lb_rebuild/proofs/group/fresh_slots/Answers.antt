@@ -14,25 +14,28 @@ falsehood i = cc
 
 pub loop-config-preserved-then-is_ok : goal.loop-config-preserved-then-is_ok
 loop-config-preserved-then-is_ok g c =
-    let empty = c.new-empty.ensures.empty in
-    (c.loop-config.invariant.0 ∙ granted_more (g.S.BackendSelection.refusal []) c.loop-config.yielded c.in-Some.config (rw empty at c.in-Ok.ensures.0),
-    λ none whole. rw (c.push.ensures.items, sym c.if-is_ok.ensures.value)
-    (fresh_more c.loop-config.slots.items c.loop-config.yielded c.in-Ok.slot c.in-Some.config (c.loop-config.invariant.1 none whole) (c.in-Ok.ensures.1 empty)))
+    let empty = c.new-empty.ensures.empty in (
+      c.loop-config.invariant.0 ∙ granted_more (g.S.BackendSelection.refusal []) c.loop-config.yielded c.in-Some.config (rw empty at c.in-Ok.ensures.0),
+      λ none whole. rw (c.push.ensures.items, sym c.if-is_ok.ensures.value)
+          (fresh_more c.loop-config.slots.items c.loop-config.yielded c.in-Ok.slot c.in-Some.config (c.loop-config.invariant.1 none whole) (c.in-Ok.ensures.1 empty)),
+    )
 
 pub loop-config-preserved-else-is_ok : goal.loop-config-preserved-else-is_ok
 loop-config-preserved-else-is_ok g c =
-    let empty = c.new-empty.ensures.empty in
-    (c.loop-config.invariant.0 ∙ granted_more (g.S.BackendSelection.refusal []) c.loop-config.yielded c.in-Some.config (rw empty at c.in-Ok.ensures.0),
-    λ none whole. absurd (falsehood (sym c.if-is_ok.false ∙ whole)))
+    let empty = c.new-empty.ensures.empty in (
+      c.loop-config.invariant.0 ∙ granted_more (g.S.BackendSelection.refusal []) c.loop-config.yielded c.in-Some.config (rw empty at c.in-Ok.ensures.0),
+      λ none whole. absurd (falsehood (sym c.if-is_ok.false ∙ whole)),
+    )
 
 pub loop-config-preserved : goal.loop-config-preserved
 loop-config-preserved g c =
     let f = g.S.BackendSelection.refusal [] in
-    let before = least (map f c.loop-config.yielded) in
-    (c.earlier-cause.ensures ∙ ap (λ (o : Option Refusal). earlier o c.memory_apart.result) c.loop-config.invariant.0
-    ∙ ap (λ (o : Option Refusal). earlier before o) c.memory_apart.ensures
-    ∙ refused_more f c.loop-config.yielded c.in-Some.config c.in-Err.refusal (rw c.new-empty.ensures.empty at c.in-Err.ensures),
-    λ none whole. absurd (falsehood whole))
+    let before = least (map f c.loop-config.yielded) in (
+      c.earlier-cause.ensures ∙ ap (λ (o : Option Refusal). earlier o c.memory_apart.result) c.loop-config.invariant.0
+          ∙ ap (λ (o : Option Refusal). earlier before o) c.memory_apart.ensures
+          ∙ refused_more f c.loop-config.yielded c.in-Some.config c.in-Err.refusal (rw c.new-empty.ensures.empty at c.in-Err.ensures),
+      λ none whole. absurd (falsehood whole),
+    )
 
 pub returns-in-None-cause : goal.returns-in-None-cause
 returns-in-None-cause g c =

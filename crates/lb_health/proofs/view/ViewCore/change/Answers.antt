@@ -43,33 +43,36 @@ returns-in_err-cells-clause-view_err g c =
     (ap (λ (ss : List ViewSnapshot). snapshot_of c.self.inside.current ∷ map snapshot_of ss) c.reserve.ensures.items) c.flag_all.ensures.flags
 
 pub returns-clause-some : goal.returns-clause-some
-returns-clause-some g c = (c.in_ok-cells.cells.entries, λ views h.
-    let before = subst (λ v. IsViewAfter views v) (sym c.self.view_is) h in
-    let prepared = roomier views _ (record {
-      id = c.self.inside.id;
-      generation = c.self.inside.current.generation;
-      snapshots = snapshot_of c.self.inside.current ∷ map snapshot_of c.reserve.new.self.items;
-      flags = c.flag_all.new.flags.entries;
-    })
-    before refl (ap (λ (ss : List ViewSnapshot). snapshot_of c.self.inside.current ∷ map snapshot_of ss) c.reserve.ensures.items) c.flag_all.ensures.flags in
-    let n : ℕ = c.in-Some.next in
-    let next : n ≡ c.self.inside.current.generation + 1 = c.in-Some.ensures.1 in
-    let new : ViewSnapshot = record { generation = n; members = c.in_ok-members.members; cells = c.in_ok-cells.cells; holds = 0 } in
-    let after : c.replace.new.dest ≡ new = c.replace.ensures.after in
-    let items : c.push_reserved.new.self.items ≡ c.reserve.new.self.items ++ c.self.inside.current ∷ [] = c.push_reserved.ensures.items
-    ∙ ap (λ (s : ViewSnapshot). c.reserve.new.self.items ++ s ∷ []) c.replace.ensures.value in
-    let members : (arc_value c.in_ok-members.members).keys ≡ c.args.members.keys = ap (λ s. s.keys) c.in_ok-members.ensures.ok in
-    let others : List SnapshotValue = by_age (snapshot_of c.self.inside.current ∷ map snapshot_of c.reserve.new.self.items) in
-    shown views _ c.prune.new.self c.args.members.keys _ prepared
-    c.in_ok-flag_all.ensures.all
-    (c.prune.ensures.generation ∙ ap (λ (s : ViewSnapshot). s.generation) after ∙ next)
-    (c.prune.ensures.snapshots
-    ∙ ap (λ (s : ViewSnapshot). living s.generation (snapshot_of s ∷ map snapshot_of c.push_reserved.new.self.items)) after
-    ∙ ap (λ (ss : List ViewSnapshot). living n (snapshot_of new ∷ map snapshot_of ss)) items
-    ∙ shown_snapshots n new c.self.inside.current c.reserve.new.self.items refl
-    ∙ ap (λ ms. new_snapshot n ms c.in_ok-cells.cells.entries ∷ living n others) members
-    ∙ ap (λ m. new_snapshot m c.args.members.keys c.in_ok-cells.cells.entries ∷ living m others) next)
-    c.prune.ensures.flags)
+returns-clause-some g c = (
+  c.in_ok-cells.cells.entries,
+  λ views h.
+      let before = subst (λ v. IsViewAfter views v) (sym c.self.view_is) h in
+      let prepared = roomier views _ (record {
+        id = c.self.inside.id;
+        generation = c.self.inside.current.generation;
+        snapshots = snapshot_of c.self.inside.current ∷ map snapshot_of c.reserve.new.self.items;
+        flags = c.flag_all.new.flags.entries;
+      })
+      before refl (ap (λ (ss : List ViewSnapshot). snapshot_of c.self.inside.current ∷ map snapshot_of ss) c.reserve.ensures.items) c.flag_all.ensures.flags in
+      let n : ℕ = c.in-Some.next in
+      let next : n ≡ c.self.inside.current.generation + 1 = c.in-Some.ensures.1 in
+      let new : ViewSnapshot = record { generation = n; members = c.in_ok-members.members; cells = c.in_ok-cells.cells; holds = 0 } in
+      let after : c.replace.new.dest ≡ new = c.replace.ensures.after in
+      let items : c.push_reserved.new.self.items ≡ c.reserve.new.self.items ++ c.self.inside.current ∷ [] = c.push_reserved.ensures.items
+      ∙ ap (λ (s : ViewSnapshot). c.reserve.new.self.items ++ s ∷ []) c.replace.ensures.value in
+      let members : (arc_value c.in_ok-members.members).keys ≡ c.args.members.keys = ap (λ s. s.keys) c.in_ok-members.ensures.ok in
+      let others : List SnapshotValue = by_age (snapshot_of c.self.inside.current ∷ map snapshot_of c.reserve.new.self.items) in
+      shown views _ c.prune.new.self c.args.members.keys _ prepared
+      c.in_ok-flag_all.ensures.all
+      (c.prune.ensures.generation ∙ ap (λ (s : ViewSnapshot). s.generation) after ∙ next)
+      (c.prune.ensures.snapshots
+      ∙ ap (λ (s : ViewSnapshot). living s.generation (snapshot_of s ∷ map snapshot_of c.push_reserved.new.self.items)) after
+      ∙ ap (λ (ss : List ViewSnapshot). living n (snapshot_of new ∷ map snapshot_of ss)) items
+      ∙ shown_snapshots n new c.self.inside.current c.reserve.new.self.items refl
+      ∙ ap (λ ms. new_snapshot n ms c.in_ok-cells.cells.entries ∷ living n others) members
+      ∙ ap (λ m. new_snapshot m c.args.members.keys c.in_ok-cells.cells.entries ∷ living m others) next)
+      c.prune.ensures.flags,
+)
 
 pub returns-clause-view : goal.returns-clause-view
 unfolding returns-clause-some
