@@ -75,18 +75,12 @@ fn backend_at(alloc: Global, port: u16) -> io::Result<Backend> {
     }
 }
 
-// A check over HTTP that waits no longer than that.
-fn check_of<R: Net<Stream = TcpStream> + AllocGlobal>(rt: &R) -> io::Result<HttpHealthCheck<&R>> {
-    match HttpHealthCheck::new(rt.alloc(), rt, "h") {
-        Ok(mut check) => {
-            check.peer_template = HttpPeer {
-                connection_timeout: None,
-                read_timeout: Some(TIMEOUT),
-                write_timeout: Some(TIMEOUT),
-            };
-            Ok(check)
-        }
-        Err(_) => Err(Error::from(ErrorKind::OutOfMemory)),
+// How long a check over HTTP waits: no longer than that.
+fn short_limits() -> HttpPeer {
+    HttpPeer {
+        connection_timeout: None,
+        read_timeout: Some(TIMEOUT),
+        write_timeout: Some(TIMEOUT),
     }
 }
 
@@ -95,7 +89,11 @@ fn check_http<R: Net<Stream = TcpStream> + AllocGlobal>(
     rt: &R,
     backend: &Backend,
 ) -> io::Result<Result<(), CheckError>> {
-    Ok(check_of(rt)?.check(rt.alloc(), backend))
+    let Ok(mut check) = HttpHealthCheck::new(rt.alloc(), rt, "h") else {
+        return Err(Error::from(ErrorKind::OutOfMemory));
+    };
+    check.peer_template = short_limits();
+    Ok(check.check(rt.alloc(), backend))
 }
 
 /// What a check answers to a server that does that.
@@ -120,7 +118,10 @@ where
 {
     let listener = TcpListener::bind(rt, "127.0.0.1:0")?;
     let backend = backend_at(rt.alloc(), 1)?;
-    let mut check = check_of(rt)?;
+    let Ok(mut check) = HttpHealthCheck::new(rt.alloc(), rt, "h") else {
+        return Err(Error::from(ErrorKind::OutOfMemory));
+    };
+    check.peer_template = short_limits();
     check.port_override = Some(listener.local_addr()?.port());
     let (_served, outcome) = join(
         rt,
@@ -161,7 +162,10 @@ where
     let listener = TcpListener::bind(rt, "127.0.0.1:0")?;
     let backend = backend_at(alloc, listener.local_addr()?.port())?;
     let many = vec![in alloc; b'x'; MANY_BYTES]?;
-    let mut check = check_of(rt)?;
+    let Ok(mut check) = HttpHealthCheck::new(rt.alloc(), rt, "h") else {
+        return Err(Error::from(ErrorKind::OutOfMemory));
+    };
+    check.peer_template = short_limits();
     let Ok(value) = HeaderValue::from_bytes(alloc, &many) else {
         return Err(Error::from(ErrorKind::OutOfMemory));
     };
