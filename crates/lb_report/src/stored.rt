@@ -1,5 +1,5 @@
 //! A check of an answer that lies in a file or in memory: what the check says of it, and how many bytes it left unread.
-ghost use Rattle.std.specs.Prelude.{◌≡◌, ◌≢◌, ◌⊎◌, Err, [], false};
+ghost use Rattle.std.specs.Prelude.{◌≡◌, ◌≢◌, ◌⊎◌, Err, [], true, false};
 ghost use Rattle.http.specs.Request.{head_of};
 ghost use Rattle.lb_counted.specs.Counted.{inner_of, has_failed};
 ghost use Rattle.lb_counted.specs.Stream.{OnBytes, Takes};
@@ -26,6 +26,7 @@ fn count_rest<R: Read>(reader: &mut Counted<R>) -> u64
     ensures counted { OnBytes (R.remaining (inner_of reader.old)) (R.remaining (inner_of reader.new)) (Takes result) }
     ensures whole { has_failed reader.new ≡ false → OnBytes (R.remaining (inner_of reader.old)) (R.remaining (inner_of reader.new))
         (λ stream rest. (rest ≡ []) ⊎ (result ≡ u64.MAX)) }
+    ensures failed { has_failed reader.old ≡ true → has_failed reader.new ≡ true }
 {
     let mut count: u64 = 0;
     while count < u64::MAX {
@@ -57,6 +58,7 @@ pub fn replay<V: Validate, R: Read>(
         (GoodPasses (asks_for_head (head_of req.now)) max_body_bytes (accepts_of V.accepts validator.now) result.outcome) }
     ensures whole { has_failed reader.new ≡ false → OnBytes (R.remaining (inner_of reader.old)) (R.remaining (inner_of reader.new))
         (λ stream end. (end ≡ []) ⊎ (result.unread ≡ u64.MAX)) }
+    ensures read { result.outcome ≡ Err CheckError.Read → has_failed reader.new ≡ true }
 {
     let mut writer = Counted::new(io::sink());
     let outcome = check_over(alloc, req, validator, max_body_bytes, reader, &mut writer);

@@ -1,4 +1,4 @@
-use Rattle.std.proofs.Common.{◌≡◌, ℕ, ◌+◌, List, []}
+use Rattle.std.proofs.Common.{◌≡◌, ◌∙◌, ℕ, ◌+◌, List, []}
 use Rattle.lb_counted.specs.Stream.{Takes}
 use Rattle.lb_check.proofs.Streams.{OnBytes-then}
 use Rattle.lb_report.proofs.RestLemmas.{takes_more}
@@ -10,5 +10,7 @@ loop-count-preserved g c =
     let more = c.in-Ok.some in
     let P : List ℕ → List ℕ → Type 0 = Takes count in
     let Q : List ℕ → List ℕ → Type 0 = λ s t. Takes more s t × (more ≡ 0 → t ≡ []) in
-    let S : List ℕ → List ℕ → Type 0 = Takes (count + more) in
-    OnBytes-then P Q S _ _ _ c.loop-count.invariant c.in-Ok.ensures.bytes (λ x y z p q. takes_more count more x y z p q.0)
+    let S : List ℕ → List ℕ → Type 0 = Takes (count + more) in (
+      OnBytes-then P Q S _ _ _ c.loop-count.invariant.0 c.in-Ok.ensures.bytes (λ x y z p q. takes_more count more x y z p q.0),
+      λ failed. c.in-Ok.ensures.kept ∙ c.loop-count.invariant.1 failed,
+    )
