@@ -1,6 +1,6 @@
 //! The backends of one discovery: a view with the registry that it belongs to.
 //! Whoever has it updates it and runs its checks; the forms that threads share stand above.
-ghost use Rattle.std.specs.Prelude.{◌≡◌, ◌↔◌, ◌⊎◌, ◌+◌, ◌^◌, ◌≤◌, ◌∷◌, ℕ, Bool, List, [], Ok, Err, Some, None, IfOk, OnOk, OnErr};
+ghost use Rattle.std.specs.Prelude.{◌≡◌, ◌↔◌, ◌+◌, ◌^◌, ◌≤◌, ◌∷◌, ℕ, Bool, List, [], Ok, Err, Some, None, IfOk, OnOk, OnErr};
 ghost use Rattle.std.specs.Prelude.{IsErrOf, IsSome, IsTrue, MatchOption, false};
 ghost use Rattle.std.specs.Arc.{arc_value};
 ghost use Rattle.std.specs.BTreeSet.{BTreeSet};
@@ -75,7 +75,7 @@ impl<D: ServiceDiscovery + Drop, R: KeyRule + Drop, C: HealthCheck + Drop> Backe
     ///
     /// # Errors
     ///
-    /// `NumbersExhausted` where no number is left for a view or a cell; `OutOfMemory` where memory is refused.
+    /// `NumbersExhausted` where no number is left for a view, whatever memory is left; `OutOfMemory` where memory is refused.
     pub fn new_with_health_registry(
         alloc: Global,
         discovery: DiscoverySource<D>,
@@ -89,8 +89,7 @@ impl<D: ServiceDiscovery + Drop, R: KeyRule + Drop, C: HealthCheck + Drop> Backe
             → b.view.id ≡ registered_after events + 1) }
         ensures parts { IfOk result (λ b. (b.discovery ≡ discovery) × (b.health.check ≡ registry.check)) }
         ensures exhausted { (key_of : Member → Member) (events : List Event) → IsRegistryAfter R.gives key_of events registry.registry
-            → IsErrOf result Refusal.NumbersExhausted
-            → (registered_after events + 1 ≡ 2 ^ 64) ⊎ (2 ^ 64 ≤ cells_given key_of (Applied ∷ Registered ∷ events)) }
+            → (IsErrOf result Refusal.NumbersExhausted ↔ (2 ^ 64 ≤ registered_after events + 1)) }
         ensures refused { OnErr result (IsGrowthRefusal result) }
     {
         let mut registry = registry;
@@ -199,7 +198,7 @@ impl<D: ServiceDiscovery + Drop, R: KeyRule + Drop, C: HealthCheck + Drop> Backe
     ///
     /// # Errors
     ///
-    /// `NumbersExhausted` where no number is left for a cell; `OutOfMemory` where memory is refused; both before the first check.
+    /// `OutOfMemory` where memory is refused, before the first check.
     pub fn run_health_check<L: Log>(&mut self, rt: &L, alloc: Global) -> Result<(), Refusal>
         ensures ok { OnOk result ((key_of : Member → Member) (events : List Event)
             → IsRegistryAfter R.gives key_of events self.old.health.registry
@@ -211,7 +210,7 @@ impl<D: ServiceDiscovery + Drop, R: KeyRule + Drop, C: HealthCheck + Drop> Backe
             → IsRegistryAfter R.gives key_of events self.new.health.registry) }
         ensures exhausted { (key_of : Member → Member) (events : List Event)
             → IsRegistryAfter R.gives key_of events self.old.health.registry
-            → IsErrOf result Refusal.NumbersExhausted → 2 ^ 64 ≤ cells_given key_of (Applied ∷ events) }
+            → (IsErrOf result Refusal.NumbersExhausted ↔ (2 ^ 64 ≤ cells_given key_of (Applied ∷ events))) }
         ensures refused { OnErr result (IsGrowthRefusal result) }
         ensures view { self.new.view ≡ self.old.view }
         ensures discovery { self.new.discovery ≡ self.old.discovery }

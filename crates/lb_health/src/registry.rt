@@ -1,6 +1,6 @@
 //! A registry of health with its check, and the passes that check its targets one by one.
 //! A verdict reaches the cell of its target; where that flips, the check is told, and then a line is logged.
-ghost use Rattle.std.specs.Prelude.{◌≡◌, ◌≤◌, ◌^◌, ◌∷◌, [], Bool, false, List, map, length, Ok, Err, Some, None, IfOk, OnOk, OnErr};
+ghost use Rattle.std.specs.Prelude.{◌≡◌, ◌↔◌, ◌≤◌, ◌^◌, ◌∷◌, [], Bool, false, List, map, length, Ok, Err, Some, None, IfOk, OnOk, OnErr};
 ghost use Rattle.std.specs.Prelude.{IsErrOf, IsSome};
 ghost use Rattle.lb_select.specs.Backends.{Member};
 ghost use Rattle.lb_registry.specs.Keys.{by_identity, by_address, rule_gives, IsRuleOf};
@@ -113,7 +113,7 @@ impl<R: KeyRule + Drop, C: HealthCheck + Drop> HealthRegistry<R, C> {
     ///
     /// # Errors
     ///
-    /// `NumbersExhausted` where no number is left for a cell; `OutOfMemory` where memory is refused.
+    /// `OutOfMemory` where memory is refused. Marks that are applied start no cell, so a number is always left.
     pub fn target_count(&mut self, alloc: Global) -> Result<usize, Refusal>
         ensures ok { OnOk result ((key_of : Member → Member) (events : List Event)
             → IsRegistryAfter R.gives key_of events self.old.registry
@@ -125,7 +125,7 @@ impl<R: KeyRule + Drop, C: HealthCheck + Drop> HealthRegistry<R, C> {
             → IsRegistryAfter R.gives key_of events self.old.registry
             → IsRegistryAfter R.gives key_of events self.new.registry) }
         ensures exhausted { (key_of : Member → Member) (events : List Event) → IsRegistryAfter R.gives key_of events self.old.registry
-            → IsErrOf result Refusal.NumbersExhausted → 2 ^ 64 ≤ cells_given key_of (Applied ∷ events) }
+            → (IsErrOf result Refusal.NumbersExhausted ↔ (2 ^ 64 ≤ cells_given key_of (Applied ∷ events))) }
         ensures refused { OnErr result (IsGrowthRefusal result) }
         ensures check { self.new.check ≡ self.old.check }
     {
@@ -148,7 +148,7 @@ impl<R: KeyRule + Drop, C: HealthCheck + Drop> HealthRegistry<R, C> {
             → IsRegistryAfter R.gives key_of events self.old.registry
             → IsRegistryAfter R.gives key_of events self.new.registry) }
         ensures exhausted { (key_of : Member → Member) (events : List Event) → IsRegistryAfter R.gives key_of events self.old.registry
-            → IsErrOf result Refusal.NumbersExhausted → 2 ^ 64 ≤ cells_given key_of (Applied ∷ events) }
+            → (IsErrOf result Refusal.NumbersExhausted ↔ (2 ^ 64 ≤ cells_given key_of (Applied ∷ events))) }
         ensures refused { OnErr result (IsGrowthRefusal result) }
         ensures check { self.new.check ≡ self.old.check }
     {
@@ -171,7 +171,7 @@ impl<R: KeyRule + Drop, C: HealthCheck + Drop> HealthRegistry<R, C> {
             → IsRegistryAfter R.gives key_of events self.old.registry
             → IsRegistryAfter R.gives key_of events self.new.registry) }
         ensures exhausted { (key_of : Member → Member) (events : List Event) → IsRegistryAfter R.gives key_of events self.old.registry
-            → IsErrOf result Refusal.NumbersExhausted → 2 ^ 64 ≤ cells_given key_of (Applied ∷ events) }
+            → (IsErrOf result Refusal.NumbersExhausted ↔ (2 ^ 64 ≤ cells_given key_of (Applied ∷ events))) }
         ensures refused { OnErr result (IsGrowthRefusal result) }
         ensures check { self.new.check ≡ self.old.check }
     {

@@ -82,8 +82,8 @@ impl ViewCore {
     ///
     /// # Errors
     ///
-    /// `NumbersExhausted` where no number is left for a view or a cell; `OutOfMemory` where memory is refused. The registry is
-    /// then as before.
+    /// `NumbersExhausted` where no number is left for a view, whatever memory is left; `OutOfMemory` where memory is refused. The
+    /// registry is then as before.
     pub fn register<R: KeyRule + Drop>(
         alloc: Global,
         registry: &mut Registry<R>,
@@ -96,8 +96,13 @@ impl ViewCore {
             → IsRegistryAfter R.gives key_of (Applied ∷ Registered ∷ events) registry.new) }
         ensures err { OnErr result ((key_of : Member → Member) (events : List Event) → IsRegistryAfter R.gives key_of events registry.old
             → IsRegistryAfter R.gives key_of events registry.new) }
+        ensures exhausted { (key_of : Member → Member) (events : List Event) → IsRegistryAfter R.gives key_of events registry.old
+            → (IsErrOf result Refusal.NumbersExhausted ↔ (2 ^ 64 ≤ registered_after events + 1)) }
         ensures refused { OnErr result (IsGrowthRefusal result) }
     {
+        if registry.is_full() {
+            return Err(Refusal::NumbersExhausted);
+        }
         let mut view = ViewCore::new(alloc, 0)?;
         view.id = registry.register_view(alloc)?;
         Ok(view)
@@ -281,7 +286,7 @@ impl ViewCore {
     ///
     /// `GenerationsExhausted` where the membership is another one and the newest generation is 18446744073709551615; `NoSuch`
     /// where the registry has no such view; `NumbersExhausted` where no number is left for a cell; `OutOfMemory` where memory is
-    /// refused. View, flags and registry are then as before.
+    /// refused and no other cause stands. View, flags and registry are then as before.
     pub fn update<R: KeyRule + Drop, T, F: FnOnce(&BTreeSet<Backend>) -> T>(
         &mut self,
         alloc: Global,
@@ -326,6 +331,11 @@ impl ViewCore {
         ensures numbers { IsErrOf result Refusal.NumbersExhausted → (key_of : Member → Member) (events : List Event)
             → IsRegistryAfter R.gives key_of events registry.old
             → 2 ^ 64 ≤ cells_given key_of (Updated self.old.id discovered.keys ∷ Applied ∷ events) }
+        ensures lacking { (key_of : Member → Member) (views : List ViewEvent) (events : List Event) → IsViewAfter views self.old
+            → IsRegistryAfter R.gives key_of events registry.old → same_members discovered.keys (membership_after views) ≡ false
+            → generation_after views + 1 ≢ 2 ^ 64 → has_view self.old.id (views_after events) ≡ true
+            → 2 ^ 64 ≤ cells_given key_of (Updated self.old.id discovered.keys ∷ Applied ∷ events)
+            → result ≡ Err Refusal.NumbersExhausted }
         ensures refused { OnErr result (IsViewRefusal result) }
         ensures id { self.new.id ≡ self.old.id }
     {
@@ -370,6 +380,10 @@ impl ViewCore {
         ensures numbers { IsErrOf result Refusal.NumbersExhausted → (key_of : Member → Member) (events : List Event)
             → IsRegistryAfter R.gives key_of events registry.old
             → 2 ^ 64 ≤ cells_given key_of (Updated self.old.id members.keys ∷ Applied ∷ events) }
+        ensures lacking { (key_of : Member → Member) (events : List Event) → IsRegistryAfter R.gives key_of events registry.old
+            → self.old.generation + 1 ≢ 2 ^ 64 → has_view self.old.id (views_after events) ≡ true
+            → 2 ^ 64 ≤ cells_given key_of (Updated self.old.id members.keys ∷ Applied ∷ events)
+            → result ≡ Err Refusal.NumbersExhausted }
         ensures refused { OnErr result (IsViewRefusal result) }
         ensures id { self.new.id ≡ self.old.id }
     {
@@ -379,6 +393,9 @@ impl ViewCore {
         };
         if !registry.has_view(self.id) {
             return Err(Refusal::NoSuch);
+        }
+        if registry.lacks_numbers(&members) {
+            return Err(Refusal::NumbersExhausted);
         }
         self.earlier.reserve(1)?;
         flag_all(&mut self.flags, &members)?;

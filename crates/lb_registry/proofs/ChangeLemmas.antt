@@ -27,6 +27,10 @@ map-filter {A} {B} f p (x ∷ xs) = kept_by (p (f x)) (map-filter f p xs) where
   kept_by true ih = ap (λ ys. f x ∷ ys) ih
   kept_by false ih = ih
 
+and_false : (b : Bool) → (b && false) ≡ false
+and_false true = refl
+and_false false = refl
+
 -- a view that was found isn't marked
 unmarked_by : (a b : Bool) → (a && not b) ≡ true → b ≡ false
 unmarked_by true true e = absurd (true≢false (sym e))
@@ -130,7 +134,7 @@ any-position p (x ∷ xs) = any_by (p x) (any-position p xs) where
   any_by true ih = sym (lt-ltb 0 (suc (length xs)) (omega arith))
   any_by false ih = ih ∙ lt_more (prefix_len (λ z. not (p z)) xs) (length xs)
 
-any-map : {A B : Type 0} (f : A → B) (p : B → Bool) (xs : List A) → list_any p (map f xs) ≡ list_any (λ x. p (f x)) xs
+pub any-map : {A B : Type 0} (f : A → B) (p : B → Bool) (xs : List A) → list_any p (map f xs) ≡ list_any (λ x. p (f x)) xs
 any-map f p [] = refl
 any-map f p (x ∷ xs) = ap (λ b. p (f x) || b) (any-map f p xs)
 
@@ -151,6 +155,16 @@ missing_view see id xs none =
     missing : (b : Bool) (n : ℕ) → cond b (Some n) None ≡ None → b ≡ false
     missing true n e = absurd (cc)
     missing false n e = refl
+
+-- a view that is found stands with those whose removal doesn't wait
+pub has_live : (id : ℕ) (vs : List ViewValue) → has_view id (live vs) ≡ has_view id vs
+has_live id [] = refl
+has_live id (v ∷ vs) = by_mark v.marked refl (has_live id vs) where
+  by_mark :
+      (m : Bool) → v.marked ≡ m → has_view id (live vs) ≡ has_view id vs
+      → has_view id (cond (not m) (v ∷ live vs) (live vs)) ≡ (is_view id v || has_view id vs)
+  by_mark true e ih = ih ∙ sym (ap (λ b. ((v.id == id) && not b) || has_view id vs) e ∙ ap (λ b. b || has_view id vs) (and_false (v.id == id)))
+  by_mark false e ih = ap (λ b. is_view id v || b) ih
 
 module _ (P : ℕ → Type 0) where
   each-insert_entry : (es : List (Member × ℕ)) (k : Member) (v : ℕ) → Each P (values_of es) → P v → Each P (values_of (insert_entry member_cmp es k v))

@@ -3,6 +3,8 @@ pub mod NumberLemmas
 pub mod TableLemmas
 pub mod TargetLemmas
 pub mod ChangeLemmas
+pub mod PlaceLemmas
+pub mod FreshLemmas
 pub mod StateLemmas
 pub mod LawLemmas
 pub mod KeptLemmas

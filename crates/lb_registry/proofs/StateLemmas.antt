@@ -1,8 +1,10 @@
 -- Views and table together after a change: the marks applied, one view's membership exchanged, and a refused change put back.
-use Rattle.std.proofs.Common.{◌≡◌, ◌<◌, ◌≤◌, ℕ, zero, suc, ◌==◌, inl, inr, Bool, true, false, cond, ◌&&◌, ◌||◌, List, [], ◌∷◌, map, length, filter, not, position, set, get_or, Some, Result, Ok, Err, OnOk, ◌++◌, ◌+◌, refl, sym, ap, subst, ◌∙◌, nat_lt, length-append, take, ◌-◌, arith}
+use Rattle.std.proofs.Common.{◌≡◌, ◌<◌, ◌≤◌, ◌^◌, ℕ, zero, suc, ◌==◌, inl, inr, Bool, true, false, cond, ◌&&◌, ◌||◌, List, [], ◌∷◌, map, length, filter, not, position, set, get_or, Some, Result, Ok, Err, OnOk, ◌++◌, ◌+◌, refl, sym, ap, subst, ◌∙◌, nat_lt, length-append, take, ◌-◌, arith, ◌↔◌, IsTrue, true≢false, ⊎_elim}
+use Rattle.std.proofs.lemmas.Bool.{cases_lt}
 use Rattle.std.proofs.lemmas.List.{map-append, take-append-le, take_all}
 use Rattle.std.proofs.lemmas.Option.{cond_some, same_Some, slice_get_read}
 use Rattle.std.specs.List.{list_any, slice_get, prefix_len}
+use Rattle.std.specs.List.Sorted.{IsStrictlySortedBy}
 use Rattle.std.specs.Ordering.{eq_by_cmp, nat_cmp}
 use borrow.Author.Tests.{ltb-true}
 use Rattle.lb_select.specs.Backends.{Member, member_cmp}
@@ -15,16 +17,14 @@ use Rattle.lb_registry.specs.declared.targets.View.{View}
 use Rattle.lb_registry.specs.CellEvents as cell
 use Rattle.lb_registry.specs.CellEvents.{CellEvent, Changed, Hold, changes, IsKept}
 use Rattle.lb_registry.specs.Internal.Changing.{IsStarted}
+use Rattle.lb_registry.specs.Internal.Fresh.{fresh}
 use Rattle.lb_registry.specs.Internal.Replacing.{IsShown, IsPrepared, IsReplaced}
 use Rattle.lb_registry.specs.Registry.{IsStateAfter, RegistryValue, IsRegistryAfter, IsGrowthRefusal}
-use Rattle.lb_registry.specs.RegistryEvents.{Event, Registered, Applied, Updated, is_view, at_view, with_members, new_view, has_view, members_of, after_update, after_show, cells_by, cells_in, changes_after, registered_after, views_after, cell_events}
+use Rattle.lb_registry.specs.RegistryEvents.{Event, Registered, Applied, Updated, is_view, at_view, with_members, new_view, has_view, members_of, after_update, after_show, cells_by, cells_in, changes_after, registered_after, views_after, cell_events, cells_given}
 use Rattle.lb_registry.specs.Table.{TableValue, IsTableAfter, IsPruned}
 use Rattle.lb_registry.specs.Targets.{ViewValue, view_value, live, target_keys}
-use Rattle.lb_registry.proofs.ChangeLemmas.{map-filter, live-at_view, at_place, members_at, cells_kept}
-
-and_false : (b : Bool) → (b && false) ≡ false
-and_false true = refl
-and_false false = refl
+use Rattle.lb_registry.proofs.ChangeLemmas.{map-filter, live-at_view, at_place, members_at, cells_kept, has_live}
+use Rattle.lb_registry.proofs.FreshLemmas.{marks_start_none, updated_given}
 
 -- the view at the place that a search gave
 pub at_found :
@@ -49,6 +49,8 @@ applied key_of events items kept keys t more state is keyed table only =
     let OnlyAfter : List Member → Type 0 = λ ks. IsPruned member_cmp (Changed ks ∷ cell_events key_of events) more in
     let keyed_now = keyed ∙ ap (λ vs. target_keys key_of (live vs)) state.listed in
     record {
+      sets = state.sets;
+      fits = omega (arith, marks_start_none key_of events state.sets, state.fits);
       listed = ap (map view_value) is ∙ map-filter view_value (λ v. not v.marked) items ∙ ap live state.listed;
       cells = subst AfterKeys keyed_now table;
       pruned = subst OnlyAfter keyed_now only;
@@ -93,14 +95,17 @@ pub replaced :
     → IsTableAfter member_cmp later more)
     → ((before later : List (CellEvent Member)) → IsStarted member_cmp before later t2 numbering.by_key.entries numbering.next
     → IsPruned member_cmp later more)
+    → IsStrictlySortedBy member_cmp members → cells_given key_of (Updated id members ∷ Applied ∷ events) < 2 ^ 64
     → IsReplaced key_of (Updated id members ∷ Applied ∷ events) members shown (map view_value kept) more
-replaced key_of events id place members marked items kept x y t t2 more numbering shown state found at is keyed left prepared commits prunes =
+replaced key_of events id place members marked items kept x y t t2 more numbering shown state found at is keyed left prepared commits prunes sorted fits =
     let later = later_is key_of events id place members marked items x y t state found at is keyed in
     let AfterAll : List (CellEvent Member) → Type 0 = λ es. IsTableAfter member_cmp es more in
     let OnlyAfter : List (CellEvent Member) → Type 0 = λ es. IsPruned member_cmp es more in
     let ShownAfter : List (CellEvent Member) → Type 0 = λ es. IsShown key_of (changes es) members shown in
     record {
       state = record {
+        sets = (sorted, state.sets);
+        fits = fits;
         listed =
             ap (map view_value) left ∙ map-filter view_value (λ v. not v.marked) (set items place y)
             ∙ exchanged key_of events id place members items x y t state found at is;
@@ -136,6 +141,8 @@ pub registered :
     → view_value v ≡ new_view (registered_after events + 1) → IsStateAfter key_of (Registered ∷ events) (map view_value more) t
 registered key_of events items more v t state is new =
     record {
+      sets = state.sets;
+      fits = state.fits;
       listed =
           ap (map view_value) is ∙ map-append view_value items (v ∷ []) ∙ ap (λ vs. vs ++ view_value v ∷ []) state.listed
           ∙ ap (λ w. views_after events ++ w ∷ []) new;
@@ -179,15 +186,6 @@ pub roomier :
 roomier key_of events views t held is state =
     let After : List Hold → Type 0 = λ hs. IsStateAfter key_of events views (record t { held = hs }) in subst After (sym is) state
 
-has_live : (id : ℕ) (vs : List ViewValue) → has_view id (live vs) ≡ has_view id vs
-has_live id [] = refl
-has_live id (v ∷ vs) = by_mark v.marked refl (has_live id vs) where
-  by_mark :
-      (m : Bool) → v.marked ≡ m → has_view id (live vs) ≡ has_view id vs
-      → has_view id (cond (not m) (v ∷ live vs) (live vs)) ≡ (is_view id v || has_view id vs)
-  by_mark true e ih = ih ∙ sym (ap (λ b. ((v.id == id) && not b) || has_view id vs) e ∙ ap (λ b. b || has_view id vs) (and_false (v.id == id)))
-  by_mark false e ih = ap (λ b. is_view id v || b) ih
-
 members_shown : (id : ℕ) (members : List Member) (vs : List ViewValue) → has_view id vs ≡ true → members_of id (at_view id (with_members members) vs) ≡ members
 members_shown id members [] e = absurd (cc)
 members_shown id members (v ∷ vs) e = shown_by (is_view id v) refl e (members_shown id members vs) where
@@ -215,6 +213,8 @@ shows key_of events id generation members shown views t more out has holds only 
     let HeldAs : List ℕ → Type 0 = λ cs. IsTableAfter member_cmp (cell.Held id generation cs ∷ cell_events key_of now) more in
     let OnlyAs : List ℕ → Type 0 = λ cs. IsPruned member_cmp (cell.Held id generation cs ∷ cell_events key_of now) more in
     record {
+      sets = out.state.sets;
+      fits = out.state.fits;
       listed = out.state.listed;
       cells =
           subst HeldAs numbers
@@ -231,3 +231,26 @@ popped xs old more x n is long rest =
     let one : n - 1 ≡ length xs = omega (arith, long, ap length is, length-append xs (x ∷ [])) in
     let short : length xs ≤ length xs = omega arith in
     rest ∙ ap (λ k. take k old) one ∙ ap (take (length xs)) is ∙ take-append-le (length xs) xs (x ∷ []) short ∙ take_all (length xs) xs short
+
+-- marks that are applied leave numbers
+pub never_lacks :
+    (key_of : Member → Member) (events : List Event) (views : List ViewValue) (t : TableValue Member) → IsStateAfter key_of events views t
+    → 2 ^ 64 ≤ cells_given key_of (Applied ∷ events) → ⊥
+never_lacks key_of events views t state l = omega (arith, l, marks_start_none key_of events state.sets, state.fits)
+
+-- whether numbers are left for a view's change, told by the keys that its membership starts
+pub lacks_told :
+    (key_of : Member → Member) (events : List Event) (id : ℕ) (members : List Member) (items seen : List View) (t : TableValue Member) (b : Bool)
+    → IsStateAfter key_of events (map view_value items) t → IsStrictlySortedBy member_cmp members → has_view id (views_after events) ≡ true
+    → seen ≡ items → (IsTrue b ↔ (2 ^ 64 ≤ t.next + length (fresh key_of (live (map view_value seen)) id members)))
+    → (IsTrue b ↔ (2 ^ 64 ≤ cells_given key_of (Updated id members ∷ Applied ∷ events)))
+lacks_told key_of events id members items seen t b state sorted has is told =
+    let count : List ViewValue → ℕ = λ vs. length (fresh key_of (live vs) id members) in
+    let views : count (map view_value seen) ≡ count (views_after events) = ap (λ (vs : List View). count (map view_value vs)) is ∙ ap count state.listed in
+    let given : cells_given key_of (Updated id members ∷ Applied ∷ events) ≡ t.next + count (map view_value seen)
+    = omega (arith, updated_given key_of events id members state.sets sorted has, views, state.cells.numbering.given) in
+    (λ e. omega (arith, told.0 e, given), λ l. told.1 (omega (arith, l, given)))
+
+-- a number is left where none is lacking
+pub left_numbers : (b : Bool) (n : ℕ) → b ≡ false → (IsTrue b ↔ (2 ^ 64 ≤ n)) → n < 2 ^ 64
+left_numbers b n f told = ⊎_elim (λ (l : n < 2 ^ 64). l) (λ (l : 2 ^ 64 ≤ n). absurd (true≢false (sym (told.1 l) ∙ f))) (cases_lt n (2 ^ 64))

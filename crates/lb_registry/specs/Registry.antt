@@ -1,5 +1,5 @@
 -- What contracts see of a registry, and what it is after a history.
-use Rattle.std.specs.Prelude.{◌≡◌, ◌⊎◌, ℕ, List, Option, Result, Err}
+use Rattle.std.specs.Prelude.{◌≡◌, ◌⊎◌, ◌<◌, ◌^◌, ℕ, List, Option, Result, Err}
 use Rattle.std.specs.List.{filter_map}
 use Rattle.std.specs.Option.{option_map}
 use Rattle.lb_select.specs.Backends.{Member, member_cmp, same_member}
@@ -8,7 +8,8 @@ use Rattle.lb_select.specs.declared.refusal.Refusal.TheVariants.{NoSuch, OutOfMe
 use Rattle.lb_registry.specs.declared.targets.Place.{Place}
 use Rattle.lb_registry.specs.declared.targets.Target.{Target}
 use Rattle.lb_registry.specs.Keys.{IsRuleOf}
-use Rattle.lb_registry.specs.RegistryEvents.{Event, views_after, registered_after, cell_events, changes_after, cell_health}
+use Rattle.lb_registry.specs.RegistryEvents.{Event, AreSets, views_after, registered_after, cell_events}
+use Rattle.lb_registry.specs.RegistryEvents.{changes_after, cells_given, cell_health}
 use Rattle.lb_registry.specs.Starts.{cell_now}
 use Rattle.lb_registry.specs.Table.{TableValue, IsTableAfter, IsPruned}
 use Rattle.lb_registry.specs.Targets.{ViewValue, targets_in}
@@ -21,8 +22,11 @@ pub record RegistryValue (R : Type 0) : Type 0 where
   pub registered : ℕ
   pub table : TableValue Member
 
--- views and table after these events, where no cell is stored but those that are kept
+-- views and table after these events, whose memberships were sets and for whose cells there were numbers; no cell is stored but
+-- those that are kept
 pub record IsStateAfter (key_of : Member → Member) (events : List Event) (views : List ViewValue) (table : TableValue Member) : Type 0 where
+  pub sets : AreSets events
+  pub fits : cells_given key_of events < 2 ^ 64
   pub listed : views ≡ views_after events
   pub cells : IsTableAfter member_cmp (cell_events key_of events) table
   pub pruned : IsPruned member_cmp (cell_events key_of events) table

@@ -5,6 +5,7 @@ use Rattle.std.specs.Ordering.{eq_by_cmp, nat_cmp}
 use Rattle.std.specs.BTreeMap.{insert_entry}
 use Rattle.std.specs.BTreeSet.{insert_key}
 use Rattle.std.specs.List.{filter_map, list_any}
+use Rattle.std.specs.List.Sorted.{IsStrictlySortedBy}
 use Rattle.std.specs.Option.{option_map}
 use Rattle.std.specs.Map.{values_of}
 use Rattle.lb_select.specs.Backends.{Member, member_cmp, same_member}
@@ -83,6 +84,18 @@ views_after (Observed c v ∷ earlier) = views_after earlier
 views_after (Held id generation ∷ earlier) = views_after earlier
 views_after (Released id generation ∷ earlier) = views_after earlier
 views_after (Configured healthy ∷ earlier) = views_after earlier
+
+-- each membership in these events is a set: its backends ascend by identity
+abbrev pub AreSets : List Event → Type 0
+AreSets [] = Unit {0}
+AreSets (Registered ∷ earlier) = AreSets earlier
+AreSets (Applied ∷ earlier) = AreSets earlier
+AreSets (Updated id members ∷ earlier) = IsStrictlySortedBy member_cmp members × AreSets earlier
+AreSets (Marked id ∷ earlier) = AreSets earlier
+AreSets (Observed c v ∷ earlier) = AreSets earlier
+AreSets (Held id generation ∷ earlier) = AreSets earlier
+AreSets (Released id generation ∷ earlier) = AreSets earlier
+AreSets (Configured healthy ∷ earlier) = AreSets earlier
 
 -- the pairs in a map by backend
 abbrev pub in_map : List (Member × ℕ) → List (Member × ℕ)

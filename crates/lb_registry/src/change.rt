@@ -3,6 +3,7 @@
 ghost use Rattle.std.specs.Prelude.{◌≡◌, ◌<◌, ◌≤◌, ◌^◌, ℕ, List, [], ◌∷◌, length, map, position, Some, IfOk, OnOk, OnErr};
 ghost use Rattle.std.specs.Prelude.{IsErrOf, Err, slice_get, vec_len};
 ghost use Rattle.std.specs.List.{list_all, list_any};
+ghost use Rattle.std.specs.List.Sorted.{IsStrictlySortedBy};
 ghost use Rattle.std.specs.Option.{IsSomeAnd};
 ghost use Rattle.lb_select.specs.Backends.{Member, member_cmp, same_member};
 ghost use Rattle.lb_select.specs.Memberships.{same_members};
@@ -158,6 +159,7 @@ pub(crate) fn replace<R: KeyRule>(
     requires { place < vec_len views.old }
     ensures ok { IfOk result (λ shown. (key_of : Member → Member) (events : List Event) (id : ℕ) → IsRuleOf R.gives rule.now key_of
         → position (λ v. is_view id (view_value v)) views.old.items ≡ Some place
+        → IsStrictlySortedBy member_cmp members.keys → cells_given key_of (Updated id members.keys ∷ Applied ∷ events) < 2 ^ 64
         → IsStateAfter key_of events (map view_value views.old.items) (table_value table.old)
         → IsReplaced key_of (Updated id members.keys ∷ Applied ∷ events) members.keys shown
         (map view_value views.new.items) (table_value table.new)) }

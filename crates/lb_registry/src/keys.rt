@@ -10,6 +10,7 @@ ghost use Rattle.lb_registry.specs.Keys.{by_number, rule_gives};
 use lb_select::backend::{Backend, Ext, InetAddr, SocketAddr};
 use lb_select::refusal::Refusal;
 use std::alloc::Global;
+use std::cmp::Ordering;
 
 /// What a table of cells asks of its keys: a clone is the same key.
 pub trait HealthKey: Ord + Clone + Drop {
@@ -25,7 +26,8 @@ impl HealthKey for Backend {
 /// A rule that gives each backend its health key. Backends of one key share a cell.
 pub trait KeyRule {
     ghost use Rattle.std.specs.Prelude.{◌≡◌, IfOk, OnErr};
-    ghost use Rattle.lb_select.specs.Backends.{Member};
+    ghost use Rattle.lb_select.specs.Backends.{Member, same_member};
+    ghost use Rattle.lb_registry.specs.Keys.{IsRuleOf};
 
     ghost gives: { Self → Member → Member → Type 0 };
 
@@ -33,6 +35,11 @@ pub trait KeyRule {
     fn key(&self, alloc: Global, backend: &Backend) -> Result<Backend, Refusal>
         ensures ok { IfOk result (λ k. gives self.now backend.now k) }
         ensures refused { OnErr result (result ≡ Err Refusal.OutOfMemory) };
+
+    /// Whether two backends have one key. It takes no memory.
+    fn same(&self, backend: &Backend, other: &Backend) -> bool
+        ensures { (key_of : Member → Member) → IsRuleOf gives self.now key_of
+            → result ≡ same_member (key_of backend.now) (key_of other.now) };
 }
 
 /// A caller's rule: backends of one number share a cell. It has to be a function of the backend.
@@ -52,6 +59,13 @@ impl ByNumber {
         ensures { result.number ≡ number }
     {
         ByNumber { number }
+    }
+
+    // The number of a backend.
+    fn number_of(&self, backend: &Backend) -> u64
+        ensures { (r : Bor Member) × (r.now ≡ backend.now) × Number.post self.now.number r result }
+    {
+        (self.number)(backend)
     }
 }
 
@@ -82,9 +96,13 @@ impl KeyRule for ByNumber {
     ghost gives = { λ rule b k. (n : ℕ) × ((r : Bor Member) × (r.now ≡ b) × Number.post rule.number r n) × (k ≡ by_number n) };
 
     fn key(&self, alloc: Global, backend: &Backend) -> Result<Backend, Refusal> {
-        let number = (self.number)(backend);
+        let number = self.number_of(backend);
         let addr = SocketAddr::Inet(InetAddr::V4([0, 0, 0, 0], 0));
         bare(alloc, &addr, number as usize)
+    }
+
+    fn same(&self, backend: &Backend, other: &Backend) -> bool {
+        self.number_of(backend) == self.number_of(other)
     }
 }
 
@@ -96,6 +114,14 @@ impl<N: KeyRule> KeyRule for Rule<N> {
             Rule::Identity => bare(alloc, &backend.addr, backend.weight),
             Rule::Address => bare(alloc, &backend.addr, 0),
             Rule::Equivalence(rule) => rule.key(alloc, backend),
+        }
+    }
+
+    fn same(&self, backend: &Backend, other: &Backend) -> bool {
+        match self {
+            Rule::Identity => backend == other,
+            Rule::Address => backend.addr.cmp(&other.addr) == Ordering::Equal,
+            Rule::Equivalence(rule) => rule.same(backend, other),
         }
     }
 }

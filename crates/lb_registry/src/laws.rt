@@ -1,6 +1,6 @@
 //! Laws of the registry's definitions, for every history: each is what its function ensures.
 //! There is no code here.
-ghost use Rattle.std.specs.Prelude.{◌≡◌, ◌≢◌, ◌≤◌, ◌<◌, ◌↔◌, ℕ, List, ◌∷◌, ◌++◌, length, true, false, Some, IsSome};
+ghost use Rattle.std.specs.Prelude.{◌≡◌, ◌≢◌, ◌≤◌, ◌<◌, ◌^◌, ◌↔◌, ℕ, List, ◌∷◌, ◌++◌, length, true, false, Some, IsSome};
 ghost use Rattle.std.specs.List.{list_any};
 ghost use Rattle.std.specs.Ordering.{eq_by_cmp, nat_cmp};
 ghost use Rattle.lb_select.specs.Backends.{Member, same_member};
@@ -58,6 +58,13 @@ pub fn live_snapshots_keep_their_cells()
 pub fn kept_cells_alone_are_stored<R: KeyRule>(registry: &Registry<R>)
     ensures { (key_of : Member → Member) (events : List Event) (c : ℕ) → IsRegistryAfter R.gives key_of events registry.now
         → (IsSome (value_at nat_cmp registry.now.table.cells c) ↔ IsCellKept key_of c events) }
+{}
+
+/// A law: marks that are applied start no cell, and fewer than 18446744073709551616 numbers of cells are given. So neither a list
+/// of targets nor a registration is ever refused for a cell's number.
+pub fn marks_start_no_cell<R: KeyRule>(registry: &Registry<R>)
+    ensures { (key_of : Member → Member) (events : List Event) → IsRegistryAfter R.gives key_of events registry.now
+        → (cells_given key_of (Applied ∷ events) ≡ cells_given key_of events) × (cells_given key_of events < 2 ^ 64) }
 {}
 
 /// A law: each target has a cell, so that the list of targets leaves none out.

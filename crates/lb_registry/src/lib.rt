@@ -3,6 +3,7 @@
 #![tactic(auto)]
 
 mod change;
+mod fresh;
 pub mod health;
 pub mod keys;
 pub mod laws;

@@ -14,6 +14,7 @@ ghost use Rattle.lb_registry.specs.Targets.{target_keys};
 ghost use Rattle.lb_registry.specs.Verdicts.{Verdict};
 
 use crate::change::{apply, is_same, place_of, replace};
+use crate::fresh::lacks_numbers;
 use crate::keys::{ByNumber, KeyRule, Rule};
 use crate::table::{CellTable, Held};
 use crate::targets::{Place, Target, View, live_order};
@@ -103,8 +104,8 @@ impl<R: KeyRule + Drop> Registry<R> {
     ///
     /// # Errors
     ///
-    /// `NumbersExhausted` where 18446744073709551615 views were registered, or no number is left for a cell; `OutOfMemory`
-    /// where memory is refused.
+    /// `NumbersExhausted` where 18446744073709551615 views were registered, whatever memory is left; `OutOfMemory` where memory
+    /// is refused.
     pub fn register_view(&mut self, alloc: Global) -> Result<u64, Refusal>
         ensures ok { OnOk result ((key_of : Member → Member) (events : List Event) → IsRegistryAfter R.gives key_of events self.old
             → IsRegistryAfter R.gives key_of (Applied ∷ Registered ∷ events) self.new) }
@@ -113,11 +114,8 @@ impl<R: KeyRule + Drop> Registry<R> {
             → id ≡ registered_after events + 1) }
         ensures err { OnErr result ((key_of : Member → Member) (events : List Event) → IsRegistryAfter R.gives key_of events self.old
             → IsRegistryAfter R.gives key_of events self.new) }
-        ensures full { (key_of : Member → Member) (events : List Event) → IsRegistryAfter R.gives key_of events self.old
-            → registered_after events + 1 ≡ 2 ^ 64 → result ≡ Err Refusal.NumbersExhausted }
         ensures exhausted { (key_of : Member → Member) (events : List Event) → IsRegistryAfter R.gives key_of events self.old
-            → IsErrOf result Refusal.NumbersExhausted
-            → (registered_after events + 1 ≡ 2 ^ 64) ⊎ (2 ^ 64 ≤ cells_given key_of (Applied ∷ Registered ∷ events)) }
+            → (IsErrOf result Refusal.NumbersExhausted ↔ (2 ^ 64 ≤ registered_after events + 1)) }
         ensures refused { OnErr result (IsGrowthRefusal result) }
     {
         let Some(id) = self.registered.checked_add(1) else {
@@ -139,6 +137,23 @@ impl<R: KeyRule + Drop> Registry<R> {
                 Err(refusal)
             }
         }
+    }
+
+    /// Whether no number is left for one more view: 18446744073709551615 were registered. It takes no memory.
+    pub fn is_full(&self) -> bool
+        ensures { (key_of : Member → Member) (events : List Event) → IsRegistryAfter R.gives key_of events self.now
+            → (IsTrue result ↔ (2 ^ 64 ≤ registered_after events + 1)) }
+    {
+        self.registered == u64::MAX
+    }
+
+    /// Whether fewer numbers are left than a view's update to this membership starts cells. It takes no memory.
+    pub fn lacks_numbers(&self, members: &BTreeSet<Backend>) -> bool
+        ensures { (key_of : Member → Member) (events : List Event) (id : ℕ) → IsRegistryAfter R.gives key_of events self.now
+            → has_view id (views_after events) ≡ true
+            → (IsTrue result ↔ (2 ^ 64 ≤ cells_given key_of (Updated id members.now.keys ∷ Applied ∷ events))) }
+    {
+        lacks_numbers(&self.rule, &self.views, members, self.table.numbering.next)
     }
 
     /// Whether there is a view of this number whose removal doesn't wait. It takes no memory.
@@ -172,7 +187,8 @@ impl<R: KeyRule + Drop> Registry<R> {
         ensures unknown { (key_of : Member → Member) (events : List Event) → IsRegistryAfter R.gives key_of events self.old
             → (IsErrOf result Refusal.NoSuch ↔ (has_view id (views_after events) ≡ false)) }
         ensures exhausted { (key_of : Member → Member) (events : List Event) → IsRegistryAfter R.gives key_of events self.old
-            → IsErrOf result Refusal.NumbersExhausted → 2 ^ 64 ≤ cells_given key_of (after_update id members.keys events) }
+            → has_view id (views_after events) ≡ true
+            → (IsErrOf result Refusal.NumbersExhausted ↔ (2 ^ 64 ≤ cells_given key_of (after_update id members.keys events))) }
         ensures refused { OnErr result (IsUpdateRefusal result) }
     {
         let Some(place) = place_of(&self.views, id) else {
@@ -180,6 +196,9 @@ impl<R: KeyRule + Drop> Registry<R> {
         };
         if is_same(&members, &self.views[place].members) {
             return Ok(());
+        }
+        if lacks_numbers(&self.rule, &self.views, &members, self.table.numbering.next) {
+            return Err(Refusal::NumbersExhausted);
         }
         replace(
             alloc,
@@ -215,12 +234,16 @@ impl<R: KeyRule + Drop> Registry<R> {
         ensures unknown { (key_of : Member → Member) (events : List Event) → IsRegistryAfter R.gives key_of events self.old
             → (IsErrOf result Refusal.NoSuch ↔ (has_view id (views_after events) ≡ false)) }
         ensures exhausted { (key_of : Member → Member) (events : List Event) → IsRegistryAfter R.gives key_of events self.old
-            → IsErrOf result Refusal.NumbersExhausted → 2 ^ 64 ≤ cells_given key_of (Updated id members.keys ∷ Applied ∷ events) }
+            → has_view id (views_after events) ≡ true
+            → (IsErrOf result Refusal.NumbersExhausted ↔ (2 ^ 64 ≤ cells_given key_of (Updated id members.keys ∷ Applied ∷ events))) }
         ensures refused { OnErr result (IsUpdateRefusal result) }
     {
         let Some(place) = place_of(&self.views, id) else {
             return Err(Refusal::NoSuch);
         };
+        if lacks_numbers(&self.rule, &self.views, &members, self.table.numbering.next) {
+            return Err(Refusal::NumbersExhausted);
+        }
         self.table.held.reserve(1)?;
         let shown = replace(
             alloc,
@@ -289,7 +312,7 @@ impl<R: KeyRule + Drop> Registry<R> {
     ///
     /// # Errors
     ///
-    /// `NumbersExhausted` where no number is left for a cell; `OutOfMemory` where memory is refused.
+    /// `OutOfMemory` where memory is refused. Marks that are applied start no cell, so a number is always left.
     pub fn target_count(&mut self, alloc: Global) -> Result<usize, Refusal>
         ensures ok { OnOk result ((key_of : Member → Member) (events : List Event) → IsRegistryAfter R.gives key_of events self.old
             → IsRegistryAfter R.gives key_of (Applied ∷ events) self.new) }
@@ -299,7 +322,7 @@ impl<R: KeyRule + Drop> Registry<R> {
         ensures err { OnErr result ((key_of : Member → Member) (events : List Event) → IsRegistryAfter R.gives key_of events self.old
             → IsRegistryAfter R.gives key_of events self.new) }
         ensures exhausted { (key_of : Member → Member) (events : List Event) → IsRegistryAfter R.gives key_of events self.old
-            → IsErrOf result Refusal.NumbersExhausted → 2 ^ 64 ≤ cells_given key_of (Applied ∷ events) }
+            → (IsErrOf result Refusal.NumbersExhausted ↔ (2 ^ 64 ≤ cells_given key_of (Applied ∷ events))) }
         ensures refused { OnErr result (IsGrowthRefusal result) }
     {
         let count = live_order(alloc, &self.rule, &self.views)?.len();
@@ -321,7 +344,7 @@ impl<R: KeyRule + Drop> Registry<R> {
         ensures err { OnErr result ((key_of : Member → Member) (events : List Event) → IsRegistryAfter R.gives key_of events self.old
             → IsRegistryAfter R.gives key_of events self.new) }
         ensures exhausted { (key_of : Member → Member) (events : List Event) → IsRegistryAfter R.gives key_of events self.old
-            → IsErrOf result Refusal.NumbersExhausted → 2 ^ 64 ≤ cells_given key_of (Applied ∷ events) }
+            → (IsErrOf result Refusal.NumbersExhausted ↔ (2 ^ 64 ≤ cells_given key_of (Applied ∷ events))) }
         ensures refused { OnErr result (IsGrowthRefusal result) }
     {
         let order = live_order(alloc, &self.rule, &self.views)?;

@@ -17,7 +17,7 @@ use Rattle.lb_registry.proofs.change.replace.Goals as goal
 
 pub returns-in-Ok-clause-ok : goal.returns-in-Ok-clause-ok
 returns-in-Ok-clause-ok g c =
-    λ key_of events id rule found state.
+    λ key_of events id rule found sorted fits state.
     let x = c.index_mut.result.now in
     let members = c.args.members.keys in
     let y : View = record { id = x.id; marked = x.marked; members = c.swap.new.x } in
@@ -36,7 +36,7 @@ returns-in-Ok-clause-ok g c =
     (c.deref-3.ensures.value ∙ c.in_ok-marked.ensures.ok key_of rule ∙ ap (λ (vs : List View). target_keys key_of (live (map view_value vs))) c.deref.ensures.value)
     (filter_same _ (λ (v : View). not v.marked) _ (λ x b f' t. search rules) _ _ c.retain.ensures.filtered)
     (subst Prepared c.deref-2.ensures.value (c.in-Ok.ensures.ok key_of (cell_events key_of events) members rule has state.cells))
-    c.commit.ensures.after c.commit.ensures.pruned
+    c.commit.ensures.after c.commit.ensures.pruned sorted fits
 
 pub returns-clause-err : goal.returns-clause-err
 returns-clause-err g c =
@@ -52,6 +52,8 @@ returns-clause-err g c =
     let same : view_value z ≡ view_value x
     = λ i. record { id = (there i).id; marked = (there i).marked; members = ((c.swap-in-Err.ensures.x_after ∙ c.swap.ensures.y_after) i).keys } in
     record {
+      sets = state.sets;
+      fits = state.fits;
       listed = put_back items place x y z (slice_get_read items (length items) place x refl within c.index_mut.ensures.value) same ∙ state.listed;
       cells = c.prune.ensures.after (cell_events key_of events) (c.in-Err.ensures.err (cell_events key_of events) state.cells);
       pruned = c.prune.ensures.pruned (cell_events key_of events) (c.in-Err.ensures.err (cell_events key_of events) state.cells);

@@ -25,4 +25,4 @@ returns-clause-id g c =
 pub returns-clause-refused : goal.returns-clause-refused
 returns-clause-refused g c =
     growth_only c.new_with_health_registry.result c.new_with_health_registry.ensures.refused
-    (λ e. elim (c.new_with_health_registry.ensures.exhausted by_identity [] c.new.ensures.registry e) [ inl h ↦ absurd (omega (arith, h)) | inr h ↦ absurd (omega (arith, h)) ])
+    (λ e. absurd (omega (arith, (c.new_with_health_registry.ensures.exhausted by_identity [] c.new.ensures.registry).0 e)))

@@ -17,6 +17,8 @@ returns-in-Some g c =
       rule = now.rule;
       registered = now.registered;
       state = record {
+        sets = now.state.sets;
+        fits = now.state.fits;
         listed =
             at_place view_value c.args.id with_mark c.self.inside.views.items c.in-Some.place c.index_mut.result.now _ found (at_found (λ (v : View). is_view c.args.id (view_value v)) c.self.inside.views.items c.in-Some.place c.index_mut.result.now found c.index_mut.ensures.value) refl
             ∙ ap (at_view c.args.id with_mark) now.state.listed;
@@ -36,6 +38,8 @@ returns-in_default g c =
       rule = r.rule;
       registered = r.registered;
       state = record {
+        sets = r.state.sets;
+        fits = r.state.fits;
         listed = r.state.listed ∙ stays;
         cells = r.state.cells;
         pruned = r.state.pruned;

@@ -1,13 +1,14 @@
-use Rattle.std.proofs.Common.{List, ◌∷◌, ◌++◌, map, ap, ◌∙◌}
+use Rattle.std.proofs.Common.{◌≡◌, Err, List, ◌∷◌, ◌++◌, map, ap, ◌∙◌, rules}
 use Rattle.std.specs.List.{filter_map}
 use Rattle.lb_select.specs.Backends.{Member}
+use Rattle.lb_select.specs.declared.refusal.Refusal.TheVariants.{OutOfMemory, NumbersExhausted}
 use Rattle.lb_registry.specs.declared.targets.Target.{Target}
 use Rattle.lb_registry.specs.declared.targets.View.{View}
 use Rattle.lb_registry.specs.Registry.{IsRegistryAfter, target_at}
 use Rattle.lb_registry.specs.RegistryEvents.{Event, Applied}
 use Rattle.lb_registry.specs.Table.{table_value}
 use Rattle.lb_registry.specs.Targets.{view_value, live, targets_in}
-use Rattle.lb_registry.proofs.StateLemmas.{seen}
+use Rattle.lb_registry.proofs.StateLemmas.{seen, not_refused, never_lacks}
 use Rattle.lb_registry.proofs.TableLemmas.{refused_for}
 use Rattle.lb_registry.proofs.registry.Registry.targets.Goals as goal
 
@@ -46,3 +47,34 @@ returns-clause-targets g c =
     c.with_targets.ensures key_of (Applied ∷ events) (c.in_ok-apply.ensures.ok key_of events now.rule now.state).cells
     ∙ ap (λ (ts : List Target). ts ++ filter_map (target_at key_of (Applied ∷ events)) c.in_ok-order.order.entries) (c.in_ok-reserve.ensures.items ∙ c.new-targets.ensures.items)
     ∙ ap (filter_map (target_at key_of (Applied ∷ events))) order
+
+pub returns-clause-exhausted : goal.returns-clause-exhausted
+returns-clause-exhausted g c =
+    λ key_of events r.
+    let now = seen g.R.KeyRule.gives key_of events _ _ c.self.view_is r in
+    (λ e. absurd (not_refused _ _ e), λ l. absurd (never_lacks key_of events _ _ now.state l))
+
+pub returns-in_err-apply-clause-exhausted : goal.returns-in_err-apply-clause-exhausted
+returns-in_err-apply-clause-exhausted g c =
+    λ key_of events r.
+    let now = seen g.R.KeyRule.gives key_of events _ _ c.self.view_is r in (
+      λ e. let is : c.in_err-apply.field-0.0 ≡ NumbersExhausted = search rules in
+          absurd (never_lacks key_of events _ _ now.state (c.in_err-apply.ensures.exhausted key_of events now.rule now.state (ap Err is))),
+      λ l. absurd (never_lacks key_of events _ _ now.state l),
+    )
+
+pub returns-in_err-order-clause-exhausted : goal.returns-in_err-order-clause-exhausted
+returns-in_err-order-clause-exhausted g c =
+    λ key_of events r.
+    let now = seen g.R.KeyRule.gives key_of events _ _ c.self.view_is r in (
+      λ e. let no : OutOfMemory ≡ NumbersExhausted = search rules in absurd (cc),
+      λ l. absurd (never_lacks key_of events _ _ now.state l),
+    )
+
+pub returns-in_err-reserve-clause-exhausted : goal.returns-in_err-reserve-clause-exhausted
+returns-in_err-reserve-clause-exhausted g c =
+    λ key_of events r.
+    let now = seen g.R.KeyRule.gives key_of events _ _ c.self.view_is r in (
+      λ e. let no : OutOfMemory ≡ NumbersExhausted = search rules in absurd (cc),
+      λ l. absurd (never_lacks key_of events _ _ now.state l),
+    )
