@@ -17,3 +17,4 @@ pub mod Living
 pub mod Rows
 pub mod Sharing
 pub mod Numbering
+pub mod Together
