@@ -11,8 +11,6 @@ pub mod Selecting
 pub mod Steps
 pub mod Viewing
 pub mod Joining
-pub mod Totals
-pub mod Holding
 pub mod Living
 pub mod Rows
 pub mod Sharing

@@ -1,9 +1,8 @@
 -- In a run the events of a group and of its view are those of a group that is joined with its view.
-use Rattle.std.proofs.Common.{◌≡◌, ◌⊎◌, inl, inr, ◌<◌, ◌+◌, ◌==◌, ◌∙◌, ℕ, zero, suc, Bool, true, false, cond, List, [], ◌∷◌, ◌++◌, length, map, replicate, refl, sym, ap, subst, arith}
+use Rattle.std.proofs.Common.{◌≡◌, ◌⊎◌, inl, inr, ◌<◌, ◌==◌, ◌∙◌, ℕ, zero, suc, Bool, true, false, cond, List, [], ◌∷◌, ◌++◌, length, replicate, refl, sym, ap, subst, arith}
 use Rattle.std.specs.Prelude.{Option, Some, None, slice_get}
 use Rattle.std.proofs.lemmas.Bool.{eq-eqb, ne_eqb, eqb-true, not-true, not-false}
 use Rattle.std.proofs.lemmas.Option.{none-some, same_Some, slice_get_within, slice_get_past}
-use Rattle.lb_select.specs.Backends.{Member}
 use Rattle.lb_select.specs.Memberships.{same_members}
 use Rattle.lb_health.specs.ViewEvents as view
 use Rattle.lb_health.specs.ViewEvents.{ViewEvent, membership_after}
@@ -12,7 +11,6 @@ use Rattle.lb_group.specs.GroupHistory as group
 use Rattle.lb_group.specs.GroupHistory.{At, past_of, newest, members_of, granted, extra, is_aloft, generation_of}
 use Rattle.lb_group.specs.GroupCalls.{is_change}
 use Rattle.lb_group.proofs.Pasts.{past-same}
-use Rattle.lb_joined.specs.JoinedCalls.{with_membership}
 use Rattle.lb_joined.specs.JoinedHistory as joined
 use Rattle.lb_joined.specs.JoinedHistory.{Shown, Set, in_group, after_settings}
 use Rattle.lb_joined.proofs.Histories.{group-joined, settings-group, settings-view}

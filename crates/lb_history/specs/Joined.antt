@@ -1,5 +1,5 @@
 -- What a history did to a group and to its view, in the words of a group that is joined with its view.
-use Rattle.std.specs.Prelude.{◌≡◌, ℕ, Bool, true, false, List, [], ◌∷◌, ◌++◌, length, Some, if◌then◌else◌}
+use Rattle.std.specs.Prelude.{◌≡◌, ℕ, true, false, List, [], ◌∷◌, ◌++◌, length, Some, if◌then◌else◌}
 use Rattle.lb_select.specs.Backends.{Member}
 use Rattle.lb_registry.specs.RegistryEvents.{shown_cells}
 use Rattle.lb_group.specs.GroupHistory as group
