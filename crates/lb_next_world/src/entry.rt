@@ -7,6 +7,7 @@ ghost use Rattle.lb_next_world.specs.Locals.{local_seen, IsWhole};
 ghost use Rattle.lb_next_world.specs.Stands.{IsEntry, Does, DoesAtRegistry, DoesAlone};
 
 mod membership;
+mod readers;
 mod tasks;
 
 use crate::held::Place;

@@ -116,6 +116,20 @@ impl<S: BackendSelection> Model for Held<S> {
 }
 
 impl<S: BackendSelection> Held<S> {
+    // The number of its group.
+    pub(crate) fn group(&self) -> usize
+        ensures { result ≡ self.now.group }
+    {
+        self.group
+    }
+
+    // The reader itself.
+    pub(crate) fn reader(&self) -> &Reader<S>
+        ensures { result.now ≡ self.now.reader }
+    {
+        &self.reader
+    }
+
     // Lets the reader go with the world.
     pub(crate) fn close(self) {
         let Held { group: _, reader } = self;
