@@ -12,7 +12,6 @@ use Rattle.lb_health.specs.Joined.{lives, without_gone, view_changed}
 use Rattle.lb_group.specs.GroupHistory as group
 use Rattle.lb_group.specs.GroupHistory.{newest, members_of}
 use Rattle.lb_history.specs.Steps.{Step}
-use Rattle.lb_history.specs.declared.step.Listing.{Listing}
 use Rattle.lb_history.specs.Steps as step
 use Rattle.lb_history.specs.declared.answer.Answer.{Answer}
 use Rattle.lb_history.specs.declared.answer.Answer.TheVariants as answer

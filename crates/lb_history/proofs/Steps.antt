@@ -18,6 +18,7 @@ use Rattle.lb_history.specs.Meanings.{Meaning}
 use Rattle.lb_history.specs.History.{History, Made, is_at, config, made, made_at, group_at, work, ended, happened, group_events, past}
 use Rattle.lb_history.specs.Shared.{held_at_first, changed, registry_events, showed, view_events}
 use Rattle.lb_history.specs.Answers.{Answers, IsRun, without_memory, at_one, unless_refused, destroy_refusal}
+use Rattle.lb_history.specs.Joined.{joined_after, joined_events}
 use Rattle.lb_history.specs.Promises.{Raises, DestroysExactly, OthersStay}
 use Rattle.lb_history.proofs.Placing.{on-past}
 use Rattle.lb_history.proofs.Accepted.{right-is, there, built-there, destroying}
@@ -103,5 +104,6 @@ module _ {C : Type 0} where
       record {
         groups = λ g off. ap (λ (t : Bool). cond t (happened h (group_events g h) st a ++ group_events g h) (group_events g h)) off;
         views = λ g m there off. views-stay h st a g m there off;
+        joined = λ g off. ap (λ (t : Bool). cond t (joined_after h (group_events g h) (joined_events g h) st a) (joined_events g h)) off;
         registries = λ r off. ap (λ (t : Bool). cond t (changed h ((st, a) ∷ h) st a (registry_events r h)) (registry_events r h)) off;
       }

@@ -1,5 +1,6 @@
 pub mod Answers
 pub mod History
+pub mod Joined
 pub mod Meanings
 pub mod Promises
 pub mod Selected

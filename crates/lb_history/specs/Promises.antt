@@ -21,6 +21,7 @@ use Rattle.lb_history.specs.History.{History, Made, idle, is_at, members_in, rea
 use Rattle.lb_history.specs.History.{work, group_events, past, is_grant, is_failure, is_destruction, is_out, registry_of}
 use Rattle.lb_history.specs.Shared.{is_live, extra_at, key_of, events_in, cells_of, registry_at, registry_events, view_events}
 use Rattle.lb_history.specs.Answers.{answer_after}
+use Rattle.lb_history.specs.Joined.{joined_events}
 
 module _ {C : Type 0} where
   -- a flight, a lost flight, or a retired selector that is not reported destroyed stands in the slot
@@ -102,6 +103,7 @@ module _ {C : Type 0} where
     pub groups : (g : ℕ) → is_at g (group_at h st) ≡ false → group_events g ((st, a) ∷ h) ≡ group_events g h
     pub views : (g : ℕ) (m : Made C) → made_at g h ≡ Some m → is_at g (group_at h st) ≡ false
         → view_events g ((st, a) ∷ h) ≡ view_events g h
+    pub joined : (g : ℕ) → is_at g (group_at h st) ≡ false → joined_events g ((st, a) ∷ h) ≡ joined_events g h
     pub registries : (r : ℕ) → is_at r (registry_at h st) ≡ false → registry_events r ((st, a) ∷ h) ≡ registry_events r h
 
   -- A group's view is at its newest generation and membership, and each snapshot that lives has the members and the cells of its own
