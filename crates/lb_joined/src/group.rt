@@ -1,7 +1,7 @@
 //! A group joined with its view: a membership reaches both or neither, and each slot holds the snapshots that it has in use.
 //! A call tests all that it can refuse for before it changes anything; builds run elsewhere, between `ask` and `publish`.
-ghost use Rattle.std.specs.Prelude.{◌≡◌, ◌↔◌, ◌≤◌, ◌+◌, ◌^◌, ◌∷◌, [], ℕ, List, false, map, replicate, IfOk, IsTrue, OnOk, OnErr, IsErrOf};
-ghost use Rattle.std.specs.Prelude.{slice_get};
+ghost use Rattle.std.specs.Prelude.{◌≡◌, ◌↔◌, ◌⊎◌, ◌≤◌, ◌+◌, ◌^◌, ◌∷◌, [], ℕ, List, false, map, replicate, IfOk, IsTrue, OnOk, OnErr};
+ghost use Rattle.std.specs.Prelude.{IsErrOf, None, slice_get};
 ghost use Rattle.std.specs.Arc.{arc_value};
 ghost use Rattle.lb_select.specs.Backends.{Member};
 ghost use Rattle.lb_select.specs.Refusals.{least};
@@ -86,6 +86,9 @@ impl<S: BackendSelection> GroupCore<S> {
             → IsRegistryAfter R.gives key_of (Applied ∷ Registered ∷ events) registry.new) }
         ensures err { OnErr result ((key_of : Member → Member) (events : List Event) → IsRegistryAfter R.gives key_of events registry.old
             → IsRegistryAfter R.gives key_of events registry.new) }
+        ensures exhausted { (key_of : Member → Member) (events : List Event) → IsRegistryAfter R.gives key_of events registry.old
+            → least (map (S.refusal []) configs.items) ≡ None → IsErrOf result Refusal.NumbersExhausted
+            → (registered_after events + 1 ≡ 2 ^ 64) ⊎ (2 ^ 64 ≤ cells_given key_of (Applied ∷ Registered ∷ events)) }
         ensures refused { IsMakingRefusal (least (map (S.refusal []) configs.items)) result }
     {
         let slots = configs.len();
