@@ -463,7 +463,7 @@ impl<S: BackendSelection> GroupCore<S> {
 
     /// The generation of a slot's flight, or none: `None` where no such slot is there.
     pub fn flight(&self, slot: usize) -> Option<Option<u64>>
-        ensures { After self.now (λ made h. result ≡ at_slot made slot (flight_in (extra_after (past_of slot h)))) }
+        ensures { After self.now (λ made h. result ≡ at_slot made slot (flight_after (past_of slot h))) }
     {
         if slot >= self.slots.len() {
             return None;

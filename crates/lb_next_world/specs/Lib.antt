@@ -1,6 +1,5 @@
 pub mod Calls
 pub mod Founded
-pub mod Joined
 pub mod Loads
 pub mod Locals
 pub mod Stands

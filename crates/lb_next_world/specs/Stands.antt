@@ -13,7 +13,7 @@ use Rattle.lb_history.specs.History.{History, Made, registries, gates, made, mad
 use Rattle.lb_history.specs.History.{is_destruction, load_of}
 use Rattle.lb_history.specs.Shared.{key_at, key_of, registry_events}
 use Rattle.lb_history.specs.Answers.{IsRun, Answers}
-use Rattle.lb_next_world.specs.Joined.{joined_events}
+use Rattle.lb_history.specs.Joined.{joined_events}
 use Rattle.lb_next_world.specs.Loads.{load_in}
 use Rattle.lb_next_world.specs.Views.{WorkValue, HeldValue, entered_of, EntryValue, WorldValue, site, IsOwnReader}
 use Rattle.lb_next_world.specs.Works.{held_of}
