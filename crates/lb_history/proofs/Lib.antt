@@ -16,3 +16,4 @@ pub mod Rows
 pub mod Sharing
 pub mod Numbering
 pub mod Together
+pub mod Registered

@@ -42,7 +42,7 @@ module _ {C : Type 0} where
   last-over r true y is = rw is refl
   last-over r false y is = rw is refl
 
-  over-pushed : (r : ℕ) (xs : List (Made C)) (y : Made C) → over r (xs ++ y ∷ []) ≡ over r xs + cond (y.registry == r) 1 0
+  pub over-pushed : (r : ℕ) (xs : List (Made C)) (y : Made C) → over r (xs ++ y ∷ []) ≡ over r xs + cond (y.registry == r) 1 0
   over-pushed r [] y = last-over r (y.registry == r) y refl ∙ (let same : cond (y.registry == r) 1 0 ≡ 0 + cond (y.registry == r) 1 0 = omega arith in same)
   over-pushed r (x ∷ xs) y = one-over r (x.registry == r) x xs (xs ++ y ∷ []) (cond (y.registry == r) 1 0) (over-pushed r xs y)
 
@@ -68,13 +68,13 @@ fresh false x none = sym none
 
 module _ {C : Type 0} (M : Meaning C) where
   -- a group is made over a registry that is there
-  made-over : (h : History C) (r b : ℕ) (cs : List C) (n : ℕ) → Answers M h (step.group r b cs) (answer.Group n) → r < length (registries h)
+  pub made-over : (h : History C) (r b : ℕ) (cs : List C) (n : ℕ) → Answers M h (step.group r b cs) (answer.Group n) → r < length (registries h)
   made-over h r b cs n right =
       let told = right-is {C = C} (step.group r b cs) (answer_after M h (step.group r b cs)) (answer.Group n) right refl in
       let u = unrefused _ _ (answer.Group n) told refl in
       ltb-true r (length (registries h)) (and_parts (nat_lt r (length (registries h))) _ (named-there _ (earlier-none _ _ u.0))).0
 
-  registries-there : (h : History C) → IsRun M h → Each (λ (m : Made C). m.registry < length (registries h)) (made h)
+  pub registries-there : (h : History C) → IsRun M h → Each (λ (m : Made C). m.registry < length (registries h)) (made h)
   registries-there [] run = tt
   registries-there ((step.registry rule healthy, answer.Registry n) ∷ h) run =
       each-weaker _ _

@@ -102,7 +102,7 @@ first-held : {C : Type 0} (cs : List C) → replicate (length cs) (view.Held 0) 
 first-held [] = refl
 first-held (c ∷ cs) = ap (λ (v : List ViewEvent). view.Held 0 ∷ v) (first-held cs)
 
-get-pushed : {X : Type 0} (xs : List X) (y z : X) (i : ℕ) → slice_get (xs ++ y ∷ []) i ≡ Some z
+pub get-pushed : {X : Type 0} (xs : List X) (y z : X) (i : ℕ) → slice_get (xs ++ y ∷ []) i ≡ Some z
     → ((i ≡ length xs) × (z ≡ y)) ⊎ ((i < length xs) × (slice_get xs i ≡ Some z))
 get-pushed [] y z zero e = inl (refl, sym (same_Some y z e))
 get-pushed [] y z (suc i) e = absurd (none-some z e)

@@ -6,7 +6,7 @@ use Rattle.std.specs.List.{AllByRecursion as Each, list_any}
 use Rattle.std.specs.Option.{IsSomeAnd}
 use Rattle.lb_select.specs.Backends.{Member, same_member}
 use Rattle.lb_select.specs.declared.refusal.Refusal.TheVariants as refusal
-use Rattle.lb_registry.specs.RegistryEvents.{IsCellKept, cell_health}
+use Rattle.lb_registry.specs.RegistryEvents.{IsCellKept, cell_health, views_after, has_view}
 use Rattle.lb_health.specs.Joined.{lives, registry_released, registry_updated}
 use Rattle.lb_health.specs.Snapshots.{SnapshotValue, value_at}
 use Rattle.lb_health.specs.ViewEvents.{generation_after, membership_after, snapshots_after, flag_after}
@@ -152,6 +152,12 @@ module _ {C : Type 0} where
     pub cell : IsSomeAnd (value_at (cells_of g n h) b)
         (λ c. IsCellKept (key_of g h) c (events_in (registry_of g h) h)
         × (cell_health (key_of g h) c (events_in (registry_of g h) h) ≡ true))
+
+  -- the view of a group that is not cancelled is registered, and no mark waits for it
+  abbrev pub IsRegistered : ℕ → History C → Type 0
+  IsRegistered g h =
+      (m : Made C) → made_at g h ≡ Some m → group.is_cancelled (group_events g h) ≡ false
+      → has_view m.view (views_after (registry_events m.registry h)) ≡ true
 
   -- to a group that isn't there nothing has happened
   pub record Untouched (g : ℕ) (h : History C) : Type 0 where
