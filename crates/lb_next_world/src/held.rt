@@ -1,13 +1,12 @@
 //! What a world holds for others: the job or the built selector of each slot, and the readers.
 //! A job and a built selector lie here between the steps that ask, build and publish.
-ghost use Rattle.std.specs.Prelude.{◌≡◌, IfOk, MatchOption, replicate};
+ghost use Rattle.std.specs.Prelude.{◌≡◌, ◌≤◌, [], MatchOption, replicate, vec_capacity};
 ghost use Rattle.lb_next_world.specs.Views.{nothing, building, ready, NotBuilding, NotReady};
 ghost use Rattle.lb_next_world.specs.Works.{work_value};
 
 use lb_group::job::{Built, Job};
 use lb_group::retired::Reader;
 use lb_select::walk::BackendSelection;
-use std::alloc::{AllocError, Global};
 use std::marker::Model;
 use std::mem;
 
@@ -85,20 +84,21 @@ impl<S: BackendSelection> Place<S> {
     }
 }
 
-// A place for each of so many slots, with nothing held.
-pub(crate) fn empty_places<S: BackendSelection>(
-    alloc: Global,
+// A place for each of so many slots, with nothing held, in a list that has room for them.
+pub(crate) fn with_places<S: BackendSelection>(
+    mut room: Vec<Place<S>>,
     count: usize,
-) -> Result<Vec<Place<S>>, AllocError>
-    ensures { IfOk result (λ places. places.items ≡ replicate count nothing) }
+) -> Vec<Place<S>>
+    requires empty { room.items ≡ [] }
+    requires fits { count ≤ vec_capacity room }
+    ensures { result.items ≡ replicate count nothing }
 {
-    let mut places = Vec::with_capacity(alloc, count)?;
     for _ in 0..count {
-        places.push_reserved(Place {
+        room.push_reserved(Place {
             work: Work::Nothing,
         });
     }
-    Ok(places)
+    room
 }
 
 // A reader with the number of its group.

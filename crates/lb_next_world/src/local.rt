@@ -4,6 +4,7 @@ use lb_history::step::Listing;
 use lb_select::backend::Backend;
 
 // What a step does at its group.
+#[derive(Drop)]
 pub(crate) enum Local<'a> {
     Update {
         now: u128,

@@ -1,6 +1,6 @@
 //! Steps of a group's membership and selections: how a group is made and updated, and what its slots select.
 //! Every cause of refusal is tested before memory is taken.
-ghost use Rattle.std.specs.Prelude.{◌≡◌, ◌⊎◌, ◌≤◌, ◌+◌, ◌^◌, ◌∷◌, ℕ, List, [], map, false, not, IfOk, IfErr, OnErr, IsErrOf};
+ghost use Rattle.std.specs.Prelude.{◌≡◌, ◌⊎◌, ◌≤◌, ◌+◌, ◌^◌, ◌∷◌, ℕ, List, [], map, false, not, None, IfOk, IfErr, OnErr, IsErrOf};
 ghost use Rattle.lb_select.specs.Memberships.{same_members};
 ghost use Rattle.lb_group.specs.GroupCalls.{schedule_refusal as refusal_after};
 ghost use Rattle.lb_health.specs.Joined.{settings_of};
@@ -16,12 +16,11 @@ ghost use Rattle.lb_next_world.specs.Calls.{IsNewEntry};
 ghost use Rattle.lb_rebuild.specs.Gate.{GateView};
 ghost use Rattle.lb_select.specs.Backends.{Member};
 ghost use Rattle.lb_select.specs.Refusals.{least};
-ghost use Rattle.lb_joined.specs.JoinedCalls.{IsMakingRefusal};
-ghost use Rattle.lb_registry.specs.Registry.{IsRegistryAfter};
+ghost use Rattle.lb_registry.specs.Registry.{IsRegistryAfter, IsGrowthRefusal};
 ghost use Rattle.lb_registry.specs.RegistryEvents.{Event, Registered, Applied, registered_after, cells_given};
 
 use super::Entry;
-use crate::held::empty_places;
+use crate::held::with_places;
 use lb_health::view::Settings;
 use lb_history::answer::Answer;
 use lb_history::step::Listing;
@@ -36,8 +35,8 @@ use std::alloc::Global;
 use std::collections::{BTreeMap, BTreeSet};
 
 impl<S: BackendSelection> Entry<S> {
-    // A group over that registry and that gate by their numbers, with a slot for each configuration. Refused for the least cause
-    // of a configuration; where there is none, for memory or because no number is left.
+    // A group over that registry and that gate by their numbers, with a slot for each configuration. Refused for memory or
+    // because no number is left; the registry is then as before.
     pub(crate) fn new(
         alloc: Global,
         at: (usize, usize),
@@ -45,6 +44,7 @@ impl<S: BackendSelection> Entry<S> {
         gate: &GateCore,
         configs: Vec<S::Config>,
     ) -> Result<Entry<S>, Refusal>
+        requires { least (map (S.refusal []) configs.items) ≡ None }
         ensures made { IfOk result (λ e. (key_of : Member → Member) (events : List Event)
             → IsRegistryAfter ⟦<Rule<ByNumber> as KeyRule>⟧.gives key_of events registry.old
             → IsNewEntry at.0 at.1 gate.now.id configs.items (registered_after events + 1) e
@@ -52,19 +52,26 @@ impl<S: BackendSelection> Entry<S> {
         ensures err { OnErr result ((key_of : Member → Member) (events : List Event)
             → IsRegistryAfter ⟦<Rule<ByNumber> as KeyRule>⟧.gives key_of events registry.old
             → IsRegistryAfter ⟦<Rule<ByNumber> as KeyRule>⟧.gives key_of events registry.new) }
-        ensures refused { IsMakingRefusal (least (map (S.refusal []) configs.items)) result }
+        ensures refused { OnErr result (IsGrowthRefusal result) }
         ensures numbers { IsErrOf result Refusal.NumbersExhausted → (key_of : Member → Member) (events : List Event)
             → IsRegistryAfter ⟦<Rule<ByNumber> as KeyRule>⟧.gives key_of events registry.old
             → (registered_after events + 1 ≡ 2 ^ 64) ⊎ (2 ^ 64 ≤ cells_given key_of (Applied ∷ Registered ∷ events)) }
     {
-        let works = empty_places(alloc, configs.len())?;
-        Ok(Entry {
-            registry: at.0,
-            gate: at.1,
-            core: GroupCore::new(alloc, registry, gate, configs)?,
-            works,
-            loads: BTreeMap::new(alloc),
-        })
+        let count = configs.len();
+        let room = Vec::with_capacity(alloc, count)?;
+        match GroupCore::new(alloc, registry, gate, configs) {
+            Ok(core) => Ok(Entry {
+                registry: at.0,
+                gate: at.1,
+                core,
+                works: with_places(room, count),
+                loads: BTreeMap::new(alloc),
+            }),
+            Err(refusal) => {
+                room.destroy_empty();
+                Err(refusal)
+            }
+        }
     }
 
     // Makes the backends of these listings the newest membership, where it is another one, and sets the flags of the marked ones.
