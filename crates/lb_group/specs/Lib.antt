@@ -1,4 +1,5 @@
 pub mod Drawn
+pub mod Flights
 pub mod Fresh
 pub mod GroupCalls
 pub mod GroupHistory

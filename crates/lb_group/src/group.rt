@@ -4,7 +4,9 @@ ghost use Rattle.std.specs.Prelude.{◌≡◌, ◌++◌, ◌∷◌, [], map, IfO
 ghost use Rattle.std.specs.Arc.{arc_value};
 ghost use Rattle.lb_select.specs.Refusals.{Refuses, least};
 ghost use Rattle.lb_group.specs.GroupHistory.{History, Scheduled as ScheduledEvent, Cancelled, WorkerLost, Entered, Left, TakenOut};
-ghost use Rattle.lb_group.specs.GroupHistory.{Destroyed, past_of, newest as newest_after, served as served_after, is_cancelled};
+ghost use Rattle.lb_group.specs.GroupHistory.{Destroyed, past_of, newest as newest_after, served as served_after, is_cancelled, members_of};
+ghost use Rattle.lb_group.specs.GroupHistory.{waits as waits_after, readers as readers_after};
+ghost use Rattle.lb_group.specs.Flights.{flight_after};
 ghost use Rattle.lb_group.specs.GroupHistory.{timing as timing_after};
 ghost use Rattle.lb_group.specs.Fresh.{fresh_slot};
 ghost use Rattle.lb_group.specs.SlotSeen.{slot_value};
@@ -457,6 +459,44 @@ impl<S: BackendSelection> GroupCore<S> {
             return None;
         }
         self.slots[slot].taken_out()
+    }
+
+    /// The generation of a slot's flight, or none: `None` where no such slot is there.
+    pub fn flight(&self, slot: usize) -> Option<Option<u64>>
+        ensures { After self.now (λ made h. result ≡ at_slot made slot (flight_after (past_of slot h))) }
+    {
+        if slot >= self.slots.len() {
+            return None;
+        }
+        Some(self.slots[slot].flight())
+    }
+
+    /// Whether a slot waits for a job or a publication of the newest generation: `None` where no such slot is there.
+    pub fn is_waiting(&self, slot: usize) -> Option<bool>
+        ensures { After self.now (λ made h. result ≡ at_slot made slot (waits_after (past_of slot h))) }
+    {
+        if slot >= self.slots.len() {
+            return None;
+        }
+        Some(self.slots[slot].waits(self.newest))
+    }
+
+    /// How many readers are in what a slot serves: `None` where no such slot is there.
+    pub fn readers(&self, slot: usize) -> Option<u64>
+        ensures { After self.now (λ made h.
+            result ≡ at_slot made slot (readers_after (served_after (past_of slot h)) (past_of slot h))) }
+    {
+        if slot >= self.slots.len() {
+            return None;
+        }
+        Some(self.slots[slot].readers)
+    }
+
+    /// The membership of the newest generation. It takes no memory.
+    pub fn members(&self) -> &BTreeSet<Backend>
+        ensures { After self.now (λ made h. result.now.keys ≡ members_of (newest_after h) h) }
+    {
+        &self.current
     }
 
     /// The counts of a slot, or `None` where no such slot is there.

@@ -1,13 +1,13 @@
 //! A slot of a group: the selector that it serves to its readers, the order that waits, and at most one extra selector.
 //! Its calls say exactly what they do to the slot; the group above tells them by its history.
-ghost use Rattle.std.specs.Prelude.{◌≡◌, ◌&&◌, not, Bool, true, [], ◌<◌, ◌⊎◌, ℕ, IfOk, IfErr, OnErr, nat_lt, if◌then◌else◌};
+ghost use Rattle.std.specs.Prelude.{◌≡◌, ◌&&◌, not, Bool, true, [], ◌<◌, ◌⊎◌, ℕ, Some, None, IfOk, IfErr, OnErr, nat_lt, if◌then◌else◌};
 ghost use Rattle.std.specs.Arc.{arc_value};
 ghost use Rattle.std.specs.Fn.{FnReturnsAt};
 ghost use Rattle.lb_select.specs.Refusals.{Refuses};
 ghost use Rattle.lb_select.specs.Backends.{Member, same_member};
 ghost use Rattle.lb_select.specs.Selections.{Selects};
 ghost use Rattle.lb_group.specs.SlotSeen.{permit_of};
-ghost use Rattle.lb_group.specs.GroupHistory.{is_flight, is_aloft as aloft, is_retired_of, is_taken_out, taken_out_number};
+ghost use Rattle.lb_group.specs.GroupHistory.{is_flight, is_aloft as aloft, is_retired_of, is_taken_out, taken_out_number, flight_number};
 
 use crate::answers::{Ask, Counts, Selection, Timing, Told};
 use crate::job::{Built, Job, Order};
@@ -99,7 +99,7 @@ impl<S: BackendSelection> Slot<S> {
     }
 
     // Whether neither what it serves nor what is in flight is of the newest generation.
-    fn waits(&self, newest: u64) -> bool
+    pub(crate) fn waits(&self, newest: u64) -> bool
         ensures { result ≡ slot_waits newest (slot_value self.now) }
     {
         let flight = match &self.stage {
@@ -452,6 +452,16 @@ impl<S: BackendSelection> Slot<S> {
                 Ok(retired)
             }
             Stage::Free | Stage::Flight(_) | Stage::Lost(_) | Stage::TakenOut(_) => unreachable!(),
+        }
+    }
+
+    // The generation of its flight.
+    pub(crate) fn flight(&self) -> Option<u64>
+        ensures { result ≡ (if is_flight (extra_of self.now.stage) then Some (flight_number (extra_of self.now.stage)) else None) }
+    {
+        match &self.stage {
+            Stage::Flight(generation) => Some(*generation),
+            Stage::Free | Stage::Lost(_) | Stage::Retired(_) | Stage::TakenOut(_) => None,
         }
     }
 

@@ -11,9 +11,9 @@ pub mod Selecting
 pub mod Steps
 pub mod Viewing
 pub mod Joining
-pub mod Totals
-pub mod Holding
 pub mod Living
 pub mod Rows
 pub mod Sharing
 pub mod Numbering
+pub mod Together
+pub mod Registered

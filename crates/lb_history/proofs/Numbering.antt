@@ -10,8 +10,8 @@ use Rattle.lb_registry.specs.RegistryEvents.{registered_after}
 use Rattle.lb_group.specs.GroupHistory.{newest}
 use Rattle.lb_history.specs.Steps.{Step}
 use Rattle.lb_history.specs.Steps as step
-use Rattle.lb_history.specs.Replies.{Answer}
-use Rattle.lb_history.specs.Replies as answer
+use Rattle.lb_history.specs.declared.answer.Answer.{Answer}
+use Rattle.lb_history.specs.declared.answer.Answer.TheVariants as answer
 use Rattle.lb_history.specs.Meanings.{Meaning}
 use Rattle.lb_history.specs.History.{History, Made, is_at, members_in, over, registries, made, made_at, group_events}
 use Rattle.lb_history.specs.Shared.{started, is_live, configs_in, view_in, let_go, extra_at, registry_at, changed, registry_events}
@@ -42,7 +42,7 @@ module _ {C : Type 0} where
   last-over r true y is = rw is refl
   last-over r false y is = rw is refl
 
-  over-pushed : (r : ℕ) (xs : List (Made C)) (y : Made C) → over r (xs ++ y ∷ []) ≡ over r xs + cond (y.registry == r) 1 0
+  pub over-pushed : (r : ℕ) (xs : List (Made C)) (y : Made C) → over r (xs ++ y ∷ []) ≡ over r xs + cond (y.registry == r) 1 0
   over-pushed r [] y = last-over r (y.registry == r) y refl ∙ (let same : cond (y.registry == r) 1 0 ≡ 0 + cond (y.registry == r) 1 0 = omega arith in same)
   over-pushed r (x ∷ xs) y = one-over r (x.registry == r) x xs (xs ++ y ∷ []) (cond (y.registry == r) 1 0) (over-pushed r xs y)
 
@@ -68,13 +68,13 @@ fresh false x none = sym none
 
 module _ {C : Type 0} (M : Meaning C) where
   -- a group is made over a registry that is there
-  made-over : (h : History C) (r b : ℕ) (cs : List C) (n : ℕ) → Answers M h (step.group r b cs) (answer.Group n) → r < length (registries h)
+  pub made-over : (h : History C) (r b : ℕ) (cs : List C) (n : ℕ) → Answers M h (step.group r b cs) (answer.Group n) → r < length (registries h)
   made-over h r b cs n right =
       let told = right-is {C = C} (step.group r b cs) (answer_after M h (step.group r b cs)) (answer.Group n) right refl in
       let u = unrefused _ _ (answer.Group n) told refl in
       ltb-true r (length (registries h)) (and_parts (nat_lt r (length (registries h))) _ (named-there _ (earlier-none _ _ u.0))).0
 
-  registries-there : (h : History C) → IsRun M h → Each (λ (m : Made C). m.registry < length (registries h)) (made h)
+  pub registries-there : (h : History C) → IsRun M h → Each (λ (m : Made C). m.registry < length (registries h)) (made h)
   registries-there [] run = tt
   registries-there ((step.registry rule healthy, answer.Registry n) ∷ h) run =
       each-weaker _ _

@@ -1,5 +1,5 @@
 -- What single steps do: publications, destructions, and that others stay.
-use Rattle.std.proofs.Common.{◌≡◌, ◌⊎◌, inl, inr, ◌<◌, ◌==◌, ◌∙◌, ℕ, Bool, true, false, cond, ◌∷◌, ◌++◌, length, refl, sym, ap, subst, arith}
+use Rattle.std.proofs.Common.{◌≡◌, ◌⊎◌, inl, inr, ◌<◌, ◌==◌, ◌&&◌, ◌∙◌, ℕ, Bool, true, false, cond, ◌∷◌, ◌++◌, length, refl, sym, ap, subst, arith}
 use Rattle.std.specs.Prelude.{Option, Some, None}
 use Rattle.std.proofs.lemmas.Bool.{ne_eqb, eqb-false}
 use Rattle.std.proofs.lemmas.Option.{slice_get_within}
@@ -12,12 +12,13 @@ use Rattle.lb_group.specs.Stands.{left_readers}
 use Rattle.lb_group.proofs.Telling.{rises}
 use Rattle.lb_history.specs.Steps.{Step}
 use Rattle.lb_history.specs.Steps as step
-use Rattle.lb_history.specs.Replies.{Answer}
-use Rattle.lb_history.specs.Replies as answer
+use Rattle.lb_history.specs.declared.answer.Answer.{Answer}
+use Rattle.lb_history.specs.declared.answer.Answer.TheVariants as answer
 use Rattle.lb_history.specs.Meanings.{Meaning}
 use Rattle.lb_history.specs.History.{History, Made, is_at, config, made, made_at, group_at, work, ended, happened, group_events, past}
 use Rattle.lb_history.specs.Shared.{held_at_first, changed, registry_events, showed, view_events}
-use Rattle.lb_history.specs.Answers.{Answers, IsRun, without_memory, at_one, unless_refused, destroy_refusal}
+use Rattle.lb_history.specs.Answers.{Answers, IsRun, without_memory, counts_later, is_exhausted, at_one, unless_refused, destroy_refusal}
+use Rattle.lb_history.specs.Joined.{joined_after, joined_events}
 use Rattle.lb_history.specs.Promises.{Raises, DestroysExactly, OthersStay}
 use Rattle.lb_history.proofs.Placing.{on-past}
 use Rattle.lb_history.proofs.Accepted.{right-is, there, built-there, destroying}
@@ -68,13 +69,17 @@ still-read (group.retired k) p m e =
     let s = still-there (readers k p == 0) (readers k p) m refl e in (k, refl, s.0, s.1)
 still-read (group.taken_out k) p m e = absurd (cc)
 
+later-cause : (b : Bool) (q : Refusal) (m : ℕ) → answer.Refused (refusal.StillRead m) ≡ answer.Refused (cond b refusal.OutOfMemory q) → Some q ≡ Some (refusal.StillRead m)
+later-cause true q m e = absurd (cc)
+later-cause false q m e = cc
+
 told-refusal : {A C : Type 0} (st : Step C) (o : Option A) (r : Option Refusal) (m : ℕ)
     → (answer.Refused (refusal.StillRead m) ≡ at_one o (λ c. unless_refused r answer.Destroyed))
     ⊎ (answer.Refused (refusal.StillRead m) ≡ without_memory st (at_one o (λ c. unless_refused r answer.Destroyed)))
     → r ≡ Some (refusal.StillRead m)
 told-refusal st None r m right = absurd (elim right [ inl e ↦ cc | inr e ↦ cc ])
 told-refusal st (Some c) None m right = absurd (elim right [ inl e ↦ cc | inr e ↦ cc ])
-told-refusal st (Some c) (Some q) m right = elim right [ inl e ↦ cc | inr e ↦ cc ]
+told-refusal st (Some c) (Some q) m right = elim right [ inl e ↦ cc | inr e ↦ later-cause (is_exhausted q && counts_later st) q m e ]
 
 module _ {C : Type 0} (M : Meaning C) where
   pub destroys : (h : History C) (st : Step C) (a : Answer) → IsRun M ((st, a) ∷ h) → DestroysExactly h st a
@@ -103,5 +108,6 @@ module _ {C : Type 0} where
       record {
         groups = λ g off. ap (λ (t : Bool). cond t (happened h (group_events g h) st a ++ group_events g h) (group_events g h)) off;
         views = λ g m there off. views-stay h st a g m there off;
+        joined = λ g off. ap (λ (t : Bool). cond t (joined_after h (group_events g h) (joined_events g h) st a) (joined_events g h)) off;
         registries = λ r off. ap (λ (t : Bool). cond t (changed h ((st, a) ∷ h) st a (registry_events r h)) (registry_events r h)) off;
       }

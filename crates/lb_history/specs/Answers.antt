@@ -18,10 +18,12 @@ use Rattle.lb_group.specs.GroupHistory as group
 use Rattle.lb_group.specs.GroupCalls.{is_change, schedule_refusal, is_served}
 use Rattle.lb_group.specs.SlotCalls.{take_refusal}
 use Rattle.lb_group.specs.Stands.{left_readers, counts_after}
-use Rattle.lb_history.specs.Steps.{Listing, Step}
+use Rattle.lb_history.specs.Steps.{Step}
+use Rattle.lb_history.specs.declared.step.Listing.{Listing}
 use Rattle.lb_history.specs.Steps as step
-use Rattle.lb_history.specs.Replies.{Answer, SlotCounts}
-use Rattle.lb_history.specs.Replies as answer
+use Rattle.lb_history.specs.declared.answer.Answer.{Answer}
+use Rattle.lb_history.specs.declared.answer.SlotCounts.{SlotCounts}
+use Rattle.lb_history.specs.declared.answer.Answer.TheVariants as answer
 use Rattle.lb_history.specs.Meanings.{Meaning}
 use Rattle.lb_history.specs.History.{History, Entered, Work, idle, building, built, members_in, registries, gates, made, made_at, config}
 use Rattle.lb_history.specs.History.{registry_of, entries, work, group_events, past, is_out, load_of}
@@ -226,6 +228,17 @@ module _ {C : Type 0} (meaning : Meaning C) where
   answer_after h (step.timing g s) = at_one (config g s h) (λ c. answer.Timed (group.timing (past g s h)))
   answer_after h (step.load g b load) = at_backend b (at_one (made_at g h) (λ m. answer.Done))
 
+-- Steps that may find that no number is left only after they took memory: that memory is refused is the lesser cause.
+abbrev pub counts_later : {C : Type 0} → Step C → Bool
+counts_later (step.group r a configs) = true
+counts_later (step.update g now listings) = true
+counts_later (step.targets r) = true
+counts_later st = false
+
+abbrev pub is_exhausted : Refusal → Bool
+is_exhausted refusal.NumbersExhausted = true
+is_exhausted r = false
+
 -- what comes in its place where memory is refused: nothing else, where the step takes none
 abbrev pub without_memory : {C : Type 0} → Step C → Answer → Answer
 without_memory st (answer.Registry n) = refuse refusal.OutOfMemory
@@ -237,6 +250,7 @@ without_memory st (answer.Built n) = answer.BuildFailed n refusal.OutOfMemory
 without_memory st (answer.Reader t n) = refuse refusal.OutOfMemory
 without_memory st (answer.Targets ts) = refuse refusal.OutOfMemory
 without_memory (step.load g b load) answer.Done = refuse refusal.OutOfMemory
+without_memory st (answer.Refused r) = refuse (if is_exhausted r && counts_later st then refusal.OutOfMemory else r)
 without_memory st a = a
 
 module _ {C : Type 0} (meaning : Meaning C) where

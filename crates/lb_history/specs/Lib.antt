@@ -1,8 +1,8 @@
 pub mod Answers
 pub mod History
+pub mod Joined
 pub mod Meanings
 pub mod Promises
-pub mod Replies
 pub mod Selected
 pub mod Shared
 pub mod Steps

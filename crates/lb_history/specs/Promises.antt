@@ -6,7 +6,7 @@ use Rattle.std.specs.List.{AllByRecursion as Each, list_any}
 use Rattle.std.specs.Option.{IsSomeAnd}
 use Rattle.lb_select.specs.Backends.{Member, same_member}
 use Rattle.lb_select.specs.declared.refusal.Refusal.TheVariants as refusal
-use Rattle.lb_registry.specs.RegistryEvents.{IsCellKept, cell_health}
+use Rattle.lb_registry.specs.RegistryEvents.{IsCellKept, cell_health, views_after, has_view}
 use Rattle.lb_health.specs.Joined.{lives, registry_released, registry_updated}
 use Rattle.lb_health.specs.Snapshots.{SnapshotValue, value_at}
 use Rattle.lb_health.specs.ViewEvents.{generation_after, membership_after, snapshots_after, flag_after}
@@ -14,13 +14,14 @@ use Rattle.lb_group.specs.GroupHistory as group
 use Rattle.lb_group.specs.Laws.{number, extras_from, Balanced, HasMembers}
 use Rattle.lb_history.specs.Steps.{Step}
 use Rattle.lb_history.specs.Steps as step
-use Rattle.lb_history.specs.Replies.{Answer}
-use Rattle.lb_history.specs.Replies as answer
+use Rattle.lb_history.specs.declared.answer.Answer.{Answer}
+use Rattle.lb_history.specs.declared.answer.Answer.TheVariants as answer
 use Rattle.lb_history.specs.Meanings.{Meaning}
 use Rattle.lb_history.specs.History.{History, Made, idle, is_at, members_in, reads, made, made_at, slot_gate, gate_in, entries, group_at}
 use Rattle.lb_history.specs.History.{work, group_events, past, is_grant, is_failure, is_destruction, is_out, registry_of}
 use Rattle.lb_history.specs.Shared.{is_live, extra_at, key_of, events_in, cells_of, registry_at, registry_events, view_events}
 use Rattle.lb_history.specs.Answers.{answer_after}
+use Rattle.lb_history.specs.Joined.{joined_events}
 
 module _ {C : Type 0} where
   -- a flight, a lost flight, or a retired selector that is not reported destroyed stands in the slot
@@ -102,6 +103,7 @@ module _ {C : Type 0} where
     pub groups : (g : ℕ) → is_at g (group_at h st) ≡ false → group_events g ((st, a) ∷ h) ≡ group_events g h
     pub views : (g : ℕ) (m : Made C) → made_at g h ≡ Some m → is_at g (group_at h st) ≡ false
         → view_events g ((st, a) ∷ h) ≡ view_events g h
+    pub joined : (g : ℕ) → is_at g (group_at h st) ≡ false → joined_events g ((st, a) ∷ h) ≡ joined_events g h
     pub registries : (r : ℕ) → is_at r (registry_at h st) ≡ false → registry_events r ((st, a) ∷ h) ≡ registry_events r h
 
   -- A group's view is at its newest generation and membership, and each snapshot that lives has the members and the cells of its own
@@ -150,6 +152,12 @@ module _ {C : Type 0} where
     pub cell : IsSomeAnd (value_at (cells_of g n h) b)
         (λ c. IsCellKept (key_of g h) c (events_in (registry_of g h) h)
         × (cell_health (key_of g h) c (events_in (registry_of g h) h) ≡ true))
+
+  -- the view of a group that is not cancelled is registered, and no mark waits for it
+  abbrev pub IsRegistered : ℕ → History C → Type 0
+  IsRegistered g h =
+      (m : Made C) → made_at g h ≡ Some m → group.is_cancelled (group_events g h) ≡ false
+      → has_view m.view (views_after (registry_events m.registry h)) ≡ true
 
   -- to a group that isn't there nothing has happened
   pub record Untouched (g : ℕ) (h : History C) : Type 0 where

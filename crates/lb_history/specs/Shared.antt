@@ -1,7 +1,7 @@
 -- What a history did to each registry and to the view of each group, in the words of the registry's and the view's own events.
 -- A snapshot of a view lives while it is the newest or some slot holds it, which the events of its group tell: so the events of
 -- a registry need no view, and those of a view need none but its own group and registry.
-use Rattle.std.specs.Prelude.{ℕ, ◌+◌, Bool, true, false, ◌&&◌, ◌||◌, ◌==◌, nat_lt, List, [], ◌∷◌, length, map, fold, Option, Some, None}
+use Rattle.std.specs.Prelude.{ℕ, ◌+◌, Bool, true, false, ◌||◌, ◌==◌, nat_lt, List, [], ◌∷◌, length, map, fold, Option, Some, None}
 use Rattle.std.specs.Prelude.{if◌then◌else◌, slice_get}
 use Rattle.std.specs.List.{filter_map}
 use Rattle.std.specs.BTreeMap.{insert_entry}
@@ -12,18 +12,21 @@ use Rattle.lb_health.specs.ViewEvents.{ViewEvent}
 use Rattle.lb_health.specs.ViewEvents as view
 use Rattle.lb_health.specs.Joined.{view_updated}
 use Rattle.lb_group.specs.GroupHistory as group
-use Rattle.lb_group.specs.Laws.{number}
-use Rattle.lb_history.specs.Steps.{KeyRule, identity, address, Listing, Step}
+use Rattle.lb_joined.specs.JoinedHistory.{holders}
+use Rattle.lb_history.specs.Steps.{Step}
+use Rattle.lb_history.specs.declared.step.Listing.{Listing}
+use Rattle.lb_history.specs.declared.step.CellKey.{CellKey}
+use Rattle.lb_history.specs.declared.step.CellKey.TheVariants.{Identity, Address}
 use Rattle.lb_history.specs.Steps as step
-use Rattle.lb_history.specs.Replies.{Answer}
-use Rattle.lb_history.specs.Replies as answer
+use Rattle.lb_history.specs.declared.answer.Answer.{Answer}
+use Rattle.lb_history.specs.declared.answer.Answer.TheVariants as answer
 use Rattle.lb_history.specs.History.{History, RegistryMade, Made, is_at, members_in, registries, made, made_at, registry_of, group_at}
 use Rattle.lb_history.specs.History.{group_events, past}
 
 -- the key of a backend by a registry's rule
-abbrev pub key_by : KeyRule → Member → Member
-key_by identity = by_identity
-key_by address = by_address
+abbrev pub key_by : CellKey → Member → Member
+key_by Identity = by_identity
+key_by Address = by_address
 
 abbrev pub key_in : Option RegistryMade → Member → Member
 key_in None = by_identity
@@ -44,21 +47,9 @@ marked (Some b) (Some on) = Some (by_identity b, on)
 abbrev pub settings_in : List Listing → List (Member × Bool)
 settings_in listings = fold (λ entries e. insert_entry member_cmp entries e.0 e.1) [] (filter_map (λ l. marked l.backend l.mark) listings)
 
--- whether something of that generation stands in a slot beside what it serves
-abbrev pub has_extra : ℕ → group.Extra → Bool
-has_extra n e = group.is_extra e && group.generation_of e == n
-
--- how often a slot, and how often so many slots from the place i on, hold a generation: as what is served, and as a flight, a lost
--- flight or a retired selector
-abbrev pub holds : ℕ → group.History → ℕ
-holds n p = number (group.served p == n) + number (has_extra n (group.extra p))
-
-abbrev pub holds_from : {C : Type 0} → ℕ → ℕ → List C → group.History → ℕ
-holds_from n i [] k = 0
-holds_from n i (c ∷ cs) k = holds n (group.past_of i k) + holds_from n (i + 1) cs k
-
+-- a generation lives while it is the newest or some slot has it in use: it is served, in a flight or a lost flight, or retired
 abbrev pub is_live : {C : Type 0} → ℕ → List C → group.History → Bool
-is_live n configs k = group.newest k == n || nat_lt 0 (holds_from n 0 configs k)
+is_live n configs k = group.newest k == n || nat_lt 0 (holders n (length configs) k)
 
 -- what a group was made with, in parts
 abbrev pub configs_in : {C : Type 0} → Option (Made C) → List C

@@ -7,11 +7,12 @@ ghost use Rattle.lb_health.specs.Joined.{IsReady};
 ghost use Rattle.lb_group.specs.GroupHistory.{IsPast};
 ghost use Rattle.lb_history.specs.Answers.{IsRun};
 ghost use Rattle.lb_history.specs.History.{History, registries, made, over, made_at, registry_of, past};
+ghost use Rattle.lb_history.specs.Joined.{JoinsAlike, SchedulesAlike};
 ghost use Rattle.lb_history.specs.Meanings.{meaning_of};
 ghost use Rattle.lb_history.specs.Promises.{Promised, NeverFalls, Raises, DestroysExactly, SharesAlike, OthersStay, Untouched};
-ghost use Rattle.lb_history.specs.Promises.{ViewFollows, LivesExactly, JudgedBy};
+ghost use Rattle.lb_history.specs.Promises.{ViewFollows, LivesExactly, JudgedBy, IsRegistered};
 ghost use Rattle.lb_history.specs.Selected.{FirstAccepted};
-ghost use Rattle.lb_history.specs.Replies.{Answer};
+ghost use Rattle.lb_history.specs.declared.answer.Answer.{Answer};
 ghost use Rattle.lb_history.specs.Shared.{key_of, events_in, registry_events, view_events};
 ghost use Rattle.lb_history.specs.Steps.{Step};
 
@@ -54,6 +55,19 @@ pub fn generations_do_not_mix<S: BackendSelection>()
 pub fn views_are_numbered<S: BackendSelection>()
     ensures { (h : History S.Config) → IsRun (meaning_of S.BackendSelection) h → (r : ℕ) → r < length (registries h)
         → registered_after (registry_events r h) ≡ over r (made h) }
+{}
+
+/// The view of a group that is not cancelled is registered in the group's registry, and no mark waits for it.
+pub fn views_stay_registered<S: BackendSelection>()
+    ensures { (h : History S.Config) → IsRun (meaning_of S.BackendSelection) h → (g : ℕ) → IsRegistered g h }
+{}
+
+/// What happens to a group and to its view is what happens to a group that is joined with its view: its events tell both, and those
+/// of an update are what the call does that gives the group its membership.
+pub fn groups_are_joined<S: BackendSelection>()
+    ensures now { (h : History S.Config) → IsRun (meaning_of S.BackendSelection) h → (g : ℕ) → JoinsAlike g h }
+    ensures updates { (h : History S.Config) (st : Step S.Config) (a : Answer) → IsRun (meaning_of S.BackendSelection) ((st, a) ∷ h)
+        → SchedulesAlike h st a }
 {}
 
 /// A publication raises what its slot serves, to the generation that it tells; a retired selector is destroyed exactly where no

@@ -1,12 +1,14 @@
 //! A group joined with its view: a membership reaches both or neither, and each slot holds the snapshots that it has in use.
 //! A call tests all that it can refuse for before it changes anything; builds run elsewhere, between `ask` and `publish`.
-ghost use Rattle.std.specs.Prelude.{◌≡◌, ◌↔◌, ◌≤◌, ◌+◌, ◌^◌, ◌∷◌, [], ℕ, List, false, map, replicate, IfOk, IsTrue, OnOk, OnErr, IsErrOf};
-ghost use Rattle.std.specs.Prelude.{slice_get};
+ghost use Rattle.std.specs.Prelude.{◌≡◌, ◌↔◌, ◌⊎◌, ◌≤◌, ◌+◌, ◌^◌, ◌∷◌, [], ℕ, List, false, map, replicate, IfOk, IsTrue, OnOk, OnErr};
+ghost use Rattle.std.specs.Prelude.{IsErrOf, None, slice_get};
 ghost use Rattle.std.specs.Arc.{arc_value};
 ghost use Rattle.lb_select.specs.Backends.{Member};
 ghost use Rattle.lb_select.specs.Refusals.{least};
 ghost use Rattle.lb_group.specs.GroupHistory.{Cancelled, WorkerLost, Entered, Left, TakenOut, Destroyed, past_of, newest as newest_after};
 ghost use Rattle.lb_group.specs.GroupHistory.{served as served_after, is_cancelled, timing as timing_after};
+ghost use Rattle.lb_group.specs.GroupHistory.{waits as waits_after, readers as readers_after};
+ghost use Rattle.lb_group.specs.Flights.{flight_after};
 ghost use Rattle.lb_group.specs.Values.{configs_of};
 ghost use Rattle.lb_group.specs.Stands.{Made, counts_after};
 ghost use Rattle.lb_group.specs.GroupCalls.{IsOwnJob, Asks, ask_events, gate_after, Fails, fail_events, gate_back, Publishes};
@@ -84,6 +86,9 @@ impl<S: BackendSelection> GroupCore<S> {
             → IsRegistryAfter R.gives key_of (Applied ∷ Registered ∷ events) registry.new) }
         ensures err { OnErr result ((key_of : Member → Member) (events : List Event) → IsRegistryAfter R.gives key_of events registry.old
             → IsRegistryAfter R.gives key_of events registry.new) }
+        ensures exhausted { (key_of : Member → Member) (events : List Event) → IsRegistryAfter R.gives key_of events registry.old
+            → least (map (S.refusal []) configs.items) ≡ None → IsErrOf result Refusal.NumbersExhausted
+            → (registered_after events + 1 ≡ 2 ^ 64) ⊎ (2 ^ 64 ≤ cells_given key_of (Applied ∷ Registered ∷ events)) }
         ensures refused { IsMakingRefusal (least (map (S.refusal []) configs.items)) result }
     {
         let slots = configs.len();
@@ -416,6 +421,35 @@ impl<S: BackendSelection> GroupCore<S> {
         ensures { After self.now (λ made e. result ≡ at_slot made slot (served_after (past_of slot (group_events e)))) }
     {
         self.group.served(slot)
+    }
+
+    /// The generation of a slot's flight, or none: `None` where no such slot is there.
+    pub fn flight(&self, slot: usize) -> Option<Option<u64>>
+        ensures { After self.now (λ made e. result ≡ at_slot made slot (flight_after (past_of slot (group_events e)))) }
+    {
+        self.group.flight(slot)
+    }
+
+    /// Whether a slot waits for a job or a publication of the newest generation: `None` where no such slot is there.
+    pub fn is_waiting(&self, slot: usize) -> Option<bool>
+        ensures { After self.now (λ made e. result ≡ at_slot made slot (waits_after (past_of slot (group_events e)))) }
+    {
+        self.group.is_waiting(slot)
+    }
+
+    /// How many readers are in what a slot serves: `None` where no such slot is there.
+    pub fn readers(&self, slot: usize) -> Option<u64>
+        ensures { After self.now (λ made e. result
+            ≡ at_slot made slot (readers_after (served_after (past_of slot (group_events e))) (past_of slot (group_events e)))) }
+    {
+        self.group.readers(slot)
+    }
+
+    /// The membership of the newest generation. It takes no memory.
+    pub fn members(&self) -> &BTreeSet<Backend>
+        ensures { After self.now (λ made e. result.now.keys ≡ members_now e) }
+    {
+        self.group.members()
     }
 
     /// The counts of a slot, or `None` where no such slot is there.

@@ -300,6 +300,17 @@ impl<R: KeyRule + Drop> Registry<R> {
         self.table.observe(cell, verdict, threshold)
     }
 
+    /// Fewer than 2^64 views were registered, and fewer than 2^64 numbers of cells given, for whoever knows the registry's history.
+    pub fn numbers_fit(&self)
+        ensures views { (key_of : Member → Member) (events : List Event) → IsRegistryAfter R.gives key_of events self.now
+            → registered_after events < 2 ^ 64 }
+        ensures cells { (key_of : Member → Member) (events : List Event) → IsRegistryAfter R.gives key_of events self.now
+            → cells_given key_of events < 2 ^ 64 }
+    {
+        let _registered = self.registered;
+        let _next = self.table.numbering.next;
+    }
+
     /// Whether a cell is kept and healthy. It takes no memory.
     pub fn cell_ready(&self, cell: u64) -> bool
         ensures { (key_of : Member → Member) (events : List Event) → IsRegistryAfter R.gives key_of events self.now

@@ -1,5 +1,5 @@
 -- Each slot has its order, of the generation that is the newest from then on.
-use Rattle.std.proofs.Common.{◌≡◌, subst, refl}
+use Rattle.std.proofs.Common.{subst}
 use Rattle.lb_group.specs.Stands.{StandsFor}
 use Rattle.lb_group.specs.Values.{GroupValue}
 use Rattle.lb_group.proofs.GroupSteps.{site-of}

@@ -1,0 +1,91 @@
+//! Steps that make registries, gates and groups.
+//! Every cause of refusal is tested before memory is taken.
+ghost use Rattle.std.specs.Prelude.{◌≡◌, ◌∷◌, [], map, nat_lt, Option, Some, None, IfOk, OnErr};
+ghost use Rattle.lb_select.specs.Refusals.{earlier as earlier_of, least};
+ghost use Rattle.lb_history.specs.Answers.{no_such};
+ghost use Rattle.lb_history.specs.History.{History};
+ghost use Rattle.lb_history.specs.Meanings.{meaning_of};
+ghost use Rattle.lb_history.specs.Steps as seen;
+ghost use Rattle.lb_next_world.specs.Stands.{Stands};
+
+use super::World;
+use crate::entry::Entry;
+use lb_history::answer::Answer;
+use lb_history::step::CellKey;
+use lb_rebuild::gate::GateCore;
+use lb_registry::keys::{ByNumber, KeyRule, Rule};
+use lb_registry::registry::Registry;
+use lb_select::causes::least_refusal;
+use lb_select::refusal::Refusal;
+use lb_select::walk::BackendSelection;
+
+impl<S: BackendSelection> World<S> {
+    pub(super) fn registry(&mut self, rule: CellKey, healthy: bool) -> Answer
+        ensures { (h : History S.Config) → Stands (meaning_of S.BackendSelection) ⟦<Rule<ByNumber> as KeyRule>⟧.gives self.old h
+            → Stands (meaning_of S.BackendSelection) ⟦<Rule<ByNumber> as KeyRule>⟧.gives self.new
+            ((seen.registry rule healthy, result) ∷ h) }
+    {
+        let number = self.registries.len() as u64;
+        let mut registry = match rule {
+            CellKey::Identity => Registry::new(self.alloc),
+            CellKey::Address => Registry::by_address(self.alloc),
+        };
+        if !healthy {
+            registry = registry.start_unhealthy();
+        }
+        let Ok(()) = self.registries.push(registry) else {
+            return Answer::Refused(Refusal::OutOfMemory);
+        };
+        Answer::Registry(number)
+    }
+
+    pub(super) fn gate(&mut self) -> Answer
+        ensures { (h : History S.Config) → Stands (meaning_of S.BackendSelection) ⟦<Rule<ByNumber> as KeyRule>⟧.gives self.old h
+            → Stands (meaning_of S.BackendSelection) ⟦<Rule<ByNumber> as KeyRule>⟧.gives self.new ((seen.gate, result) ∷ h) }
+    {
+        let number = self.gates.len() as u64;
+        let Ok(gate) = GateCore::new(self.alloc) else {
+            return Answer::Refused(Refusal::OutOfMemory);
+        };
+        let Ok(()) = self.gates.push(gate) else {
+            return Answer::Refused(Refusal::OutOfMemory);
+        };
+        Answer::Gate(number)
+    }
+
+    pub(super) fn group(&mut self, registry: u64, gate: u64, configs: Vec<S::Config>) -> Answer
+        ensures { (h : History S.Config) → Stands (meaning_of S.BackendSelection) ⟦<Rule<ByNumber> as KeyRule>⟧.gives self.old h
+            → Stands (meaning_of S.BackendSelection) ⟦<Rule<ByNumber> as KeyRule>⟧.gives self.new
+            ((seen.group registry gate configs.items, result) ∷ h) }
+    {
+        let is_there = registry < self.registries.len() as u64 && gate < self.gates.len() as u64;
+        let cause = least_refusal::<S>(self.alloc, &configs);
+        if let Some(refusal) = earlier_cause(is_there, cause) {
+            return Answer::Refused(refusal);
+        }
+        if self.groups.reserve(1).is_err() {
+            return Answer::Refused(Refusal::OutOfMemory);
+        }
+        let number = self.groups.len() as u64;
+        let at = (registry as usize, gate as usize);
+        let registry = &mut self.registries[at.0];
+        match Entry::new(self.alloc, at, registry, &self.gates[at.1], configs) {
+            Ok(entry) => {
+                self.groups.push_reserved(entry);
+                Answer::Group(number)
+            }
+            Err(refusal) => Answer::Refused(refusal),
+        }
+    }
+}
+
+// The cause of the least number: that the registry or the gate isn't there, or that a selector can't be built.
+fn earlier_cause(is_there: bool, cause: Option<Refusal>) -> Option<Refusal>
+    ensures { result ≡ earlier_of (no_such is_there) cause }
+{
+    match cause {
+        Some(refusal) if is_there || refusal.number() < Refusal::NoSuch.number() => Some(refusal),
+        _ if is_there => None,
+        _ => Some(Refusal::NoSuch),
+    }
+}
