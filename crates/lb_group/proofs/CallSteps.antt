@@ -319,11 +319,12 @@ module _ {S I C : Type 0} {made : Made C} {h : History} {id : GateId} {n : ℕ} 
       let may : is_taken_out (extra Past) ≡ true = sym (ap (λ (z : SlotValue C). is_taken_out z.extra) f.slot) ∙ out in
       f.step Destroyed may (to ∙ ap (λ (z : SlotValue C). destroyed_slot z) f.slot ∙ destroyed-step made.gate f.config i Past (f.past, may))
 
-  pub selects : (random : List Member → C → Bool) (walks : List Member → C → List ℕ → List Draw → List Member → Bool → Type 0) (key : List ℕ) (limit : ℕ) (words : List ℕ) (s : Selection)
-      → SelectsFrom random walks key limit words (slot_value x).serving.members (slot_value x).serving.config (slot_value x).serving.tickets s
-      → SelectsIn random walks made h i key limit words s
-  selects random walks key limit words s is =
-      rw f.there (subst (λ (z : SlotValue C). SelectsFrom random walks key limit words z.serving.members z.serving.config z.serving.tickets s) f.slot is)
+  pub selects : (random : List Member → C → Bool) (walks : List Member → C → List ℕ → List Draw → List Member → Bool → Type 0) (accepts : Member → Bool → Type 0) (load_by : Member → ℕ)
+      (key : List ℕ) (limit : ℕ) (words : List ℕ) (s : Selection)
+      → SelectsFrom random walks accepts load_by key limit words (slot_value x).serving.members (slot_value x).serving.config (slot_value x).serving.tickets s
+      → SelectsIn random walks accepts load_by made h i key limit words s
+  selects random walks accepts load_by key limit words s is =
+      rw f.there (subst (λ (z : SlotValue C). SelectsFrom random walks accepts load_by key limit words z.serving.members z.serving.config z.serving.tickets s) f.slot is)
 
   pub selected-stands : (s : Selection) → slot_value y ≡ drawn_slot s.tickets (slot_value x) → StandsFor made (select_events made i s ++ h) (group_of id n ms at st (set xs i y))
   selected-stands s to =

@@ -239,13 +239,14 @@ Reports made h slot permit (Err p) = (is_owed made slot h ≡ false) × (p ≡ p
 abbrev pub at_slot : {A C : Type 0} → Made C → ℕ → A → Option A
 at_slot made slot a = if nat_lt slot (length made.configs) then Some a else None
 
--- a selection from what the slot serves; a slot that is not there selects nothing
+-- a selection from what the slot serves, by what accepts and these loads; a slot that is not there selects nothing
 abbrev pub SelectsIn :
     {C : Type 0} → (List Member → C → Bool) → (List Member → C → List ℕ → List Draw → List Member → Bool → Type 0)
-    → Made C → History → ℕ → List ℕ → ℕ → List ℕ → Selection → Type 0
-SelectsIn {C} random walks made h slot key limit words s =
+    → (Member → Bool → Type 0) → (Member → ℕ) → Made C → History → ℕ → List ℕ → ℕ → List ℕ → Selection → Type 0
+SelectsIn {C} random walks accepts load_by made h slot key limit words s =
     MatchOption (slice_get made.configs slot) ((s.answer ≡ Ok None) × (s.drawn ≡ 0) × (s.tickets ≡ 0))
-    (λ (c : C). SelectsFrom random walks key limit words (served_members (past_of slot h)) c (drawn (past_of slot h)) s)
+    (λ (c : C).
+    SelectsFrom random walks accepts load_by key limit words (served_members (past_of slot h)) c (drawn (past_of slot h)) s)
 
 abbrev pub select_events : {C : Type 0} → Made C → ℕ → Selection → History
 select_events made slot s = if nat_lt slot (length made.configs) then At slot (Drew s.tickets) ∷ [] else []

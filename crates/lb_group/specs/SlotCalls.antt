@@ -202,15 +202,15 @@ destroyed_slot x = record x { extra = nothing }
 abbrev pub drawn_slot : {C : Type 0} → ℕ → SlotValue C → SlotValue C
 drawn_slot n x = record x { serving = record x.serving { tickets = n } }
 
--- The first of the candidates from a selector of these members and this configuration whose counter stands at `tickets`; each
--- is accepted. Where walks over it may draw random words, there must be more of them than the limit.
+-- The first accepted of the candidates from a selector of these members and this configuration whose counter stands at `tickets`,
+-- with these loads. Where walks over it may draw random words, there must be more of them than the limit.
 abbrev pub SelectsFrom :
     {C : Type 0} → (List Member → C → Bool) → (List Member → C → List ℕ → List Draw → List Member → Bool → Type 0)
-    → List ℕ → ℕ → List ℕ → List Member → C → ℕ → Selection → Type 0
-SelectsFrom random walks key limit words members config tickets s =
+    → (Member → Bool → Type 0) → (Member → ℕ) → List ℕ → ℕ → List ℕ → List Member → C → ℕ → Selection → Type 0
+SelectsFrom random walks accepts load_by key limit words members config tickets s =
     MatchBool (random members config && nat_le (length words) limit)
     ((s.answer ≡ Err refusal.NotEnoughWords) × (s.drawn ≡ 0) × (s.tickets ≡ tickets))
     ((t : DrawnValue)
-    × Selects same_member (λ b a. a ≡ true) limit DrawnGives (walks members config key)
+    × Selects same_member accepts limit (DrawnGives load_by) (walks members config key)
     (record { words = record { tickets = tickets; words = words }; drawn = 0 }) s.answer t
     × (s.drawn ≡ t.drawn) × (s.tickets ≡ t.words.tickets))

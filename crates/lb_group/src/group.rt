@@ -2,6 +2,8 @@
 //! A call tests all that it can refuse for before it changes anything; builds run elsewhere, between `ask` and `publish`.
 ghost use Rattle.std.specs.Prelude.{◌≡◌, ◌++◌, ◌∷◌, [], map, IfOk, slice_get};
 ghost use Rattle.std.specs.Arc.{arc_value};
+ghost use Rattle.std.specs.Fn.{FnReturnsAt};
+ghost use Rattle.lb_select.specs.Loads.{load_in};
 ghost use Rattle.lb_select.specs.Refusals.{Refuses, least};
 ghost use Rattle.lb_group.specs.GroupHistory.{History, Scheduled as ScheduledEvent, Cancelled, WorkerLost, Entered, Left, TakenOut};
 ghost use Rattle.lb_group.specs.GroupHistory.{Destroyed, past_of, newest as newest_after, served as served_after, is_cancelled};
@@ -23,6 +25,7 @@ use crate::slot::Slot;
 use lb_rebuild::gate::{GateCore, Permit};
 use lb_select::backend::Backend;
 use lb_select::causes::{earlier, memory_apart};
+use lb_select::loads::Loads;
 use lb_select::refusal::Refusal;
 use lb_select::walk::BackendSelection;
 use std::alloc::Global;
@@ -395,21 +398,25 @@ impl<S: BackendSelection> GroupCore<S> {
         Ok(())
     }
 
-    /// Selects from what a slot serves: the first candidate of the selector's walk for `key`, among the first `limit`. Tickets
-    /// go on from those that earlier selections drew; random words are the ones handed in. A slot that is not there selects
-    /// nothing.
+    /// Selects from what a slot serves: the first that `accept` accepts of the distinct backends among the first `limit` candidates
+    /// of the selector's walk for `key`. Tickets go on from those that earlier selections drew; random words are the ones handed in,
+    /// and loads those that are lent. A slot that is not there selects nothing.
     ///
     /// The selection is refused `NotEnoughWords` where walks over the selector may draw random words and at most `limit` of them
     /// are handed in, and then no word is drawn; or `OutOfMemory`. The answer says how many words were drawn, refused or not.
-    pub fn select(
+    pub fn select_with<F: Fn(&Backend) -> bool>(
         &mut self,
         alloc: Global,
         slot: usize,
         key: &[u8],
         limit: usize,
         random: &[u64],
+        loads: &Loads,
+        accept: &F,
     ) -> Selection
-        ensures answers { After self.old (λ made h. SelectsIn S.may_draw_random S.walks made h slot key.now limit random.now result) }
+        requires { F.IsAlwaysCallable accept.now }
+        ensures answers { After self.old (λ made h. SelectsIn S.may_draw_random S.walks (λ b a. FnReturnsAt F.Fn accept.now b a)
+            (load_in loads.now) made h slot key.now limit random.now result) }
         ensures stands { After self.old (λ made h. StandsFor made (select_events made slot result ++ h) self.new) }
         ensures site { SameSite self.old self.new }
     {
@@ -420,7 +427,7 @@ impl<S: BackendSelection> GroupCore<S> {
                 tickets: 0,
             };
         }
-        self.slots[slot].select(alloc, key, limit, random)
+        self.slots[slot].select(alloc, key, limit, random, loads, accept)
     }
 
     /// The newest generation; 0 before the first membership.

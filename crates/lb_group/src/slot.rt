@@ -4,8 +4,7 @@ ghost use Rattle.std.specs.Prelude.{◌≡◌, ◌&&◌, not, Bool, true, [], �
 ghost use Rattle.std.specs.Arc.{arc_value};
 ghost use Rattle.std.specs.Fn.{FnReturnsAt};
 ghost use Rattle.lb_select.specs.Refusals.{Refuses};
-ghost use Rattle.lb_select.specs.Backends.{Member, same_member};
-ghost use Rattle.lb_select.specs.Selections.{Selects};
+ghost use Rattle.lb_select.specs.Loads.{load_in};
 ghost use Rattle.lb_group.specs.SlotSeen.{permit_of};
 ghost use Rattle.lb_group.specs.GroupHistory.{is_flight, is_aloft as aloft, is_retired_of, is_taken_out, taken_out_number};
 
@@ -17,10 +16,10 @@ use crate::schedule::SlotTurn;
 use crate::words::DrawnWords;
 use lb_rebuild::gate::{GateCore, Permit};
 use lb_select::backend::Backend;
+use lb_select::loads::Loads;
 use lb_select::refusal::Refusal;
 use lb_select::select::select;
 use lb_select::walk::BackendSelection;
-use lb_select::words::WordSource;
 use std::alloc::Global;
 use std::collections::BTreeSet;
 use std::mem;
@@ -477,16 +476,20 @@ impl<S: BackendSelection> Slot<S> {
         true
     }
 
-    // Selects from what is served; each backend is accepted.
-    pub(crate) fn select(
+    // Selects from what is served the first that `accept` accepts.
+    pub(crate) fn select<F: Fn(&Backend) -> bool>(
         &mut self,
         alloc: Global,
         key: &[u8],
         limit: usize,
         random: &[u64],
+        loads: &Loads,
+        accept: &F,
     ) -> Selection
-        ensures selected { SelectsFrom S.may_draw_random S.walks key.now limit random.now (slot_value self.old).serving.members
-            (slot_value self.old).serving.config (slot_value self.old).serving.tickets result }
+        requires { F.IsAlwaysCallable accept.now }
+        ensures selected { SelectsFrom S.may_draw_random S.walks (λ b a. FnReturnsAt F.Fn accept.now b a) (load_in loads.now) key.now limit
+            random.now (slot_value self.old).serving.members (slot_value self.old).serving.config (slot_value self.old).serving.tickets
+            result }
         ensures slot { slot_value self.new ≡ drawn_slot result.tickets (slot_value self.old) }
     {
         let serving = &mut self.serving;
@@ -497,8 +500,8 @@ impl<S: BackendSelection> Slot<S> {
                 tickets: serving.tickets,
             };
         }
-        let mut words = DrawnWords::new(serving.tickets, random);
-        let answer = first(alloc, &serving.selector, key, &mut words, limit, &every);
+        let mut words = DrawnWords::new(serving.tickets, random, loads);
+        let answer = select(alloc, &serving.selector, key, &mut words, limit, accept);
         serving.tickets = words.tickets();
         Selection {
             answer,
@@ -552,28 +555,4 @@ fn clear<S: BackendSelection>(stage: &mut Stage<S>)
         Stage::Retired(_retired) => unreachable!(),
         Stage::Free | Stage::Flight(_) | Stage::Lost(_) | Stage::TakenOut(_) => {}
     }
-}
-
-// A selection where each backend is accepted.
-fn first<S: BackendSelection, W: WordSource, F: Fn(&Backend) -> bool>(
-    alloc: Global,
-    selector: &Arc<S>,
-    key: &[u8],
-    words: &mut W,
-    limit: usize,
-    accept: &F,
-) -> Result<Option<Backend>, Refusal>
-    requires call { F.IsAlwaysCallable accept.now }
-    requires all { (b : Member) (a : Bool) → FnReturnsAt F.Fn accept.now b a → a ≡ true }
-    ensures { Selects same_member (λ b a. a ≡ true) limit W.gives
-        (S.walks (S.members (arc_value selector.now)) (S.built_with (arc_value selector.now)) key.now) words.old result words.new }
-{
-    select(alloc, selector, key, words, limit, accept)
-}
-
-// Accepts each backend.
-fn every(_backend: &Backend) -> bool
-    ensures { result ≡ true }
-{
-    true
 }

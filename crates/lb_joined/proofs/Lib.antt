@@ -4,3 +4,4 @@ pub mod Counting
 pub mod Histories
 pub mod Holds
 pub mod Joins
+pub mod Judging

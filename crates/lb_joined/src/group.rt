@@ -4,6 +4,7 @@ ghost use Rattle.std.specs.Prelude.{◌≡◌, ◌↔◌, ◌≤◌, ◌+◌, �
 ghost use Rattle.std.specs.Prelude.{slice_get};
 ghost use Rattle.std.specs.Arc.{arc_value};
 ghost use Rattle.lb_select.specs.Backends.{Member};
+ghost use Rattle.lb_select.specs.Loads.{load_in};
 ghost use Rattle.lb_select.specs.Refusals.{least};
 ghost use Rattle.lb_group.specs.GroupHistory.{Cancelled, WorkerLost, Entered, Left, TakenOut, Destroyed, past_of, newest as newest_after};
 ghost use Rattle.lb_group.specs.GroupHistory.{served as served_after, is_cancelled, timing as timing_after};
@@ -19,6 +20,7 @@ ghost use Rattle.lb_registry.specs.Registry.{IsRegistryAfter};
 ghost use Rattle.lb_registry.specs.RegistryEvents.{Event, Registered, Applied, Updated, Marked, registered_after, views_after, has_view};
 ghost use Rattle.lb_registry.specs.RegistryEvents.{cells_given};
 ghost use Rattle.lb_joined.specs.JoinedCalls.{IsMakingRefusal, Schedules, after_schedule, released_where, generation_at, after_select};
+ghost use Rattle.lb_joined.specs.JoinedCalls.{served_at, Judges, IsJudged, AcceptsBy};
 ghost use Rattle.lb_joined.specs.JoinedHistory.{History, Set, group_events, in_group, members_now};
 ghost use Rattle.lb_joined.specs.Stands.{Stands, After, Becomes, SameSite, views_of};
 
@@ -32,6 +34,7 @@ use lb_rebuild::gate::{GateCore, Permit};
 use lb_registry::keys::KeyRule;
 use lb_registry::registry::Registry;
 use lb_select::backend::Backend;
+use lb_select::loads::Loads;
 use lb_select::refusal::Refusal;
 use lb_select::walk::BackendSelection;
 use std::alloc::Global;
@@ -364,21 +367,66 @@ impl<S: BackendSelection> GroupCore<S> {
         Ok(())
     }
 
-    /// Selects from what a slot serves, as `lb_group::group::GroupCore::select` does.
-    pub fn select(
+    /// Selects from what a slot serves: the first that is ready, in the snapshot of the generation that is served, of the distinct
+    /// backends among the first `limit` candidates of the selector's walk for `key`. Tickets, random words, loads, refusals and a slot
+    /// that is not there are as for a group alone. For readiness it takes no memory.
+    pub fn select<R: KeyRule + Drop>(
         &mut self,
         alloc: Global,
+        registry: &Registry<R>,
         slot: usize,
         key: &[u8],
         limit: usize,
         random: &[u64],
+        loads: &Loads,
     ) -> Selection
-        ensures answers { After self.old (λ made e.
-            SelectsIn S.may_draw_random S.walks made (group_events e) slot key.now limit random.now result) }
+        ensures answers { (key_of : Member → Member) (events : List Event) → IsRegistryAfter R.gives key_of events registry.now
+            → After self.old (λ made e. SelectsIn S.may_draw_random S.walks
+            (Judges key_of events made e (served_at slot e)) (load_in loads.now)
+            made (group_events e) slot key.now limit random.now result) }
         ensures stands { After self.old (λ made e. Stands made (after_select made slot result e) self.new) }
         ensures site { SameSite self.old self.new }
     {
-        self.group.select(alloc, slot, key, limit, random)
+        self.select_with(
+            alloc,
+            registry,
+            slot,
+            key,
+            limit,
+            random,
+            loads,
+            &ready_ones,
+        )
+    }
+
+    /// Selects as `select`, but the first for which `accept` answers true, when it is asked with a backend and whether it is ready.
+    pub fn select_with<R: KeyRule + Drop, F: Fn(&Backend, bool) -> bool>(
+        &mut self,
+        alloc: Global,
+        registry: &Registry<R>,
+        slot: usize,
+        key: &[u8],
+        limit: usize,
+        random: &[u64],
+        loads: &Loads,
+        accept: &F,
+    ) -> Selection
+        requires { F.IsAlwaysCallable accept.now }
+        ensures answers { (key_of : Member → Member) (events : List Event) → IsRegistryAfter R.gives key_of events registry.now
+            → After self.old (λ made e. SelectsIn S.may_draw_random S.walks
+            (AcceptsBy F.Fn accept.now (Judges key_of events made e (served_at slot e))) (load_in loads.now)
+            made (group_events e) slot key.now limit random.now result) }
+        ensures stands { After self.old (λ made e. Stands made (after_select made slot result e) self.new) }
+        ensures site { SameSite self.old self.new }
+    {
+        let served = self.group.served(slot).unwrap_or(0);
+        let view = &self.view;
+        let judged = |backend: &Backend| -> bool
+            requires { F.IsAlwaysCallable accept.now }
+            ensures { AcceptsBy F.Fn accept.entry.now (IsJudged R.gives view.entry.now registry.entry.now served) backend.entry.now result }
+        { accept(backend, view.ready_in(registry, served, backend)) };
+        self.group
+            .select_with(alloc, slot, key, limit, random, loads, &judged)
     }
 
     /// Enables or disables a backend that a living snapshot lists, by identity; another is left alone. It takes no memory.
@@ -442,4 +490,11 @@ fn hold_first(view: &mut ViewCore, slots: usize)
     for _ in 0..slots {
         view.hold(0);
     }
+}
+
+// Accepts what is ready.
+fn ready_ones(_backend: &Backend, ready: bool) -> bool
+    ensures { result ≡ ready }
+{
+    ready
 }

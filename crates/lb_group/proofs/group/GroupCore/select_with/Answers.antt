@@ -1,10 +1,12 @@
 -- The slot that was selected from is put back in its place.
 use Rattle.std.proofs.Common.{arith, ◌≤◌, refl, length}
 use Rattle.std.proofs.lemmas.Option.{slice_get_past}
+use Rattle.std.specs.Fn.{FnReturnsAt}
+use Rattle.lb_select.specs.Loads.{load_in}
 use Rattle.lb_group.proofs.Pasts.{lt-false}
 use Rattle.lb_group.proofs.GroupSteps.{facing, count-is, site-of}
 use Rattle.lb_group.proofs.CallSteps.{selects, selected-stands}
-use Rattle.lb_group.proofs.group.GroupCore.select.Goals as goal
+use Rattle.lb_group.proofs.group.GroupCore.select_with.Goals as goal
 
 pub returns-then-slot-len-clause-answers : goal.returns-then-slot-len-clause-answers
 returns-then-slot-len-clause-answers g c made h s =
@@ -23,7 +25,7 @@ invariant_of-self g c =
 
 pub returns-clause-answers : goal.returns-clause-answers
 returns-clause-answers g c made h s =
-    selects (facing made h _ _ _ _ _ _ c.args.slot c.index_mut.result.now c.select.new.self c.args.self.now c.self.view_is (omega arith) c.index_mut.ensures.value s) g.S.BackendSelection.may_draw_random g.S.BackendSelection.walks c.args.key.now c.args.limit c.args.random.now c.select.result c.select.ensures.selected
+    selects (facing made h _ _ _ _ _ _ c.args.slot c.index_mut.result.now c.select.new.self c.args.self.now c.self.view_is (omega arith) c.index_mut.ensures.value s) g.S.BackendSelection.may_draw_random g.S.BackendSelection.walks (λ b a. FnReturnsAt g.F.Fn c.args.accept.now b a) (load_in c.args.loads.now) c.args.key.now c.args.limit c.args.random.now c.select.result c.select.ensures.selected
 
 pub returns-clause-stands : goal.returns-clause-stands
 returns-clause-stands g c made h s =
