@@ -8,3 +8,5 @@ mod calls;
 mod joined;
 #[cfg(test)]
 mod rows;
+#[cfg(test)]
+mod selections;
