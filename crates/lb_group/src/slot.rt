@@ -10,6 +10,7 @@ ghost use Rattle.lb_group.specs.GroupHistory.{is_flight, is_aloft as aloft, is_r
 
 use crate::answers::{Ask, Counts, Selection, Timing, Told};
 use crate::job::{Built, Job, Order};
+use crate::place::Place;
 use crate::retired::{Reader, Retired, Serving};
 use crate::retry::due;
 use crate::schedule::SlotTurn;
@@ -23,7 +24,6 @@ use lb_select::walk::BackendSelection;
 use std::alloc::Global;
 use std::collections::BTreeSet;
 use std::mem;
-use std::snapshot::Snapshot;
 use std::sync::Arc;
 
 // What stands in a slot beside what it serves, each with its generation. A flight goes from the slot's job to its failure or
@@ -151,10 +151,10 @@ impl<S: BackendSelection> Slot<S> {
         self.failed_at = 0;
     }
 
-    // Asks for the build that the slot needs next; `scheduled` is the moment of the newest membership.
+    // Asks for the build that the slot needs next; `place` is its own, and `scheduled` is the moment of the newest membership.
     pub(crate) fn ask(
         &mut self,
-        slot: usize,
+        place: Place,
         newest: u64,
         scheduled: u128,
         cancelled: bool,
@@ -164,7 +164,7 @@ impl<S: BackendSelection> Slot<S> {
         ensures told { ask_told result ≡ slot_answer newest cancelled gate.old.out now (slot_value self.old) }
         ensures slot { slot_value self.new ≡ asked_slot (ask_told result) newest scheduled now (slot_value self.old) }
         ensures gate { gate.new ≡ asked_gate (ask_told result) gate.old }
-        ensures job { IsJobOf slot gate.old.id (slot_value self.old) result }
+        ensures job { IsJobOf place gate.old.id (slot_value self.old) result }
     {
         if cancelled {
             return Ask::Cancelled;
@@ -195,7 +195,7 @@ impl<S: BackendSelection> Slot<S> {
         self.asked = now;
         self.scheduled = scheduled;
         Ask::Job(Job {
-            slot,
+            place,
             order,
             permit,
         })
@@ -278,7 +278,7 @@ impl<S: BackendSelection> Slot<S> {
         ensures slot { slot_value self.new ≡ published_slot built (slot_value self.old) }
     {
         let Built {
-            slot,
+            place,
             order,
             permit,
             selector,
@@ -296,7 +296,7 @@ impl<S: BackendSelection> Slot<S> {
         fill(
             &mut self.stage,
             Stage::Retired(Retired {
-                slot,
+                place,
                 serving: before,
                 permit,
             }),
@@ -318,7 +318,7 @@ impl<S: BackendSelection> Slot<S> {
     {
         self.count_superseded(newest);
         let Built {
-            slot,
+            place,
             order,
             permit,
             selector,
@@ -335,7 +335,7 @@ impl<S: BackendSelection> Slot<S> {
         fill(
             &mut self.stage,
             Stage::Retired(Retired {
-                slot,
+                place,
                 serving,
                 permit,
             }),
@@ -360,14 +360,10 @@ impl<S: BackendSelection> Slot<S> {
         Ok(())
     }
 
-    // One reader more of the selector that is served; `gate` is the group's.
-    pub(crate) fn enter(
-        &mut self,
-        slot: usize,
-        gate: &Snapshot<GateCore>,
-    ) -> Result<Reader<S>, Refusal>
+    // One reader more of the selector that is served; `place` is the slot's own.
+    pub(crate) fn enter(&mut self, place: Place) -> Result<Reader<S>, Refusal>
         ensures ok { IfOk result (λ r. (slot_value self.old).readers < 18446744073709551615
-            × (r ≡ reader_of gate.now.value.id slot (slot_value self.old))
+            × (r ≡ reader_of place (slot_value self.old))
             × (slot_value self.new ≡ entered_slot (slot_value self.old))) }
         ensures err { IfErr result (λ e. ((slot_value self.old).readers ≡ 18446744073709551615 × (e ≡ Refusal.NumbersExhausted))
             ⊎ ((slot_value self.old).readers < 18446744073709551615 × (e ≡ Refusal.OutOfMemory))) }
@@ -381,8 +377,7 @@ impl<S: BackendSelection> Slot<S> {
         let generation = serving.generation;
         self.readers += 1;
         Ok(Reader {
-            gate: Snapshot::of(gate),
-            slot,
+            place,
             generation,
             selector,
         })
@@ -434,9 +429,9 @@ impl<S: BackendSelection> Slot<S> {
         }
     }
 
-    // Takes the retired selector out, once no reader is left in it.
-    pub(crate) fn take_retired(&mut self, slot: usize) -> Result<Retired<S>, Refusal>
-        ensures { TakesAt slot (slot_value self.old) result (slot_value self.new) }
+    // Takes the retired selector out, once no reader is left in it; `place` is the slot's own.
+    pub(crate) fn take_retired(&mut self, place: Place) -> Result<Retired<S>, Refusal>
+        ensures { TakesAt place (slot_value self.old) result (slot_value self.new) }
     {
         let Stage::Retired(retired) = &self.stage else {
             return Err(Refusal::NothingRetired);
@@ -447,7 +442,7 @@ impl<S: BackendSelection> Slot<S> {
         let generation = retired.generation();
         match mem::replace(&mut self.stage, Stage::TakenOut(generation)) {
             Stage::Retired(mut retired) => {
-                retired.slot = slot;
+                retired.place = place;
                 Ok(retired)
             }
             Stage::Free | Stage::Flight(_) | Stage::Lost(_) | Stage::TakenOut(_) => unreachable!(),

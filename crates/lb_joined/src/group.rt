@@ -1,6 +1,6 @@
 //! A group joined with its view: a membership reaches both or neither, and each slot holds the snapshots that it has in use.
 //! A call tests all that it can refuse for before it changes anything; builds run elsewhere, between `ask` and `publish`.
-ghost use Rattle.std.specs.Prelude.{◌≡◌, ◌↔◌, ◌≤◌, ◌+◌, ◌^◌, ◌∷◌, [], ℕ, List, false, map, replicate, IfOk, IsTrue, OnOk, OnErr, IsErrOf};
+ghost use Rattle.std.specs.Prelude.{◌≡◌, ◌≢◌, ◌↔◌, ◌≤◌, ◌+◌, ◌^◌, ◌∷◌, [], ℕ, List, false, map, replicate, IfOk, IsTrue, OnOk, OnErr, IsErrOf};
 ghost use Rattle.std.specs.Prelude.{slice_get};
 ghost use Rattle.std.specs.Arc.{arc_value};
 ghost use Rattle.lb_select.specs.Backends.{Member};
@@ -27,10 +27,10 @@ ghost use Rattle.lb_joined.specs.Stands.{Stands, After, Becomes, SameSite, views
 use lb_group::answers::{Ask, Counts, Selection, Timing, Told};
 use lb_group::group;
 use lb_group::job::{Built, Job};
-use lb_group::retired::{Reader, Retired};
+use lb_group::retired::{OwedPermit, Reader, Retired};
 use lb_group::schedule::Scheduled;
 use lb_health::view::{Settings, ViewCore};
-use lb_rebuild::gate::{GateCore, Permit};
+use lb_rebuild::gate::GateCore;
 use lb_registry::keys::KeyRule;
 use lb_registry::registry::Registry;
 use lb_select::backend::Backend;
@@ -78,7 +78,7 @@ impl<S: BackendSelection> GroupCore<S> {
         gate: &GateCore,
         configs: Vec<S::Config>,
     ) -> Result<GroupCore<S>, Refusal>
-        ensures stands { IfOk result (λ g. Stands (record { gate = gate.now.id; configs = configs.items }) [] g) }
+        ensures stands { IfOk result (λ g. Stands (record { id = g.group.id; gate = gate.now.id; configs = configs.items }) [] g) }
         ensures gate { IfOk result (λ g. g.group.gate ≡ gate.now.id) }
         ensures id { IfOk result (λ g. (key_of : Member → Member) (events : List Event) → IsRegistryAfter R.gives key_of events registry.old
             → g.view.id ≡ registered_after events + 1) }
@@ -94,6 +94,14 @@ impl<S: BackendSelection> GroupCore<S> {
         let mut view = ViewCore::register(alloc, registry)?;
         hold_first(&mut view, slots);
         Ok(GroupCore { group, view })
+    }
+
+    /// Shows that two groups are not the same one. It takes no memory and changes neither.
+    pub fn apart<T: BackendSelection>(a: &mut GroupCore<S>, b: &mut GroupCore<T>)
+        ensures apart { a.old.group.id ≢ b.old.group.id }
+        ensures same { (a.new ≡ a.old) × (b.new ≡ b.old) }
+    {
+        group::GroupCore::apart(&mut a.group, &mut b.group);
     }
 
     /// Some history of the group and its view, for whoever knows none.
@@ -206,6 +214,7 @@ impl<S: BackendSelection> GroupCore<S> {
         gate: &mut GateCore,
         now: u128,
     ) -> Result<(), Job<S>>
+        requires own { job.group ≡ self.old.group.id }
         requires permit { job.permit ≡ self.old.group.gate }
         requires config { slice_get (configs_of self.old.group) job.slot ≡ Some job.config }
         requires gate { gate.old.id ≡ self.old.group.gate }
@@ -234,6 +243,7 @@ impl<S: BackendSelection> GroupCore<S> {
     ///
     /// The selector, where its slot has no flight and no lost flight of its generation. Nothing changes then.
     pub fn publish(&mut self, built: Built<S>) -> Result<Told, Built<S>>
+        requires own { built.task.group ≡ self.old.group.id }
         requires permit { built.task.permit ≡ self.old.group.gate }
         requires config { slice_get (configs_of self.old.group) built.task.slot ≡ Some built.task.config }
         ensures answers { After self.old (λ made e. Publishes (group_events e) built result) }
@@ -250,6 +260,7 @@ impl<S: BackendSelection> GroupCore<S> {
     ///
     /// The selector, where its slot has no flight and no lost flight of its generation. Nothing changes then.
     pub fn abandon(&mut self, built: Built<S>) -> Result<(), Built<S>>
+        requires own { built.task.group ≡ self.old.group.id }
         requires permit { built.task.permit ≡ self.old.group.gate }
         requires config { slice_get (configs_of self.old.group) built.task.slot ≡ Some built.task.config }
         ensures answers { After self.old (λ made e. Abandons (group_events e) built result) }
@@ -283,7 +294,7 @@ impl<S: BackendSelection> GroupCore<S> {
         ensures answers { After self.old (λ made e. Enters made (group_events e) slot result) }
         ensures stands { Becomes self.old (in_group (done_at slot Entered result)) self.new }
         ensures site { SameSite self.old self.new }
-        ensures own { IfOk result (λ r. r.gate ≡ self.new.group.gate) }
+        ensures own { IfOk result (λ r. r.group ≡ self.new.group.id) }
     {
         self.group.enter(slot)
     }
@@ -296,7 +307,7 @@ impl<S: BackendSelection> GroupCore<S> {
         registry: &Registry<R>,
         backend: &Backend,
     ) -> bool
-        requires { reader.now.gate ≡ self.now.group.gate }
+        requires { reader.now.group ≡ self.now.group.id }
         ensures { (key_of : Member → Member) (events : List Event) → IsRegistryAfter R.gives key_of events registry.now
             → After self.now (λ made e. IsTrue result ↔ IsReady key_of (views_of made e) events reader.now.generation backend.now) }
     {
@@ -309,7 +320,7 @@ impl<S: BackendSelection> GroupCore<S> {
     ///
     /// The reader, where its slot counts no reader of its generation. Nothing changes then.
     pub fn leave(&mut self, reader: Reader<S>) -> Result<(), Reader<S>>
-        requires { reader.gate ≡ self.old.group.gate }
+        requires { reader.group ≡ self.old.group.id }
         ensures answers { After self.old (λ made e. Leaves made (group_events e) reader result) }
         ensures stands { Becomes self.old (in_group (done_at reader.slot (Left reader.generation) result)) self.new }
         ensures site { SameSite self.old self.new }
@@ -327,7 +338,7 @@ impl<S: BackendSelection> GroupCore<S> {
         ensures answers { After self.old (λ made e. Takes made (group_events e) slot result) }
         ensures stands { Becomes self.old (in_group (done_at slot TakenOut result)) self.new }
         ensures site { SameSite self.old self.new }
-        ensures own { IfOk result (λ r. r.permit ≡ self.new.group.gate) }
+        ensures own { IfOk result (λ r. (r.group ≡ self.new.group.id) × (r.slot ≡ slot) × (r.permit ≡ self.new.group.gate)) }
     {
         self.group.take_retired(slot)
     }
@@ -341,11 +352,12 @@ impl<S: BackendSelection> GroupCore<S> {
     pub fn destroyed<R: KeyRule + Drop>(
         &mut self,
         slot: usize,
-        permit: Permit,
+        permit: OwedPermit,
         registry: &mut Registry<R>,
         gate: &mut GateCore,
-    ) -> Result<(), Permit>
-        requires permit { permit ≡ self.old.group.gate }
+    ) -> Result<(), OwedPermit>
+        requires own { (permit.group ≡ self.old.group.id) × (permit.slot ≡ slot) }
+        requires permit { permit.gate ≡ self.old.group.gate }
         requires gate { gate.old.id ≡ self.old.group.gate }
         ensures answers { After self.old (λ made e. Reports made (group_events e) slot permit result) }
         ensures stands { Becomes self.old (in_group (done_at slot Destroyed result)) self.new }

@@ -7,11 +7,11 @@ use Rattle.lb_group.proofs.group.GroupCore.cancel.Goals as goal
 pub invariant_of-self : goal.invariant_of-self
 invariant_of-self g c =
     let p = c.self.invariant in
-    (p.0, (_, stops p.0 p.1.0 _ _ _ _ _ _ _ refl p.1.1))
+    (p.0, (_, stops p.0 p.1.0 _ _ _ _ _ _ _ _ refl p.1.1))
 
 pub returns-clause-stands : goal.returns-clause-stands
 returns-clause-stands g c made h s =
-    stops made h _ _ _ _ _ _ _ c.self.view_is s
+    stops made h _ _ _ _ _ _ _ _ c.self.view_is s
 
 pub returns-clause-site : goal.returns-clause-site
-returns-clause-site g c = site-of _ _ _ _ c.self.invariant c.self.view_is (returns-clause-stands g c)
+returns-clause-site g c = site-of c.self.invariant c.self.view_is (returns-clause-stands g c)
