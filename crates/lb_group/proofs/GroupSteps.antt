@@ -1,5 +1,5 @@
 -- One event at one slot of a group, from the slot to the group: once for all events and all calls.
-use Rattle.std.proofs.Common.{arith, ◌≡◌, ◌<◌, ◌≤◌, ◌+◌, ◌^◌, ◌∙◌, ◌⊎◌, ℕ, zero, suc, Bool, List, [], ◌∷◌, map, length, get_or, set, refl, sym, ap, subst, inl, inr, Some, None, option_map, slice_get}
+use Rattle.std.proofs.Common.{arith, ◌≡◌, ◌<◌, ◌≤◌, ◌+◌, ◌^◌, ◌∙◌, ◌⊎◌, ℕ, zero, suc, Bool, false, nat_lt, List, [], ◌∷◌, map, length, get_or, set, refl, sym, ap, subst, inl, inr, Some, None, option_map, slice_get}
 use Rattle.std.proofs.lemmas.List.{map-set}
 use Rattle.std.proofs.Math.Seq.{map-set_same}
 use Rattle.std.proofs.lemmas.Option.{slice_get-map, slice_get_within, slice_get-get_or, slice_get_cases}
@@ -13,7 +13,7 @@ use Rattle.lb_group.specs.Values.{PlaceValue, SlotValue, GroupValue, configs_of}
 use Rattle.lb_group.specs.Stands.{Made, permit_in, slot_after, slots_after, group_after, StandsFor, IsFounded, SameSite}
 use Rattle.lb_group.specs.SlotSeen.{slot_value}
 use Rattle.lb_group.specs.declared.slot.Slot.{Slot}
-use Rattle.lb_group.proofs.Pasts.{past-same, past-other, newest-past, scheduled-past, cancelled-past}
+use Rattle.lb_group.proofs.Pasts.{past-same, past-other, newest-past, scheduled-past, cancelled-past, lt-false}
 
 -- an event adds to the past of its own slot alone
 pub possible-at : (i : ℕ) (e : SlotEvent) (h : History) → IsGroupHistory h → MayHappen (past_of i h) e → IsGroupHistory (At i e ∷ h)
@@ -108,6 +108,14 @@ module _ {C : Type 0} where
   pub founded : {u v : GroupValue C} (p : IsFounded u) → u ≡ v → IsFounded v
   founded p is = (p.0, (p.1.0, subst (λ (z : GroupValue C). StandsFor p.0 p.1.0 z) is p.1.1))
 
+  -- what holds after each history of a group holds, since there is one
+  pub known : {u v : GroupValue C} {P : Type 0} → IsFounded u → u ≡ v → ((made : Made C) (h : History) → StandsFor made h v → P) → P
+  known p is all = let q = founded p is in all q.0 q.1.0 q.1.1
+
+  pub stays : {u v w : GroupValue C} {then_ : Made C → History → History} → IsFounded u → u ≡ v
+      → ((made : Made C) (h : History) → StandsFor made h v → StandsFor made (then_ made h) w) → IsFounded w
+  stays p is becomes = known p is (λ made h s. (made, (_, becomes made h s)))
+
   -- identity and gate are those that it was made with
   pub id-made : {made : Made C} {h : History} {v : GroupValue C} → StandsFor made h v → v.id ≡ made.id
   id-made s = ap (λ (w : GroupValue C). w.id) s.shows
@@ -123,17 +131,15 @@ module _ {C : Type 0} where
   -- identity, gate and configurations stay, whatever happens
   pub site-of : {u v w : GroupValue C} {then_ : Made C → History → History} → IsFounded u → u ≡ v
       → ((made : Made C) (h : History) → StandsFor made h v → StandsFor made (then_ made h) w) → SameSite v w
-  site-of {u} {v} {w} {then_} p is becomes =
-      let q : IsFounded v = founded p is in
-      let s : StandsFor q.0 q.1.0 v = q.1.1 in
-      let t : StandsFor q.0 (then_ q.0 q.1.0) w = becomes q.0 q.1.0 s in
+  site-of {then_ = then_} p is becomes = known p is (λ made h s.
+      let t = becomes made h s in
       record {
         id = id-made t ∙ sym (id-made s);
         gate = gate-made t ∙ sym (gate-made s);
         configs =
-            ap (λ (z : GroupValue C). configs_of z) t.shows ∙ configs-after q.0.gate 0 q.0.configs (then_ q.0 q.1.0)
-            ∙ sym (ap (λ (z : GroupValue C). configs_of z) s.shows ∙ configs-after q.0.gate 0 q.0.configs q.1.0);
-      }
+            ap (λ (z : GroupValue C). configs_of z) t.shows ∙ configs-after made.gate 0 made.configs (then_ made h)
+            ∙ sym (ap (λ (z : GroupValue C). configs_of z) s.shows ∙ configs-after made.gate 0 made.configs h);
+      })
 
 module _ {S I C : Type 0} where
   -- a group with these slots
@@ -170,6 +176,13 @@ module _ {S I C : Type 0} where
   count-is {made} {h} {own} {id} {n} {ms} {at} {st} xs e s =
       let all : group_of own id n ms at st xs ≡ group_after made h = e ∙ s.shows in
       sym (length-values xs) ∙ ap (λ (w : GroupValue C). length w.slots) all ∙ length-after made.gate 0 made.configs h
+
+  -- a slot that the call does not find is none that the group was made with
+  pub beyond : {made : Made C} {h : History} {own : GroupId} {id : GateId} {n : ℕ} {ms : List Member} {at : ℕ} {st : Bool} (xs : List (Slot S I C)) {v : GroupValue C} (i : ℕ)
+      → group_of own id n ms at st xs ≡ v → length xs ≤ i → StandsFor made h v → nat_lt i (length made.configs) ≡ false
+  beyond {made} xs i e few s =
+      let count = count-is xs e s in
+      lt-false i (length made.configs) (omega (arith, count, few))
 
   pub facing : {made : Made C} {h : History} {own : GroupId} {id : GateId} {n : ℕ} {ms : List Member} {at : ℕ} {st : Bool} {xs : List (Slot S I C)} {v : GroupValue C} (i : ℕ) (x y : Slot S I C)
       → group_of own id n ms at st xs ≡ v → i < length xs → x ≡ get_or xs i x → StandsFor made h v → Facing made h own id n ms at st xs i x y

@@ -1,15 +1,14 @@
 -- The selector's slot is put back in its place.
 use Rattle.std.proofs.Common.{◌∙◌}
-use Rattle.lb_group.proofs.GroupSteps.{coming, founded, gate-made, site-of}
+use Rattle.lb_group.proofs.GroupSteps.{coming, stays, gate-made, site-of}
 use Rattle.lb_group.proofs.CallSteps.{abandons}
 use Rattle.lb_group.proofs.group.GroupCore.abandon.Goals as goal
 
 pub invariant_of-self : goal.invariant_of-self
 invariant_of-self g c =
-    let p = founded c.self.invariant c.self.view_is in
-    let s = p.1.1 in
+    stays c.self.invariant c.self.view_is (λ made h s.
     let w = coming c.slot-slot.result c.index_mut.result.now c.abandon.new.self c.self.view_is c.slot-slot.ensures c.requires.config c.index_mut.ensures.value s in
-    (p.0, (_, (abandons w.faces c.args.built c.abandon.result c.slot-slot.ensures w.config (c.requires.permit ∙ gate-made s) c.abandon.ensures).1))
+    (abandons w.faces c.args.built c.abandon.result c.slot-slot.ensures w.config (c.requires.permit ∙ gate-made s) c.abandon.ensures).1)
 
 pub returns-clause-answers : goal.returns-clause-answers
 returns-clause-answers g c made h s =

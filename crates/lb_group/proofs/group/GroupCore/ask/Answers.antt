@@ -1,6 +1,6 @@
 -- The slot that was asked is put back in its place.
 use Rattle.std.proofs.Common.{arith, ◌∙◌, refl}
-use Rattle.lb_group.proofs.GroupSteps.{facing, count-is, founded, gate-made, place-made, site-of}
+use Rattle.lb_group.proofs.GroupSteps.{facing, count-is, known, stays, gate-made, place-made, site-of}
 use Rattle.lb_group.proofs.CallSteps.{asked-stands, asks, own-job, gate-stays}
 use Rattle.lb_group.proofs.group.GroupCore.ask.Goals as goal
 
@@ -10,8 +10,8 @@ returns-then-slot-len-clause-answers g c made h s =
 
 pub invariant_of-self : goal.invariant_of-self
 invariant_of-self g c =
-    let p = founded c.self.invariant c.self.view_is in
-    (p.0, (_, asked-stands (facing c.args.slot c.index_mut.result.now c.ask.new.self c.self.view_is (omega arith) c.index_mut.ensures.value p.1.1) _ _ _ c.ask.ensures.told c.ask.ensures.slot))
+    stays c.self.invariant c.self.view_is (λ made h s.
+    asked-stands (facing c.args.slot c.index_mut.result.now c.ask.new.self c.self.view_is (omega arith) c.index_mut.ensures.value s) _ _ _ c.ask.ensures.told c.ask.ensures.slot)
 
 pub returns-clause-answers : goal.returns-clause-answers
 returns-clause-answers g c made h s =
@@ -26,9 +26,8 @@ returns-clause-site g c = site-of c.self.invariant c.self.view_is (returns-claus
 
 pub returns-clause-own : goal.returns-clause-own
 returns-clause-own g c =
-    let p = founded c.self.invariant c.self.view_is in
-    let s = p.1.1 in
-    own-job p.0 p.1.0 _ c.args.slot c.ask.result _ (returns-clause-stands g c p.0 p.1.0 s) (returns-clause-answers g c p.0 p.1.0 s).2
+    known c.self.invariant c.self.view_is (λ made h s.
+    own-job made h _ c.args.slot c.ask.result _ (returns-clause-stands g c made h s) (returns-clause-answers g c made h s).2)
 
 pub returns-clause-one_gate : goal.returns-clause-one_gate
 returns-clause-one_gate g c = gate-stays _ _ _ c.ask.ensures.gate

@@ -1,15 +1,14 @@
 -- The slot of the job is put back in its place.
 use Rattle.std.proofs.Common.{false, true}
-use Rattle.lb_group.proofs.GroupSteps.{coming, founded, site-of}
+use Rattle.lb_group.proofs.GroupSteps.{coming, stays, site-of}
 use Rattle.lb_group.proofs.CallSteps.{failed-stands, awaited-at}
 use Rattle.lb_group.proofs.group.GroupCore.fail.Goals as goal
 
 pub invariant_of-self : goal.invariant_of-self
 invariant_of-self g c =
-    let p = founded c.self.invariant c.self.view_is in
-    let s = p.1.1 in
+    stays c.self.invariant c.self.view_is (λ made h s.
     let w = coming c.slot-slot.result c.index_mut.result.now c.fail.new.self c.self.view_is c.slot-slot.ensures c.requires.config c.index_mut.ensures.value s in
-    (p.0, (p.1.0, w.faces.same c.in-Err.ensures.2))
+    w.faces.same c.in-Err.ensures.2)
 
 pub returns-in-Err-clause-answers : goal.returns-in-Err-clause-answers
 returns-in-Err-clause-answers g c made h s =
@@ -23,10 +22,9 @@ returns-in-Err-clause-stands g c made h s =
 
 pub invariant_of-self-2 : goal.invariant_of-self-2
 invariant_of-self-2 g c =
-    let p = founded c.self.invariant c.self.view_is in
-    let s = p.1.1 in
+    stays c.self.invariant c.self.view_is (λ made h s.
     let w = coming c.slot-slot.result c.index_mut.result.now c.fail.new.self c.self.view_is c.slot-slot.ensures c.requires.config c.index_mut.ensures.value s in
-    (p.0, (_, failed-stands w.faces c.args.job c.args.now c.slot-slot.ensures w.config c.in-Ok.ensures.0 c.in-Ok.ensures.2))
+    failed-stands w.faces c.args.job c.args.now c.slot-slot.ensures w.config c.in-Ok.ensures.0 c.in-Ok.ensures.2)
 
 pub returns-clause-answers : goal.returns-clause-answers
 returns-clause-answers g c made h s =

@@ -1,14 +1,13 @@
 -- The slot is one of the list.
-use Rattle.std.proofs.Common.{arith, ap, ◌∙◌, ◌≤◌, length, refl}
+use Rattle.std.proofs.Common.{arith, ap, ◌∙◌, refl}
 use Rattle.lb_group.specs.Values.{SlotValue, ServingValue}
-use Rattle.lb_group.proofs.GroupSteps.{facing, count-is}
+use Rattle.lb_group.proofs.GroupSteps.{facing, beyond}
 use Rattle.lb_group.proofs.CallSteps.{shown}
-use Rattle.lb_group.proofs.Pasts.{lt-false}
 use Rattle.lb_group.proofs.group.GroupCore.served.Goals as goal
 
 pub returns-then-slot-len : goal.returns-then-slot-len
 returns-then-slot-len g c made h s =
-    rw (lt-false _ _ (let few : length made.configs ≤ c.args.slot = omega (arith, count-is _ c.self.view_is s) in few)) refl
+    rw (beyond _ c.args.slot c.self.view_is (omega arith) s) refl
 
 pub returns : goal.returns
 returns g c made h s =
