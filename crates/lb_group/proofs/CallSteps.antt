@@ -6,8 +6,9 @@ use Rattle.lb_select.specs.Draws.{Draw}
 use Rattle.lb_select.specs.declared.refusal.Refusal.{Refusal}
 use Rattle.lb_select.specs.declared.refusal.Refusal.TheVariants as refusal
 use Rattle.lb_rebuild.specs.Gate.{GateId, GateView}
+use Rattle.lb_rebuild.specs.Identity.{GroupId}
 use Rattle.lb_group.specs.GroupHistory.{Granted, Failed, Published, Abandoned, WorkerLost, TakenOut, Destroyed, Entered, Left, Drew, At, History, past_of, newest, scheduled_at, is_cancelled, granted, served, order_members, Extra, nothing, flight, lost, retired, taken_out, is_flight, is_extra, is_aloft, is_retired_of, is_taken_out, generation_of, extra, waits, readers, due_moment, AskAnswer, cancelled, building, up_to_date, not_due, busy, job, ask_answer, MayHappen}
-use Rattle.lb_group.specs.Values.{OrderValue, Task, BuiltValue, RetiredValue, ReaderValue, SlotValue, GroupValue, order_of, configs_of}
+use Rattle.lb_group.specs.Values.{OrderValue, PlaceValue, Task, BuiltValue, RetiredValue, ReaderValue, SlotValue, GroupValue, order_of, configs_of}
 use Rattle.lb_group.specs.Stands.{Made, order_due, left_readers, permit_in, slot_after, StandsFor}
 use Rattle.lb_group.specs.SlotSeen.{slot_value}
 use Rattle.lb_group.specs.SlotCalls.{slot_answer, ask_told, asked_slot, asked_gate, IsJobOf, failed_slot, published_slot, abandoned_slot, lost_slot, entered_slot, reader_of, readers_at, left_slot, take_refusal, taken_slot, TakesAt, destroyed_slot, drawn_slot, SelectsFrom, PublishesAt, AbandonsAt, LosesAt, LeavesAt}
@@ -20,7 +21,7 @@ use Rattle.lb_group.specs.declared.answers.Selection.{Selection}
 use Rattle.lb_group.specs.declared.slot.Slot.{Slot}
 use Rattle.lb_group.proofs.Pasts.{AloftFits, aloft-fits, newest-past}
 use Rattle.lb_group.proofs.SlotSteps.{answered, granted-step, failed-step, published-step, abandoned-step, lost-step, taken-step, destroyed-step, entered-step, left-step, drew-step, readers-shown}
-use Rattle.lb_group.proofs.GroupSteps.{group_of, Facing, configs-after}
+use Rattle.lb_group.proofs.GroupSteps.{group_of, Facing, configs-after, id-made, gate-made}
 
 cong2 : {A B D : Type 0} (f : A → B → D) (a c : A) (b d : B) → a ≡ c → b ≡ d → f a b ≡ f c d
 cong2 f a c b d p q = cc
@@ -78,9 +79,9 @@ module _ {C : Type 0} where
   order-is j g c p q = cong2 (λ k d. record { generation = k; members = j.members; config = d }) j.generation g j.config c p q
 
   built-is : (b : BuiltValue C) (g : ℕ) (c : C) (id : GateId) → b.task.generation ≡ g → b.task.config ≡ c → b.task.permit ≡ id
-      → b ≡ record { task = record { slot = b.task.slot; generation = g; members = b.task.members; config = c; permit = id }; ended = b.ended }
+      → b ≡ record { task = record { group = b.task.group; slot = b.task.slot; generation = g; members = b.task.members; config = c; permit = id }; ended = b.ended }
   built-is b g c id p q r =
-      cong3 (λ k d i. record { task = record { slot = b.task.slot; generation = k; members = b.task.members; config = d; permit = i }; ended = b.ended })
+      cong3 (λ k d i. record { task = record { group = b.task.group; slot = b.task.slot; generation = k; members = b.task.members; config = d; permit = i }; ended = b.ended })
       b.task.generation g b.task.config c b.task.permit id p q r
 
 -- an ask leaves the gate the same one
@@ -101,24 +102,26 @@ module _ {S I C : Type 0} where
   own-job made h k slot (asked.NotDue m) v s is = tt
   own-job made h k slot asked.Busy v s is = tt
   own-job made h k slot (asked.Job j) v s is = (
-    is.permit ∙ sym (ap (λ (w : GroupValue C). w.gate) s.shows),
+    is.group ∙ sym (id-made s),
+    is.permit ∙ sym (gate-made s),
     ap (λ (l : List C). slice_get l j.slot) (ap (λ (w : GroupValue C). configs_of w) s.shows ∙ configs-after made.gate 0 made.configs k) ∙ ap (slice_get made.configs) is.place ∙ is.config,
   )
 
 module _ {C : Type 0} where
-  -- a retired selector that is taken out has a permit of the group's gate
-  pub taken-own : (made : Made C) (h k : History) (slot : ℕ) (r : Result RetiredValue Refusal) (v : GroupValue C) → StandsFor made k v → Takes made h slot r → IfOk r (λ q. q.permit ≡ v.gate)
-  taken-own made h k slot (Ok q) v s is = is.3 ∙ sym (ap (λ (w : GroupValue C). w.gate) s.shows)
+  -- a retired selector that is taken out is the group's own, with a permit of its gate
+  pub taken-own : (made : Made C) (h k : History) (slot : ℕ) (r : Result RetiredValue Refusal) (v : GroupValue C) → StandsFor made k v → Takes made h slot r
+      → IfOk r (λ q. (q.group ≡ v.id) × (q.slot ≡ slot) × (q.permit ≡ v.gate))
+  taken-own made h k slot (Ok q) v s is = (is.1 ∙ sym (id-made s), is.2, is.4 ∙ sym (gate-made s))
   taken-own made h k slot (Err e) v s is = tt
 
 module _ {C : Type 0} where
-  -- a reader that enters is of the group's gate
-  pub entered-own : (made : Made C) (h k : History) (slot : ℕ) (r : Result (ReaderValue C) Refusal) (v : GroupValue C) → StandsFor made k v → Enters made h slot r → IfOk r (λ q. q.gate ≡ v.gate)
-  entered-own made h k slot (Ok q) v s is = is.5 ∙ sym (ap (λ (w : GroupValue C). w.gate) s.shows)
+  -- a reader that enters is the group's own
+  pub entered-own : (made : Made C) (h k : History) (slot : ℕ) (r : Result (ReaderValue C) Refusal) (v : GroupValue C) → StandsFor made k v → Enters made h slot r → IfOk r (λ q. q.group ≡ v.id)
+  entered-own made h k slot (Ok q) v s is = is.5 ∙ sym (id-made s)
   entered-own made h k slot (Err e) v s is = tt
 
-module _ {S I C : Type 0} {made : Made C} {h : History} {id : GateId} {n : ℕ} {ms : List Member} {at : ℕ} {st : Bool} {xs : List (Slot S I C)} {i : ℕ} {x y : Slot S I C}
-    (f : Facing made h id n ms at st xs i x y) where
+module _ {S I C : Type 0} {made : Made C} {h : History} {own : GroupId} {id : GateId} {n : ℕ} {ms : List Member} {at : ℕ} {st : Bool} {xs : List (Slot S I C)} {i : ℕ} {x y : Slot S I C}
+    (f : Facing made h own id n ms at st xs i x y) where
   abbrev Past : History
   Past = past_of i h
 
@@ -128,7 +131,7 @@ module _ {S I C : Type 0} {made : Made C} {h : History} {id : GateId} {n : ℕ} 
       ∙ answered made.gate f.config out now Past
 
   pub asked-stands : (a : AskAnswer) (out : Bool) (now : ℕ) → a ≡ slot_answer n st out now (slot_value x) → slot_value y ≡ asked_slot a n at now (slot_value x)
-      → StandsFor made (asked_events i now a ++ h) (group_of id n ms at st (set xs i y))
+      → StandsFor made (asked_events i now a ++ h) (group_of own id n ms at st (set xs i y))
   asked-stands cancelled out now is to = f.same to
   asked-stands building out now is to = f.same to
   asked-stands up_to_date out now is to = f.same to
@@ -140,26 +143,27 @@ module _ {S I C : Type 0} {made : Made C} {h : History} {id : GateId} {n : ℕ} 
       (to ∙ cong3 (λ k m z. asked_slot job k m now z) n (newest Past) at (scheduled_at (newest Past) Past) (slot_value x) (slot_after made.gate f.config Past) f.newest_is f.moment f.slot
       ∙ granted-step made.gate f.config i now Past (f.past, may))
 
-  job-is : (a : Ask S I C) (g : GateId) → g ≡ made.gate → IsJobOf i g (slot_value x) a → JobIs made h i a
-  job-is asked.Cancelled g e is = tt
-  job-is asked.Building g e is = tt
-  job-is asked.Nothing g e is = tt
-  job-is (asked.NotDue m) g e is = tt
-  job-is asked.Busy g e is = tt
-  job-is (asked.Job j) g e is =
-      let due : order_due f.config Past ≡ Some (order_of j) = sym (ap (λ (z : SlotValue C). z.waiting) f.slot) ∙ is.1 in
+  job-is : (a : Ask S I C) (p : PlaceValue) (g : GateId) → p ≡ record { group = made.id; slot = i } → g ≡ made.gate → IsJobOf p g (slot_value x) a → JobIs made h i a
+  job-is asked.Cancelled p g u e is = tt
+  job-is asked.Building p g u e is = tt
+  job-is asked.Nothing p g u e is = tt
+  job-is (asked.NotDue m) p g u e is = tt
+  job-is asked.Busy p g u e is = tt
+  job-is (asked.Job j) p g u e is =
+      let due : order_due f.config Past ≡ Some (order_of j) = sym (ap (λ (z : SlotValue C). z.waiting) f.slot) ∙ is.2 in
       let order : order_of j ≡ record { generation = newest Past; members = order_members Past; config = f.config } = order-given _ _ (order_of j) due in
       record {
-        place = is.0;
+        group = is.0 ∙ ap (λ (q : PlaceValue). q.group) u;
+        place = is.1 ∙ ap (λ (q : PlaceValue). q.slot) u;
         generation = ap (λ (o : OrderValue C). o.generation) order ∙ newest-past i h;
-        permit = is.2 ∙ e;
+        permit = is.3 ∙ e;
         config = f.there ∙ ap (λ (o : OrderValue C). Some o.config) (sym order);
         members = ap (λ (o : OrderValue C). o.members) order;
       }
 
-  pub asks : (a : Ask S I C) (out : Bool) (now : ℕ) (g : GateId) → g ≡ made.gate → ask_told a ≡ slot_answer n st out now (slot_value x) → IsJobOf i g (slot_value x) a
-      → Asks made h i out now (Ok a)
-  asks a out now g e is at_ = (f.inside, is ∙ answer-is out now, job-is a g e at_)
+  pub asks : (a : Ask S I C) (out : Bool) (now : ℕ) (p : PlaceValue) (g : GateId) → p ≡ record { group = made.id; slot = i } → g ≡ made.gate
+      → ask_told a ≡ slot_answer n st out now (slot_value x) → IsJobOf p g (slot_value x) a → Asks made h i out now (Ok a)
+  asks a out now p g u e is at_ = (f.inside, is ∙ answer-is out now, job-is a p g u e at_)
 
   pub aloft-shown : (g : ℕ) (b : Bool) → is_aloft g (slot_value x).extra ≡ b → is_aloft g (extra Past) ≡ b
   aloft-shown g b e = sym (ap (λ (z : SlotValue C). is_aloft g z.extra) f.slot) ∙ e
@@ -172,41 +176,41 @@ module _ {S I C : Type 0} {made : Made C} {h : History} {id : GateId} {n : ℕ} 
 
   pub failed-stands : (j : Task C) (now : ℕ) → i ≡ j.slot → j.config ≡ f.config → is_aloft j.generation (slot_value x).extra ≡ true
       → slot_value y ≡ failed_slot n now (order_of j) (slot_value x)
-      → StandsFor made (At j.slot (Failed now j.members) ∷ h) (group_of id n ms at st (set xs i y))
-  failed-stands j now place own up to =
+      → StandsFor made (At j.slot (Failed now j.members) ∷ h) (group_of own id n ms at st (set xs i y))
+  failed-stands j now place fit up to =
       let may : MayHappen Past (Failed now j.members) = up-may j.generation up in
-      subst (λ (k : ℕ). StandsFor made (At k (Failed now j.members) ∷ h) (group_of id n ms at st (set xs i y))) place
+      subst (λ (k : ℕ). StandsFor made (At k (Failed now j.members) ∷ h) (group_of own id n ms at st (set xs i y))) place
       (f.step (Failed now j.members) may
       (to ∙ cong3 (λ k o z. failed_slot k now o z) n (newest Past) (order_of j) (record { generation = granted Past; members = j.members; config = f.config }) (slot_value x) (slot_after made.gate f.config Past)
-      f.newest_is (order-is j (granted Past) f.config (up-granted j.generation up) own) f.slot
+      f.newest_is (order-is j (granted Past) f.config (up-granted j.generation up) fit) f.slot
       ∙ failed-step made.gate f.config i now j.members Past (f.past, may) f.bounded))
 
   abandoned-stands : (b : BuiltValue C) → i ≡ b.task.slot → b.task.config ≡ f.config → b.task.permit ≡ made.gate → is_aloft b.task.generation (slot_value x).extra ≡ true
       → slot_value y ≡ abandoned_slot n b (slot_value x)
-      → StandsFor made (At b.task.slot (Abandoned b.task.members) ∷ h) (group_of id n ms at st (set xs i y))
-  abandoned-stands b place own permit up to =
+      → StandsFor made (At b.task.slot (Abandoned b.task.members) ∷ h) (group_of own id n ms at st (set xs i y))
+  abandoned-stands b place fit permit up to =
       let may : MayHappen Past (Abandoned b.task.members) = up-may b.task.generation up in
-      subst (λ (k : ℕ). StandsFor made (At k (Abandoned b.task.members) ∷ h) (group_of id n ms at st (set xs i y))) place
+      subst (λ (k : ℕ). StandsFor made (At k (Abandoned b.task.members) ∷ h) (group_of own id n ms at st (set xs i y))) place
       (f.step (Abandoned b.task.members) may
       (to ∙ cong3 (λ k o z. abandoned_slot k o z) n (newest Past) b
-      (record { task = record { slot = b.task.slot; generation = granted Past; members = b.task.members; config = f.config; permit = made.gate }; ended = b.ended })
+      (record { task = record { group = b.task.group; slot = b.task.slot; generation = granted Past; members = b.task.members; config = f.config; permit = made.gate }; ended = b.ended })
       (slot_value x) (slot_after made.gate f.config Past)
-      f.newest_is (built-is b (granted Past) f.config made.gate (up-granted b.task.generation up) own permit) f.slot
-      ∙ abandoned-step made.gate f.config b.task.slot i b.ended b.task.members Past (f.past, may) f.bounded))
+      f.newest_is (built-is b (granted Past) f.config made.gate (up-granted b.task.generation up) fit permit) f.slot
+      ∙ abandoned-step made.gate f.config b.task.group b.task.slot i b.ended b.task.members Past (f.past, may) f.bounded))
 
   published-stands : (b : BuiltValue C) → i ≡ b.task.slot → b.task.config ≡ f.config → b.task.permit ≡ made.gate → is_aloft b.task.generation (slot_value x).extra ≡ true
       → (is_flight (slot_value x).extra && not st) ≡ true → slot_value y ≡ published_slot b (slot_value x)
-      → StandsFor made (At b.task.slot (Published b.ended b.task.members) ∷ h) (group_of id n ms at st (set xs i y))
-  published-stands b place own permit up serves to =
+      → StandsFor made (At b.task.slot (Published b.ended b.task.members) ∷ h) (group_of own id n ms at st (set xs i y))
+  published-stands b place fit permit up serves to =
       let flies = and-not (is_flight (slot_value x).extra) st serves in
       let may : MayHappen Past (Published b.ended b.task.members) = (sym (ap (λ (z : SlotValue C). is_flight z.extra) f.slot) ∙ flies.0, sym f.stopped ∙ flies.1) in
-      subst (λ (k : ℕ). StandsFor made (At k (Published b.ended b.task.members) ∷ h) (group_of id n ms at st (set xs i y))) place
+      subst (λ (k : ℕ). StandsFor made (At k (Published b.ended b.task.members) ∷ h) (group_of own id n ms at st (set xs i y))) place
       (f.step (Published b.ended b.task.members) may
       (to ∙ cong2 (λ o z. published_slot o z) b
-      (record { task = record { slot = b.task.slot; generation = granted Past; members = b.task.members; config = f.config; permit = made.gate }; ended = b.ended })
+      (record { task = record { group = b.task.group; slot = b.task.slot; generation = granted Past; members = b.task.members; config = f.config; permit = made.gate }; ended = b.ended })
       (slot_value x) (slot_after made.gate f.config Past)
-      (built-is b (granted Past) f.config made.gate (up-granted b.task.generation up) own permit) f.slot
-      ∙ published-step made.gate f.config b.task.slot i b.ended b.task.members Past (f.past, may) f.bounded))
+      (built-is b (granted Past) f.config made.gate (up-granted b.task.generation up) fit permit) f.slot
+      ∙ published-step made.gate f.config b.task.group b.task.slot i b.ended b.task.members Past (f.past, may) f.bounded))
 
   pub awaited-at : (k g : ℕ) (b : Bool) → i ≡ k → is_aloft g (slot_value x).extra ≡ b → is_awaited k g h ≡ b
   awaited-at k g b place e = ap (λ (m : ℕ). is_awaited m g h) (sym place) ∙ aloft-shown g b e
@@ -218,7 +222,7 @@ module _ {S I C : Type 0} {made : Made C} {h : History} {id : GateId} {n : ℕ} 
 
   pub publishes : (b : BuiltValue C) (r : Result Told (BuiltValue C)) → i ≡ b.task.slot → b.task.config ≡ f.config → b.task.permit ≡ made.gate
       → PublishesAt n st b (slot_value x) r (slot_value y)
-      → Publishes h b r × StandsFor made (publish_events b r ++ h) (group_of id n ms at st (set xs i y))
+      → Publishes h b r × StandsFor made (publish_events b r ++ h) (group_of own id n ms at st (set xs i y))
   publishes b (Ok (told.Published m)) place own permit is =
       let served_ : is_served b.task.slot h ≡ true = served-at b.task.slot true place is.1 in
       ((awaited-at b.task.slot b.task.generation true place is.0, ap told.Published is.2 ∙ sym (rw served_ refl)), published-stands b place own permit is.0 is.1 is.3)
@@ -229,12 +233,12 @@ module _ {S I C : Type 0} {made : Made C} {h : History} {id : GateId} {n : ℕ} 
 
   pub abandons : (b : BuiltValue C) (r : Result (Unit {0}) (BuiltValue C)) → i ≡ b.task.slot → b.task.config ≡ f.config → b.task.permit ≡ made.gate
       → AbandonsAt n b (slot_value x) r (slot_value y)
-      → Abandons h b r × StandsFor made (abandon_events b r ++ h) (group_of id n ms at st (set xs i y))
+      → Abandons h b r × StandsFor made (abandon_events b r ++ h) (group_of own id n ms at st (set xs i y))
   abandons b (Ok u) place own permit is = (awaited-at b.task.slot b.task.generation true place is.0, abandoned-stands b place own permit is.0 is.1)
   abandons b (Err c) place own permit is = ((awaited-at b.task.slot b.task.generation false place is.0, is.1), f.same is.2)
 
   pub loses : (r : Result (Unit {0}) Refusal) → LosesAt n (slot_value x) r (slot_value y)
-      → Unless (lose_refusal made i h) r × StandsFor made (done_at i WorkerLost r ++ h) (group_of id n ms at st (set xs i y))
+      → Unless (lose_refusal made i h) r × StandsFor made (done_at i WorkerLost r ++ h) (group_of own id n ms at st (set xs i y))
   loses (Ok u) is =
       let may : is_flight (extra Past) ≡ true = sym (ap (λ (z : SlotValue C). is_flight z.extra) f.slot) ∙ is.0 in (
         rw (lt-ltb i (length made.configs) f.inside, may) refl,
@@ -244,25 +248,26 @@ module _ {S I C : Type 0} {made : Made C} {h : History} {id : GateId} {n : ℕ} 
       let none : is_flight (extra Past) ≡ false = sym (ap (λ (z : SlotValue C). is_flight z.extra) f.slot) ∙ is.0 in
       (rw (lt-ltb i (length made.configs) f.inside, none) (ap Some (sym is.1)), f.same is.2)
 
-  pub enters : (r : Result (ReaderValue C) Refusal)
-      → IfOk r (λ t. ((slot_value x).readers < 18446744073709551615) × (t ≡ reader_of id i (slot_value x)) × (slot_value y ≡ entered_slot (slot_value x)))
+  pub enters : (p : PlaceValue) (r : Result (ReaderValue C) Refusal) → p ≡ record { group = made.id; slot = i }
+      → IfOk r (λ t. ((slot_value x).readers < 18446744073709551615) × (t ≡ reader_of p (slot_value x)) × (slot_value y ≡ entered_slot (slot_value x)))
       → IfErr r (λ e. (((slot_value x).readers ≡ 18446744073709551615) × (e ≡ refusal.NumbersExhausted)) ⊎ (((slot_value x).readers < 18446744073709551615) × (e ≡ refusal.OutOfMemory)))
       → OnErr r (slot_value y ≡ slot_value x)
-      → Enters made h i r × StandsFor made (done_at i Entered r ++ h) (group_of id n ms at st (set xs i y))
-  enters (Ok t) ok err same =
+      → Enters made h i r × StandsFor made (done_at i Entered r ++ h) (group_of own id n ms at st (set xs i y))
+  enters p (Ok t) u ok err same =
       let few : readers (served Past) Past < 18446744073709551615 = subst (λ (z : SlotValue C). z.readers < 18446744073709551615) f.slot ok.0 in
-      let reader : t ≡ reader_of id i (slot_after made.gate f.config Past) = ok.1 ∙ ap (reader_of id i) f.slot in (
+      let reader : t ≡ reader_of (record { group = made.id; slot = i }) (slot_after made.gate f.config Past) =
+      ok.1 ∙ cong2 reader_of p (record { group = made.id; slot = i }) (slot_value x) (slot_after made.gate f.config Past) u f.slot in (
         (
           rw (lt-ltb i (length made.configs) f.inside, ne_eqb (readers (served Past) Past) 18446744073709551615 (λ e. omega arith)) refl,
           ap (λ (q : ReaderValue C). q.slot) reader,
           ap (λ (q : ReaderValue C). q.generation) reader,
           ap (λ (q : ReaderValue C). q.members) reader,
           f.there ∙ ap (λ (q : ReaderValue C). Some q.config) (sym reader),
-          ap (λ (q : ReaderValue C). q.gate) reader ∙ f.gate,
+          ap (λ (q : ReaderValue C). q.group) reader,
         ),
         f.step Entered tt (ok.2 ∙ ap (λ (z : SlotValue C). entered_slot z) f.slot ∙ entered-step made.gate f.config i Past f.past),
       )
-  enters (Err e) ok err same = (why err, f.same same)
+  enters p (Err e) u ok err same = (why err, f.same same)
     where
       why : (((slot_value x).readers ≡ 18446744073709551615) × (e ≡ refusal.NumbersExhausted)) ⊎ (((slot_value x).readers < 18446744073709551615) × (e ≡ refusal.OutOfMemory))
           → (enter_refusal made i h ≡ Some e) ⊎ ((enter_refusal made i h ≡ None) × (e ≡ refusal.OutOfMemory))
@@ -282,19 +287,19 @@ module _ {S I C : Type 0} {made : Made C} {h : History} {id : GateId} {n : ℕ} 
       ap (λ (q : ℕ). is_read made q m h) (sym place) ∙ rw (lt-ltb i (length made.configs) f.inside) (read-shown m b e)
 
   pub leaves : (q : ReaderValue C) (r : Result (Unit {0}) (ReaderValue C)) → i ≡ q.slot → LeavesAt q (slot_value x) r (slot_value y)
-      → Leaves made h q r × StandsFor made (done_at q.slot (Left q.generation) r ++ h) (group_of id n ms at st (set xs i y))
+      → Leaves made h q r × StandsFor made (done_at q.slot (Left q.generation) r ++ h) (group_of own id n ms at st (set xs i y))
   leaves q (Ok u) place is =
       let some : nat_lt 0 (readers q.generation Past) ≡ true = read-shown q.generation true is.0 in
       let may : 0 < readers q.generation Past = ltb-true 0 (readers q.generation Past) some in (
         read-at q.slot q.generation true place is.0,
-        subst (λ (k : ℕ). StandsFor made (At k (Left q.generation) ∷ h) (group_of id n ms at st (set xs i y))) place
+        subst (λ (k : ℕ). StandsFor made (At k (Left q.generation) ∷ h) (group_of own id n ms at st (set xs i y))) place
             (f.step (Left q.generation) may (is.1 ∙ ap (λ (z : SlotValue C). left_slot q.generation z) f.slot ∙ left-step made.gate f.config i q.generation Past f.past)),
       )
   leaves q (Err k) place is = ((read-at q.slot q.generation false place is.0, is.1), f.same is.2)
 
-  pub takes : (r : Result RetiredValue Refusal) → TakesAt i (slot_value x) r (slot_value y)
-      → Takes made h i r × StandsFor made (done_at i TakenOut r ++ h) (group_of id n ms at st (set xs i y))
-  takes (Ok r) is =
+  pub takes : (p : PlaceValue) (r : Result RetiredValue Refusal) → p ≡ record { group = made.id; slot = i } → TakesAt p (slot_value x) r (slot_value y)
+      → Takes made h i r × StandsFor made (done_at i TakenOut r ++ h) (group_of own id n ms at st (set xs i y))
+  takes p (Ok r) u is =
       let out : extra Past ≡ retired r.generation = sym (ap (λ (z : SlotValue C). z.extra) f.slot) ∙ is.0 in
       let left : left_readers (extra Past) Past ≡ 0 = sym (ap (λ (z : SlotValue C). z.left_in) f.slot) ∙ is.1 in
       let none : take_refusal (extra Past) (left_readers (extra Past) Past) ≡ None = cong2 take_refusal (extra Past) (retired r.generation) (left_readers (extra Past) Past) 0 out left in
@@ -303,10 +308,16 @@ module _ {S I C : Type 0} {made : Made C} {h : History} {id : GateId} {n : ℕ} 
         subst (λ (e : Extra). is_retired_of (generation_of e) e ≡ true) (sym out) (eq-eqb r.generation r.generation refl),
         subst (λ (e : Extra). left_readers e Past ≡ 0 → readers (generation_of e) Past ≡ 0) (sym out) (λ z. z) left,
       ) in (
-        (rw (lt-ltb i (length made.configs) f.inside) none, is.3, sym (ap generation_of out), (let same : r.permit ≡ made.gate = cc in same)),
-        f.step TakenOut may (is.4 ∙ ap (λ (z : SlotValue C). taken_slot z) f.slot ∙ taken-step made.gate f.config i Past (f.past, may)),
+        (
+          rw (lt-ltb i (length made.configs) f.inside) none,
+          is.3 ∙ ap (λ (q : PlaceValue). q.group) u,
+          is.4 ∙ ap (λ (q : PlaceValue). q.slot) u,
+          sym (ap generation_of out),
+          (let same : r.permit ≡ made.gate = cc in same),
+        ),
+        f.step TakenOut may (is.5 ∙ ap (λ (z : SlotValue C). taken_slot z) f.slot ∙ taken-step made.gate f.config i Past (f.past, may)),
       )
-  takes (Err e) is =
+  takes p (Err e) u is =
       let why : take_refusal (extra Past) (left_readers (extra Past) Past) ≡ Some e = sym (ap (λ (z : SlotValue C). take_refusal z.extra z.left_in) f.slot) ∙ is.0 in
       (rw (lt-ltb i (length made.configs) f.inside) why, f.same is.1)
 
@@ -314,18 +325,19 @@ module _ {S I C : Type 0} {made : Made C} {h : History} {id : GateId} {n : ℕ} 
   owed-at b e = rw (lt-ltb i (length made.configs) f.inside) (sym (ap (λ (z : SlotValue C). is_taken_out z.extra) f.slot) ∙ e)
 
   pub reported-stands : is_taken_out (slot_value x).extra ≡ true → slot_value y ≡ destroyed_slot (slot_value x)
-      → StandsFor made (At i Destroyed ∷ h) (group_of id n ms at st (set xs i y))
+      → StandsFor made (At i Destroyed ∷ h) (group_of own id n ms at st (set xs i y))
   reported-stands out to =
       let may : is_taken_out (extra Past) ≡ true = sym (ap (λ (z : SlotValue C). is_taken_out z.extra) f.slot) ∙ out in
       f.step Destroyed may (to ∙ ap (λ (z : SlotValue C). destroyed_slot z) f.slot ∙ destroyed-step made.gate f.config i Past (f.past, may))
 
-  pub selects : (random : List Member → C → Bool) (walks : List Member → C → List ℕ → List Draw → List Member → Bool → Type 0) (key : List ℕ) (limit : ℕ) (words : List ℕ) (s : Selection)
-      → SelectsFrom random walks key limit words (slot_value x).serving.members (slot_value x).serving.config (slot_value x).serving.tickets s
-      → SelectsIn random walks made h i key limit words s
-  selects random walks key limit words s is =
-      rw f.there (subst (λ (z : SlotValue C). SelectsFrom random walks key limit words z.serving.members z.serving.config z.serving.tickets s) f.slot is)
+  pub selects : (random : List Member → C → Bool) (walks : List Member → C → List ℕ → List Draw → List Member → Bool → Type 0) (accepts : Member → Bool → Type 0) (load_by : Member → ℕ)
+      (key : List ℕ) (limit : ℕ) (words : List ℕ) (s : Selection)
+      → SelectsFrom random walks accepts load_by key limit words (slot_value x).serving.members (slot_value x).serving.config (slot_value x).serving.tickets s
+      → SelectsIn random walks accepts load_by made h i key limit words s
+  selects random walks accepts load_by key limit words s is =
+      rw f.there (subst (λ (z : SlotValue C). SelectsFrom random walks accepts load_by key limit words z.serving.members z.serving.config z.serving.tickets s) f.slot is)
 
-  pub selected-stands : (s : Selection) → slot_value y ≡ drawn_slot s.tickets (slot_value x) → StandsFor made (select_events made i s ++ h) (group_of id n ms at st (set xs i y))
+  pub selected-stands : (s : Selection) → slot_value y ≡ drawn_slot s.tickets (slot_value x) → StandsFor made (select_events made i s ++ h) (group_of own id n ms at st (set xs i y))
   selected-stands s to =
       rw (lt-ltb i (length made.configs) f.inside)
       (f.step (Drew s.tickets) tt (to ∙ ap (λ (z : SlotValue C). drawn_slot s.tickets z) f.slot ∙ drew-step made.gate f.config i s.tickets Past))

@@ -1,5 +1,5 @@
 -- One event at one slot of a group, from the slot to the group: once for all events and all calls.
-use Rattle.std.proofs.Common.{arith, ◌≡◌, ◌<◌, ◌≤◌, ◌+◌, ◌^◌, ◌∙◌, ◌⊎◌, ℕ, zero, suc, Bool, List, [], ◌∷◌, map, length, get_or, set, refl, sym, ap, subst, inl, inr, Some, None, option_map, slice_get}
+use Rattle.std.proofs.Common.{arith, ◌≡◌, ◌<◌, ◌≤◌, ◌+◌, ◌^◌, ◌∙◌, ◌⊎◌, ℕ, zero, suc, Bool, false, nat_lt, List, [], ◌∷◌, map, length, get_or, set, refl, sym, ap, subst, inl, inr, Some, None, option_map, slice_get}
 use Rattle.std.proofs.lemmas.List.{map-set}
 use Rattle.std.proofs.Math.Seq.{map-set_same}
 use Rattle.std.proofs.lemmas.Option.{slice_get-map, slice_get_within, slice_get-get_or, slice_get_cases}
@@ -7,12 +7,13 @@ use mathlib.Core.Logic.{dite}
 use native.Mathlib.Decide.{ℕ_discrete}
 use Rattle.lb_select.specs.Backends.{Member}
 use Rattle.lb_rebuild.specs.Gate.{GateId}
+use Rattle.lb_rebuild.specs.Identity.{GroupId}
 use Rattle.lb_group.specs.GroupHistory.{SlotEvent, At, History, past_of, newest, scheduled_at, is_cancelled, IsPast, IsGroupHistory, MayHappen}
-use Rattle.lb_group.specs.Values.{SlotValue, GroupValue, configs_of}
+use Rattle.lb_group.specs.Values.{PlaceValue, SlotValue, GroupValue, configs_of}
 use Rattle.lb_group.specs.Stands.{Made, permit_in, slot_after, slots_after, group_after, StandsFor, IsFounded, SameSite}
 use Rattle.lb_group.specs.SlotSeen.{slot_value}
 use Rattle.lb_group.specs.declared.slot.Slot.{Slot}
-use Rattle.lb_group.proofs.Pasts.{past-same, past-other, newest-past, scheduled-past, cancelled-past}
+use Rattle.lb_group.proofs.Pasts.{past-same, past-other, newest-past, scheduled-past, cancelled-past, lt-false}
 
 -- an event adds to the past of its own slot alone
 pub possible-at : (i : ℕ) (e : SlotEvent) (h : History) → IsGroupHistory h → MayHappen (past_of i h) e → IsGroupHistory (At i e ∷ h)
@@ -81,56 +82,82 @@ module _ {C : Type 0} where
       join _ _ _ _ (ap (λ (p : History). slot_after gate d p) (past-other k j e h (λ same. omega arith)))
       (event-slots gate (k + 1) i j cs c e h (omega arith) is)
 
-  pub same-group : (id a : GateId) (n m : ℕ) (ms os : List Member) (at to : ℕ) (st off : Bool) (xs ys : List (SlotValue C))
-      → id ≡ a → n ≡ m → ms ≡ os → at ≡ to → st ≡ off → xs ≡ ys
-      → (let left : GroupValue C = record { gate = id; newest = n; current = ms; scheduled = at; cancelled = st; slots = xs } in
-      let right : GroupValue C = record { gate = a; newest = m; current = os; scheduled = to; cancelled = off; slots = ys } in
+  pub same-group : {own o : GroupId} {id a : GateId} {n m : ℕ} {ms os : List Member} {at to : ℕ} {st off : Bool} {xs ys : List (SlotValue C)}
+      → own ≡ o → id ≡ a → n ≡ m → ms ≡ os → at ≡ to → st ≡ off → xs ≡ ys
+      → (let left : GroupValue C = record { id = own; gate = id; newest = n; current = ms; scheduled = at; cancelled = st; slots = xs } in
+      let right : GroupValue C = record { id = o; gate = a; newest = m; current = os; scheduled = to; cancelled = off; slots = ys } in
       left ≡ right)
-  same-group id a n m ms os at to st off xs ys h1 h2 h3 h4 h5 h6 = cc
+  same-group h1 h2 h3 h4 h5 h6 h7 = cc
 
   -- an event of a place without a slot is seen by nobody
   pub stands-beyond : (made : Made C) (h : History) (i : ℕ) (e : SlotEvent) (v : GroupValue C) → length made.configs ≤ i → MayHappen (past_of i h) e → StandsFor made h v → StandsFor made (At i e ∷ h) v
   stands-beyond made h i e v beyond may s = record {
     possible = possible-at i e h s.possible may;
     bounded = s.bounded;
-    shows = s.shows ∙ same-group _ _ _ _ _ _ _ _ _ _ _ _ refl refl refl refl refl (sym (slots-beyond made.gate i 0 made.configs e h (omega arith)));
+    shows = s.shows ∙ same-group refl refl refl refl refl refl (sym (slots-beyond made.gate i 0 made.configs e h (omega arith)));
   }
 
   -- the configuration that a job has is its slot's
-  pub config-is : (made : Made C) (h : History) (v : GroupValue C) (i k : ℕ) (c d : C) → StandsFor made h v → i ≡ k → slice_get made.configs i ≡ Some c → slice_get (configs_of v) k ≡ Some d → d ≡ c
-  config-is made h v i k c d s place there own =
+  pub config-is : {made : Made C} {h : History} {v : GroupValue C} {i k : ℕ} {c d : C} → StandsFor made h v → i ≡ k → slice_get made.configs i ≡ Some c → slice_get (configs_of v) k ≡ Some d → d ≡ c
+  config-is {made} {h} {v} {i} {k} {c} {d} s place there own =
       let configs : configs_of v ≡ made.configs = ap (λ (w : GroupValue C). configs_of w) s.shows ∙ configs-after made.gate 0 made.configs h in
       let one : Some d ≡ Some c = sym own ∙ ap (λ (l : List C). slice_get l k) configs ∙ sym (ap (slice_get made.configs) place) ∙ there in
       cc
 
-  -- the gate and the configurations stay, whatever happens
-  pub site-of : (u v w : GroupValue C) (then_ : Made C → History → History) → IsFounded u → u ≡ v
+  -- the history that stands behind a group
+  pub founded : {u v : GroupValue C} (p : IsFounded u) → u ≡ v → IsFounded v
+  founded p is = (p.0, (p.1.0, subst (λ (z : GroupValue C). StandsFor p.0 p.1.0 z) is p.1.1))
+
+  -- what holds after each history of a group holds, since there is one
+  pub known : {u v : GroupValue C} {P : Type 0} → IsFounded u → u ≡ v → ((made : Made C) (h : History) → StandsFor made h v → P) → P
+  known p is all = let q = founded p is in all q.0 q.1.0 q.1.1
+
+  pub stays : {u v w : GroupValue C} {then_ : Made C → History → History} → IsFounded u → u ≡ v
+      → ((made : Made C) (h : History) → StandsFor made h v → StandsFor made (then_ made h) w) → IsFounded w
+  stays p is becomes = known p is (λ made h s. (made, (_, becomes made h s)))
+
+  -- identity and gate are those that it was made with
+  pub id-made : {made : Made C} {h : History} {v : GroupValue C} → StandsFor made h v → v.id ≡ made.id
+  id-made s = ap (λ (w : GroupValue C). w.id) s.shows
+
+  pub gate-made : {made : Made C} {h : History} {v : GroupValue C} → StandsFor made h v → v.gate ≡ made.gate
+  gate-made s = ap (λ (w : GroupValue C). w.gate) s.shows
+
+  -- where what goes out of a slot belongs
+  pub place-made : {made : Made C} {h : History} {v : GroupValue C} {p : PlaceValue} {i : ℕ} → p ≡ record { group = v.id; slot = i } → StandsFor made h v
+      → p ≡ record { group = made.id; slot = i }
+  place-made {i = i} is s = is ∙ ap (λ (z : GroupId). record { group = z; slot = i }) (id-made s)
+
+  -- identity, gate and configurations stay, whatever happens
+  pub site-of : {u v w : GroupValue C} {then_ : Made C → History → History} → IsFounded u → u ≡ v
       → ((made : Made C) (h : History) → StandsFor made h v → StandsFor made (then_ made h) w) → SameSite v w
-  site-of u v w then_ p is becomes =
-      let s : StandsFor p.0 p.1.0 v = subst (λ (z : GroupValue C). StandsFor p.0 p.1.0 z) is p.1.1 in
-      let t : StandsFor p.0 (then_ p.0 p.1.0) w = becomes p.0 p.1.0 s in
+  site-of {then_ = then_} p is becomes = known p is (λ made h s.
+      let t = becomes made h s in
       record {
-        gate = ap (λ (z : GroupValue C). z.gate) t.shows ∙ sym (ap (λ (z : GroupValue C). z.gate) s.shows);
+        id = id-made t ∙ sym (id-made s);
+        gate = gate-made t ∙ sym (gate-made s);
         configs =
-            ap (λ (z : GroupValue C). configs_of z) t.shows ∙ configs-after p.0.gate 0 p.0.configs (then_ p.0 p.1.0)
-            ∙ sym (ap (λ (z : GroupValue C). configs_of z) s.shows ∙ configs-after p.0.gate 0 p.0.configs p.1.0);
-      }
+            ap (λ (z : GroupValue C). configs_of z) t.shows ∙ configs-after made.gate 0 made.configs (then_ made h)
+            ∙ sym (ap (λ (z : GroupValue C). configs_of z) s.shows ∙ configs-after made.gate 0 made.configs h);
+      })
 
 module _ {S I C : Type 0} where
   -- a group with these slots
-  abbrev pub group_of : GateId → ℕ → List Member → ℕ → Bool → List (Slot S I C) → GroupValue C
-  group_of id n ms at st xs = record { gate = id; newest = n; current = ms; scheduled = at; cancelled = st; slots = map slot_value xs }
+  abbrev pub group_of : GroupId → GateId → ℕ → List Member → ℕ → Bool → List (Slot S I C) → GroupValue C
+  group_of own id n ms at st xs =
+      record { id = own; gate = id; newest = n; current = ms; scheduled = at; cancelled = st; slots = map slot_value xs }
 
   pub length-values : (xs : List (Slot S I C)) → length (map slot_value xs) ≡ length xs
   length-values [] = refl
   length-values (x ∷ xs) = ap suc (length-values xs)
 
   -- What a call at one slot finds, x, and what it has to show of the slot y that it leaves.
-  pub record Facing (made : Made C) (h : History) (id : GateId) (n : ℕ) (ms : List Member) (at : ℕ) (st : Bool) (xs : List (Slot S I C)) (i : ℕ) (x y : Slot S I C) : Type 0 where
+  pub record Facing (made : Made C) (h : History) (own : GroupId) (id : GateId) (n : ℕ) (ms : List Member) (at : ℕ) (st : Bool) (xs : List (Slot S I C)) (i : ℕ) (x y : Slot S I C) : Type 0 where
     pub config : C
     pub there : slice_get made.configs i ≡ Some config
     pub inside : i < length made.configs
     pub slot : slot_value x ≡ slot_after made.gate config (past_of i h)
+    pub group : own ≡ made.id
     pub gate : id ≡ made.gate
     pub newest_is : n ≡ newest (past_of i h)
     pub newest_of : n ≡ newest h
@@ -140,28 +167,35 @@ module _ {S I C : Type 0} where
     pub past : IsPast (past_of i h)
     pub bounded : newest (past_of i h) < 2 ^ 64
     pub step : (e : SlotEvent) → MayHappen (past_of i h) e → slot_value y ≡ slot_after made.gate config (At i e ∷ past_of i h)
-        → StandsFor made (At i e ∷ h) (group_of id n ms at st (set xs i y))
-    pub same : slot_value y ≡ slot_value x → StandsFor made h (group_of id n ms at st (set xs i y))
+        → StandsFor made (At i e ∷ h) (group_of own id n ms at st (set xs i y))
+    pub same : slot_value y ≡ slot_value x → StandsFor made h (group_of own id n ms at st (set xs i y))
 
   -- how many slots there are
-  pub count-is : (made : Made C) (h : History) (id : GateId) (n : ℕ) (ms : List Member) (at : ℕ) (st : Bool) (xs : List (Slot S I C)) (v : GroupValue C)
-      → group_of id n ms at st xs ≡ v → StandsFor made h v → length xs ≡ length made.configs
-  count-is made h id n ms at st xs v e s =
-      let all : group_of id n ms at st xs ≡ group_after made h = e ∙ s.shows in
+  pub count-is : {made : Made C} {h : History} {own : GroupId} {id : GateId} {n : ℕ} {ms : List Member} {at : ℕ} {st : Bool} (xs : List (Slot S I C)) {v : GroupValue C}
+      → group_of own id n ms at st xs ≡ v → StandsFor made h v → length xs ≡ length made.configs
+  count-is {made} {h} {own} {id} {n} {ms} {at} {st} xs e s =
+      let all : group_of own id n ms at st xs ≡ group_after made h = e ∙ s.shows in
       sym (length-values xs) ∙ ap (λ (w : GroupValue C). length w.slots) all ∙ length-after made.gate 0 made.configs h
 
-  pub facing : (made : Made C) (h : History) (id : GateId) (n : ℕ) (ms : List Member) (at : ℕ) (st : Bool) (xs : List (Slot S I C)) (i : ℕ) (x y : Slot S I C) (v : GroupValue C)
-      → group_of id n ms at st xs ≡ v → i < length xs → x ≡ get_or xs i x → StandsFor made h v → Facing made h id n ms at st xs i x y
-  facing made h id n ms at st xs i x y v e in_ is s = found (slice_get_cases made.configs i).1
+  -- a slot that the call does not find is none that the group was made with
+  pub beyond : {made : Made C} {h : History} {own : GroupId} {id : GateId} {n : ℕ} {ms : List Member} {at : ℕ} {st : Bool} (xs : List (Slot S I C)) {v : GroupValue C} (i : ℕ)
+      → group_of own id n ms at st xs ≡ v → length xs ≤ i → StandsFor made h v → nat_lt i (length made.configs) ≡ false
+  beyond {made} xs i e few s =
+      let count = count-is xs e s in
+      lt-false i (length made.configs) (omega (arith, count, few))
+
+  pub facing : {made : Made C} {h : History} {own : GroupId} {id : GateId} {n : ℕ} {ms : List Member} {at : ℕ} {st : Bool} {xs : List (Slot S I C)} {v : GroupValue C} (i : ℕ) (x y : Slot S I C)
+      → group_of own id n ms at st xs ≡ v → i < length xs → x ≡ get_or xs i x → StandsFor made h v → Facing made h own id n ms at st xs i x y
+  facing {made} {h} {own} {id} {n} {ms} {at} {st} {xs} i x y e in_ is s = found (slice_get_cases made.configs i).1
     where
-      all : group_of id n ms at st xs ≡ group_after made h
+      all : group_of own id n ms at st xs ≡ group_after made h
       all = e ∙ s.shows
 
       slots : map slot_value xs ≡ slots_after made.gate 0 made.configs h
       slots = ap (λ (w : GroupValue C). w.slots) all
 
       count : length xs ≡ length made.configs
-      count = count-is made h id n ms at st xs v e s
+      count = count-is xs e s
 
       newest-is : n ≡ newest h
       newest-is = ap (λ (w : GroupValue C). w.newest) all
@@ -170,7 +204,7 @@ module _ {S I C : Type 0} where
       in_place = slice_get-map slot_value xs i ∙ ap (option_map slot_value) (slice_get-get_or xs i x in_ ∙ ap Some (sym is))
 
       found : ((c : C) × (i < length made.configs) × (slice_get made.configs i ≡ Some c) × (get_or made.configs i c ≡ c)) ⊎ ((length made.configs ≤ i) × (slice_get made.configs i ≡ None))
-          → Facing made h id n ms at st xs i x y
+          → Facing made h own id n ms at st xs i x y
       found (inr past) = absurd (omega (arith, count, in_, past.0))
       found (inl (c, within, there, _)) =
           let shown : slice_get (slots_after made.gate 0 made.configs h) i ≡ Some (slot_after made.gate c (past_of i h)) = get-after made.gate 0 i i made.configs c h (omega arith) there in
@@ -182,6 +216,7 @@ module _ {S I C : Type 0} where
             there = there;
             inside = within;
             slot = (let same : slot_value x ≡ slot_after made.gate c (past_of i h) = cc in same);
+            group = ap (λ (w : GroupValue C). w.id) all;
             gate = ap (λ (w : GroupValue C). w.gate) all;
             newest_is = newest-is ∙ sym (newest-past i h);
             newest_of = newest-is;
@@ -194,7 +229,7 @@ module _ {S I C : Type 0} where
               possible = possible-at i f h s.possible may;
               bounded = s.bounded;
               shows =
-                  same-group _ _ _ _ _ _ _ _ _ _ _ _ (ap (λ (w : GroupValue C). w.gate) all) newest-is (ap (λ (w : GroupValue C). w.current) all) moment-is stopped-is
+                  same-group (ap (λ (w : GroupValue C). w.id) all) (ap (λ (w : GroupValue C). w.gate) all) newest-is (ap (λ (w : GroupValue C). w.current) all) moment-is stopped-is
                   (map-set slot_value xs i y ∙ ap (λ (l : List (SlotValue C)). set l i (slot_value y)) slots
                   ∙ ap (λ (z : SlotValue C). set (slots_after made.gate 0 made.configs h) i z) to ∙ sym (event-slots made.gate 0 i i made.configs c f h (omega arith) there));
             };
@@ -202,18 +237,30 @@ module _ {S I C : Type 0} where
               possible = s.possible;
               bounded = s.bounded;
               shows =
-                  same-group _ _ _ _ _ _ _ _ _ _ _ _ (ap (λ (w : GroupValue C). w.gate) all) newest-is (ap (λ (w : GroupValue C). w.current) all) moment-is stopped-is
+                  same-group (ap (λ (w : GroupValue C). w.id) all) (ap (λ (w : GroupValue C). w.gate) all) newest-is (ap (λ (w : GroupValue C). w.current) all) moment-is stopped-is
                   (map-set_same slot_value xs i y x (to ∙ ap slot_value is) ∙ slots);
             };
           }
 
-  pub inside-of : (id : GateId) (n : ℕ) (ms : List Member) (at : ℕ) (st : Bool) (xs : List (Slot S I C)) (i : ℕ) (c : C) (v : GroupValue C)
-      → group_of id n ms at st xs ≡ v → slice_get (configs_of v) i ≡ Some c → i < length xs
-  inside-of id n ms at st xs i c v e own =
-      let configs : slice_get (map (λ (x : SlotValue C). x.config) (map slot_value xs)) i ≡ Some c = ap (λ (w : GroupValue C). slice_get (configs_of w) i) e ∙ own in
+  inside-of : {own : GroupId} {id : GateId} {n : ℕ} {ms : List Member} {at : ℕ} {st : Bool} (xs : List (Slot S I C)) {v : GroupValue C} (i : ℕ) (c : C)
+      → group_of own id n ms at st xs ≡ v → slice_get (configs_of v) i ≡ Some c → i < length xs
+  inside-of xs i c e there =
+      let configs : slice_get (map (λ (x : SlotValue C). x.config) (map slot_value xs)) i ≡ Some c = ap (λ (w : GroupValue C). slice_get (configs_of w) i) e ∙ there in
       let few : i < length (map (λ (x : SlotValue C). x.config) (map slot_value xs)) = slice_get_within _ i c configs in
       subst (λ (k : ℕ). i < k) (long xs) few
     where
       long : (ys : List (Slot S I C)) → length (map (λ (x : SlotValue C). x.config) (map slot_value ys)) ≡ length ys
       long [] = refl
       long (y ∷ ys) = ap suc (long ys)
+
+  -- a task that comes back to its slot: what the call finds there, and that the task has the slot's configuration
+  pub record Coming (made : Made C) (h : History) (own : GroupId) (id : GateId) (n : ℕ) (ms : List Member) (at : ℕ) (st : Bool) (xs : List (Slot S I C)) (i : ℕ) (x y : Slot S I C) (c : C) : Type 0 where
+    pub faces : Facing made h own id n ms at st xs i x y
+    pub config : c ≡ faces.config
+
+  pub coming : {made : Made C} {h : History} {own : GroupId} {id : GateId} {n : ℕ} {ms : List Member} {at : ℕ} {st : Bool} {xs : List (Slot S I C)} {v : GroupValue C} {k : ℕ} {c : C} (i : ℕ) (x y : Slot S I C)
+      → group_of own id n ms at st xs ≡ v → i ≡ k → slice_get (configs_of v) k ≡ Some c → x ≡ get_or xs i x → StandsFor made h v → Coming made h own id n ms at st xs i x y c
+  coming {xs = xs} {k = k} {c = c} i x y e place there is s =
+      let within : k < length xs = inside-of xs k c e there in
+      let f = facing i x y e (omega (arith, within, place)) is s in
+      record { faces = f; config = config-is s place f.there there }

@@ -4,6 +4,7 @@ use Rattle.std.proofs.lemmas.Bool.{eq-eqb, ne_eqb}
 use Rattle.lb_select.specs.Backends.{Member}
 use Rattle.lb_select.specs.Memberships.{same_members}
 use Rattle.lb_rebuild.specs.Gate.{GateId}
+use Rattle.lb_rebuild.specs.Identity.{GroupId}
 use Rattle.lb_group.specs.GroupHistory.{Scheduled, Cancelled, History, past_of, newest, members_of, is_cancelled, IsGroupHistory}
 use Rattle.lb_group.specs.Values.{OrderValue, PreparedValue, SlotValue, GroupValue}
 use Rattle.lb_group.specs.Stands.{Made, slot_after, slots_after, group_after, StandsFor}
@@ -53,23 +54,23 @@ module _ {C : Type 0} where
 
 module _ {S I C : Type 0} where
   -- slots at their start
-  pub starts : (id gate : GateId) (ms : List Member) (xs : List (Slot S I C)) (configs : List C) → id ≡ gate → ms ≡ [] → map slot_value xs ≡ map fresh_slot configs
-      → StandsFor (record { gate = gate; configs = configs }) [] (group_of id 0 ms 0 false xs)
-  starts id gate ms xs configs own none fresh = record {
+  pub starts : (own : GroupId) (id gate : GateId) (ms : List Member) (xs : List (Slot S I C)) (configs : List C) → id ≡ gate → ms ≡ [] → map slot_value xs ≡ map fresh_slot configs
+      → StandsFor (record { id = own; gate = gate; configs = configs }) [] (group_of own id 0 ms 0 false xs)
+  starts own id gate ms xs configs is none fresh = record {
     possible = λ i. tt;
     bounded = lit< tt;
-    shows = same-group _ _ _ _ _ _ _ _ _ _ _ _ own refl none refl refl (fresh ∙ fresh-slots gate 0 configs);
+    shows = same-group refl is refl none refl refl (fresh ∙ fresh-slots gate 0 configs);
   }
 
-  pub stops : (made : Made C) (h : History) (id : GateId) (n : ℕ) (ms : List Member) (at : ℕ) (st : Bool) (xs : List (Slot S I C)) (v : GroupValue C)
-      → group_of id n ms at st xs ≡ v → StandsFor made h v → StandsFor made (Cancelled ∷ h) (group_of id n ms at true xs)
-  stops made h id n ms at st xs v e s =
-      let all : group_of id n ms at st xs ≡ group_after made h = e ∙ s.shows in
+  pub stops : (made : Made C) (h : History) (own : GroupId) (id : GateId) (n : ℕ) (ms : List Member) (at : ℕ) (st : Bool) (xs : List (Slot S I C)) (v : GroupValue C)
+      → group_of own id n ms at st xs ≡ v → StandsFor made h v → StandsFor made (Cancelled ∷ h) (group_of own id n ms at true xs)
+  stops made h own id n ms at st xs v e s =
+      let all : group_of own id n ms at st xs ≡ group_after made h = e ∙ s.shows in
       record {
         possible = s.possible;
         bounded = s.bounded;
         shows =
-            same-group _ _ _ _ _ _ _ _ _ _ _ _ (ap (λ (w : GroupValue C). w.gate) all) (ap (λ (w : GroupValue C). w.newest) all) (ap (λ (w : GroupValue C). w.current) all)
+            same-group (ap (λ (w : GroupValue C). w.id) all) (ap (λ (w : GroupValue C). w.gate) all) (ap (λ (w : GroupValue C). w.newest) all) (ap (λ (w : GroupValue C). w.current) all)
             (ap (λ (w : GroupValue C). w.scheduled) all) refl (ap (λ (w : GroupValue C). w.slots) all ∙ cancelled-slots made.gate 0 made.configs h);
       }
 
@@ -85,19 +86,19 @@ module _ {S I C : Type 0} where
       let others : AreOrdered n xs (map (λ (z : Slot S I C). order_for (n + 1) ms (slot_value z)) xs) ys = record { count = omega arith; each = λ k d o h. all.each (suc k) d o (omega arith) } in
       ap (λ (v : SlotValue C). v ∷ map slot_value ys) first ∙ ap (λ (l : List (SlotValue C)). ordered n ms (slot_value x) ∷ l) (ordered-values xs ys n ms others)
 
-  pub schedules : (made : Made C) (h : History) (id : GateId) (n m : ℕ) (old ms os : List Member) (at now : ℕ) (st : Bool) (xs ys : List (Slot S I C)) (v : GroupValue C)
-      → group_of id n old at st xs ≡ v → StandsFor made h v → m ≡ n + 1 → n + 1 < 2 ^ 64 → st ≡ false → os ≡ ms
+  pub schedules : (made : Made C) (h : History) (own : GroupId) (id : GateId) (n m : ℕ) (old ms os : List Member) (at now : ℕ) (st : Bool) (xs ys : List (Slot S I C)) (v : GroupValue C)
+      → group_of own id n old at st xs ≡ v → StandsFor made h v → m ≡ n + 1 → n + 1 < 2 ^ 64 → st ≡ false → os ≡ ms
       → AreOrdered n xs (map (λ (x : Slot S I C). order_for (n + 1) ms (slot_value x)) xs) ys
-      → StandsFor made (Scheduled ms now ∷ h) (group_of id m os now st ys)
-  schedules made h id n m old ms os at now st xs ys v e s next fits live from are =
-      let all : group_of id n old at st xs ≡ group_after made h = e ∙ s.shows in
+      → StandsFor made (Scheduled ms now ∷ h) (group_of own id m os now st ys)
+  schedules made h own id n m old ms os at now st xs ys v e s next fits live from are =
+      let all : group_of own id n old at st xs ≡ group_after made h = e ∙ s.shows in
       let is : n ≡ newest h = ap (λ (w : GroupValue C). w.newest) all in
       let goes : is_cancelled h ≡ false = sym (ap (λ (w : GroupValue C). w.cancelled) all) ∙ live in
       record {
         possible = λ k. (s.possible k, cancelled-past k h ∙ goes);
         bounded = subst (λ (k : ℕ). k + 1 < 2 ^ 64) is fits;
         shows =
-            same-group _ _ _ _ _ _ _ _ _ _ _ _ (ap (λ (w : GroupValue C). w.gate) all) (next ∙ ap (λ (k : ℕ). k + 1) is)
+            same-group (ap (λ (w : GroupValue C). w.id) all) (ap (λ (w : GroupValue C). w.gate) all) (next ∙ ap (λ (k : ℕ). k + 1) is)
             (from ∙ sym (rw (eq-eqb (newest h + 1) (newest h + 1) refl) refl)) (sym (rw (eq-eqb (newest h + 1) (newest h + 1) refl) refl)) (live ∙ sym goes)
             (ordered-values xs ys n ms are ∙ ap (map (ordered n ms)) (ap (λ (w : GroupValue C). w.slots) all) ∙ ordered-slots made.gate 0 n made.configs ms now h s.possible goes is fits);
       }
@@ -107,21 +108,21 @@ module _ {S I C : Type 0} where
   turns-map n (x ∷ xs) = ap (λ (l : List SlotTurn). turn_of n (slot_value x) ∷ l) (turns-map n xs)
 
   -- what the answer to a membership says of each slot
-  pub turns-are : (made : Made C) (h : History) (id : GateId) (n : ℕ) (ms : List Member) (at : ℕ) (st : Bool) (xs : List (Slot S I C)) (v : GroupValue C)
-      → group_of id n ms at st xs ≡ v → StandsFor made h v → map (λ (x : Slot S I C). turn_of n (slot_value x)) xs ≡ turns_after 0 made.configs h
-  turns-are made h id n ms at st xs v e s =
-      let all : group_of id n ms at st xs ≡ group_after made h = e ∙ s.shows in
+  pub turns-are : (made : Made C) (h : History) (own : GroupId) (id : GateId) (n : ℕ) (ms : List Member) (at : ℕ) (st : Bool) (xs : List (Slot S I C)) (v : GroupValue C)
+      → group_of own id n ms at st xs ≡ v → StandsFor made h v → map (λ (x : Slot S I C). turn_of n (slot_value x)) xs ≡ turns_after 0 made.configs h
+  turns-are made h own id n ms at st xs v e s =
+      let all : group_of own id n ms at st xs ≡ group_after made h = e ∙ s.shows in
       turns-map n xs ∙ ap (map (λ (z : SlotValue C). turn_of n z)) (ap (λ (w : GroupValue C). w.slots) all)
       ∙ turns-shown made.gate 0 n made.configs h (ap (λ (w : GroupValue C). w.newest) all)
 
   -- the answer to another membership than the newest one
-  pub changes : (made : Made C) (h : History) (id : GateId) (n m : ℕ) (old members : List Member) (at : ℕ) (st : Bool) (xs : List (Slot S I C)) (v : GroupValue C) (turns : List SlotTurn)
-      → group_of id n old at st xs ≡ v → StandsFor made h v → m ≡ n + 1 → n + 1 < 2 ^ 64 → st ≡ false → same_members members old ≡ false
+  pub changes : (made : Made C) (h : History) (own : GroupId) (id : GateId) (n m : ℕ) (old members : List Member) (at : ℕ) (st : Bool) (xs : List (Slot S I C)) (v : GroupValue C) (turns : List SlotTurn)
+      → group_of own id n old at st xs ≡ v → StandsFor made h v → m ≡ n + 1 → n + 1 < 2 ^ 64 → st ≡ false → same_members members old ≡ false
       → turns ≡ map (λ (x : Slot S I C). turn_of n (slot_value x)) xs
       → (schedule_refusal members h ≡ None) × (true ≡ is_change members h) × (m ≡ cond (is_change members h) (newest h + 1) (newest h))
       × (turns ≡ cond (is_change members h) (turns_after 0 made.configs h) [])
-  changes made h id n m old members at st xs v turns e s next fits live other are =
-      let all : group_of id n old at st xs ≡ group_after made h = e ∙ s.shows in
+  changes made h own id n m old members at st xs v turns e s next fits live other are =
+      let all : group_of own id n old at st xs ≡ group_after made h = e ∙ s.shows in
       let is : n ≡ newest h = ap (λ (w : GroupValue C). w.newest) all in
       let goes : is_cancelled h ≡ false = sym (ap (λ (w : GroupValue C). w.cancelled) all) ∙ live in
       let differs : same_members members (members_of (newest h) h) ≡ false = sym (ap (same_members members) (ap (λ (w : GroupValue C). w.current) all)) ∙ other in
@@ -129,7 +130,7 @@ module _ {S I C : Type 0} where
         rw (change, ne_eqb (newest h) 18446744073709551615 (λ end. omega arith), goes) refl,
         sym change,
         rw change (next ∙ ap (λ (k : ℕ). k + 1) is),
-        rw change (are ∙ turns-are made h id n old at st xs v e s),
+        rw change (are ∙ turns-are made h own id n old at st xs v e s),
       )
 
   -- what a prepared membership has for each slot
@@ -139,16 +140,16 @@ module _ {S I C : Type 0} where
   orders-map n ms (x ∷ xs) = ap (λ (l : List (OrderValue C)). order_for (n + 1) ms (slot_value x) ∷ l) (orders-map n ms xs)
 
   -- a membership that was prepared is the newest
-  pub commits : (made : Made C) (h : History) (id : GateId) (n m : ℕ) (old ms : List Member) (at now : ℕ) (st : Bool) (xs ys : List (Slot S I C)) (turns : List SlotTurn) (os : List (OrderValue C))
+  pub commits : (made : Made C) (h : History) (own : GroupId) (id : GateId) (n m : ℕ) (old ms : List Member) (at now : ℕ) (st : Bool) (xs ys : List (Slot S I C)) (turns : List SlotTurn) (os : List (OrderValue C))
       (v : GroupValue C) (p : PreparedValue C)
-      → group_of id n old at st xs ≡ v → (let own : PreparedValue C = record { generation = m; members = ms; turns = turns; orders = os } in own ≡ p) → Fits v p → StandsFor made h v → AreOrdered n xs os ys
-      → StandsFor made (Scheduled p.members now ∷ h) (group_of id m ms now st ys)
-  commits made h id n m old ms at now st xs ys turns os v p e q f s are =
+      → group_of own id n old at st xs ≡ v → (let one : PreparedValue C = record { generation = m; members = ms; turns = turns; orders = os } in one ≡ p) → Fits v p → StandsFor made h v → AreOrdered n xs os ys
+      → StandsFor made (Scheduled p.members now ∷ h) (group_of own id m ms now st ys)
+  commits made h own id n m old ms at now st xs ys turns os v p e q f s are =
       let next : m ≡ n + 1 = ap (λ (z : PreparedValue C). z.generation) q ∙ f.generation ∙ ap (λ (w : GroupValue C). w.newest + 1) (sym e) in
       let fits : n + 1 < 2 ^ 64 = subst (λ (w : GroupValue C). w.newest + 1 < 2 ^ 64) (sym e) f.bounded in
       let live : st ≡ false = ap (λ (w : GroupValue C). w.cancelled) e ∙ f.live in
       let orders : os ≡ map (λ (x : Slot S I C). order_for (n + 1) p.members (slot_value x)) xs =
       ap (λ (z : PreparedValue C). z.orders) q ∙ f.orders
       ∙ ap (λ (w : GroupValue C). map (λ (x : SlotValue C). order_for (w.newest + 1) p.members x) w.slots) (sym e) ∙ sym (orders-map n p.members xs) in
-      schedules made h id n m old p.members ms at now st xs ys v e s next fits live (ap (λ (z : PreparedValue C). z.members) q)
+      schedules made h own id n m old p.members ms at now st xs ys v e s next fits live (ap (λ (z : PreparedValue C). z.members) q)
       (subst (λ (l : List (OrderValue C)). AreOrdered n xs l ys) orders are)

@@ -4,6 +4,7 @@ use Rattle.std.proofs.lemmas.Bool.{ltb-true, lt-ltb, eqb-true, eq-eqb, ne_eqb}
 use Rattle.std.proofs.lemmas.Bool.Decides.{eqb_tells}
 use Rattle.lb_select.specs.Backends.{Member}
 use Rattle.lb_rebuild.specs.Gate.{GateId}
+use Rattle.lb_rebuild.specs.Identity.{GroupId}
 use Rattle.lb_group.specs.declared.answers.Counts.{Counts}
 use Rattle.lb_group.specs.declared.answers.Timing.{Timing}
 use Rattle.lb_group.specs.GroupHistory.{Granted, Failed, Published, Abandoned, WorkerLost, TakenOut, Destroyed, Entered, Left, Drew, GroupEvent, Scheduled, Cancelled, At, History, newest, scheduled_at, is_cancelled, granted, served, order_members, Extra, nothing, flight, lost, retired, taken_out, is_flight, is_extra, is_aloft, is_retired_of, is_lost_of, is_taken_out, flight_number, generation_of, extra, waits, readers, published, coalesced, is_outdated, superseded, all_failures, failures, failed_at, later, due_after, AskAnswer, cancelled, building, up_to_date, not_due, busy, job, ask_answer, IsPast}
@@ -259,10 +260,10 @@ module _ {C : Type 0} where
       (more-ends-at (granted h == newest h) (failures (newest h) h)) refl
       (same-counts _ _ _ _ _ _ _ _ refl refl (more-at (is_outdated h) (superseded h) (omega (arith, all))) (more-ends (all_failures h))) refl
 
-  pub published-step : (gate : GateId) (c : C) (slot i ended : ℕ) (ms : List Member) (h : History) → IsPast (At i (Published ended ms) ∷ h) → newest h < 2 ^ 64
-      → published_slot (record { task = record { slot = slot; generation = granted h; members = ms; config = c; permit = gate }; ended = ended }) (slot_after gate c h)
+  pub published-step : (gate : GateId) (c : C) (group : GroupId) (slot i ended : ℕ) (ms : List Member) (h : History) → IsPast (At i (Published ended ms) ∷ h) → newest h < 2 ^ 64
+      → published_slot (record { task = record { group = group; slot = slot; generation = granted h; members = ms; config = c; permit = gate }; ended = ended }) (slot_after gate c h)
       ≡ slot_after gate c (At i (Published ended ms) ∷ h)
-  published-step gate c slot i ended ms h p fits =
+  published-step gate c group slot i ended ms h p fits =
       let all : Balanced (At i (Published ended ms) ∷ h) = balanced (At i (Published ended ms) ∷ h) p in
       let above : served h < granted h = flies (served h) (granted h) (extra h) p.1.0 (aloft-fits h p.0) in
       same-parts c refl (sym (unread (granted h) h above))
@@ -270,10 +271,10 @@ module _ {C : Type 0} where
       refl refl refl refl refl refl refl
       (same-counts _ _ _ _ _ _ _ _ (more-of (published h) (omega (arith, all))) refl refl refl) refl
 
-  pub abandoned-step : (gate : GateId) (c : C) (slot i ended : ℕ) (ms : List Member) (h : History) → IsPast (At i (Abandoned ms) ∷ h) → newest h < 2 ^ 64
-      → abandoned_slot (newest h) (record { task = record { slot = slot; generation = granted h; members = ms; config = c; permit = gate }; ended = ended }) (slot_after gate c h)
+  pub abandoned-step : (gate : GateId) (c : C) (group : GroupId) (slot i ended : ℕ) (ms : List Member) (h : History) → IsPast (At i (Abandoned ms) ∷ h) → newest h < 2 ^ 64
+      → abandoned_slot (newest h) (record { task = record { group = group; slot = slot; generation = granted h; members = ms; config = c; permit = gate }; ended = ended }) (slot_after gate c h)
       ≡ slot_after gate c (At i (Abandoned ms) ∷ h)
-  abandoned-step gate c slot i ended ms h p fits =
+  abandoned-step gate c group slot i ended ms h p fits =
       let all : Balanced (At i (Abandoned ms) ∷ h) = balanced (At i (Abandoned ms) ∷ h) p in
       let above : served h < granted h = is_up (served h) (granted h) (extra h) p.1 (aloft-fits h p.0) in
       same-parts c refl refl

@@ -7,13 +7,13 @@ use Rattle.lb_select.specs.Draws.{Draw}
 use Rattle.lb_select.specs.Memberships.{same_members}
 use Rattle.lb_select.specs.declared.refusal.Refusal.{Refusal}
 use Rattle.lb_select.specs.declared.refusal.Refusal.TheVariants as refusal
-use Rattle.lb_rebuild.specs.Gate.{GateId, GateView, gate}
+use Rattle.lb_rebuild.specs.Gate.{GateView, gate}
 use Rattle.lb_group.specs.GroupHistory.{SlotEvent, Granted, Failed, Published, Abandoned, Drew, Scheduled, At, History, past_of, newest}
 use Rattle.lb_group.specs.GroupHistory.{members_of, is_cancelled, order_members, served, served_members, is_flight, is_aloft}
 use Rattle.lb_group.specs.GroupHistory.{is_taken_out, taken_out_number, generation_of, extra, waits, readers, drawn, AskAnswer, cancelled}
 use Rattle.lb_group.specs.GroupHistory.{building, up_to_date, not_due, busy, job, ask_answer}
 use Rattle.lb_group.specs.Orders.{order_for}
-use Rattle.lb_group.specs.Values.{Task, BuiltValue, RetiredValue, ReaderValue, SlotValue, PreparedValue, GroupValue, configs_of}
+use Rattle.lb_group.specs.Values.{Task, BuiltValue, RetiredValue, PermitValue, ReaderValue, SlotValue, PreparedValue, GroupValue, configs_of}
 use Rattle.lb_group.specs.Stands.{Made, left_readers}
 use Rattle.lb_group.specs.SlotCalls.{ask_told, asked_gate, take_refusal, SelectsFrom}
 use Rattle.lb_group.specs.declared.answers.Ask.{Ask}
@@ -83,8 +83,10 @@ FitsIfThere v (Some p) = Fits v p
 abbrev pub IsCommitted : {C : Type 0} → PreparedValue C → answer.Scheduled → Type 0
 IsCommitted p s = (s.generation ≡ p.generation) × (s.changed ≡ true) × (s.turns.items ≡ p.turns)
 
--- A job is of its slot and of the newest generation, with the members of its order, the slot's configuration and the permit.
+-- A job is of its group and slot and of the newest generation, with the members of its order, the slot's configuration and the
+-- permit.
 pub record IsJob {C : Type 0} (made : Made C) (h : History) (slot : ℕ) (j : Task C) : Type 0 where
+  pub group : j.group ≡ made.id
   pub place : j.slot ≡ slot
   pub generation : j.generation ≡ newest h
   pub permit : j.permit ≡ made.gate
@@ -111,7 +113,7 @@ IsOwnJob v asked.Building = Unit {0}
 IsOwnJob v asked.Nothing = Unit {0}
 IsOwnJob v (asked.NotDue m) = Unit {0}
 IsOwnJob v asked.Busy = Unit {0}
-IsOwnJob v (asked.Job j) = (j.permit ≡ v.gate) × (slice_get (configs_of v) j.slot ≡ Some j.config)
+IsOwnJob v (asked.Job j) = (j.group ≡ v.id) × (j.permit ≡ v.gate) × (slice_get (configs_of v) j.slot ≡ Some j.config)
 
 abbrev pub asked_events : ℕ → ℕ → AskAnswer → History
 asked_events slot now cancelled = []
@@ -199,7 +201,7 @@ enter_refusal made slot h =
 abbrev pub Enters : {C : Type 0} → Made C → History → ℕ → Result (ReaderValue C) Refusal → Type 0
 Enters made h slot (Ok r) =
     (enter_refusal made slot h ≡ None) × (r.slot ≡ slot) × (r.generation ≡ served (past_of slot h))
-    × (r.members ≡ served_members (past_of slot h)) × (slice_get made.configs slot ≡ Some r.config) × (r.gate ≡ made.gate)
+    × (r.members ≡ served_members (past_of slot h)) × (slice_get made.configs slot ≡ Some r.config) × (r.group ≡ made.id)
 Enters made h slot (Err e) = (enter_refusal made slot h ≡ Some e) ⊎ ((enter_refusal made slot h ≡ None) × (e ≡ refusal.OutOfMemory))
 
 -- whether readers of that generation are in the slot
@@ -219,7 +221,8 @@ taken_refusal made slot h =
 
 abbrev pub Takes : {C : Type 0} → Made C → History → ℕ → Result RetiredValue Refusal → Type 0
 Takes made h slot (Ok r) =
-    (taken_refusal made slot h ≡ None) × (r.slot ≡ slot) × (r.generation ≡ generation_of (extra (past_of slot h))) × (r.permit ≡ made.gate)
+    (taken_refusal made slot h ≡ None) × (r.group ≡ made.id) × (r.slot ≡ slot)
+    × (r.generation ≡ generation_of (extra (past_of slot h))) × (r.permit ≡ made.gate)
 Takes made h slot (Err e) = taken_refusal made slot h ≡ Some e
 
 -- whether a selector was taken out of the slot and is not reported yet
@@ -231,7 +234,7 @@ abbrev pub taken_out_at : {C : Type 0} → Made C → ℕ → History → Option
 taken_out_at made slot h = if nat_lt slot (length made.configs) then taken_out_number (extra (past_of slot h)) else None
 
 -- the permit of a report that is not owed is handed back
-abbrev pub Reports : {C : Type 0} → Made C → History → ℕ → GateId → Result (Unit {0}) GateId → Type 0
+abbrev pub Reports : {C : Type 0} → Made C → History → ℕ → PermitValue → Result (Unit {0}) PermitValue → Type 0
 Reports made h slot permit (Ok u) = is_owed made slot h ≡ true
 Reports made h slot permit (Err p) = (is_owed made slot h ≡ false) × (p ≡ permit)
 
@@ -239,13 +242,14 @@ Reports made h slot permit (Err p) = (is_owed made slot h ≡ false) × (p ≡ p
 abbrev pub at_slot : {A C : Type 0} → Made C → ℕ → A → Option A
 at_slot made slot a = if nat_lt slot (length made.configs) then Some a else None
 
--- a selection from what the slot serves; a slot that is not there selects nothing
+-- a selection from what the slot serves, by what accepts and these loads; a slot that is not there selects nothing
 abbrev pub SelectsIn :
     {C : Type 0} → (List Member → C → Bool) → (List Member → C → List ℕ → List Draw → List Member → Bool → Type 0)
-    → Made C → History → ℕ → List ℕ → ℕ → List ℕ → Selection → Type 0
-SelectsIn {C} random walks made h slot key limit words s =
+    → (Member → Bool → Type 0) → (Member → ℕ) → Made C → History → ℕ → List ℕ → ℕ → List ℕ → Selection → Type 0
+SelectsIn {C} random walks accepts load_by made h slot key limit words s =
     MatchOption (slice_get made.configs slot) ((s.answer ≡ Ok None) × (s.drawn ≡ 0) × (s.tickets ≡ 0))
-    (λ (c : C). SelectsFrom random walks key limit words (served_members (past_of slot h)) c (drawn (past_of slot h)) s)
+    (λ (c : C).
+    SelectsFrom random walks accepts load_by key limit words (served_members (past_of slot h)) c (drawn (past_of slot h)) s)
 
 abbrev pub select_events : {C : Type 0} → Made C → ℕ → Selection → History
 select_events made slot s = if nat_lt slot (length made.configs) then At slot (Drew s.tickets) ∷ [] else []

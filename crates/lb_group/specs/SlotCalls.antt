@@ -11,7 +11,7 @@ use Rattle.lb_group.specs.Drawn.{DrawnValue, DrawnGives}
 use Rattle.lb_group.specs.GroupHistory.{Extra, nothing, flight, lost, retired, taken_out, is_flight, is_extra, is_aloft, is_retired_of}
 use Rattle.lb_group.specs.GroupHistory.{flight_number, generation_of, due_after, AskAnswer, cancelled, building, up_to_date, not_due}
 use Rattle.lb_group.specs.GroupHistory.{busy, job}
-use Rattle.lb_group.specs.Values.{OrderValue, Task, BuiltValue, RetiredValue, ReaderValue, SlotValue, order_of}
+use Rattle.lb_group.specs.Values.{OrderValue, PlaceValue, Task, BuiltValue, RetiredValue, ReaderValue, SlotValue, order_of}
 use Rattle.lb_group.specs.declared.answers.Ask.{Ask}
 use Rattle.lb_group.specs.declared.answers.Ask.TheVariants as asked
 use Rattle.lb_group.specs.declared.answers.Selection.{Selection}
@@ -79,13 +79,13 @@ asked_gate busy g = g
 asked_gate job g = gate g.id true
 
 -- a job is the order that waited in its slot, with the gate's permit
-abbrev pub IsJobOf : {S I C : Type 0} → ℕ → GateId → SlotValue C → Ask S I C → Type 0
-IsJobOf slot id x asked.Cancelled = Unit {0}
-IsJobOf slot id x asked.Building = Unit {0}
-IsJobOf slot id x asked.Nothing = Unit {0}
-IsJobOf slot id x (asked.NotDue m) = Unit {0}
-IsJobOf slot id x asked.Busy = Unit {0}
-IsJobOf slot id x (asked.Job j) = (j.slot ≡ slot) × (x.waiting ≡ Some (order_of j)) × (j.permit ≡ id)
+abbrev pub IsJobOf : {S I C : Type 0} → PlaceValue → GateId → SlotValue C → Ask S I C → Type 0
+IsJobOf p id x asked.Cancelled = Unit {0}
+IsJobOf p id x asked.Building = Unit {0}
+IsJobOf p id x asked.Nothing = Unit {0}
+IsJobOf p id x (asked.NotDue m) = Unit {0}
+IsJobOf p id x asked.Busy = Unit {0}
+IsJobOf p id x (asked.Job j) = (j.group ≡ p.group) × (j.slot ≡ p.slot) × (x.waiting ≡ Some (order_of j)) × (j.permit ≡ id)
 
 -- an order that comes back waits again, where it is of the newest generation
 abbrev pub put_back : {C : Type 0} → ℕ → OrderValue C → SlotValue C → Option (OrderValue C)
@@ -134,9 +134,15 @@ abbrev pub entered_slot : {C : Type 0} → SlotValue C → SlotValue C
 entered_slot x = record x { readers = x.readers + 1 }
 
 -- what a reader that enters a slot gets
-abbrev pub reader_of : {C : Type 0} → GateId → ℕ → SlotValue C → ReaderValue C
-reader_of id slot x =
-    record { gate = id; slot = slot; generation = x.serving.generation; members = x.serving.members; config = x.serving.config }
+abbrev pub reader_of : {C : Type 0} → PlaceValue → SlotValue C → ReaderValue C
+reader_of p x =
+    record {
+      group = p.group;
+      slot = p.slot;
+      generation = x.serving.generation;
+      members = x.serving.members;
+      config = x.serving.config;
+    }
 
 -- how many readers of that generation are in the slot
 abbrev pub readers_at : {C : Type 0} → ℕ → SlotValue C → ℕ
@@ -189,10 +195,11 @@ LeavesAt r x (Err q) y = (nat_lt 0 (readers_at r.generation x) ≡ false) × (q 
 abbrev pub taken_slot : {C : Type 0} → SlotValue C → SlotValue C
 taken_slot x = record x { extra = taken_out (generation_of x.extra); left_in = 0; permit = None }
 
-abbrev pub TakesAt : {C : Type 0} → ℕ → SlotValue C → Result RetiredValue Refusal → SlotValue C → Type 0
-TakesAt slot x (Ok r) y =
-    (x.extra ≡ retired r.generation) × (x.left_in ≡ 0) × (x.permit ≡ Some r.permit) × (r.slot ≡ slot) × (y ≡ taken_slot x)
-TakesAt slot x (Err e) y = (take_refusal x.extra x.left_in ≡ Some e) × (y ≡ x)
+abbrev pub TakesAt : {C : Type 0} → PlaceValue → SlotValue C → Result RetiredValue Refusal → SlotValue C → Type 0
+TakesAt p x (Ok r) y =
+    (x.extra ≡ retired r.generation) × (x.left_in ≡ 0) × (x.permit ≡ Some r.permit) × (r.group ≡ p.group) × (r.slot ≡ p.slot)
+    × (y ≡ taken_slot x)
+TakesAt p x (Err e) y = (take_refusal x.extra x.left_in ≡ Some e) × (y ≡ x)
 
 -- the slot once what was taken out of it is destroyed
 abbrev pub destroyed_slot : {C : Type 0} → SlotValue C → SlotValue C
@@ -202,15 +209,15 @@ destroyed_slot x = record x { extra = nothing }
 abbrev pub drawn_slot : {C : Type 0} → ℕ → SlotValue C → SlotValue C
 drawn_slot n x = record x { serving = record x.serving { tickets = n } }
 
--- The first of the candidates from a selector of these members and this configuration whose counter stands at `tickets`; each
--- is accepted. Where walks over it may draw random words, there must be more of them than the limit.
+-- The first accepted of the candidates from a selector of these members and this configuration whose counter stands at `tickets`,
+-- with these loads. Where walks over it may draw random words, there must be more of them than the limit.
 abbrev pub SelectsFrom :
     {C : Type 0} → (List Member → C → Bool) → (List Member → C → List ℕ → List Draw → List Member → Bool → Type 0)
-    → List ℕ → ℕ → List ℕ → List Member → C → ℕ → Selection → Type 0
-SelectsFrom random walks key limit words members config tickets s =
+    → (Member → Bool → Type 0) → (Member → ℕ) → List ℕ → ℕ → List ℕ → List Member → C → ℕ → Selection → Type 0
+SelectsFrom random walks accepts load_by key limit words members config tickets s =
     MatchBool (random members config && nat_le (length words) limit)
     ((s.answer ≡ Err refusal.NotEnoughWords) × (s.drawn ≡ 0) × (s.tickets ≡ tickets))
     ((t : DrawnValue)
-    × Selects same_member (λ b a. a ≡ true) limit DrawnGives (walks members config key)
+    × Selects same_member accepts limit (DrawnGives load_by) (walks members config key)
     (record { words = record { tickets = tickets; words = words }; drawn = 0 }) s.answer t
     × (s.drawn ≡ t.drawn) × (s.tickets ≡ t.words.tickets))

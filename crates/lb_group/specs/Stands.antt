@@ -1,6 +1,7 @@
 -- What contracts see of a group is a function of its history.
 use Rattle.std.specs.Prelude.{◌≡◌, ◌+◌, ◌^◌, ◌<◌, ◌&&◌, ℕ, not, List, [], ◌∷◌, ◌++◌, Option, Some, None, if◌then◌else◌}
 use Rattle.lb_rebuild.specs.Gate.{GateId}
+use Rattle.lb_rebuild.specs.Identity.{GroupId}
 use Rattle.lb_group.specs.GroupHistory.{History, Extra, nothing, flight, lost, retired, taken_out, past_of, newest, members_of}
 use Rattle.lb_group.specs.GroupHistory.{scheduled_at, is_cancelled, granted, asked_at, served, served_members, order_members, extra}
 use Rattle.lb_group.specs.GroupHistory.{is_lost_of, waits, readers, drawn, published, coalesced, superseded, failed, failures, failed_at}
@@ -9,8 +10,9 @@ use Rattle.lb_group.specs.Values.{OrderValue, SlotValue, GroupValue, configs_of}
 use Rattle.lb_group.specs.declared.answers.Counts.{Counts}
 use Rattle.std.specs.Prelude.{min}
 
--- what a group was made with: its gate, and a configuration for each slot
+-- what a group was made with: an identity, its gate, and a configuration for each slot
 pub record Made (C : Type 0) : Type 0 where
+  pub id : GroupId
   pub gate : GateId
   pub configs : List C
 
@@ -70,6 +72,7 @@ slots_after gate i (c ∷ cs) h = slot_after gate c (past_of i h) ∷ slots_afte
 abbrev pub group_after : {C : Type 0} → Made C → History → GroupValue C
 group_after made h =
     record {
+      id = made.id;
       gate = made.gate;
       newest = newest h;
       current = members_of (newest h) h;
@@ -96,7 +99,8 @@ After {C} v P = (made : Made C) (h : History) → StandsFor made h v → P made 
 abbrev pub Becomes : {C : Type 0} → GroupValue C → History → GroupValue C → Type 0
 Becomes v events w = After v (λ made h. StandsFor made (events ++ h) w)
 
--- what no call changes: the gate, and the configurations of the slots
+-- what no call changes: which group it is, its gate, and the configurations of the slots
 pub record SameSite {C : Type 0} (v w : GroupValue C) : Type 0 where
+  pub id : w.id ≡ v.id
   pub gate : w.gate ≡ v.gate
   pub configs : configs_of w ≡ configs_of v

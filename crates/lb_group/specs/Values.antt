@@ -2,6 +2,7 @@
 use Rattle.std.specs.Prelude.{ℕ, Bool, List, map, Option}
 use Rattle.lb_select.specs.Backends.{Member}
 use Rattle.lb_rebuild.specs.Gate.{GateId}
+use Rattle.lb_rebuild.specs.Identity.{GroupId}
 use Rattle.lb_group.specs.GroupHistory.{Extra}
 use Rattle.lb_group.specs.declared.answers.Counts.{Counts}
 use Rattle.lb_group.specs.declared.answers.Timing.{Timing}
@@ -13,8 +14,14 @@ pub record OrderValue (C : Type 0) : Type 0 where
   pub members : List Member
   pub config : C
 
--- an order under way, as a job or in a selector that was built: for which slot, and of which gate its permit is
+-- a slot of a group
+pub record PlaceValue : Type 0 where
+  pub group : GroupId
+  pub slot : ℕ
+
+-- an order under way, as a job or in a selector that was built: for which slot of which group, and of which gate its permit is
 pub record Task (C : Type 0) : Type 0 where
+  pub group : GroupId
   pub slot : ℕ
   pub generation : ℕ
   pub members : List Member
@@ -42,13 +49,20 @@ pub record PreparedValue (C : Type 0) : Type 0 where
 
 -- a selector that was retired and taken out
 pub record RetiredValue : Type 0 where
+  pub group : GroupId
   pub slot : ℕ
   pub generation : ℕ
   pub permit : GateId
 
--- an entry into the selector that a slot of a group of this gate served then
-pub record ReaderValue (C : Type 0) : Type 0 where
+-- the permit of a selector that was taken out of a slot and is destroyed: where it is to be reported, and of which gate it is
+pub record PermitValue : Type 0 where
+  pub group : GroupId
+  pub slot : ℕ
   pub gate : GateId
+
+-- an entry into the selector that a slot of a group served then
+pub record ReaderValue (C : Type 0) : Type 0 where
+  pub group : GroupId
   pub slot : ℕ
   pub generation : ℕ
   pub members : List Member
@@ -71,8 +85,9 @@ pub record SlotValue (C : Type 0) : Type 0 where
   pub counts : Counts
   pub timing : Option Timing
 
--- a group: its gate, the newest generation with its members and its moment, whether it is cancelled, and its slots
+-- a group: which one it is, its gate, the newest generation with its members and its moment, whether it is cancelled, and its slots
 pub record GroupValue (C : Type 0) : Type 0 where
+  pub id : GroupId
   pub gate : GateId
   pub newest : ℕ
   pub current : List Member
@@ -80,10 +95,17 @@ pub record GroupValue (C : Type 0) : Type 0 where
   pub cancelled : Bool
   pub slots : List (SlotValue C)
 
--- an order under way, for that slot and with that permit
-abbrev pub task_of : {C : Type 0} → ℕ → OrderValue C → GateId → Task C
-task_of slot o permit =
-    record { slot = slot; generation = o.generation; members = o.members; config = o.config; permit = permit }
+-- an order under way, for that place and with that permit
+abbrev pub task_of : {C : Type 0} → PlaceValue → OrderValue C → GateId → Task C
+task_of p o permit =
+    record {
+      group = p.group;
+      slot = p.slot;
+      generation = o.generation;
+      members = o.members;
+      config = o.config;
+      permit = permit;
+    }
 
 -- what a job or a built selector was ordered as
 abbrev pub order_of : {C : Type 0} → Task C → OrderValue C

@@ -1,7 +1,9 @@
 //! A group: a membership of backends in numbered generations, and slots that each serve one selector built from it.
 //! A call tests all that it can refuse for before it changes anything; builds run elsewhere, between `ask` and `publish`.
-ghost use Rattle.std.specs.Prelude.{◌≡◌, ◌++◌, ◌∷◌, [], map, IfOk, slice_get};
+ghost use Rattle.std.specs.Prelude.{◌≡◌, ◌≢◌, ◌++◌, ◌∷◌, [], map, IfOk, slice_get};
 ghost use Rattle.std.specs.Arc.{arc_value};
+ghost use Rattle.std.specs.Fn.{FnReturnsAt};
+ghost use Rattle.lb_select.specs.Loads.{load_in};
 ghost use Rattle.lb_select.specs.Refusals.{Refuses, least};
 ghost use Rattle.lb_group.specs.GroupHistory.{History, Scheduled as ScheduledEvent, Cancelled, WorkerLost, Entered, Left, TakenOut};
 ghost use Rattle.lb_group.specs.GroupHistory.{Destroyed, past_of, newest as newest_after, served as served_after, is_cancelled, members_of};
@@ -19,12 +21,15 @@ ghost use Rattle.lb_group.specs.GroupCalls.{taken_out_at, SelectsIn, select_even
 
 use crate::answers::{Ask, Counts, Selection, Timing, Told};
 use crate::job::{Built, Job};
-use crate::retired::{Reader, Retired};
+use crate::place::Place;
+use crate::retired::{OwedPermit, Reader, Retired};
 use crate::schedule::{Prepared, Scheduled, hand_out, orders_for, same_members, shared, turns_of};
 use crate::slot::Slot;
-use lb_rebuild::gate::{GateCore, Permit};
+use lb_rebuild::gate::GateCore;
+use lb_rebuild::identity::Identity;
 use lb_select::backend::Backend;
 use lb_select::causes::{earlier, memory_apart};
+use lb_select::loads::Loads;
 use lb_select::refusal::Refusal;
 use lb_select::walk::BackendSelection;
 use std::alloc::Global;
@@ -39,6 +44,7 @@ use std::sync::Arc;
 /// dropped with a retired selector in it keeps the permit of that selector for good.
 #[derive(Drop)]
 pub struct GroupCore<S: BackendSelection> {
+    identity: Identity,
     gate: Snapshot<GateCore>,
     newest: u64,
     current: Arc<BTreeSet<Backend>>,
@@ -58,6 +64,7 @@ impl<S: BackendSelection> Model for GroupCore<S> {
     ghost use Rattle.lb_group.specs.Stands.{IsFounded};
 
     ghost view = { λ g. record {
+      id = g.identity;
       gate = g.gate.value.id;
       newest = g.newest;
       current = (arc_value g.current).keys;
@@ -67,6 +74,7 @@ impl<S: BackendSelection> Model for GroupCore<S> {
     } };
 
     ghost invariant = { λ g. IsFounded (record {
+      id = g.identity;
       gate = g.gate.value.id;
       newest = g.newest;
       current = (arc_value g.current).keys;
@@ -90,11 +98,13 @@ impl<S: BackendSelection> GroupCore<S> {
         configs: Vec<S::Config>,
     ) -> Result<GroupCore<S>, Refusal>
         ensures stands { Refuses (least (map (S.refusal []) configs.items))
-            (λ g. StandsFor (record { gate = gate.now.id; configs = configs.items }) [] g) result }
+            (λ g. StandsFor (record { id = g.id; gate = gate.now.id; configs = configs.items }) [] g) result }
         ensures gate { IfOk result (λ g. g.gate ≡ gate.now.id) }
     {
         let slots = fresh_slots(alloc, configs)?;
+        let identity = Identity::new(alloc)?;
         Ok(GroupCore {
+            identity,
             gate: Snapshot::of(gate),
             newest: 0,
             current: Arc::new(alloc, BTreeSet::new(alloc))?,
@@ -102,6 +112,14 @@ impl<S: BackendSelection> GroupCore<S> {
             cancelled: false,
             slots,
         })
+    }
+
+    /// Shows that two groups are not the same one. It takes no memory and changes neither.
+    pub fn apart<T: BackendSelection>(a: &mut GroupCore<S>, b: &mut GroupCore<T>)
+        ensures apart { a.old.id ≢ b.old.id }
+        ensures same { (a.new ≡ a.old) × (b.new ≡ b.old) }
+    {
+        Identity::apart(&mut a.identity, &mut b.identity);
     }
 
     /// Some history of the group, for whoever knows none.
@@ -229,7 +247,8 @@ impl<S: BackendSelection> GroupCore<S> {
         let newest = self.newest;
         let scheduled = self.scheduled;
         let cancelled = self.cancelled;
-        Ok(self.slots[slot].ask(slot, newest, scheduled, cancelled, gate, now))
+        let place = self.place(slot);
+        Ok(self.slots[slot].ask(place, newest, scheduled, cancelled, gate, now))
     }
 
     /// Ends the flight or the lost flight of a job that failed, and gives its permit back. A slot whose job was of the newest
@@ -239,6 +258,7 @@ impl<S: BackendSelection> GroupCore<S> {
     ///
     /// The job, where its slot has no flight and no lost flight of its generation. Nothing changes then.
     pub fn fail(&mut self, job: Job<S>, gate: &mut GateCore, now: u128) -> Result<(), Job<S>>
+        requires own { job.group ≡ self.old.id }
         requires permit { job.permit ≡ self.old.gate }
         requires config { slice_get (configs_of self.old) job.slot ≡ Some job.config }
         requires gate { gate.old.id ≡ self.old.gate }
@@ -265,6 +285,7 @@ impl<S: BackendSelection> GroupCore<S> {
     ///
     /// The selector, where its slot has no flight and no lost flight of its generation. Nothing changes then.
     pub fn publish(&mut self, built: Built<S>) -> Result<Told, Built<S>>
+        requires own { built.task.group ≡ self.old.id }
         requires permit { built.task.permit ≡ self.old.gate }
         requires config { slice_get (configs_of self.old) built.task.slot ≡ Some built.task.config }
         ensures answers { After self.old (λ made h. Publishes h built result) }
@@ -284,6 +305,7 @@ impl<S: BackendSelection> GroupCore<S> {
     ///
     /// The selector, where its slot has no flight and no lost flight of its generation. Nothing changes then.
     pub fn abandon(&mut self, built: Built<S>) -> Result<(), Built<S>>
+        requires own { built.task.group ≡ self.old.id }
         requires permit { built.task.permit ≡ self.old.gate }
         requires config { slice_get (configs_of self.old) built.task.slot ≡ Some built.task.config }
         ensures answers { After self.old (λ made h. Abandons h built result) }
@@ -323,21 +345,22 @@ impl<S: BackendSelection> GroupCore<S> {
         ensures answers { After self.old (λ made h. Enters made h slot result) }
         ensures stands { Becomes self.old (done_at slot Entered result) self.new }
         ensures site { SameSite self.old self.new }
-        ensures own { IfOk result (λ r. r.gate ≡ self.new.gate) }
+        ensures own { IfOk result (λ r. r.group ≡ self.new.id) }
     {
         if slot >= self.slots.len() {
             return Err(Refusal::NoSuch);
         }
-        self.slots[slot].enter(slot, &self.gate)
+        let place = self.place(slot);
+        self.slots[slot].enter(place)
     }
 
-    /// Gives an entry back to its slot; it is one of a group of this gate. It takes no memory.
+    /// Gives an entry back to its slot. It takes no memory.
     ///
     /// # Errors
     ///
     /// The reader, where its slot counts no reader of its generation. Nothing changes then.
     pub fn leave(&mut self, reader: Reader<S>) -> Result<(), Reader<S>>
-        requires { reader.gate ≡ self.old.gate }
+        requires { reader.group ≡ self.old.id }
         ensures answers { After self.old (λ made h. Leaves made h reader result) }
         ensures stands { Becomes self.old (done_at reader.slot (Left reader.generation) result) self.new }
         ensures site { SameSite self.old self.new }
@@ -359,12 +382,13 @@ impl<S: BackendSelection> GroupCore<S> {
         ensures answers { After self.old (λ made h. Takes made h slot result) }
         ensures stands { Becomes self.old (done_at slot TakenOut result) self.new }
         ensures site { SameSite self.old self.new }
-        ensures own { IfOk result (λ r. r.permit ≡ self.new.gate) }
+        ensures own { IfOk result (λ r. (r.group ≡ self.new.id) × (r.slot ≡ slot) × (r.permit ≡ self.new.gate)) }
     {
         if slot >= self.slots.len() {
             return Err(Refusal::NoSuch);
         }
-        self.slots[slot].take_retired(slot)
+        let place = self.place(slot);
+        self.slots[slot].take_retired(place)
     }
 
     /// The report that the selector which was taken out of that slot is destroyed; its permit goes back to the gate. It takes no
@@ -376,10 +400,11 @@ impl<S: BackendSelection> GroupCore<S> {
     pub fn destroyed(
         &mut self,
         slot: usize,
-        permit: Permit,
+        permit: OwedPermit,
         gate: &mut GateCore,
-    ) -> Result<(), Permit>
-        requires permit { permit ≡ self.old.gate }
+    ) -> Result<(), OwedPermit>
+        requires own { (permit.group ≡ self.old.id) × (permit.slot ≡ slot) }
+        requires permit { permit.gate ≡ self.old.gate }
         requires gate { gate.old.id ≡ self.old.gate }
         ensures answers { After self.old (λ made h. Reports made h slot permit result) }
         ensures stands { Becomes self.old (done_at slot Destroyed result) self.new }
@@ -393,25 +418,30 @@ impl<S: BackendSelection> GroupCore<S> {
         if !self.slots[slot].report() {
             return Err(permit);
         }
+        let OwedPermit { place: _, permit } = permit;
         gate.give_back(permit);
         Ok(())
     }
 
-    /// Selects from what a slot serves: the first candidate of the selector's walk for `key`, among the first `limit`. Tickets
-    /// go on from those that earlier selections drew; random words are the ones handed in. A slot that is not there selects
-    /// nothing.
+    /// Selects from what a slot serves: the first that `accept` accepts of the distinct backends among the first `limit` candidates
+    /// of the selector's walk for `key`. Tickets go on from those that earlier selections drew; random words are the ones handed in,
+    /// and loads those that are lent. A slot that is not there selects nothing.
     ///
     /// The selection is refused `NotEnoughWords` where walks over the selector may draw random words and at most `limit` of them
     /// are handed in, and then no word is drawn; or `OutOfMemory`. The answer says how many words were drawn, refused or not.
-    pub fn select(
+    pub fn select_with<F: Fn(&Backend) -> bool>(
         &mut self,
         alloc: Global,
         slot: usize,
         key: &[u8],
         limit: usize,
         random: &[u64],
+        loads: &Loads,
+        accept: &F,
     ) -> Selection
-        ensures answers { After self.old (λ made h. SelectsIn S.may_draw_random S.walks made h slot key.now limit random.now result) }
+        requires { F.IsAlwaysCallable accept.now }
+        ensures answers { After self.old (λ made h. SelectsIn S.may_draw_random S.walks (λ b a. FnReturnsAt F.Fn accept.now b a)
+            (load_in loads.now) made h slot key.now limit random.now result) }
         ensures stands { After self.old (λ made h. StandsFor made (select_events made slot result ++ h) self.new) }
         ensures site { SameSite self.old self.new }
     {
@@ -422,7 +452,7 @@ impl<S: BackendSelection> GroupCore<S> {
                 tickets: 0,
             };
         }
-        self.slots[slot].select(alloc, key, limit, random)
+        self.slots[slot].select(alloc, key, limit, random, loads, accept)
     }
 
     /// The newest generation; 0 before the first membership.
@@ -517,6 +547,16 @@ impl<S: BackendSelection> GroupCore<S> {
             return None;
         }
         Some(self.slots[slot].timing)
+    }
+
+    // Where what goes out of a slot belongs.
+    fn place(&self, slot: usize) -> Place
+        ensures { result ≡ record { group = self.now.id; slot = slot } }
+    {
+        Place {
+            group: Snapshot::of(&self.identity),
+            slot,
+        }
     }
 }
 

@@ -4,6 +4,7 @@ ghost use Rattle.std.specs.Prelude.{◌≡◌, ◌⊎◌, IfOk, IfErr};
 ghost use Rattle.std.specs.Arc.{arc_value};
 ghost use Rattle.lb_group.specs.Values.{order_of};
 
+use crate::place::Place;
 use lb_rebuild::gate::Permit;
 use lb_select::backend::Backend;
 use lb_select::refusal::Refusal;
@@ -33,9 +34,9 @@ impl<C: Drop> Model for Order<C> {
 
 /// The right and the order to build the selector of one slot for one generation.
 ///
-/// Contracts see the slot, the generation, the members, the configuration, and of which gate the permit is.
+/// Contracts see its group, its slot, the generation, the members, the configuration, and of which gate the permit is.
 pub struct Job<S: BackendSelection> {
-    pub(crate) slot: usize,
+    pub(crate) place: Place,
     pub(crate) order: Order<S::Config>,
     pub(crate) permit: Permit,
 }
@@ -45,12 +46,12 @@ impl<S: BackendSelection> Model for Job<S> {
 
     ghost Value = { Task S.Config };
 
-    ghost view = { λ j. task_of j.slot j.order j.permit };
+    ghost view = { λ j. task_of j.place j.order j.permit };
 }
 
 /// A selector that was built and is not yet published. Contracts see of it what they saw of its job, and when the build ended.
 pub struct Built<S: BackendSelection> {
-    pub(crate) slot: usize,
+    pub(crate) place: Place,
     pub(crate) order: Order<S::Config>,
     pub(crate) permit: Permit,
     pub(crate) selector: Arc<S>,
@@ -65,7 +66,7 @@ impl<S: BackendSelection> Model for Built<S> {
     ghost Value = { BuiltValue S.Config };
 
     ghost view = { λ b. record {
-      task = task_of b.slot b.order b.permit;
+      task = task_of b.place b.order b.permit;
       ended = b.ended;
     } };
 
@@ -78,7 +79,8 @@ impl<S: BackendSelection> Job<S> {
     pub fn slot(&self) -> usize
         ensures { result ≡ self.now.slot }
     {
-        self.slot
+        let place = &self.place;
+        place.slot
     }
 
     /// The generation that it is to build.
@@ -122,12 +124,12 @@ impl<S: BackendSelection> Job<S> {
         ensures { result ≡ record { task = self; ended = ended } }
     {
         let Job {
-            slot,
+            place,
             order,
             permit,
         } = self;
         Built {
-            slot,
+            place,
             order,
             permit,
             selector,
@@ -140,7 +142,7 @@ impl<S: BackendSelection> Job<S> {
         ensures { (result.0 ≡ order_of self) × (result.1 ≡ self.permit) }
     {
         let Job {
-            slot: _,
+            place: _,
             order,
             permit,
         } = self;
@@ -150,7 +152,7 @@ impl<S: BackendSelection> Job<S> {
     /// Lets the job go for good: its gate never grants again.
     pub fn close(self) {
         let Job {
-            slot: _,
+            place: _,
             order: _,
             permit,
         } = self;
@@ -163,7 +165,8 @@ impl<S: BackendSelection> Built<S> {
     pub fn slot(&self) -> usize
         ensures { result ≡ self.now.task.slot }
     {
-        self.slot
+        let place = &self.place;
+        place.slot
     }
 
     /// The generation that was built.
@@ -176,7 +179,7 @@ impl<S: BackendSelection> Built<S> {
     /// Lets the selector go for good: its gate never grants again.
     pub fn close(self) {
         let Built {
-            slot: _,
+            place: _,
             order: _,
             permit,
             selector: _,

@@ -6,6 +6,7 @@ pub mod answers;
 pub mod group;
 pub mod job;
 pub mod laws;
+mod place;
 pub mod retired;
 mod retry;
 pub mod schedule;

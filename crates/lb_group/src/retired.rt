@@ -2,10 +2,10 @@
 //! A retired selector holds the permit of the extra selector that it is, until it is destroyed and reported.
 ghost use Rattle.std.specs.Prelude.{◌≡◌};
 
-use lb_rebuild::gate::{GateCore, Permit};
+use crate::place::Place;
+use lb_rebuild::gate::Permit;
 use lb_select::walk::BackendSelection;
 use std::marker::Model;
-use std::snapshot::Snapshot;
 use std::sync::Arc;
 
 // A selector with the generation that it was built for, and the tickets drawn from its counter so far.
@@ -32,9 +32,9 @@ impl<S: BackendSelection> Model for Serving<S> {
 
 /// A selector that is no longer served, with the permit of the extra selector that it is.
 ///
-/// It cannot be dropped. Contracts see its slot, its generation, and of which gate the permit is.
+/// It cannot be dropped. Contracts see its group, its slot, its generation, and of which gate the permit is.
 pub struct Retired<S: BackendSelection> {
-    pub(crate) slot: usize,
+    pub(crate) place: Place,
     pub(crate) serving: Serving<S>,
     pub(crate) permit: Permit,
 }
@@ -44,7 +44,12 @@ impl<S: BackendSelection> Model for Retired<S> {
 
     ghost Value = { RetiredValue };
 
-    ghost view = { λ r. record { slot = r.slot; generation = r.serving.generation; permit = r.permit } };
+    ghost view = { λ r. record {
+      group = r.place.group;
+      slot = r.place.slot;
+      generation = r.serving.generation;
+      permit = r.permit;
+    } };
 }
 
 impl<S: BackendSelection> Retired<S> {
@@ -57,26 +62,47 @@ impl<S: BackendSelection> Retired<S> {
     }
 
     /// Drops the selector, outside all locks, and gives the permit that is to be reported.
-    pub fn destroy(self) -> Permit
-        ensures { result ≡ self.permit }
+    pub fn destroy(self) -> OwedPermit
+        ensures { result ≡ record { group = self.group; slot = self.slot; gate = self.permit } }
     {
         let Retired {
-            slot: _,
+            place,
             serving: _,
             permit,
         } = self;
-        permit
+        OwedPermit { place, permit }
+    }
+}
+
+/// The permit of a selector that was taken out of a slot and is destroyed. It is to be reported, and cannot be dropped.
+///
+/// Contracts see the group and the slot that it is owed to, and of which gate it is.
+pub struct OwedPermit {
+    pub(crate) place: Place,
+    pub(crate) permit: Permit,
+}
+
+impl Model for OwedPermit {
+    ghost use Rattle.lb_group.specs.Values.{PermitValue};
+
+    ghost Value = { PermitValue };
+
+    ghost view = { λ p. record { group = p.place.group; slot = p.place.slot; gate = p.permit } };
+}
+
+impl OwedPermit {
+    /// Lets the permit go for good: its gate never grants again.
+    pub fn spend(self) {
+        let OwedPermit { place: _, permit } = self;
+        permit.spend();
     }
 }
 
 /// An entry into the selector that a slot served then. It is to be given back to the slot, and cannot be dropped.
 ///
-/// Contracts see of which gate its group is, the slot, the generation, and of which members and with which configuration the
-/// selector was built.
+/// Contracts see its group, the slot, the generation, and of which members and with which configuration the selector was built.
 pub struct Reader<S: BackendSelection> {
-    // A snapshot of the group's own one; neither has bytes.
-    pub(crate) gate: Snapshot<Snapshot<GateCore>>,
-    pub(crate) slot: usize,
+    pub(crate) place: Place,
     pub(crate) generation: u64,
     pub(crate) selector: Arc<S>,
 }
@@ -88,8 +114,8 @@ impl<S: BackendSelection> Model for Reader<S> {
     ghost Value = { ReaderValue S.Config };
 
     ghost view = { λ r. record {
-      gate = r.gate.value.value.id;
-      slot = r.slot;
+      group = r.place.group;
+      slot = r.place.slot;
       generation = r.generation;
       members = S.members (arc_value r.selector);
       config = S.built_with (arc_value r.selector);
@@ -101,7 +127,8 @@ impl<S: BackendSelection> Reader<S> {
     pub fn slot(&self) -> usize
         ensures { result ≡ self.now.slot }
     {
-        self.slot
+        let place = &self.place;
+        place.slot
     }
 
     /// The generation of the selector that was entered.
@@ -114,8 +141,7 @@ impl<S: BackendSelection> Reader<S> {
     /// Lets the reader go for good: the selector that it is in can't be destroyed from then on.
     pub fn close(self) {
         let Reader {
-            gate: _,
-            slot: _,
+            place: _,
             generation: _,
             selector: _,
         } = self;

@@ -4,27 +4,26 @@ ghost use Rattle.std.specs.Prelude.{◌≡◌, ◌&&◌, not, Bool, true, [], �
 ghost use Rattle.std.specs.Arc.{arc_value};
 ghost use Rattle.std.specs.Fn.{FnReturnsAt};
 ghost use Rattle.lb_select.specs.Refusals.{Refuses};
-ghost use Rattle.lb_select.specs.Backends.{Member, same_member};
-ghost use Rattle.lb_select.specs.Selections.{Selects};
+ghost use Rattle.lb_select.specs.Loads.{load_in};
 ghost use Rattle.lb_group.specs.SlotSeen.{permit_of};
 ghost use Rattle.lb_group.specs.GroupHistory.{is_flight, is_aloft as aloft, is_retired_of, is_taken_out, taken_out_number, flight_number};
 
 use crate::answers::{Ask, Counts, Selection, Timing, Told};
 use crate::job::{Built, Job, Order};
+use crate::place::Place;
 use crate::retired::{Reader, Retired, Serving};
 use crate::retry::due;
 use crate::schedule::SlotTurn;
 use crate::words::DrawnWords;
 use lb_rebuild::gate::{GateCore, Permit};
 use lb_select::backend::Backend;
+use lb_select::loads::Loads;
 use lb_select::refusal::Refusal;
 use lb_select::select::select;
 use lb_select::walk::BackendSelection;
-use lb_select::words::WordSource;
 use std::alloc::Global;
 use std::collections::BTreeSet;
 use std::mem;
-use std::snapshot::Snapshot;
 use std::sync::Arc;
 
 // What stands in a slot beside what it serves, each with its generation. A flight goes from the slot's job to its failure or
@@ -152,10 +151,10 @@ impl<S: BackendSelection> Slot<S> {
         self.failed_at = 0;
     }
 
-    // Asks for the build that the slot needs next; `scheduled` is the moment of the newest membership.
+    // Asks for the build that the slot needs next; `place` is its own, and `scheduled` is the moment of the newest membership.
     pub(crate) fn ask(
         &mut self,
-        slot: usize,
+        place: Place,
         newest: u64,
         scheduled: u128,
         cancelled: bool,
@@ -165,7 +164,7 @@ impl<S: BackendSelection> Slot<S> {
         ensures told { ask_told result ≡ slot_answer newest cancelled gate.old.out now (slot_value self.old) }
         ensures slot { slot_value self.new ≡ asked_slot (ask_told result) newest scheduled now (slot_value self.old) }
         ensures gate { gate.new ≡ asked_gate (ask_told result) gate.old }
-        ensures job { IsJobOf slot gate.old.id (slot_value self.old) result }
+        ensures job { IsJobOf place gate.old.id (slot_value self.old) result }
     {
         if cancelled {
             return Ask::Cancelled;
@@ -196,7 +195,7 @@ impl<S: BackendSelection> Slot<S> {
         self.asked = now;
         self.scheduled = scheduled;
         Ask::Job(Job {
-            slot,
+            place,
             order,
             permit,
         })
@@ -279,7 +278,7 @@ impl<S: BackendSelection> Slot<S> {
         ensures slot { slot_value self.new ≡ published_slot built (slot_value self.old) }
     {
         let Built {
-            slot,
+            place,
             order,
             permit,
             selector,
@@ -297,7 +296,7 @@ impl<S: BackendSelection> Slot<S> {
         fill(
             &mut self.stage,
             Stage::Retired(Retired {
-                slot,
+                place,
                 serving: before,
                 permit,
             }),
@@ -319,7 +318,7 @@ impl<S: BackendSelection> Slot<S> {
     {
         self.count_superseded(newest);
         let Built {
-            slot,
+            place,
             order,
             permit,
             selector,
@@ -336,7 +335,7 @@ impl<S: BackendSelection> Slot<S> {
         fill(
             &mut self.stage,
             Stage::Retired(Retired {
-                slot,
+                place,
                 serving,
                 permit,
             }),
@@ -361,14 +360,10 @@ impl<S: BackendSelection> Slot<S> {
         Ok(())
     }
 
-    // One reader more of the selector that is served; `gate` is the group's.
-    pub(crate) fn enter(
-        &mut self,
-        slot: usize,
-        gate: &Snapshot<GateCore>,
-    ) -> Result<Reader<S>, Refusal>
+    // One reader more of the selector that is served; `place` is the slot's own.
+    pub(crate) fn enter(&mut self, place: Place) -> Result<Reader<S>, Refusal>
         ensures ok { IfOk result (λ r. (slot_value self.old).readers < 18446744073709551615
-            × (r ≡ reader_of gate.now.value.id slot (slot_value self.old))
+            × (r ≡ reader_of place (slot_value self.old))
             × (slot_value self.new ≡ entered_slot (slot_value self.old))) }
         ensures err { IfErr result (λ e. ((slot_value self.old).readers ≡ 18446744073709551615 × (e ≡ Refusal.NumbersExhausted))
             ⊎ ((slot_value self.old).readers < 18446744073709551615 × (e ≡ Refusal.OutOfMemory))) }
@@ -382,8 +377,7 @@ impl<S: BackendSelection> Slot<S> {
         let generation = serving.generation;
         self.readers += 1;
         Ok(Reader {
-            gate: Snapshot::of(gate),
-            slot,
+            place,
             generation,
             selector,
         })
@@ -435,9 +429,9 @@ impl<S: BackendSelection> Slot<S> {
         }
     }
 
-    // Takes the retired selector out, once no reader is left in it.
-    pub(crate) fn take_retired(&mut self, slot: usize) -> Result<Retired<S>, Refusal>
-        ensures { TakesAt slot (slot_value self.old) result (slot_value self.new) }
+    // Takes the retired selector out, once no reader is left in it; `place` is the slot's own.
+    pub(crate) fn take_retired(&mut self, place: Place) -> Result<Retired<S>, Refusal>
+        ensures { TakesAt place (slot_value self.old) result (slot_value self.new) }
     {
         let Stage::Retired(retired) = &self.stage else {
             return Err(Refusal::NothingRetired);
@@ -448,7 +442,7 @@ impl<S: BackendSelection> Slot<S> {
         let generation = retired.generation();
         match mem::replace(&mut self.stage, Stage::TakenOut(generation)) {
             Stage::Retired(mut retired) => {
-                retired.slot = slot;
+                retired.place = place;
                 Ok(retired)
             }
             Stage::Free | Stage::Flight(_) | Stage::Lost(_) | Stage::TakenOut(_) => unreachable!(),
@@ -487,16 +481,20 @@ impl<S: BackendSelection> Slot<S> {
         true
     }
 
-    // Selects from what is served; each backend is accepted.
-    pub(crate) fn select(
+    // Selects from what is served the first that `accept` accepts.
+    pub(crate) fn select<F: Fn(&Backend) -> bool>(
         &mut self,
         alloc: Global,
         key: &[u8],
         limit: usize,
         random: &[u64],
+        loads: &Loads,
+        accept: &F,
     ) -> Selection
-        ensures selected { SelectsFrom S.may_draw_random S.walks key.now limit random.now (slot_value self.old).serving.members
-            (slot_value self.old).serving.config (slot_value self.old).serving.tickets result }
+        requires { F.IsAlwaysCallable accept.now }
+        ensures selected { SelectsFrom S.may_draw_random S.walks (λ b a. FnReturnsAt F.Fn accept.now b a) (load_in loads.now) key.now limit
+            random.now (slot_value self.old).serving.members (slot_value self.old).serving.config (slot_value self.old).serving.tickets
+            result }
         ensures slot { slot_value self.new ≡ drawn_slot result.tickets (slot_value self.old) }
     {
         let serving = &mut self.serving;
@@ -507,8 +505,8 @@ impl<S: BackendSelection> Slot<S> {
                 tickets: serving.tickets,
             };
         }
-        let mut words = DrawnWords::new(serving.tickets, random);
-        let answer = first(alloc, &serving.selector, key, &mut words, limit, &every);
+        let mut words = DrawnWords::new(serving.tickets, random, loads);
+        let answer = select(alloc, &serving.selector, key, &mut words, limit, accept);
         serving.tickets = words.tickets();
         Selection {
             answer,
@@ -562,28 +560,4 @@ fn clear<S: BackendSelection>(stage: &mut Stage<S>)
         Stage::Retired(_retired) => unreachable!(),
         Stage::Free | Stage::Flight(_) | Stage::Lost(_) | Stage::TakenOut(_) => {}
     }
-}
-
-// A selection where each backend is accepted.
-fn first<S: BackendSelection, W: WordSource, F: Fn(&Backend) -> bool>(
-    alloc: Global,
-    selector: &Arc<S>,
-    key: &[u8],
-    words: &mut W,
-    limit: usize,
-    accept: &F,
-) -> Result<Option<Backend>, Refusal>
-    requires call { F.IsAlwaysCallable accept.now }
-    requires all { (b : Member) (a : Bool) → FnReturnsAt F.Fn accept.now b a → a ≡ true }
-    ensures { Selects same_member (λ b a. a ≡ true) limit W.gives
-        (S.walks (S.members (arc_value selector.now)) (S.built_with (arc_value selector.now)) key.now) words.old result words.new }
-{
-    select(alloc, selector, key, words, limit, accept)
-}
-
-// Accepts each backend.
-fn every(_backend: &Backend) -> bool
-    ensures { result ≡ true }
-{
-    true
 }

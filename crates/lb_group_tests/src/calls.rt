@@ -61,6 +61,7 @@ pub(crate) fn job_at(
     requires { gate.old.id ≡ group.old.gate }
     ensures gate { gate.new.id ≡ gate.old.id }
     ensures site { SameSite group.old group.new }
+    ensures own { IfOk result (λ j. j.group ≡ group.new.id) }
     ensures permit { IfOk result (λ j. j.permit ≡ group.new.gate) }
     ensures config { IfOk result (λ j. slice_get (configs_of group.new) j.slot ≡ Some j.config) }
 {
@@ -79,6 +80,7 @@ pub(crate) fn failed(
     gate: &mut GateCore,
     now: u128,
 ) -> bool
+    requires own { job.group ≡ group.old.id }
     requires permit { job.permit ≡ group.old.gate }
     requires config { slice_get (configs_of group.old) job.slot ≡ Some job.config }
     requires gate { gate.old.id ≡ group.old.gate }
@@ -113,6 +115,7 @@ pub(crate) fn built(
 
 /// Publishes a selector; `None` where it was not awaited.
 pub(crate) fn published(group: &mut GroupCore<RoundRobin>, built: Built<RoundRobin>) -> Option<Told>
+    requires own { built.task.group ≡ group.old.id }
     requires permit { built.task.permit ≡ group.old.gate }
     requires config { slice_get (configs_of group.old) built.task.slot ≡ Some built.task.config }
     ensures { SameSite group.old group.new }
@@ -128,6 +131,7 @@ pub(crate) fn published(group: &mut GroupCore<RoundRobin>, built: Built<RoundRob
 
 /// Abandons a selector; whether it was awaited.
 pub(crate) fn abandoned(group: &mut GroupCore<RoundRobin>, built: Built<RoundRobin>) -> bool
+    requires own { built.task.group ≡ group.old.id }
     requires permit { built.task.permit ≡ group.old.gate }
     requires config { slice_get (configs_of group.old) built.task.slot ≡ Some built.task.config }
     ensures { SameSite group.old group.new }

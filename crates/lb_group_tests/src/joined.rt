@@ -16,7 +16,7 @@ use std::collections::BTreeSet;
 use std::test::Fail;
 
 // A group of one slot with a view of this registry.
-fn joined_of_one(
+pub(crate) fn joined_of_one(
     alloc: Global,
     registry: &mut RegistryCore,
     gate: &GateCore,
@@ -29,7 +29,7 @@ fn joined_of_one(
 }
 
 // Asks slot 0, and publishes what is built at once; `None` where there is no job.
-fn rebuilt(
+pub(crate) fn rebuilt(
     alloc: Global,
     group: &mut GroupCore<RoundRobin>,
     gate: &mut GateCore,

@@ -1,5 +1,5 @@
 //! Tests of groups as calls: the worked rows on builds, failures, lost workers, cancellation, timing and delays.
-//! There is no code here beside them.
+//! Beside them stands one call on two groups, which shows that each takes back its own alone.
 #![tactic(auto)]
 
 #[cfg(test)]
@@ -8,3 +8,6 @@ mod calls;
 mod joined;
 #[cfg(test)]
 mod rows;
+#[cfg(test)]
+mod selections;
+pub mod sharing;

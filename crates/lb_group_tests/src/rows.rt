@@ -2,7 +2,9 @@
 use crate::calls::{
     abandoned, alone, asked, built, destroyed, failed, group_of_one, job_at, published,
 };
+use crate::sharing::both_entered;
 use lb_group::answers::{Counts, Timing, Told};
+use lb_group::group::GroupCore;
 use lb_rebuild::gate::GateCore;
 use lb_select::refusal::Refusal;
 use std::test::Fail;
@@ -71,6 +73,18 @@ fn newest_request_wins(rt: HostRuntime) -> Result<(), Fail> {
             build: 1
         }))
     );
+    Ok(())
+}
+
+// Two groups on one gate are two groups: each counts the reader that entered it.
+#[test]
+fn groups_of_one_gate_differ(rt: HostRuntime) -> Result<(), Fail> {
+    let alloc = rt.alloc();
+    let gate = GateCore::new(alloc)?;
+    let mut group = group_of_one(alloc, &gate)?;
+    let mut other = group_of_one(alloc, &gate)?;
+    GroupCore::apart(&mut group, &mut other);
+    assert!(rt; both_entered(&mut group, &mut other)?);
     Ok(())
 }
 

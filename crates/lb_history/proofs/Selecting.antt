@@ -5,7 +5,7 @@ use Rattle.std.specs.List.{AllByRecursion as Each}
 use Rattle.std.proofs.lemmas.List.{take-append-le}
 use Rattle.std.proofs.Math.Seq.{take-append-add}
 use Rattle.lb_select.specs.Backends.{Member, same_member}
-use Rattle.lb_select.specs.Draws.{HandedValue}
+use Rattle.lb_select.specs.Draws.{HandedValue, LoadedGives}
 use Rattle.lb_select.specs.Selections.{IsAnswer, Selects}
 use Rattle.lb_select.specs.Unique.{firsts, distinct}
 use Rattle.lb_select.specs.declared.refusal.Refusal.{Refusal}
@@ -19,7 +19,7 @@ use Rattle.lb_history.specs.declared.answer.Answer.{Answer}
 use Rattle.lb_history.specs.declared.answer.Answer.TheVariants as answer
 use Rattle.lb_history.specs.Meanings.{Meaning}
 use Rattle.lb_history.specs.History.{History, Made, config_in, made_at, group_events, past, load_of}
-use Rattle.lb_history.specs.Answers.{IsRun, SelectAnswers, SelectsIn, Judges, LoadedGives, refuse, selected}
+use Rattle.lb_history.specs.Answers.{IsRun, SelectAnswers, SelectsIn, Judges, refuse, selected}
 use Rattle.lb_history.specs.Selected.{IsFirst, AreEnough, SelectedOf, FirstAccepted}
 
 -- more of a list than it is long begins with the list

@@ -4,8 +4,7 @@ use Rattle.std.specs.Prelude.{◌≡◌, ◌⊎◌, ◌↔◌, ℕ, ◌+◌, ◌
 use Rattle.std.specs.Prelude.{map, Option, Some, None, is_none, Result, Ok, Err, IsTrue, if◌then◌else◌, slice_get, MatchBool, MatchOption}
 use Rattle.std.specs.List.{list_any}
 use Rattle.lb_select.specs.Backends.{Member, same_member}
-use Rattle.lb_select.specs.Draws.{Draw, HandedValue, HandedGives}
-use Rattle.lb_select.specs.Draws as draw
+use Rattle.lb_select.specs.Draws.{Draw, HandedValue, LoadedGives}
 use Rattle.lb_select.specs.Refusals.{earlier, least}
 use Rattle.lb_select.specs.Selections.{Selects}
 use Rattle.lb_select.specs.declared.refusal.Refusal.{Refusal}
@@ -126,12 +125,6 @@ numbers_of p =
       waiting = group.waits p;
       counts = counts_after p;
     }
-
--- the words that are handed in, the tickets of a counter, and loads that no draw changes
-abbrev pub LoadedGives : (Member → ℕ) → HandedValue → Draw → HandedValue → Type 0
-LoadedGives load_by a (draw.ticket w) b = HandedGives a (draw.ticket w) b
-LoadedGives load_by a (draw.random w) b = HandedGives a (draw.random w) b
-LoadedGives load_by a (draw.load m l) b = (l ≡ load_by m) × (b ≡ a)
 
 -- a selection that was refused for memory may have drawn all the same
 abbrev pub selected : ℕ → Result (Option Member) Refusal → Answer

@@ -3,7 +3,7 @@
 use Rattle.std.specs.Prelude.{◌≡◌, ◌<◌, ◌⊎◌, ℕ, Bool, true, false, List, [], ◌∷◌, ◌++◌, length, take, Option, Some, None, Ok, MatchOption}
 use Rattle.std.specs.List.{AllByRecursion as Each}
 use Rattle.lb_select.specs.Backends.{Member, same_member}
-use Rattle.lb_select.specs.Draws.{Draw, Gives, HandedValue}
+use Rattle.lb_select.specs.Draws.{Draw, Gives, HandedValue, LoadedGives}
 use Rattle.lb_select.specs.Unique.{distinct}
 use Rattle.lb_group.specs.GroupHistory as group
 use Rattle.lb_history.specs.Steps.{Step}
@@ -11,7 +11,7 @@ use Rattle.lb_history.specs.Steps as step
 use Rattle.lb_history.specs.declared.answer.Answer.{Answer}
 use Rattle.lb_history.specs.Meanings.{Meaning}
 use Rattle.lb_history.specs.History.{History, config, group_events, past, load_of}
-use Rattle.lb_history.specs.Answers.{Judges, LoadedGives, selected}
+use Rattle.lb_history.specs.Answers.{Judges, selected}
 
 -- the first of these that is accepted, those before it refused; or none, where all are refused
 abbrev pub IsFirst : (Member → Bool → Type 0) → List Member → Option Member → Type 0

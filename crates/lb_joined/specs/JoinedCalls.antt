@@ -1,17 +1,24 @@
 -- What the calls of a joined group answer beside what the group's own calls do, and what they do to the registry.
-use Rattle.std.specs.Prelude.{◌≡◌, ◌⊎◌, ℕ, Bool, true, List, ◌∷◌, ◌++◌, Option, Some, None, Result, Ok, Err, if◌then◌else◌}
+use Rattle.std.specs.Prelude.{◌≡◌, ◌⊎◌, ◌↔◌, ℕ, Bool, true, IsTrue, List, ◌∷◌, ◌++◌, Option, Some, None, Result, Ok, Err, if◌then◌else◌}
+use Rattle.std.specs.Borrow.{Bor}
+use Rattle.std.specs.Fn.{Shared, FnReturns}
 use Rattle.lb_select.specs.Backends.{Member}
+use Rattle.lb_select.specs.Refusals.{memory_apart}
 use Rattle.lb_select.specs.declared.refusal.Refusal.{Refusal}
 use Rattle.lb_select.specs.declared.refusal.Refusal.TheVariants.{OutOfMemory, NumbersExhausted, NoSuch}
 use Rattle.lb_group.specs.GroupCalls as group
-use Rattle.lb_group.specs.GroupHistory.{past_of, extra, generation_of}
+use Rattle.lb_group.specs.GroupHistory.{past_of, served, extra, generation_of}
 use Rattle.lb_group.specs.Stands.{Made}
 use Rattle.lb_group.specs.declared.answers.Selection.{Selection}
 use Rattle.lb_group.specs.declared.schedule.Scheduled.{Scheduled}
-use Rattle.lb_health.specs.Joined.{registry_released}
+use Rattle.lb_health.specs.Joined.{registry_released, IsReady}
+use Rattle.lb_health.specs.Snapshots.{ViewValue}
 use Rattle.lb_health.specs.ViewEvents.{ViewEvent}
+use Rattle.lb_health.specs.Views.{IsViewAfter}
+use Rattle.lb_registry.specs.Registry.{RegistryValue, IsRegistryAfter}
 use Rattle.lb_registry.specs.RegistryEvents as registry
 use Rattle.lb_joined.specs.JoinedHistory.{History, Shown, group_events, in_group, after_settings}
+use Rattle.lb_joined.specs.Stands.{views_of}
 
 -- a membership that another call below may refuse for memory, because no number is left for a cell, or because no such view is
 -- registered
@@ -21,7 +28,7 @@ IsSharedRefusal e = (e ≡ OutOfMemory) ⊎ ((e ≡ NumbersExhausted) ⊎ (e ≡
 -- A group is refused for the least cause of its configurations; where there is none, for memory or because no number is left.
 abbrev pub IsMakingRefusal : {A : Type 0} → Option Refusal → Result A Refusal → Type 0
 IsMakingRefusal cause (Ok a) = cause ≡ None
-IsMakingRefusal cause (Err e) = (cause ≡ Some e) ⊎ ((cause ≡ None) × ((e ≡ OutOfMemory) ⊎ (e ≡ NumbersExhausted)))
+IsMakingRefusal cause (Err e) = (cause ≡ Some e) ⊎ ((memory_apart cause ≡ None) × ((e ≡ OutOfMemory) ⊎ (e ≡ NumbersExhausted)))
 
 -- As for a group alone; the registry of another membership may refuse it too.
 abbrev pub Schedules : {C : Type 0} → Made C → History → List Member → Result Scheduled Refusal → Type 0
@@ -48,6 +55,29 @@ released_where (Err b) id g views events = events
 -- the generation of what stands in a slot beside what it serves
 abbrev pub generation_at : ℕ → History → ℕ
 generation_at slot e = generation_of (extra (past_of slot (group_events e)))
+
+-- the generation that a slot serves
+abbrev pub served_at : ℕ → History → ℕ
+served_at slot e = served (past_of slot (group_events e))
+
+-- whether a backend is ready in a generation, by the live cells of its snapshot and the flags as they are
+abbrev pub Judges : {C : Type 0} → (Member → Member) → List registry.Event → Made C → History → ℕ → Member → Bool → Type 0
+Judges key_of events made e n b ready = IsTrue ready ↔ IsReady key_of (views_of made e) events n b
+
+-- the same, whatever view and registry have been through
+abbrev pub IsJudged : {R : Type 0} → (R → Member → Member → Type 0) → ViewValue → RegistryValue R → ℕ → Member → Bool → Type 0
+IsJudged gives v r n b ready =
+    (key_of : Member → Member) (views : List ViewEvent) (events : List registry.Event)
+    → IsViewAfter views v → IsRegistryAfter gives key_of events r → (IsTrue ready ↔ IsReady key_of views events n b)
+
+-- asked with a backend, and with one of the answers that are right of it, f may answer r
+pub record AcceptsBy {F B : Type 0} (g : Shared F (Bor B × (Bool × Unit {0})) Bool) (f : F) (right : B → Bool → Type 0) (b : B) (r : Bool)
+    : Type 0 where
+  pub shown : Bor B
+  pub shows : shown.now ≡ b
+  pub told : Bool
+  pub is_right : right b told
+  pub says : FnReturns g f (shown, (told, tt)) r
 
 -- a selection moves the counter of its slot
 abbrev pub after_select : {C : Type 0} → Made C → ℕ → Selection → History → History

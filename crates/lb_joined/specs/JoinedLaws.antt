@@ -1,5 +1,5 @@
 -- What holds of every history of a group that is joined with its view.
-use Rattle.std.specs.Prelude.{◌≡◌, ◌⊎◌, ℕ, true}
+use Rattle.std.specs.Prelude.{◌≡◌, ◌⊎◌, ◌<◌, ℕ, true}
 use Rattle.lb_group.specs.GroupHistory.{past_of, newest, served, extra, is_extra, generation_of}
 use Rattle.lb_health.specs.Joined.{lives}
 use Rattle.lb_health.specs.ViewEvents.{snapshots_after, generation_after, membership_after}
@@ -11,6 +11,10 @@ abbrev pub IsInUse : ℕ → ℕ → History → Type 0
 IsInUse slot n e =
     (served (past_of slot (group_events e)) ≡ n)
     ⊎ ((is_extra (extra (past_of slot (group_events e))) ≡ true) × (generation_of (extra (past_of slot (group_events e))) ≡ n))
+
+-- the generation is in use in one of k slots
+abbrev pub IsInSomeSlot : ℕ → ℕ → History → Type 0
+IsInSomeSlot k n e = (slot : ℕ) × ((slot < k) × IsInUse slot n e)
 
 -- the snapshot of this generation lives in the view of a group of k slots
 abbrev pub IsLive : ℕ → ℕ → History → Type 0

@@ -1,10 +1,11 @@
 //! A group joined with its view: a membership reaches both or neither, and each slot holds the snapshots that it has in use.
 //! A call tests all that it can refuse for before it changes anything; builds run elsewhere, between `ask` and `publish`.
-ghost use Rattle.std.specs.Prelude.{◌≡◌, ◌↔◌, ◌⊎◌, ◌≤◌, ◌+◌, ◌^◌, ◌∷◌, [], ℕ, List, false, map, replicate, IfOk, IsTrue, OnOk, OnErr};
+ghost use Rattle.std.specs.Prelude.{◌≡◌, ◌≢◌, ◌↔◌, ◌≤◌, ◌+◌, ◌^◌, ◌∷◌, [], ℕ, List, false, map, replicate, IfOk, IsTrue, OnOk, OnErr};
 ghost use Rattle.std.specs.Prelude.{IsErrOf, None, slice_get};
 ghost use Rattle.std.specs.Arc.{arc_value};
 ghost use Rattle.lb_select.specs.Backends.{Member};
-ghost use Rattle.lb_select.specs.Refusals.{least};
+ghost use Rattle.lb_select.specs.Loads.{load_in};
+ghost use Rattle.lb_select.specs.Refusals.{least, memory_apart};
 ghost use Rattle.lb_group.specs.GroupHistory.{Cancelled, WorkerLost, Entered, Left, TakenOut, Destroyed, past_of, newest as newest_after};
 ghost use Rattle.lb_group.specs.GroupHistory.{served as served_after, is_cancelled, timing as timing_after};
 ghost use Rattle.lb_group.specs.GroupHistory.{waits as waits_after, readers as readers_after};
@@ -21,19 +22,21 @@ ghost use Rattle.lb_registry.specs.Registry.{IsRegistryAfter};
 ghost use Rattle.lb_registry.specs.RegistryEvents.{Event, Registered, Applied, Updated, Marked, registered_after, views_after, has_view};
 ghost use Rattle.lb_registry.specs.RegistryEvents.{cells_given};
 ghost use Rattle.lb_joined.specs.JoinedCalls.{IsMakingRefusal, Schedules, after_schedule, released_where, generation_at, after_select};
+ghost use Rattle.lb_joined.specs.JoinedCalls.{served_at, Judges, IsJudged, AcceptsBy};
 ghost use Rattle.lb_joined.specs.JoinedHistory.{History, Set, group_events, in_group, members_now};
 ghost use Rattle.lb_joined.specs.Stands.{Stands, After, Becomes, SameSite, views_of};
 
 use lb_group::answers::{Ask, Counts, Selection, Timing, Told};
 use lb_group::group;
 use lb_group::job::{Built, Job};
-use lb_group::retired::{Reader, Retired};
+use lb_group::retired::{OwedPermit, Reader, Retired};
 use lb_group::schedule::Scheduled;
 use lb_health::view::{Settings, ViewCore};
-use lb_rebuild::gate::{GateCore, Permit};
+use lb_rebuild::gate::GateCore;
 use lb_registry::keys::KeyRule;
 use lb_registry::registry::Registry;
 use lb_select::backend::Backend;
+use lb_select::loads::Loads;
 use lb_select::refusal::Refusal;
 use lb_select::walk::BackendSelection;
 use std::alloc::Global;
@@ -69,15 +72,15 @@ impl<S: BackendSelection> GroupCore<S> {
     /// # Errors
     ///
     /// The least cause for which one of the configurations gives no selector over no backends; where there is none,
-    /// `NumbersExhausted` where no number is left for a view or a cell, and `OutOfMemory` where memory is refused. The registry is
-    /// then as before.
+    /// `NumbersExhausted` exactly where no number is left for a view, and else `OutOfMemory` where memory is refused. The registry
+    /// is then as before.
     pub fn new<R: KeyRule + Drop>(
         alloc: Global,
         registry: &mut Registry<R>,
         gate: &GateCore,
         configs: Vec<S::Config>,
     ) -> Result<GroupCore<S>, Refusal>
-        ensures stands { IfOk result (λ g. Stands (record { gate = gate.now.id; configs = configs.items }) [] g) }
+        ensures stands { IfOk result (λ g. Stands (record { id = g.group.id; gate = gate.now.id; configs = configs.items }) [] g) }
         ensures gate { IfOk result (λ g. g.group.gate ≡ gate.now.id) }
         ensures id { IfOk result (λ g. (key_of : Member → Member) (events : List Event) → IsRegistryAfter R.gives key_of events registry.old
             → g.view.id ≡ registered_after events + 1) }
@@ -87,15 +90,30 @@ impl<S: BackendSelection> GroupCore<S> {
         ensures err { OnErr result ((key_of : Member → Member) (events : List Event) → IsRegistryAfter R.gives key_of events registry.old
             → IsRegistryAfter R.gives key_of events registry.new) }
         ensures exhausted { (key_of : Member → Member) (events : List Event) → IsRegistryAfter R.gives key_of events registry.old
-            → least (map (S.refusal []) configs.items) ≡ None → IsErrOf result Refusal.NumbersExhausted
-            → (registered_after events + 1 ≡ 2 ^ 64) ⊎ (2 ^ 64 ≤ cells_given key_of (Applied ∷ Registered ∷ events)) }
+            → memory_apart (least (map (S.refusal []) configs.items)) ≡ None
+            → (IsErrOf result Refusal.NumbersExhausted ↔ (2 ^ 64 ≤ registered_after events + 1)) }
         ensures refused { IsMakingRefusal (least (map (S.refusal []) configs.items)) result }
     {
         let slots = configs.len();
-        let group = group::GroupCore::new(alloc, gate, configs)?;
+        let group = match group::GroupCore::new(alloc, gate, configs) {
+            Ok(group) => group,
+            // That no number is left for a view goes before the want of memory.
+            Err(Refusal::OutOfMemory) if registry.is_full() => {
+                return Err(Refusal::NumbersExhausted);
+            }
+            Err(refusal) => return Err(refusal),
+        };
         let mut view = ViewCore::register(alloc, registry)?;
         hold_first(&mut view, slots);
         Ok(GroupCore { group, view })
+    }
+
+    /// Shows that two groups are not the same one. It takes no memory and changes neither.
+    pub fn apart<T: BackendSelection>(a: &mut GroupCore<S>, b: &mut GroupCore<T>)
+        ensures apart { a.old.group.id ≢ b.old.group.id }
+        ensures same { (a.new ≡ a.old) × (b.new ≡ b.old) }
+    {
+        group::GroupCore::apart(&mut a.group, &mut b.group);
     }
 
     /// Some history of the group and its view, for whoever knows none.
@@ -208,6 +226,7 @@ impl<S: BackendSelection> GroupCore<S> {
         gate: &mut GateCore,
         now: u128,
     ) -> Result<(), Job<S>>
+        requires own { job.group ≡ self.old.group.id }
         requires permit { job.permit ≡ self.old.group.gate }
         requires config { slice_get (configs_of self.old.group) job.slot ≡ Some job.config }
         requires gate { gate.old.id ≡ self.old.group.gate }
@@ -236,6 +255,7 @@ impl<S: BackendSelection> GroupCore<S> {
     ///
     /// The selector, where its slot has no flight and no lost flight of its generation. Nothing changes then.
     pub fn publish(&mut self, built: Built<S>) -> Result<Told, Built<S>>
+        requires own { built.task.group ≡ self.old.group.id }
         requires permit { built.task.permit ≡ self.old.group.gate }
         requires config { slice_get (configs_of self.old.group) built.task.slot ≡ Some built.task.config }
         ensures answers { After self.old (λ made e. Publishes (group_events e) built result) }
@@ -252,6 +272,7 @@ impl<S: BackendSelection> GroupCore<S> {
     ///
     /// The selector, where its slot has no flight and no lost flight of its generation. Nothing changes then.
     pub fn abandon(&mut self, built: Built<S>) -> Result<(), Built<S>>
+        requires own { built.task.group ≡ self.old.group.id }
         requires permit { built.task.permit ≡ self.old.group.gate }
         requires config { slice_get (configs_of self.old.group) built.task.slot ≡ Some built.task.config }
         ensures answers { After self.old (λ made e. Abandons (group_events e) built result) }
@@ -285,7 +306,7 @@ impl<S: BackendSelection> GroupCore<S> {
         ensures answers { After self.old (λ made e. Enters made (group_events e) slot result) }
         ensures stands { Becomes self.old (in_group (done_at slot Entered result)) self.new }
         ensures site { SameSite self.old self.new }
-        ensures own { IfOk result (λ r. r.gate ≡ self.new.group.gate) }
+        ensures own { IfOk result (λ r. r.group ≡ self.new.group.id) }
     {
         self.group.enter(slot)
     }
@@ -298,7 +319,7 @@ impl<S: BackendSelection> GroupCore<S> {
         registry: &Registry<R>,
         backend: &Backend,
     ) -> bool
-        requires { reader.now.gate ≡ self.now.group.gate }
+        requires { reader.now.group ≡ self.now.group.id }
         ensures { (key_of : Member → Member) (events : List Event) → IsRegistryAfter R.gives key_of events registry.now
             → After self.now (λ made e. IsTrue result ↔ IsReady key_of (views_of made e) events reader.now.generation backend.now) }
     {
@@ -311,7 +332,7 @@ impl<S: BackendSelection> GroupCore<S> {
     ///
     /// The reader, where its slot counts no reader of its generation. Nothing changes then.
     pub fn leave(&mut self, reader: Reader<S>) -> Result<(), Reader<S>>
-        requires { reader.gate ≡ self.old.group.gate }
+        requires { reader.group ≡ self.old.group.id }
         ensures answers { After self.old (λ made e. Leaves made (group_events e) reader result) }
         ensures stands { Becomes self.old (in_group (done_at reader.slot (Left reader.generation) result)) self.new }
         ensures site { SameSite self.old self.new }
@@ -329,7 +350,7 @@ impl<S: BackendSelection> GroupCore<S> {
         ensures answers { After self.old (λ made e. Takes made (group_events e) slot result) }
         ensures stands { Becomes self.old (in_group (done_at slot TakenOut result)) self.new }
         ensures site { SameSite self.old self.new }
-        ensures own { IfOk result (λ r. r.permit ≡ self.new.group.gate) }
+        ensures own { IfOk result (λ r. (r.group ≡ self.new.group.id) × (r.slot ≡ slot) × (r.permit ≡ self.new.group.gate)) }
     {
         self.group.take_retired(slot)
     }
@@ -343,11 +364,12 @@ impl<S: BackendSelection> GroupCore<S> {
     pub fn destroyed<R: KeyRule + Drop>(
         &mut self,
         slot: usize,
-        permit: Permit,
+        permit: OwedPermit,
         registry: &mut Registry<R>,
         gate: &mut GateCore,
-    ) -> Result<(), Permit>
-        requires permit { permit ≡ self.old.group.gate }
+    ) -> Result<(), OwedPermit>
+        requires own { (permit.group ≡ self.old.group.id) × (permit.slot ≡ slot) }
+        requires permit { permit.gate ≡ self.old.group.gate }
         requires gate { gate.old.id ≡ self.old.group.gate }
         ensures answers { After self.old (λ made e. Reports made (group_events e) slot permit result) }
         ensures stands { Becomes self.old (in_group (done_at slot Destroyed result)) self.new }
@@ -369,21 +391,66 @@ impl<S: BackendSelection> GroupCore<S> {
         Ok(())
     }
 
-    /// Selects from what a slot serves, as `lb_group::group::GroupCore::select` does.
-    pub fn select(
+    /// Selects from what a slot serves: the first that is ready, in the snapshot of the generation that is served, of the distinct
+    /// backends among the first `limit` candidates of the selector's walk for `key`. Tickets, random words, loads, refusals and a slot
+    /// that is not there are as for a group alone. For readiness it takes no memory.
+    pub fn select<R: KeyRule + Drop>(
         &mut self,
         alloc: Global,
+        registry: &Registry<R>,
         slot: usize,
         key: &[u8],
         limit: usize,
         random: &[u64],
+        loads: &Loads,
     ) -> Selection
-        ensures answers { After self.old (λ made e.
-            SelectsIn S.may_draw_random S.walks made (group_events e) slot key.now limit random.now result) }
+        ensures answers { (key_of : Member → Member) (events : List Event) → IsRegistryAfter R.gives key_of events registry.now
+            → After self.old (λ made e. SelectsIn S.may_draw_random S.walks
+            (Judges key_of events made e (served_at slot e)) (load_in loads.now)
+            made (group_events e) slot key.now limit random.now result) }
         ensures stands { After self.old (λ made e. Stands made (after_select made slot result e) self.new) }
         ensures site { SameSite self.old self.new }
     {
-        self.group.select(alloc, slot, key, limit, random)
+        self.select_with(
+            alloc,
+            registry,
+            slot,
+            key,
+            limit,
+            random,
+            loads,
+            &ready_ones,
+        )
+    }
+
+    /// Selects as `select`, but the first for which `accept` answers true, when it is asked with a backend and whether it is ready.
+    pub fn select_with<R: KeyRule + Drop, F: Fn(&Backend, bool) -> bool>(
+        &mut self,
+        alloc: Global,
+        registry: &Registry<R>,
+        slot: usize,
+        key: &[u8],
+        limit: usize,
+        random: &[u64],
+        loads: &Loads,
+        accept: &F,
+    ) -> Selection
+        requires { F.IsAlwaysCallable accept.now }
+        ensures answers { (key_of : Member → Member) (events : List Event) → IsRegistryAfter R.gives key_of events registry.now
+            → After self.old (λ made e. SelectsIn S.may_draw_random S.walks
+            (AcceptsBy F.Fn accept.now (Judges key_of events made e (served_at slot e))) (load_in loads.now)
+            made (group_events e) slot key.now limit random.now result) }
+        ensures stands { After self.old (λ made e. Stands made (after_select made slot result e) self.new) }
+        ensures site { SameSite self.old self.new }
+    {
+        let served = self.group.served(slot).unwrap_or(0);
+        let view = &self.view;
+        let judged = |backend: &Backend| -> bool
+            requires { F.IsAlwaysCallable accept.now }
+            ensures { AcceptsBy F.Fn accept.entry.now (IsJudged R.gives view.entry.now registry.entry.now served) backend.entry.now result }
+        { accept(backend, view.ready_in(registry, served, backend)) };
+        self.group
+            .select_with(alloc, slot, key, limit, random, loads, &judged)
     }
 
     /// Enables or disables a backend that a living snapshot lists, by identity; another is left alone. It takes no memory.
@@ -476,4 +543,11 @@ fn hold_first(view: &mut ViewCore, slots: usize)
     for _ in 0..slots {
         view.hold(0);
     }
+}
+
+// Accepts what is ready.
+fn ready_ones(_backend: &Backend, ready: bool) -> bool
+    ensures { result ≡ ready }
+{
+    ready
 }

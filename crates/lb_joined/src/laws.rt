@@ -1,20 +1,22 @@
 //! What holds of every history of a group that is joined with its view: laws over definitions alone, each a function whose
 //! contract is the law.
-ghost use Rattle.std.specs.Prelude.{◌≡◌, ◌<◌, ◌∷◌, ℕ};
+ghost use Rattle.std.specs.Prelude.{◌≡◌, ◌⊎◌, ◌<◌, ◌∷◌, ℕ};
 ghost use Rattle.lb_group.specs.GroupHistory.{IsGroupHistory, past_of, newest, readers};
 ghost use Rattle.lb_joined.specs.JoinedHistory.{History, group_events};
-ghost use Rattle.lb_joined.specs.JoinedLaws.{IsInUse, IsLive, IsShown};
+ghost use Rattle.lb_joined.specs.JoinedLaws.{IsInSomeSlot, IsInUse, IsLive, IsShown};
 
 /// The view is at the group's newest generation, and has its membership.
 pub fn views_follow()
     ensures { (k : ℕ) (e : History) → IsShown k e }
 {}
 
-/// The snapshot of a generation lives as long as some slot serves it, has it in a flight or a lost flight, or has a retired selector
-/// of it that is not yet reported destroyed.
+/// The snapshot of a generation lives while it is the newest, or some slot serves it, has it in a flight or a lost flight, or has a
+/// retired selector of it that is not yet reported destroyed; and it lives no longer.
 pub fn snapshots_live()
     ensures used { (k slot n : ℕ) (e : History) → IsGroupHistory (group_events e) → slot < k → IsInUse slot n e → IsLive k n e }
     ensures newest { (k : ℕ) (e : History) → IsGroupHistory (group_events e) → IsLive k (newest (group_events e)) e }
     ensures read { (k slot n : ℕ) (e : History) → IsGroupHistory (group_events e) → slot < k
         → 0 < readers n (past_of slot (group_events e)) → IsLive k n e }
+    ensures ends { (k n : ℕ) (e : History) → IsGroupHistory (group_events e) → IsLive k n e
+        → (n ≡ newest (group_events e)) ⊎ IsInSomeSlot k n e }
 {}

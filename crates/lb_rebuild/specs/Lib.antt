@@ -3,6 +3,7 @@ pub mod Fresh
 pub mod Gate
 pub mod GateRule
 pub mod Groups
+pub mod Identity
 pub mod Kept
 pub mod Memberships
 pub mod Selecting

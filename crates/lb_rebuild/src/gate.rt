@@ -120,7 +120,7 @@ impl Permit {
 }
 
 // A seat owns three quarters of its record under its table's name and its own number, so two seats of one number are of different tables.
-fn seats_apart<S, V>(a: &mut Seat<S, V>, b: &mut Seat<S, V>)
+pub(crate) fn seats_apart<S, V>(a: &mut Seat<S, V>, b: &mut Seat<S, V>)
     requires { a.old.id ≡ b.old.id }
     ensures { (a.old.table_id ≢ b.old.table_id) × (a.new ≡ a.old) × (b.new ≡ b.old) }
 {}

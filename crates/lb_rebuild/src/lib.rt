@@ -7,6 +7,7 @@ mod close;
 pub mod gate;
 mod gate_rule;
 pub mod group;
+pub mod identity;
 pub mod job;
 pub mod schedule;
 pub mod slot;

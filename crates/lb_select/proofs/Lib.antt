@@ -7,4 +7,5 @@ pub mod LoadTables
 pub mod SameBackends
 pub mod Searches
 pub mod SelectionLaws
+pub mod SelectionsSeen
 pub mod Turns

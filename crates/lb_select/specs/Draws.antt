@@ -56,3 +56,9 @@ abbrev pub HandedGives : HandedValue → Draw → HandedValue → Type 0
 HandedGives a (ticket w) b = (w ≡ a.tickets) × (b.tickets ≡ (a.tickets + 1) % 2 ^ 64) × (b.words ≡ a.words)
 HandedGives a (random w) b = TakesFirst a.words w b.words × (b.tickets ≡ a.tickets)
 HandedGives a (load m l) b = (l ≡ 0) × (b ≡ a)
+
+-- the same words, with loads that no draw changes
+abbrev pub LoadedGives : (Member → ℕ) → HandedValue → Draw → HandedValue → Type 0
+LoadedGives load_by a (ticket w) b = HandedGives a (ticket w) b
+LoadedGives load_by a (random w) b = HandedGives a (random w) b
+LoadedGives load_by a (load m l) b = (l ≡ load_by m) × (b ≡ a)

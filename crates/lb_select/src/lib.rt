@@ -7,6 +7,7 @@ pub mod algorithms;
 pub mod backend;
 pub mod causes;
 pub mod laws;
+pub mod loads;
 pub mod refusal;
 mod seen;
 pub mod select;

@@ -7,11 +7,11 @@ ghost use Rattle.lb_select.specs.Loads.{load_in, SetsLoad};
 ghost use Rattle.lb_select.specs.declared.refusal.Refusal.TheVariants.{OutOfMemory};
 
 use crate::backend::Backend;
+use crate::loads::Loads;
 use crate::refusal::Refusal;
 use rand_core::Rng;
 use rand_pcg::Pcg64;
 use std::alloc::Global;
-use std::collections::BTreeMap;
 use std::marker::Model;
 use std::sync::atomic::{AtomicU64, Ordering};
 use std::sync::{Mutex, Wait};
@@ -40,8 +40,7 @@ pub trait WordSource {
 pub struct CoreWords<R: Drop> {
     pub tickets: u64,
     pub generator: R,
-    // the loads that were set, once there is one
-    loads: Option<BTreeMap<Backend, u64>>,
+    pub loads: Loads,
 }
 
 impl<R: Rng + Drop> CoreWords<R> {
@@ -54,7 +53,7 @@ impl<R: Rng + Drop> CoreWords<R> {
         CoreWords {
             tickets: 0,
             generator,
-            loads: None,
+            loads: Loads::new(),
         }
     }
 
@@ -65,15 +64,7 @@ impl<R: Rng + Drop> CoreWords<R> {
         ensures tickets { self.new.tickets ≡ self.old.tickets }
         ensures generator { self.new.generator ≡ self.old.generator }
     {
-        let identity = backend.clone_identity(alloc)?;
-        let mut loads = match self.loads.take() {
-            Some(loads) => loads,
-            None => BTreeMap::new(alloc),
-        };
-        let inserted = loads.insert(identity, load);
-        self.loads = Some(loads);
-        inserted?;
-        Ok(())
+        self.loads.set(alloc, backend, load)
     }
 }
 
@@ -91,10 +82,7 @@ impl<R: Rng + Drop> WordSource for CoreWords<R> {
     }
 
     fn load(&self, backend: &Backend) -> u64 {
-        match &self.loads {
-            Some(loads) => loads.get(backend).copied().unwrap_or(0),
-            None => 0,
-        }
+        self.loads.get(backend)
     }
 }
 

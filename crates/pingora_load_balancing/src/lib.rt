@@ -14,5 +14,6 @@ pub mod world;
 pub use lb_health::backends::{BackendView, Backends};
 pub use lb_health::registry::HealthRegistry;
 pub use lb_select::backend::{Backend, Ext, InetAddr, SocketAddr};
+pub use lb_select::loads::Loads;
 pub use lb_select::refusal::Refusal;
 pub use lb_select::words::{CoreWords, HandedWords, LentWords, SharedWords, WordSource};

@@ -3,7 +3,7 @@
 pub use lb_group::answers::{Ask, Counts, Selection, Timing, Told};
 pub use lb_group::job::{Built, FailedBuild, Job};
 pub use lb_group::laws;
-pub use lb_group::retired::{Reader, Retired};
+pub use lb_group::retired::{OwedPermit, Reader, Retired};
 pub use lb_group::schedule::{Scheduled, SlotTurn};
 pub use lb_joined::group::GroupCore;
 pub use lb_joined::laws as snapshot_laws;

@@ -1,3 +1,4 @@
+use Rattle.lb_joined.proofs.Ends.{ends}
 use Rattle.lb_joined.proofs.Holds.{used-live, newest-live, read-live}
 use Rattle.lb_joined.proofs.laws.snapshots_live.Goals as goal
 
@@ -9,3 +10,6 @@ returns-clause-newest c k e all = newest-live k e
 
 pub returns-clause-read : goal.returns-clause-read
 returns-clause-read c = read-live
+
+pub returns-clause-ends : goal.returns-clause-ends
+returns-clause-ends c = ends

@@ -1,17 +1,16 @@
 -- Every slot stands as before.
-use Rattle.std.proofs.Common.{refl}
-use Rattle.lb_group.proofs.GroupSteps.{site-of}
+use Rattle.std.proofs.Common.{}
+use Rattle.lb_group.proofs.GroupSteps.{stays, site-of}
 use Rattle.lb_group.proofs.Memberships.{stops}
 use Rattle.lb_group.proofs.group.GroupCore.cancel.Goals as goal
 
 pub invariant_of-self : goal.invariant_of-self
 invariant_of-self g c =
-    let p = c.self.invariant in
-    (p.0, (_, stops p.0 p.1.0 _ _ _ _ _ _ _ refl p.1.1))
+    stays c.self.invariant c.self.view_is (λ made h s. stops made h _ _ _ _ _ _ _ _ c.self.view_is s)
 
 pub returns-clause-stands : goal.returns-clause-stands
 returns-clause-stands g c made h s =
-    stops made h _ _ _ _ _ _ _ c.self.view_is s
+    stops made h _ _ _ _ _ _ _ _ c.self.view_is s
 
 pub returns-clause-site : goal.returns-clause-site
-returns-clause-site g c = site-of _ _ _ _ c.self.invariant c.self.view_is (returns-clause-stands g c)
+returns-clause-site g c = site-of c.self.invariant c.self.view_is (returns-clause-stands g c)

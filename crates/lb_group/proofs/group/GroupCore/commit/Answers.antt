@@ -1,20 +1,16 @@
 -- Each slot has its order, of the generation that is the newest from then on.
-use Rattle.std.proofs.Common.{subst}
-use Rattle.lb_group.specs.Stands.{StandsFor}
-use Rattle.lb_group.specs.Values.{GroupValue}
-use Rattle.lb_group.proofs.GroupSteps.{site-of}
+use Rattle.lb_group.proofs.GroupSteps.{stays, site-of}
 use Rattle.lb_group.proofs.Memberships.{commits}
 use Rattle.lb_group.proofs.group.GroupCore.commit.Goals as goal
 
 pub invariant_of-self : goal.invariant_of-self
 invariant_of-self g c =
-    let p = c.self.invariant in
-    let s : StandsFor p.0 p.1.0 c.args.self.now = subst (λ (v : GroupValue g.row.S-Config.Denot). StandsFor p.0 p.1.0 v) c.self.view_is p.1.1 in
-    (p.0, (_, commits p.0 p.1.0 _ _ _ _ _ _ c.args.now _ c.self.inside.slots.items c.hand_out.new.slots.items _ _ c.args.self.now c.args.prepared c.self.view_is c.prepared.view_is c.requires s c.hand_out.ensures))
+    stays c.self.invariant c.self.view_is (λ made h s.
+    commits made h _ _ _ _ _ _ _ c.args.now _ c.self.inside.slots.items c.hand_out.new.slots.items _ _ c.args.self.now c.args.prepared c.self.view_is c.prepared.view_is c.requires s c.hand_out.ensures)
 
 pub returns-clause-stands : goal.returns-clause-stands
 returns-clause-stands g c made h s =
-    commits made h _ _ _ _ _ _ c.args.now _ c.self.inside.slots.items c.hand_out.new.slots.items _ _ c.args.self.now c.args.prepared c.self.view_is c.prepared.view_is c.requires s c.hand_out.ensures
+    commits made h _ _ _ _ _ _ _ c.args.now _ c.self.inside.slots.items c.hand_out.new.slots.items _ _ c.args.self.now c.args.prepared c.self.view_is c.prepared.view_is c.requires s c.hand_out.ensures
 
 pub returns-clause-site : goal.returns-clause-site
-returns-clause-site g c = site-of _ _ _ _ c.self.invariant c.self.view_is (returns-clause-stands g c)
+returns-clause-site g c = site-of c.self.invariant c.self.view_is (returns-clause-stands g c)

@@ -1,47 +1,44 @@
 -- The slot of the report is put back in its place.
-use Rattle.std.proofs.Common.{arith, ◌≤◌, ◌∙◌, sym, true, false, refl, length}
-use Rattle.lb_group.proofs.Pasts.{lt-false}
-use Rattle.lb_group.proofs.GroupSteps.{facing, count-is, site-of}
+use Rattle.std.proofs.Common.{arith, ◌∙◌, sym, true, false, refl}
+use Rattle.lb_group.proofs.GroupSteps.{facing, beyond, stays, site-of}
 use Rattle.lb_group.proofs.CallSteps.{owed-at, reported-stands}
 use Rattle.lb_group.proofs.group.GroupCore.destroyed.Goals as goal
 
 pub returns-then-slot-len-clause-answers : goal.returns-then-slot-len-clause-answers
 returns-then-slot-len-clause-answers g c made h s =
-    let few : length made.configs ≤ c.args.slot = omega (arith, count-is made h _ _ _ _ _ _ _ c.self.view_is s) in
-    (rw (lt-false c.args.slot (length made.configs) few) refl, refl)
+    (rw (beyond _ c.args.slot c.self.view_is (omega arith) s) refl, refl)
 
 pub invariant_of-self : goal.invariant_of-self
 invariant_of-self g c =
-    let p = c.self.invariant in
-    let none = c.if-not-report.true in
-    let f = facing p.0 p.1.0 _ _ _ _ _ _ c.args.slot c.index_mut.result.now c.report.new.self _ refl (omega arith) c.index_mut.ensures.value p.1.1 in
-    (p.0, (p.1.0, f.same (rw none at c.report.ensures.slot)))
+    stays c.self.invariant c.self.view_is (λ made h s.
+    let f = facing c.args.slot c.index_mut.result.now c.report.new.self c.self.view_is (omega arith) c.index_mut.ensures.value s in
+    f.same (rw c.if-not-report.true at c.report.ensures.slot))
 
 pub returns-then-not-report-clause-answers : goal.returns-then-not-report-clause-answers
 returns-then-not-report-clause-answers g c made h s =
-    let f = facing made h _ _ _ _ _ _ c.args.slot c.index_mut.result.now c.report.new.self c.args.self.now c.self.view_is (omega arith) c.index_mut.ensures.value s in
+    let f = facing c.args.slot c.index_mut.result.now c.report.new.self c.self.view_is (omega arith) c.index_mut.ensures.value s in
     (owed-at f false (sym c.report.ensures.out ∙ c.if-not-report.true), refl)
 
 pub returns-then-not-report-clause-stands : goal.returns-then-not-report-clause-stands
 returns-then-not-report-clause-stands g c made h s =
-    let f = facing made h _ _ _ _ _ _ c.args.slot c.index_mut.result.now c.report.new.self c.args.self.now c.self.view_is (omega arith) c.index_mut.ensures.value s in
+    let f = facing c.args.slot c.index_mut.result.now c.report.new.self c.self.view_is (omega arith) c.index_mut.ensures.value s in
     f.same (rw c.if-not-report.true at c.report.ensures.slot)
 
 pub invariant_of-self-2 : goal.invariant_of-self-2
 invariant_of-self-2 g c =
-    let p = c.self.invariant in
-    (p.0, (_, reported-stands (facing p.0 p.1.0 _ _ _ _ _ _ c.args.slot c.index_mut.result.now c.report.new.self _ refl (omega arith) c.index_mut.ensures.value p.1.1) (sym c.report.ensures.out ∙ c.if-not-report.false) (rw c.if-not-report.false at c.report.ensures.slot)))
+    stays c.self.invariant c.self.view_is (λ made h s.
+    reported-stands (facing c.args.slot c.index_mut.result.now c.report.new.self c.self.view_is (omega arith) c.index_mut.ensures.value s) (sym c.report.ensures.out ∙ c.if-not-report.false) (rw c.if-not-report.false at c.report.ensures.slot))
 
 pub returns-clause-answers : goal.returns-clause-answers
 returns-clause-answers g c made h s =
-    owed-at (facing made h _ _ _ _ _ _ c.args.slot c.index_mut.result.now c.report.new.self c.args.self.now c.self.view_is (omega arith) c.index_mut.ensures.value s) true (sym c.report.ensures.out ∙ c.if-not-report.false)
+    owed-at (facing c.args.slot c.index_mut.result.now c.report.new.self c.self.view_is (omega arith) c.index_mut.ensures.value s) true (sym c.report.ensures.out ∙ c.if-not-report.false)
 
 pub returns-clause-stands : goal.returns-clause-stands
 returns-clause-stands g c made h s =
-    reported-stands (facing made h _ _ _ _ _ _ c.args.slot c.index_mut.result.now c.report.new.self c.args.self.now c.self.view_is (omega arith) c.index_mut.ensures.value s) (sym c.report.ensures.out ∙ c.if-not-report.false) (rw c.if-not-report.false at c.report.ensures.slot)
+    reported-stands (facing c.args.slot c.index_mut.result.now c.report.new.self c.self.view_is (omega arith) c.index_mut.ensures.value s) (sym c.report.ensures.out ∙ c.if-not-report.false) (rw c.if-not-report.false at c.report.ensures.slot)
 
 pub returns-clause-site : goal.returns-clause-site
-returns-clause-site g c = site-of _ _ _ _ c.self.invariant c.self.view_is (returns-clause-stands g c)
+returns-clause-site g c = site-of c.self.invariant c.self.view_is (returns-clause-stands g c)
 
 pub returns-then-not-report-clause-site : goal.returns-then-not-report-clause-site
-returns-then-not-report-clause-site g c = site-of _ _ _ _ c.self.invariant c.self.view_is (returns-then-not-report-clause-stands g c)
+returns-then-not-report-clause-site g c = site-of c.self.invariant c.self.view_is (returns-then-not-report-clause-stands g c)

@@ -11,11 +11,11 @@ use Rattle.lb_group.proofs.group.GroupCore.is_waiting.Goals as goal
 
 pub returns-then-slot-len : goal.returns-then-slot-len
 returns-then-slot-len g c made h s =
-    rw (lt-false _ _ (let few : length made.configs ≤ c.args.slot = omega (arith, count-is made h _ _ _ _ _ _ _ c.self.view_is s) in few)) refl
+    rw (lt-false _ _ (let few : length made.configs ≤ c.args.slot = omega (arith, count-is _ c.self.view_is s) in few)) refl
 
 pub returns : goal.returns
 returns g c made h s =
-    let f = facing made h _ _ _ _ _ _ c.args.slot c.index.result.now c.index.result.now c.args.self.now c.self.view_is (omega arith) c.index.ensures s in
+    let f = facing c.args.slot c.index.result.now c.index.result.now c.self.view_is (omega arith) c.index.ensures s in
     shown f _ _
     (c.waits.ensures ∙ ap (λ (z : SlotValue g.row.S-Config.Denot). slot_waits c.self.inside.newest z) f.slot
     ∙ ap (λ (n : ℕ). nat_lt (max (served (past_of c.args.slot h)) (flight_number (extra (past_of c.args.slot h)))) n) f.newest_is)

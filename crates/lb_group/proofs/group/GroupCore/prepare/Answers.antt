@@ -18,7 +18,7 @@ returns-clause-answers g c made h s =
     let turns : c.in_ok-turns.turns.items ≡ map (λ (x : _). turn_of n (slot_value x)) xs = rw (← c.deref-2.ensures.value) c.in_ok-turns.ensures in
     let other : same_members c.args.discovered.now.keys (arc_value c.self.inside.current).keys ≡ false =
     ap (λ (t : _). same_members c.args.discovered.now.keys t.keys) (sym c.deref.ensures) ∙ sym c.same_members.ensures ∙ c.if-same_members.false in
-    let is = changes made h _ n _ _ c.args.discovered.now.keys _ _ xs c.args.self.now _ c.self.view_is s next c.in-Some.ensures.0 c.if-self-2.false other turns in
+    let is = changes made h _ _ n _ _ c.args.discovered.now.keys _ _ xs c.args.self.now _ c.self.view_is s next c.in-Some.ensures.0 c.if-self-2.false other turns in
     let members : (arc_value c.in_ok-members.members).keys ≡ c.args.discovered.now.keys = c.in_ok-members.ensures in
     (is.0, sym is.1, (rw (← is.1) at is.2), members, (rw (← is.1) at is.3))
 

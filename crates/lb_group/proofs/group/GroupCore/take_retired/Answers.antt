@@ -1,35 +1,30 @@
 -- The slot is put back in its place.
-use Rattle.std.proofs.Common.{arith, refl, length, ◌≤◌, subst}
-use Rattle.lb_group.specs.Values.{GroupValue}
-use Rattle.lb_group.specs.Stands.{StandsFor}
-use Rattle.lb_group.proofs.GroupSteps.{facing, count-is, site-of}
+use Rattle.std.proofs.Common.{arith, refl}
+use Rattle.lb_group.proofs.GroupSteps.{facing, beyond, known, stays, place-made, site-of}
 use Rattle.lb_group.proofs.CallSteps.{takes, taken-own}
-use Rattle.lb_group.proofs.Pasts.{lt-false}
 use Rattle.lb_group.proofs.group.GroupCore.take_retired.Goals as goal
 
 pub returns-then-slot-len-clause-answers : goal.returns-then-slot-len-clause-answers
 returns-then-slot-len-clause-answers g c made h s =
-    let few : length made.configs ≤ c.args.slot = omega (arith, count-is made h _ _ _ _ _ _ _ c.self.view_is s) in
-    rw (lt-false c.args.slot (length made.configs) few) refl
+    rw (beyond _ c.args.slot c.self.view_is (omega arith) s) refl
 
 pub invariant_of-self : goal.invariant_of-self
 invariant_of-self g c =
-    let p = c.self.invariant in
-    (p.0, (_, (takes (facing p.0 p.1.0 _ _ _ _ _ _ c.args.slot c.index_mut.result.now c.take_retired.new.self _ refl (omega arith) c.index_mut.ensures.value p.1.1) c.take_retired.result c.take_retired.ensures).1))
+    stays c.self.invariant c.self.view_is (λ made h s.
+    (takes (facing c.args.slot c.index_mut.result.now c.take_retired.new.self c.self.view_is (omega arith) c.index_mut.ensures.value s) c.place-place.result c.take_retired.result (place-made c.place-place.ensures s) c.take_retired.ensures).1)
 
 pub returns-clause-answers : goal.returns-clause-answers
 returns-clause-answers g c made h s =
-    (takes (facing made h _ _ _ _ _ _ c.args.slot c.index_mut.result.now c.take_retired.new.self c.args.self.now c.self.view_is (omega arith) c.index_mut.ensures.value s) c.take_retired.result c.take_retired.ensures).0
+    (takes (facing c.args.slot c.index_mut.result.now c.take_retired.new.self c.self.view_is (omega arith) c.index_mut.ensures.value s) c.place-place.result c.take_retired.result (place-made c.place-place.ensures s) c.take_retired.ensures).0
 
 pub returns-clause-stands : goal.returns-clause-stands
 returns-clause-stands g c made h s =
-    (takes (facing made h _ _ _ _ _ _ c.args.slot c.index_mut.result.now c.take_retired.new.self c.args.self.now c.self.view_is (omega arith) c.index_mut.ensures.value s) c.take_retired.result c.take_retired.ensures).1
+    (takes (facing c.args.slot c.index_mut.result.now c.take_retired.new.self c.self.view_is (omega arith) c.index_mut.ensures.value s) c.place-place.result c.take_retired.result (place-made c.place-place.ensures s) c.take_retired.ensures).1
 
 pub returns-clause-site : goal.returns-clause-site
-returns-clause-site g c = site-of _ _ _ _ c.self.invariant c.self.view_is (returns-clause-stands g c)
+returns-clause-site g c = site-of c.self.invariant c.self.view_is (returns-clause-stands g c)
 
 pub returns-clause-own : goal.returns-clause-own
 returns-clause-own g c =
-    let p = c.self.invariant in
-    let s : StandsFor p.0 p.1.0 c.args.self.now = subst (λ (w : GroupValue g.row.S-Config.Denot). StandsFor p.0 p.1.0 w) c.self.view_is p.1.1 in
-    taken-own p.0 p.1.0 _ c.args.slot c.take_retired.result _ (returns-clause-stands g c p.0 p.1.0 s) (returns-clause-answers g c p.0 p.1.0 s)
+    known c.self.invariant c.self.view_is (λ made h s.
+    taken-own made h _ c.args.slot c.take_retired.result _ (returns-clause-stands g c made h s) (returns-clause-answers g c made h s))

@@ -1,16 +1,15 @@
 -- The slot is one of the list.
-use Rattle.std.proofs.Common.{arith, ap, ◌≤◌, length, refl}
+use Rattle.std.proofs.Common.{arith, ap, refl}
 use Rattle.lb_group.specs.Values.{SlotValue}
-use Rattle.lb_group.proofs.GroupSteps.{facing, count-is}
+use Rattle.lb_group.proofs.GroupSteps.{facing, beyond}
 use Rattle.lb_group.proofs.CallSteps.{shown}
-use Rattle.lb_group.proofs.Pasts.{lt-false}
 use Rattle.lb_group.proofs.group.GroupCore.timing.Goals as goal
 
 pub returns-then-slot-len : goal.returns-then-slot-len
 returns-then-slot-len g c made h s =
-    rw (lt-false _ _ (let few : length made.configs ≤ c.args.slot = omega (arith, count-is made h _ _ _ _ _ _ _ c.self.view_is s) in few)) refl
+    rw (beyond _ c.args.slot c.self.view_is (omega arith) s) refl
 
 pub returns : goal.returns
 returns g c made h s =
-    let f = facing made h _ _ _ _ _ _ c.args.slot c.index.result.now c.index.result.now c.args.self.now c.self.view_is (omega arith) c.index.ensures s in
+    let f = facing c.args.slot c.index.result.now c.index.result.now c.self.view_is (omega arith) c.index.ensures s in
     shown f _ _ (ap (λ (z : SlotValue g.row.S-Config.Denot). z.timing) f.slot)

@@ -1,14 +1,13 @@
--- The view does not see it.
-use Rattle.std.proofs.Common.{refl}
-use Rattle.lb_group.specs.GroupCalls.{select_events}
-use Rattle.lb_joined.proofs.Joins.{joined-still, still-selected}
+-- What is asked answers as it is told.
+use Rattle.lb_select.specs.Loads.{load_in}
+use Rattle.lb_joined.specs.JoinedCalls.{served_at, Judges}
+use Rattle.lb_joined.specs.JoinedHistory.{group_events}
+use Rattle.lb_joined.proofs.Judging.{told-in-more}
 use Rattle.lb_joined.proofs.group.GroupCore.select.Goals as goal
 
-pub invariant_of-self : goal.invariant_of-self
-invariant_of-self g c =
-    let p = c.self.invariant in
-    (p.0, (_, joined-still p.0 p.1.0 (select_events p.0 c.args.slot c.select.result) _ _ _ _ refl p.1.1 (c.select.ensures.stands p.0) (still-selected p.0 c.args.slot c.select.result p.1.0)))
-
-pub returns-clause-stands : goal.returns-clause-stands
-returns-clause-stands g c made e s =
-    joined-still made e (select_events made c.args.slot c.select.result) _ _ _ _ c.self.view_is s (c.select.ensures.stands made) (still-selected made c.args.slot c.select.result e)
+pub returns-clause-answers : goal.returns-clause-answers
+returns-clause-answers g c key_of events registry made e s =
+    told-in-more (Judges key_of events made e (served_at c.args.slot e)) g.S.BackendSelection.may_draw_random g.S.BackendSelection.walks (load_in c.args.loads.now) made (group_events e)
+    c.args.slot c.args.key.now c.args.limit c.args.random.now c.select_with.result
+    (c.select_with.ensures.answers key_of events registry made e s)
+    (λ p told a is. is.met)

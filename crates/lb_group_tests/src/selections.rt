@@ -1,0 +1,131 @@
+//! Selections of groups as calls: which backend comes by readiness, by what accepts, and by loads.
+//! The weight tells which backend it is.
+use crate::joined::{joined_of_one, rebuilt};
+use lb_group::answers::Selection;
+use lb_group::group::GroupCore;
+use lb_health::view::Settings;
+use lb_joined::group;
+use lb_rebuild::gate::GateCore;
+use lb_registry::registry::RegistryCore;
+use lb_select::backend::Backend;
+use lb_select::loads::Loads;
+use lb_select::refusal::Refusal;
+use lb_weighted::least::LeastConnections;
+use lb_weighted::selection::RoundRobin;
+use std::alloc::Global;
+use std::collections::BTreeSet;
+use std::test::Fail;
+
+// One backend of each weight from 1 on.
+fn by_weight(alloc: Global, count: u8) -> Result<BTreeSet<Backend>, Refusal> {
+    let mut set = BTreeSet::new(alloc);
+    for weight in 1..=count {
+        set.insert(one(alloc, weight)?)?;
+    }
+    Ok(set)
+}
+
+// The backend of that weight.
+fn one(alloc: Global, weight: u8) -> Result<Backend, Refusal> {
+    let addr = format!(in alloc; "1.0.0.{weight}:80")?;
+    Backend::new_with_weight(alloc, addr.as_str(), usize::from(weight))
+}
+
+// The weight of the backend that was selected, and how many words were drawn.
+fn told(selection: Selection) -> Result<(Option<usize>, u64), Refusal> {
+    let found = selection.answer?;
+    Ok((found.map(|backend| backend.weight), selection.drawn))
+}
+
+// Selects from slot 0 by readiness.
+fn selected(
+    alloc: Global,
+    group: &mut group::GroupCore<RoundRobin>,
+    registry: &RegistryCore,
+) -> Result<(Option<usize>, u64), Refusal> {
+    told(group.select(alloc, registry, 0, b"", 16, &[], &Loads::new()))
+}
+
+// The first ready one is selected; what accepts is asked with each backend and whether it is ready.
+#[test]
+fn ready_ones_are_selected(rt: HostRuntime) -> Result<(), Fail> {
+    let alloc = rt.alloc();
+    let mut registry = RegistryCore::new(alloc);
+    let mut gate = GateCore::new(alloc)?;
+    let mut group = joined_of_one(alloc, &mut registry, &gate)?;
+    assert_eq!(rt; selected(alloc, &mut group, &registry)?, (None, 1));
+    let set = by_weight(alloc, 2)?;
+    group.schedule(alloc, &mut registry, set, Settings::new(alloc), 0)?;
+    rebuilt(alloc, &mut group, &mut gate, 0)?;
+    assert_eq!(rt; selected(alloc, &mut group, &registry)?, (Some(1), 1));
+    group.set_enable(&one(alloc, 2)?, false);
+    // Ticket 1 is of the second by weight, ticket 2 of the first by rank.
+    assert_eq!(rt; selected(alloc, &mut group, &registry)?, (Some(1), 2));
+    let loads = Loads::new();
+    let idle = group.select_with(
+        alloc,
+        &registry,
+        0,
+        b"",
+        16,
+        &[],
+        &loads,
+        &|_backend: &Backend, ready: bool| !ready,
+    );
+    assert_eq!(rt; idle.tickets, 5);
+    assert_eq!(rt; told(idle)?, (Some(2), 2));
+    let nowhere = group.select(alloc, &registry, 1, b"", 16, &[], &loads);
+    assert_eq!(rt; told(nowhere)?, (None, 0));
+    Ok(())
+}
+
+// A selector is judged by the snapshot that it was built from, with the cells and flags as they are now.
+#[test]
+fn served_generation_judges(rt: HostRuntime) -> Result<(), Fail> {
+    let alloc = rt.alloc();
+    let mut registry = RegistryCore::new(alloc);
+    let mut gate = GateCore::new(alloc)?;
+    let mut group = joined_of_one(alloc, &mut registry, &gate)?;
+    let set = by_weight(alloc, 1)?;
+    group.schedule(alloc, &mut registry, set, Settings::new(alloc), 0)?;
+    rebuilt(alloc, &mut group, &mut gate, 0)?;
+    let none = BTreeSet::new(alloc);
+    group.schedule(alloc, &mut registry, none, Settings::new(alloc), 1)?;
+    assert_eq!(rt; selected(alloc, &mut group, &registry)?, (Some(1), 1));
+    assert_eq!(rt; registry.observe(0, false, 1), Ok(true));
+    assert_eq!(rt; told(group.select(alloc, &registry, 0, b"", 3, &[], &Loads::new()))?, (None, 4));
+    Ok(())
+}
+
+// The least load for each unit of weight comes first, of those that are accepted.
+#[test]
+fn loads_are_lent(rt: HostRuntime) -> Result<(), Fail> {
+    let alloc = rt.alloc();
+    let mut gate = GateCore::new(alloc)?;
+    let mut configs = Vec::new(alloc);
+    configs.push(())?;
+    let mut group: GroupCore<LeastConnections> = GroupCore::new(alloc, &gate, configs)?;
+    let set = by_weight(alloc, 3)?;
+    group.schedule(alloc, set, 0)?;
+    let lb_group::answers::Ask::Job(job) = group.ask(0, &mut gate, 0)? else {
+        return Err(Fail::from(Refusal::NothingInFlight));
+    };
+    let Ok(built) = job.build(alloc, || 0) else {
+        return Err(Fail::from(Refusal::NothingBuilt));
+    };
+    if let Err(built) = group.publish(built) {
+        built.close();
+    }
+    let mut loads = Loads::new();
+    loads.set(alloc, &one(alloc, 1)?, 2)?;
+    loads.set(alloc, &one(alloc, 2)?, 1)?;
+    loads.set(alloc, &one(alloc, 3)?, 9)?;
+    assert_eq!(rt; loads.get(&one(alloc, 3)?), 9);
+    let any = group.select_with(alloc, 0, b"", 16, &[], &loads, &|_backend: &Backend| true);
+    assert_eq!(rt; told(any)?, (Some(2), 0));
+    let odd = group.select_with(alloc, 0, b"", 16, &[], &loads, &|backend: &Backend| {
+        backend.weight != 2
+    });
+    assert_eq!(rt; told(odd)?, (Some(1), 0));
+    Ok(())
+}
