@@ -40,7 +40,6 @@ module _ {C : Type 0} where
   lasting st (answer.Reader t n) a e l = absurd (false-true (ap is_lasting (sym e) ∙ l))
   lasting st (answer.Targets ts) a e l = absurd (false-true (ap is_lasting (sym e) ∙ l))
   lasting (step.load g b load) answer.Done a e l = absurd (false-true (ap is_lasting (sym e) ∙ l))
-  lasting st (answer.Refused r) a e l = absurd (false-true (ap is_lasting (sym e) ∙ l))
   lasting st x a e l = sym e
 
   pub right-is : (st : Step C) (x a : Answer) → (a ≡ x) ⊎ (a ≡ without_memory st x) → is_lasting a ≡ true → x ≡ a

@@ -1,5 +1,5 @@
 -- What single steps do: publications, destructions, and that others stay.
-use Rattle.std.proofs.Common.{◌≡◌, ◌⊎◌, inl, inr, ◌<◌, ◌==◌, ◌&&◌, ◌∙◌, ℕ, Bool, true, false, cond, ◌∷◌, ◌++◌, length, refl, sym, ap, subst, arith}
+use Rattle.std.proofs.Common.{◌≡◌, ◌⊎◌, inl, inr, ◌<◌, ◌==◌, ◌∙◌, ℕ, Bool, true, false, cond, ◌∷◌, ◌++◌, length, refl, sym, ap, subst, arith}
 use Rattle.std.specs.Prelude.{Option, Some, None}
 use Rattle.std.proofs.lemmas.Bool.{ne_eqb, eqb-false}
 use Rattle.std.proofs.lemmas.Option.{slice_get_within}
@@ -17,7 +17,7 @@ use Rattle.lb_history.specs.declared.answer.Answer.TheVariants as answer
 use Rattle.lb_history.specs.Meanings.{Meaning}
 use Rattle.lb_history.specs.History.{History, Made, is_at, config, made, made_at, group_at, work, ended, happened, group_events, past}
 use Rattle.lb_history.specs.Shared.{held_at_first, changed, registry_events, showed, view_events}
-use Rattle.lb_history.specs.Answers.{Answers, IsRun, without_memory, counts_later, is_exhausted, at_one, unless_refused, destroy_refusal}
+use Rattle.lb_history.specs.Answers.{Answers, IsRun, without_memory, at_one, unless_refused, destroy_refusal}
 use Rattle.lb_history.specs.Joined.{joined_after, joined_events}
 use Rattle.lb_history.specs.Promises.{Raises, DestroysExactly, OthersStay}
 use Rattle.lb_history.proofs.Placing.{on-past}
@@ -69,17 +69,13 @@ still-read (group.retired k) p m e =
     let s = still-there (readers k p == 0) (readers k p) m refl e in (k, refl, s.0, s.1)
 still-read (group.taken_out k) p m e = absurd (cc)
 
-later-cause : (b : Bool) (q : Refusal) (m : ℕ) → answer.Refused (refusal.StillRead m) ≡ answer.Refused (cond b refusal.OutOfMemory q) → Some q ≡ Some (refusal.StillRead m)
-later-cause true q m e = absurd (cc)
-later-cause false q m e = cc
-
 told-refusal : {A C : Type 0} (st : Step C) (o : Option A) (r : Option Refusal) (m : ℕ)
     → (answer.Refused (refusal.StillRead m) ≡ at_one o (λ c. unless_refused r answer.Destroyed))
     ⊎ (answer.Refused (refusal.StillRead m) ≡ without_memory st (at_one o (λ c. unless_refused r answer.Destroyed)))
     → r ≡ Some (refusal.StillRead m)
 told-refusal st None r m right = absurd (elim right [ inl e ↦ cc | inr e ↦ cc ])
 told-refusal st (Some c) None m right = absurd (elim right [ inl e ↦ cc | inr e ↦ cc ])
-told-refusal st (Some c) (Some q) m right = elim right [ inl e ↦ cc | inr e ↦ later-cause (is_exhausted q && counts_later st) q m e ]
+told-refusal st (Some c) (Some q) m right = elim right [ inl e ↦ cc | inr e ↦ cc ]
 
 module _ {C : Type 0} (M : Meaning C) where
   pub destroys : (h : History C) (st : Step C) (a : Answer) → IsRun M ((st, a) ∷ h) → DestroysExactly h st a

@@ -5,7 +5,7 @@ use Rattle.std.specs.Prelude.{map, Option, Some, None, is_none, Result, Ok, Err,
 use Rattle.std.specs.List.{list_any}
 use Rattle.lb_select.specs.Backends.{Member, same_member}
 use Rattle.lb_select.specs.Draws.{Draw, HandedValue, LoadedGives}
-use Rattle.lb_select.specs.Refusals.{earlier, least}
+use Rattle.lb_select.specs.Refusals.{earlier, least, memory_apart}
 use Rattle.lb_select.specs.Selections.{Selects}
 use Rattle.lb_select.specs.declared.refusal.Refusal.{Refusal}
 use Rattle.lb_select.specs.declared.refusal.Refusal.TheVariants as refusal
@@ -163,7 +163,7 @@ module _ {C : Type 0} (meaning : Meaning C) where
   answer_after h (step.group r a configs) =
       unless_refused
       (earlier (no_such (nat_lt r (length (registries h)) && nat_lt a (gates h)))
-      (earlier (least (map (meaning.refusal []) configs))
+      (earlier (memory_apart (least (map (meaning.refusal []) configs)))
       (earlier (no_number (registry.registered_after (registry_events r h) + 1))
       (no_number (registry.cells_given (key_at r h) (registry.Applied ∷ registry.Registered ∷ registry_events r h))))))
       (answer.Group (length (made h)))
@@ -221,17 +221,6 @@ module _ {C : Type 0} (meaning : Meaning C) where
   answer_after h (step.timing g s) = at_one (config g s h) (λ c. answer.Timed (group.timing (past g s h)))
   answer_after h (step.load g b load) = at_backend b (at_one (made_at g h) (λ m. answer.Done))
 
--- Steps that may find that no number is left only after they took memory: that memory is refused is the lesser cause.
-abbrev pub counts_later : {C : Type 0} → Step C → Bool
-counts_later (step.group r a configs) = true
-counts_later (step.update g now listings) = true
-counts_later (step.targets r) = true
-counts_later st = false
-
-abbrev pub is_exhausted : Refusal → Bool
-is_exhausted refusal.NumbersExhausted = true
-is_exhausted r = false
-
 -- what comes in its place where memory is refused: nothing else, where the step takes none
 abbrev pub without_memory : {C : Type 0} → Step C → Answer → Answer
 without_memory st (answer.Registry n) = refuse refusal.OutOfMemory
@@ -243,7 +232,6 @@ without_memory st (answer.Built n) = answer.BuildFailed n refusal.OutOfMemory
 without_memory st (answer.Reader t n) = refuse refusal.OutOfMemory
 without_memory st (answer.Targets ts) = refuse refusal.OutOfMemory
 without_memory (step.load g b load) answer.Done = refuse refusal.OutOfMemory
-without_memory st (answer.Refused r) = refuse (if is_exhausted r && counts_later st then refusal.OutOfMemory else r)
 without_memory st a = a
 
 module _ {C : Type 0} (meaning : Meaning C) where
