@@ -7,10 +7,11 @@ use mathlib.Core.Logic.{dite}
 use native.Mathlib.Decide.{ℕ_discrete}
 use Rattle.lb_group.specs.GroupHistory as group
 use Rattle.lb_group.specs.GroupHistory.{At, past_of, readers}
-use Rattle.lb_history.specs.Steps.{Step, Listing}
+use Rattle.lb_history.specs.Steps.{Step}
+use Rattle.lb_history.specs.declared.step.Listing.{Listing}
 use Rattle.lb_history.specs.Steps as step
-use Rattle.lb_history.specs.Replies.{Answer}
-use Rattle.lb_history.specs.Replies as answer
+use Rattle.lb_history.specs.declared.answer.Answer.{Answer}
+use Rattle.lb_history.specs.declared.answer.Answer.TheVariants as answer
 use Rattle.lb_history.specs.Meanings.{Meaning}
 use Rattle.lb_history.specs.History.{History, Made, Entered, Work, idle, building, built, is_at, group_in, slot_in, config_in, config, drew, made, made_at, group_at, works_at, worked, work, happened, group_events, past}
 use Rattle.lb_history.specs.Answers.{IsRun, answer_after, without_memory, has_refused, at_one}

@@ -10,10 +10,11 @@ use Rattle.lb_group.specs.GroupCalls.{is_change, schedule_refusal, is_served}
 use Rattle.lb_group.specs.SlotCalls.{take_refusal}
 use Rattle.lb_group.specs.Stands.{left_readers}
 use Rattle.lb_group.proofs.Telling.{tells}
-use Rattle.lb_history.specs.Steps.{Step, Listing}
+use Rattle.lb_history.specs.Steps.{Step}
+use Rattle.lb_history.specs.declared.step.Listing.{Listing}
 use Rattle.lb_history.specs.Steps as step
-use Rattle.lb_history.specs.Replies.{Answer}
-use Rattle.lb_history.specs.Replies as answer
+use Rattle.lb_history.specs.declared.answer.Answer.{Answer}
+use Rattle.lb_history.specs.declared.answer.Answer.TheVariants as answer
 use Rattle.lb_history.specs.Meanings.{Meaning}
 use Rattle.lb_history.specs.History.{History, Made, Entered, Work, idle, building, built, members_in, made_at, config, entries, work, group_events, past, is_out}
 use Rattle.lb_history.specs.Answers.{Answers, answer_after, without_memory, refuse, unless_refused, at_one, of_job, of_built, built_or_failed, asked, update_answer, lost_answer, flight_of, leave_answer, destroy_refusal, has_refused}

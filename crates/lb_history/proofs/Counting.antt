@@ -11,8 +11,8 @@ use Rattle.lb_group.specs.GroupHistory.{past_of, extra, is_extra, granted, is_re
 use Rattle.lb_group.specs.Laws.{number, extras_from}
 use Rattle.lb_history.specs.Steps.{Step}
 use Rattle.lb_history.specs.Steps as step
-use Rattle.lb_history.specs.Replies.{Answer}
-use Rattle.lb_history.specs.Replies as answer
+use Rattle.lb_history.specs.declared.answer.Answer.{Answer}
+use Rattle.lb_history.specs.declared.answer.Answer.TheVariants as answer
 use Rattle.lb_history.specs.Meanings.{Meaning}
 use Rattle.lb_history.specs.History.{History, Made, building, is_at, config, made, made_at, gate_of, gate_at, slot_gate, gate_in, group_at, group_events, past, is_grant, is_failure, is_destruction, is_out}
 use Rattle.lb_history.specs.Answers.{IsRun}

@@ -7,8 +7,8 @@ use Rattle.lb_group.specs.GroupHistory as group
 use Rattle.lb_group.specs.GroupHistory.{At, past_of, extra, is_extra, is_flight, is_aloft, is_retired_of, generation_of, granted}
 use Rattle.lb_history.specs.Steps.{Step}
 use Rattle.lb_history.specs.Steps as step
-use Rattle.lb_history.specs.Replies.{Answer}
-use Rattle.lb_history.specs.Replies as answer
+use Rattle.lb_history.specs.declared.answer.Answer.{Answer}
+use Rattle.lb_history.specs.declared.answer.Answer.TheVariants as answer
 use Rattle.lb_history.specs.Meanings.{Meaning}
 use Rattle.lb_history.specs.History.{History, Made, Entered, building, built, is_at, members_in, group_in, slot_in, config_in, config, drew, made, made_at, gate_of, gate_at, slot_gate, gate_in, group_at, work, ended, happened, group_events, past, is_grant, is_failure, is_destruction, is_out}
 use Rattle.lb_history.specs.Answers.{IsRun}

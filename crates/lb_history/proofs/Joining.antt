@@ -16,10 +16,11 @@ use Rattle.lb_health.specs.Joined.{IsReady, IsReadyIn}
 use Rattle.lb_group.specs.GroupHistory as group
 use Rattle.lb_group.specs.GroupHistory.{At, newest, members_of}
 use Rattle.lb_group.specs.GroupCalls.{is_change}
-use Rattle.lb_history.specs.Steps.{Step, Listing}
+use Rattle.lb_history.specs.Steps.{Step}
+use Rattle.lb_history.specs.declared.step.Listing.{Listing}
 use Rattle.lb_history.specs.Steps as step
-use Rattle.lb_history.specs.Replies.{Answer}
-use Rattle.lb_history.specs.Replies as answer
+use Rattle.lb_history.specs.declared.answer.Answer.{Answer}
+use Rattle.lb_history.specs.declared.answer.Answer.TheVariants as answer
 use Rattle.lb_history.specs.Meanings.{Meaning}
 use Rattle.lb_history.specs.History.{History, is_at, members_in, config, drew, made, made_at, registry_of, group_at, happened, group_events}
 use Rattle.lb_history.specs.Shared.{settings_in, view_in, key_of, events_in, extra_at, held_at_first, showed, cells_of, view_events}

@@ -19,8 +19,8 @@ use Rattle.lb_group.specs.Laws.{number}
 use Rattle.lb_group.proofs.Pasts.{aloft-fits, newest-past, past-same, past-other}
 use Rattle.lb_history.specs.Steps.{Step}
 use Rattle.lb_history.specs.Steps as step
-use Rattle.lb_history.specs.Replies.{Answer}
-use Rattle.lb_history.specs.Replies as answer
+use Rattle.lb_history.specs.declared.answer.Answer.{Answer}
+use Rattle.lb_history.specs.declared.answer.Answer.TheVariants as answer
 use Rattle.lb_history.specs.Meanings.{Meaning}
 use Rattle.lb_history.specs.History.{History, Made, building, built, is_at, members_in, config_in, config, drew, made, made_at, group_at, work, ended, group_events, past}
 use Rattle.lb_history.specs.Shared.{settings_in, has_extra, holds, holds_from, is_live, extra_at, held_at_first, showed, view_events}

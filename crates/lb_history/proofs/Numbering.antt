@@ -10,8 +10,8 @@ use Rattle.lb_registry.specs.RegistryEvents.{registered_after}
 use Rattle.lb_group.specs.GroupHistory.{newest}
 use Rattle.lb_history.specs.Steps.{Step}
 use Rattle.lb_history.specs.Steps as step
-use Rattle.lb_history.specs.Replies.{Answer}
-use Rattle.lb_history.specs.Replies as answer
+use Rattle.lb_history.specs.declared.answer.Answer.{Answer}
+use Rattle.lb_history.specs.declared.answer.Answer.TheVariants as answer
 use Rattle.lb_history.specs.Meanings.{Meaning}
 use Rattle.lb_history.specs.History.{History, Made, is_at, members_in, over, registries, made, made_at, group_events}
 use Rattle.lb_history.specs.Shared.{started, is_live, configs_in, view_in, let_go, extra_at, registry_at, changed, registry_events}

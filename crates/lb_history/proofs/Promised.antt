@@ -13,8 +13,8 @@ use Rattle.lb_group.proofs.Ledger.{balanced}
 use Rattle.lb_group.proofs.Telling.{bounded, rises, serves-newest, gets-job, has-members}
 use Rattle.lb_history.specs.Steps.{Step}
 use Rattle.lb_history.specs.Steps as step
-use Rattle.lb_history.specs.Replies.{Answer}
-use Rattle.lb_history.specs.Replies as answer
+use Rattle.lb_history.specs.declared.answer.Answer.{Answer}
+use Rattle.lb_history.specs.declared.answer.Answer.TheVariants as answer
 use Rattle.lb_history.specs.Meanings.{Meaning}
 use Rattle.lb_history.specs.History.{History, Entered, is_at, members_in, group_in, slot_in, config, drew, gate_at, slot_gate, entries, group_at, work, ended, happened, group_events, past, is_out}
 use Rattle.lb_history.specs.Answers.{IsRun}

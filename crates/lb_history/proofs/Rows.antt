@@ -6,8 +6,9 @@ use Rattle.lb_select.specs.Backends.{Member, ipv4}
 use Rattle.lb_select.specs.Draws.{Draw}
 use Rattle.lb_select.specs.declared.refusal.Refusal.TheVariants as refusal
 use Rattle.lb_history.specs.Steps as step
-use Rattle.lb_history.specs.Steps.{Listing}
-use Rattle.lb_history.specs.Replies as answer
+use Rattle.lb_history.specs.declared.step.CellKey.TheVariants.{Identity}
+use Rattle.lb_history.specs.declared.step.Listing.{Listing}
+use Rattle.lb_history.specs.declared.answer.Answer.TheVariants as answer
 use Rattle.lb_history.specs.Meanings.{Meaning}
 use Rattle.lb_registry.specs.CellEvents.{is_held}
 use Rattle.lb_registry.specs.RegistryEvents.{cell_events, cell_health}
@@ -35,7 +36,7 @@ module _ {C : Type 0} (walks : List Member → C → List ℕ → List Draw → 
       (step.group 0 0 (c ∷ []), answer.Group 1)
       ∷ (step.group 0 0 (c ∷ []), answer.Group 0)
       ∷ (step.gate, answer.Gate 0)
-      ∷ (step.registry step.identity true, answer.Registry 0)
+      ∷ (step.registry Identity true, answer.Registry 0)
       ∷ []
 
   made-run : IsRun (plain walks) made
@@ -86,7 +87,7 @@ module _ {C : Type 0} (walks : List Member → C → List ℕ → List Draw → 
       ∷ (step.update 0 0 (only 1), answer.Generation 1)
       ∷ (step.group 0 0 (c ∷ []), answer.Group 0)
       ∷ (step.gate, answer.Gate 0)
-      ∷ (step.registry step.identity true, answer.Registry 0)
+      ∷ (step.registry Identity true, answer.Registry 0)
       ∷ []
 
   one-run : IsRun (plain walks) one
@@ -150,7 +151,7 @@ module _ {C : Type 0} (walks : List Member → C → List ℕ → List Draw → 
       ∷ (step.update 0 0 (marked (Some false)), answer.Generation 1)
       ∷ (step.group 0 0 (c ∷ []), answer.Group 0)
       ∷ (step.gate, answer.Gate 0)
-      ∷ (step.registry step.identity true, answer.Registry 0)
+      ∷ (step.registry Identity true, answer.Registry 0)
       ∷ []
 
   flags-run : IsRun (plain walks) flags

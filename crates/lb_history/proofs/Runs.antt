@@ -7,8 +7,8 @@ use Rattle.lb_group.specs.GroupHistory.{At, past_of, granted, extra, is_aloft, i
 use Rattle.lb_group.proofs.Pasts.{AloftFits, aloft-fits, cancelled-past, past-same, past-other}
 use Rattle.lb_history.specs.Steps.{Step}
 use Rattle.lb_history.specs.Steps as step
-use Rattle.lb_history.specs.Replies.{Answer}
-use Rattle.lb_history.specs.Replies as answer
+use Rattle.lb_history.specs.declared.answer.Answer.{Answer}
+use Rattle.lb_history.specs.declared.answer.Answer.TheVariants as answer
 use Rattle.lb_history.specs.Meanings.{Meaning}
 use Rattle.lb_history.specs.History.{History, Entered, Work, idle, building, built, is_held, ended, is_at, reads, members_in, group_in, slot_in, config, drew, entries, group_at, works_at, worked, work, happened, group_events, past}
 use Rattle.lb_history.specs.Answers.{IsRun}

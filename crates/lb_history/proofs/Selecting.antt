@@ -15,8 +15,8 @@ use Rattle.lb_select.proofs.SelectionLaws.{distinct-append}
 use Rattle.lb_group.specs.GroupHistory as group
 use Rattle.lb_history.specs.Steps.{Step}
 use Rattle.lb_history.specs.Steps as step
-use Rattle.lb_history.specs.Replies.{Answer}
-use Rattle.lb_history.specs.Replies as answer
+use Rattle.lb_history.specs.declared.answer.Answer.{Answer}
+use Rattle.lb_history.specs.declared.answer.Answer.TheVariants as answer
 use Rattle.lb_history.specs.Meanings.{Meaning}
 use Rattle.lb_history.specs.History.{History, Made, config_in, made_at, group_events, past, load_of}
 use Rattle.lb_history.specs.Answers.{IsRun, SelectAnswers, SelectsIn, Judges, LoadedGives, refuse, selected}

@@ -11,10 +11,11 @@ use Rattle.lb_health.specs.ViewEvents.{ViewEvent, Released, generation_after, me
 use Rattle.lb_health.specs.Joined.{lives, without_gone, view_changed}
 use Rattle.lb_group.specs.GroupHistory as group
 use Rattle.lb_group.specs.GroupHistory.{newest, members_of}
-use Rattle.lb_history.specs.Steps.{Step, Listing}
+use Rattle.lb_history.specs.Steps.{Step}
+use Rattle.lb_history.specs.declared.step.Listing.{Listing}
 use Rattle.lb_history.specs.Steps as step
-use Rattle.lb_history.specs.Replies.{Answer}
-use Rattle.lb_history.specs.Replies as answer
+use Rattle.lb_history.specs.declared.answer.Answer.{Answer}
+use Rattle.lb_history.specs.declared.answer.Answer.TheVariants as answer
 use Rattle.lb_history.specs.Meanings.{Meaning}
 use Rattle.lb_history.specs.History.{History, Made, is_at, members_in, made_at, registry_of, group_events}
 use Rattle.lb_history.specs.Shared.{settings_in, is_live, configs_in, view_in, key_of, events_in, extra_at, registry_events, view_events}

@@ -12,8 +12,8 @@ use Rattle.lb_group.specs.Stands.{left_readers}
 use Rattle.lb_group.proofs.Telling.{rises}
 use Rattle.lb_history.specs.Steps.{Step}
 use Rattle.lb_history.specs.Steps as step
-use Rattle.lb_history.specs.Replies.{Answer}
-use Rattle.lb_history.specs.Replies as answer
+use Rattle.lb_history.specs.declared.answer.Answer.{Answer}
+use Rattle.lb_history.specs.declared.answer.Answer.TheVariants as answer
 use Rattle.lb_history.specs.Meanings.{Meaning}
 use Rattle.lb_history.specs.History.{History, Made, is_at, config, made, made_at, group_at, work, ended, happened, group_events, past}
 use Rattle.lb_history.specs.Shared.{held_at_first, changed, registry_events, showed, view_events}

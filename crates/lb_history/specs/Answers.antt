@@ -18,10 +18,12 @@ use Rattle.lb_group.specs.GroupHistory as group
 use Rattle.lb_group.specs.GroupCalls.{is_change, schedule_refusal, is_served}
 use Rattle.lb_group.specs.SlotCalls.{take_refusal}
 use Rattle.lb_group.specs.Stands.{left_readers, counts_after}
-use Rattle.lb_history.specs.Steps.{Listing, Step}
+use Rattle.lb_history.specs.Steps.{Step}
+use Rattle.lb_history.specs.declared.step.Listing.{Listing}
 use Rattle.lb_history.specs.Steps as step
-use Rattle.lb_history.specs.Replies.{Answer, SlotCounts}
-use Rattle.lb_history.specs.Replies as answer
+use Rattle.lb_history.specs.declared.answer.Answer.{Answer}
+use Rattle.lb_history.specs.declared.answer.SlotCounts.{SlotCounts}
+use Rattle.lb_history.specs.declared.answer.Answer.TheVariants as answer
 use Rattle.lb_history.specs.Meanings.{Meaning}
 use Rattle.lb_history.specs.History.{History, Entered, Work, idle, building, built, members_in, registries, gates, made, made_at, config}
 use Rattle.lb_history.specs.History.{registry_of, entries, work, group_events, past, is_out, load_of}

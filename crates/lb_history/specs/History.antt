@@ -7,17 +7,19 @@ use Rattle.std.specs.Option.{option_map}
 use Rattle.lb_select.specs.Backends.{Member, same_member}
 use Rattle.lb_select.specs.Memberships.{set_of}
 use Rattle.lb_group.specs.GroupHistory as group
-use Rattle.lb_history.specs.Steps.{KeyRule, Listing, Step}
+use Rattle.lb_history.specs.Steps.{Step}
+use Rattle.lb_history.specs.declared.step.Listing.{Listing}
+use Rattle.lb_history.specs.declared.step.CellKey.{CellKey}
 use Rattle.lb_history.specs.Steps as step
-use Rattle.lb_history.specs.Replies.{Answer}
-use Rattle.lb_history.specs.Replies as answer
+use Rattle.lb_history.specs.declared.answer.Answer.{Answer}
+use Rattle.lb_history.specs.declared.answer.Answer.TheVariants as answer
 
 abbrev pub History : Type 0 → Type 0
 History C = List (Step C × Answer)
 
 -- what a registry was made with: the rule of its keys, and whether its cells start healthy
 pub record RegistryMade : Type 0 where
-  pub rule : KeyRule
+  pub rule : CellKey
   pub healthy : Bool
 
 -- what a group was made with: its registry, its gate, the number of its view in the registry, a configuration for each slot

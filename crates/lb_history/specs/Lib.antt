@@ -2,7 +2,6 @@ pub mod Answers
 pub mod History
 pub mod Meanings
 pub mod Promises
-pub mod Replies
 pub mod Selected
 pub mod Shared
 pub mod Steps

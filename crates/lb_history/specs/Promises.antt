@@ -14,8 +14,8 @@ use Rattle.lb_group.specs.GroupHistory as group
 use Rattle.lb_group.specs.Laws.{number, extras_from, Balanced, HasMembers}
 use Rattle.lb_history.specs.Steps.{Step}
 use Rattle.lb_history.specs.Steps as step
-use Rattle.lb_history.specs.Replies.{Answer}
-use Rattle.lb_history.specs.Replies as answer
+use Rattle.lb_history.specs.declared.answer.Answer.{Answer}
+use Rattle.lb_history.specs.declared.answer.Answer.TheVariants as answer
 use Rattle.lb_history.specs.Meanings.{Meaning}
 use Rattle.lb_history.specs.History.{History, Made, idle, is_at, members_in, reads, made, made_at, slot_gate, gate_in, entries, group_at}
 use Rattle.lb_history.specs.History.{work, group_events, past, is_grant, is_failure, is_destruction, is_out, registry_of}

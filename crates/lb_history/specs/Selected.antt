@@ -8,7 +8,7 @@ use Rattle.lb_select.specs.Unique.{distinct}
 use Rattle.lb_group.specs.GroupHistory as group
 use Rattle.lb_history.specs.Steps.{Step}
 use Rattle.lb_history.specs.Steps as step
-use Rattle.lb_history.specs.Replies.{Answer}
+use Rattle.lb_history.specs.declared.answer.Answer.{Answer}
 use Rattle.lb_history.specs.Meanings.{Meaning}
 use Rattle.lb_history.specs.History.{History, config, group_events, past, load_of}
 use Rattle.lb_history.specs.Answers.{Judges, LoadedGives, selected}

@@ -13,17 +13,20 @@ use Rattle.lb_health.specs.ViewEvents as view
 use Rattle.lb_health.specs.Joined.{view_updated}
 use Rattle.lb_group.specs.GroupHistory as group
 use Rattle.lb_group.specs.Laws.{number}
-use Rattle.lb_history.specs.Steps.{KeyRule, identity, address, Listing, Step}
+use Rattle.lb_history.specs.Steps.{Step}
+use Rattle.lb_history.specs.declared.step.Listing.{Listing}
+use Rattle.lb_history.specs.declared.step.CellKey.{CellKey}
+use Rattle.lb_history.specs.declared.step.CellKey.TheVariants.{Identity, Address}
 use Rattle.lb_history.specs.Steps as step
-use Rattle.lb_history.specs.Replies.{Answer}
-use Rattle.lb_history.specs.Replies as answer
+use Rattle.lb_history.specs.declared.answer.Answer.{Answer}
+use Rattle.lb_history.specs.declared.answer.Answer.TheVariants as answer
 use Rattle.lb_history.specs.History.{History, RegistryMade, Made, is_at, members_in, registries, made, made_at, registry_of, group_at}
 use Rattle.lb_history.specs.History.{group_events, past}
 
 -- the key of a backend by a registry's rule
-abbrev pub key_by : KeyRule → Member → Member
-key_by identity = by_identity
-key_by address = by_address
+abbrev pub key_by : CellKey → Member → Member
+key_by Identity = by_identity
+key_by Address = by_address
 
 abbrev pub key_in : Option RegistryMade → Member → Member
 key_in None = by_identity

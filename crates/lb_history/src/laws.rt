@@ -11,7 +11,7 @@ ghost use Rattle.lb_history.specs.Meanings.{meaning_of};
 ghost use Rattle.lb_history.specs.Promises.{Promised, NeverFalls, Raises, DestroysExactly, SharesAlike, OthersStay, Untouched};
 ghost use Rattle.lb_history.specs.Promises.{ViewFollows, LivesExactly, JudgedBy};
 ghost use Rattle.lb_history.specs.Selected.{FirstAccepted};
-ghost use Rattle.lb_history.specs.Replies.{Answer};
+ghost use Rattle.lb_history.specs.declared.answer.Answer.{Answer};
 ghost use Rattle.lb_history.specs.Shared.{key_of, events_in, registry_events, view_events};
 ghost use Rattle.lb_history.specs.Steps.{Step};
 

@@ -2,4 +2,6 @@
 //! code. What a world stands for cites these; what groups, registries and views are is cited from their own crates.
 #![tactic(auto)]
 
+pub mod answer;
 pub mod laws;
+pub mod step;
