@@ -225,8 +225,9 @@ fn check_one<R: KeyRule + Drop, C: HealthCheck, L: Log>(
     }
 }
 
-// Tells the check that the health of a backend flipped, and then the log.
-fn tell<C: HealthCheck, L: Log>(
+/// Tells the check that the health of a backend flipped, and then the log: `.. becomes healthy`, or `.. becomes unhealthy` with the
+/// name of the fault. Where the summary is refused for memory, there is no line.
+pub fn tell<C: HealthCheck, L: Log>(
     rt: &L,
     alloc: Global,
     check: &C,

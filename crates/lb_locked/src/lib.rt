@@ -1,0 +1,6 @@
+//! What threads share: the plain states of the crates below, each behind a lock that keeps which one it is.
+//! A thread that waits for a lock sleeps; a lock is held for one call of the plain state.
+#![tactic(auto)]
+
+pub mod gate;
+pub mod registry;
