@@ -2,11 +2,8 @@
 //! No check runs under the registry's lock: a pass copies its targets, and each verdict takes the lock for one call.
 ghost use Rattle.std.specs.Prelude.{◌≡◌, Err, IfErr, OnErr};
 ghost use Rattle.lb_registry.specs.Registry.{IsGrowthRefusal};
-ghost use Rattle.lb_locked.specs.Registry.{HasHistory};
 
 use lb_health::registry::tell;
-use lb_lock::lock::{Held, KeyedLock};
-use lb_lock::rule::LockRule;
 use lb_probe::health_check::HealthCheck;
 use lb_registry::keys::KeyRule;
 use lb_registry::registry::Registry;
@@ -14,55 +11,29 @@ use lb_registry::targets::Target;
 use lb_select::refusal::Refusal;
 use log::Log;
 use std::alloc::Global;
-use std::sync::{OnceLock, Wait};
+use std::sync::{Mutex, MutexGuard, OnceLock, Wait};
 use std::thread;
 use std::thread::Threads;
 
-/// The registry under the lock stands for a history of its calls.
-pub struct OfRegistry {}
-
-impl<R: KeyRule> LockRule<Registry<R>, ()> for OfRegistry {
-    ghost holds = { λ _ registry. HasHistory R.gives registry };
-}
-
 /// A registry of health behind a lock, and the check of its targets, which is set once.
 #[derive(Drop)]
-pub struct HealthRegistry<R: KeyRule + Drop, C: Drop> {
-    registry: KeyedLock<Registry<R>, (), OfRegistry>,
+pub struct HealthRegistry<R, C> {
+    registry: Mutex<Registry<R>>,
     check: OnceLock<C>,
 }
 
 impl<R: KeyRule + Drop, C: HealthCheck + Drop> HealthRegistry<R, C> {
     /// This registry, without a check.
-    ///
-    /// # Errors
-    ///
-    /// `OutOfMemory` where memory is refused; the registry is dropped then.
-    pub fn new(alloc: Global, registry: Registry<R>) -> Result<HealthRegistry<R, C>, Refusal>
-        requires { HasHistory R.gives registry }
-        ensures { IfErr result (λ e. e ≡ Refusal.OutOfMemory) }
-    {
-        let registry = KeyedLock::new(alloc, registry, &())?;
-        Ok(HealthRegistry {
-            registry,
+    pub fn new(registry: Registry<R>) -> HealthRegistry<R, C> {
+        HealthRegistry {
+            registry: Mutex::new(registry),
             check: OnceLock::new(),
-        })
+        }
     }
 
-    /// The registry itself, for one call of a view or a group; `put` ends it. The thread sleeps while another one has it.
-    pub fn take<W: Wait>(&self, rt: &W) -> Held<Registry<R>, ()>
-        ensures here { result.seat.table_id ≡ self.now.registry.table.shared.table_id }
-        ensures kept { HasHistory R.gives result.value }
-    {
-        self.registry.take(rt)
-    }
-
-    /// Puts this registry back.
-    pub fn put(&self, held: Held<Registry<R>, ()>)
-        requires here { held.seat.table_id ≡ self.now.registry.table.shared.table_id }
-        requires kept { HasHistory R.gives held.value }
-    {
-        self.registry.put(held);
+    /// The registry itself, for one call of a view or a group, until the guard is dropped. The thread sleeps while another one has it.
+    pub fn lock<'a, W: Wait>(&'a self, rt: &W) -> MutexGuard<'a, Registry<R>> {
+        self.registry.lock(rt)
     }
 
     /// Sets the check. Refused `HealthCheckSet` where one is set, which stays; the one handed in is dropped then.
@@ -83,10 +54,7 @@ impl<R: KeyRule + Drop, C: HealthCheck + Drop> HealthRegistry<R, C> {
     pub fn target_count<W: Wait>(&self, rt: &W, alloc: Global) -> Result<usize, Refusal>
         ensures { OnErr result (IsGrowthRefusal result) }
     {
-        let mut held = self.registry.take(rt);
-        let count = held.value.target_count(alloc);
-        self.registry.put(held);
-        count
+        self.registry.lock(rt).target_count(alloc)
     }
 
     /// The targets with their cells, by identity and then by view, after the marks that wait are applied.
@@ -97,10 +65,7 @@ impl<R: KeyRule + Drop, C: HealthCheck + Drop> HealthRegistry<R, C> {
     pub fn targets<W: Wait>(&self, rt: &W, alloc: Global) -> Result<Vec<Target>, Refusal>
         ensures { OnErr result (IsGrowthRefusal result) }
     {
-        let mut held = self.registry.take(rt);
-        let targets = held.value.targets(alloc);
-        self.registry.put(held);
-        targets
+        self.registry.lock(rt).targets(alloc)
     }
 
     /// Hands a verdict to a cell; whether its health flipped. Refused `NoSuch` where the cell is kept no longer. It takes no memory.
@@ -113,18 +78,12 @@ impl<R: KeyRule + Drop, C: HealthCheck + Drop> HealthRegistry<R, C> {
     ) -> Result<bool, Refusal>
         ensures { OnErr result (result ≡ Err Refusal.NoSuch) }
     {
-        let mut held = self.registry.take(rt);
-        let flipped = held.value.observe(cell, verdict, threshold);
-        self.registry.put(held);
-        flipped
+        self.registry.lock(rt).observe(cell, verdict, threshold)
     }
 
     /// Whether a cell is kept and healthy. It takes no memory.
     pub fn cell_ready<W: Wait>(&self, rt: &W, cell: u64) -> bool {
-        let held = self.registry.take(rt);
-        let ready = held.value.cell_ready(cell);
-        self.registry.put(held);
-        ready
+        self.registry.lock(rt).cell_ready(cell)
     }
 }
 

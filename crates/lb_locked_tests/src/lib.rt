@@ -1,0 +1,8 @@
+//! Tests of what threads share: additions under a lock, permits of a gate, and checks that run beside each other.
+//! There is no code here beside them.
+#![tactic(auto)]
+
+#[cfg(test)]
+mod locks;
+#[cfg(test)]
+mod passes;
