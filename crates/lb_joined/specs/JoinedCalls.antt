@@ -7,6 +7,7 @@ use Rattle.lb_select.specs.Refusals.{memory_apart}
 use Rattle.lb_select.specs.declared.refusal.Refusal.{Refusal}
 use Rattle.lb_select.specs.declared.refusal.Refusal.TheVariants.{OutOfMemory, NumbersExhausted, NoSuch}
 use Rattle.lb_group.specs.GroupCalls as group
+use Rattle.lb_group.specs.GroupHistory as core
 use Rattle.lb_group.specs.GroupHistory.{past_of, served, extra, generation_of}
 use Rattle.lb_group.specs.Stands.{Made}
 use Rattle.lb_group.specs.declared.answers.Selection.{Selection}
@@ -30,12 +31,17 @@ abbrev pub IsMakingRefusal : {A : Type 0} → Option Refusal → Result A Refusa
 IsMakingRefusal cause (Ok a) = cause ≡ None
 IsMakingRefusal cause (Err e) = (cause ≡ Some e) ⊎ ((memory_apart cause ≡ None) × ((e ≡ OutOfMemory) ⊎ (e ≡ NumbersExhausted)))
 
+-- Why a membership is refused: a cause of the group, and where none stands and the membership is another one, a cause of the
+-- view's, or memory.
+abbrev pub IsRefusedFor : core.History → List Member → Refusal → Type 0
+IsRefusedFor h members r =
+    (group.schedule_refusal members h ≡ Some r)
+    ⊎ ((group.schedule_refusal members h ≡ None) × (group.is_change members h ≡ true) × IsSharedRefusal r)
+
 -- As for a group alone; the registry of another membership may refuse it too.
 abbrev pub Schedules : {C : Type 0} → Made C → History → List Member → Result Scheduled Refusal → Type 0
 Schedules made e members (Ok s) = group.Schedules made (group_events e) members (Ok s)
-Schedules made e members (Err r) =
-    (group.schedule_refusal members (group_events e) ≡ Some r)
-    ⊎ ((group.schedule_refusal members (group_events e) ≡ None) × (group.is_change members (group_events e) ≡ true) × IsSharedRefusal r)
+Schedules made e members (Err r) = IsRefusedFor (group_events e) members r
 
 -- another membership is shown, with these cells
 abbrev pub with_membership : List Member → List (Member × ℕ) → ℕ → History → History

@@ -1,7 +1,7 @@
 //! A group joined with its view: a membership reaches both or neither, and each slot holds the snapshots that it has in use.
 //! A call tests all that it can refuse for before it changes anything; builds run elsewhere, between `ask` and `publish`.
-ghost use Rattle.std.specs.Prelude.{◌≡◌, ◌≢◌, ◌↔◌, ◌≤◌, ◌+◌, ◌^◌, ◌∷◌, [], ℕ, List, false, map, replicate, IfOk, IsTrue, OnOk, OnErr};
-ghost use Rattle.std.specs.Prelude.{IsErrOf, None, slice_get};
+ghost use Rattle.std.specs.Prelude.{◌≡◌, ◌≢◌, ◌↔◌, ◌≤◌, ◌+◌, ◌^◌, ◌∷◌, [], ℕ, List, true, false, map, replicate, None, Ok, Err};
+ghost use Rattle.std.specs.Prelude.{IfOk, IfErr, IsTrue, OnOk, OnErr, IsErrOf, slice_get};
 ghost use Rattle.std.specs.Arc.{arc_value};
 ghost use Rattle.lb_select.specs.Backends.{Member};
 ghost use Rattle.lb_select.specs.Loads.{load_in};
@@ -11,9 +11,10 @@ ghost use Rattle.lb_group.specs.GroupHistory.{served as served_after, is_cancell
 ghost use Rattle.lb_group.specs.GroupHistory.{waits as waits_after, readers as readers_after};
 ghost use Rattle.lb_group.specs.Flights.{flight_after};
 ghost use Rattle.lb_group.specs.Values.{configs_of};
-ghost use Rattle.lb_group.specs.Stands.{Made, counts_after};
+ghost use Rattle.lb_group.specs.Stands.{Made, After as AfterGroup, counts_after};
 ghost use Rattle.lb_group.specs.GroupCalls.{IsOwnJob, Asks, ask_events, gate_after, Fails, fail_events, gate_back, Publishes};
 ghost use Rattle.lb_group.specs.GroupCalls.{publish_events, Abandons, abandon_events, Unless, lose_refusal, done_at, Enters, Leaves};
+ghost use Rattle.lb_group.specs.GroupCalls.{is_change, schedule_refusal, Prepares, FitsIfThere};
 ghost use Rattle.lb_group.specs.GroupCalls.{Takes, Reports, at_slot, SelectsIn, select_events};
 ghost use Rattle.lb_health.specs.Joined.{IsReady, settings_of, registry_updated};
 ghost use Rattle.lb_health.specs.ViewEvents.{Held};
@@ -21,6 +22,7 @@ ghost use Rattle.lb_health.specs.Views.{IsViewAfter};
 ghost use Rattle.lb_registry.specs.Registry.{IsRegistryAfter};
 ghost use Rattle.lb_registry.specs.RegistryEvents.{Event, Registered, Applied, Updated, Marked, registered_after, views_after, has_view};
 ghost use Rattle.lb_registry.specs.RegistryEvents.{cells_given};
+ghost use Rattle.lb_joined.specs.JoinedCalls.{IsSharedRefusal, IsRefusedFor};
 ghost use Rattle.lb_joined.specs.JoinedCalls.{IsMakingRefusal, Schedules, after_schedule, released_where, generation_at, after_select};
 ghost use Rattle.lb_joined.specs.JoinedCalls.{served_at, Judges, IsJudged, AcceptsBy};
 ghost use Rattle.lb_joined.specs.JoinedHistory.{History, Set, group_events, in_group, members_now};
@@ -30,7 +32,7 @@ use lb_group::answers::{Ask, Counts, Selection, Timing, Told};
 use lb_group::group;
 use lb_group::job::{Built, Job};
 use lb_group::retired::{OwedPermit, Reader, Retired};
-use lb_group::schedule::Scheduled;
+use lb_group::schedule::{Prepared, Scheduled};
 use lb_health::view::{Settings, ViewCore};
 use lb_rebuild::gate::GateCore;
 use lb_registry::keys::KeyRule;
@@ -138,8 +140,8 @@ impl<S: BackendSelection> GroupCore<S> {
     ///
     /// `GenerationsExhausted` where the membership is another one and the newest generation is 18446744073709551615;
     /// `GroupCancelled` in a cancelled group; where neither holds and the membership is another one, `NoSuch` where the registry
-    /// has no such view, `NumbersExhausted` where no number is left for a cell, and `OutOfMemory` where memory is refused. Group,
-    /// view and registry are then as before.
+    /// has no such view, `NumbersExhausted` where no number is left for a cell, and only then `OutOfMemory` where memory is refused.
+    /// Group, view and registry are then as before.
     pub fn schedule<R: KeyRule + Drop>(
         &mut self,
         alloc: Global,
@@ -165,9 +167,18 @@ impl<S: BackendSelection> GroupCore<S> {
         ensures numbers { IsErrOf result Refusal.NumbersExhausted → (key_of : Member → Member) (events : List Event)
             → IsRegistryAfter R.gives key_of events registry.old
             → 2 ^ 64 ≤ cells_given key_of (Updated self.old.view.id discovered.keys ∷ Applied ∷ events) }
+        ensures missing { (key_of : Member → Member) (events : List Event) → IsRegistryAfter R.gives key_of events registry.old
+            → After self.old (λ made e. schedule_refusal discovered.keys (group_events e) ≡ None
+            → is_change discovered.keys (group_events e) ≡ true → has_view self.old.view.id (views_after events) ≡ false
+            → result ≡ Err Refusal.NoSuch) }
+        ensures lacking { (key_of : Member → Member) (events : List Event) → IsRegistryAfter R.gives key_of events registry.old
+            → After self.old (λ made e. schedule_refusal discovered.keys (group_events e) ≡ None
+            → is_change discovered.keys (group_events e) ≡ true → has_view self.old.view.id (views_after events) ≡ true
+            → 2 ^ 64 ≤ cells_given key_of (Updated self.old.view.id discovered.keys ∷ Applied ∷ events)
+            → result ≡ Err Refusal.NumbersExhausted) }
         ensures site { SameSite self.old self.new }
     {
-        let prepared = self.group.prepare(alloc, &discovered)?;
+        let prepared = prepared(alloc, &self.group, &self.view, registry, &discovered)?;
         self.view
             .update(alloc, registry, discovered, settings, |_members| ())?;
         match prepared {
@@ -531,6 +542,62 @@ impl<S: BackendSelection> GroupCore<S> {
         ensures { After self.now (λ made e. result ≡ at_slot made slot (timing_after (past_of slot (group_events e)))) }
     {
         self.group.timing(slot)
+    }
+}
+
+// What an update of the view to another membership is refused for where memory is refused: the least of the causes that stand.
+fn cause_without_memory<R: KeyRule + Drop>(
+    view: &ViewCore,
+    registry: &Registry<R>,
+    discovered: &BTreeSet<Backend>,
+) -> Refusal
+    ensures shared { IsSharedRefusal result }
+    ensures unknown { (key_of : Member → Member) (events : List Event) → IsRegistryAfter R.gives key_of events registry.now
+        → (result ≡ Refusal.NoSuch ↔ (has_view view.now.id (views_after events) ≡ false)) }
+    ensures numbers { (key_of : Member → Member) (events : List Event) → IsRegistryAfter R.gives key_of events registry.now
+        → has_view view.now.id (views_after events) ≡ true → (result ≡ Refusal.NumbersExhausted
+        ↔ (2 ^ 64 ≤ cells_given key_of (Updated view.now.id discovered.now.keys ∷ Applied ∷ events))) }
+{
+    if !registry.has_view(view.id()) {
+        return Refusal::NoSuch;
+    }
+    if registry.lacks_numbers(discovered) {
+        return Refusal::NumbersExhausted;
+    }
+    Refusal::OutOfMemory
+}
+
+// Gets at hand what the group takes for a membership; refused for memory only where no other cause stands.
+fn prepared<S: BackendSelection, R: KeyRule + Drop>(
+    alloc: Global,
+    group: &group::GroupCore<S>,
+    view: &ViewCore,
+    registry: &Registry<R>,
+    discovered: &BTreeSet<Backend>,
+) -> Result<Option<Prepared<S::Config>>, Refusal>
+    ensures answers { IfOk result (λ p. AfterGroup group.now (λ made h. Prepares made h discovered.now.keys (Ok p))) }
+    ensures fits { IfOk result (λ p. FitsIfThere group.now p) }
+    ensures refused { IfErr result (λ e. AfterGroup group.now (λ made h. IsRefusedFor h discovered.now.keys e)) }
+    ensures unknown { IsErrOf result Refusal.NoSuch → (key_of : Member → Member) (events : List Event)
+        → IsRegistryAfter R.gives key_of events registry.now
+        → AfterGroup group.now (λ made h. has_view view.now.id (views_after events) ≡ false) }
+    ensures numbers { IsErrOf result Refusal.NumbersExhausted → (key_of : Member → Member) (events : List Event)
+        → IsRegistryAfter R.gives key_of events registry.now
+        → AfterGroup group.now (λ made h. 2 ^ 64 ≤ cells_given key_of (Updated view.now.id discovered.now.keys ∷ Applied ∷ events)) }
+    ensures missing { IfErr result (λ e. (key_of : Member → Member) (events : List Event)
+        → IsRegistryAfter R.gives key_of events registry.now
+        → AfterGroup group.now (λ made h. schedule_refusal discovered.now.keys h ≡ None
+        → has_view view.now.id (views_after events) ≡ false → e ≡ Refusal.NoSuch)) }
+    ensures lacking { IfErr result (λ e. (key_of : Member → Member) (events : List Event)
+        → IsRegistryAfter R.gives key_of events registry.now
+        → AfterGroup group.now (λ made h. schedule_refusal discovered.now.keys h ≡ None
+        → has_view view.now.id (views_after events) ≡ true
+        → 2 ^ 64 ≤ cells_given key_of (Updated view.now.id discovered.now.keys ∷ Applied ∷ events) → e ≡ Refusal.NumbersExhausted)) }
+{
+    match group.prepare(alloc, discovered) {
+        Ok(prepared) => Ok(prepared),
+        Err(Refusal::OutOfMemory) => Err(cause_without_memory(view, registry, discovered)),
+        Err(refusal) => Err(refusal),
     }
 }
 

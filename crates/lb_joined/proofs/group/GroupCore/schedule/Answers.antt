@@ -1,16 +1,24 @@
 -- A membership reaches group and view, or neither.
-use Rattle.std.proofs.Common.{◌≡◌, ◌∷◌, ap, sym, subst, true, false, rules, Err}
-use Rattle.std.proofs.lemmas.Bool.{false≢true}
-use Rattle.lb_group.specs.GroupHistory.{Scheduled}
-use Rattle.lb_group.specs.Stands.{StandsFor}
+use Rattle.std.proofs.Common.{◌≡◌, ◌≤◌, ◌+◌, ◌^◌, ◌&&◌, ◌==◌, ◌∙◌, ◌∷◌, refl, ap, sym, subst, Bool, true, false, not, List, length, Option, Some, None, rules, arith, Result, Ok, Err, if◌then◌else◌}
+use Rattle.std.proofs.lemmas.Bool.{false≢true, eq-eqb}
+use Rattle.std.specs.Prelude.{◌≢◌}
+use Rattle.lb_select.specs.Backends.{Member}
+use Rattle.lb_select.specs.Memberships.{same_members}
+use Rattle.lb_select.specs.declared.refusal.Refusal.{Refusal}
+use Rattle.lb_select.specs.declared.refusal.Refusal.TheVariants.{NoSuch, NumbersExhausted, GenerationsExhausted}
+use Rattle.lb_group.specs.GroupCalls.{is_change, schedule_refusal}
+use Rattle.lb_group.specs.GroupHistory.{Scheduled, newest}
+use Rattle.lb_group.specs.Stands.{Made, StandsFor}
 use Rattle.lb_registry.specs.Registry.{IsRegistryAfter}
-use Rattle.lb_registry.specs.RegistryEvents.{shown_cells}
+use Rattle.lb_registry.specs.RegistryEvents.{Applied, Updated, cells_given, has_view, shown_cells, views_after}
 use Rattle.lb_health.specs.Joined.{settings_of, view_updated, registry_updated}
+use Rattle.lb_health.specs.ViewEvents.{generation_after, membership_after}
 use Rattle.lb_health.specs.Views.{IsViewAfter}
 use Rattle.lb_joined.specs.JoinedCalls.{Schedules}
-use Rattle.lb_joined.specs.JoinedHistory.{group_events}
+use Rattle.lb_joined.specs.JoinedHistory.{History, group_events, members_now}
 use Rattle.lb_joined.specs.Stands.{JoinedValue, views_of}
-use Rattle.lb_joined.proofs.Joins.{group-part, view-part, none-change, some-change, refused-schedule, view-refused, schedules}
+use Rattle.lb_joined.proofs.Joins.{group-part, view-part, none-change, some-change, refused-schedule, view-refused, schedules, error-is}
+use Rattle.lb_joined.proofs.Histories.{generation-is, members-are}
 use Rattle.lb_joined.proofs.group.GroupCore.schedule.Goals as goal
 
 pub returns-in_err-update-clause-answers : goal.returns-in_err-update-clause-answers
@@ -91,3 +99,61 @@ returns-in-Some-clause-registry g c key_of events r made e s =
     subst (λ i. IsRegistryAfter g.R.KeyRule.gives key_of (registry_updated key_of i c.args.discovered.keys (views_of made e) events) c.update.new.registry)
     (ap (λ (v : JoinedValue g.row.S-Config.Denot). v.view.id) c.self.view_is)
     (c.in_ok-update.ensures.registry key_of (views_of made e) events (view-part made e _ _ _ c.self.view_is s) r)
+
+not_true : (b : Bool) → not b ≡ true → b ≡ false
+not_true true e = absurd (cc)
+not_true false e = refl
+
+-- another membership of the group is another one of the view
+differs : {C : Type 0} (made : Made C) (e : History) (members : List Member) → is_change members (group_events e) ≡ true
+    → same_members members (membership_after (views_of made e)) ≡ false
+differs made e members change =
+    ap (same_members members) (members-are (length made.configs) e) ∙ not_true (same_members members (members_now e)) change
+
+-- a generation is left where the group refuses another membership for no cause
+generation_left : {C : Type 0} (made : Made C) (e : History) (members : List Member) → schedule_refusal members (group_events e) ≡ None
+    → is_change members (group_events e) ≡ true → generation_after (views_of made e) + 1 ≢ 2 ^ 64
+generation_left made e members none change full =
+    let last : newest (group_events e) ≡ 18446744073709551615 = omega (arith, full, generation-is (length made.configs) e) in
+    none_left (is_change members (group_events e)) (newest (group_events e) == 18446744073709551615) _ change (eq-eqb (newest (group_events e)) 18446744073709551615 last) none
+  where
+    none_left : (a b : Bool) (o : Option Refusal) → a ≡ true → b ≡ true → (if a && b then Some GenerationsExhausted else o) ≡ None → ⊥
+    none_left true true o s t e = cc
+    none_left true false o s t e = cc
+    none_left false b o s t e = cc
+
+pub returns-in_err-update-clause-missing : goal.returns-in_err-update-clause-missing
+returns-in_err-update-clause-missing g c key_of events r made e s none change has =
+    let seen = view-part made e _ _ _ c.self.view_is s in
+    let id = ap (λ (v : JoinedValue g.row.S-Config.Denot). v.view.id) c.self.view_is in
+    let is : c.from_residual-in_err-update.result ≡ Err c.in_err-update.field-0.0 = search rules in
+    is ∙ ap Err (error-is c.in_err-update.field-0.0 NoSuch (c.in_err-update.ensures.missing key_of (views_of made e) events seen r (differs made e c.args.discovered.keys change)
+    (generation_left made e c.args.discovered.keys none change) (ap (λ i. has_view i (views_after events)) id ∙ has)))
+
+pub returns-in_err-update-clause-lacking : goal.returns-in_err-update-clause-lacking
+returns-in_err-update-clause-lacking g c key_of events r made e s none change has few =
+    let seen = view-part made e _ _ _ c.self.view_is s in
+    let id = ap (λ (v : JoinedValue g.row.S-Config.Denot). v.view.id) c.self.view_is in
+    let is : c.from_residual-in_err-update.result ≡ Err c.in_err-update.field-0.0 = search rules in
+    is ∙ ap Err (error-is c.in_err-update.field-0.0 NumbersExhausted (c.in_err-update.ensures.lacking key_of (views_of made e) events seen r (differs made e c.args.discovered.keys change)
+    (generation_left made e c.args.discovered.keys none change) (ap (λ i. has_view i (views_after events)) id ∙ has)
+    (subst (λ i. 2 ^ 64 ≤ cells_given key_of (Updated i c.args.discovered.keys ∷ Applied ∷ events)) (sym id) few)))
+
+-- an answer is no refusal
+answered : {A E : Type 0} (x : A) (e : E) → (let ok : Result A E = Ok x in let err : Result A E = Err e in ok ≡ err) → ⊥
+answered x e h = cc
+
+pub returns-in-Some-clause-missing : goal.returns-in-Some-clause-missing
+returns-in-Some-clause-missing g c key_of events r made e s none change has =
+    let seen = view-part made e _ _ _ c.self.view_is s in
+    let id = ap (λ (v : JoinedValue g.row.S-Config.Denot). v.view.id) c.self.view_is in
+    absurd (answered _ NoSuch (c.in_ok-update.ensures.missing key_of (views_of made e) events seen r (differs made e c.args.discovered.keys change)
+    (generation_left made e c.args.discovered.keys none change) (ap (λ i. has_view i (views_after events)) id ∙ has)))
+
+pub returns-in-Some-clause-lacking : goal.returns-in-Some-clause-lacking
+returns-in-Some-clause-lacking g c key_of events r made e s none change has few =
+    let seen = view-part made e _ _ _ c.self.view_is s in
+    let id = ap (λ (v : JoinedValue g.row.S-Config.Denot). v.view.id) c.self.view_is in
+    absurd (answered _ NumbersExhausted (c.in_ok-update.ensures.lacking key_of (views_of made e) events seen r (differs made e c.args.discovered.keys change)
+    (generation_left made e c.args.discovered.keys none change) (ap (λ i. has_view i (views_after events)) id ∙ has)
+    (subst (λ i. 2 ^ 64 ≤ cells_given key_of (Updated i c.args.discovered.keys ∷ Applied ∷ events)) (sym id) few)))
