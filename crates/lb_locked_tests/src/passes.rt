@@ -59,9 +59,9 @@ impl<R: Clock> HealthCheck for Meeting<R> {
     }
 }
 
-// A registry of one view with three backends, of weights 1 to 3.
-fn three_targets(alloc: Global) -> Result<RegistryCore, Refusal> {
-    let mut registry = RegistryCore::new(alloc);
+// The registry with a view of three backends, of weights 1 to 3.
+fn three_targets(alloc: Global, registry: RegistryCore) -> Result<RegistryCore, Refusal> {
+    let mut registry = registry;
     let id = registry.register_view(alloc)?;
     let mut set = BTreeSet::new(alloc);
     for weight in 1..4 {
@@ -88,6 +88,7 @@ fn pass<R: Log + Threads + Wait + Clock + Copy + Send + Sync>(
     )?;
     let registry: HealthRegistry<Rule<ByNumber>, Meeting<R>> = HealthRegistry::new(three_targets(
         alloc,
+        RegistryCore::new(alloc),
     )?);
     let check = Meeting {
         rt,
@@ -131,7 +132,7 @@ fn checks_run_one_by_one(rt: HostRuntime) -> Result<(), Fail> {
 fn one_check_is_set(rt: HostRuntime) -> Result<(), Fail> {
     let alloc = rt.alloc();
     let registry: HealthRegistry<Rule<ByNumber>, Meeting<HostRuntime>> = HealthRegistry::new(
-        three_targets(alloc)?,
+        three_targets(alloc, RegistryCore::new(alloc))?,
     );
     let seen = Arc::new(
         alloc,
