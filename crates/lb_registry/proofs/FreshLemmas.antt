@@ -1,6 +1,6 @@
 -- The keys that a change starts: none where marks are applied, and with a view's new membership those of its keys that no view
 -- had. They are counted without the numbering.
-use Rattle.std.proofs.Common.{◌≡◌, ◌≤◌, ◌+◌, ◌==◌, ℕ, Bool, true, false, cond, not, ◌&&◌, ◌||◌, List, [], ◌∷◌, ◌++◌, length, reverse, filter, map, refl, sym, ap, subst, ◌∙◌, arith, true≢false, append_assoc, length-append, if◌then◌else◌, take, ◌-◌, zero, suc}
+use Rattle.std.proofs.Common.{◌≡◌, ◌≤◌, ◌+◌, ◌==◌, ℕ, Bool, true, false, cond, not, ◌&&◌, ◌||◌, List, [], ◌∷◌, ◌++◌, length, reverse, filter, refl, sym, ap, subst, ◌∙◌, arith, true≢false, append_assoc, length-append, if◌then◌else◌, take, ◌-◌, zero, suc}
 use Rattle.std.proofs.lemmas.List.{append-nil, length-reverse, map-append, take-append-le, take_all}
 use Rattle.std.proofs.lemmas.List.Elements.{filter-append}
 use Rattle.std.proofs.lemmas.List.Folds.{list_any-append}
@@ -15,7 +15,7 @@ use Rattle.lb_registry.specs.RegistryEvents.{Event, Registered, Applied, Updated
 use Rattle.lb_registry.specs.Starts.{is_target, starts}
 use Rattle.lb_registry.specs.Targets.{ViewValue, live, Candidate, same_key, candidates_of, candidates, target_keys}
 use Rattle.lb_registry.proofs.ChangeLemmas.{any-map, has_live}
-use Rattle.lb_registry.proofs.PlaceLemmas.{each-filter, each-impl, each-firsts, key_laws, AreApart, live-apart, views_apart_after, target_count, target_any}
+use Rattle.lb_registry.proofs.PlaceLemmas.{each-impl, each-firsts, key_laws, live-apart, views_apart_after, target_count, target_any}
 use Rattle.lb_registry.proofs.TargetLemmas.{member_laws, candidates-push}
 
 and_true : (b : Bool) → (b && true) ≡ b

@@ -1,6 +1,6 @@
 -- The places of the targets: no two candidates have one, where memberships are sets and views have different numbers. So the
 -- targets in their order are as many as those of the candidates that are first of their key.
-use Rattle.std.proofs.Common.{◌≡◌, ◌<◌, ◌≤◌, ◌+◌, ◌==◌, ℕ, Bool, true, false, cond, not, ◌&&◌, ◌||◌, List, [], ◌∷◌, ◌++◌, length, filter, fold, refl, sym, ap, subst, ◌∙◌, arith, rules, true≢false, nat_lt, if◌then◌else◌}
+use Rattle.std.proofs.Common.{◌≡◌, ◌≤◌, ◌+◌, ◌==◌, ℕ, Bool, true, false, cond, not, ◌&&◌, ◌||◌, List, [], ◌∷◌, ◌++◌, length, filter, fold, refl, sym, ap, subst, ◌∙◌, arith, rules, true≢false, nat_lt, if◌then◌else◌}
 use Rattle.std.proofs.lemmas.List.Folds.{list_any-append}
 use Rattle.std.specs.BTreeMap.{insert_entry}
 use Rattle.std.specs.Cmp.{IsEquivalence, IsTotalOrder, eq_by_cmp_equiv, unsigned_tied}
@@ -16,8 +16,7 @@ use Rattle.lb_select.specs.Backends.{Member, member_cmp, same_member}
 use Rattle.lb_select.specs.Unique.{firsts, distinct}
 use Rattle.lb_registry.specs.declared.targets.Place.{Place}
 use Rattle.lb_registry.specs.RegistryEvents.{Event, Registered, Applied, Updated, Marked, Observed, Held, Released, Configured, AreSets, is_view, at_view, with_members, with_mark, new_view, registered_after, views_after}
-use Rattle.lb_registry.specs.Targets.{ViewValue, live, place_cmp, Candidate, same_key, candidates_of, candidates, in_order, target_keys}
-use Rattle.lb_registry.proofs.CellLemmas.{either}
+use Rattle.lb_registry.specs.Targets.{ViewValue, live, place_cmp, Candidate, same_key, candidates_of, candidates, target_keys}
 
 and_false : (b : Bool) → (b && false) ≡ false
 and_false true = refl

@@ -1,5 +1,5 @@
 -- Views and table together after a change: the marks applied, one view's membership exchanged, and a refused change put back.
-use Rattle.std.proofs.Common.{◌≡◌, ◌<◌, ◌≤◌, ◌^◌, ℕ, zero, suc, ◌==◌, inl, inr, Bool, true, false, cond, ◌&&◌, ◌||◌, List, [], ◌∷◌, map, length, filter, not, position, set, get_or, Some, Result, Ok, Err, OnOk, ◌++◌, ◌+◌, refl, sym, ap, subst, ◌∙◌, nat_lt, length-append, take, ◌-◌, arith, ◌↔◌, IsTrue, true≢false, ⊎_elim}
+use Rattle.std.proofs.Common.{◌≡◌, ◌<◌, ◌≤◌, ◌^◌, ℕ, zero, suc, inl, inr, Bool, true, false, cond, ◌||◌, List, [], ◌∷◌, map, length, filter, not, position, set, get_or, Some, Result, Ok, Err, OnOk, ◌++◌, ◌+◌, refl, sym, ap, subst, ◌∙◌, nat_lt, length-append, take, ◌-◌, arith, ◌↔◌, IsTrue, true≢false, ⊎_elim}
 use Rattle.std.proofs.lemmas.Bool.{cases_lt}
 use Rattle.std.proofs.lemmas.List.{map-append, take-append-le, take_all}
 use Rattle.std.proofs.lemmas.Option.{cond_some, same_Some, slice_get_read}

@@ -1,6 +1,6 @@
 //! The registry of health: its views, and the cells that their targets share by health key.
 //! Contracts tell it by the history of its calls, newest first; a refused call leaves each history as it was, and applies no mark.
-ghost use Rattle.std.specs.Prelude.{◌≡◌, ◌≢◌, ◌↔◌, ◌⊎◌, ◌+◌, ◌<◌, ◌≤◌, ◌^◌, ℕ, List, [], ◌∷◌, length, true, false, IsTrue, IfOk};
+ghost use Rattle.std.specs.Prelude.{◌≡◌, ◌≢◌, ◌↔◌, ◌+◌, ◌<◌, ◌≤◌, ◌^◌, ℕ, List, [], ◌∷◌, length, true, false, IsTrue, IfOk};
 ghost use Rattle.std.specs.Prelude.{OnOk, OnErr, IsOk, IsErrOf, Err, ◌++◌, vec_len, vec_capacity};
 ghost use Rattle.std.specs.List.{filter_map};
 ghost use Rattle.lb_select.specs.Backends.{Member, member_cmp};

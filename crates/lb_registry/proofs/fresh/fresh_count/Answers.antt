@@ -1,4 +1,4 @@
-use Rattle.std.proofs.Common.{◌≡◌, ◌≤◌, ◌+◌, ◌∙◌, ◌||◌, ℕ, Bool, true, false, List, [], ◌∷◌, ◌++◌, length, map, sym, ap, arith, rules, append_assoc, length-append}
+use Rattle.std.proofs.Common.{◌≡◌, ◌≤◌, ◌+◌, ◌∙◌, ◌||◌, true, false, List, [], ◌∷◌, ◌++◌, length, map, sym, ap, arith, rules, append_assoc, length-append}
 use Rattle.std.specs.List.{list_any}
 use Rattle.lb_select.specs.Backends.{Member, same_member}
 use Rattle.lb_registry.specs.Internal.Fresh.{has_key}

@@ -1,7 +1,7 @@
-use Rattle.std.proofs.Common.{◌≡◌, ◌≤◌, ◌+◌, ◌∙◌, ◌&&◌, ◌||◌, not, Bool, true, false, List, ◌∷◌, length, map, drop, get_or, sym, ap, arith}
+use Rattle.std.proofs.Common.{◌≡◌, ◌≤◌, ◌+◌, ◌∙◌, ◌&&◌, ◌||◌, not, Bool, true, false, List, ◌∷◌, length, map, drop, sym, ap, arith}
 use Rattle.std.proofs.lemmas.List.{at_drop_more, take_all}
 use Rattle.std.specs.List.{list_any}
-use Rattle.lb_select.specs.Backends.{Member, same_member}
+use Rattle.lb_select.specs.Backends.{same_member}
 use Rattle.lb_registry.specs.declared.targets.View.{View}
 use Rattle.lb_registry.specs.Internal.Fresh.{has_key}
 use Rattle.lb_registry.specs.Targets.{view_value, live}

@@ -1,5 +1,5 @@
-use Rattle.std.proofs.Common.{◌≡◌, ◌∙◌, refl, sym, ap, subst, rules}
-use Rattle.lb_select.specs.Backends.{Member, same_member}
+use Rattle.std.proofs.Common.{◌≡◌, ◌∙◌, refl, subst, rules}
+use Rattle.lb_select.specs.Backends.{same_member}
 use Rattle.lb_registry.specs.declared.keys.Rule.{Rule}
 use Rattle.lb_registry.specs.Keys.{by_identity, by_address, IsRuleOf, rule_gives}
 use Rattle.lb_registry.proofs.keys.RuleKeyRule.same.Goals as goal

@@ -1,4 +1,4 @@
-use Rattle.std.proofs.Common.{◌≡◌, List, map, position, Err, refl, sym, ap, ◌∙◌, rules, true≢false, ◌∷◌, ◌≤◌, ◌^◌, subst}
+use Rattle.std.proofs.Common.{◌≡◌, List, map, position, Err, refl, sym, ap, ◌∙◌, rules, true≢false, ◌∷◌, ◌≤◌, ◌^◌}
 use Rattle.lb_select.specs.Backends.{Member}
 use Rattle.lb_select.specs.declared.refusal.Refusal.TheVariants.{NoSuch, OutOfMemory, NumbersExhausted}
 use Rattle.lb_registry.specs.declared.targets.View.{View}
