@@ -1,5 +1,6 @@
 -- The laws of runs by turns.
-use Rattle.std.proofs.Common.{◌≡◌, ◌≢◌, ◌∙◌, ℕ, ◌≤◌, Bool, true, false, not, ◌&&◌, ◌||◌, List, [], ◌∷◌, Option, Some, None, Result, Ok, Err, refl, ap, sym, subst, inl, inr, ◌⊎◌, nat_le, arith}
+use Rattle.std.proofs.Common.{◌≡◌, ◌≢◌, ◌∙◌, ℕ, Bool, true, false, not, ◌&&◌, List, [], ◌∷◌}
+use Rattle.std.proofs.Common.{refl, ap, sym, inl, inr, ◌⊎◌, nat_le, arith}
 use Rattle.std.proofs.lemmas.Bool.{cases_Bool}
 use Rattle.std.proofs.lemmas.Bool.Decides.{nat_tests}
 use Rattle.std.proofs.lemmas.Grind.{common_steps}
@@ -10,8 +11,10 @@ use Rattle.lb_schedule.specs.declared.event.Action.TheVariants as to
 use Rattle.lb_schedule.specs.declared.turns.Stage.{Stage}
 use Rattle.lb_schedule.specs.declared.turns.Stage.TheVariants as at
 use Rattle.lb_schedule.specs.Schedule.{due, is_idle}
-use Rattle.lb_schedule.specs.Turns.{Plan, RunValue, is_update, is_ready, is_check, is_sleep, awaits, stage, action_at, at_turn, at_tell, at_check, at_rest, has_reached, is_within, with_last}
-use Rattle.lb_schedule.specs.History.{Heard, is_start, is_shutdown, is_updated, last, was_shut, begun, told, target, state, right, IsRun, HasUpdated, heard}
+use Rattle.lb_schedule.specs.Turns.{Plan, RunValue, is_update, is_ready, is_check, is_sleep, awaits, stage, action_at, at_turn}
+use Rattle.lb_schedule.specs.Turns.{at_tell, at_check, at_rest, has_reached, is_within, with_last}
+use Rattle.lb_schedule.specs.History.{Heard, is_shutdown, last, was_shut, begun, target, state, right}
+use Rattle.lb_schedule.specs.History.{IsRun, HasUpdated, heard}
 
 pub falsehood : false ≡ true → ⊥
 falsehood i = cc

@@ -1,24 +1,28 @@
 -- Lemmas on runs by turns: what is noted of an event is the state of the longer history.
-use Rattle.std.proofs.Common.{◌≡◌, ◌≢◌, ◌∙◌, ℕ, Bool, true, false, not, ◌&&◌, ◌||◌, List, [], ◌∷◌, Option, Some, None, Ok, Err, refl, ap, sym, subst, inl, inr, ◌⊎◌}
+use Rattle.std.proofs.Common.{◌≡◌, ◌∙◌, ℕ, not, ◌&&◌, List, ◌∷◌, Option, Some, None, Ok, Err}
+use Rattle.std.proofs.Common.{refl, ap, sym, subst, inl, inr}
 use Rattle.std.proofs.lemmas.Bool.{cases_Bool}
 use Rattle.lb_schedule.specs.declared.event.Event.{Event}
 use Rattle.lb_schedule.specs.declared.event.Event.TheVariants as on
 use Rattle.lb_schedule.specs.declared.event.Action.{Action}
 use Rattle.lb_schedule.specs.declared.event.Action.TheVariants as to
-use Rattle.lb_schedule.specs.Schedule.{ScheduleValue, schedule_after, schedule_value, next_of, update_finished, check_finished}
-use Rattle.lb_schedule.specs.Turns.{Plan, RunValue, is_update, is_ready, is_check, is_sleep, stage, action_at, with_last, noted, no_schedule}
-use Rattle.lb_schedule.specs.History.{Heard, last, begun, told, target, base, started, updates, checks, schedule_of, state, right, IsRun, IsAfter, heard}
+use Rattle.lb_schedule.specs.Schedule.{ScheduleValue, schedule_value, next_of, update_finished, check_finished}
+use Rattle.lb_schedule.specs.Turns.{Plan, RunValue, is_update, is_ready, is_check, is_sleep, stage, action_at, with_last, noted}
+use Rattle.lb_schedule.specs.History.{Heard, last, begun, told, base, started, updates, checks, schedule_of, state}
+use Rattle.lb_schedule.specs.History.{IsRun, IsAfter, heard}
 use Rattle.lb_schedule.proofs.ScheduleLemmas.{finish_next}
 
 update_noted : (p : Plan) (made : Option ℕ) (b : ℕ) (us cs : List ℕ)
     → update_finished (schedule_of p made us cs) b ≡ schedule_of p made (b ∷ us) cs
 update_noted p None b us cs = refl
-update_noted p (Some m) b us cs = ap (λ n. schedule_value (Some p.update) n p.check (next_of p.check m cs)) (finish_next (Some p.update) m b us)
+update_noted p (Some m) b us cs = ap (λ n. schedule_value (Some p.update) n p.check (next_of p.check m cs))
+    (finish_next (Some p.update) m b us)
 
 check_noted : (p : Plan) (made : Option ℕ) (b : ℕ) (us cs : List ℕ)
     → check_finished (schedule_of p made us cs) b ≡ schedule_of p made us (b ∷ cs)
 check_noted p None b us cs = refl
-check_noted p (Some m) b us cs = ap (λ n. schedule_value (Some p.update) (next_of (Some p.update) m us) p.check n) (finish_next p.check m b cs)
+check_noted p (Some m) b us cs = ap (λ n. schedule_value (Some p.update) (next_of (Some p.update) m us) p.check n)
+    (finish_next p.check m b cs)
 
 -- the state with an event, and the answer before it
 abbrev seen : Plan → ℕ → ℕ → Event → List Heard → RunValue
@@ -39,24 +43,35 @@ noted_state : (p : Plan) (now given : ℕ) (e : Event) (h : List Heard) → note
 noted_state p now given on.Start h = elim (cases_Bool (begun h)) [ inl is ↦ rw is refl | inr other ↦ rw other refl ]
 noted_state p now given (on.Updated (Ok g)) h =
     elim (cases_Bool (is_update (last h))) [
-      | inl is ↦ rw is (ap (λ s. record { plan = p; begun = begun h; told = told h; base = base p h; target = Some g; schedule = s; last = last h })
+      | inl is ↦ rw is (ap (λ s. record {
+        plan = p;
+        begun = begun h;
+        told = told h;
+        base = base p h;
+        target = Some g;
+        schedule = s;
+        last = last h;
+      })
           (update_noted p (started p h) (base p h) (updates p h) (checks p h)))
       | inr other ↦ rw other refl
     ]
 noted_state p now given (on.Updated (Err r)) h =
     elim (cases_Bool (is_update (last h))) [
-      | inl is ↦ rw is (ap (λ s. with_schedule (seen p now given (on.Updated (Err r)) h) s) (update_noted p (started p h) (base p h) (updates p h) (checks p h)))
+      | inl is ↦ rw is (ap (λ s. with_schedule (seen p now given (on.Updated (Err r)) h) s)
+          (update_noted p (started p h) (base p h) (updates p h) (checks p h)))
       | inr other ↦ rw other refl
     ]
 noted_state p now given on.Told h = elim (cases_Bool (is_ready (last h))) [ inl is ↦ rw is refl | inr other ↦ rw other refl ]
 noted_state p now given on.Checked h =
     elim (cases_Bool (is_check (last h))) [
-      | inl is ↦ rw is (ap (λ s. with_schedule (seen p now given on.Checked h) s) (check_noted p (started p h) (base p h) (updates p h) (checks p h)))
+      | inl is ↦ rw is (ap (λ s. with_schedule (seen p now given on.Checked h) s)
+          (check_noted p (started p h) (base p h) (updates p h) (checks p h)))
       | inr other ↦ rw other refl
     ]
 noted_state p now given on.Woke h = elim (cases_Bool (is_sleep (last h))) [ inl is ↦ rw is refl | inr other ↦ rw other refl ]
 noted_state p now given on.Rebuilt h =
-    elim (cases_Bool (is_sleep (last h) && (p.of_group && p.notifier && not (told h)))) [ inl is ↦ rw is refl | inr other ↦ rw other refl ]
+    elim (cases_Bool (is_sleep (last h) && (p.of_group && p.notifier && not (told h))))
+    [ inl is ↦ rw is refl | inr other ↦ rw other refl ]
 noted_state p now given on.Targets h = refl
 noted_state p now given on.ViewRemoved h = refl
 noted_state p now given on.Shutdown h = refl

@@ -1,6 +1,6 @@
 -- Lemmas on schedules.
 use Rattle.std.proofs.Common.{◌≡◌, ◌∙◌, ℕ, List, [], ◌∷◌, Option, Some, None, refl, ap}
-use Rattle.lb_schedule.specs.Schedule.{ScheduleValue, next_of, after_finish, schedule_value, schedule_after}
+use Rattle.lb_schedule.specs.Schedule.{next_of, after_finish, schedule_value, schedule_after}
 use Rattle.lb_schedule.specs.Laws.{Done, update, check, done, all_done, updates, checks}
 
 pub finish_next : (t : Option (Option ℕ)) (made base : ℕ) (bases : List ℕ) → after_finish t base ≡ next_of t made (base ∷ bases)

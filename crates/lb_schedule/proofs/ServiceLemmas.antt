@@ -1,5 +1,6 @@
 -- Lemmas on the run of a health check service.
-use Rattle.std.proofs.Common.{◌≡◌, ◌≢◌, ◌∙◌, ℕ, Bool, true, false, not, ◌&&◌, ◌||◌, List, [], ◌∷◌, Option, Some, None, refl, ap, sym, subst, inl, inr, if◌then◌else◌, arith}
+use Rattle.std.proofs.Common.{◌≡◌, ◌≢◌, ◌∙◌, ℕ, Bool, true, false, ◌&&◌, ◌||◌, List, [], ◌∷◌, Option, Some, None, refl, ap}
+use Rattle.std.proofs.Common.{sym, subst, inl, inr, if◌then◌else◌, arith}
 use Rattle.std.proofs.lemmas.Bool.{cases_Bool}
 use Rattle.std.proofs.lemmas.Grind.{common_steps}
 use Rattle.lb_schedule.specs.declared.event.Event.{Event}
@@ -7,9 +8,10 @@ use Rattle.lb_schedule.specs.declared.event.Event.TheVariants as on
 use Rattle.lb_schedule.specs.declared.event.Action.{Action}
 use Rattle.lb_schedule.specs.declared.event.Action.TheVariants as to
 use Rattle.lb_schedule.specs.Schedule.{ScheduleValue, schedule_value, check_finished}
-use Rattle.lb_schedule.specs.Turns.{is_ready, is_check, is_sleep, no_schedule}
+use Rattle.lb_schedule.specs.Turns.{is_ready, is_check, is_sleep}
 use Rattle.lb_schedule.specs.History.{Heard, is_shutdown, last, begun, told, was_shut, heard}
-use Rattle.lb_schedule.specs.Services.{ServicePlan, ServiceValue, service_noted, service_answer, service_state, service_schedule, with_answer, start_of, check_moments, is_waiting, is_hold, IsServiceRun, IsServiceAfter}
+use Rattle.lb_schedule.specs.Services.{ServicePlan, ServiceValue, service_noted, service_answer, service_state, service_schedule}
+use Rattle.lb_schedule.specs.Services.{with_answer, start_of, check_moments, is_waiting, is_hold, IsServiceRun, IsServiceAfter}
 use Rattle.lb_schedule.proofs.LawLemmas.{falsehood, shut_begun}
 use Rattle.lb_schedule.proofs.ScheduleLemmas.{finish_next}
 
@@ -52,12 +54,14 @@ pub service_stepped : (r : ServiceValue) (now given : ℕ) (e : Event) (h : List
     → IsServiceAfter r h → IsServiceAfter n (heard now given e a ∷ h)
 service_stepped r now given e h a n is answers after =
     let p = r.plan in
-    let notes : service_noted r now e ≡ service_seen p now given e h = ap (λ s. service_noted s now e) after.state ∙ service_noted_state p now given e h in
+    let notes : service_noted r now e ≡ service_seen p now given e h = ap (λ s. service_noted s now e) after.state ∙
+    service_noted_state p now given e h in
     let same : n ≡ service_state p (heard now given e a ∷ h) = is ∙ ap (λ s. with_answer s a) notes in
     let kept : n.plan ≡ p = ap (λ s. s.plan) same in
     let began : r.begun ≡ begun h = ap (λ s. s.begun) after.state in
     let answer : a ≡ service_answer (service_seen p now given e h) (begun h) given e =
-    answers ∙ ap (λ s. service_answer s r.begun given e) notes ∙ ap (λ b. service_answer (service_seen p now given e h) b given e) began in
+    answers ∙ ap (λ s. service_answer s r.begun given e) notes ∙ ap (λ b. service_answer (service_seen p now given e h) b given e)
+    began in
     record {
       state = subst (λ q. n ≡ service_state q (heard now given e a ∷ h)) (sym kept) same;
       run = subst (λ q. IsServiceRun q (heard now given e a ∷ h)) (sym kept) (answer, after.run);
@@ -92,7 +96,8 @@ settled_if false a c is other = other
 settled_step : (r : ServiceValue) (b : Bool) (count : ℕ) (e : Event) → r.plan.check ≡ None → settled r.last ≡ true
     → settled (service_answer r b count e) ≡ true
 settled_step r b count on.Shutdown none is = refl
-settled_step r b count on.Start none is = rw none (settled_if b r.last (if r.plan.notifier then to.Hold else to.Return) is (settled_if r.plan.notifier to.Hold to.Return refl refl))
+settled_step r b count on.Start none is = rw none (settled_if b r.last (if r.plan.notifier then to.Hold else to.Return) is
+    (settled_if r.plan.notifier to.Hold to.Return refl refl))
 settled_step r b count on.Checked none is = rw ((settled_unfit r.last is).1) is
 settled_step r b count on.Told none is = rw ((settled_unfit r.last is).0) is
 settled_step r b count on.Woke none is = rw ((settled_unfit r.last is).2) is

@@ -1,6 +1,7 @@
 -- The history of a run by turns: what it was told, with the moments, and what it answered; the last first. What is right to answer is
 -- told of the whole history.
-use Rattle.std.specs.Prelude.{◌≡◌, ℕ, Bool, true, false, not, ◌&&◌, ◌||◌, List, [], ◌∷◌, Option, Some, None, Result, Ok, Err, ⊤, ◌⊎◌, if◌then◌else◌}
+use Rattle.std.specs.Prelude.{◌≡◌, ℕ, Bool, true, false, not, ◌&&◌, ◌||◌, List, [], ◌∷◌, Option, Some, None, Ok, ⊤}
+use Rattle.std.specs.Prelude.{◌⊎◌, if◌then◌else◌}
 use Rattle.lb_schedule.specs.declared.event.Event.{Event}
 use Rattle.lb_schedule.specs.declared.event.Event.TheVariants as on
 use Rattle.lb_schedule.specs.declared.event.Action.{Action}

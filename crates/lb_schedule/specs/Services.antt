@@ -6,7 +6,7 @@ use Rattle.lb_schedule.specs.declared.event.Action.{Action}
 use Rattle.lb_schedule.specs.declared.event.Action.TheVariants as to
 use Rattle.lb_schedule.specs.Schedule.{ScheduleValue, schedule_after, check_finished}
 use Rattle.lb_schedule.specs.Turns.{is_ready, is_check, is_sleep, no_schedule}
-use Rattle.lb_schedule.specs.History.{Heard, is_shutdown, is_start, is_told, is_checked, starts, last, begun, told}
+use Rattle.lb_schedule.specs.History.{Heard, is_checked, starts, last, begun, told}
 
 -- how a service is made: with a check, one-time or with a frequency, or with none; with a notifier or without
 pub record ServicePlan : Type 0 where

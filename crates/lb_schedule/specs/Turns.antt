@@ -1,5 +1,6 @@
 -- What a run by turns does with an event: what it notes, where its turn goes on, and what it answers.
-use Rattle.std.specs.Prelude.{ℕ, Bool, true, false, not, ◌&&◌, ◌||◌, List, [], ◌∷◌, Option, Some, None, Result, Ok, Err, nat_le, if◌then◌else◌}
+use Rattle.std.specs.Prelude.{ℕ, Bool, true, false, not, ◌&&◌, [], Option, Some, None, Ok, nat_le}
+use Rattle.std.specs.Prelude.{if◌then◌else◌}
 use Rattle.lb_schedule.specs.declared.event.Event.{Event}
 use Rattle.lb_schedule.specs.declared.event.Event.TheVariants as on
 use Rattle.lb_schedule.specs.declared.event.Action.{Action}

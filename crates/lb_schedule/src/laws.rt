@@ -1,6 +1,7 @@
 //! What holds of schedules over every list of moments at which their tasks were done, and of runs over every list of events.
 //! Each function is a law: it does nothing, and its contract is the law.
-ghost use Rattle.lb_schedule.specs.Laws.{FinishesGiveNext, NoReadyWithoutCheck, ReadyAfterUpdate, ReadyWhereServed, ShutRunsReturn, ShutServicesReturn};
+ghost use Rattle.lb_schedule.specs.Laws.{FinishesGiveNext, NoReadyWithoutCheck, ReadyAfterUpdate, ReadyWhereServed};
+ghost use Rattle.lb_schedule.specs.Laws.{ShutRunsReturn, ShutServicesReturn};
 
 /// However often the tasks of a schedule were done, each is next by its frequency after the base at which it was done last, or at the
 /// moment at which the schedule was made where it was never done; a one-time task that was done is never next.

@@ -5,5 +5,6 @@ use Rattle.lb_schedule.proofs.group_run.GroupRun.step.Goals as goal
 
 pub returns-clause-history : goal.returns-clause-history
 returns-clause-history c = λ h after.
-    stepped c.self.inside.turns c.args.now c.args.least c.args.event h c.step.result c.step.new.self c.step.ensures.state c.step.ensures.action
+    stepped c.self.inside.turns c.args.now c.args.least c.args.event h c.step.result c.step.new.self c.step.ensures.state
+    c.step.ensures.action
     (subst (λ r. IsAfter r h) (sym c.self.view_is) after)
