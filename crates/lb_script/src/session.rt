@@ -1,11 +1,10 @@
 //! One line of a script at a time: it is read, its step is taken, and the text of the answer is prepared.
 //! What a run keeps between its lines stands here; the buffers are used again for each line.
-ghost use Rattle.std.specs.Prelude.{◌≡◌, ◌≢◌, ◌&&◌, [], ◌∷◌, Err, None, IfSome, true, false};
+ghost use Rattle.std.specs.Prelude.{◌≡◌, ◌≢◌, [], ◌∷◌, Err, true};
 ghost use Rattle.std.specs.Io.KnownBytes.{Keeps, prepend_known};
 ghost use Rattle.lb_world.specs.History.{History};
 ghost use Rattle.lb_world.specs.Meanings.{meaning_of};
 ghost use Rattle.lb_world.specs.Stands.{Stands};
-ghost use Rattle.lb_world.specs.Steps.{step_seen};
 ghost use Rattle.lb_step_text.specs.LineSteps.{line_step_seen};
 ghost use Rattle.lb_counted.specs.Counted.{inner_of, has_failed};
 ghost use Rattle.lb_counted.specs.Stream.{OnBytes};
@@ -111,9 +110,10 @@ impl<S: BackendSelection<Config = Kind>> Session<S> {
         ensures ahead { self.new.ahead ≡ self.old.ahead }
     {
         let step = parse(alloc, &self.line)?;
-        let Some(answer) = take_step(&mut self.world, self.has_registry, step) else {
+        if self.has_registry && makes_registry(&step) {
             return Err(ScriptError::BadLine);
-        };
+        }
+        let answer = take_step(&mut self.world, step);
         self.has_registry |= made_registry(&answer);
         self.text.clear();
         push_answer(alloc, &mut self.text, &answer)?;
@@ -122,16 +122,10 @@ impl<S: BackendSelection<Config = Kind>> Session<S> {
     }
 }
 
-// Takes the step of a line, unless it makes a registry where one is already.
-fn take_step<S: BackendSelection<Config = Kind>>(
-    world: &mut World<S>,
-    has_registry: bool,
-    step: LineStep<'_>,
-) -> Option<Answer>
-    ensures second { result ≡ None → (has_registry && makes_registry (line_step_seen step.entry)) ≡ true }
-    ensures first { IfSome result (λ _. (has_registry && makes_registry (line_step_seen step.entry)) ≡ false) }
-    ensures taken { IfSome result (λ answer. (h : History Kind) → Stands (meaning_of S.BackendSelection) world.old h
-        → Stands (meaning_of S.BackendSelection) world.new ((line_step_seen step.entry, answer) ∷ h)) }
+// Takes the step of a line.
+fn take_step<S: BackendSelection<Config = Kind>>(world: &mut World<S>, step: LineStep<'_>) -> Answer
+    ensures { (h : History Kind) → Stands (meaning_of S.BackendSelection) world.old h
+        → Stands (meaning_of S.BackendSelection) world.new ((line_step_seen step.entry, result) ∷ h) }
 {
     match step {
         LineStep::Select {
@@ -139,21 +133,16 @@ fn take_step<S: BackendSelection<Config = Kind>>(
             slot,
             key,
             limit,
-        } => Some(world.select(group, slot, key, limit, &[])),
-        LineStep::Other(step) => {
-            if has_registry && makes_registry(&step) {
-                return None;
-            }
-            Some(world.step(step))
-        }
+        } => world.select(group, slot, key, limit, &[]),
+        LineStep::Other(step) => world.step(step),
     }
 }
 
-fn makes_registry(step: &Step<Kind>) -> bool
-    ensures { result ≡ makes_registry (step_seen step.now) }
+fn makes_registry(step: &LineStep<'_>) -> bool
+    ensures { result ≡ makes_registry (line_step_seen step.now) }
 {
     match step {
-        Step::Registry(_) => true,
+        LineStep::Other(Step::Registry(_)) => true,
         _ => false,
     }
 }

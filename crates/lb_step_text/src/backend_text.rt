@@ -1,65 +1,15 @@
 //! The text of a backend as bytes, written from its end to its front.
 //! Most answers are a backend at an IPv4 address: that text takes no formatter, and is copied once.
-ghost use Rattle.std.specs.Prelude.{◌≡◌, ℕ, ◌+◌, ◌^◌, ◌<◌, ◌≤◌, List, [], ◌∷◌, ◌++◌, codes, decimal, drop, length, OnOk};
+ghost use Rattle.std.specs.Prelude.{◌≡◌, ◌+◌, ◌<◌, ◌≤◌, ◌∷◌, ◌++◌, codes, decimal, drop, length, OnOk};
 ghost use Rattle.lb_select.specs.AddressText.{address_text, member_text};
 ghost use Rattle.lb_select.specs.Backends.{ipv4};
 
 use itoa::write_digits;
 use lb_select::backend::{Backend, InetAddr, SocketAddr};
 use std::alloc::{AllocError, Global};
-use std::marker::Model;
 
 /// How many bytes a text that grows at its front may have: six numbers, five bytes between them, and some.
 const CAPACITY: usize = 128;
-
-/// A text that grows at its front.
-#[derive(Drop)]
-struct FrontText {
-    bytes: [u8; CAPACITY],
-    start: usize,
-}
-
-impl Model for FrontText {
-    ghost Value = { List ℕ };
-
-    ghost view = { λ t. drop t.start t.bytes };
-
-    ghost invariant = { λ t. t.start ≤ 128 };
-}
-
-impl FrontText {
-    // The empty text.
-    fn new() -> FrontText
-        ensures { result ≡ [] }
-    {
-        FrontText {
-            bytes: [0; CAPACITY],
-            start: CAPACITY,
-        }
-    }
-
-    fn bytes(&self) -> &[u8]
-        ensures { result.now ≡ self.now }
-    {
-        &self.bytes[self.start..]
-    }
-
-    fn put_byte(&mut self, byte: u8)
-        requires { length self.old < 128 }
-        ensures { self.new ≡ byte ∷ self.old }
-    {
-        self.start -= 1;
-        self.bytes[self.start] = byte;
-    }
-
-    fn put_number(&mut self, n: u64)
-        requires { length self.old + 20 ≤ 128 }
-        ensures text { self.new ≡ decimal n ++ self.old }
-        ensures room { length self.new ≤ length self.old + 20 }
-    {
-        self.start = write_digits(n, &mut self.bytes, self.start);
-    }
-}
 
 /// Appends the text of a backend: its address, a slash and its weight.
 pub fn push_backend(alloc: Global, text: &mut Vec<u8>, backend: &Backend) -> Result<(), AllocError>
@@ -68,11 +18,9 @@ pub fn push_backend(alloc: Global, text: &mut Vec<u8>, backend: &Backend) -> Res
     let (address, weight) = backend.identity();
     match address {
         SocketAddr::Inet(InetAddr::V4(octets, port)) => {
-            let mut spelled = FrontText::new();
-            spelled.put_number(weight as u64);
-            spelled.put_byte(b'/');
-            put_ipv4(&mut spelled, octets, *port);
-            text.extend_from_slice(spelled.bytes())
+            let mut bytes = [0; CAPACITY];
+            let start = put_ipv4(&mut bytes, octets, *port, weight as u64);
+            text.extend_from_slice(&bytes[start..])
         }
         _ => {
             let spelled = format!(in alloc; "{backend}")?;
@@ -81,19 +29,41 @@ pub fn push_backend(alloc: Global, text: &mut Vec<u8>, backend: &Backend) -> Res
     }
 }
 
-// Puts an IPv4 address and its port before the text.
-fn put_ipv4(spelled: &mut FrontText, octets: &[u8], port: u16)
-    requires four { length octets.now ≡ 4 }
-    requires room { length spelled.old ≤ 21 }
-    ensures { spelled.new ≡ address_text (ipv4 octets.now port) ++ spelled.old }
+// Puts a byte before the text that begins at `start`, and answers where the longer text begins. A place that is no field beside
+// the bytes stays in a register.
+fn put_byte(bytes: &mut [u8; CAPACITY], start: usize, byte: u8) -> usize
+    requires { (0 < start) × (start ≤ 128) }
+    ensures text { drop result bytes.new ≡ byte ∷ drop start bytes.old }
+    ensures place { result + 1 ≡ start }
 {
-    spelled.put_number(u64::from(port));
-    spelled.put_byte(b':');
-    spelled.put_number(u64::from(octets[3]));
-    spelled.put_byte(b'.');
-    spelled.put_number(u64::from(octets[2]));
-    spelled.put_byte(b'.');
-    spelled.put_number(u64::from(octets[1]));
-    spelled.put_byte(b'.');
-    spelled.put_number(u64::from(octets[0]));
+    bytes[start - 1] = byte;
+    start - 1
+}
+
+// Puts a number before the text that begins at `start`, and answers where the longer text begins.
+fn put_number(bytes: &mut [u8; CAPACITY], start: usize, n: u64) -> usize
+    requires { (20 ≤ start) × (start ≤ 128) }
+    ensures text { drop result bytes.new ≡ decimal n ++ drop start bytes.old }
+    ensures place { (result ≤ start) × (start ≤ result + 20) }
+{
+    write_digits(n, bytes, start)
+}
+
+// Puts an IPv4 address, its port and a weight at the end of the bytes, and answers where they begin.
+fn put_ipv4(bytes: &mut [u8; CAPACITY], octets: &[u8], port: u16, weight: u64) -> usize
+    requires { length octets.now ≡ 4 }
+    ensures text { drop result bytes.new ≡ address_text (ipv4 octets.now port) ++ codes "/" ++ decimal weight }
+    ensures place { result ≤ 128 }
+{
+    let mut at = put_number(bytes, CAPACITY, weight);
+    at = put_byte(bytes, at, b'/');
+    at = put_number(bytes, at, u64::from(port));
+    at = put_byte(bytes, at, b':');
+    at = put_number(bytes, at, u64::from(octets[3]));
+    at = put_byte(bytes, at, b'.');
+    at = put_number(bytes, at, u64::from(octets[2]));
+    at = put_byte(bytes, at, b'.');
+    at = put_number(bytes, at, u64::from(octets[1]));
+    at = put_byte(bytes, at, b'.');
+    put_number(bytes, at, u64::from(octets[0]))
 }

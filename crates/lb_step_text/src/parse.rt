@@ -5,6 +5,7 @@ ghost use Rattle.lb_step_text.specs.StepLines.{Reads, both, selector_kind_of, sl
 ghost use Rattle.lb_step_text.specs.StepLines.{registry_of, gate_of, count, group_parts_of, group_of, update_of};
 ghost use Rattle.lb_step_text.specs.StepLines.{select_parts_of, select_of, plain_step_of, other_step_of, step_of_words, step_of};
 ghost use Rattle.lb_step_text.specs.LineSteps.{line_step_seen};
+ghost use Rattle.lb_step_text.specs.Words.{words_of};
 ghost use Rattle.lb_world.specs.Steps.{step_seen};
 
 use crate::backends::backends;
@@ -62,9 +63,26 @@ pub fn parse(alloc: Global, line: &[u8]) -> Result<LineStep<'_>, ScriptError>
     ensures { Reads line_step_seen (step_of line.now) result }
 {
     match str::from_utf8(line) {
-        Ok(text) => step(alloc, Words::of(text)),
+        Ok(text) => text_step(alloc, text),
         Err(_) => Err(ScriptError::BadLine),
     }
+}
+
+// The step that the text asks for. The first word of most lines is told without a search for its end.
+fn text_step(alloc: Global, text: &str) -> Result<LineStep<'_>, ScriptError>
+    ensures { Reads line_step_seen (step_of_words (words_of text.now)) result }
+{
+    match text.strip_prefix("select ") {
+        Some(rest) => selection(rest),
+        None => step(alloc, Words::of(text)),
+    }
+}
+
+// The selection that the words after the first ask for.
+fn selection(rest: &str) -> Result<LineStep<'_>, ScriptError>
+    ensures { Reads line_step_seen (select_of (words_of rest.now)) result }
+{
+    select(Words::of(rest)).ok_or(ScriptError::BadLine)
 }
 
 // The step that these words ask for.

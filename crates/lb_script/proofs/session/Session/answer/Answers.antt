@@ -7,12 +7,12 @@ pub returns-clause-line : goal.returns-clause-line
 returns-clause-line g c =
     λ h held.
     let st = line_step_seen c.in_ok-step.step in
-    let stands = c.in-Some.ensures.taken h held.stands in
+    let stands = c.take_step-answer.ensures h held.stands in
     record {
       st = st;
-      a = c.in-Some.answer;
+      a = c.take_step-answer.result;
       is = search rules;
       right = stands.run.1;
-      holds = record { stands = stands; marks = rw c.made_registry.ensures (marks_after c.args.self.now.has_registry h st c.in-Some.answer held.marks) };
+      holds = record { stands = stands; marks = rw c.made_registry.ensures (marks_after c.args.self.now.has_registry h st c.take_step-answer.result held.marks) };
       printed = search rules;
     }

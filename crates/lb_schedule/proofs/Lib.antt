@@ -1,0 +1,4 @@
+pub mod LawLemmas
+pub mod RunLemmas
+pub mod ScheduleLemmas
+pub mod ServiceLemmas

@@ -1,0 +1,6 @@
+pub mod History
+pub mod Laws
+pub mod Runs
+pub mod Schedule
+pub mod Services
+pub mod Turns
