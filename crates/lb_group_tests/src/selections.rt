@@ -1,8 +1,11 @@
 //! Selections of groups as calls: which backend comes by readiness, by what accepts, and by loads.
 //! The weight tells which backend it is.
+ghost use Rattle.lb_joined.specs.Stands.{SameSite};
+
 use crate::joined::{joined_of_one, rebuilt};
-use lb_group::answers::Selection;
+use lb_group::answers::{Ask, Selection};
 use lb_group::group::GroupCore;
+use lb_group::job::FailedBuild;
 use lb_health::view::Settings;
 use lb_joined::group;
 use lb_rebuild::gate::GateCore;
@@ -42,7 +45,9 @@ fn selected(
     alloc: Global,
     group: &mut group::GroupCore<RoundRobin>,
     registry: &RegistryCore,
-) -> Result<(Option<usize>, u64), Refusal> {
+) -> Result<(Option<usize>, u64), Refusal>
+    ensures { SameSite group.old group.new }
+{
     told(group.select(alloc, registry, 0, b"", 16, &[], &Loads::new()))
 }
 
@@ -72,8 +77,9 @@ fn ready_ones_are_selected(rt: HostRuntime) -> Result<(), Fail> {
         &loads,
         &|_backend: &Backend, ready: bool| !ready,
     );
-    assert_eq!(rt; idle.tickets, 5);
-    assert_eq!(rt; told(idle)?, (Some(2), 2));
+    // Tickets 3 and 4 are of the first one, ticket 5 is of the second.
+    assert_eq!(rt; idle.tickets, 6);
+    assert_eq!(rt; told(idle)?, (Some(2), 3));
     let nowhere = group.select(alloc, &registry, 1, b"", 16, &[], &loads);
     assert_eq!(rt; told(nowhere)?, (None, 0));
     Ok(())
@@ -93,29 +99,44 @@ fn served_generation_judges(rt: HostRuntime) -> Result<(), Fail> {
     group.schedule(alloc, &mut registry, none, Settings::new(alloc), 1)?;
     assert_eq!(rt; selected(alloc, &mut group, &registry)?, (Some(1), 1));
     assert_eq!(rt; registry.observe(0, false, 1), Ok(true));
-    assert_eq!(rt; told(group.select(alloc, &registry, 0, b"", 3, &[], &Loads::new()))?, (None, 4));
+    assert_eq!(rt;
+        told(group.select(alloc, &registry, 0, b"", 3, &[], &Loads::new()))?,
+        (None, 4)
+    );
     Ok(())
+}
+
+// A group of one slot that serves a selector by loads over these backends.
+fn by_loads(alloc: Global, set: BTreeSet<Backend>) -> Result<GroupCore<LeastConnections>, Refusal> {
+    let mut gate = GateCore::new(alloc)?;
+    let mut configs = Vec::new(alloc);
+    configs.push(())?;
+    let mut group: GroupCore<LeastConnections> = GroupCore::new(alloc, &gate, configs)?;
+    group.schedule(alloc, set, 0)?;
+    let job = match group.ask(0, &mut gate, 0)? {
+        Ask::Cancelled | Ask::Building | Ask::Nothing | Ask::NotDue(_) | Ask::Busy => {
+            return Err(Refusal::NothingInFlight);
+        }
+        Ask::Job(job) => job,
+    };
+    let built = match job.build(alloc, || 0) {
+        Ok(built) => built,
+        Err(FailedBuild { job, refusal }) => {
+            job.close();
+            return Err(refusal);
+        }
+    };
+    if let Err(built) = group.publish(built) {
+        built.close();
+    }
+    Ok(group)
 }
 
 // The least load for each unit of weight comes first, of those that are accepted.
 #[test]
 fn loads_are_lent(rt: HostRuntime) -> Result<(), Fail> {
     let alloc = rt.alloc();
-    let mut gate = GateCore::new(alloc)?;
-    let mut configs = Vec::new(alloc);
-    configs.push(())?;
-    let mut group: GroupCore<LeastConnections> = GroupCore::new(alloc, &gate, configs)?;
-    let set = by_weight(alloc, 3)?;
-    group.schedule(alloc, set, 0)?;
-    let lb_group::answers::Ask::Job(job) = group.ask(0, &mut gate, 0)? else {
-        return Err(Fail::from(Refusal::NothingInFlight));
-    };
-    let Ok(built) = job.build(alloc, || 0) else {
-        return Err(Fail::from(Refusal::NothingBuilt));
-    };
-    if let Err(built) = group.publish(built) {
-        built.close();
-    }
+    let mut group = by_loads(alloc, by_weight(alloc, 3)?)?;
     let mut loads = Loads::new();
     loads.set(alloc, &one(alloc, 1)?, 2)?;
     loads.set(alloc, &one(alloc, 2)?, 1)?;
@@ -123,9 +144,15 @@ fn loads_are_lent(rt: HostRuntime) -> Result<(), Fail> {
     assert_eq!(rt; loads.get(&one(alloc, 3)?), 9);
     let any = group.select_with(alloc, 0, b"", 16, &[], &loads, &|_backend: &Backend| true);
     assert_eq!(rt; told(any)?, (Some(2), 0));
-    let odd = group.select_with(alloc, 0, b"", 16, &[], &loads, &|backend: &Backend| {
-        backend.weight != 2
-    });
+    let odd = group.select_with(
+        alloc,
+        0,
+        b"",
+        16,
+        &[],
+        &loads,
+        &|backend: &Backend| { backend.weight != 2 },
+    );
     assert_eq!(rt; told(odd)?, (Some(1), 0));
     Ok(())
 }
