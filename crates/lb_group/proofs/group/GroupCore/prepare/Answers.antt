@@ -1,5 +1,5 @@
 -- Each slot has its order, of the generation that would be the newest.
-use Rattle.std.proofs.Common.{◌≡◌, ◌+◌, ◌∙◌, false, map, sym, ap, subst, refl}
+use Rattle.std.proofs.Common.{◌≡◌, ◌+◌, ◌∙◌, false, map, sym, ap, subst}
 use Rattle.std.specs.Arc.{arc_value}
 use Rattle.lb_select.specs.Memberships.{same_members}
 use Rattle.lb_group.specs.Fresh.{turn_of}
