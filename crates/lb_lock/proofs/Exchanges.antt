@@ -38,18 +38,25 @@ module _ {T K : Type 0} (holds : T → Type 0) where
   comes key slots s keeps_rule _ _ =
       dite (ℕ_discrete (slice_index s.words 0) 0)
       (λ e.
-      let f = keeps_rule.free e in
-      (key, takes 0 (Some f.0),
-      subst (λ (h : List (maybe.Option (Option T))). get_elem? h 0 ≡ maybe.some (maybe.some (Some f.0))) (sym f.1) refl,
-      stored holds 1 s.words _ keeps_rule.one (λ z. absurd (never 1 refl z)), λ _. (f.0, refl, f.2)))
+      let f = keeps_rule.free e in (
+        key,
+        takes 0 (Some f.0),
+        subst (λ (h : List (maybe.Option (Option T))). get_elem? h 0 ≡ maybe.some (maybe.some (Some f.0))) (sym f.1) refl,
+        stored holds 1 s.words _ keeps_rule.one (λ z. absurd (never 1 refl z)),
+        λ _. (f.0, refl, f.2),
+      ))
       (λ n. (key, keeps, tt, stored holds 1 s.words s.homes keeps_rule.one (λ z. absurd (never 1 refl z)), λ e. absurd (n e)))
 
   -- whoever has the value puts it back by storing 0
   pub goes : (slots id : ℕ) (me : Me (Option T) K) (value : T) → slots ≡ 1 → me.1 ≡ (0, Some value) ∷ [] → holds value
       → Allows {S = Option T} {V = K} (λ s. FreeIsHome holds s.words s.homes) slots id me 0 (λ _. 0) (λ _ _. Unit {0})
-  goes slots id me value one has fact s keeps_rule count _ _ =
-      (me.0, gives, tt,
-      stored holds 0 s.words (put_back s.homes me.1) keeps_rule.one (λ _. (value, put_home s.homes me.1 value (count ∙ one) has, fact)), tt)
+  goes slots id me value one has fact s keeps_rule count _ _ = (
+    me.0,
+    gives,
+    tt,
+    stored holds 0 s.words (put_back s.homes me.1) keeps_rule.one (λ _. (value, put_home s.homes me.1 value (count ∙ one) has, fact)),
+    tt,
+  )
 
 -- a seat that has one slot has no other
 pub alone : {S : Type 0} (i : ℕ) (x : S) (held : List (ℕ × S)) → held ≡ (i, x) ∷ [] → held ≡ (i, x) ∷ rest held

@@ -180,8 +180,8 @@ module _ {R C : Type 0} (M : Meaning C) (gives : R → Member → Member → Typ
                   ap (λ (t : GateView). t.out) p.1 ∙ after.1
                   ∙ ap (permit_after st a) (s.outs e.gate z gate-there)
                   ∙ sym
-                      (ap (λ (i : ℕ). is_out i ((st, a) ∷ h)) p.0
-                      ∙ ap (λ (t : Bool). cond t (permit_after st a (is_out e.gate h)) (is_out e.gate h)) (ap (is_at e.gate) gate-at ∙ eq-eqb e.gate e.gate refl))
+                  (ap (λ (i : ℕ). is_out i ((st, a) ∷ h)) p.0
+                  ∙ ap (λ (t : Bool). cond t (permit_after st a (is_out e.gate h)) (is_out e.gate h)) (ap (is_at e.gate) gate-at ∙ eq-eqb e.gate e.gate refl))
               | inr p ↦
                   s.outs x q p.1
                   ∙ sym (ap (λ (t : Bool). cond t (permit_after st a (is_out x h)) (is_out x h)) (ap (is_at x) gate-at ∙ ne_eqb e.gate x (λ q. p.0 (sym q))))

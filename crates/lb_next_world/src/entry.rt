@@ -121,14 +121,21 @@ impl<S: BackendSelection> Entry<S> {
             self.now result self.now }
     {
         let core = &self.core;
-        match (core.served(slot), core.flight(slot), core.is_waiting(slot), core.counts(slot)) {
-            (Some(served), Some(flight), Some(waiting), Some(counts)) => Answer::Numbers(SlotCounts {
-                newest: core.newest(),
-                served,
-                flight,
-                waiting,
-                counts,
-            }),
+        match (
+            core.served(slot),
+            core.flight(slot),
+            core.is_waiting(slot),
+            core.counts(slot),
+        ) {
+            (Some(served), Some(flight), Some(waiting), Some(counts)) => Answer::Numbers(
+                SlotCounts {
+                    newest: core.newest(),
+                    served,
+                    flight,
+                    waiting,
+                    counts,
+                },
+            ),
             _ => Answer::Refused(Refusal::NoSuch),
         }
     }

@@ -6,7 +6,9 @@ use Rattle.lb_lock.proofs.lock.KeyedLock.put.Goals as goal
 pub store-requires : goal.store-requires
 store-requires g c =
     let e = c.exchange.ensures in
-    let one = c.args.self.now.one in
-    (e.0 ∙ c.requires.here, omega (arith, one.0),
-    goes (g.I.LockRule.holds c.args.self.now.table.shared.key) c.args.self.now.table.shared.table_id.slots _ _ c.args.held.value one.1
-    (exchanged 0 None (Some c.args.held.value) c.args.held.seat.me _ c.args.held.out e.3) c.requires.fact)
+    let one = c.args.self.now.one in (
+      e.0 ∙ c.requires.here,
+      omega (arith, one.0),
+      goes (g.I.LockRule.holds c.args.self.now.table.shared.key) c.args.self.now.table.shared.table_id.slots _ _ c.args.held.value one.1
+          (exchanged 0 None (Some c.args.held.value) c.args.held.seat.me _ c.args.held.out e.3) c.requires.fact,
+    )
