@@ -1,5 +1,5 @@
 -- A selection from a slot: the words that are counted, with the loads that are lent to it.
-use Rattle.std.proofs.Common.{◌≡◌, ◌&&◌, ℕ, Bool, true, false, nat_le, MatchBool, MatchOption, List, length, Option, Some, None, Result, refl, sym, subst, ◌∙◌, slice_get}
+use Rattle.std.proofs.Common.{◌≡◌, ◌&&◌, ℕ, Bool, true, false, nat_le, MatchBool, MatchOption, List, length, Option, Some, None, Result, refl, subst, ◌∙◌, slice_get}
 use Rattle.std.specs.Borrow.{Bor}
 use Rattle.std.specs.Fn.{Shared, FnReturnsAt}
 use Rattle.lb_select.specs.Backends.{Member, same_member}

@@ -1,7 +1,6 @@
 //! A slot of a group: the selector that it serves to its readers, the order that waits, and at most one extra selector.
 //! Its calls say exactly what they do to the slot; the group above tells them by its history.
 ghost use Rattle.std.specs.Prelude.{◌≡◌, ◌&&◌, not, Bool, true, [], ◌<◌, ◌⊎◌, ℕ, Some, None, IfOk, IfErr, OnErr, nat_lt, if◌then◌else◌};
-ghost use Rattle.std.specs.Arc.{arc_value};
 ghost use Rattle.std.specs.Fn.{FnReturnsAt};
 ghost use Rattle.lb_select.specs.Refusals.{Refuses};
 ghost use Rattle.lb_select.specs.Loads.{load_in};

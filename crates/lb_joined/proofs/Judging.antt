@@ -1,9 +1,9 @@
 -- A selection by readiness: each backend that is asked about is judged in the generation that the slot serves.
-use Rattle.std.proofs.Common.{◌≡◌, ◌∙◌, ℕ, Bool, List, refl, sym, subst, Option, Some, None, slice_get, unwrap_or, length}
+use Rattle.std.proofs.Common.{◌≡◌, ◌∙◌, ℕ, Bool, List, refl, sym, subst, Option, Some, slice_get, unwrap_or, length}
 use Rattle.std.proofs.lemmas.Bool.{lt-ltb}
 use Rattle.std.proofs.lemmas.Option.{slice_get_within}
 use Rattle.std.specs.Borrow.{Bor}
-use Rattle.std.specs.Fn.{Shared, FnReturns, FnReturnsAt}
+use Rattle.std.specs.Fn.{Shared, FnReturns}
 use Rattle.lb_select.specs.Backends.{Member}
 use Rattle.lb_select.specs.Draws.{Draw}
 use Rattle.lb_group.specs.GroupCalls.{at_slot, SelectsIn}

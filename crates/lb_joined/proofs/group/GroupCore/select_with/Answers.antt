@@ -1,12 +1,11 @@
 -- The view does not see it; each backend is judged in the generation that the slot serves.
-use Rattle.std.proofs.Common.{◌≡◌, ◌∙◌, refl, sym, ap, subst, Some, slice_get}
+use Rattle.std.proofs.Common.{◌≡◌, ◌∙◌, refl, sym, subst, Some, slice_get}
 use Rattle.lb_select.specs.Loads.{load_in}
 use Rattle.lb_group.specs.GroupCalls.{select_events}
-use Rattle.lb_group.specs.GroupHistory.{past_of, served}
 use Rattle.lb_group.proofs.Selecting.{asked-in-more}
 use Rattle.lb_joined.specs.JoinedHistory.{group_events}
 use Rattle.lb_joined.specs.JoinedCalls.{served_at, Judges, AcceptsBy}
-use Rattle.lb_joined.specs.Stands.{JoinedValue, Stands, views_of}
+use Rattle.lb_joined.specs.Stands.{Stands}
 use Rattle.lb_joined.proofs.Judging.{number-there, accepts-served}
 use Rattle.lb_joined.proofs.Joins.{joined-still, still-selected}
 use Rattle.lb_joined.proofs.group.GroupCore.select_with.Goals as goal
