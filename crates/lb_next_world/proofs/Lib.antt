@@ -1,3 +1,5 @@
 pub mod Places
 pub mod Quiet
 pub mod Next
+pub mod Held
+pub mod Kinds

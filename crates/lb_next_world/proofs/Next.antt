@@ -10,6 +10,7 @@ use Rattle.lb_rebuild.specs.Gate.{GateId, GateView, gate}
 use Rattle.lb_registry.specs.Registry.{RegistryValue, IsRegistryAfter}
 use Rattle.lb_registry.specs.RegistryEvents as registry
 use Rattle.lb_group.specs.GroupHistory as group
+use Rattle.lb_group.specs.Stands as group-made
 use Rattle.lb_group.specs.Values.{configs_of}
 use Rattle.lb_joined.specs.JoinedHistory as joined
 use Rattle.lb_joined.specs.Stands as stands
@@ -27,6 +28,7 @@ use Rattle.lb_next_world.specs.declared.local.Local.{Local}
 use Rattle.lb_next_world.specs.declared.local.Local.TheVariants as is
 use Rattle.lb_next_world.specs.Loads.{load_in}
 use Rattle.lb_next_world.specs.Locals.{local_seen}
+use Rattle.lb_next_world.specs.Rules.{WorldRule, key_gives}
 use Rattle.lb_next_world.specs.Stands.{EntryIs, EntryNext, Stands, OnSite, made_of, permit_after, Does}
 use Rattle.lb_next_world.specs.Views.{WorkValue, EntryValue, WorldValue, site, IsOwnReader}
 use Rattle.lb_next_world.specs.Works.{held_of}
@@ -41,6 +43,15 @@ same-made r s a b v w c d e f p q = cc
 
 same-out : (z : GateView) (id : GateId) (out : Bool) → z ≡ gate id out → (z.id ≡ id) × (z.out ≡ out)
 same-out z id out e = (ap (λ (x : GateView). x.id) e, ap (λ (x : GateView). x.out) e)
+
+beside : (g i : ℕ) (b : Bool) → ¬ (i ≡ g) → (g == i && b) ≡ false
+beside g i b off = rw (ne_eqb g i (λ e. off (sym e))) refl
+
+same-site : {C : Type 0} (a b : GateId) (c d : List C) → a ≡ b → c ≡ d
+    → (let left : group-made.Made C = record { gate = a; configs = c } in
+    let right : group-made.Made C = record { gate = b; configs = d } in
+    left ≡ right)
+same-site a b c d e f = cc
 
 module _ {C : Type 0} where
   -- a step at a group makes nothing
@@ -60,24 +71,18 @@ module _ {C : Type 0} where
   local-entries h g local a = refl
 
   -- and leaves what is held and the loads of the others
-  beside : (g i : ℕ) (b : Bool) → ¬ (i ≡ g) → (g == i && b) ≡ false
-  beside g i b off = rw (ne_eqb g i (λ e. off (sym e))) refl
-
-  other-group : {A : Type 0} (f : Option ℕ → A) (x g : ℕ) → Some x ≡ Some g → x ≡ g
-  other-group f x g e = cc
-
   works-else : (h : History C) (st : Step C) (g i s : ℕ) → group_at h st ≡ Some g → ¬ (i ≡ g) → works_at i s st ≡ false
-  works-else h (step.ask x r now) g i s at off = let e : x ≡ g = cc in beside x i (r == s) (λ p. off (p ∙ e))
-  works-else h (step.build x r now) g i s at off = let e : x ≡ g = cc in beside x i (r == s) (λ p. off (p ∙ e))
-  works-else h (step.failbuild x r now) g i s at off = let e : x ≡ g = cc in beside x i (r == s) (λ p. off (p ∙ e))
-  works-else h (step.publish x r) g i s at off = let e : x ≡ g = cc in beside x i (r == s) (λ p. off (p ∙ e))
-  works-else h (step.abandon x r) g i s at off = let e : x ≡ g = cc in beside x i (r == s) (λ p. off (p ∙ e))
+  works-else h (step.ask x r now) g i s at off = let e : x ≡ g = same_Some x g at in beside x i (r == s) (λ p. off (p ∙ e))
+  works-else h (step.build x r now) g i s at off = let e : x ≡ g = same_Some x g at in beside x i (r == s) (λ p. off (p ∙ e))
+  works-else h (step.failbuild x r now) g i s at off = let e : x ≡ g = same_Some x g at in beside x i (r == s) (λ p. off (p ∙ e))
+  works-else h (step.publish x r) g i s at off = let e : x ≡ g = same_Some x g at in beside x i (r == s) (λ p. off (p ∙ e))
+  works-else h (step.abandon x r) g i s at off = let e : x ≡ g = same_Some x g at in beside x i (r == s) (λ p. off (p ∙ e))
   works-else h st g i s at off = refl
 
   loads-else : (h : History C) (st : Step C) (a : Answer) (g i : ℕ) (b : Member) → group_at h st ≡ Some g → ¬ (i ≡ g)
       → load_of i b ((st, a) ∷ h) ≡ load_of i b h
   loads-else h (step.load x (Some c) l) answer.Done g i b at off =
-      let e : x ≡ g = cc in ap (λ (t : Bool). cond t l (load_of i b h)) (beside x i (same_member c b) (λ p. off (p ∙ e)))
+      let e : x ≡ g = same_Some x g at in ap (λ (t : Bool). cond t l (load_of i b h)) (beside x i (same_member c b) (λ p. off (p ∙ e)))
   loads-else h (step.load x (Some c) l) a g i b at off = refl
   loads-else h (step.load x None l) a g i b at off = refl
   loads-else h st a g i b at off = refl
@@ -101,7 +106,8 @@ module _ {C : Type 0} where
       record {
         made_is = ap (λ ms. slice_get ms g) m ∙ is.made_is
             ∙ ap Some (same-made _ _ _ _ _ _ _ _ (sym r) (sym z) (sym same.id) (sym same.group.configs));
-        core_is = rw (same.group.gate, same.group.configs) core;
+        core_is = subst (λ (m : group-made.Made C). stands.Stands m (joined_events g ((st, a) ∷ h)) d.core)
+            (same-site _ _ _ _ (sym same.group.gate) (sym same.group.configs)) core;
         works_in = count ∙ is.works_in ∙ ap length (sym same.group.configs);
         works_are = λ s c k cs ks. rw (same.group.gate) (works s c k (sym (ap (λ xs. slice_get xs s) same.group.configs) ∙ cs) ks);
         loads_are = loads;
@@ -116,14 +122,14 @@ module _ {C : Type 0} where
   gate-here : (h : History C) (g : ℕ) (e : EntryValue C) → EntryIs h g e → gate_of g h ≡ Some e.gate
   gate-here h g e is = ap (λ (o : Option (Made C)). option_map (λ m. m.gate) o) is.made_is
 
-module _ {R C : Type 0} (M : Meaning C) (gives : R → Member → Member → Type 0) where
+module _ {C : Type 0} (M : Meaning C) where
   -- the tables with the group, its gate and its registry after a step
-  abbrev pub stepped : WorldValue R C → ℕ → EntryValue C → EntryValue C → GateView → RegistryValue R → WorldValue R C
+  abbrev pub stepped : WorldValue C → ℕ → EntryValue C → EntryValue C → GateView → RegistryValue WorldRule → WorldValue C
   stepped w g e d z v =
       record w { registries = slice_set w.registries e.registry v; gates = slice_set w.gates e.gate z; groups = slice_set w.groups g d }
 
   -- the site of a group stays
-  placed : (w : WorldValue R C) (g : ℕ) (e d x : EntryValue C) (z y : GateView) (v : RegistryValue R)
+  placed : (w : WorldValue C) (g : ℕ) (e d x : EntryValue C) (z y : GateView) (v : RegistryValue WorldRule)
       → slice_get w.gates e.gate ≡ Some z → y.id ≡ z.id → OnSite w x → OnSite (stepped w g e d y v) x
   placed w g e d x z y v there same on =
       let inside : x.registry < length (slice_set w.registries e.registry v) = omega (arith, length-set w.registries e.registry v, on.registry) in
@@ -139,7 +145,7 @@ module _ {R C : Type 0} (M : Meaning C) (gives : R → Member → Member → Typ
         | inr off ↦ record { view = on.view; gate = get_other w.gates e.gate x.gate y off ∙ on.gate; id = on.id; registry = inside }
       ]
 
-  site-kept : (w : WorldValue R C) (e d : EntryValue C) → d.registry ≡ e.registry → d.gate ≡ e.gate → d.core.group.gate ≡ e.core.group.gate → OnSite w e → OnSite w d
+  site-kept : (w : WorldValue C) (e d : EntryValue C) → d.registry ≡ e.registry → d.gate ≡ e.gate → d.core.group.gate ≡ e.core.group.gate → OnSite w e → OnSite w d
   site-kept w e d r z i on =
       record {
         view = on.view;
@@ -148,9 +154,9 @@ module _ {R C : Type 0} (M : Meaning C) (gives : R → Member → Member → Typ
         registry = rw r on.registry;
       }
 
-  pub world-next : (w : WorldValue R C) (h : History C) (g : ℕ) (st : Step C) (a : Answer) (e d : EntryValue C) (z y : GateView) (u v : RegistryValue R)
+  pub world-next : (w : WorldValue C) (h : History C) (g : ℕ) (st : Step C) (a : Answer) (e d : EntryValue C) (z y : GateView) (u v : RegistryValue WorldRule)
       → AtGroup h st a g → entries ((st, a) ∷ h) ≡ entries h → slice_get w.groups g ≡ Some e → slice_get w.gates e.gate ≡ Some z
-      → slice_get w.registries e.registry ≡ Some u → EntryNext M gives h g st a e z d y v → Stands M gives w h → Stands M gives (stepped w g e d y v) ((st, a) ∷ h)
+      → slice_get w.registries e.registry ≡ Some u → EntryNext M h g st a e z d y v → Stands M w h → Stands M (stepped w g e d y v) ((st, a) ∷ h)
   world-next w h g st a e d z y u v at same there gate-there registry-there next s =
       let is = s.each g e there in
       let after = same-out y _ _ next.out in
@@ -163,14 +169,14 @@ module _ {R C : Type 0} (M : Meaning C) (gives : R → Member → Member → Typ
         groups_are = length-set w.groups g d ∙ s.groups_are ∙ ap length (sym at.made_are);
         readers_are = s.readers_are ∙ sym same;
         kept = λ r x found.
-            subst (λ (ms : List RegistryMade). IsRegistryAfter gives (key_in (slice_get ms r)) (registry_events r ((st, a) ∷ h)) x) (sym at.registries_are)
+            subst (λ (ms : List RegistryMade). IsRegistryAfter key_gives (key_in (slice_get ms r)) (registry_events r ((st, a) ∷ h)) x) (sym at.registries_are)
             (elim (get_set w.registries e.registry r u v x registry-there found) [
               | inl p ↦
-                  subst (λ (i : ℕ). IsRegistryAfter gives (key_at i h) (registry_events i ((st, a) ∷ h)) x) (sym p.0)
-                  (subst (λ (t : RegistryValue R). IsRegistryAfter gives (key_at e.registry h) (registry_events e.registry ((st, a) ∷ h)) t) (sym p.1)
-                  (subst (λ (f : Member → Member). IsRegistryAfter gives f (registry_events e.registry ((st, a) ∷ h)) v) (key-here h g e is) next.kept))
+                  subst (λ (i : ℕ). IsRegistryAfter key_gives (key_at i h) (registry_events i ((st, a) ∷ h)) x) (sym p.0)
+                  (subst (λ (t : RegistryValue WorldRule). IsRegistryAfter key_gives (key_at e.registry h) (registry_events e.registry ((st, a) ∷ h)) t) (sym p.1)
+                  (subst (λ (f : Member → Member). IsRegistryAfter key_gives f (registry_events e.registry ((st, a) ∷ h)) v) (key-here h g e is) next.kept))
               | inr p ↦
-                  subst (λ (es : List registry.Event). IsRegistryAfter gives (key_at r h) es x)
+                  subst (λ (es : List registry.Event). IsRegistryAfter key_gives (key_at r h) es x)
                   (sym ((others-stay h st a).registries r (ap (is_at r) registry-is ∙ ne_eqb e.registry r (λ q. p.0 (sym q)))))
                   (s.kept r x p.1)
             ]);
