@@ -1,5 +1,7 @@
 pub mod Places
 pub mod Quiet
 pub mod Next
-pub mod Held
-pub mod Kinds
+pub mod Holding
+pub mod CoreSteps
+pub mod TaskSteps
+pub mod EmptyWorld

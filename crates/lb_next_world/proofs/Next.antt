@@ -1,11 +1,12 @@
 -- A step at a group, from the group's entry to the world: once for all kinds.
-use Rattle.std.proofs.Common.{◌≡◌, ◌⊎◌, inl, inr, ◌<◌, ◌==◌, ◌||◌, ◌&&◌, ◌∙◌, ℕ, Bool, true, false, cond, List, [], ◌∷◌, ◌++◌, length, map, refl, sym, ap, subst, slice_get, arith}
+use Rattle.std.proofs.Common.{◌≡◌, ◌⊎◌, inl, inr, ◌<◌, ◌≤◌, ◌==◌, ◌||◌, ◌&&◌, ◌∙◌, ℕ, Bool, true, false, cond, List, [], ◌∷◌, ◌++◌, length, map, refl, sym, ap, subst, slice_get, arith}
 use Rattle.std.specs.Prelude.{Option, Some, None, slice_set}
 use Rattle.std.specs.Option.{option_map}
 use Rattle.std.proofs.lemmas.Bool.{ne_eqb, eq-eqb, cases_eq}
 use Rattle.std.proofs.lemmas.List.{length-set}
-use Rattle.std.proofs.lemmas.Option.{same_Some}
+use Rattle.std.proofs.lemmas.Option.{same_Some, slice_get_past}
 use Rattle.lb_select.specs.Backends.{Member, same_member}
+use Rattle.lb_select.specs.declared.refusal.Refusal.TheVariants as refusal
 use Rattle.lb_rebuild.specs.Gate.{GateId, GateView, gate}
 use Rattle.lb_registry.specs.Registry.{RegistryValue, IsRegistryAfter}
 use Rattle.lb_registry.specs.RegistryEvents as registry
@@ -27,13 +28,13 @@ use Rattle.lb_history.proofs.Steps.{others-stay}
 use Rattle.lb_next_world.specs.declared.local.Local.{Local}
 use Rattle.lb_next_world.specs.declared.local.Local.TheVariants as is
 use Rattle.lb_next_world.specs.Loads.{load_in}
-use Rattle.lb_next_world.specs.Locals.{local_seen}
+use Rattle.lb_next_world.specs.Locals.{local_seen, IsWhole}
 use Rattle.lb_next_world.specs.Rules.{WorldRule, key_gives}
-use Rattle.lb_next_world.specs.Stands.{EntryIs, EntryNext, Stands, OnSite, made_of, permit_after, Does}
+use Rattle.lb_next_world.specs.Stands.{EntryIs, EntryNext, Stands, OnSite, made_of, permit_after, Does, IsFounded, IsEntry}
 use Rattle.lb_next_world.specs.Views.{WorkValue, EntryValue, WorldValue, site, IsOwnReader}
 use Rattle.lb_next_world.specs.Works.{held_of}
 use Rattle.lb_next_world.proofs.Places.{get_same, get_other, get_set}
-use Rattle.lb_next_world.proofs.Quiet.{entry-moves}
+use Rattle.lb_next_world.proofs.Quiet.{entry-moves, world-refused}
 
 same-made : {C : Type 0} (r s a b v w : ℕ) (c d : List C) → r ≡ s → a ≡ b → v ≡ w → c ≡ d
     → (let left : Made C = record { registry = r; gate = a; view = v; configs = c } in
@@ -201,7 +202,7 @@ module _ {C : Type 0} (M : Meaning C) where
             elim (get_set w.groups g i e d x there found) [
               | inl p ↦ subst (λ (t : EntryValue C). OnSite (stepped w g e d y v) t) (sym p.1)
                   (placed w g e d d z y v gate-there after.0 (site-kept w e d next.registry_is next.gate_is next.id_is (s.on_site g e there)))
-              | inr p ↦ placed w g e d z y v x gate-there (after.0) (s.on_site i x p.1)
+              | inr p ↦ placed w g e d x z y v gate-there after.0 (s.on_site i x p.1)
             ];
         own = λ t r found x in_.
             elim (get_set w.groups g r.group e d x there in_) [
@@ -209,3 +210,32 @@ module _ {C : Type 0} (M : Meaning C) where
               | inr p ↦ s.own t r found x p.1
             ];
       }
+
+  -- a step at a group that its entry's call does
+  pub world-does : (w : WorldValue C) (h : History C) (g : ℕ) (st : ℕ → Step C) (a : Answer) (e d : EntryValue C) (z y : GateView) (u v : RegistryValue WorldRule)
+      → AtGroup h (st g) a g → entries ((st g, a) ∷ h) ≡ entries h → slice_get w.groups g ≡ Some e → slice_get w.gates e.gate ≡ Some z
+      → slice_get w.registries e.registry ≡ Some u → Does M st e z u a d y v → Stands M w h → Stands M (stepped w g e d y v) ((st g, a) ∷ h)
+  world-does w h g st a e d z y u v at same there gate-there registry-there does s =
+      let is = s.each g e there in
+      world-next w h g (st g) a e d z y u v at same there gate-there registry-there
+      (does h g s.run is (s.outs e.gate z gate-there)
+      (subst (λ (f : Member → Member). IsRegistryAfter key_gives f (registry_events e.registry h) u) (sym (key-here h g e is)) (s.kept e.registry u registry-there))) s
+
+  -- some history stands behind the world after it, too
+  pub founded : (w x : WorldValue C) (st : Step C) (a : Answer) → IsFounded M w → ((h : History C) → Stands M w h → Stands M x ((st, a) ∷ h)) → IsFounded M x
+  founded w x st a was then_ = record { history = (st, a) ∷ was.history; stands = then_ was.history was.stands }
+
+  pub entry-of : (w : WorldValue C) (g : ℕ) (e : EntryValue C) → IsFounded M w → slice_get w.groups g ≡ Some e → IsEntry M e
+  entry-of w g e was there = record { history = was.history; number = g; run = was.stands.run; is = was.stands.each g e there }
+
+  -- no such group
+  absent-right : (h : History C) (g : ℕ) (l : Local) → made_at g h ≡ None → IsWhole l → Answers M h (local_seen g l) (answer.Refused refusal.NoSuch)
+  absent-right h g (is.Update now listings) none whole = inl (rw (whole, none) refl)
+  absent-right h g (is.Select s key limit words) none whole = rw none refl
+  absent-right h g l none whole = inl (rw none refl)
+
+  pub absent-group : (w : WorldValue C) (h : History C) (g : ℕ) (l : Local) → length w.groups ≤ g → IsWhole l → Stands M w h
+      → Stands M w ((local_seen g l, answer.Refused refusal.NoSuch) ∷ h)
+  absent-group w h g l past whole s =
+      let few : length (made h) ≤ g = omega (arith, s.groups_are, past) in
+      world-refused M w h (local_seen g l) refusal.NoSuch (absent-right h g l (slice_get_past (made h) g few) whole) s

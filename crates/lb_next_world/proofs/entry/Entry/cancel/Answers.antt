@@ -1,6 +1,6 @@
 -- The core's cancellation, and the mark of its view.
 use Rattle.lb_history.specs.Meanings.{meaning_of}
-use Rattle.lb_next_world.proofs.Kinds.{does-cancel}
+use Rattle.lb_next_world.proofs.CoreSteps.{does-cancel}
 use Rattle.lb_next_world.proofs.entry.Entry.cancel.Goals as goal
 
 pub returns : goal.returns

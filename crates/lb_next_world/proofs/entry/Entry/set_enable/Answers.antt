@@ -1,6 +1,6 @@
 -- The core's flag.
 use Rattle.lb_history.specs.Meanings.{meaning_of}
-use Rattle.lb_next_world.proofs.Kinds.{does-set}
+use Rattle.lb_next_world.proofs.CoreSteps.{does-set}
 use Rattle.lb_next_world.proofs.entry.Entry.set_enable.Goals as goal
 
 pub returns : goal.returns

@@ -2,18 +2,13 @@
 use Rattle.std.proofs.Common.{◌∙◌, inl, refl, sym, ap}
 use Rattle.std.specs.Prelude.{Option}
 use Rattle.lb_select.specs.declared.refusal.Refusal.TheVariants as refusal
-use Rattle.lb_group.specs.GroupHistory as group
-use Rattle.lb_group.specs.GroupCalls.{at_slot}
+use Rattle.lb_group.specs.GroupHistory.{timing}
 use Rattle.lb_group.specs.declared.answers.Timing.{Timing}
 use Rattle.lb_history.specs.declared.answer.Answer.TheVariants as answer
-use Rattle.lb_history.specs.History.{past}
 use Rattle.lb_history.specs.Answers.{at_one}
 use Rattle.lb_history.specs.Meanings.{meaning_of}
 use Rattle.lb_history.specs.Steps as seen
-use Rattle.lb_history.specs.Joined.{joined_events}
-use Rattle.lb_history.proofs.Together.{group-of}
-use Rattle.lb_next_world.specs.Views.{site}
-use Rattle.lb_next_world.proofs.Held.{told-of, next-still}
+use Rattle.lb_next_world.proofs.Holding.{reading-told, next-still}
 use Rattle.lb_next_world.proofs.Quiet.{still, refused-still}
 use Rattle.lb_next_world.proofs.entry.Entry.timing.Goals as goal
 
@@ -24,8 +19,7 @@ returns-in-Some g c =
     next-still (meaning_of g.S.BackendSelection) h n (seen.timing n c.args.slot) _ _ z v is kept
     (inl
     (sym
-    (told-of h n c.args.slot _ (group.timing (past n c.args.slot h)) _ (λ t. answer.Timed t) is
-    (c.timing.ensures _ _ is.core_is ∙ ap (λ (k : group.History). at_slot (site _) c.args.slot (group.timing (group.past_of c.args.slot k))) (group-of n h))
+    (reading-told h n c.args.slot _ timing (λ t. answer.Timed t) c.timing.result is (c.timing.ensures _ _ is.core_is)
     ∙ ap (λ (r : Option (Option Timing)). at_one r (λ t. answer.Timed t)) c.in-Some.is)))
     (still h (seen.timing n c.args.slot) _ refl refl refl refl (λ k. refl) (λ k e. refl) (λ es. refl) refl refl (λ w. refl) (λ i b. refl)) refl)
 
@@ -36,7 +30,6 @@ returns-in-None g c =
     next-still (meaning_of g.S.BackendSelection) h n (seen.timing n c.args.slot) _ _ z v is kept
     (inl
     (sym
-    (told-of h n c.args.slot _ (group.timing (past n c.args.slot h)) _ (λ t. answer.Timed t) is
-    (c.timing.ensures _ _ is.core_is ∙ ap (λ (k : group.History). at_slot (site _) c.args.slot (group.timing (group.past_of c.args.slot k))) (group-of n h))
+    (reading-told h n c.args.slot _ timing (λ t. answer.Timed t) c.timing.result is (c.timing.ensures _ _ is.core_is)
     ∙ ap (λ (r : Option (Option Timing)). at_one r (λ t. answer.Timed t)) c.in-None.is)))
     (refused-still h (seen.timing n c.args.slot) refusal.NoSuch) refl)

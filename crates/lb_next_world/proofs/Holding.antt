@@ -2,7 +2,11 @@
 use Rattle.std.proofs.Common.{◌≡◌, ◌⊎◌, inl, inr, ◌<◌, ◌≤◌, ◌==◌, ◌&&◌, ◌∙◌, ℕ, Bool, true, false, cond, List, [], ◌∷◌, ◌++◌, length, refl, sym, ap, subst, slice_get, arith}
 use Rattle.std.specs.Prelude.{Option, Some, None, slice_set, nat_lt}
 use Rattle.std.proofs.lemmas.Bool.{ne_eqb, eq-eqb, lt-ltb}
-use Rattle.std.proofs.lemmas.Option.{slice_get_within, same_Some}
+use Rattle.std.proofs.lemmas.Option.{slice_get_within, same_Some, none-some}
+use Rattle.lb_select.specs.declared.refusal.Refusal.TheVariants as refusal
+use Rattle.lb_history.specs.declared.answer.Answer.TheVariants as answer
+use Rattle.lb_joined.specs.JoinedHistory as joined
+use Rattle.lb_history.proofs.Together.{group-of}
 use Rattle.lb_select.specs.Backends.{Member}
 use Rattle.lb_rebuild.specs.Gate.{GateView, GateId, gate}
 use Rattle.lb_registry.specs.Registry.{RegistryValue, IsRegistryAfter}
@@ -28,22 +32,22 @@ use Rattle.lb_next_world.proofs.Places.{there, past as past_end, get_set}
 use Rattle.lb_next_world.proofs.Quiet.{Quiet, entry-still}
 
 -- an event that is no grant leaves the last job
-pub no_grant : group.GroupEvent → Bool
+abbrev pub no_grant : group.GroupEvent → Bool
 no_grant (At i (group.Granted now)) = false
 no_grant e = true
 
-pub no_grants : group.History → Bool
+abbrev pub no_grants : group.History → Bool
 no_grants [] = true
 no_grants (e ∷ es) = no_grant e && no_grants es
 
 one-kept : (e : group.GroupEvent) (p : group.History) → no_grant e ≡ true → (granted (e ∷ p) ≡ granted p) × (granted_members (e ∷ p) ≡ granted_members p)
-one-kept (At i (group.Granted now)) p no = absurd (cc)
-one-kept e p no = (refl, refl)
+one-kept (At i (group.Granted now)) p free = absurd (cc)
+one-kept e p free = (refl, refl)
 
 either-kept : (b : Bool) (e : group.GroupEvent) (p : group.History) → no_grant e ≡ true
     → (granted (cond b (e ∷ p) p) ≡ granted p) × (granted_members (cond b (e ∷ p) p) ≡ granted_members p)
-either-kept true e p no = one-kept e p no
-either-kept false e p no = (refl, refl)
+either-kept true e p free = one-kept e p free
+either-kept false e p free = (refl, refl)
 
 both : (a b : Bool) → (a && b) ≡ true → (a ≡ true) × (b ≡ true)
 both true true e = (refl, refl)
@@ -52,9 +56,9 @@ both false b e = absurd (cc)
 
 jobs-kept : (s : ℕ) (es k : group.History) → no_grants es ≡ true
     → (granted (past_of s (es ++ k)) ≡ granted (past_of s k)) × (granted_members (past_of s (es ++ k)) ≡ granted_members (past_of s k))
-jobs-kept s [] k no = (refl, refl)
-jobs-kept s (e ∷ es) k no =
-    let parts = both (no_grant e) (no_grants es) no in
+jobs-kept s [] k free = (refl, refl)
+jobs-kept s (e ∷ es) k free =
+    let parts = both (no_grant e) (no_grants es) free in
     let first = either-kept (group.reaches s e) e (past_of s (es ++ k)) parts.0 in
     let rest = jobs-kept s es k parts.1 in
     (first.0 ∙ rest.0, first.1 ∙ rest.1)
@@ -90,8 +94,8 @@ module _ {C : Type 0} where
       → no_grants (happened h (group_events g h) st a) ≡ true → ((s : ℕ) → work g s ((st, a) ∷ h) ≡ work g s h)
       → (s : ℕ) (c : C) (k : WorkValue C) → slice_get (configs_of e.core.group) s ≡ Some c → slice_get e.works s ≡ Some k
       → k ≡ held_of e.core.group.gate s c (past g s ((st, a) ∷ h)) (work g s ((st, a) ∷ h))
-  works-kept h st a g e is at no same s c k cs ks =
-      let jobs = jobs-kept s (happened h (group_events g h) st a) (group_events g h) no in
+  works-kept h st a g e is at free same s c k cs ks =
+      let jobs = jobs-kept s (happened h (group_events g h) st a) (group_events g h) free in
       is.works_are s c k cs ks
       ∙ held-by e.core.group.gate s c (past g s h) (past_of s (happened h (group_events g h) st a ++ group_events g h)) (work g s h) (sym jobs.0) (sym jobs.1)
       ∙ ap (λ (p : group.History). held_of e.core.group.gate s c (past_of s p) (work g s h)) (sym (events-here h st a g at))
@@ -123,10 +127,33 @@ module _ {C : Type 0} where
         | inr is ↦ rw (is.1, lt-ltb s (length cs) (slice_get_within cs s is.0 is.1)) refl
       ]
 
+  -- where a number of a slot was read, the slot is there, and the number is its own; else it isn't
+  pub there-of : {A : Type 0} (cs : List C) (s : ℕ) (x y : A) → cond (nat_lt s (length cs)) (Some x) None ≡ Some y → ((c : C) × (slice_get cs s ≡ Some c)) × (x ≡ y)
+  there-of cs s x y is =
+      elim (there cs s) [
+        | inl none ↦ absurd (none-some y (rw (lt-false s (length cs) (past_end cs s none)) at is))
+        | inr at ↦ (at, same_Some x y (rw (lt-ltb s (length cs) (slice_get_within cs s at.0 at.1)) at is))
+      ]
+
+  pub absent-of : {A : Type 0} (cs : List C) (s : ℕ) (x : A) (f : C → Answer) → cond (nat_lt s (length cs)) (Some x) None ≡ None
+      → at_one (slice_get cs s) f ≡ answer.Refused refusal.NoSuch
+  absent-of cs s x f is =
+      elim (there cs s) [
+        | inl none ↦ rw none refl
+        | inr at ↦ absurd (none-some x (sym (rw (lt-ltb s (length cs) (slice_get_within cs s at.0 at.1)) at is)))
+      ]
+
   pub told-of : {A : Type 0} (h : History C) (g s : ℕ) (e : EntryValue C) (x : A) (r : Option A) (told : A → Answer) → EntryIs h g e
       → r ≡ at_slot (site e.core) s x → at_one (config g s h) (λ c. told x) ≡ at_one r told
   told-of h g s e x r told is to =
       ap (λ (o : Option C). at_one o (λ c. told x)) (config-here h g s e is) ∙ in-list (configs_of e.core.group) s x told ∙ ap (λ (o : Option _). at_one o told) (sym to)
+
+  -- what is read of a slot's past
+  pub reading-told : {A : Type 0} (h : History C) (g s : ℕ) (e : EntryValue C) (f : group.History → A) (told : A → Answer) (r : Option A) → EntryIs h g e
+      → r ≡ at_slot (site e.core) s (f (past_of s (joined.group_events (joined_events g h))))
+      → at_one (config g s h) (λ c. told (f (past g s h))) ≡ at_one r told
+  reading-told h g s e f told r is to =
+      told-of h g s e (f (past g s h)) r told is (to ∙ ap (λ (k : group.History). at_slot (site e.core) s (f (past_of s k))) (group-of g h))
 
 module _ {C : Type 0} (M : Meaning C) where
   -- a right step after which nothing changed
