@@ -13,7 +13,7 @@ use crate::entry::Entry;
 use lb_history::answer::Answer;
 use lb_history::step::CellKey;
 use lb_rebuild::gate::GateCore;
-use lb_registry::keys::{ByNumber, KeyRule, Rule};
+use lb_registry::keys::Rule;
 use lb_registry::registry::Registry;
 use lb_select::causes::least_refusal;
 use lb_select::refusal::Refusal;
@@ -21,14 +21,14 @@ use lb_select::walk::BackendSelection;
 
 impl<S: BackendSelection> World<S> {
     pub(super) fn registry(&mut self, rule: CellKey, healthy: bool) -> Answer
-        ensures { (h : History S.Config) → Stands (meaning_of S.BackendSelection) ⟦<Rule<ByNumber> as KeyRule>⟧.gives self.old h
-            → Stands (meaning_of S.BackendSelection) ⟦<Rule<ByNumber> as KeyRule>⟧.gives self.new
+        ensures { (h : History S.Config) → Stands (meaning_of S.BackendSelection) self.old h
+            → Stands (meaning_of S.BackendSelection) self.new
             ((seen.registry rule healthy, result) ∷ h) }
     {
         let number = self.registries.len() as u64;
         let mut registry = match rule {
-            CellKey::Identity => Registry::new(self.alloc),
-            CellKey::Address => Registry::by_address(self.alloc),
+            CellKey::Identity => Registry::with_rule(self.alloc, Rule::Identity),
+            CellKey::Address => Registry::with_rule(self.alloc, Rule::Address),
         };
         if !healthy {
             registry = registry.start_unhealthy();
@@ -40,8 +40,8 @@ impl<S: BackendSelection> World<S> {
     }
 
     pub(super) fn gate(&mut self) -> Answer
-        ensures { (h : History S.Config) → Stands (meaning_of S.BackendSelection) ⟦<Rule<ByNumber> as KeyRule>⟧.gives self.old h
-            → Stands (meaning_of S.BackendSelection) ⟦<Rule<ByNumber> as KeyRule>⟧.gives self.new ((seen.gate, result) ∷ h) }
+        ensures { (h : History S.Config) → Stands (meaning_of S.BackendSelection) self.old h
+            → Stands (meaning_of S.BackendSelection) self.new ((seen.gate, result) ∷ h) }
     {
         let number = self.gates.len() as u64;
         let Ok(gate) = GateCore::new(self.alloc) else {
@@ -54,8 +54,8 @@ impl<S: BackendSelection> World<S> {
     }
 
     pub(super) fn group(&mut self, registry: u64, gate: u64, configs: Vec<S::Config>) -> Answer
-        ensures { (h : History S.Config) → Stands (meaning_of S.BackendSelection) ⟦<Rule<ByNumber> as KeyRule>⟧.gives self.old h
-            → Stands (meaning_of S.BackendSelection) ⟦<Rule<ByNumber> as KeyRule>⟧.gives self.new
+        ensures { (h : History S.Config) → Stands (meaning_of S.BackendSelection) self.old h
+            → Stands (meaning_of S.BackendSelection) self.new
             ((seen.group registry gate configs.items, result) ∷ h) }
     {
         let is_there = registry < self.registries.len() as u64 && gate < self.gates.len() as u64;
