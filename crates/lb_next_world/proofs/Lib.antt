@@ -5,3 +5,5 @@ pub mod Holding
 pub mod CoreSteps
 pub mod TaskSteps
 pub mod EmptyWorld
+pub mod Registries
+pub mod Making

@@ -71,6 +71,7 @@ impl<S: BackendSelection> World<S> {
         let registry = &mut self.registries[at.0];
         match Entry::new(self.alloc, at, registry, &self.gates[at.1], configs) {
             Ok(entry) => {
+                registry.numbers_fit();
                 self.groups.push_reserved(entry);
                 Answer::Group(number)
             }

@@ -36,7 +36,10 @@ impl<S: BackendSelection> World<S> {
         }
         let at = &mut self.registries[registry as usize];
         match at.targets(self.alloc) {
-            Ok(targets) => Answer::Targets(TargetList { targets }),
+            Ok(targets) => {
+                at.numbers_fit();
+                Answer::Targets(TargetList { targets })
+            }
             Err(refusal) => Answer::Refused(refusal),
         }
     }
