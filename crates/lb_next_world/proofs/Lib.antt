@@ -6,4 +6,3 @@ pub mod CoreSteps
 pub mod TaskSteps
 pub mod EmptyWorld
 pub mod Registries
-pub mod Making

@@ -5,11 +5,15 @@ ghost use Rattle.lb_select.specs.Refusals.{earlier as earlier_of, least};
 ghost use Rattle.lb_history.specs.Answers.{no_such};
 ghost use Rattle.lb_history.specs.History.{History};
 ghost use Rattle.lb_history.specs.Meanings.{meaning_of};
+ghost use Rattle.lb_history.specs.Shared.{key_by, started};
 ghost use Rattle.lb_history.specs.Steps as seen;
+ghost use Rattle.lb_next_world.specs.Rules.{key_gives};
+ghost use Rattle.lb_registry.specs.Registry.{IsRegistryAfter};
 ghost use Rattle.lb_next_world.specs.Stands.{Stands};
 
 use super::World;
 use crate::entry::Entry;
+use crate::rule::WorldRegistry;
 use lb_history::answer::Answer;
 use lb_history::step::CellKey;
 use lb_rebuild::gate::GateCore;
@@ -18,6 +22,7 @@ use lb_registry::registry::Registry;
 use lb_select::causes::least_refusal;
 use lb_select::refusal::Refusal;
 use lb_select::walk::BackendSelection;
+use std::alloc::Global;
 
 impl<S: BackendSelection> World<S> {
     pub(super) fn registry(&mut self, rule: CellKey, healthy: bool) -> Answer
@@ -26,13 +31,7 @@ impl<S: BackendSelection> World<S> {
             ((seen.registry rule healthy, result) ∷ h) }
     {
         let number = self.registries.len() as u64;
-        let mut registry = match rule {
-            CellKey::Identity => Registry::with_rule(self.alloc, Rule::Identity),
-            CellKey::Address => Registry::with_rule(self.alloc, Rule::Address),
-        };
-        if !healthy {
-            registry = registry.start_unhealthy();
-        }
+        let registry = started_registry(self.alloc, rule, healthy);
         let Ok(()) = self.registries.push(registry) else {
             return Answer::Refused(Refusal::OutOfMemory);
         };
@@ -88,5 +87,26 @@ fn earlier_cause(is_there: bool, cause: Option<Refusal>) -> Option<Refusal>
         Some(refusal) if is_there || refusal.number() < Refusal::NoSuch.number() => Some(refusal),
         _ if is_there => None,
         _ => Some(Refusal::NoSuch),
+    }
+}
+
+// A registry without views by that rule, whose cells start healthy or not.
+fn started_registry(alloc: Global, rule: CellKey, healthy: bool) -> WorldRegistry
+    ensures { IsRegistryAfter key_gives (key_by rule) (started healthy) result }
+{
+    let registry = new_registry(alloc, rule);
+    if healthy {
+        return registry;
+    }
+    registry.start_unhealthy()
+}
+
+// A registry without views by that rule, whose cells start healthy.
+fn new_registry(alloc: Global, rule: CellKey) -> WorldRegistry
+    ensures { IsRegistryAfter key_gives (key_by rule) [] result }
+{
+    match rule {
+        CellKey::Identity => Registry::with_rule(alloc, Rule::Identity),
+        CellKey::Address => Registry::with_rule(alloc, Rule::Address),
     }
 }
