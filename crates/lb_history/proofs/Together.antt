@@ -81,7 +81,7 @@ module _ {C : Type 0} (M : Meaning C) where
       let is = right-is {C = C} (step.update g now ls) (answer_after M h (step.update g now ls)) a right lasts in
       let m = there (made_at g h) _ a (lasting-address (has_refused ls) _ a lasts is) lasts in (m.0, m.1.0)
 
-  nothing-joined : (h : History C) → IsRun M h → (i : ℕ) → made_at i h ≡ None → joined_events i h ≡ []
+  pub nothing-joined : (h : History C) → IsRun M h → (i : ℕ) → made_at i h ≡ None → joined_events i h ≡ []
   nothing-joined [] run i none = refl
   nothing-joined ((step.group r a cs, answer.Group n) ∷ h) run i none = nothing-joined h run.0 i (get-front (made h) _ i none)
   nothing-joined ((step.update g now ls, answer.Generation n) ∷ h) run i none =

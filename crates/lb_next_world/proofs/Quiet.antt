@@ -19,6 +19,7 @@ use Rattle.lb_history.specs.Shared.{key_in, registry_at, changed, registry_event
 use Rattle.lb_history.specs.Answers.{IsRun, Answers}
 use Rattle.lb_history.specs.Joined.{joined_after, joined_events}
 use Rattle.lb_history.proofs.Placing.{same-either}
+use Rattle.lb_next_world.specs.Rules.{WorldRule, key_gives}
 use Rattle.lb_next_world.specs.Stands.{EntryIs, Stands, OnSite}
 use Rattle.lb_next_world.specs.Views.{EntryValue, WorldValue, site}
 use Rattle.lb_next_world.specs.Works.{held_of}
@@ -108,8 +109,8 @@ module _ {C : Type 0} where
   pub entry-still : (h : History C) (st : Step C) (a : Answer) (g : ℕ) (e : EntryValue C) → Quiet h st a → EntryIs h g e → EntryIs ((st, a) ∷ h) g e
   entry-still h st a g e q is = entry-moves h ((st, a) ∷ h) g e q.made_are (q.joined_is g) (q.group_is g) (q.work_is g) (q.load_is g) is
 
-module _ {R C : Type 0} (M : Meaning C) (gives : R → Member → Member → Type 0) where
-  pub world-still : (w : WorldValue R C) (h : History C) (st : Step C) (a : Answer) → Answers M h st a → Quiet h st a → Stands M gives w h → Stands M gives w ((st, a) ∷ h)
+module _ {C : Type 0} (M : Meaning C) where
+  pub world-still : (w : WorldValue C) (h : History C) (st : Step C) (a : Answer) → Answers M h st a → Quiet h st a → Stands M w h → Stands M w ((st, a) ∷ h)
   world-still w h st a right q s =
       record {
         run = (s.run, right);
@@ -118,8 +119,8 @@ module _ {R C : Type 0} (M : Meaning C) (gives : R → Member → Member → Typ
         groups_are = s.groups_are ∙ ap length (sym q.made_are);
         readers_are = s.readers_are ∙ sym q.entries_are;
         kept = λ r v at.
-            subst (λ (ms : List RegistryMade). IsRegistryAfter gives (key_in (slice_get ms r)) (registry_events r ((st, a) ∷ h)) v) (sym q.registries_are)
-            (subst (λ (es : List registry.Event). IsRegistryAfter gives (key_in (slice_get (registries h) r)) es v) (sym (q.registry_is r)) (s.kept r v at));
+            subst (λ (ms : List RegistryMade). IsRegistryAfter key_gives (key_in (slice_get ms r)) (registry_events r ((st, a) ∷ h)) v) (sym q.registries_are)
+            (subst (λ (es : List registry.Event). IsRegistryAfter key_gives (key_in (slice_get (registries h) r)) es v) (sym (q.registry_is r)) (s.kept r v at));
         outs = λ x z at. s.outs x z at ∙ sym (q.out_is x);
         each = λ g e at. entry-still h st a g e q (s.each g e at);
         on_site = s.on_site;
@@ -127,5 +128,5 @@ module _ {R C : Type 0} (M : Meaning C) (gives : R → Member → Member → Typ
       }
 
   -- a right refusal of a world that stays as it is
-  pub world-refused : (w : WorldValue R C) (h : History C) (st : Step C) (r : Refusal) → Answers M h st (answer.Refused r) → Stands M gives w h → Stands M gives w ((st, answer.Refused r) ∷ h)
+  pub world-refused : (w : WorldValue C) (h : History C) (st : Step C) (r : Refusal) → Answers M h st (answer.Refused r) → Stands M w h → Stands M w ((st, answer.Refused r) ∷ h)
   world-refused w h st r right s = world-still w h st (answer.Refused r) right (refused-still h st r) s

@@ -15,6 +15,7 @@ use Rattle.lb_history.specs.Shared.{key_at, key_of, registry_events}
 use Rattle.lb_history.specs.Answers.{IsRun, Answers}
 use Rattle.lb_history.specs.Joined.{joined_events}
 use Rattle.lb_next_world.specs.Loads.{load_in}
+use Rattle.lb_next_world.specs.Rules.{WorldRule, key_gives}
 use Rattle.lb_next_world.specs.Views.{WorkValue, HeldValue, entered_of, EntryValue, WorldValue, site, IsOwnReader}
 use Rattle.lb_next_world.specs.Works.{held_of}
 
@@ -23,7 +24,7 @@ abbrev pub permit_after : {C : Type 0} → Step C → Answer → Bool → Bool
 permit_after st a out = if is_grant st a then true else if is_failure st a || is_destruction st a then false else out
 
 -- the gate of a group is there, with the identity that the group has of it, and its registry is there
-pub record OnSite {R C : Type 0} (w : WorldValue R C) (e : EntryValue C) : Type 0 where
+pub record OnSite {C : Type 0} (w : WorldValue C) (e : EntryValue C) : Type 0 where
   pub view : GateView
   pub gate : slice_get w.gates e.gate ≡ Some view
   pub id : view.id ≡ e.core.group.gate
@@ -43,14 +44,14 @@ module _ {C : Type 0} where
         → k ≡ held_of e.core.group.gate s c (past g s h) (work g s h)
     pub loads_are : (b : Member) → load_in e.loads b ≡ load_of g b h
 
-module _ {R C : Type 0} (M : Meaning C) (gives : R → Member → Member → Type 0) where
-  pub record Stands (w : WorldValue R C) (h : History C) : Type 0 where
+module _ {C : Type 0} (M : Meaning C) where
+  pub record Stands (w : WorldValue C) (h : History C) : Type 0 where
     pub run : IsRun M h
     pub registries_are : length w.registries ≡ length (registries h)
     pub gates_are : length w.gates ≡ gates h
     pub groups_are : length w.groups ≡ length (made h)
     pub readers_are : map (option_map entered_of) w.readers ≡ entries h
-    pub kept : (r : ℕ) (v : RegistryValue R) → slice_get w.registries r ≡ Some v → IsRegistryAfter gives (key_at r h) (registry_events r h) v
+    pub kept : (r : ℕ) (v : RegistryValue WorldRule) → slice_get w.registries r ≡ Some v → IsRegistryAfter key_gives (key_at r h) (registry_events r h) v
     pub outs : (a : ℕ) (z : GateView) → slice_get w.gates a ≡ Some z → z.out ≡ is_out a h
     pub each : (g : ℕ) (e : EntryValue C) → slice_get w.groups g ≡ Some e → EntryIs h g e
     pub on_site : (g : ℕ) (e : EntryValue C) → slice_get w.groups g ≡ Some e → OnSite w e
@@ -58,13 +59,13 @@ module _ {R C : Type 0} (M : Meaning C) (gives : R → Member → Member → Typ
         → slice_get w.groups r.group ≡ Some e → IsOwnReader e.core r.reader
 
   -- some history stands behind it
-  pub record IsFounded (w : WorldValue R C) : Type 0 where
+  pub record IsFounded (w : WorldValue C) : Type 0 where
     pub history : History C
     pub stands : Stands w history
 
   -- a right step at a group: the group, its gate and its registry after it
   pub record EntryNext (h : History C) (g : ℕ) (st : Step C) (a : Answer) (e : EntryValue C) (z : GateView) (e2 : EntryValue C)
-      (z2 : GateView) (v2 : RegistryValue R)
+      (z2 : GateView) (v2 : RegistryValue WorldRule)
       : Type 0 where
     pub right : Answers M h st a
     pub is : EntryIs ((st, a) ∷ h) g e2
@@ -72,24 +73,24 @@ module _ {R C : Type 0} (M : Meaning C) (gives : R → Member → Member → Typ
     pub gate_is : e2.gate ≡ e.gate
     pub id_is : e2.core.group.gate ≡ e.core.group.gate
     pub out : z2 ≡ gate z.id (permit_after st a z.out)
-    pub kept : IsRegistryAfter gives (key_of g h) (registry_events e.registry ((st, a) ∷ h)) v2
+    pub kept : IsRegistryAfter key_gives (key_of g h) (registry_events e.registry ((st, a) ∷ h)) v2
 
   -- what a call at an entry does, after each history and as each number
-  abbrev pub Does : (ℕ → Step C) → EntryValue C → GateView → RegistryValue R → Answer → EntryValue C → GateView → RegistryValue R → Type 0
+  abbrev pub Does : (ℕ → Step C) → EntryValue C → GateView → RegistryValue WorldRule → Answer → EntryValue C → GateView → RegistryValue WorldRule → Type 0
   Does st e z v a e2 z2 v2 =
       (h : History C) (g : ℕ) → IsRun M h → EntryIs h g e → z.out ≡ is_out e.gate h
-      → IsRegistryAfter gives (key_of g h) (registry_events e.registry h) v
+      → IsRegistryAfter key_gives (key_of g h) (registry_events e.registry h) v
       → EntryNext h g (st g) a e z e2 z2 v2
 
   -- the same, where the gate or the registry is not at hand and stays as it is
   abbrev pub DoesAtGate : (ℕ → Step C) → EntryValue C → GateView → Answer → EntryValue C → GateView → Type 0
-  DoesAtGate st e z a e2 z2 = (v : RegistryValue R) → Does st e z v a e2 z2 v
+  DoesAtGate st e z a e2 z2 = (v : RegistryValue WorldRule) → Does st e z v a e2 z2 v
 
-  abbrev pub DoesAtRegistry : (ℕ → Step C) → EntryValue C → RegistryValue R → Answer → EntryValue C → RegistryValue R → Type 0
+  abbrev pub DoesAtRegistry : (ℕ → Step C) → EntryValue C → RegistryValue WorldRule → Answer → EntryValue C → RegistryValue WorldRule → Type 0
   DoesAtRegistry st e v a e2 v2 = (z : GateView) → Does st e z v a e2 z v2
 
   abbrev pub DoesAlone : (ℕ → Step C) → EntryValue C → Answer → EntryValue C → Type 0
-  DoesAlone st e a e2 = (z : GateView) (v : RegistryValue R) → Does st e z v a e2 z v
+  DoesAlone st e a e2 = (z : GateView) (v : RegistryValue WorldRule) → Does st e z v a e2 z v
 
 -- some history stands behind the entry
 pub record IsEntry {C : Type 0} (M : Meaning C) (e : EntryValue C) : Type 0 where

@@ -8,6 +8,7 @@ use Rattle.lb_group.specs.Values.{Task, BuiltValue, ReaderValue, configs_of}
 use Rattle.lb_group.specs.Stands as group
 use Rattle.lb_joined.specs.Stands.{JoinedValue}
 use Rattle.lb_history.specs.History.{Entered}
+use Rattle.lb_next_world.specs.Rules.{WorldRule}
 
 -- what is held for a slot: nothing, a job, or what was built of it
 pub data WorkValue (C : Type 0) : Type 0 where
@@ -41,8 +42,8 @@ pub record EntryValue (C : Type 0) : Type 0 where
   pub works : List (WorkValue C)
   pub loads : List (Member × ℕ)
 
-pub record WorldValue (R C : Type 0) : Type 0 where
-  pub registries : List (RegistryValue R)
+pub record WorldValue (C : Type 0) : Type 0 where
+  pub registries : List (RegistryValue WorldRule)
   pub gates : List GateView
   pub groups : List (EntryValue C)
   pub readers : List (Option (HeldValue C))

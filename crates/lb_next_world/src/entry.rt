@@ -12,11 +12,10 @@ mod tasks;
 
 use crate::held::Place;
 use crate::local::Local;
+use crate::rule::WorldRegistry;
 use lb_history::answer::{Answer, SlotCounts};
 use lb_joined::group::GroupCore;
 use lb_rebuild::gate::GateCore;
-use lb_registry::keys::{ByNumber, KeyRule, Rule};
-use lb_registry::registry::RegistryCore;
 use lb_select::backend::Backend;
 use lb_select::refusal::Refusal;
 use lb_select::walk::BackendSelection;
@@ -82,13 +81,13 @@ impl<S: BackendSelection> Entry<S> {
         &mut self,
         alloc: Global,
         gate: &mut GateCore,
-        registry: &mut RegistryCore,
+        registry: &mut WorldRegistry,
         local: Local<'_>,
     ) -> Answer
         requires gate { gate.old.id ≡ self.old.core.group.gate }
         requires whole { IsWhole local }
         requires stands { IsEntry (meaning_of S.BackendSelection) self.old }
-        ensures { Does (meaning_of S.BackendSelection) ⟦<Rule<ByNumber> as KeyRule>⟧.gives (λ (g : ℕ). local_seen g local)
+        ensures { Does (meaning_of S.BackendSelection) (λ (g : ℕ). local_seen g local.entry)
             self.old gate.old registry.old result self.new gate.new registry.new }
     {
         match local {
@@ -117,7 +116,7 @@ impl<S: BackendSelection> Entry<S> {
 
     // The numbers of a slot.
     fn counts(&self, slot: usize) -> Answer
-        ensures { DoesAlone (meaning_of S.BackendSelection) ⟦<Rule<ByNumber> as KeyRule>⟧.gives (λ (g : ℕ). seen.counts g slot)
+        ensures { DoesAlone (meaning_of S.BackendSelection) (λ (g : ℕ). seen.counts g slot)
             self.now result self.now }
     {
         let core = &self.core;
@@ -142,7 +141,7 @@ impl<S: BackendSelection> Entry<S> {
 
     // The timing of a slot's last publication.
     fn timing(&self, slot: usize) -> Answer
-        ensures { DoesAlone (meaning_of S.BackendSelection) ⟦<Rule<ByNumber> as KeyRule>⟧.gives (λ (g : ℕ). seen.timing g slot)
+        ensures { DoesAlone (meaning_of S.BackendSelection) (λ (g : ℕ). seen.timing g slot)
             self.now result self.now }
     {
         match self.core.timing(slot) {
@@ -152,8 +151,8 @@ impl<S: BackendSelection> Entry<S> {
     }
 
     // Stops the rebuilds for good.
-    fn cancel(&mut self, registry: &mut RegistryCore) -> Answer
-        ensures { DoesAtRegistry (meaning_of S.BackendSelection) ⟦<Rule<ByNumber> as KeyRule>⟧.gives (λ (g : ℕ). seen.cancel g)
+    fn cancel(&mut self, registry: &mut WorldRegistry) -> Answer
+        ensures { DoesAtRegistry (meaning_of S.BackendSelection) (λ (g : ℕ). seen.cancel g)
             self.old registry.old result self.new registry.new }
     {
         self.core.cancel(registry);
@@ -162,7 +161,7 @@ impl<S: BackendSelection> Entry<S> {
 
     // Enables or disables a backend.
     fn set_enable(&mut self, backend: &Backend, enabled: bool) -> Answer
-        ensures { DoesAlone (meaning_of S.BackendSelection) ⟦<Rule<ByNumber> as KeyRule>⟧.gives
+        ensures { DoesAlone (meaning_of S.BackendSelection)
             (λ (g : ℕ). if enabled then seen.enable g (Some backend.now) else seen.disable g (Some backend.now)) self.old result self.new }
     {
         self.core.set_enable(backend, enabled);
@@ -171,7 +170,7 @@ impl<S: BackendSelection> Entry<S> {
 
     // Sets the load of a backend.
     fn load(&mut self, backend: Backend, load: u64) -> Answer
-        ensures { DoesAlone (meaning_of S.BackendSelection) ⟦<Rule<ByNumber> as KeyRule>⟧.gives
+        ensures { DoesAlone (meaning_of S.BackendSelection)
             (λ (g : ℕ). seen.load g (Some backend) load) self.old result self.new }
     {
         match self.loads.insert(backend, load) {

@@ -5,4 +5,5 @@
 mod entry;
 mod held;
 mod local;
+pub mod rule;
 pub mod world;

@@ -17,11 +17,10 @@ mod registries;
 use crate::entry::Entry;
 use crate::held::Held;
 use crate::local::Local;
+use crate::rule::WorldRegistry;
 use lb_history::answer::Answer;
 use lb_history::step::{Listing, Step};
 use lb_rebuild::gate::GateCore;
-use lb_registry::keys::{ByNumber, KeyRule, Rule};
-use lb_registry::registry::RegistryCore;
 use lb_select::backend::Backend;
 use lb_select::refusal::Refusal;
 use lb_select::walk::BackendSelection;
@@ -33,7 +32,7 @@ use std::marker::Model;
 /// Contracts see its tables; some history stands behind every world.
 pub struct World<S: BackendSelection> {
     alloc: Global,
-    registries: Vec<RegistryCore>,
+    registries: Vec<WorldRegistry>,
     gates: Vec<GateCore>,
     groups: Vec<Entry<S>>,
     readers: Vec<Option<Held<S>>>,
@@ -44,14 +43,12 @@ impl<S: BackendSelection> Model for World<S> {
     ghost use Rattle.lb_next_world.specs.Founded.{world_value};
     ghost use Rattle.lb_next_world.specs.Stands.{IsFounded};
     ghost use Rattle.lb_history.specs.Meanings.{meaning_of};
-    ghost use Rattle.lb_registry.specs.declared.keys.Rule.{Rule};
-    ghost use Rattle.lb_registry.specs.declared.keys.ByNumber.{ByNumber};
 
-    ghost Value = { WorldValue (Rule ByNumber) S.Config };
+    ghost Value = { WorldValue S.Config };
 
     ghost view = { world_value };
 
-    ghost invariant = { λ w. IsFounded (meaning_of S.BackendSelection) ⟦<Rule<ByNumber> as KeyRule>⟧.gives (world_value w) };
+    ghost invariant = { λ w. IsFounded (meaning_of S.BackendSelection) (world_value w) };
 }
 
 impl<S: BackendSelection> Drop for World<S> {
@@ -79,7 +76,7 @@ impl<S: BackendSelection> Drop for World<S> {
 impl<S: BackendSelection> World<S> {
     /// A world without anything. It takes no memory.
     pub fn new(alloc: Global) -> Self
-        ensures { Stands (meaning_of S.BackendSelection) ⟦<Rule<ByNumber> as KeyRule>⟧.gives result [] }
+        ensures { Stands (meaning_of S.BackendSelection) result [] }
     {
         World {
             alloc,
@@ -93,8 +90,8 @@ impl<S: BackendSelection> World<S> {
     /// Takes one step, and answers it as the definitions do after any history that the world stands for. A refused step leaves
     /// everything as it was, save that a selection refused for memory may have drawn tickets.
     pub fn step(&mut self, step: Step<S::Config>) -> Answer
-        ensures { (h : History S.Config) → Stands (meaning_of S.BackendSelection) ⟦<Rule<ByNumber> as KeyRule>⟧.gives self.old h
-            → Stands (meaning_of S.BackendSelection) ⟦<Rule<ByNumber> as KeyRule>⟧.gives self.new ((step_seen step, result) ∷ h) }
+        ensures { (h : History S.Config) → Stands (meaning_of S.BackendSelection) self.old h
+            → Stands (meaning_of S.BackendSelection) self.new ((step_seen step, result) ∷ h) }
     {
         match step {
             Step::Registry { rule, healthy } => self.registry(rule, healthy),
@@ -155,17 +152,17 @@ impl<S: BackendSelection> World<S> {
     /// `OutOfMemory` where the memory for the answers is refused; then no step was taken.
     pub fn run(&mut self, steps: Vec<Step<S::Config>>) -> Result<Vec<Answer>, Refusal>
         ensures stands { IfOk result (λ answers. (h : History S.Config)
-            → Stands (meaning_of S.BackendSelection) ⟦<Rule<ByNumber> as KeyRule>⟧.gives self.old h
-            → Stands (meaning_of S.BackendSelection) ⟦<Rule<ByNumber> as KeyRule>⟧.gives self.new
+            → Stands (meaning_of S.BackendSelection) self.old h
+            → Stands (meaning_of S.BackendSelection) self.new
             (after h (map step_seen steps.items) answers.items)) }
         ensures run { IfOk result (λ answers. (h : History S.Config)
-            → Stands (meaning_of S.BackendSelection) ⟦<Rule<ByNumber> as KeyRule>⟧.gives self.old h
+            → Stands (meaning_of S.BackendSelection) self.old h
             → IsRun (meaning_of S.BackendSelection) (after h (map step_seen steps.items) answers.items)) }
         ensures each { IfOk result (λ answers. vec_len answers ≡ vec_len steps) }
 
         // Of the whole history, whatever it was before.
         ensures promised { IfOk result (λ answers. (h : History S.Config)
-            → Stands (meaning_of S.BackendSelection) ⟦<Rule<ByNumber> as KeyRule>⟧.gives self.old h
+            → Stands (meaning_of S.BackendSelection) self.old h
             → Promised (meaning_of S.BackendSelection) (after h (map step_seen steps.items) answers.items)) }
 
         // Where the answers have no room, no step was taken.
@@ -180,16 +177,9 @@ impl<S: BackendSelection> World<S> {
 
     /// Takes a step that selects, and answers it as `step` does. Key and random words are lent, so that the step takes no memory
     /// for them.
-    pub fn select(
-        &mut self,
-        group: u64,
-        slot: usize,
-        key: &[u8],
-        limit: usize,
-        words: &[u64],
-    ) -> Answer
-        ensures { (h : History S.Config) → Stands (meaning_of S.BackendSelection) ⟦<Rule<ByNumber> as KeyRule>⟧.gives self.old h
-            → Stands (meaning_of S.BackendSelection) ⟦<Rule<ByNumber> as KeyRule>⟧.gives self.new
+    pub fn select(&mut self, group: u64, slot: usize, key: &[u8], limit: usize, words: &[u64]) -> Answer
+        ensures { (h : History S.Config) → Stands (meaning_of S.BackendSelection) self.old h
+            → Stands (meaning_of S.BackendSelection) self.new
             ((seen.select group slot key.now limit words.now, result) ∷ h) }
     {
         let local = Local::Select {
@@ -204,8 +194,8 @@ impl<S: BackendSelection> World<S> {
     // Takes a step at a group, with the group's gate and registry.
     fn at_group(&mut self, group: u64, local: Local<'_>) -> Answer
         requires { IsWhole local }
-        ensures { (h : History S.Config) → Stands (meaning_of S.BackendSelection) ⟦<Rule<ByNumber> as KeyRule>⟧.gives self.old h
-            → Stands (meaning_of S.BackendSelection) ⟦<Rule<ByNumber> as KeyRule>⟧.gives self.new ((local_seen group local, result) ∷ h) }
+        ensures { (h : History S.Config) → Stands (meaning_of S.BackendSelection) self.old h
+            → Stands (meaning_of S.BackendSelection) self.new ((local_seen group local.entry, result) ∷ h) }
     {
         if group as usize >= self.groups.len() {
             return Answer::Refused(Refusal::NoSuch);
@@ -217,8 +207,8 @@ impl<S: BackendSelection> World<S> {
     }
 
     fn update(&mut self, group: u64, now: u128, listings: Vec<Listing>) -> Answer
-        ensures { (h : History S.Config) → Stands (meaning_of S.BackendSelection) ⟦<Rule<ByNumber> as KeyRule>⟧.gives self.old h
-            → Stands (meaning_of S.BackendSelection) ⟦<Rule<ByNumber> as KeyRule>⟧.gives self.new
+        ensures { (h : History S.Config) → Stands (meaning_of S.BackendSelection) self.old h
+            → Stands (meaning_of S.BackendSelection) self.new
             ((seen.update group now listings.items, result) ∷ h) }
     {
         if listings.iter().any(|listing| listing.backend.is_none()) {
@@ -228,8 +218,8 @@ impl<S: BackendSelection> World<S> {
     }
 
     fn enable(&mut self, group: u64, backend: Option<Backend>) -> Answer
-        ensures { (h : History S.Config) → Stands (meaning_of S.BackendSelection) ⟦<Rule<ByNumber> as KeyRule>⟧.gives self.old h
-            → Stands (meaning_of S.BackendSelection) ⟦<Rule<ByNumber> as KeyRule>⟧.gives self.new
+        ensures { (h : History S.Config) → Stands (meaning_of S.BackendSelection) self.old h
+            → Stands (meaning_of S.BackendSelection) self.new
             ((seen.enable group backend, result) ∷ h) }
     {
         let Some(backend) = &backend else {
@@ -239,8 +229,8 @@ impl<S: BackendSelection> World<S> {
     }
 
     fn disable(&mut self, group: u64, backend: Option<Backend>) -> Answer
-        ensures { (h : History S.Config) → Stands (meaning_of S.BackendSelection) ⟦<Rule<ByNumber> as KeyRule>⟧.gives self.old h
-            → Stands (meaning_of S.BackendSelection) ⟦<Rule<ByNumber> as KeyRule>⟧.gives self.new
+        ensures { (h : History S.Config) → Stands (meaning_of S.BackendSelection) self.old h
+            → Stands (meaning_of S.BackendSelection) self.new
             ((seen.disable group backend, result) ∷ h) }
     {
         let Some(backend) = &backend else {
@@ -250,8 +240,8 @@ impl<S: BackendSelection> World<S> {
     }
 
     fn load(&mut self, group: u64, backend: Option<Backend>, load: u64) -> Answer
-        ensures { (h : History S.Config) → Stands (meaning_of S.BackendSelection) ⟦<Rule<ByNumber> as KeyRule>⟧.gives self.old h
-            → Stands (meaning_of S.BackendSelection) ⟦<Rule<ByNumber> as KeyRule>⟧.gives self.new
+        ensures { (h : History S.Config) → Stands (meaning_of S.BackendSelection) self.old h
+            → Stands (meaning_of S.BackendSelection) self.new
             ((seen.load group backend load, result) ∷ h) }
     {
         let Some(backend) = backend else {

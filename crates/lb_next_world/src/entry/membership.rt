@@ -11,6 +11,7 @@ ghost use Rattle.lb_history.specs.History.{members_in};
 ghost use Rattle.lb_history.specs.Meanings.{meaning_of};
 ghost use Rattle.lb_history.specs.Shared.{settings_in};
 ghost use Rattle.lb_history.specs.Steps as seen;
+ghost use Rattle.lb_next_world.specs.Rules.{key_gives};
 ghost use Rattle.lb_next_world.specs.Stands.{IsEntry, Does, DoesAtRegistry};
 ghost use Rattle.lb_next_world.specs.Calls.{IsNewEntry};
 ghost use Rattle.lb_rebuild.specs.Gate.{GateView};
@@ -21,13 +22,13 @@ ghost use Rattle.lb_registry.specs.RegistryEvents.{Event, Registered, Applied, r
 
 use super::Entry;
 use crate::held::with_places;
+use crate::rule::WorldRegistry;
+use lb_group::answers::Selection;
 use lb_health::view::Settings;
 use lb_history::answer::Answer;
 use lb_history::step::Listing;
 use lb_joined::group::GroupCore;
 use lb_rebuild::gate::GateCore;
-use lb_registry::keys::{ByNumber, KeyRule, Rule};
-use lb_registry::registry::RegistryCore;
 use lb_select::backend::Backend;
 use lb_select::refusal::Refusal;
 use lb_select::walk::BackendSelection;
@@ -40,21 +41,21 @@ impl<S: BackendSelection> Entry<S> {
     pub(crate) fn new(
         alloc: Global,
         at: (usize, usize),
-        registry: &mut RegistryCore,
+        registry: &mut WorldRegistry,
         gate: &GateCore,
         configs: Vec<S::Config>,
     ) -> Result<Entry<S>, Refusal>
         requires { least (map (S.refusal []) configs.items) ≡ None }
         ensures made { IfOk result (λ e. (key_of : Member → Member) (events : List Event)
-            → IsRegistryAfter ⟦<Rule<ByNumber> as KeyRule>⟧.gives key_of events registry.old
+            → IsRegistryAfter key_gives key_of events registry.old
             → IsNewEntry at.0 at.1 gate.now.id configs.items (registered_after events + 1) e
-            × IsRegistryAfter ⟦<Rule<ByNumber> as KeyRule>⟧.gives key_of (Applied ∷ Registered ∷ events) registry.new) }
+            × IsRegistryAfter key_gives key_of (Applied ∷ Registered ∷ events) registry.new) }
         ensures err { OnErr result ((key_of : Member → Member) (events : List Event)
-            → IsRegistryAfter ⟦<Rule<ByNumber> as KeyRule>⟧.gives key_of events registry.old
-            → IsRegistryAfter ⟦<Rule<ByNumber> as KeyRule>⟧.gives key_of events registry.new) }
+            → IsRegistryAfter key_gives key_of events registry.old
+            → IsRegistryAfter key_gives key_of events registry.new) }
         ensures refused { OnErr result (IsGrowthRefusal result) }
         ensures numbers { IsErrOf result Refusal.NumbersExhausted → (key_of : Member → Member) (events : List Event)
-            → IsRegistryAfter ⟦<Rule<ByNumber> as KeyRule>⟧.gives key_of events registry.old
+            → IsRegistryAfter key_gives key_of events registry.old
             → (registered_after events + 1 ≡ 2 ^ 64) ⊎ (2 ^ 64 ≤ cells_given key_of (Applied ∷ Registered ∷ events)) }
     {
         let count = configs.len();
@@ -78,13 +79,13 @@ impl<S: BackendSelection> Entry<S> {
     pub(crate) fn update(
         &mut self,
         alloc: Global,
-        registry: &mut RegistryCore,
+        registry: &mut WorldRegistry,
         listings: Vec<Listing>,
         now: u128,
     ) -> Answer
         requires whole { has_refused listings.items ≡ false }
         requires stands { IsEntry (meaning_of S.BackendSelection) self.old }
-        ensures { DoesAtRegistry (meaning_of S.BackendSelection) ⟦<Rule<ByNumber> as KeyRule>⟧.gives
+        ensures { DoesAtRegistry (meaning_of S.BackendSelection)
             (λ (g : ℕ). seen.update g now listings.items) self.old registry.old result self.new registry.new }
     {
         if let Some(refusal) = self.refusal(&listings) {
@@ -107,20 +108,25 @@ impl<S: BackendSelection> Entry<S> {
     pub(crate) fn select(
         &mut self,
         alloc: Global,
-        registry: &RegistryCore,
+        registry: &WorldRegistry,
         slot: usize,
         key: &[u8],
         limit: usize,
         words: &[u64],
     ) -> Answer
-        ensures { (z : GateView) → Does (meaning_of S.BackendSelection) ⟦<Rule<ByNumber> as KeyRule>⟧.gives
+        ensures { (z : GateView) → Does (meaning_of S.BackendSelection)
             (λ (g : ℕ). seen.select g slot key.now limit words.now) self.old z registry.now result self.new z registry.now }
     {
         let selection = self.core.select(alloc, slot, key, limit, words);
-        match selection.answer {
-            Ok(Some(backend)) => Answer::Backend(backend, selection.tickets),
-            Ok(None) => Answer::NoBackend(selection.tickets),
-            Err(Refusal::OutOfMemory) => Answer::NotSelected(selection.tickets),
+        let Selection {
+            answer,
+            drawn: _,
+            tickets,
+        } = selection;
+        match answer {
+            Ok(Some(backend)) => Answer::Backend(backend, tickets),
+            Ok(None) => Answer::NoBackend(tickets),
+            Err(Refusal::OutOfMemory) => Answer::NotSelected(tickets),
             Err(refusal) => Answer::Refused(refusal),
         }
     }

@@ -9,13 +9,13 @@ ghost use Rattle.lb_joined.specs.JoinedHistory.{At, group_events, in_group};
 ghost use Rattle.lb_joined.specs.Stands.{After, Becomes, SameSite, views_of};
 ghost use Rattle.lb_registry.specs.Registry.{IsRegistryAfter};
 ghost use Rattle.lb_registry.specs.RegistryEvents.{Event};
+ghost use Rattle.lb_next_world.specs.Rules.{key_gives};
 ghost use Rattle.lb_next_world.specs.Views.{IsOwnReader};
 ghost use Rattle.lb_next_world.specs.Calls.{with_core, IsCounted};
 
 use super::Entry;
+use crate::rule::WorldRegistry;
 use lb_group::retired::Reader;
-use lb_registry::keys::{ByNumber, KeyRule, Rule};
-use lb_registry::registry::RegistryCore;
 use lb_select::backend::Backend;
 use lb_select::refusal::Refusal;
 use lb_select::walk::BackendSelection;
@@ -55,15 +55,10 @@ impl<S: BackendSelection> Entry<S> {
     }
 
     // Whether a backend is ready in the generation that a reader reads.
-    pub(crate) fn ready(
-        &self,
-        reader: &Reader<S>,
-        registry: &RegistryCore,
-        backend: &Backend,
-    ) -> bool
+    pub(crate) fn ready(&self, reader: &Reader<S>, registry: &WorldRegistry, backend: &Backend) -> bool
         requires { IsOwnReader self.now.core reader.now }
         ensures { (key_of : Member → Member) (events : List Event)
-            → IsRegistryAfter ⟦<Rule<ByNumber> as KeyRule>⟧.gives key_of events registry.now
+            → IsRegistryAfter key_gives key_of events registry.now
             → After self.now.core (λ made e. IsTrue result ↔ IsReady key_of (views_of made e) events reader.now.generation backend.now) }
     {
         self.core.ready(reader, registry, backend)

@@ -8,12 +8,11 @@ ghost use Rattle.lb_next_world.specs.Stands.{IsEntry, Does, DoesAtGate, DoesAlon
 
 use super::Entry;
 use crate::held::Work;
+use crate::rule::WorldRegistry;
 use lb_group::answers::{Ask, Told};
 use lb_group::job::{FailedBuild, Job};
 use lb_history::answer::Answer;
 use lb_rebuild::gate::GateCore;
-use lb_registry::keys::{ByNumber, KeyRule, Rule};
-use lb_registry::registry::RegistryCore;
 use lb_select::refusal::Refusal;
 use lb_select::walk::BackendSelection;
 use std::alloc::Global;
@@ -23,7 +22,7 @@ impl<S: BackendSelection> Entry<S> {
     pub(crate) fn ask(&mut self, slot: usize, gate: &mut GateCore, now: u128) -> Answer
         requires gate { gate.old.id ≡ self.old.core.group.gate }
         requires stands { IsEntry (meaning_of S.BackendSelection) self.old }
-        ensures { DoesAtGate (meaning_of S.BackendSelection) ⟦<Rule<ByNumber> as KeyRule>⟧.gives (λ (g : ℕ). seen.ask g slot now)
+        ensures { DoesAtGate (meaning_of S.BackendSelection) (λ (g : ℕ). seen.ask g slot now)
             self.old gate.old result self.new gate.new }
     {
         match self.core.ask(slot, gate, now) {
@@ -48,12 +47,12 @@ impl<S: BackendSelection> Entry<S> {
         alloc: Global,
         slot: usize,
         gate: &mut GateCore,
-        registry: &mut RegistryCore,
+        registry: &mut WorldRegistry,
         now: u128,
     ) -> Answer
         requires gate { gate.old.id ≡ self.old.core.group.gate }
         requires stands { IsEntry (meaning_of S.BackendSelection) self.old }
-        ensures { Does (meaning_of S.BackendSelection) ⟦<Rule<ByNumber> as KeyRule>⟧.gives (λ (g : ℕ). seen.build g slot now)
+        ensures { Does (meaning_of S.BackendSelection) (λ (g : ℕ). seen.build g slot now)
             self.old gate.old registry.old result self.new gate.new registry.new }
     {
         if slot >= self.works.len() {
@@ -81,12 +80,12 @@ impl<S: BackendSelection> Entry<S> {
         &mut self,
         slot: usize,
         gate: &mut GateCore,
-        registry: &mut RegistryCore,
+        registry: &mut WorldRegistry,
         now: u128,
     ) -> Answer
         requires gate { gate.old.id ≡ self.old.core.group.gate }
         requires stands { IsEntry (meaning_of S.BackendSelection) self.old }
-        ensures { Does (meaning_of S.BackendSelection) ⟦<Rule<ByNumber> as KeyRule>⟧.gives (λ (g : ℕ). seen.failbuild g slot now)
+        ensures { Does (meaning_of S.BackendSelection) (λ (g : ℕ). seen.failbuild g slot now)
             self.old gate.old registry.old result self.new gate.new registry.new }
     {
         if slot >= self.works.len() {
@@ -105,7 +104,7 @@ impl<S: BackendSelection> Entry<S> {
 
     // Ends the slot's flight as lost; what is held of it stays.
     pub(crate) fn lost(&mut self, slot: usize) -> Answer
-        ensures { DoesAlone (meaning_of S.BackendSelection) ⟦<Rule<ByNumber> as KeyRule>⟧.gives (λ (g : ℕ). seen.lost g slot)
+        ensures { DoesAlone (meaning_of S.BackendSelection) (λ (g : ℕ). seen.lost g slot)
             self.old result self.new }
     {
         let flight = self.core.flight(slot);
@@ -118,7 +117,7 @@ impl<S: BackendSelection> Entry<S> {
     // Serves what is held built for the slot, or retires it unserved.
     pub(crate) fn publish(&mut self, slot: usize) -> Answer
         requires stands { IsEntry (meaning_of S.BackendSelection) self.old }
-        ensures { DoesAlone (meaning_of S.BackendSelection) ⟦<Rule<ByNumber> as KeyRule>⟧.gives (λ (g : ℕ). seen.publish g slot)
+        ensures { DoesAlone (meaning_of S.BackendSelection) (λ (g : ℕ). seen.publish g slot)
             self.old result self.new }
     {
         if slot >= self.works.len() {
@@ -138,7 +137,7 @@ impl<S: BackendSelection> Entry<S> {
     // Retires what is held built for the slot, unserved.
     pub(crate) fn abandon(&mut self, slot: usize) -> Answer
         requires stands { IsEntry (meaning_of S.BackendSelection) self.old }
-        ensures { DoesAlone (meaning_of S.BackendSelection) ⟦<Rule<ByNumber> as KeyRule>⟧.gives (λ (g : ℕ). seen.abandon g slot)
+        ensures { DoesAlone (meaning_of S.BackendSelection) (λ (g : ℕ). seen.abandon g slot)
             self.old result self.new }
     {
         if slot >= self.works.len() {
@@ -160,11 +159,11 @@ impl<S: BackendSelection> Entry<S> {
         &mut self,
         slot: usize,
         gate: &mut GateCore,
-        registry: &mut RegistryCore,
+        registry: &mut WorldRegistry,
     ) -> Answer
         requires gate { gate.old.id ≡ self.old.core.group.gate }
         requires stands { IsEntry (meaning_of S.BackendSelection) self.old }
-        ensures { Does (meaning_of S.BackendSelection) ⟦<Rule<ByNumber> as KeyRule>⟧.gives (λ (g : ℕ). seen.destroy g slot)
+        ensures { Does (meaning_of S.BackendSelection) (λ (g : ℕ). seen.destroy g slot)
             self.old gate.old registry.old result self.new gate.new registry.new }
     {
         match self.core.take_retired(slot) {

@@ -9,7 +9,6 @@ ghost use Rattle.lb_next_world.specs.Stands.{Stands};
 use super::World;
 use crate::held::Held;
 use lb_history::answer::Answer;
-use lb_registry::keys::{ByNumber, KeyRule, Rule};
 use lb_select::backend::Backend;
 use lb_select::refusal::Refusal;
 use lb_select::walk::BackendSelection;
@@ -17,8 +16,8 @@ use std::mem;
 
 impl<S: BackendSelection> World<S> {
     pub(super) fn enter(&mut self, group: u64, slot: usize) -> Answer
-        ensures { (h : History S.Config) → Stands (meaning_of S.BackendSelection) ⟦<Rule<ByNumber> as KeyRule>⟧.gives self.old h
-            → Stands (meaning_of S.BackendSelection) ⟦<Rule<ByNumber> as KeyRule>⟧.gives self.new ((seen.enter group slot, result) ∷ h) }
+        ensures { (h : History S.Config) → Stands (meaning_of S.BackendSelection) self.old h
+            → Stands (meaning_of S.BackendSelection) self.new ((seen.enter group slot, result) ∷ h) }
     {
         let number = self.readers.len() as u64;
         if group as usize >= self.groups.len() {
@@ -49,8 +48,8 @@ impl<S: BackendSelection> World<S> {
     }
 
     pub(super) fn leave(&mut self, reader: u64) -> Answer
-        ensures { (h : History S.Config) → Stands (meaning_of S.BackendSelection) ⟦<Rule<ByNumber> as KeyRule>⟧.gives self.old h
-            → Stands (meaning_of S.BackendSelection) ⟦<Rule<ByNumber> as KeyRule>⟧.gives self.new ((seen.leave reader, result) ∷ h) }
+        ensures { (h : History S.Config) → Stands (meaning_of S.BackendSelection) self.old h
+            → Stands (meaning_of S.BackendSelection) self.new ((seen.leave reader, result) ∷ h) }
     {
         if reader as usize >= self.readers.len() {
             return Answer::Refused(Refusal::NoSuchReader);
@@ -66,8 +65,8 @@ impl<S: BackendSelection> World<S> {
     }
 
     pub(super) fn ready(&mut self, reader: u64, backend: Option<Backend>) -> Answer
-        ensures { (h : History S.Config) → Stands (meaning_of S.BackendSelection) ⟦<Rule<ByNumber> as KeyRule>⟧.gives self.old h
-            → Stands (meaning_of S.BackendSelection) ⟦<Rule<ByNumber> as KeyRule>⟧.gives self.new
+        ensures { (h : History S.Config) → Stands (meaning_of S.BackendSelection) self.old h
+            → Stands (meaning_of S.BackendSelection) self.new
             ((seen.ready reader backend, result) ∷ h) }
     {
         let Some(backend) = backend else {

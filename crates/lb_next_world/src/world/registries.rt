@@ -8,14 +8,13 @@ ghost use Rattle.lb_next_world.specs.Stands.{Stands};
 
 use super::World;
 use lb_history::answer::{Answer, TargetList};
-use lb_registry::keys::{ByNumber, KeyRule, Rule};
 use lb_select::refusal::Refusal;
 use lb_select::walk::BackendSelection;
 
 impl<S: BackendSelection> World<S> {
     pub(super) fn verdict(&mut self, registry: u64, cell: u64, ok: bool, threshold: usize) -> Answer
-        ensures { (h : History S.Config) → Stands (meaning_of S.BackendSelection) ⟦<Rule<ByNumber> as KeyRule>⟧.gives self.old h
-            → Stands (meaning_of S.BackendSelection) ⟦<Rule<ByNumber> as KeyRule>⟧.gives self.new
+        ensures { (h : History S.Config) → Stands (meaning_of S.BackendSelection) self.old h
+            → Stands (meaning_of S.BackendSelection) self.new
             ((seen.verdict registry cell ok threshold, result) ∷ h) }
     {
         if registry as usize >= self.registries.len() {
@@ -29,15 +28,18 @@ impl<S: BackendSelection> World<S> {
     }
 
     pub(super) fn targets(&mut self, registry: u64) -> Answer
-        ensures { (h : History S.Config) → Stands (meaning_of S.BackendSelection) ⟦<Rule<ByNumber> as KeyRule>⟧.gives self.old h
-            → Stands (meaning_of S.BackendSelection) ⟦<Rule<ByNumber> as KeyRule>⟧.gives self.new ((seen.targets registry, result) ∷ h) }
+        ensures { (h : History S.Config) → Stands (meaning_of S.BackendSelection) self.old h
+            → Stands (meaning_of S.BackendSelection) self.new ((seen.targets registry, result) ∷ h) }
     {
         if registry as usize >= self.registries.len() {
             return Answer::Refused(Refusal::NoSuch);
         }
         let at = &mut self.registries[registry as usize];
         match at.targets(self.alloc) {
-            Ok(targets) => Answer::Targets(TargetList { targets }),
+            Ok(targets) => {
+                at.numbers_fit();
+                Answer::Targets(TargetList { targets })
+            }
             Err(refusal) => Answer::Refused(refusal),
         }
     }
