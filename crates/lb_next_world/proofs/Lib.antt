@@ -4,4 +4,6 @@ pub mod Next
 pub mod Holding
 pub mod CoreSteps
 pub mod TaskSteps
+pub mod ReturnSteps
+pub mod AskSteps
 pub mod EmptyWorld
