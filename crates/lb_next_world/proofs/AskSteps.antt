@@ -73,7 +73,7 @@ module _ {C : Type 0} (M : Meaning C) where
       ∙ ap (λ (b : Bool). asked n (ask_answer (past g s h) b now)) (sym out)
       ∙ ap (λ (k : group.History). asked n (ask_answer (past_of s k) z.out now)) (sym (group-of g h)) ∙ ap (asked n) (sym to)))
 
-  quiet-gate : (t : AskAnswer) (n : ℕ) (g s now : ℕ) (z : GateView) → ¬ (t ≡ job) → (asked_gate t z ≡ z) × (permit_after (step.ask {C = C} g s now) (asked n t) z.out ≡ z.out)
+  quiet-gate : (t : AskAnswer) (n : ℕ) (g s now : ℕ) (z : GateView) → ¬ (t ≡ job) → (asked_gate t z ≡ z) × (permit_after {C = C} (step.ask g s now) (asked n t) z.out ≡ z.out)
   quiet-gate cancelled n g s now z off = (refl, refl)
   quiet-gate building n g s now z off = (refl, refl)
   quiet-gate up_to_date n g s now z off = (refl, refl)
@@ -149,7 +149,7 @@ module _ {C : Type 0} (M : Meaning C) where
       → EntryNext M h g (step.ask g s now) (answer.Build j.generation) e z (record e { core = core; works = slice_set e.works s (view.building j) }) y v
   does-grant h g s now e core j old z y v is out within to own same stays was back kept =
       let newest : group.newest (group_events g h) ≡ j.generation = sym (own.generation ∙ ap group.newest (group-of g h)) in
-      let st = step.ask {C = C} g s now in
+      let st : Step C = step.ask g s now in
       let a = answer.Build j.generation in
       let at : AtGroup h st a g = record { group_is = refl; registry_is = refl; made_are = refl; gates_are = refl; registries_are = refl } in
       record {

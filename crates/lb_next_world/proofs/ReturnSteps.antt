@@ -208,7 +208,7 @@ module _ {C : Type 0} (M : Meaning C) where
         | inr q ↦
             inr
             (ap (answer.BuildFailed j.generation) q.1
-            ∙ ap (without_memory (step.build {C = C} g s now))
+            ∙ ap (without_memory {C = C} (step.build g s now))
                 (job-right h g s e j (λ c. built_or_failed (granted p) (M.refusal (members_of (granted p) (group_events g h)) c)) (answer.Built j.generation) is has
                 (ap (built_or_failed (granted p)) (same ∙ q.0) ∙ ap answer.Built n)))
       ]
