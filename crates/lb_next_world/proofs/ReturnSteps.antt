@@ -2,6 +2,8 @@
 use Rattle.std.proofs.Common.{◌≡◌, ◌⊎◌, inl, inr, ◌==◌, ◌&&◌, ◌∙◌, ℕ, Bool, true, false, cond, List, [], ◌∷◌, ◌++◌, length, refl, sym, ap, subst, slice_get}
 use Rattle.std.specs.Prelude.{Option, Some, None, slice_set, nat_lt}
 use Rattle.std.proofs.lemmas.Bool.{eqb-true, false≢true}
+use Rattle.std.proofs.lemmas.List.{length-set}
+use Rattle.std.proofs.lemmas.Option.{same_Some}
 use Rattle.lb_select.specs.Backends.{Member}
 use Rattle.lb_select.specs.declared.refusal.Refusal.{Refusal}
 use Rattle.lb_select.specs.declared.refusal.Refusal.TheVariants as refusal
@@ -15,7 +17,7 @@ use Rattle.lb_group.specs.GroupHistory.{granted, granted_members, members_of, ex
 use Rattle.lb_group.specs.GroupCalls.{taken_refusal, is_awaited, is_owed, at_slot}
 use Rattle.lb_group.specs.Stands.{Made}
 use Rattle.lb_group.proofs.Pasts.{past-same, members-past}
-use Rattle.lb_group.specs.Values.{Task, configs_of}
+use Rattle.lb_group.specs.Values.{Task, BuiltValue, configs_of}
 use Rattle.lb_joined.specs.JoinedHistory as joined
 use Rattle.lb_joined.specs.Stands as stands
 use Rattle.lb_joined.specs.Stands.{JoinedValue, views_of}
@@ -30,6 +32,7 @@ use Rattle.lb_history.specs.Shared.{extra_at, registry_events, view_events, key_
 use Rattle.lb_history.specs.Answers.{IsRun, Answers, at_one, of_job, built_or_failed, without_memory, unless_refused, destroy_refusal}
 use Rattle.lb_history.specs.Joined.{joined_events}
 use Rattle.lb_history.proofs.Runs.{slots, aloft}
+use Rattle.lb_history.proofs.Placing.{here}
 use Rattle.lb_history.proofs.Promised.{promised}
 use Rattle.lb_history.proofs.Sharing.{shares}
 use Rattle.lb_history.proofs.Together.{joins-alike, group-of}
@@ -37,12 +40,12 @@ use Rattle.lb_next_world.specs.Rules.{WorldRule, key_gives}
 use Rattle.lb_next_world.specs.Stands.{EntryIs, EntryNext, permit_after, made_of}
 use Rattle.lb_next_world.specs.Views.{WorkValue, EntryValue, site}
 use Rattle.lb_next_world.specs.Views as view
-use Rattle.lb_next_world.proofs.Holding.{config-here, shared-here, reading-told}
+use Rattle.lb_next_world.proofs.Holding.{config-here, shared-here, reading-told, joined-here, events-here, works-set}
 use Rattle.lb_next_world.proofs.CoreSteps.{next-core}
-use Rattle.lb_next_world.proofs.Next.{AtGroup, registry-here}
+use Rattle.lb_next_world.proofs.Next.{AtGroup, registry-here, entry-after}
 use Rattle.lb_next_world.specs.Calls.{with_core}
-use Rattle.lb_next_world.specs.Works.{last_job}
-use Rattle.lb_next_world.proofs.TaskSteps.{HasJob, has-job, next-emptied, awaited}
+use Rattle.lb_next_world.specs.Works.{last_job, held_of}
+use Rattle.lb_next_world.proofs.TaskSteps.{HasJob, has-job, next-emptied, awaited, off-slot, unshared}
 
 -- what is aloft is of that generation
 aloft-number : (n : ℕ) (e : group.Extra) → is_aloft n e ≡ true → generation_of e ≡ n
@@ -212,3 +215,47 @@ module _ {C : Type 0} (M : Meaning C) where
                 (job-right h g s e j (λ c. built_or_failed (granted p) (M.refusal (members_of (granted p) (group_events g h)) c)) (answer.Built j.generation) is has
                 (ap (built_or_failed (granted p)) (same ∙ q.0) ∙ ap answer.Built n)))
       ]
+
+  same-built : (b : BuiltValue C) (t : Task C) (m : ℕ) → b.task ≡ t → b.ended ≡ m → b ≡ record { task = t; ended = m }
+  same-built b t m p q = cc
+
+  -- a build that is done, and held from then on
+  pub does-build : (h : History C) (g s now : ℕ) (e : EntryValue C) (j : Task C) (b : BuiltValue C) (z : GateView) (v : RegistryValue WorldRule) → IsRun M h
+      → EntryIs h g e → slice_get e.works s ≡ Some (view.building j) → M.refusal j.members j.config ≡ None → b.task ≡ j → b.ended ≡ now
+      → IsRegistryAfter key_gives (key_of g h) (registry_events e.registry h) v
+      → EntryNext M h g (step.build g s now) (answer.Built j.generation) e z (record e { works = slice_set e.works s (view.ready b) }) z v
+  does-build h g s now e j b z v run is held none task_is ended_is kept =
+      let has = has-job h g s e j is held in
+      let p = past g s h in
+      let st : Step C = step.build g s now in
+      let a = answer.Built j.generation in
+      let at : AtGroup h st a g = record { group_is = refl; registry_is = refl; made_are = refl; gates_are = refl; registries_are = refl } in
+      let ms : members_of (granted p) (group_events g h) ≡ j.members =
+      sym (members-past (granted p) s (group_events g h)) ∙ sym ((promised M h run).members_kept g s).under_way ∙ sym (ap (λ (x : Task C). x.members) has.is) in
+      let same : M.refusal (members_of (granted p) (group_events g h)) has.config ≡ M.refusal j.members j.config =
+      ap (λ (xs : List Member). M.refusal xs has.config) ms ∙ ap (M.refusal j.members) (sym (ap (λ (x : Task C). x.config) has.is)) in
+      record {
+        right =
+            inl
+            (job-right h g s e j (λ c. built_or_failed (granted p) (M.refusal (members_of (granted p) (group_events g h)) c)) a is has
+            (ap (built_or_failed (granted p)) (same ∙ none) ∙ ap (λ (x : Task C). answer.Built x.generation) (sym has.is)));
+        is = entry-after h st a g e (record e { works = slice_set e.works s (view.ready b) }) is refl refl refl
+            (record { group = record { gate = refl; configs = refl }; id = refl })
+            (subst (λ (es : joined.History). stands.Stands (site e.core) es e.core) (sym (joined-here h st a g refl)) is.core_is)
+            (length-set e.works s (view.ready b))
+            (works-set h st a g s e (view.building j) (view.ready b) (slice_set e.works s (view.ready b)) is held refl
+            (λ r off. ap (past_of r) (events-here h st a g refl)) (λ r off. ap (λ (x : Bool). cond x (works.built now) (work g r h)) (off-slot g s r off))
+            (λ c there.
+            ap view.ready
+            (same-built b (last_job e.core.group.gate s c p) now
+            (task_is ∙ has.is ∙ ap (λ (x : C). last_job e.core.group.gate s x p) (same_Some has.config c (sym has.there ∙ there))) ended_is)
+            ∙ sym
+                (ap (λ (q : group.History). held_of e.core.group.gate s c (past_of s q) (work g s ((st, a) ∷ h))) (events-here h st a g refl)
+                ∙ ap (λ (x : Bool). held_of e.core.group.gate s c p (cond x (works.built now) (work g s h))) (here g s))))
+            (λ m. is.loads_are m);
+        registry_is = refl;
+        gate_is = refl;
+        id_is = refl;
+        out = refl;
+        kept = unshared M h st a g e v at is refl kept;
+      }

@@ -8,7 +8,7 @@ use Rattle.lb_history.specs.Steps as seen
 use Rattle.lb_next_world.proofs.Holding.{next-still}
 use Rattle.lb_next_world.proofs.Quiet.{refused-still}
 use Rattle.lb_next_world.proofs.TaskSteps.{at-place, none-right, beyond, unstarted, next-same, has-job}
-use Rattle.lb_next_world.proofs.ReturnSteps.{job-config, not-failed, does-fall, fallen-right}
+use Rattle.lb_next_world.proofs.ReturnSteps.{job-config, not-failed, does-fall, does-build, fallen-right}
 use Rattle.lb_next_world.proofs.entry.Entry.build.Goals as goal
 
 pub returns-then-slot-len : goal.returns-then-slot-len
@@ -56,7 +56,14 @@ unreachable-requires g c =
     (rw c.in-Err.ensures.failed.0 at (c.in-Err-fail.ensures.answers _ _ own.core_is).0)
 
 pub returns-in-Ok : goal.returns-in-Ok
-returns-in-Ok g c = ?
+returns-in-Ok g c =
+    rw (← c.self.view_is)
+    (λ h n run is out kept.
+    let within : c.args.slot < length c.self.inside.works.items = omega arith in
+    let at = at-place c.self.inside.works.items c.args.slot c.index_mut-place.result.now within c.index_mut-place.ensures.value in
+    let b = c.in-Ok.ensures.built in
+    rw (c.generation-generation.ensures, c.hold.ensures)
+    (does-build (meaning_of g.S.BackendSelection) h n c.args.slot c.args.now _ c.in-Some.job c.in-Ok.built _ _ run is (at ∙ ap Some c.in-Some.ensures.0) b.0 b.1 b.2 kept))
 
 pub returns-in-Ok-fail : goal.returns-in-Ok-fail
 returns-in-Ok-fail g c =
