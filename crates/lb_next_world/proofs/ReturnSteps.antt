@@ -216,8 +216,11 @@ module _ {C : Type 0} (M : Meaning C) where
                 (ap (built_or_failed (granted p)) (same ∙ q.0) ∙ ap answer.Built n)))
       ]
 
+  same-parts : (a t : Task C) (n m : ℕ) → a ≡ t → n ≡ m → (let left : BuiltValue C = record { task = a; ended = n } in left ≡ record { task = t; ended = m })
+  same-parts a t n m p q = cc
+
   same-built : (b : BuiltValue C) (t : Task C) (m : ℕ) → b.task ≡ t → b.ended ≡ m → b ≡ record { task = t; ended = m }
-  same-built b t m p q = cc
+  same-built b t m p q = same-parts b.task t b.ended m p q
 
   -- a build that is done, and held from then on
   pub does-build : (h : History C) (g s now : ℕ) (e : EntryValue C) (j : Task C) (b : BuiltValue C) (z : GateView) (v : RegistryValue WorldRule) → IsRun M h
