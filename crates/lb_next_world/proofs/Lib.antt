@@ -4,5 +4,7 @@ pub mod Next
 pub mod Holding
 pub mod CoreSteps
 pub mod TaskSteps
+pub mod ReturnSteps
+pub mod AskSteps
 pub mod EmptyWorld
 pub mod Registries

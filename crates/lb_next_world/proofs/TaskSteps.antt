@@ -1,6 +1,6 @@
 -- Steps that bring a slot's job or its built selector back: what is held of it is the last job, and its place is empty then.
 use Rattle.std.proofs.Common.{◌≡◌, ◌⊎◌, inl, inr, ◌<◌, ◌≤◌, ◌==◌, ◌&&◌, ◌∙◌, ℕ, Bool, true, false, cond, List, [], ◌∷◌, ◌++◌, length, get_or, refl, sym, ap, subst, slice_get, arith}
-use Rattle.std.specs.Prelude.{Option, Some, None, slice_set}
+use Rattle.std.specs.Prelude.{Option, Some, None, Ok, slice_set}
 use Rattle.std.proofs.lemmas.Bool.{ne_eqb, eq-eqb, false≢true}
 use Rattle.std.proofs.lemmas.List.{length-set, set-get_or}
 use Rattle.std.proofs.lemmas.Option.{slice_get_within, slice_get_past, slice_get-get_or, get_or_from_slice_get}
@@ -11,7 +11,7 @@ use Rattle.lb_registry.specs.Registry.{RegistryValue, IsRegistryAfter}
 use Rattle.lb_registry.specs.RegistryEvents as registry
 use Rattle.lb_group.specs.GroupHistory as group
 use Rattle.lb_group.specs.GroupHistory.{At, past_of, granted, granted_members, extra, is_aloft}
-use Rattle.lb_group.specs.GroupCalls.{is_awaited, is_served, publish_answer}
+use Rattle.lb_group.specs.GroupCalls.{is_awaited, is_served, publish_answer, publish_events}
 use Rattle.lb_group.specs.Values.{Task, BuiltValue, configs_of}
 use Rattle.lb_group.specs.declared.answers.Told.{Told}
 use Rattle.lb_group.specs.declared.answers.Told.TheVariants as told
@@ -36,12 +36,13 @@ use Rattle.lb_next_world.specs.Rules.{WorldRule, key_gives}
 use Rattle.lb_next_world.specs.Stands.{EntryIs, EntryNext, permit_after}
 use Rattle.lb_next_world.specs.Views.{WorkValue, EntryValue, site, NotBuilding, NotReady}
 use Rattle.lb_next_world.specs.Views as view
+use Rattle.lb_next_world.specs.Calls.{told_as}
 use Rattle.lb_next_world.specs.Works.{held_of, last_job}
 use Rattle.lb_next_world.proofs.Holding.{joined-here, events-here, shared-here, works-set, config-here, no_grant}
 use Rattle.lb_next_world.proofs.Next.{AtGroup, entry-after, registry-here}
 use Rattle.lb_next_world.proofs.Places.{found}
 
-off-slot : (g s r : ℕ) → ¬ (r ≡ s) → (g == g && s == r) ≡ false
+pub off-slot : (g s r : ℕ) → ¬ (r ≡ s) → (g == g && s == r) ≡ false
 off-slot g s r off = rw (eq-eqb g g refl, ne_eqb s r (λ e. off (sym e))) refl
 
 told-published : (b : Bool) (n m : ℕ) → told.Published n ≡ cond b (told.Published m) (told.Abandoned m) → (b ≡ true) × (n ≡ m)
@@ -94,7 +95,7 @@ module _ {C : Type 0} where
   has-built h g s e b is at =
       let c = slot-there h g s e (view.ready b) is at in
       let k = built-is e.core.group.gate s c.0 (past g s h) (work g s h) b (is.works_are s c.0 (view.ready b) c.1 at) in
-      record { config = c.0; there = c.1; moment = k.0; work_is = k.1.0; is = k.1.1 }
+      record { config = c.0; there = c.1; moment = k.0; work_is = k.1; is = k.2 }
 
 -- a place that is read, and written as it was
 pub at-place : {X : Type 0} (xs : List X) (i : ℕ) (x : X) → i < length xs → x ≡ get_or xs i x → slice_get xs i ≡ Some x
@@ -118,11 +119,14 @@ not-building id s c p works.idle a k e off = refl
 not-building id s c p works.building a k e off = absurd (subst NotBuilding e off)
 not-building id s c p (works.built now) a k e off = refl
 
-pub built-config : {C : Type 0} (cs : List C) (id : GateId) (s : ℕ) (c : C) (p : group.History) (b : BuiltValue C) {now : ℕ} → slice_get cs s ≡ Some c
-    → b ≡ record { task = last_job id s c p; ended = now } → slice_get cs b.task.slot ≡ Some b.task.config
-built-config cs id s c p b there is = rw is there
-
 module _ {C : Type 0} where
+  configured : (cs : List C) (id : GateId) (s now : ℕ) (c : C) (p : group.History) (b : BuiltValue C) → slice_get cs s ≡ Some c
+      → b ≡ record { task = last_job id s c p; ended = now } → slice_get cs b.task.slot ≡ Some b.task.config
+  configured cs id s now c p b there is = rw is there
+
+  pub built-config : (h : History C) (g s : ℕ) (e : EntryValue C) (b : BuiltValue C) → HasBuilt h g s e b → slice_get (configs_of e.core.group) b.task.slot ≡ Some b.task.config
+  built-config h g s e b has = configured (configs_of e.core.group) e.core.group.gate s has.moment has.config (past g s h) b has.there has.is
+
   -- a slot that isn't there
   pub beyond : (h : History C) (g s : ℕ) (e : EntryValue C) → EntryIs h g e → length e.works ≤ s → config g s h ≡ None
   beyond h g s e is past =
@@ -170,13 +174,13 @@ module _ {C : Type 0} (M : Meaning C) where
       → stands.Stands (site e.core) (joined.At s x ∷ joined_events g h) core
       → ((r : ℕ) → work g r ((st, a) ∷ h) ≡ cond (g == g && s == r) works.idle (work g r h)) → ((b : Member) → load_of g b ((st, a) ∷ h) ≡ load_of g b h)
       → Answers M h st a → y ≡ gate z.id (permit_after st a z.out)
-      → IsRegistryAfter key_gives (key_of g h) (changed h ((st, a) ∷ h) st a (registry_events e.registry h)) v
+      → IsRegistryAfter key_gives (key_of g h) (registry_events e.registry ((st, a) ∷ h)) v
       → EntryNext M h g st a e z (record e { core = core; works = slice_set e.works s view.nothing }) y v
-  next-emptied h st a g s e core old z y v x at is same was event joined stays moved loads right out kept =
+  next-emptied h st a g s e core old z y v x at is same was event joins stays moved loads right out kept =
       record {
         right = right;
         is = entry-after h st a g e (record e { core = core; works = slice_set e.works s view.nothing }) is at.made_are refl refl same
-            (subst (λ (es : joined.History). stands.Stands (site e.core) es core) (sym (joined-here h st a g at.group_is ∙ joined)) stays)
+            (subst (λ (es : joined.History). stands.Stands (site e.core) es core) (sym (joined-here h st a g at.group_is ∙ joins)) stays)
             (length-set e.works s view.nothing)
             (works-set h st a g s e old view.nothing (slice_set e.works s view.nothing) is was refl
             (λ r off.
@@ -191,9 +195,16 @@ module _ {C : Type 0} (M : Meaning C) where
         gate_is = refl;
         id_is = same.group.gate;
         out = out;
-        kept = subst (λ (es : List registry.Event). IsRegistryAfter key_gives (key_of g h) es v)
-            (sym (shared-here h st a e.registry (at.registry_is ∙ registry-here h g e is))) kept;
+        kept = kept;
       }
+
+  -- a registry at which nothing happened
+  pub unshared : (h : History C) (st : Step C) (a : Answer) (g : ℕ) (e : EntryValue C) (v : RegistryValue WorldRule) → AtGroup h st a g → EntryIs h g e
+      → changed h ((st, a) ∷ h) st a (registry_events e.registry h) ≡ registry_events e.registry h
+      → IsRegistryAfter key_gives (key_of g h) (registry_events e.registry h) v → IsRegistryAfter key_gives (key_of g h) (registry_events e.registry ((st, a) ∷ h)) v
+  unshared h st a g e v at is same kept =
+      subst (λ (es : List registry.Event). IsRegistryAfter key_gives (key_of g h) es v)
+      (sym (shared-here h st a e.registry (at.registry_is ∙ registry-here h g e is) ∙ same)) kept
 
   built-there : (h : History C) (g s : ℕ) (e : EntryValue C) (b : BuiltValue C) (x a : Answer) → EntryIs h g e → HasBuilt h g s e b → x ≡ a
       → a ≡ at_one (config g s h) (λ c. of_built (work g s h) x)
@@ -224,7 +235,7 @@ module _ {C : Type 0} (M : Meaning C) where
       (record { group_is = refl; registry_is = refl; made_are = refl; gates_are = refl; registries_are = refl }) is same at refl refl
       (subst (λ (x : joined.Event). stands.Stands (site e.core) (x ∷ joined_events g h) core) (abandoned-is h g s e b has) stays) (λ r. refl) (λ b. refl)
       (inl (built-there h g s e b (answer.Abandoned (granted (past g s h))) (answer.Abandoned b.task.generation) is has (ap (λ (x : BuiltValue C). answer.Abandoned x.task.generation) (sym has.is))))
-      refl kept
+      refl (unshared h (step.abandon g s) (answer.Abandoned b.task.generation) g e v (record { group_is = refl; registry_is = refl; made_are = refl; gates_are = refl; registries_are = refl }) is refl kept)
 
   served-here : (h : History C) (g s : ℕ) (e : EntryValue C) (b : BuiltValue C) → HasBuilt h g s e b
       → publish_answer b.task.slot b.task.generation (joined.group_events (joined_events g h))
@@ -249,7 +260,7 @@ module _ {C : Type 0} (M : Meaning C) where
       (built-there h g s e b (cond (is_served s (group_events g h)) (answer.Published (granted (past g s h))) (answer.Abandoned (granted (past g s h)))) (answer.Published n) is has
       (ap (λ (q : Bool). cond q (answer.Published (granted (past g s h))) (answer.Abandoned (granted (past g s h)))) t.0
       ∙ ap (λ (x : BuiltValue C). answer.Published x.task.generation) (sym has.is) ∙ ap answer.Published (sym t.1))))
-      refl kept
+      refl (unshared h (step.publish g s) (answer.Published n) g e v (record { group_is = refl; registry_is = refl; made_are = refl; gates_are = refl; registries_are = refl }) is refl kept)
 
   pub does-retire : (h : History C) (g s n : ℕ) (e : EntryValue C) (b : BuiltValue C) (core : JoinedValue C) (z : GateView) (v : RegistryValue WorldRule)
       → EntryIs h g e → slice_get e.works s ≡ Some (view.ready b) → stands.SameSite e.core core
@@ -267,4 +278,13 @@ module _ {C : Type 0} (M : Meaning C) where
       (built-there h g s e b (cond (is_served s (group_events g h)) (answer.Published (granted (past g s h))) (answer.Abandoned (granted (past g s h)))) (answer.Abandoned n) is has
       (ap (λ (q : Bool). cond q (answer.Published (granted (past g s h))) (answer.Abandoned (granted (past g s h)))) t.0
       ∙ ap (λ (x : BuiltValue C). answer.Abandoned x.task.generation) (sym has.is) ∙ ap answer.Abandoned (sym t.1))))
-      refl kept
+      refl (unshared h (step.publish g s) (answer.Abandoned n) g e v (record { group_is = refl; registry_is = refl; made_are = refl; gates_are = refl; registries_are = refl }) is refl kept)
+
+  pub does-tell : (h : History C) (g s : ℕ) (t : Told) (e : EntryValue C) (b : BuiltValue C) (core : JoinedValue C) (z : GateView) (v : RegistryValue WorldRule)
+      → EntryIs h g e → slice_get e.works s ≡ Some (view.ready b) → stands.SameSite e.core core
+      → stands.Stands (site e.core) (joined.in_group (publish_events b (Ok t)) ++ joined_events g h) core
+      → t ≡ publish_answer b.task.slot b.task.generation (joined.group_events (joined_events g h))
+      → IsRegistryAfter key_gives (key_of g h) (registry_events e.registry h) v
+      → EntryNext M h g (step.publish g s) (told_as t) e z (record e { core = core; works = slice_set e.works s view.nothing }) z v
+  does-tell h g s (told.Published n) e b core z v is at same stays to kept = does-publish h g s n e b core z v is at same stays to kept
+  does-tell h g s (told.Abandoned n) e b core z v is at same stays to kept = does-retire h g s n e b core z v is at same stays to kept

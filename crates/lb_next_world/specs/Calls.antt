@@ -3,6 +3,10 @@ use Rattle.std.specs.Prelude.{◌≡◌, ℕ, true, List, [], length, replicate,
 use Rattle.lb_rebuild.specs.Gate.{GateId}
 use Rattle.lb_group.specs.GroupCalls.{is_read}
 use Rattle.lb_group.specs.Stands.{Made}
+use Rattle.lb_group.specs.declared.answers.Told.{Told}
+use Rattle.lb_group.specs.declared.answers.Told.TheVariants as told
+use Rattle.lb_history.specs.declared.answer.Answer.{Answer}
+use Rattle.lb_history.specs.declared.answer.Answer.TheVariants as answer
 use Rattle.lb_joined.specs.JoinedHistory.{History, group_events}
 use Rattle.lb_joined.specs.Stands.{JoinedValue, Stands}
 use Rattle.lb_next_world.specs.Views.{EntryValue, nothing}
@@ -11,6 +15,11 @@ abbrev pub number_of : Option (Option ℕ) → ℕ
 number_of None = 0
 number_of (Some None) = 0
 number_of (Some (Some n)) = n
+
+-- what became of a built selector, as an answer
+abbrev pub told_as : Told → Answer
+told_as (told.Published n) = answer.Published n
+told_as (told.Abandoned n) = answer.Abandoned n
 
 -- the entry with another core
 abbrev pub with_core : {C : Type 0} → JoinedValue C → EntryValue C → EntryValue C

@@ -3,7 +3,7 @@
 ghost use Rattle.std.specs.Prelude.{◌≡◌, ℕ};
 ghost use Rattle.lb_history.specs.Meanings.{meaning_of};
 ghost use Rattle.lb_history.specs.Steps as seen;
-ghost use Rattle.lb_next_world.specs.Calls.{number_of};
+ghost use Rattle.lb_next_world.specs.Calls.{number_of, told_as};
 ghost use Rattle.lb_next_world.specs.Stands.{IsEntry, Does, DoesAtGate, DoesAlone};
 
 use super::Entry;
@@ -128,8 +128,7 @@ impl<S: BackendSelection> Entry<S> {
             return Answer::Refused(Refusal::NothingBuilt);
         };
         match self.core.publish(built) {
-            Ok(Told::Published(generation)) => Answer::Published(generation),
-            Ok(Told::Abandoned(generation)) => Answer::Abandoned(generation),
+            Ok(told) => answer_to(told),
             Err(_built) => unreachable!(),
         }
     }
@@ -176,6 +175,16 @@ impl<S: BackendSelection> Entry<S> {
                 }
             }
         }
+    }
+}
+
+// What became of a built selector, as an answer.
+fn answer_to(told: Told) -> Answer
+    ensures { result ≡ told_as told }
+{
+    match told {
+        Told::Published(generation) => Answer::Published(generation),
+        Told::Abandoned(generation) => Answer::Abandoned(generation),
     }
 }
 

@@ -2,7 +2,7 @@
 use Rattle.std.proofs.Common.{◌≡◌, ◌<◌, ◌≤◌, ◌∙◌, inl, refl, sym, ap, length, true, arith, slice_get}
 use Rattle.std.specs.Prelude.{Some}
 use Rattle.lb_select.specs.declared.refusal.Refusal.TheVariants as refusal
-use Rattle.lb_group.specs.Values.{BuiltValue, configs_of}
+use Rattle.lb_group.specs.Values.{BuiltValue}
 use Rattle.lb_history.specs.Meanings.{meaning_of}
 use Rattle.lb_history.specs.Steps as seen
 use Rattle.lb_next_world.proofs.Holding.{next-still}
@@ -43,7 +43,7 @@ abandon-requires-clause-config g c =
     let at = at-place c.self.inside.works.items c.args.slot c.index_mut-place.result.now within c.index_mut-place.ensures.value in
     let own = rw (← c.self.view_is) at c.requires.stands.is in
     let has = has-built _ _ c.args.slot _ _ own (at ∙ ap Some c.in-Some.ensures.0) in
-    built-config (configs_of c.self.inside.core.group) _ _ _ _ _ has.there has.is
+    built-config _ _ c.args.slot _ _ has
 
 pub unreachable-requires : goal.unreachable-requires
 unreachable-requires g c =
@@ -59,6 +59,6 @@ returns g c =
     (λ z v h n run is out kept.
     let within : c.args.slot < length c.self.inside.works.items = omega arith in
     let at = at-place c.self.inside.works.items c.args.slot c.index_mut-place.result.now within c.index_mut-place.ensures.value in
-    rw (c.generation.ensures, c.in-Some.ensures.1)
+    rw (c.generation-generation.ensures, c.in-Some.ensures.1)
     (does-abandon (meaning_of g.S.BackendSelection) h n c.args.slot _ c.in-Some.built _ z v is (at ∙ ap Some c.in-Some.ensures.0) c.abandon.ensures.site
     (c.in-Ok.ensures.stands _ _ is.core_is) kept))

@@ -26,12 +26,12 @@ returns-in_default g c =
     next-still (meaning_of g.S.BackendSelection) h n (seen.counts n c.args.slot) _ _ z v is kept
     (elim c.in_default.branch [
       | in_default-via-in-Some+in-Some+in-Some+in_default w ↦
-          counts-absent (meaning_of g.S.BackendSelection) h n c.args.slot _ _ c.counts.result is (c.counts.ensures _ _ is.core_is) w.in_default.is
+          counts-absent (meaning_of g.S.BackendSelection) h n c.args.slot _ _ c.counts.result is (c.counts.ensures _ _ is.core_is) w.in_default.is-3
       | in_default-via-in-Some+in-Some+in_default w ↦
-          counts-absent (meaning_of g.S.BackendSelection) h n c.args.slot _ _ c.is_waiting.result is (c.is_waiting.ensures _ _ is.core_is) w.in_default.is
+          counts-absent (meaning_of g.S.BackendSelection) h n c.args.slot _ _ c.is_waiting.result is (c.is_waiting.ensures _ _ is.core_is) w.in_default.is-2
       | in_default-via-in-Some+in_default w ↦
-          counts-absent (meaning_of g.S.BackendSelection) h n c.args.slot _ _ c.flight.result is (c.flight.ensures _ _ is.core_is) w.in_default.is
+          counts-absent (meaning_of g.S.BackendSelection) h n c.args.slot _ _ c.flight.result is (c.flight.ensures _ _ is.core_is) w.in_default.is-1
       | in_default-via-in_default w ↦
-          counts-absent (meaning_of g.S.BackendSelection) h n c.args.slot _ _ c.served.result is (c.served.ensures _ _ is.core_is) w.in_default.is
+          counts-absent (meaning_of g.S.BackendSelection) h n c.args.slot _ _ c.served.result is (c.served.ensures _ _ is.core_is) w.in_default.is-0
     ])
     (refused-still h (seen.counts n c.args.slot) refusal.NoSuch) refl)
