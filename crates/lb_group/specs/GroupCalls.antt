@@ -13,7 +13,8 @@ use Rattle.lb_group.specs.GroupHistory.{members_of, is_cancelled, order_members,
 use Rattle.lb_group.specs.GroupHistory.{is_taken_out, taken_out_number, generation_of, extra, waits, readers, drawn, AskAnswer, cancelled}
 use Rattle.lb_group.specs.GroupHistory.{building, up_to_date, not_due, busy, job, ask_answer}
 use Rattle.lb_group.specs.Orders.{order_for}
-use Rattle.lb_group.specs.Values.{Task, BuiltValue, RetiredValue, PermitValue, ReaderValue, SlotValue, PreparedValue, GroupValue, configs_of}
+use Rattle.lb_group.specs.Values.{Task, BuiltValue, RetiredValue, PermitValue, ReaderValue, SlotValue, PreparedValue}
+use Rattle.lb_group.specs.Values.{GroupValue, configs_of}
 use Rattle.lb_group.specs.Stands.{Made, left_readers}
 use Rattle.lb_group.specs.SlotCalls.{ask_told, asked_gate, take_refusal, SelectsFrom}
 use Rattle.lb_group.specs.declared.answers.Ask.{Ask}

@@ -107,7 +107,8 @@ fn pass<R: Log + Threads + Wait + Clock + Copy + Send + Sync>(
     ))
 }
 
-// With `parallel` two checks meet, within a thousand turns of a millisecond; each target is checked once, and each verdict reaches its cell.
+// With `parallel` two checks meet, within a thousand turns of a millisecond; each target is checked once, and each verdict reaches
+// its cell.
 #[test]
 fn checks_run_beside_each_other(rt: HostRuntime) -> Result<(), Fail> {
     let (seen, healthy) = pass(rt, rt.alloc(), true, 1000)?;
