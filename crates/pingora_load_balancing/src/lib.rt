@@ -7,6 +7,7 @@ pub mod health;
 pub mod health_check;
 pub mod prelude;
 pub mod rebuild;
+pub mod schedule;
 pub mod script;
 pub mod selection;
 pub mod world;
