@@ -7,6 +7,7 @@ use Rattle.lb_select.specs.Backends.{Member}
 use Rattle.lb_select.specs.declared.refusal.Refusal.{Refusal}
 use Rattle.lb_select.specs.declared.refusal.Refusal.TheVariants as refusal
 use Rattle.lb_rebuild.specs.Gate.{GateView, GateId, gate}
+use Rattle.lb_rebuild.specs.Identity.{GroupId}
 use Rattle.lb_registry.specs.Registry.{RegistryValue, IsRegistryAfter}
 use Rattle.lb_group.specs.GroupHistory as group
 use Rattle.lb_group.specs.GroupHistory.{past_of, granted, granted_members, extra, is_aloft, AskAnswer, cancelled, building, up_to_date, not_due, busy, job, ask_answer}
@@ -34,13 +35,13 @@ use Rattle.lb_history.proofs.Together.{group-of}
 use Rattle.lb_next_world.specs.Calls.{with_core}
 use Rattle.lb_next_world.specs.Rules.{WorldRule, key_gives}
 use Rattle.lb_next_world.specs.Stands.{EntryIs, EntryNext, permit_after}
-use Rattle.lb_next_world.specs.Views.{WorkValue, EntryValue, site}
+use Rattle.lb_next_world.specs.Views.{WorkValue, EntryValue, site, origin}
 use Rattle.lb_next_world.specs.Views as view
 use Rattle.lb_next_world.specs.Works.{held_of, last_job}
 use Rattle.lb_next_world.proofs.CoreSteps.{next-told}
 use Rattle.lb_next_world.proofs.Places.{found}
 use Rattle.lb_next_world.proofs.Quiet.{Quiet, still, refused-still}
-use Rattle.lb_next_world.proofs.Next.{AtGroup, entry-after}
+use Rattle.lb_next_world.proofs.Next.{AtGroup, same-origin, entry-after}
 use Rattle.lb_next_world.proofs.Holding.{joined-here, events-here, works-set}
 use Rattle.lb_next_world.proofs.TaskSteps.{slot-there, off-slot, unshared}
 
@@ -132,13 +133,13 @@ module _ {C : Type 0} (M : Meaning C) where
       let may = job-may (past g s h) out now (sym (to ∙ ap (λ (q : group.History). ask_answer (past_of s q) out now) (group-of g h))) in
       let free : work g s h ≡ works.idle =
       grounded (work g s h) (sym (ap (is_aloft (granted (past g s h))) may.0) ∙ (slots M h run g s).1) in
-      is.works_are s c.0 k c.1 at ∙ ap (held_of e.core.group.gate s c.0 (past g s h)) free
+      is.works_are s c.0 k c.1 at ∙ ap (held_of (origin e.core) s c.0 (past g s h)) free
 
-  same-task : (s t n m : ℕ) (xs ys : List Member) (c d : C) (p q : GateId) → s ≡ t → n ≡ m → xs ≡ ys → c ≡ d → p ≡ q
-      → (let left : Task C = record { slot = s; generation = n; members = xs; config = c; permit = p } in
-      let right : Task C = record { slot = t; generation = m; members = ys; config = d; permit = q } in
+  same-task : (i k : GroupId) (s t n m : ℕ) (xs ys : List Member) (c d : C) (p q : GateId) → i ≡ k → s ≡ t → n ≡ m → xs ≡ ys → c ≡ d → p ≡ q
+      → (let left : Task C = record { group = i; slot = s; generation = n; members = xs; config = c; permit = p } in
+      let right : Task C = record { group = k; slot = t; generation = m; members = ys; config = d; permit = q } in
       left ≡ right)
-  same-task s t n m xs ys c d p q a b e f u = cc
+  same-task i k s t n m xs ys c d p q w a b e f u = cc
 
   pub does-grant : (h : History C) (g s now : ℕ) (e : EntryValue C) (core : JoinedValue C) (j : Task C) (old : WorkValue C) (z y : GateView) (v : RegistryValue WorldRule)
       → EntryIs h g e → z.out ≡ is_out e.gate h → s < length (configs_of e.core.group)
@@ -162,18 +163,18 @@ module _ {C : Type 0} (M : Meaning C) where
             (λ r off. ap (λ (b : Bool). cond b works.building (work g r h)) (off-slot g s r off))
             (λ c there.
             ap view.building
-            (same-task j.slot s j.generation (group.newest (past g s h)) j.members (group.order_members (past g s h)) j.config c j.permit e.core.group.gate own.place
+            (same-task j.group e.core.group.id j.slot s j.generation (group.newest (past g s h)) j.members (group.order_members (past g s h)) j.config c j.permit e.core.group.gate own.group own.place
             (own.generation ∙ ap group.newest (group-of g h) ∙ sym (newest-past s (group_events g h)))
             (own.members ∙ ap (λ (k : group.History). group.order_members (past_of s k)) (group-of g h))
             (same_Some j.config c (sym own.config ∙ there)) own.permit)
             ∙ sym
-                (ap (λ (q : group.History). held_of e.core.group.gate s c q (work g s ((st, a) ∷ h)))
+                (ap (λ (q : group.History). held_of (origin e.core) s c q (work g s ((st, a) ∷ h)))
                 (ap (past_of s) (events-here h st a g refl) ∙ past-same s (group.Granted now) (group_events g h))
-                ∙ ap (λ (b : Bool). held_of e.core.group.gate s c (group.At s (group.Granted now) ∷ past g s h) (cond b works.building (work g s h))) (here g s))))
+                ∙ ap (λ (b : Bool). held_of (origin e.core) s c (group.At s (group.Granted now) ∷ past g s h) (cond b works.building (work g s h))) (here g s))))
             (λ b. is.loads_are b);
         registry_is = refl;
         gate_is = refl;
-        id_is = same.group.gate;
+        origin_is = same-origin _ _ same;
         out = back;
         kept = unshared M h st a g e v at is refl kept;
       }

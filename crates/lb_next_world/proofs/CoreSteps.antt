@@ -34,7 +34,7 @@ use Rattle.lb_next_world.specs.Stands.{EntryIs, EntryNext, permit_after}
 use Rattle.lb_next_world.specs.Views.{EntryValue, site}
 use Rattle.lb_next_world.proofs.Quiet.{Quiet, refused-still, entry-still}
 use Rattle.lb_next_world.proofs.Holding.{there-of, absent-of, config-here, joined-here, shared-here, works-kept, no_grants, reading-told}
-use Rattle.lb_next_world.proofs.Next.{AtGroup, local-at, entry-after, registry-here}
+use Rattle.lb_next_world.proofs.Next.{AtGroup, local-at, same-origin, entry-after, registry-here}
 
 -- where there is a flight, what was read of it is its generation
 lost-told : (there flies : Bool) (n : ℕ) (f : Option (Option ℕ)) → f ≡ cond there (Some (cond flies (Some n) None)) None
@@ -77,7 +77,7 @@ module _ {C : Type 0} (M : Meaning C) where
             (works-kept h st a g e is at.group_is free works) (λ b. is.loads_are b ∙ sym (loads b));
         registry_is = refl;
         gate_is = refl;
-        id_is = same.group.gate;
+        origin_is = same-origin _ _ same;
         out = out;
         kept = subst (λ (es : List registry.Event). IsRegistryAfter key_gives (key_of g h) es v)
             (sym (shared-here h st a e.registry (at.registry_is ∙ registry-here h g e is))) kept;
@@ -96,7 +96,7 @@ module _ {C : Type 0} (M : Meaning C) where
             ((entry-still h st a g e quiet is).works_are) (λ b. is.loads_are b ∙ sym (quiet.load_is g b));
         registry_is = refl;
         gate_is = refl;
-        id_is = same.group.gate;
+        origin_is = same-origin _ _ same;
         out = subst (λ (b : Bool). z ≡ gate z.id b) (sym out) refl;
         kept = subst (λ (es : List registry.Event). IsRegistryAfter key_gives (key_of g h) es v) (sym (quiet.registry_is e.registry)) kept;
       }

@@ -8,7 +8,7 @@ use Rattle.lb_history.specs.declared.answer.Answer.TheVariants as answer
 use Rattle.lb_joined.specs.JoinedHistory as joined
 use Rattle.lb_history.proofs.Together.{group-of}
 use Rattle.lb_select.specs.Backends.{Member}
-use Rattle.lb_rebuild.specs.Gate.{GateView, GateId, gate}
+use Rattle.lb_rebuild.specs.Gate.{GateView, gate}
 use Rattle.lb_registry.specs.Registry.{RegistryValue, IsRegistryAfter}
 use Rattle.lb_registry.specs.RegistryEvents as registry
 use Rattle.lb_group.specs.GroupHistory as group
@@ -26,7 +26,7 @@ use Rattle.lb_history.specs.Joined.{joined_after, joined_events}
 use Rattle.lb_history.specs.History as works
 use Rattle.lb_next_world.specs.Rules.{WorldRule, key_gives}
 use Rattle.lb_next_world.specs.Stands.{EntryIs, EntryNext, permit_after}
-use Rattle.lb_next_world.specs.Views.{WorkValue, EntryValue, site}
+use Rattle.lb_next_world.specs.Views.{WorkValue, EntryValue, Origin, site, origin}
 use Rattle.lb_next_world.specs.Works.{held_of}
 use Rattle.lb_next_world.proofs.Places.{there, past as past_end, get_set}
 use Rattle.lb_next_world.proofs.Quiet.{Quiet, entry-still}
@@ -64,7 +64,7 @@ jobs-kept s (e ∷ es) k free =
     (first.0 ∙ rest.0, first.1 ∙ rest.1)
 
 module _ {C : Type 0} where
-  held-by : (id : GateId) (s : ℕ) (c : C) (p q : group.History) (w : Work) → granted p ≡ granted q → granted_members p ≡ granted_members q
+  held-by : (id : Origin) (s : ℕ) (c : C) (p q : group.History) (w : Work) → granted p ≡ granted q → granted_members p ≡ granted_members q
       → held_of id s c p w ≡ held_of id s c q w
   held-by id s c p q works.idle a b = refl
   held-by id s c p q works.building a b = cc
@@ -93,30 +93,30 @@ module _ {C : Type 0} where
   pub works-kept : (h : History C) (st : Step C) (a : Answer) (g : ℕ) (e : EntryValue C) → EntryIs h g e → group_at h st ≡ Some g
       → no_grants (happened h (group_events g h) st a) ≡ true → ((s : ℕ) → work g s ((st, a) ∷ h) ≡ work g s h)
       → (s : ℕ) (c : C) (k : WorkValue C) → slice_get (configs_of e.core.group) s ≡ Some c → slice_get e.works s ≡ Some k
-      → k ≡ held_of e.core.group.gate s c (past g s ((st, a) ∷ h)) (work g s ((st, a) ∷ h))
+      → k ≡ held_of (origin e.core) s c (past g s ((st, a) ∷ h)) (work g s ((st, a) ∷ h))
   works-kept h st a g e is at free same s c k cs ks =
       let jobs = jobs-kept s (happened h (group_events g h) st a) (group_events g h) free in
       is.works_are s c k cs ks
-      ∙ held-by e.core.group.gate s c (past g s h) (past_of s (happened h (group_events g h) st a ++ group_events g h)) (work g s h) (sym jobs.0) (sym jobs.1)
-      ∙ ap (λ (p : group.History). held_of e.core.group.gate s c (past_of s p) (work g s h)) (sym (events-here h st a g at))
-      ∙ ap (held_of e.core.group.gate s c (past g s ((st, a) ∷ h))) (sym (same s))
+      ∙ held-by (origin e.core) s c (past g s h) (past_of s (happened h (group_events g h) st a ++ group_events g h)) (work g s h) (sym jobs.0) (sym jobs.1)
+      ∙ ap (λ (p : group.History). held_of (origin e.core) s c (past_of s p) (work g s h)) (sym (events-here h st a g at))
+      ∙ ap (held_of (origin e.core) s c (past g s ((st, a) ∷ h))) (sym (same s))
 
   -- one place of the works written
   pub works-set : (h : History C) (st : Step C) (a : Answer) (g slot : ℕ) (e : EntryValue C) (old new : WorkValue C) (ws : List (WorkValue C)) → EntryIs h g e
       → slice_get e.works slot ≡ Some old → ws ≡ slice_set e.works slot new
       → ((s : ℕ) → ¬ (s ≡ slot) → past g s ((st, a) ∷ h) ≡ past g s h) → ((s : ℕ) → ¬ (s ≡ slot) → work g s ((st, a) ∷ h) ≡ work g s h)
-      → ((c : C) → slice_get (configs_of e.core.group) slot ≡ Some c → new ≡ held_of e.core.group.gate slot c (past g slot ((st, a) ∷ h)) (work g slot ((st, a) ∷ h)))
+      → ((c : C) → slice_get (configs_of e.core.group) slot ≡ Some c → new ≡ held_of (origin e.core) slot c (past g slot ((st, a) ∷ h)) (work g slot ((st, a) ∷ h)))
       → (s : ℕ) (c : C) (k : WorkValue C) → slice_get (configs_of e.core.group) s ≡ Some c → slice_get ws s ≡ Some k
-      → k ≡ held_of e.core.group.gate s c (past g s ((st, a) ∷ h)) (work g s ((st, a) ∷ h))
+      → k ≡ held_of (origin e.core) s c (past g s ((st, a) ∷ h)) (work g s ((st, a) ∷ h))
   works-set h st a g slot e old new ws is was to pasts works here s c k cs ks =
       elim (get_set e.works slot s old new k was (ap (λ (xs : List (WorkValue C)). slice_get xs s) (sym to) ∙ ks)) [
         | inl p ↦
             p.1 ∙ here c (ap (slice_get (configs_of e.core.group)) (sym p.0) ∙ cs)
-            ∙ ap (λ (i : ℕ). held_of e.core.group.gate i c (past g i ((st, a) ∷ h)) (work g i ((st, a) ∷ h))) (sym p.0)
+            ∙ ap (λ (i : ℕ). held_of (origin e.core) i c (past g i ((st, a) ∷ h)) (work g i ((st, a) ∷ h))) (sym p.0)
         | inr p ↦
             is.works_are s c k cs p.1
-            ∙ ap (λ (q : group.History). held_of e.core.group.gate s c q (work g s h)) (sym (pasts s p.0))
-            ∙ ap (held_of e.core.group.gate s c (past g s ((st, a) ∷ h))) (sym (works s p.0))
+            ∙ ap (λ (q : group.History). held_of (origin e.core) s c q (work g s h)) (sym (pasts s p.0))
+            ∙ ap (held_of (origin e.core) s c (past g s ((st, a) ∷ h))) (sym (works s p.0))
       ]
 
   -- a number of a slot, where it is there
@@ -166,7 +166,7 @@ module _ {C : Type 0} (M : Meaning C) where
         is = entry-still h st a g e quiet is;
         registry_is = refl;
         gate_is = refl;
-        id_is = refl;
+        origin_is = refl;
         out = subst (λ (b : Bool). z ≡ gate z.id b) (sym out) refl;
         kept = subst (λ (es : List registry.Event). IsRegistryAfter key_gives (key_of g h) es v) (sym (quiet.registry_is e.registry)) kept;
       }

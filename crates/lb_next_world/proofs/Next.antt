@@ -6,8 +6,10 @@ use Rattle.std.proofs.lemmas.Bool.{ne_eqb, eq-eqb, cases_eq}
 use Rattle.std.proofs.lemmas.List.{length-set}
 use Rattle.std.proofs.lemmas.Option.{same_Some, slice_get_past}
 use Rattle.lb_select.specs.Backends.{Member, same_member}
+use Rattle.lb_select.specs.Loads.{load_in}
 use Rattle.lb_select.specs.declared.refusal.Refusal.TheVariants as refusal
 use Rattle.lb_rebuild.specs.Gate.{GateId, GateView, gate}
+use Rattle.lb_rebuild.specs.Identity.{GroupId}
 use Rattle.lb_registry.specs.Registry.{RegistryValue, IsRegistryAfter}
 use Rattle.lb_registry.specs.RegistryEvents as registry
 use Rattle.lb_group.specs.GroupHistory as group
@@ -15,6 +17,7 @@ use Rattle.lb_group.specs.Stands as group-made
 use Rattle.lb_group.specs.Values.{configs_of}
 use Rattle.lb_joined.specs.JoinedHistory as joined
 use Rattle.lb_joined.specs.Stands as stands
+use Rattle.lb_joined.specs.Stands.{JoinedValue}
 use Rattle.lb_history.specs.Steps.{Step}
 use Rattle.lb_history.specs.Steps as step
 use Rattle.lb_history.specs.declared.answer.Answer.{Answer}
@@ -27,11 +30,10 @@ use Rattle.lb_history.specs.Joined.{joined_after, joined_events}
 use Rattle.lb_history.proofs.Steps.{others-stay}
 use Rattle.lb_next_world.specs.declared.local.Local.{Local}
 use Rattle.lb_next_world.specs.declared.local.Local.TheVariants as is
-use Rattle.lb_next_world.specs.Loads.{load_in}
 use Rattle.lb_next_world.specs.Locals.{local_seen, IsWhole}
 use Rattle.lb_next_world.specs.Rules.{WorldRule, key_gives}
 use Rattle.lb_next_world.specs.Stands.{EntryIs, EntryNext, Stands, OnSite, made_of, permit_after, Does, IsFounded, IsEntry}
-use Rattle.lb_next_world.specs.Views.{WorkValue, EntryValue, WorldValue, site, IsOwnReader}
+use Rattle.lb_next_world.specs.Views.{WorkValue, EntryValue, WorldValue, Origin, site, origin, IsOwnReader}
 use Rattle.lb_next_world.specs.Works.{held_of}
 use Rattle.lb_next_world.proofs.Places.{get_same, get_other, get_set}
 use Rattle.lb_next_world.proofs.Quiet.{entry-moves, world-refused}
@@ -48,11 +50,21 @@ same-out z id out e = (ap (λ (x : GateView). x.id) e, ap (λ (x : GateView). x.
 beside : (g i : ℕ) (b : Bool) → ¬ (i ≡ g) → (g == i && b) ≡ false
 beside g i b off = rw (ne_eqb g i (λ e. off (sym e))) refl
 
-same-site : {C : Type 0} (a b : GateId) (c d : List C) → a ≡ b → c ≡ d
-    → (let left : group-made.Made C = record { gate = a; configs = c } in
-    let right : group-made.Made C = record { gate = b; configs = d } in
+same-site : {C : Type 0} (i k : GroupId) (a b : GateId) (c d : List C) → i ≡ k → a ≡ b → c ≡ d
+    → (let left : group-made.Made C = record { id = i; gate = a; configs = c } in
+    let right : group-made.Made C = record { id = k; gate = b; configs = d } in
     left ≡ right)
-same-site a b c d e f = cc
+same-site i k a b c d w e f = cc
+
+same-parts : (i k : GroupId) (a b : GateId) → i ≡ k → a ≡ b
+    → (let left : Origin = record { id = i; gate = a } in
+    let right : Origin = record { id = k; gate = b } in
+    left ≡ right)
+same-parts i k a b w e = cc
+
+-- no call changes whose its jobs are
+pub same-origin : {C : Type 0} (v w : JoinedValue C) → stands.SameSite v w → origin w ≡ origin v
+same-origin v w same = same-parts _ _ _ _ same.group.id same.group.gate
 
 module _ {C : Type 0} where
   -- a step at a group makes nothing
@@ -101,16 +113,18 @@ module _ {C : Type 0} where
       → made ((st, a) ∷ h) ≡ made h → d.registry ≡ e.registry → d.gate ≡ e.gate → stands.SameSite e.core d.core
       → stands.Stands (site e.core) (joined_events g ((st, a) ∷ h)) d.core → length d.works ≡ length e.works
       → ((s : ℕ) (c : C) (k : WorkValue C) → slice_get (configs_of e.core.group) s ≡ Some c → slice_get d.works s ≡ Some k
-      → k ≡ held_of e.core.group.gate s c (past g s ((st, a) ∷ h)) (work g s ((st, a) ∷ h)))
+      → k ≡ held_of (origin e.core) s c (past g s ((st, a) ∷ h)) (work g s ((st, a) ∷ h)))
       → ((b : Member) → load_in d.loads b ≡ load_of g b ((st, a) ∷ h)) → EntryIs ((st, a) ∷ h) g d
   entry-after h st a g e d is m r z same core count works loads =
       record {
         made_is = ap (λ ms. slice_get ms g) m ∙ is.made_is
             ∙ ap Some (same-made _ _ _ _ _ _ _ _ (sym r) (sym z) (sym same.id) (sym same.group.configs));
         core_is = subst (λ (m : group-made.Made C). stands.Stands m (joined_events g ((st, a) ∷ h)) d.core)
-            (same-site _ _ _ _ (sym same.group.gate) (sym same.group.configs)) core;
+            (same-site _ _ _ _ _ _ (sym same.group.id) (sym same.group.gate) (sym same.group.configs)) core;
         works_in = count ∙ is.works_in ∙ ap length (sym same.group.configs);
-        works_are = λ s c k cs ks. rw (same.group.gate) (works s c k (sym (ap (λ xs. slice_get xs s) same.group.configs) ∙ cs) ks);
+        works_are = λ s c k cs ks.
+            works s c k (sym (ap (λ xs. slice_get xs s) same.group.configs) ∙ cs) ks
+            ∙ ap (λ (o : Origin). held_of o s c (past g s ((st, a) ∷ h)) (work g s ((st, a) ∷ h))) (sym (same-origin _ _ same));
         loads_are = loads;
       }
 
@@ -201,12 +215,14 @@ module _ {C : Type 0} (M : Meaning C) where
         on_site = λ i x found.
             elim (get_set w.groups g i e d x there found) [
               | inl p ↦ subst (λ (t : EntryValue C). OnSite (stepped w g e d y v) t) (sym p.1)
-                  (placed w g e d d z y v gate-there after.0 (site-kept w e d next.registry_is next.gate_is next.id_is (s.on_site g e there)))
+                  (placed w g e d d z y v gate-there after.0 (site-kept w e d next.registry_is next.gate_is (ap (λ (o : Origin). o.gate) next.origin_is) (s.on_site g e there)))
               | inr p ↦ placed w g e d x z y v gate-there after.0 (s.on_site i x p.1)
             ];
         own = λ t r found x in_.
             elim (get_set w.groups g r.group e d x there in_) [
-              | inl p ↦ rw (p.1, next.id_is) (s.own t r found e (ap (slice_get w.groups) p.0 ∙ there))
+              | inl p ↦
+                  s.own t r found e (ap (slice_get w.groups) p.0 ∙ there)
+                  ∙ sym (ap (λ (y : EntryValue C). y.core.group.id) p.1 ∙ ap (λ (o : Origin). o.id) next.origin_is)
               | inr p ↦ s.own t r found x p.1
             ];
       }

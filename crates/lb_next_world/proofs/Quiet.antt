@@ -21,7 +21,7 @@ use Rattle.lb_history.specs.Joined.{joined_after, joined_events}
 use Rattle.lb_history.proofs.Placing.{same-either}
 use Rattle.lb_next_world.specs.Rules.{WorldRule, key_gives}
 use Rattle.lb_next_world.specs.Stands.{EntryIs, Stands, OnSite}
-use Rattle.lb_next_world.specs.Views.{EntryValue, WorldValue, site}
+use Rattle.lb_next_world.specs.Views.{EntryValue, WorldValue, site, origin}
 use Rattle.lb_next_world.specs.Works.{held_of}
 
 cong2 : {A B D : Type 0} (f : A → B → D) (a c : A) (b d : B) → a ≡ c → b ≡ d → f a b ≡ f c d
@@ -102,7 +102,7 @@ module _ {C : Type 0} where
         works_in = is.works_in;
         works_are = λ s c x cs xs.
             is.works_are s c x cs xs
-            ∙ cong2 (held_of e.core.group.gate s c) (past g s h) (past g s k) (work g s h) (work g s k) (ap (group.past_of s) (sym p)) (sym (w s));
+            ∙ cong2 (held_of (origin e.core) s c) (past g s h) (past g s k) (work g s h) (work g s k) (ap (group.past_of s) (sym p)) (sym (w s));
         loads_are = λ b. is.loads_are b ∙ sym (l b);
       }
 

@@ -7,7 +7,7 @@ use Rattle.std.proofs.lemmas.Option.{same_Some}
 use Rattle.lb_select.specs.Backends.{Member}
 use Rattle.lb_select.specs.declared.refusal.Refusal.{Refusal}
 use Rattle.lb_select.specs.declared.refusal.Refusal.TheVariants as refusal
-use Rattle.lb_rebuild.specs.Gate.{GateView, GateId, gate}
+use Rattle.lb_rebuild.specs.Gate.{GateView, gate}
 use Rattle.lb_registry.specs.Registry.{RegistryValue, IsRegistryAfter}
 use Rattle.lb_registry.specs.RegistryEvents as registry
 use Rattle.lb_health.specs.Joined.{registry_released}
@@ -38,7 +38,7 @@ use Rattle.lb_history.proofs.Sharing.{shares}
 use Rattle.lb_history.proofs.Together.{joins-alike, group-of}
 use Rattle.lb_next_world.specs.Rules.{WorldRule, key_gives}
 use Rattle.lb_next_world.specs.Stands.{EntryIs, EntryNext, permit_after, made_of}
-use Rattle.lb_next_world.specs.Views.{WorkValue, EntryValue, site}
+use Rattle.lb_next_world.specs.Views.{WorkValue, EntryValue, Origin, site, origin}
 use Rattle.lb_next_world.specs.Views as view
 use Rattle.lb_next_world.proofs.Holding.{config-here, shared-here, reading-told, joined-here, events-here, works-set}
 use Rattle.lb_next_world.proofs.CoreSteps.{next-core}
@@ -65,7 +65,7 @@ taken-refused : (there : Bool) (x : Option Refusal) (r : Refusal) → cond there
 taken-refused true x r e = rw e refl
 taken-refused false x r e = let same : refusal.NoSuch ≡ r = cc in ap answer.Refused same
 
-configured : {C : Type 0} (cs : List C) (id : GateId) (s : ℕ) (c : C) (p : group.History) (j : Task C) → slice_get cs s ≡ Some c → j ≡ last_job id s c p
+configured : {C : Type 0} (cs : List C) (id : Origin) (s : ℕ) (c : C) (p : group.History) (j : Task C) → slice_get cs s ≡ Some c → j ≡ last_job id s c p
     → slice_get cs j.slot ≡ Some j.config
 configured cs id s c p j there is = rw is there
 
@@ -75,7 +75,7 @@ there-if false x e = absurd (cc)
 
 module _ {C : Type 0} where
   pub job-config : (h : History C) (g s : ℕ) (e : EntryValue C) (j : Task C) → HasJob h g s e j → slice_get (configs_of e.core.group) j.slot ≡ Some j.config
-  job-config h g s e j has = configured (configs_of e.core.group) e.core.group.gate s has.config (past g s h) j has.there has.is
+  job-config h g s e j has = configured (configs_of e.core.group) (origin e.core) s has.config (past g s h) j has.there has.is
 
   -- what was taken out is owed a report
   pub owed-now : (made : Made C) (s : ℕ) (k : group.History) → taken_refusal made s k ≡ None → is_owed made s (group.At s group.TakenOut ∷ k) ≡ true
@@ -86,7 +86,7 @@ module _ {C : Type 0} where
   pub site-through : (u v w : JoinedValue C) → stands.SameSite u v → stands.SameSite v w → stands.SameSite u w
   site-through u v w a b =
       record {
-        group = record { gate = b.group.gate ∙ a.group.gate; configs = b.group.configs ∙ a.group.configs };
+        group = record { id = b.group.id ∙ a.group.id; gate = b.group.gate ∙ a.group.gate; configs = b.group.configs ∙ a.group.configs };
         id = b.id ∙ a.id;
       }
 
@@ -243,22 +243,22 @@ module _ {C : Type 0} (M : Meaning C) where
             (job-right h g s e j (λ c. built_or_failed (granted p) (M.refusal (members_of (granted p) (group_events g h)) c)) a is has
             (ap (built_or_failed (granted p)) (same ∙ none) ∙ ap (λ (x : Task C). answer.Built x.generation) (sym has.is)));
         is = entry-after h st a g e (record e { works = slice_set e.works s (view.ready b) }) is refl refl refl
-            (record { group = record { gate = refl; configs = refl }; id = refl })
+            (record { group = record { id = refl; gate = refl; configs = refl }; id = refl })
             (subst (λ (es : joined.History). stands.Stands (site e.core) es e.core) (sym (joined-here h st a g refl)) is.core_is)
             (length-set e.works s (view.ready b))
             (works-set h st a g s e (view.building j) (view.ready b) (slice_set e.works s (view.ready b)) is held refl
             (λ r off. ap (past_of r) (events-here h st a g refl)) (λ r off. ap (λ (x : Bool). cond x (works.built now) (work g r h)) (off-slot g s r off))
             (λ c there.
             ap view.ready
-            (same-built b (last_job e.core.group.gate s c p) now
-            (task_is ∙ has.is ∙ ap (λ (x : C). last_job e.core.group.gate s x p) (same_Some has.config c (sym has.there ∙ there))) ended_is)
+            (same-built b (last_job (origin e.core) s c p) now
+            (task_is ∙ has.is ∙ ap (λ (x : C). last_job (origin e.core) s x p) (same_Some has.config c (sym has.there ∙ there))) ended_is)
             ∙ sym
-                (ap (λ (q : group.History). held_of e.core.group.gate s c (past_of s q) (work g s ((st, a) ∷ h))) (events-here h st a g refl)
-                ∙ ap (λ (x : Bool). held_of e.core.group.gate s c p (cond x (works.built now) (work g s h))) (here g s))))
+                (ap (λ (q : group.History). held_of (origin e.core) s c (past_of s q) (work g s ((st, a) ∷ h))) (events-here h st a g refl)
+                ∙ ap (λ (x : Bool). held_of (origin e.core) s c p (cond x (works.built now) (work g s h))) (here g s))))
             (λ m. is.loads_are m);
         registry_is = refl;
         gate_is = refl;
-        id_is = refl;
+        origin_is = refl;
         out = refl;
         kept = unshared M h st a g e v at is refl kept;
       }

@@ -6,7 +6,7 @@ use Rattle.std.proofs.lemmas.List.{length-set, set-get_or}
 use Rattle.std.proofs.lemmas.Option.{slice_get_within, slice_get_past, slice_get-get_or, get_or_from_slice_get}
 use Rattle.lb_select.specs.Backends.{Member}
 use Rattle.lb_select.specs.declared.refusal.Refusal.TheVariants as refusal
-use Rattle.lb_rebuild.specs.Gate.{GateView, GateId, gate}
+use Rattle.lb_rebuild.specs.Gate.{GateView, gate}
 use Rattle.lb_registry.specs.Registry.{RegistryValue, IsRegistryAfter}
 use Rattle.lb_registry.specs.RegistryEvents as registry
 use Rattle.lb_group.specs.GroupHistory as group
@@ -34,12 +34,12 @@ use Rattle.lb_history.proofs.Runs.{slots, aloft}
 use Rattle.lb_history.proofs.Together.{group-of}
 use Rattle.lb_next_world.specs.Rules.{WorldRule, key_gives}
 use Rattle.lb_next_world.specs.Stands.{EntryIs, EntryNext, permit_after}
-use Rattle.lb_next_world.specs.Views.{WorkValue, EntryValue, site, NotBuilding, NotReady}
+use Rattle.lb_next_world.specs.Views.{WorkValue, EntryValue, Origin, site, origin, NotBuilding, NotReady}
 use Rattle.lb_next_world.specs.Views as view
 use Rattle.lb_next_world.specs.Calls.{told_as}
 use Rattle.lb_next_world.specs.Works.{held_of, last_job}
 use Rattle.lb_next_world.proofs.Holding.{joined-here, events-here, shared-here, works-set, config-here, no_grant}
-use Rattle.lb_next_world.proofs.Next.{AtGroup, entry-after, registry-here}
+use Rattle.lb_next_world.proofs.Next.{AtGroup, same-origin, entry-after, registry-here}
 use Rattle.lb_next_world.proofs.Places.{found}
 
 pub off-slot : (g s r : ℕ) → ¬ (r ≡ s) → (g == g && s == r) ≡ false
@@ -54,13 +54,13 @@ told-abandoned true n m e = absurd (cc)
 told-abandoned false n m e = let same : n ≡ m = cc in (refl, same)
 
 module _ {C : Type 0} where
-  built-is : (id : GateId) (s : ℕ) (c : C) (p : group.History) (w : Work) (b : BuiltValue C) → view.ready b ≡ held_of id s c p w
+  built-is : (id : Origin) (s : ℕ) (c : C) (p : group.History) (w : Work) (b : BuiltValue C) → view.ready b ≡ held_of id s c p w
       → (now : ℕ) × (w ≡ works.built now) × (b ≡ record { task = last_job id s c p; ended = now })
   built-is id s c p works.idle b e = absurd (cc)
   built-is id s c p works.building b e = absurd (cc)
   built-is id s c p (works.built now) b e = let same : b ≡ record { task = last_job id s c p; ended = now } = cc in (now, refl, same)
 
-  job-is : (id : GateId) (s : ℕ) (c : C) (p : group.History) (w : Work) (j : Task C) → view.building j ≡ held_of id s c p w → (w ≡ works.building) × (j ≡ last_job id s c p)
+  job-is : (id : Origin) (s : ℕ) (c : C) (p : group.History) (w : Work) (j : Task C) → view.building j ≡ held_of id s c p w → (w ≡ works.building) × (j ≡ last_job id s c p)
   job-is id s c p works.idle j e = absurd (cc)
   job-is id s c p works.building j e = let same : j ≡ last_job id s c p = cc in (refl, same)
   job-is id s c p (works.built now) j e = absurd (cc)
@@ -76,25 +76,25 @@ module _ {C : Type 0} where
     pub config : C
     pub there : slice_get (configs_of e.core.group) s ≡ Some config
     pub work_is : work g s h ≡ works.building
-    pub is : j ≡ last_job e.core.group.gate s config (past g s h)
+    pub is : j ≡ last_job (origin e.core) s config (past g s h)
 
   pub record HasBuilt (h : History C) (g s : ℕ) (e : EntryValue C) (b : BuiltValue C) : Type 0 where
     pub config : C
     pub there : slice_get (configs_of e.core.group) s ≡ Some config
     pub moment : ℕ
     pub work_is : work g s h ≡ works.built moment
-    pub is : b ≡ record { task = last_job e.core.group.gate s config (past g s h); ended = moment }
+    pub is : b ≡ record { task = last_job (origin e.core) s config (past g s h); ended = moment }
 
   pub has-job : (h : History C) (g s : ℕ) (e : EntryValue C) (j : Task C) → EntryIs h g e → slice_get e.works s ≡ Some (view.building j) → HasJob h g s e j
   has-job h g s e j is at =
       let c = slot-there h g s e (view.building j) is at in
-      let k = job-is e.core.group.gate s c.0 (past g s h) (work g s h) j (is.works_are s c.0 (view.building j) c.1 at) in
+      let k = job-is (origin e.core) s c.0 (past g s h) (work g s h) j (is.works_are s c.0 (view.building j) c.1 at) in
       record { config = c.0; there = c.1; work_is = k.0; is = k.1 }
 
   pub has-built : (h : History C) (g s : ℕ) (e : EntryValue C) (b : BuiltValue C) → EntryIs h g e → slice_get e.works s ≡ Some (view.ready b) → HasBuilt h g s e b
   has-built h g s e b is at =
       let c = slot-there h g s e (view.ready b) is at in
-      let k = built-is e.core.group.gate s c.0 (past g s h) (work g s h) b (is.works_are s c.0 (view.ready b) c.1 at) in
+      let k = built-is (origin e.core) s c.0 (past g s h) (work g s h) b (is.works_are s c.0 (view.ready b) c.1 at) in
       record { config = c.0; there = c.1; moment = k.0; work_is = k.1; is = k.2 }
 
 -- a place that is read, and written as it was
@@ -107,25 +107,25 @@ same-place xs i x at = ap (slice_set xs i) (sym (get_or_from_slice_get xs i x x 
 pub none-right : {A : Type 0} (o : Option A) (f : A → Answer) → o ≡ None → answer.Refused refusal.NoSuch ≡ at_one o f
 none-right o f is = rw is refl
 
-not-ready : {C : Type 0} (id : GateId) (s : ℕ) (c : C) (p : group.History) (w : Work) (a : Answer) (k : WorkValue C) → k ≡ held_of id s c p w → NotReady k
+not-ready : {C : Type 0} (id : Origin) (s : ℕ) (c : C) (p : group.History) (w : Work) (a : Answer) (k : WorkValue C) → k ≡ held_of id s c p w → NotReady k
     → answer.Refused refusal.NothingBuilt ≡ of_built w a
 not-ready id s c p works.idle a k e off = refl
 not-ready id s c p works.building a k e off = refl
 not-ready id s c p (works.built now) a k e off = absurd (subst NotReady e off)
 
-not-building : {C : Type 0} (id : GateId) (s : ℕ) (c : C) (p : group.History) (w : Work) (a : Answer) (k : WorkValue C) → k ≡ held_of id s c p w → NotBuilding k
+not-building : {C : Type 0} (id : Origin) (s : ℕ) (c : C) (p : group.History) (w : Work) (a : Answer) (k : WorkValue C) → k ≡ held_of id s c p w → NotBuilding k
     → answer.Refused refusal.NothingInFlight ≡ of_job w a
 not-building id s c p works.idle a k e off = refl
 not-building id s c p works.building a k e off = absurd (subst NotBuilding e off)
 not-building id s c p (works.built now) a k e off = refl
 
 module _ {C : Type 0} where
-  configured : (cs : List C) (id : GateId) (s now : ℕ) (c : C) (p : group.History) (b : BuiltValue C) → slice_get cs s ≡ Some c
+  configured : (cs : List C) (id : Origin) (s now : ℕ) (c : C) (p : group.History) (b : BuiltValue C) → slice_get cs s ≡ Some c
       → b ≡ record { task = last_job id s c p; ended = now } → slice_get cs b.task.slot ≡ Some b.task.config
   configured cs id s now c p b there is = rw is there
 
   pub built-config : (h : History C) (g s : ℕ) (e : EntryValue C) (b : BuiltValue C) → HasBuilt h g s e b → slice_get (configs_of e.core.group) b.task.slot ≡ Some b.task.config
-  built-config h g s e b has = configured (configs_of e.core.group) e.core.group.gate s has.moment has.config (past g s h) b has.there has.is
+  built-config h g s e b has = configured (configs_of e.core.group) (origin e.core) s has.moment has.config (past g s h) b has.there has.is
 
   -- a slot that isn't there
   pub beyond : (h : History C) (g s : ℕ) (e : EntryValue C) → EntryIs h g e → length e.works ≤ s → config g s h ≡ None
@@ -137,14 +137,14 @@ module _ {C : Type 0} where
       → answer.Refused refusal.NothingBuilt ≡ at_one (config g s h) (λ c. of_built (work g s h) a)
   unbuilt h g s e k a is at off =
       let c = slot-there h g s e k is at in
-      not-ready e.core.group.gate s c.0 (past g s h) (work g s h) a k (is.works_are s c.0 k c.1 at) off
+      not-ready (origin e.core) s c.0 (past g s h) (work g s h) a k (is.works_are s c.0 k c.1 at) off
       ∙ sym (ap (λ (o : Option C). at_one o (λ x. of_built (work g s h) a)) (config-here h g s e is ∙ c.1))
 
   pub unstarted : (h : History C) (g s : ℕ) (e : EntryValue C) (k : WorkValue C) (a : C → Answer) → EntryIs h g e → slice_get e.works s ≡ Some k → NotBuilding k
       → answer.Refused refusal.NothingInFlight ≡ at_one (config g s h) (λ c. of_job (work g s h) (a c))
   unstarted h g s e k a is at off =
       let c = slot-there h g s e k is at in
-      not-building e.core.group.gate s c.0 (past g s h) (work g s h) (a c.0) k (is.works_are s c.0 k c.1 at) off
+      not-building (origin e.core) s c.0 (past g s h) (work g s h) (a c.0) k (is.works_are s c.0 k c.1 at) off
       ∙ sym (ap (λ (o : Option C). at_one o (λ x. of_job (work g s h) (a x))) (config-here h g s e is ∙ c.1))
 
 module _ {C : Type 0} (M : Meaning C) where
@@ -189,11 +189,11 @@ module _ {C : Type 0} (M : Meaning C) where
             (λ r off. moved r ∙ ap (λ (b : Bool). cond b works.idle (work g r h)) (off-slot g s r off))
             (λ c there.
             sym
-            (ap (held_of e.core.group.gate s c (past g s ((st, a) ∷ h))) (moved s ∙ ap (λ (b : Bool). cond b works.idle (work g s h)) (here g s)))))
+            (ap (held_of (origin e.core) s c (past g s ((st, a) ∷ h))) (moved s ∙ ap (λ (b : Bool). cond b works.idle (work g s h)) (here g s)))))
             (λ b. is.loads_are b ∙ sym (loads b));
         registry_is = refl;
         gate_is = refl;
-        id_is = same.group.gate;
+        origin_is = same-origin _ _ same;
         out = out;
         kept = kept;
       }

@@ -1,6 +1,8 @@
 -- Words for what small calls answer.
 use Rattle.std.specs.Prelude.{◌≡◌, ℕ, true, List, [], length, replicate, Option, Some, None}
 use Rattle.lb_rebuild.specs.Gate.{GateId}
+use Rattle.lb_select.specs.Backends.{Member}
+use Rattle.lb_select.specs.Loads.{load_in}
 use Rattle.lb_group.specs.GroupCalls.{is_read}
 use Rattle.lb_group.specs.Stands.{Made}
 use Rattle.lb_group.specs.declared.answers.Told.{Told}
@@ -36,8 +38,8 @@ pub record IsCounted {C : Type 0} (v : JoinedValue C) (slot generation : ℕ) : 
 pub record IsNewEntry {C : Type 0} (registry gate : ℕ) (id : GateId) (configs : List C) (view : ℕ) (e : EntryValue C) : Type 0 where
   pub registry_is : e.registry ≡ registry
   pub gate_is : e.gate ≡ gate
-  pub core_is : Stands (record { gate = id; configs = configs }) [] e.core
+  pub core_is : Stands (record { id = e.core.group.id; gate = id; configs = configs }) [] e.core
   pub id_is : e.core.group.gate ≡ id
   pub view_is : e.core.view.id ≡ view
   pub works_are : e.works ≡ replicate (length configs) nothing
-  pub loads_are : e.loads ≡ []
+  pub loads_are : (b : Member) → load_in e.loads b ≡ 0

@@ -1,6 +1,5 @@
 pub mod Calls
 pub mod Founded
-pub mod Loads
 pub mod Locals
 pub mod Rules
 pub mod Stands

@@ -21,7 +21,7 @@ local_seen g (is.Disable b) = disable g (Some b.now)
 local_seen g is.Cancel = cancel g
 local_seen g (is.Counts s) = counts g s
 local_seen g (is.Timing s) = timing g s
-local_seen g (is.Load b amount) = load g (Some b) amount
+local_seen g (is.Load b amount) = load g (Some b.now) amount
 
 -- no address of an update was refused
 abbrev pub IsWhole : Local → Type 0

@@ -2,6 +2,7 @@
 use Rattle.std.specs.Prelude.{◌≡◌, ◌<◌, ℕ, Bool, true, false, ◌||◌, ◌∷◌, List, Option, Some, None, length, map, slice_get, if◌then◌else◌}
 use Rattle.std.specs.Option.{option_map}
 use Rattle.lb_select.specs.Backends.{Member}
+use Rattle.lb_select.specs.Loads.{load_in}
 use Rattle.lb_rebuild.specs.Gate.{GateView, gate}
 use Rattle.lb_registry.specs.Registry.{RegistryValue, IsRegistryAfter}
 use Rattle.lb_group.specs.Values.{configs_of}
@@ -14,9 +15,8 @@ use Rattle.lb_history.specs.History.{is_destruction, load_of}
 use Rattle.lb_history.specs.Shared.{key_at, key_of, registry_events}
 use Rattle.lb_history.specs.Answers.{IsRun, Answers}
 use Rattle.lb_history.specs.Joined.{joined_events}
-use Rattle.lb_next_world.specs.Loads.{load_in}
 use Rattle.lb_next_world.specs.Rules.{WorldRule, key_gives}
-use Rattle.lb_next_world.specs.Views.{WorkValue, HeldValue, entered_of, EntryValue, WorldValue, site, IsOwnReader}
+use Rattle.lb_next_world.specs.Views.{WorkValue, HeldValue, entered_of, EntryValue, WorldValue, site, origin, IsOwnReader}
 use Rattle.lb_next_world.specs.Works.{held_of}
 
 -- the permit of a gate after a step at one of its groups
@@ -41,7 +41,7 @@ module _ {C : Type 0} where
     pub core_is : joined.Stands (site e.core) (joined_events g h) e.core
     pub works_in : length e.works ≡ length (configs_of e.core.group)
     pub works_are : (s : ℕ) (c : C) (k : WorkValue C) → slice_get (configs_of e.core.group) s ≡ Some c → slice_get e.works s ≡ Some k
-        → k ≡ held_of e.core.group.gate s c (past g s h) (work g s h)
+        → k ≡ held_of (origin e.core) s c (past g s h) (work g s h)
     pub loads_are : (b : Member) → load_in e.loads b ≡ load_of g b h
 
 module _ {C : Type 0} (M : Meaning C) where
@@ -71,7 +71,7 @@ module _ {C : Type 0} (M : Meaning C) where
     pub is : EntryIs ((st, a) ∷ h) g e2
     pub registry_is : e2.registry ≡ e.registry
     pub gate_is : e2.gate ≡ e.gate
-    pub id_is : e2.core.group.gate ≡ e.core.group.gate
+    pub origin_is : origin e2.core ≡ origin e.core
     pub out : z2 ≡ gate z.id (permit_after st a z.out)
     pub kept : IsRegistryAfter key_gives (key_of g h) (registry_events e.registry ((st, a) ∷ h)) v2
 

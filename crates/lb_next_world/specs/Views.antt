@@ -2,7 +2,8 @@
 use Rattle.std.specs.Prelude.{◌≡◌, ℕ, List, Option, Some, None}
 use Rattle.std.specs.Option.{option_map}
 use Rattle.lb_select.specs.Backends.{Member}
-use Rattle.lb_rebuild.specs.Gate.{GateView}
+use Rattle.lb_rebuild.specs.Gate.{GateId, GateView}
+use Rattle.lb_rebuild.specs.Identity.{GroupId}
 use Rattle.lb_registry.specs.Registry.{RegistryValue}
 use Rattle.lb_group.specs.Values.{Task, BuiltValue, ReaderValue, configs_of}
 use Rattle.lb_group.specs.Stands as group
@@ -50,8 +51,16 @@ pub record WorldValue (C : Type 0) : Type 0 where
 
 -- what a group was made with, by its core
 abbrev pub site : {C : Type 0} → JoinedValue C → group.Made C
-site v = record { gate = v.group.gate; configs = configs_of v.group }
+site v = record { id = v.group.id; gate = v.group.gate; configs = configs_of v.group }
+
+-- whose a group's jobs are: which group it is, and the gate of their permits
+pub record Origin : Type 0 where
+  pub id : GroupId
+  pub gate : GateId
+
+abbrev pub origin : {C : Type 0} → JoinedValue C → Origin
+origin v = record { id = v.group.id; gate = v.group.gate }
 
 -- a reader is one of this group
 abbrev pub IsOwnReader : {C : Type 0} → JoinedValue C → ReaderValue C → Type 0
-IsOwnReader v r = r.gate ≡ v.group.gate
+IsOwnReader v r = r.group ≡ v.group.id

@@ -17,10 +17,10 @@ use lb_history::answer::{Answer, SlotCounts};
 use lb_joined::group::GroupCore;
 use lb_rebuild::gate::GateCore;
 use lb_select::backend::Backend;
+use lb_select::loads::Loads;
 use lb_select::refusal::Refusal;
 use lb_select::walk::BackendSelection;
 use std::alloc::Global;
-use std::collections::BTreeMap;
 use std::marker::Model;
 
 // A group with its registry, its gate, its works and its loads.
@@ -29,7 +29,7 @@ pub(crate) struct Entry<S: BackendSelection> {
     pub(crate) gate: usize,
     pub(crate) core: GroupCore<S>,
     pub(crate) works: Vec<Place<S>>,
-    pub(crate) loads: BTreeMap<Backend, u64>,
+    pub(crate) loads: Loads,
 }
 
 impl<S: BackendSelection> Model for Entry<S> {
@@ -42,7 +42,7 @@ impl<S: BackendSelection> Model for Entry<S> {
       gate = e.gate;
       core = e.core;
       works = e.works.items;
-      loads = e.loads.entries;
+      loads = e.loads;
     } };
 }
 
@@ -110,7 +110,7 @@ impl<S: BackendSelection> Entry<S> {
             Local::Cancel => self.cancel(registry),
             Local::Counts { slot } => self.counts(slot),
             Local::Timing { slot } => self.timing(slot),
-            Local::Load { backend, load } => self.load(backend, load),
+            Local::Load { backend, load } => self.load(alloc, backend, load),
         }
     }
 
@@ -169,13 +169,13 @@ impl<S: BackendSelection> Entry<S> {
     }
 
     // Sets the load of a backend.
-    fn load(&mut self, backend: Backend, load: u64) -> Answer
+    fn load(&mut self, alloc: Global, backend: &Backend, load: u64) -> Answer
         ensures { DoesAlone (meaning_of S.BackendSelection)
-            (λ (g : ℕ). seen.load g (Some backend) load) self.old result self.new }
+            (λ (g : ℕ). seen.load g (Some backend.now) load) self.old result self.new }
     {
-        match self.loads.insert(backend, load) {
-            Ok(_) => Answer::Done,
-            Err(_) => Answer::Refused(Refusal::OutOfMemory),
+        match self.loads.set(alloc, backend, load) {
+            Ok(()) => Answer::Done,
+            Err(refusal) => Answer::Refused(refusal),
         }
     }
 }

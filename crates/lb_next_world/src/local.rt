@@ -54,7 +54,7 @@ pub(crate) enum Local<'a> {
         slot: usize,
     },
     Load {
-        backend: Backend,
+        backend: &'a Backend,
         load: u64,
     },
 }

@@ -244,7 +244,7 @@ impl<S: BackendSelection> World<S> {
             → Stands (meaning_of S.BackendSelection) self.new
             ((seen.load group backend load, result) ∷ h) }
     {
-        let Some(backend) = backend else {
+        let Some(backend) = &backend else {
             return Answer::Refused(Refusal::InvalidAddress);
         };
         self.at_group(group, Local::Load { backend, load })

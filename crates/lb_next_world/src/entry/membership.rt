@@ -30,6 +30,7 @@ use lb_history::step::Listing;
 use lb_joined::group::GroupCore;
 use lb_rebuild::gate::GateCore;
 use lb_select::backend::Backend;
+use lb_select::loads::Loads;
 use lb_select::refusal::Refusal;
 use lb_select::walk::BackendSelection;
 use std::alloc::Global;
@@ -66,7 +67,7 @@ impl<S: BackendSelection> Entry<S> {
                 gate: at.1,
                 core,
                 works: with_places(room, count),
-                loads: BTreeMap::new(alloc),
+                loads: Loads::new(),
             }),
             Err(refusal) => {
                 room.destroy_empty();
@@ -117,7 +118,9 @@ impl<S: BackendSelection> Entry<S> {
         ensures { (z : GateView) → Does (meaning_of S.BackendSelection)
             (λ (g : ℕ). seen.select g slot key.now limit words.now) self.old z registry.now result self.new z registry.now }
     {
-        let selection = self.core.select(alloc, slot, key, limit, words);
+        let selection = self
+            .core
+            .select(alloc, registry, slot, key, limit, words, &self.loads);
         let Selection {
             answer,
             drawn: _,

@@ -30,6 +30,13 @@ returns-in_default g c =
     (inl (unbuilt h n c.args.slot _ c.index_mut-place.result.now _ is at c.in_default.ensures.0))
     (refused-still h (seen.abandon n c.args.slot) refusal.NothingBuilt) refl))
 
+pub abandon-requires-clause-own : goal.abandon-requires-clause-own
+abandon-requires-clause-own g c =
+    let within : c.args.slot < length c.self.inside.works.items = omega arith in
+    let at = at-place c.self.inside.works.items c.args.slot c.index_mut-place.result.now within c.index_mut-place.ensures.value in
+    let own = rw (← c.self.view_is) at c.requires.stands.is in
+    ap (λ (b : BuiltValue g.row.S-Config.Denot). b.task.group) (has-built _ _ c.args.slot _ _ own (at ∙ ap Some c.in-Some.ensures.0)).is
+
 pub abandon-requires-clause-permit : goal.abandon-requires-clause-permit
 abandon-requires-clause-permit g c =
     let within : c.args.slot < length c.self.inside.works.items = omega arith in

@@ -31,6 +31,13 @@ returns-in_default g c =
     (inl (unstarted h n c.args.slot _ c.index_mut-place.result.now _ is at c.in_default.ensures.0))
     (refused-still h (seen.build n c.args.slot c.args.now) refusal.NothingInFlight) refl))
 
+pub fail-requires-clause-own : goal.fail-requires-clause-own
+fail-requires-clause-own g c =
+    let within : c.args.slot < length c.self.inside.works.items = omega arith in
+    let at = at-place c.self.inside.works.items c.args.slot c.index_mut-place.result.now within c.index_mut-place.ensures.value in
+    let own = rw (← c.self.view_is) at c.requires.stands.is in
+    rw c.in-Err.ensures.failed.0 (ap (λ (b : Task g.row.S-Config.Denot). b.group) (has-job _ _ c.args.slot _ _ own (at ∙ ap Some c.in-Some.ensures.0)).is)
+
 pub fail-requires-clause-permit : goal.fail-requires-clause-permit
 fail-requires-clause-permit g c =
     let within : c.args.slot < length c.self.inside.works.items = omega arith in
