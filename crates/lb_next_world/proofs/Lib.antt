@@ -6,5 +6,9 @@ pub mod CoreSteps
 pub mod TaskSteps
 pub mod ReturnSteps
 pub mod AskSteps
+pub mod SelectSteps
+pub mod SameSets
+pub mod Listed
+pub mod UpdateSteps
 pub mod EmptyWorld
 pub mod Registries

@@ -19,6 +19,10 @@ impl KeyRule for NoRule {
     fn key(&self, alloc: Global, backend: &Backend) -> Result<Backend, Refusal> {
         match *self {}
     }
+
+    fn same(&self, backend: &Backend, other: &Backend) -> bool {
+        match *self {}
+    }
 }
 
 /// A registry of a world.
