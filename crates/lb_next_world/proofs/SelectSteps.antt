@@ -51,9 +51,12 @@ use Rattle.lb_next_world.proofs.CoreSteps.{next-core, next-told}
 use Rattle.lb_next_world.proofs.Holding.{no_grants, config-here}
 use Rattle.lb_next_world.proofs.Next.{AtGroup, registry-here}
 use Rattle.lb_next_world.proofs.Places.{there, past as past_end}
-use Rattle.lb_next_world.proofs.Quiet.{cong2, refused-still}
+use Rattle.lb_next_world.proofs.Quiet.{refused-still}
 
 -- A counter that is left where it stands changes nothing.
+same-cons : {X : Type 0} (x y : X) (xs ys : List X) → x ≡ y → xs ≡ ys → (x ∷ xs) ≡ (y ∷ ys)
+same-cons x y xs ys p q = cc
+
 undrawn-slot : {C : Type 0} (id : GateId) (i s t : ℕ) (c : C) (k : group.History) → t ≡ drawn (past_of s k)
     → slot_after id c (past_of i (At s (Drew t) ∷ k)) ≡ slot_after id c (past_of i k)
 undrawn-slot {C = C} id i s t c k is =
@@ -71,7 +74,7 @@ undrawn-slots : {C : Type 0} (id : GateId) (i s t : ℕ) (cs : List C) (k : grou
     → slots_after id i cs (At s (Drew t) ∷ k) ≡ slots_after id i cs k
 undrawn-slots id i s t [] k is = refl
 undrawn-slots {C = C} id i s t (c ∷ cs) k is =
-    cong2 (λ (x : SlotValue C) (xs : List (SlotValue C)). x ∷ xs) _ _ _ _ (undrawn-slot id i s t c k is) (undrawn-slots id (i + 1) s t cs k is)
+    same-cons _ _ _ _ (undrawn-slot id i s t c k is) (undrawn-slots id (i + 1) s t cs k is)
 
 undrawn-group : {C : Type 0} (made : core.Made C) (s t : ℕ) (k : group.History) → t ≡ drawn (past_of s k)
     → group_after made (At s (Drew t) ∷ k) ≡ group_after made k
@@ -151,6 +154,15 @@ module _ {C : Type 0} (M : Meaning C) where
       by-words (subst (λ (ms : List Member). SelectsFrom M.random M.walks (calls.Judges (key_of g h) (registry_events e.registry h) (site e.core) (joined_events g h) (calls.served_at s (joined_events g h)))
       (load_in e.loads) key limit words ms c (drawn (past g s h)) sel) members_are from) (M.random (members_of (served (past g s h)) (group_events g h)) c && nat_le (length words) limit) refl
     where
+      Was : Member → Bool → Type 0
+      Was = calls.Judges (key_of g h) (registry_events e.registry h) (site e.core) (joined_events g h) (calls.served_at s (joined_events g h))
+
+      walks : List Draw → List Member → Bool → Type 0
+      walks = M.walks (members_of (served (past g s h)) (group_events g h)) c key
+
+      source : DrawnValue
+      source = record { words = record { tickets = drawn (past g s h); words = words }; drawn = 0 }
+
       Right : Answer → Type 0
       Right a = answers.SelectsIn M h g s (served (past g s h)) c key limit words a
 
@@ -169,10 +181,10 @@ module _ {C : Type 0} (M : Meaning C) where
       by-words from false enough =
           let long = rw enough at from in
           let t : DrawnValue = long.0 in
-          let all = alone-by _ limit _ _ _ t sel.answer long.1 in
-          let walked = selects-more same_member _ (Judges h g (served (past g s h))) (judged-alike h g s e run is) limit (LoadedGives (λ b. load_of g b h))
-          (M.walks (members_of (served (past g s h)) (group_events g h)) c key) _ t.words sel.answer
-          (handed-selects (load_in e.loads) (λ b. load_of g b h) is.loads_are _ limit _ _ t sel.answer long.1) in
+          let all = alone-by Was limit (DrawnGives (load_in e.loads)) walks source t sel.answer long.1 in
+          let walked = selects-more same_member Was (Judges h g (served (past g s h))) (judged-alike h g s e run is) limit (LoadedGives (λ b. load_of g b h))
+          walks source.words t.words sel.answer
+          (handed-selects (load_in e.loads) (λ b. load_of g b h) is.loads_are Was limit walks source t sel.answer long.1) in
           told (told-selected sel.answer sel.tickets all)
           (placed (selected sel.tickets sel.answer) (rw enough (sel.answer, t.words, walked, ap (λ (n : ℕ). selected n sel.answer) long.3)))
 
@@ -246,7 +258,7 @@ module _ {C : Type 0} (M : Meaning C) where
             (sym (ap (λ (r : Result (Option Member) Refusal). selected_as r sel.tickets) short))
             (next-told M h (step.select g s key limit words) (answer.Refused refusal.NotEnoughWords) g e v z x
             (refused-still h (step.select g s key limit words) refusal.NotEnoughWords) is same back right refl kept)
-        | told as right ↦
-            subst (λ (a : Answer). EntryNext M h g (step.select g s key limit words) a e z (with_core v e) z x) (sym as)
+        | told same-answer right ↦
+            subst (λ (a : Answer). EntryNext M h g (step.select g s key limit words) a e z (with_core v e) z x) (sym same-answer)
             (to-told h g s key limit words sel.answer sel.tickets e v z x is same moved right kept)
       ]

@@ -1,7 +1,7 @@
 -- The steps that update a group: why one is refused, and what a new membership and its settings do to the group and the registry.
 use Rattle.std.proofs.Common.{◌≡◌, ◌⊎◌, inl, inr, ◌≤◌, ◌+◌, ◌^◌, ◌&&◌, ◌==◌, ◌∙◌, ℕ, Bool, true, false, not, cond, nat_le, List, [], ◌∷◌, ◌++◌, length, refl, sym, ap, subst, arith}
 use Rattle.std.specs.Prelude.{Option, Some, None, Result, Ok, Err}
-use Rattle.std.proofs.lemmas.Bool.{not-true, not-false}
+use Rattle.std.proofs.lemmas.Bool.{not-false, le-leb, leb-true}
 use Rattle.lb_select.specs.Backends.{Member}
 use Rattle.lb_select.specs.Memberships.{same_members}
 use Rattle.lb_select.specs.Refusals.{earlier}
@@ -15,7 +15,8 @@ use Rattle.lb_health.specs.ViewEvents.{ViewEvent, membership_after}
 use Rattle.lb_group.specs.GroupCalls.{is_change, schedule_refusal}
 use Rattle.lb_group.specs.GroupHistory as group
 use Rattle.lb_group.specs.GroupHistory.{newest, members_of, is_cancelled}
-use Rattle.lb_joined.specs.JoinedCalls.{after_schedule}
+use Rattle.lb_group.specs.declared.schedule.Scheduled.{Scheduled}
+use Rattle.lb_joined.specs.JoinedCalls.{after_schedule, Schedules, IsRefusedFor}
 use Rattle.lb_joined.specs.JoinedHistory as joined
 use Rattle.lb_joined.specs.Stands as stands
 use Rattle.lb_joined.specs.Stands.{JoinedValue, views_of}
@@ -33,16 +34,17 @@ use Rattle.lb_history.proofs.Joining.{follows}
 use Rattle.lb_history.proofs.Registered.{is-registered}
 use Rattle.lb_history.proofs.Sharing.{shares}
 use Rattle.lb_history.proofs.Together.{joins-alike, group-of, schedules-alike}
-use Rattle.lb_next_world.specs.Calls.{with_core}
+use Rattle.lb_next_world.specs.Calls.{with_core, scheduled_as}
 use Rattle.lb_next_world.specs.Rules.{WorldRule, key_gives}
 use Rattle.lb_next_world.specs.Stands.{EntryIs, EntryNext, made_of}
 use Rattle.lb_next_world.specs.Views.{EntryValue, site}
-use Rattle.lb_next_world.proofs.CoreSteps.{next-core}
+use Rattle.lb_next_world.proofs.CoreSteps.{next-core, next-told}
 use Rattle.lb_next_world.proofs.Holding.{joined-here, shared-here}
 use Rattle.lb_next_world.proofs.Next.{AtGroup, registry-here}
+use Rattle.lb_next_world.proofs.Quiet.{refused-still}
 
 -- A cause of the group's goes before one of the registry's.
-cause : Bool → Bool → Option Refusal
+abbrev cause : Bool → Bool → Option Refusal
 cause a b = cond a (Some refusal.GenerationsExhausted) (cond b (Some refusal.GroupCancelled) None)
 
 first-cause : (a b c d : Bool) (r : Refusal) → cause a b ≡ Some r → earlier (cause a b) (cond c (where_ d refusal.NumbersExhausted) None) ≡ Some r
@@ -53,6 +55,13 @@ first-cause false true true true r is = is
 first-cause false true true false r is = is
 first-cause false true false d r is = is
 first-cause false false c d r is = absurd (cc)
+
+left-false : (a b : ℕ) → (a ≤ b → ⊥) → nat_le a b ≡ false
+left-false a b off = by-test (nat_le a b) refl
+  where
+    by-test : (t : Bool) → nat_le a b ≡ t → nat_le a b ≡ false
+    by-test true is = absurd (off (leb-true a b is))
+    by-test false is = is
 
 uncancelled : (a b : Bool) → cause a b ≡ None → b ≡ false
 uncancelled true b is = absurd (cc)
@@ -214,3 +223,132 @@ module _ {C : Type 0} (M : Meaning C) where
       same-events : {es fs : List registry.Event} (b : Bool) → b ≡ true → cond b es fs ≡ es
       same-events true is = refl
       same-events false is = absurd (cc)
+
+  -- a membership that was scheduled
+  pub does-schedule : (h : History C) (g now : ℕ) (ls : List Listing) (s : Scheduled) (e : EntryValue C) (v : JoinedValue C) (z : GateView)
+      (x : RegistryValue WorldRule) → IsRun M h → EntryIs h g e → has_refused ls ≡ false
+      → Schedules (site e.core) (joined_events g h) (members_in ls) (Ok s)
+      → (is_change (members_in ls) (group_events g h) ≡ true → nat_le (2 ^ 64) (cells h g e ls) ≡ false) → stands.SameSite e.core v
+      → stands.Stands (site e.core)
+      (after_schedule (key_of g h) e.core.view.id (members_in ls) (settings_in ls) now (registry_events e.registry h) (joined_events g h)) v
+      → IsRegistryAfter key_gives (key_of g h)
+      (registry_updated (key_of g h) e.core.view.id (members_in ls) (views_of (site e.core) (joined_events g h)) (registry_events e.registry h)) x
+      → EntryNext M h g (step.update g now ls) (scheduled_as s) e z (with_core v e) z x
+  does-schedule h g now ls s e v z x run is whole right-so enough same was kept =
+      by-change (is_change (members_in ls) (group_events g h)) refl
+    where
+      k : group.History
+      k = joined.group_events (joined_events g h)
+
+      none : schedule_refusal (members_in ls) (group_events g h) ≡ None
+      none = ap (schedule_refusal (members_in ls)) (sym (group-of g h)) ∙ right-so.0
+
+      changed-is : s.changed ≡ is_change (members_in ls) (group_events g h)
+      changed-is = right-so.1 ∙ ap (is_change (members_in ls)) (group-of g h)
+
+      number-is : s.generation ≡ cond (is_change (members_in ls) (group_events g h)) (newest (group_events g h) + 1) (newest (group_events g h))
+      number-is = right-so.2 ∙ ap (λ (p : group.History). cond (is_change (members_in ls) p) (newest p + 1) (newest p)) (group-of g h)
+
+      by-change : (b : Bool) → is_change (members_in ls) (group_events g h) ≡ b → EntryNext M h g (step.update g now ls) (scheduled_as s) e z (with_core v e) z x
+      by-change true is-change =
+          subst (λ (a : Answer). EntryNext M h g (step.update g now ls) a e z (with_core v e) z x)
+          (sym (ap (λ (b : Bool). cond b (answer.Generation s.generation) (answer.Same s.generation)) (changed-is ∙ is-change)))
+          (does-change h g now s.generation ls e v z x run is whole none is-change (enough is-change)
+          (number-is ∙ ap (λ (b : Bool). cond b (newest (group_events g h) + 1) (newest (group_events g h))) is-change) same was kept)
+      by-change false is-change =
+          subst (λ (a : Answer). EntryNext M h g (step.update g now ls) a e z (with_core v e) z x)
+          (sym (ap (λ (b : Bool). cond b (answer.Generation s.generation) (answer.Same s.generation)) (changed-is ∙ is-change)))
+          (does-keep h g now s.generation ls e v z x run is whole none is-change
+          (number-is ∙ ap (λ (b : Bool). cond b (newest (group_events g h) + 1) (newest (group_events g h))) is-change) same was kept)
+
+  -- a refusal of the core's: of a cause of the group, or where none stands and the membership is another one, of the registry
+  pub refused-right : (h : History C) (g now : ℕ) (ls : List Listing) (e : EntryValue C) (r : Refusal) → IsRun M h → EntryIs h g e → has_refused ls ≡ false
+      → IsRefusedFor (joined.group_events (joined_events g h)) (members_in ls) r
+      → (r ≡ refusal.NoSuch → registry.has_view e.core.view.id (registry.views_after (registry_events e.registry h)) ≡ false)
+      → (r ≡ refusal.NumbersExhausted → 2 ^ 64 ≤ cells h g e ls)
+      → (schedule_refusal (members_in ls) (group_events g h) ≡ None → is_change (members_in ls) (group_events g h) ≡ true
+      → 2 ^ 64 ≤ cells h g e ls → r ≡ refusal.NumbersExhausted)
+      → Answers M h (step.update g now ls) (answer.Refused r)
+  refused-right h g now ls e r run is whole why unknown numbers lacking =
+      elim (subst (λ (p : group.History). IsRefusedFor p (members_in ls) r) (group-of g h) why) [
+        | inl own ↦ cause-right h g now ls e r is whole own
+        | inr shared ↦
+            elim shared.2 [
+              | inl memory ↦
+                  subst (λ (q : Refusal). Answers M h (step.update g now ls) (answer.Refused q)) (sym memory)
+                  (memory-right h g now ls e is whole shared.0
+                  (λ c.
+                  left-false (2 ^ 64) (cells h g e ls)
+                  (λ more. absurd (let clash = sym memory ∙ lacking shared.0 shared.1 more in cc))))
+              | inr rest ↦
+                  elim rest [
+                    | inl numbered ↦
+                        subst (λ (q : Refusal). Answers M h (step.update g now ls) (answer.Refused q)) (sym numbered)
+                        (numbers-right h g now ls e is whole shared.0 shared.1 (le-leb (2 ^ 64) (cells h g e ls) (numbers numbered)))
+                    | inr absent ↦
+                        absurd (true-not (view-there h g (members_in ls) e run is shared.0) (unknown absent))
+                  ]
+            ]
+      ]
+    where
+      true-not : {b : Bool} → b ≡ true → b ≡ false → ⊥
+      true-not a b = absurd (let clash = sym a ∙ b in cc)
+
+  -- what the core tells of a change for which no number is left, of the members that it was given
+  abbrev pub Lacking : History C → ℕ → EntryValue C → List Member → Result Scheduled Refusal → Type 0
+  Lacking h g e ms answer =
+      schedule_refusal ms (joined.group_events (joined_events g h)) ≡ None → is_change ms (joined.group_events (joined_events g h)) ≡ true
+      → registry.has_view e.core.view.id (registry.views_after (registry_events e.registry h)) ≡ true
+      → 2 ^ 64 ≤ registry.cells_given (key_of g h) (registry.Updated e.core.view.id ms ∷ registry.Applied ∷ registry_events e.registry h)
+      → answer ≡ Err refusal.NumbersExhausted
+
+  lacks : (h : History C) (g : ℕ) (ls : List Listing) (e : EntryValue C) (ms : List Member) (answer : Result Scheduled Refusal) → IsRun M h → EntryIs h g e
+      → ms ≡ members_in ls → Lacking h g e ms answer → schedule_refusal (members_in ls) (group_events g h) ≡ None
+      → is_change (members_in ls) (group_events g h) ≡ true → 2 ^ 64 ≤ cells h g e ls → answer ≡ Err refusal.NumbersExhausted
+  lacks h g ls e ms answer run is same lacking none change more =
+      subst (λ (xs : List Member). Lacking h g e xs answer) same lacking
+      (ap (schedule_refusal (members_in ls)) (group-of g h) ∙ none) (ap (is_change (members_in ls)) (group-of g h) ∙ change)
+      (view-there h g (members_in ls) e run is none) more
+
+  -- the core refused it
+  pub does-refuse : (h : History C) (g now : ℕ) (ls : List Listing) (ms : List Member) (r : Refusal) (e : EntryValue C) (v : JoinedValue C) (z : GateView)
+      (x : RegistryValue WorldRule) → IsRun M h → EntryIs h g e → has_refused ls ≡ false → ms ≡ members_in ls
+      → IsRefusedFor (joined.group_events (joined_events g h)) ms r
+      → (r ≡ refusal.NoSuch → registry.has_view e.core.view.id (registry.views_after (registry_events e.registry h)) ≡ false)
+      → (r ≡ refusal.NumbersExhausted
+      → 2 ^ 64 ≤ registry.cells_given (key_of g h) (registry.Updated e.core.view.id ms ∷ registry.Applied ∷ registry_events e.registry h))
+      → Lacking h g e ms (Err r) → stands.SameSite e.core v → stands.Stands (site e.core) (joined_events g h) v
+      → IsRegistryAfter key_gives (key_of g h) (registry_events e.registry h) x
+      → EntryNext M h g (step.update g now ls) (answer.Refused r) e z (with_core v e) z x
+  does-refuse h g now ls ms r e v z x run is whole same why unknown numbers lacking site-same was kept =
+      next-told M h (step.update g now ls) (answer.Refused r) g e v z x (refused-still h (step.update g now ls) r) is site-same was
+      (refused-right h g now ls e r run is whole (subst (λ (xs : List Member). IsRefusedFor (joined.group_events (joined_events g h)) xs r) same why) unknown
+      (λ n.
+      subst
+      (λ (xs : List Member). 2 ^ 64 ≤ registry.cells_given (key_of g h) (registry.Updated e.core.view.id xs ∷ registry.Applied ∷ registry_events e.registry h))
+      same (numbers n))
+      (λ none change more. same-cause r (lacks h g ls e ms (Err r) run is same lacking none change more)))
+      refl kept
+    where
+      same-cause : (a : Refusal) → (let told : Result Scheduled Refusal = Err a in told ≡ Err refusal.NumbersExhausted) → a ≡ refusal.NumbersExhausted
+      same-cause a is = cc
+
+  -- the core made it the newest, or left the newest
+  pub does-update : (h : History C) (g now : ℕ) (ls : List Listing) (ms : List Member) (flags : List (Member × Bool)) (s : Scheduled) (e : EntryValue C)
+      (v : JoinedValue C) (z : GateView) (x : RegistryValue WorldRule) → IsRun M h → EntryIs h g e → has_refused ls ≡ false → ms ≡ members_in ls
+      → flags ≡ settings_in ls → Schedules (site e.core) (joined_events g h) ms (Ok s) → Lacking h g e ms (Ok s) → stands.SameSite e.core v
+      → stands.Stands (site e.core) (after_schedule (key_of g h) e.core.view.id ms flags now (registry_events e.registry h) (joined_events g h)) v
+      → IsRegistryAfter key_gives (key_of g h)
+      (registry_updated (key_of g h) e.core.view.id ms (views_of (site e.core) (joined_events g h)) (registry_events e.registry h)) x
+      → EntryNext M h g (step.update g now ls) (scheduled_as s) e z (with_core v e) z x
+  does-update h g now ls ms flags s e v z x run is whole same marks right-so lacking site-same was kept =
+      let own = subst (λ (xs : List Member). Schedules (site e.core) (joined_events g h) xs (Ok s)) same right-so in
+      let none : schedule_refusal (members_in ls) (group_events g h) ≡ None = ap (schedule_refusal (members_in ls)) (sym (group-of g h)) ∙ own.0 in
+      does-schedule h g now ls s e v z x run is whole own
+      (λ change.
+      left-false (2 ^ 64) (cells h g e ls)
+      (λ more. absurd (let clash = lacks h g ls e ms (Ok s) run is same lacking none change more in cc)))
+      site-same
+      (subst (λ (fs : List (Member × Bool)). stands.Stands (site e.core) (after_schedule (key_of g h) e.core.view.id (members_in ls) fs now (registry_events e.registry h) (joined_events g h)) v) marks
+      (subst (λ (xs : List Member). stands.Stands (site e.core) (after_schedule (key_of g h) e.core.view.id xs flags now (registry_events e.registry h) (joined_events g h)) v) same was))
+      (subst (λ (xs : List Member). IsRegistryAfter key_gives (key_of g h) (registry_updated (key_of g h) e.core.view.id xs (views_of (site e.core) (joined_events g h)) (registry_events e.registry h)) x) same kept)

@@ -1,5 +1,5 @@
 -- Words for what small calls answer.
-use Rattle.std.specs.Prelude.{◌≡◌, ℕ, Bool, true, List, [], length, replicate, Option, Some, None, Result, Ok, Err}
+use Rattle.std.specs.Prelude.{◌≡◌, ℕ, Bool, true, List, [], length, replicate, Option, Some, None, Result, Ok, Err, if◌then◌else◌}
 use Rattle.lb_rebuild.specs.Gate.{GateId}
 use Rattle.std.specs.BTreeMap.{insert_entry}
 use Rattle.lb_select.specs.Backends.{Member, member_cmp}
@@ -10,6 +10,7 @@ use Rattle.lb_group.specs.GroupCalls.{is_read}
 use Rattle.lb_group.specs.Stands.{Made}
 use Rattle.lb_group.specs.declared.answers.Selection.{Selection}
 use Rattle.lb_group.specs.declared.answers.Told.{Told}
+use Rattle.lb_group.specs.declared.schedule.Scheduled.{Scheduled}
 use Rattle.lb_group.specs.declared.answers.Told.TheVariants as told
 use Rattle.lb_history.specs.declared.answer.Answer.{Answer}
 use Rattle.lb_history.specs.declared.answer.Answer.TheVariants as answer
@@ -36,6 +37,10 @@ selected_as (Err r) t = answer.Refused r
 
 abbrev pub selection_as : Selection → Answer
 selection_as s = selected_as s.answer s.tickets
+
+-- what a membership was scheduled as, as an answer
+abbrev pub scheduled_as : Scheduled → Answer
+scheduled_as s = (if s.changed then answer.Generation s.generation else answer.Same s.generation)
 
 -- settings with a mark's, over those that were set before it
 abbrev pub set_marked : Option (Member × Bool) → List (Member × Bool) → List (Member × Bool)

@@ -16,7 +16,7 @@ mod registries;
 
 use crate::entry::Entry;
 use crate::held::Held;
-use crate::local::Local;
+use crate::local::{Local, has_refused};
 use crate::rule::WorldRegistry;
 use lb_history::answer::Answer;
 use lb_history::step::{Listing, Step};
@@ -211,7 +211,7 @@ impl<S: BackendSelection> World<S> {
             → Stands (meaning_of S.BackendSelection) self.new
             ((seen.update group now listings.items, result) ∷ h) }
     {
-        if listings.iter().any(|listing| listing.backend.is_none()) {
+        if has_refused(&listings) {
             return Answer::Refused(Refusal::InvalidAddress);
         }
         self.at_group(group, Local::Update { now, listings })

@@ -10,7 +10,7 @@ ghost use Rattle.lb_history.specs.Meanings.{meaning_of};
 ghost use Rattle.lb_history.specs.Steps as seen;
 ghost use Rattle.lb_next_world.specs.Rules.{key_gives};
 ghost use Rattle.lb_next_world.specs.Stands.{IsEntry, Does, DoesAtRegistry};
-ghost use Rattle.lb_next_world.specs.Calls.{IsNewEntry, selection_as};
+ghost use Rattle.lb_next_world.specs.Calls.{IsNewEntry, scheduled_as, selection_as};
 ghost use Rattle.lb_rebuild.specs.Gate.{GateView};
 ghost use Rattle.lb_select.specs.Backends.{Member};
 ghost use Rattle.lb_select.specs.Refusals.{least};
@@ -22,6 +22,7 @@ use super::listed::{differs, members_from, settings_from};
 use crate::held::with_places;
 use crate::rule::WorldRegistry;
 use lb_group::answers::Selection;
+use lb_group::schedule::Scheduled;
 use lb_history::answer::Answer;
 use lb_history::step::Listing;
 use lb_joined::group::GroupCore;
@@ -95,8 +96,7 @@ impl<S: BackendSelection> Entry<S> {
         };
         match self.core.schedule(alloc, registry, members, settings, now) {
             Err(refusal) => Answer::Refused(refusal),
-            Ok(scheduled) if scheduled.changed => Answer::Generation(scheduled.generation),
-            Ok(scheduled) => Answer::Same(scheduled.generation),
+            Ok(scheduled) => generation_of(&scheduled),
         }
     }
 
@@ -132,6 +132,16 @@ impl<S: BackendSelection> Entry<S> {
         }
         None
     }
+}
+
+// The generation that is the newest now or still, as an answer.
+fn generation_of(scheduled: &Scheduled) -> Answer
+    ensures { result ≡ scheduled_as scheduled.now }
+{
+    if scheduled.changed {
+        return Answer::Generation(scheduled.generation);
+    }
+    Answer::Same(scheduled.generation)
 }
 
 // A selection as an answer. One that was refused for memory may have moved the counter of tickets.

@@ -19,9 +19,10 @@ pub loop-listing-preserved-in_ok-insert : goal.loop-listing-preserved-in_ok-inse
 loop-listing-preserved-in_ok-insert c =
     record {
       gathered =
-          c.in_ok-insert.ensures.keys
-          ∙ ap (λ ks. insert_key member_cmp ks c.in-Some-listing.backend) c.loop-listing.invariant.gathered
-          ∙ sym (member-more c.loop-listing.yielded c.in-Some.listing ∙ ap (λ (o : Option Member). with_key o (members_in c.loop-listing.yielded)) c.in-Some-listing.is);
+          rw c.in-Some-backend.is
+          (c.in_ok-insert.ensures.keys
+          ∙ ap (λ ks. insert_key member_cmp ks c.in-Some-backend.backend) c.loop-listing.invariant.gathered
+          ∙ sym (member-more c.loop-listing.yielded c.in-Some.listing ∙ ap (λ (o : Option Member). with_key o (members_in c.loop-listing.yielded)) c.in-Some-backend.is));
     }
 
 pub loop-listing-preserved : goal.loop-listing-preserved
