@@ -246,8 +246,8 @@ module _ {C : Type 0} (M : Meaning C) where
       → EntryNext M h g (step.select g s key limit words) (selection_as sel) e z (with_core v e) z x
   does-select h g s key limit words e v sel z x run is same all moved kept =
       elim (selects h g s key limit words e sel run is
-        (subst (λ (k : group.History). SelectsIn M.random M.walks (calls.Judges (key_of g h) (registry_events e.registry h) (site e.core) (joined_events g h) (calls.served_at s (joined_events g h)))
-        (load_in e.loads) (site e.core) k s key limit words sel) (group-of g h) all)) [
+      (subst (λ (k : group.History). SelectsIn M.random M.walks (calls.Judges (key_of g h) (registry_events e.registry h) (site e.core) (joined_events g h) (calls.served_at s (joined_events g h)))
+      (load_in e.loads) (site e.core) k s key limit words sel) (group-of g h) all)) [
         | refused c there short left right ↦
             let within : nat_lt s (length (configs_of e.core.group)) ≡ true =
             lt-ltb s (length (configs_of e.core.group)) (slice_get_within (configs_of e.core.group) s c (sym (config-here h g s e is) ∙ there)) in

@@ -162,7 +162,7 @@ module _ {C : Type 0} (M : Meaning C) where
       subst (λ (es : joined.History). stands.Stands (site e.core) es v)
       (ap (λ (i : ℕ). after_schedule (key_of g h) i (members_in ls) (settings_in ls) now (registry_events e.registry h) (joined_events g h)) (sym (ap view_in is.made_is))
       ∙ ap (λ (es : List registry.Event). after_schedule (key_of g h) (view_in (made_at g h)) (members_in ls) (settings_in ls) now es (joined_events g h))
-          (sym (ap (λ (o : Option ℕ). events_in o h) (registry-here h g e is)))
+      (sym (ap (λ (o : Option ℕ). events_in o h) (registry-here h g e is)))
       ∙ sym alike ∙ joined-here h (step.update g now ls) a g refl) was
 
   views-are : (h : History C) (g : ℕ) (e : EntryValue C) → IsRun M h → EntryIs h g e → views_of (site e.core) (joined_events g h) ≡ view_events g h

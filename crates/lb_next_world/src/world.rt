@@ -177,7 +177,14 @@ impl<S: BackendSelection> World<S> {
 
     /// Takes a step that selects, and answers it as `step` does. Key and random words are lent, so that the step takes no memory
     /// for them.
-    pub fn select(&mut self, group: u64, slot: usize, key: &[u8], limit: usize, words: &[u64]) -> Answer
+    pub fn select(
+        &mut self,
+        group: u64,
+        slot: usize,
+        key: &[u8],
+        limit: usize,
+        words: &[u64],
+    ) -> Answer
         ensures { (h : History S.Config) → Stands (meaning_of S.BackendSelection) self.old h
             → Stands (meaning_of S.BackendSelection) self.new
             ((seen.select group slot key.now limit words.now, result) ∷ h) }

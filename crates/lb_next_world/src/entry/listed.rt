@@ -71,7 +71,10 @@ fn is_backend(listing: &Listing, backend: &Backend) -> bool
 }
 
 // The set of the backends that are there; of several of one identity the first stays.
-pub(crate) fn members_from(alloc: Global, listings: Vec<Listing>) -> Result<BTreeSet<Backend>, Refusal>
+pub(crate) fn members_from(
+    alloc: Global,
+    listings: Vec<Listing>,
+) -> Result<BTreeSet<Backend>, Refusal>
     ensures set { IfOk result (λ set. set.keys ≡ members_in listings.items) }
     ensures err { IfErr result (λ e. e ≡ Refusal.OutOfMemory) }
 {
