@@ -17,7 +17,7 @@ use Rattle.lb_health.specs.Joined.{settings_of}
 use Rattle.lb_history.specs.declared.step.Listing.{Listing}
 use Rattle.lb_history.specs.History.{members_in}
 use Rattle.lb_history.specs.Shared.{marked, settings_in}
-use Rattle.lb_next_world.specs.Calls.{set_marked}
+use Rattle.lb_next_world.specs.Calls.{set_marked, with_key}
 use Rattle.lb_next_world.proofs.SameSets.{same_set}
 
 abbrev present : List Listing → List Member
@@ -57,10 +57,6 @@ listed_members ls ms =
     ∙ ap (λ b. list_all (λ x. list_any (same_member x) ms) (present ls) && b) (each_there ls ms) ∙ sym (same_set (present ls) ms)
 
 -- one listing more
-abbrev pub with_key : Option Member → List Member → List Member
-with_key None ks = ks
-with_key (Some x) ks = insert_key member_cmp ks x
-
 fold-cons : (o : Option Member) (ks : List Member) → fold (insert_key member_cmp) ks (cons_option o []) ≡ with_key o ks
 fold-cons None ks = refl
 fold-cons (Some x) ks = refl

@@ -215,14 +215,14 @@ module _ {C : Type 0} (M : Meaning C) where
       next-core M h st a g e v z z x at is same (stays h g now ls a e v is (schedules-alike M h st a (run, right)) was) refl (λ s. refl) (λ b. refl) right refl
       (subst (λ (es : List registry.Event). IsRegistryAfter key_gives (key_of g h) es x)
       (ap (λ (vs : List ViewEvent). registry_updated (key_of g h) e.core.view.id (members_in ls) vs (registry_events e.registry h)) (views-are h g e run is)
-      ∙ same-events (same_members (members_in ls) (membership_after (view_events g h))) alike) kept)
+      ∙ same-events (registry_events e.registry h) _ (same_members (members_in ls) (membership_after (view_events g h))) alike) kept)
     where
       true-false : true ≡ false → ⊥
       true-false e = absurd (cc)
 
-      same-events : {es fs : List registry.Event} (b : Bool) → b ≡ true → cond b es fs ≡ es
-      same-events true is = refl
-      same-events false is = absurd (cc)
+      same-events : (es fs : List registry.Event) (b : Bool) → b ≡ true → cond b es fs ≡ es
+      same-events es fs true is = refl
+      same-events es fs false is = absurd (cc)
 
   -- a membership that was scheduled
   pub does-schedule : (h : History C) (g now : ℕ) (ls : List Listing) (s : Scheduled) (e : EntryValue C) (v : JoinedValue C) (z : GateView)

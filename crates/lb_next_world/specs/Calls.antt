@@ -2,6 +2,7 @@
 use Rattle.std.specs.Prelude.{◌≡◌, ℕ, Bool, true, List, [], length, replicate, Option, Some, None, Result, Ok, Err, if◌then◌else◌}
 use Rattle.lb_rebuild.specs.Gate.{GateId}
 use Rattle.std.specs.BTreeMap.{insert_entry}
+use Rattle.std.specs.BTreeSet.{insert_key}
 use Rattle.lb_select.specs.Backends.{Member, member_cmp}
 use Rattle.lb_select.specs.Loads.{load_in}
 use Rattle.lb_select.specs.declared.refusal.Refusal.{Refusal}
@@ -41,6 +42,11 @@ selection_as s = selected_as s.answer s.tickets
 -- what a membership was scheduled as, as an answer
 abbrev pub scheduled_as : Scheduled → Answer
 scheduled_as s = (if s.changed then answer.Generation s.generation else answer.Same s.generation)
+
+-- members with a backend that is there
+abbrev pub with_key : Option Member → List Member → List Member
+with_key None keys = keys
+with_key (Some b) keys = insert_key member_cmp keys b
 
 -- settings with a mark's, over those that were set before it
 abbrev pub set_marked : Option (Member × Bool) → List (Member × Bool) → List (Member × Bool)

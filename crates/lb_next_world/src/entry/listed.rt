@@ -10,7 +10,7 @@ ghost use Rattle.lb_rebuild.specs.Memberships.{none_or, some_and};
 ghost use Rattle.lb_health.specs.Joined.{settings_of};
 ghost use Rattle.lb_history.specs.History.{members_in};
 ghost use Rattle.lb_history.specs.Shared.{marked, settings_in};
-ghost use Rattle.lb_next_world.specs.Calls.{set_marked};
+ghost use Rattle.lb_next_world.specs.Calls.{set_marked, with_key};
 
 use lb_health::view::Settings;
 use lb_history::step::Listing;
@@ -80,11 +80,20 @@ pub(crate) fn members_from(
 {
     let mut members = BTreeSet::new(alloc);
     for listing in listings {
-        if let Some(backend) = listing.backend {
-            members.insert(backend)?;
-        }
+        gather(&mut members, listing.backend)?;
     }
     Ok(members)
+}
+
+// Adds a backend that is there, where none of its identity is.
+fn gather(members: &mut BTreeSet<Backend>, backend: Option<Backend>) -> Result<(), Refusal>
+    ensures set { IfOk result (λ _. members.new.keys ≡ with_key backend members.old.keys) }
+    ensures err { IfErr result (λ e. e ≡ Refusal.OutOfMemory) }
+{
+    if let Some(backend) = backend {
+        members.insert(backend)?;
+    }
+    Ok(())
 }
 
 // The flags that the marks set; of several marks of one identity the last counts.

@@ -12,6 +12,7 @@ use Rattle.lb_next_world.proofs.Holding.{next-still}
 use Rattle.lb_next_world.proofs.Quiet.{refused-still}
 use Rattle.lb_next_world.proofs.UpdateSteps.{cause-right, does-refuse, does-update}
 use Rattle.lb_next_world.proofs.entry.Entry.update.Goals as goal
+use Rattle.lb_next_world.proofs.entry.Entry.update.Goals.{in-Err, in-Ok-schedule}
 
 pub returns-in-Some : goal.returns-in-Some
 returns-in-Some g c =
@@ -19,23 +20,23 @@ returns-in-Some g c =
     (λ z h n run is out kept.
     next-still (meaning_of g.S.BackendSelection) h n (seen.update n c.args.now c.args.listings.items) _ _ z _ is kept
     (cause-right (meaning_of g.S.BackendSelection) h n c.args.now c.args.listings.items _ _ is c.requires.whole
-    (sym (sym c.in-Some.is ∙ c.refusal.ensures _ _ is.core_is ∙ ap (schedule_refusal (members_in c.args.listings.items)) (group-of n h))))
+    (sym (sym c.in-Some.is ∙ (rw (← c.self.view_is) at c.refusal.ensures) _ _ is.core_is ∙ ap (schedule_refusal (members_in c.args.listings.items)) (group-of n h))))
     (refused-still h (seen.update n c.args.now c.args.listings.items) _) refl)
 
-pub returns-in-Err : goal.returns-in-Err
-returns-in-Err g c =
+pub returns : goal.returns
+returns g c =
     rw (← c.self.view_is)
     (λ z h n run is out kept.
-    let w = c.in-Err.ensures in
-    does-refuse (meaning_of g.S.BackendSelection) h n c.args.now c.args.listings.items _ _ _ _ z _ run is c.requires.whole c.in-Ok-members.ensures.set
-    (w.answers _ _ is.core_is) (λ e. w.unknown e _ _ kept) (λ e. w.numbers e _ _ kept) (w.lacking _ _ kept _ _ is.core_is) c.schedule.ensures.site
-    (w.err _ _ is.core_is) (w.registry_err _ _ kept))
-
-pub returns-in-Ok-schedule : goal.returns-in-Ok-schedule
-returns-in-Ok-schedule g c =
-    rw (← c.self.view_is, c.generation_of.ensures)
-    (λ z h n run is out kept.
-    let w = c.in-Ok-schedule.ensures in
-    does-update (meaning_of g.S.BackendSelection) h n c.args.now c.args.listings.items _ _ _ _ _ z _ run is c.requires.whole c.in-Ok-members.ensures.set
-    c.in-Ok-settings.ensures.settings (w.answers _ _ is.core_is) (w.lacking _ _ kept _ _ is.core_is) c.schedule.ensures.site
-    (w.stands _ _ kept _ _ is.core_is) (w.registry _ _ kept _ _ is.core_is))
+    elim c.match-schedule.branch [
+      | in-Err w ↦
+          rw w.result-is
+          (does-refuse (meaning_of g.S.BackendSelection) h n c.args.now c.args.listings.items _ _ _ _ z _ run is c.requires.whole c.in-Ok-members_from.ensures.set
+          (w.in-Err.ensures.answers _ _ is.core_is) (λ e. w.in-Err.ensures.unknown e _ _ kept) (λ e. w.in-Err.ensures.numbers e _ _ kept)
+          (w.in-Err.ensures.lacking _ _ kept _ _ is.core_is) c.schedule.ensures.site (w.in-Err.ensures.err _ _ is.core_is) (w.in-Err.ensures.registry_err _ _ kept))
+      | in-Ok-schedule w ↦
+          rw (w.result-is, w.generation_of.ensures)
+          (does-update (meaning_of g.S.BackendSelection) h n c.args.now c.args.listings.items _ _ _ _ _ z _ run is c.requires.whole
+          c.in-Ok-members_from.ensures.set c.in-Ok.ensures.settings (w.in-Ok-schedule.ensures.answers _ _ is.core_is)
+          (w.in-Ok-schedule.ensures.lacking _ _ kept _ _ is.core_is) c.schedule.ensures.site (w.in-Ok-schedule.ensures.stands _ _ kept _ _ is.core_is)
+          (w.in-Ok-schedule.ensures.registry _ _ kept _ _ is.core_is))
+    ])

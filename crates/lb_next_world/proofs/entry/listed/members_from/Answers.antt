@@ -1,11 +1,10 @@
 -- The backends that are there, one after the other.
 use Rattle.std.proofs.Common.{◌≡◌, ◌∙◌, ◌∷◌, [], List, map, Option, Some, None, refl, sym, ap}
-use Rattle.std.specs.BTreeSet.{insert_key}
 use Rattle.std.proofs.lemmas.Iterator.Adapters.{YieldsList-from_vec}
 use Rattle.std.proofs.lemmas.Iterator.Consumers.{YieldsList-end}
-use Rattle.lb_select.specs.Backends.{Member, member_cmp}
 use Rattle.lb_history.specs.History.{members_in}
-use Rattle.lb_next_world.proofs.Listed.{member-more, with_key}
+use Rattle.lb_next_world.specs.Calls.{with_key}
+use Rattle.lb_next_world.proofs.Listed.{member-more}
 use Rattle.lb_next_world.proofs.entry.listed.members_from.Goals as goal
 
 map_same : {X : Type 0} (xs : List X) → map (λ x. x) xs ≡ xs
@@ -15,22 +14,12 @@ map_same {X} (x ∷ xs) = ap (λ (ys : List X). x ∷ ys) (map_same xs)
 pub loop-listing-init : goal.loop-listing-init
 loop-listing-init c = record { gathered = c.new-members.ensures.empty }
 
-pub loop-listing-preserved-in_ok-insert : goal.loop-listing-preserved-in_ok-insert
-loop-listing-preserved-in_ok-insert c =
-    record {
-      gathered =
-          rw c.in-Some-backend.is
-          (c.in_ok-insert.ensures.keys
-          ∙ ap (λ ks. insert_key member_cmp ks c.in-Some-backend.backend) c.loop-listing.invariant.gathered
-          ∙ sym (member-more c.loop-listing.yielded c.in-Some.listing ∙ ap (λ (o : Option Member). with_key o (members_in c.loop-listing.yielded)) c.in-Some-backend.is));
-    }
-
 pub loop-listing-preserved : goal.loop-listing-preserved
 loop-listing-preserved c =
     record {
       gathered =
-          c.loop-listing.invariant.gathered
-          ∙ sym (member-more c.loop-listing.yielded c.in-Some.listing ∙ ap (λ (o : Option Member). with_key o (members_in c.loop-listing.yielded)) c.in_default.is);
+          c.in_ok-gather.ensures.set ∙ ap (with_key c.in-Some.listing.backend) c.loop-listing.invariant.gathered
+          ∙ sym (member-more c.loop-listing.yielded c.in-Some.listing);
     }
 
 pub returns-clause-set : goal.returns-clause-set
