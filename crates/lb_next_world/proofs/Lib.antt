@@ -1,0 +1,12 @@
+pub mod Places
+pub mod Quiet
+pub mod Next
+pub mod Holding
+pub mod CoreSteps
+pub mod TaskSteps
+pub mod ReturnSteps
+pub mod AskSteps
+pub mod EmptyWorld
+pub mod Registries
+pub mod RegistrySteps
+pub mod Making

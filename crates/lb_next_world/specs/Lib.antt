@@ -1,0 +1,7 @@
+pub mod Calls
+pub mod Founded
+pub mod Locals
+pub mod Rules
+pub mod Stands
+pub mod Views
+pub mod Works
