@@ -8,8 +8,5 @@ pub mod ReturnSteps
 pub mod AskSteps
 pub mod EmptyWorld
 pub mod Registries
-<<<<<<< HEAD
 pub mod RegistrySteps
 pub mod Making
-=======
->>>>>>> 57703fc765f771cb3864dc1bb5ae10fb747f3962

@@ -9,10 +9,7 @@ use mathlib.Core.Logic.{dite}
 use native.Mathlib.Decide.{ℕ_discrete}
 use Rattle.lb_select.specs.Backends.{Member, same_member}
 use Rattle.lb_rebuild.specs.Gate.{GateId, GateView}
-<<<<<<< HEAD
 use Rattle.lb_rebuild.specs.Identity.{GroupId}
-=======
->>>>>>> 57703fc765f771cb3864dc1bb5ae10fb747f3962
 use Rattle.lb_registry.specs.Registry.{RegistryValue, IsRegistryAfter}
 use Rattle.lb_registry.specs.RegistryEvents as registry
 use Rattle.lb_registry.specs.RegistryEvents.{registered_after}
@@ -36,16 +33,9 @@ use Rattle.lb_history.proofs.Numbering.{numbered}
 use Rattle.lb_history.proofs.Runs.{reading}
 use Rattle.lb_history.proofs.Together.{nothing-joined}
 use Rattle.lb_next_world.specs.Calls.{IsNewEntry}
-<<<<<<< HEAD
 use Rattle.lb_next_world.specs.Rules.{WorldRule, key_gives}
 use Rattle.lb_next_world.specs.Stands.{EntryIs, Stands, OnSite, made_of}
 use Rattle.lb_next_world.specs.Views.{WorkValue, nothing, HeldValue, EntryValue, WorldValue, site, origin, entered_of}
-=======
-use Rattle.lb_next_world.specs.Loads.{load_in}
-use Rattle.lb_next_world.specs.Rules.{WorldRule, key_gives}
-use Rattle.lb_next_world.specs.Stands.{EntryIs, Stands, OnSite, made_of}
-use Rattle.lb_next_world.specs.Views.{WorkValue, nothing, HeldValue, EntryValue, WorldValue, site, entered_of}
->>>>>>> 57703fc765f771cb3864dc1bb5ae10fb747f3962
 use Rattle.lb_next_world.specs.Works.{held_of}
 use Rattle.lb_next_world.proofs.Places.{get_set, get_push, get_last, get_kept, get_replicate, none_push}
 use Rattle.lb_next_world.proofs.Places as places
@@ -71,19 +61,11 @@ same-entry : {C : Type 0} (r s a b v w : ℕ) (c d : List C) → r ≡ s → a �
     left ≡ right)
 same-entry r s a b v w c d e f p q = cc
 
-<<<<<<< HEAD
 same-core : {C : Type 0} (i : GroupId) (a b : GateId) (c d : List C) → a ≡ b → c ≡ d
     → (let left : core.Made C = record { id = i; gate = a; configs = c } in
     let right : core.Made C = record { id = i; gate = b; configs = d } in
     left ≡ right)
 same-core i a b c d e f = cc
-=======
-same-core : {C : Type 0} (a b : GateId) (c d : List C) → a ≡ b → c ≡ d
-    → (let left : core.Made C = record { gate = a; configs = c } in
-    let right : core.Made C = record { gate = b; configs = d } in
-    left ≡ right)
-same-core a b c d e f = cc
->>>>>>> 57703fc765f771cb3864dc1bb5ae10fb747f3962
 
 entered-at : {C : Type 0} (readers : List (Option (HeldValue C))) (es : List (Option Entered)) (t : ℕ) (r : HeldValue C)
     → map (option_map entered_of) readers ≡ es → slice_get readers t ≡ Some (Some r) → slice_get es t ≡ Some (Some (entered_of r))
@@ -115,7 +97,6 @@ module _ {C : Type 0} (M : Meaning C) where
         made_is = get_last (made h) _
             ∙ ap Some (same-entry _ _ _ _ _ _ _ _ (sym new.registry_is) (sym new.gate_is)
             (ap (λ (k : ℕ). k + 1) (sym (numbered M h run r there)) ∙ sym new.view_is) (sym configs));
-<<<<<<< HEAD
         core_is = subst (λ (k : core.Made C). stands.Stands k (joined_events (length (made h)) h) e.core) (same-core e.core.group.id _ _ _ _ (sym new.id_is) (sym configs))
             (subst (λ (es : joined.History). stands.Stands (record { id = e.core.group.id; gate = id; configs = cs }) es e.core) (sym (nothing-joined M h run (length (made h)) none)) new.core_is);
         works_in = ap length new.works_are ∙ length-replicate (length cs) nothing ∙ ap length (sym configs);
@@ -123,15 +104,6 @@ module _ {C : Type 0} (M : Meaning C) where
             get_replicate (length cs) nothing s k (ap (λ (xs : List (WorkValue C)). slice_get xs s) (sym new.works_are) ∙ found_)
             ∙ sym (ap (held_of (origin e.core) s c (past (length (made h)) s h)) (was.works s));
         loads_are = λ b. new.loads_are b ∙ sym (nothing-loaded M h run (length (made h)) none b);
-=======
-        core_is = subst (λ (k : core.Made C). stands.Stands k (joined_events (length (made h)) h) e.core) (same-core _ _ _ _ (sym new.id_is) (sym configs))
-            (subst (λ (es : joined.History). stands.Stands (record { gate = id; configs = cs }) es e.core) (sym (nothing-joined M h run (length (made h)) none)) new.core_is);
-        works_in = ap length new.works_are ∙ length-replicate (length cs) nothing ∙ ap length (sym configs);
-        works_are = λ s c k at found_.
-            get_replicate (length cs) nothing s k (ap (λ (xs : List (WorkValue C)). slice_get xs s) (sym new.works_are) ∙ found_)
-            ∙ sym (ap (held_of e.core.group.gate s c (past (length (made h)) s h)) (was.works s));
-        loads_are = λ b. ap (λ (xs : List (Member × ℕ)). load_in xs b) new.loads_are ∙ sym (nothing-loaded M h run (length (made h)) none b);
->>>>>>> 57703fc765f771cb3864dc1bb5ae10fb747f3962
       }
 
   pub group-made : (w : WorldValue C) (h : History C) (r a n : ℕ) (cs : List C) (z : GateView) (u v : RegistryValue WorldRule) (e : EntryValue C)

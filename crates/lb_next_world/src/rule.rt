@@ -19,13 +19,10 @@ impl KeyRule for NoRule {
     fn key(&self, alloc: Global, backend: &Backend) -> Result<Backend, Refusal> {
         match *self {}
     }
-<<<<<<< HEAD
 
     fn same(&self, backend: &Backend, other: &Backend) -> bool {
         match *self {}
     }
-=======
->>>>>>> 57703fc765f771cb3864dc1bb5ae10fb747f3962
 }
 
 /// A registry of a world.

@@ -1,10 +1,6 @@
 //! Steps of a group's membership and selections: how a group is made and updated, and what its slots select.
 //! Every cause of refusal is tested before memory is taken.
-<<<<<<< HEAD
 ghost use Rattle.std.specs.Prelude.{◌≡◌, ◌<◌, ◌+◌, ◌^◌, ◌∷◌, ℕ, List, [], map, false, not, None, Err, IfOk, IfErr, OnErr};
-=======
-ghost use Rattle.std.specs.Prelude.{◌≡◌, ◌⊎◌, ◌≤◌, ◌+◌, ◌^◌, ◌∷◌, ℕ, List, [], map, false, not, None, IfOk, IfErr, OnErr, IsErrOf};
->>>>>>> 57703fc765f771cb3864dc1bb5ae10fb747f3962
 ghost use Rattle.lb_select.specs.Memberships.{same_members};
 ghost use Rattle.lb_group.specs.GroupCalls.{schedule_refusal as refusal_after};
 ghost use Rattle.lb_health.specs.Joined.{settings_of};
@@ -21,13 +17,8 @@ ghost use Rattle.lb_next_world.specs.Calls.{IsNewEntry};
 ghost use Rattle.lb_rebuild.specs.Gate.{GateView};
 ghost use Rattle.lb_select.specs.Backends.{Member};
 ghost use Rattle.lb_select.specs.Refusals.{least};
-<<<<<<< HEAD
 ghost use Rattle.lb_registry.specs.Registry.{IsRegistryAfter};
 ghost use Rattle.lb_registry.specs.RegistryEvents.{Event, Registered, Applied, registered_after};
-=======
-ghost use Rattle.lb_registry.specs.Registry.{IsRegistryAfter, IsGrowthRefusal};
-ghost use Rattle.lb_registry.specs.RegistryEvents.{Event, Registered, Applied, registered_after, cells_given};
->>>>>>> 57703fc765f771cb3864dc1bb5ae10fb747f3962
 
 use super::Entry;
 use crate::held::with_places;
@@ -46,13 +37,8 @@ use std::alloc::Global;
 use std::collections::{BTreeMap, BTreeSet};
 
 impl<S: BackendSelection> Entry<S> {
-<<<<<<< HEAD
     // A group over that registry and that gate by their numbers, with a slot for each configuration. Refused for memory alone, where
     // a number is left for a view; the registry is then as before.
-=======
-    // A group over that registry and that gate by their numbers, with a slot for each configuration. Refused for memory or
-    // because no number is left; the registry is then as before.
->>>>>>> 57703fc765f771cb3864dc1bb5ae10fb747f3962
     pub(crate) fn new(
         alloc: Global,
         at: (usize, usize),
@@ -68,17 +54,10 @@ impl<S: BackendSelection> Entry<S> {
         ensures err { OnErr result ((key_of : Member → Member) (events : List Event)
             → IsRegistryAfter key_gives key_of events registry.old
             → IsRegistryAfter key_gives key_of events registry.new) }
-<<<<<<< HEAD
         ensures refused { OnErr result ((key_of : Member → Member) (events : List Event)
             → IsRegistryAfter key_gives key_of events registry.old
             → registered_after events + 1 < 2 ^ 64
             → result ≡ Err Refusal.OutOfMemory) }
-=======
-        ensures refused { OnErr result (IsGrowthRefusal result) }
-        ensures numbers { IsErrOf result Refusal.NumbersExhausted → (key_of : Member → Member) (events : List Event)
-            → IsRegistryAfter key_gives key_of events registry.old
-            → (registered_after events + 1 ≡ 2 ^ 64) ⊎ (2 ^ 64 ≤ cells_given key_of (Applied ∷ Registered ∷ events)) }
->>>>>>> 57703fc765f771cb3864dc1bb5ae10fb747f3962
     {
         let count = configs.len();
         let room = Vec::with_capacity(alloc, count)?;
