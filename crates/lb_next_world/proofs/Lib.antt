@@ -10,3 +10,7 @@ pub mod EmptyWorld
 pub mod Registries
 pub mod RegistrySteps
 pub mod Making
+pub mod Runs
+pub mod GroupCauses
+pub mod ReaderSteps
+pub mod GroupSteps

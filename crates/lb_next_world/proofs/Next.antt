@@ -33,7 +33,7 @@ use Rattle.lb_next_world.specs.declared.local.Local.TheVariants as is
 use Rattle.lb_next_world.specs.Locals.{local_seen, IsWhole}
 use Rattle.lb_next_world.specs.Rules.{WorldRule, key_gives}
 use Rattle.lb_next_world.specs.Stands.{EntryIs, EntryNext, Stands, OnSite, made_of, permit_after, Does, IsFounded, IsEntry}
-use Rattle.lb_next_world.specs.Views.{WorkValue, EntryValue, WorldValue, Origin, site, origin, IsOwnReader}
+use Rattle.lb_next_world.specs.Views.{WorkValue, HeldValue, entered_of, EntryValue, WorldValue, Origin, site, origin, IsOwnReader}
 use Rattle.lb_next_world.specs.Works.{held_of}
 use Rattle.lb_next_world.proofs.Places.{get_same, get_other, get_set}
 use Rattle.lb_next_world.proofs.Quiet.{entry-moves, world-refused}
@@ -169,10 +169,15 @@ module _ {C : Type 0} (M : Meaning C) where
         registry = rw r on.registry;
       }
 
-  pub world-next : (w : WorldValue C) (h : History C) (g : ℕ) (st : Step C) (a : Answer) (e d : EntryValue C) (z y : GateView) (u v : RegistryValue WorldRule)
-      → AtGroup h st a g → entries ((st, a) ∷ h) ≡ entries h → slice_get w.groups g ≡ Some e → slice_get w.gates e.gate ≡ Some z
-      → slice_get w.registries e.registry ≡ Some u → EntryNext M h g st a e z d y v → Stands M w h → Stands M (stepped w g e d y v) ((st, a) ∷ h)
-  world-next w h g st a e d z y u v at same there gate-there registry-there next s =
+  -- a step at a group, with the readers as they are after it
+  pub world-moves : (w : WorldValue C) (h : History C) (g : ℕ) (st : Step C) (a : Answer) (e d : EntryValue C) (z y : GateView) (u v : RegistryValue WorldRule)
+      (rs : List (Option (HeldValue C)))
+      → AtGroup h st a g → map (option_map entered_of) rs ≡ entries ((st, a) ∷ h)
+      → ((t : ℕ) (r : HeldValue C) → slice_get rs t ≡ Some (Some r) → (x : EntryValue C) → slice_get (slice_set w.groups g d) r.group ≡ Some x → IsOwnReader x.core r.reader)
+      → slice_get w.groups g ≡ Some e → slice_get w.gates e.gate ≡ Some z
+      → slice_get w.registries e.registry ≡ Some u → EntryNext M h g st a e z d y v → Stands M w h
+      → Stands M (record (stepped w g e d y v) { readers = rs }) ((st, a) ∷ h)
+  world-moves w h g st a e d z y u v rs at reads owns there gate-there registry-there next s =
       let is = s.each g e there in
       let after = same-out y _ _ next.out in
       let gate-at : gate_in h (group_at h st) ≡ Some e.gate = ap (gate_in h) at.group_is ∙ gate-here h g e is in
@@ -182,7 +187,7 @@ module _ {C : Type 0} (M : Meaning C) where
         registries_are = length-set w.registries e.registry v ∙ s.registries_are ∙ ap length (sym at.registries_are);
         gates_are = length-set w.gates e.gate y ∙ s.gates_are ∙ sym at.gates_are;
         groups_are = length-set w.groups g d ∙ s.groups_are ∙ ap length (sym at.made_are);
-        readers_are = s.readers_are ∙ sym same;
+        readers_are = reads;
         kept = λ r x found.
             subst (λ (ms : List RegistryMade). IsRegistryAfter key_gives (key_in (slice_get ms r)) (registry_events r ((st, a) ∷ h)) x) (sym at.registries_are)
             (elim (get_set w.registries e.registry r u v x registry-there found) [
@@ -214,18 +219,30 @@ module _ {C : Type 0} (M : Meaning C) where
             ];
         on_site = λ i x found.
             elim (get_set w.groups g i e d x there found) [
-              | inl p ↦ subst (λ (t : EntryValue C). OnSite (stepped w g e d y v) t) (sym p.1)
+              | inl p ↦ subst (λ (t : EntryValue C). OnSite (record (stepped w g e d y v) { readers = rs }) t) (sym p.1)
                   (placed w g e d d z y v gate-there after.0 (site-kept w e d next.registry_is next.gate_is (ap (λ (o : Origin). o.gate) next.origin_is) (s.on_site g e there)))
               | inr p ↦ placed w g e d x z y v gate-there after.0 (s.on_site i x p.1)
             ];
-        own = λ t r found x in_.
-            elim (get_set w.groups g r.group e d x there in_) [
-              | inl p ↦
-                  s.own t r found e (ap (slice_get w.groups) p.0 ∙ there)
-                  ∙ sym (ap (λ (y : EntryValue C). y.core.group.id) p.1 ∙ ap (λ (o : Origin). o.id) next.origin_is)
-              | inr p ↦ s.own t r found x p.1
-            ];
+        own = owns;
       }
+
+  -- the readers of before stay in their groups
+  pub own-kept : (w : WorldValue C) (h : History C) (g : ℕ) (e d : EntryValue C) → slice_get w.groups g ≡ Some e → origin d.core ≡ origin e.core → Stands M w h
+      → (t : ℕ) (r : HeldValue C) → slice_get w.readers t ≡ Some (Some r) → (x : EntryValue C) → slice_get (slice_set w.groups g d) r.group ≡ Some x
+      → IsOwnReader x.core r.reader
+  own-kept w h g e d there same s t r found x in_ =
+      elim (get_set w.groups g r.group e d x there in_) [
+        | inl p ↦
+            s.own t r found e (ap (slice_get w.groups) p.0 ∙ there)
+            ∙ sym (ap (λ (y : EntryValue C). y.core.group.id) p.1 ∙ ap (λ (o : Origin). o.id) same)
+        | inr p ↦ s.own t r found x p.1
+      ]
+
+  pub world-next : (w : WorldValue C) (h : History C) (g : ℕ) (st : Step C) (a : Answer) (e d : EntryValue C) (z y : GateView) (u v : RegistryValue WorldRule)
+      → AtGroup h st a g → entries ((st, a) ∷ h) ≡ entries h → slice_get w.groups g ≡ Some e → slice_get w.gates e.gate ≡ Some z
+      → slice_get w.registries e.registry ≡ Some u → EntryNext M h g st a e z d y v → Stands M w h → Stands M (stepped w g e d y v) ((st, a) ∷ h)
+  world-next w h g st a e d z y u v at same there gate-there registry-there next s =
+      world-moves w h g st a e d z y u v w.readers at (s.readers_are ∙ sym same) (own-kept w h g e d there next.origin_is s) there gate-there registry-there next s
 
   -- a step at a group that its entry's call does
   pub world-does : (w : WorldValue C) (h : History C) (g : ℕ) (st : ℕ → Step C) (a : Answer) (e d : EntryValue C) (z y : GateView) (u v : RegistryValue WorldRule)

@@ -1,13 +1,13 @@
 -- Steps at a registry: the verdict of a check, and the targets.
 use Rattle.std.proofs.Common.{◌≡◌, ◌≢◌, ◌⊎◌, ◌↔◌, inl, inr, ◌<◌, ◌≤◌, ◌^◌, ◌∙◌, ℕ, Bool, true, false, not, List, [], ◌∷◌, length, refl, sym, ap, subst, slice_get, arith}
-use Rattle.std.specs.Prelude.{Option, Some, None, slice_set, IsTrue, MatchOption}
+use Rattle.std.specs.Prelude.{Option, Some, None, Result, Ok, Err, slice_set, IsTrue, IsErrOf, MatchOption}
 use Rattle.std.proofs.lemmas.Bool.{eq-eqb, lt-leb}
 use Rattle.std.proofs.lemmas.Option.{none-some, slice_get_within, slice_get_past}
 use Rattle.lb_select.specs.Backends.{Member}
 use Rattle.lb_select.specs.declared.refusal.Refusal.{Refusal}
 use Rattle.lb_select.specs.declared.refusal.Refusal.TheVariants as refusal
 use Rattle.lb_registry.specs.declared.targets.Target.{Target}
-use Rattle.lb_registry.specs.Registry.{RegistryValue, IsRegistryAfter, targets_after}
+use Rattle.lb_registry.specs.Registry.{RegistryValue, IsRegistryAfter, IsGrowthRefusal, targets_after}
 use Rattle.lb_registry.specs.RegistryEvents.{Event, Applied, Observed, IsCellKept, cell_health, cells_given}
 use Rattle.lb_registry.specs.Verdicts.{agree}
 use Rattle.lb_registry.proofs.FreshLemmas.{marks_start_none}
@@ -71,6 +71,16 @@ targets-missed {C = C} r (Some x) m events there few =
     sym
     (ap (λ (o : Option Refusal). without_memory {C = C} (step.targets r) (unless_refused o (answer.Targets (targets_after (key_by x.rule) (Applied ∷ events)))))
     (number-left _ few))
+
+-- what a refused call says, of the refusal itself
+pub refused-so : {A : Type 0} {e f : Refusal} → (let r : Result A Refusal = Err e in r ≡ Err f) → e ≡ f
+refused-so is = cc
+
+pub growth-told : {A : Type 0} (e : Refusal) → IsGrowthRefusal {A = A} (Err e) → (e ≡ refusal.OutOfMemory) ⊎ (e ≡ refusal.NumbersExhausted)
+growth-told e cause = elim cause [ inl is ↦ inl (cc) | inr is ↦ inr (cc) ]
+
+pub lack-told : {A : Type 0} {P : Type 0} (e : Refusal) → (IsErrOf {T = A} (Err e) refusal.NumbersExhausted ↔ P) → e ≡ refusal.NumbersExhausted → P
+lack-told e told is = told.0 (ap Err is)
 
 module _ {C : Type 0} (M : Meaning C) where
   absent : (w : WorldValue C) (h : History C) (r : ℕ) → length w.registries ≤ r → Stands M w h → slice_get (registries h) r ≡ None

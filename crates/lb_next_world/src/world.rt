@@ -1,12 +1,14 @@
 //! The world: tables of registries, gates, groups and readers, and one method for all steps at a group.
 //! Its contract is over histories alone; what lies in the tables is no part of it.
-ghost use Rattle.std.specs.Prelude.{◌≡◌, ◌∷◌, [], map, IfOk, IfErr, vec_len};
+ghost use Rattle.std.specs.Prelude.{◌≡◌, ◌∷◌, [], ℕ, map, IfOk, IfErr, vec_len};
 ghost use Rattle.lb_history.specs.Answers.{IsRun};
 ghost use Rattle.lb_history.specs.History.{History, after};
 ghost use Rattle.lb_history.specs.Meanings.{meaning_of};
-ghost use Rattle.lb_history.specs.Promises.{Promised};
+ghost use Rattle.lb_history.specs.Promises.{Promised, ViewFollows, LivesExactly, NeverFalls, Raises, DestroysExactly};
+ghost use Rattle.lb_history.specs.Selected.{FirstAccepted};
 ghost use Rattle.lb_history.specs.Steps as seen;
 ghost use Rattle.lb_history.specs.Steps.{step_seen};
+ghost use Rattle.lb_next_world.specs.Ever.{Always, EachStep};
 ghost use Rattle.lb_next_world.specs.Locals.{local_seen, IsWhole};
 ghost use Rattle.lb_next_world.specs.Stands.{Stands};
 
@@ -151,19 +153,27 @@ impl<S: BackendSelection> World<S> {
     ///
     /// `OutOfMemory` where the memory for the answers is refused; then no step was taken.
     pub fn run(&mut self, steps: Vec<Step<S::Config>>) -> Result<Vec<Answer>, Refusal>
-        ensures stands { IfOk result (λ answers. (h : History S.Config)
-            → Stands (meaning_of S.BackendSelection) self.old h
-            → Stands (meaning_of S.BackendSelection) self.new
-            (after h (map step_seen steps.items) answers.items)) }
-        ensures run { IfOk result (λ answers. (h : History S.Config)
-            → Stands (meaning_of S.BackendSelection) self.old h
+        ensures stands { IfOk result (λ answers. (h : History S.Config) → Stands (meaning_of S.BackendSelection) self.old h
+            → Stands (meaning_of S.BackendSelection) self.new (after h (map step_seen steps.items) answers.items)) }
+        ensures run { IfOk result (λ answers. (h : History S.Config) → Stands (meaning_of S.BackendSelection) self.old h
             → IsRun (meaning_of S.BackendSelection) (after h (map step_seen steps.items) answers.items)) }
         ensures each { IfOk result (λ answers. vec_len answers ≡ vec_len steps) }
 
-        // Of the whole history, whatever it was before.
-        ensures promised { IfOk result (λ answers. (h : History S.Config)
-            → Stands (meaning_of S.BackendSelection) self.old h
-            → Promised (meaning_of S.BackendSelection) (after h (map step_seen steps.items) answers.items)) }
+        // Of the whole history and of each step in it, whatever it was before.
+        ensures promised { IfOk result (λ answers. (h : History S.Config) → Stands (meaning_of S.BackendSelection) self.old h
+            → Always (Promised (meaning_of S.BackendSelection)) (after h (map step_seen steps.items) answers.items)) }
+        ensures view_follows { IfOk result (λ answers. (h : History S.Config) → Stands (meaning_of S.BackendSelection) self.old h
+            → Always (λ k. (g : ℕ) → ViewFollows g k) (after h (map step_seen steps.items) answers.items)) }
+        ensures lives_exactly { IfOk result (λ answers. (h : History S.Config) → Stands (meaning_of S.BackendSelection) self.old h
+            → Always LivesExactly (after h (map step_seen steps.items) answers.items)) }
+        ensures never_falls { IfOk result (λ answers. (h : History S.Config) → Stands (meaning_of S.BackendSelection) self.old h
+            → EachStep NeverFalls (after h (map step_seen steps.items) answers.items)) }
+        ensures first_accepted { IfOk result (λ answers. (h : History S.Config) → Stands (meaning_of S.BackendSelection) self.old h
+            → EachStep (FirstAccepted (meaning_of S.BackendSelection)) (after h (map step_seen steps.items) answers.items)) }
+        ensures raises { IfOk result (λ answers. (h : History S.Config) → Stands (meaning_of S.BackendSelection) self.old h
+            → EachStep Raises (after h (map step_seen steps.items) answers.items)) }
+        ensures destroys_exactly { IfOk result (λ answers. (h : History S.Config) → Stands (meaning_of S.BackendSelection) self.old h
+            → EachStep DestroysExactly (after h (map step_seen steps.items) answers.items)) }
 
         // Where the answers have no room, no step was taken.
         ensures err { IfErr result (λ r. (r ≡ Refusal.OutOfMemory) × (self.new ≡ self.old)) }
