@@ -144,9 +144,9 @@ module _ {C : Type 0} (M : Meaning C) where
       record w { registries = slice_set w.registries e.registry v; gates = slice_set w.gates e.gate z; groups = slice_set w.groups g d }
 
   -- the site of a group stays
-  placed : (w : WorldValue C) (g : ℕ) (e d x : EntryValue C) (z y : GateView) (v : RegistryValue WorldRule)
-      → slice_get w.gates e.gate ≡ Some z → y.id ≡ z.id → OnSite w x → OnSite (stepped w g e d y v) x
-  placed w g e d x z y v there same on =
+  placed : (w : WorldValue C) (g : ℕ) (e d x : EntryValue C) (z y : GateView) (v : RegistryValue WorldRule) (rs : List (Option (HeldValue C)))
+      → slice_get w.gates e.gate ≡ Some z → y.id ≡ z.id → OnSite w x → OnSite (record (stepped w g e d y v) { readers = rs }) x
+  placed w g e d x z y v rs there same on =
       let inside : x.registry < length (slice_set w.registries e.registry v) = omega (arith, length-set w.registries e.registry v, on.registry) in
       elim (cases_eq x.gate e.gate) [
         | inl p ↦
@@ -220,8 +220,8 @@ module _ {C : Type 0} (M : Meaning C) where
         on_site = λ i x found.
             elim (get_set w.groups g i e d x there found) [
               | inl p ↦ subst (λ (t : EntryValue C). OnSite (record (stepped w g e d y v) { readers = rs }) t) (sym p.1)
-                  (placed w g e d d z y v gate-there after.0 (site-kept w e d next.registry_is next.gate_is (ap (λ (o : Origin). o.gate) next.origin_is) (s.on_site g e there)))
-              | inr p ↦ placed w g e d x z y v gate-there after.0 (s.on_site i x p.1)
+                  (placed w g e d d z y v rs gate-there after.0 (site-kept w e d next.registry_is next.gate_is (ap (λ (o : Origin). o.gate) next.origin_is) (s.on_site g e there)))
+              | inr p ↦ placed w g e d x z y v rs gate-there after.0 (s.on_site i x p.1)
             ];
         own = owns;
       }

@@ -386,3 +386,44 @@ module _ {C : Type 0} (M : Meaning C) where
       world-still M w h (step.ready t (Some b)) (answer.Ready is)
       (subst (λ (o : Option (Option Entered)). ReadyAnswers h o (Some b) (answer.Ready is)) (sym (entered-in w h t (Some r) there k)) (is, (refl, judged)))
       (still h (step.ready t (Some b)) (answer.Ready is) refl refl refl refl (λ k. refl) (λ k e. refl) (λ es. refl) refl refl (λ w. refl) (λ i b. refl)) k
+
+module _ {C : Type 0} (M : Meaning C) where
+  -- the same, of the group and the list of readers that the calls left
+  pub entered-now : (w : WorldValue C) (h : History C) (g s t : ℕ) (e d : EntryValue C) (rs : List (Option (HeldValue C))) (q : Option ℕ) (x : ℕ) (r : ReaderValue C)
+      → slice_get w.groups g ≡ Some e → d ≡ with_core d.core e → rs ≡ w.readers ++ Some (record { group = g; reader = r }) ∷ []
+      → q ≡ at_slot (site e.core) s (reading-in h g s) → q ≡ Some x → ¬ (length w.readers ≡ 18446744073709551615)
+      → ¬ (x ≡ 18446744073709551615) → t ≡ length w.readers → stands.SameSite e.core d.core
+      → stands.Stands (site e.core) (joined.At s group.Entered ∷ joined_events g h) d.core
+      → Enters (site e.core) (joined.group_events (joined_events g h)) s (Ok r) → IsOwnReader d.core r → Stands M w h
+      → Stands M (record w { groups = slice_set w.groups g d; readers = rs }) ((step.enter g s, answer.Reader t r.generation) ∷ h)
+  entered-now w h g s t e d rs q x r there rest grown told some few left number same stays answers own k =
+      subst (λ (y : EntryValue C). Stands M (record w { groups = slice_set w.groups g y; readers = rs }) ((step.enter g s, answer.Reader t r.generation) ∷ h)) (sym rest)
+      (subst
+      (λ (ys : List (Option (HeldValue C))).
+      Stands M (record w { groups = slice_set w.groups g (with_core d.core e); readers = ys }) ((step.enter g s, answer.Reader t r.generation) ∷ h))
+      (sym grown)
+      (enter-next M w h g s t e d.core q x r there told some few left number same stays answers.1.0 answers.1.1.0 own k))
+
+  pub refused-now : (w : WorldValue C) (h : History C) (g s : ℕ) (e d : EntryValue C) (rs : List (Option (HeldValue C))) (q : Option ℕ) (x : ℕ) (f : Refusal)
+      → slice_get w.groups g ≡ Some e → d ≡ with_core d.core e → rs ≡ w.readers
+      → q ≡ at_slot (site e.core) s (reading-in h g s) → q ≡ Some x → ¬ (length w.readers ≡ 18446744073709551615)
+      → ¬ (x ≡ 18446744073709551615) → stands.SameSite e.core d.core → stands.Stands (site e.core) (joined_events g h) d.core
+      → Enters (site e.core) (joined.group_events (joined_events g h)) s (Err f) → Stands M w h
+      → Stands M (record w { groups = slice_set w.groups g d; readers = rs }) ((step.enter g s, answer.Refused f) ∷ h)
+  refused-now w h g s e d rs q x f there rest same-readers told some few left same stays refused k =
+      subst (λ (y : EntryValue C). Stands M (record w { groups = slice_set w.groups g y; readers = rs }) ((step.enter g s, answer.Refused f) ∷ h)) (sym rest)
+      (subst
+      (λ (ys : List (Option (HeldValue C))). Stands M (record w { groups = slice_set w.groups g (with_core d.core e); readers = ys }) ((step.enter g s, answer.Refused f) ∷ h))
+      (sym same-readers)
+      (enter-lacks M w h g s e d.core q x f there told some few left same stays refused k))
+
+  pub left-now : (w : WorldValue C) (h : History C) (t : ℕ) (r : HeldValue C) (e d : EntryValue C)
+      → slice_get w.readers t ≡ Some (Some r) → slice_get w.groups r.group ≡ Some e → d ≡ with_core d.core e → stands.SameSite e.core d.core
+      → stands.Stands (site e.core) (joined.At r.reader.slot (group.Left r.reader.generation) ∷ joined_events r.group h) d.core → Stands M w h
+      → Stands M (record w { groups = slice_set w.groups r.group d; readers = slice_set w.readers t None })
+      ((step.leave t, answer.Left r.reader.generation) ∷ h)
+  left-now w h t r e d there in_ rest same stays k =
+      subst
+      (λ (y : EntryValue C).
+      Stands M (record w { groups = slice_set w.groups r.group y; readers = slice_set w.readers t None }) ((step.leave t, answer.Left r.reader.generation) ∷ h))
+      (sym rest) (leave-next M w h t r e d.core there in_ same stays k)

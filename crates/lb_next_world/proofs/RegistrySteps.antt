@@ -61,13 +61,13 @@ targets-told (Some x) m events ts there few is =
     ap answer.Targets is
     ∙ sym (ap (λ (o : Option Refusal). unless_refused o (answer.Targets (targets_after (key_by x.rule) (Applied ∷ events)))) (number-left _ few))
 
-targets-missed : {C : Type 0} (r : ℕ) (o : Option RegistryMade) (m : RegistryMade) (events : List Event) → o ≡ Some m → cells_given (key_in o) (Applied ∷ events) < 2 ^ 64
+targets-missed : (C : Type 0) (r : ℕ) (o : Option RegistryMade) (m : RegistryMade) (events : List Event) → o ≡ Some m → cells_given (key_in o) (Applied ∷ events) < 2 ^ 64
     → answer.Refused refusal.OutOfMemory
     ≡ without_memory {C = C} (step.targets r)
     (at_one o
     (λ m. unless_refused (no_number (cells_given (key_by m.rule) (Applied ∷ events))) (answer.Targets (targets_after (key_by m.rule) (Applied ∷ events)))))
-targets-missed r None m events there few = absurd (none-some m there)
-targets-missed {C = C} r (Some x) m events there few =
+targets-missed C r None m events there few = absurd (none-some m there)
+targets-missed C r (Some x) m events there few =
     sym
     (ap (λ (o : Option Refusal). without_memory {C = C} (step.targets r) (unless_refused o (answer.Targets (targets_after (key_by x.rule) (Applied ∷ events)))))
     (number-left _ few))
@@ -159,5 +159,5 @@ module _ {C : Type 0} (M : Meaning C) where
         | inr is ↦ (let more = many (key_at r h) (registry_events r h) now is in absurd (omega (arith, more, few)))
       ] in
       registry-next M w h r (step.targets r) (answer.Refused e) u v (targets-at h r (answer.Refused e))
-      (inr (ap answer.Refused memory ∙ targets-missed {C = C} r (slice_get (registries h) r) m.0 (registry_events r h) m.1 few)) there
+      (inr (ap answer.Refused memory ∙ targets-missed C r (slice_get (registries h) r) m.0 (registry_events r h) m.1 few)) there
       (subst (λ (es : List Event). IsRegistryAfter key_gives (key_at r h) es v) (sym ((refused-still h (step.targets r) e).registry_is r)) (after _ _ now)) s

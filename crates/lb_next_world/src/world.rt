@@ -1,7 +1,7 @@
 //! The world: tables of registries, gates, groups and readers, and one method for all steps at a group.
 //! Its contract is over histories alone; what lies in the tables is no part of it.
 ghost use Rattle.std.specs.Prelude.{◌≡◌, ◌∷◌, [], ℕ, map, IfOk, IfErr, vec_len};
-ghost use Rattle.lb_history.specs.Answers.{IsRun};
+ghost use Rattle.lb_history.specs.Answers.{IsRun, has_refused as refused_among};
 ghost use Rattle.lb_history.specs.History.{History, after};
 ghost use Rattle.lb_history.specs.Meanings.{meaning_of};
 ghost use Rattle.lb_history.specs.Promises.{Promised, ViewFollows, LivesExactly, NeverFalls, Raises, DestroysExactly};
@@ -221,7 +221,7 @@ impl<S: BackendSelection> World<S> {
             → Stands (meaning_of S.BackendSelection) self.new
             ((seen.update group now listings.items, result) ∷ h) }
     {
-        if listings.iter().any(|listing| listing.backend.is_none()) {
+        if has_refused(&listings) {
             return Answer::Refused(Refusal::InvalidAddress);
         }
         self.at_group(group, Local::Update { now, listings })
@@ -259,4 +259,11 @@ impl<S: BackendSelection> World<S> {
         };
         self.at_group(group, Local::Load { backend, load })
     }
+}
+
+// Whether an address was refused.
+fn has_refused(listings: &[Listing]) -> bool
+    ensures { result ≡ refused_among listings.now }
+{
+    listings.iter().any(|listing| listing.backend.is_none())
 }

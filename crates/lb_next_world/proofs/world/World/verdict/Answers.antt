@@ -1,5 +1,6 @@
 -- The registry's own verdict, at the registry that the step names.
 use Rattle.std.proofs.Common.{◌≡◌, ◌<◌, ◌≤◌, length, refl, arith}
+use Rattle.std.proofs.lemmas.Bool.{false≢true}
 use Rattle.lb_history.specs.declared.answer.Answer.TheVariants as answer
 use Rattle.lb_history.specs.Meanings.{meaning_of}
 use Rattle.lb_history.specs.Steps as seen
@@ -34,7 +35,7 @@ invariant_of-self g c =
           (answer.Refused refusal.NoSuch) c.self.invariant
           (λ h s.
           verdict-refused (meaning_of g.S.BackendSelection) (world_value c.self.inside) h c.args.registry c.args.cell c.args.threshold c.args.ok _ _ at
-          w.in-Err.ensures.refused.1 (λ k es now kept. absurd ((w.in-Err.ensures.kept k es now).1 kept)) s)
+          w.in-Err.ensures.refused.1 (λ k es now kept. false≢true ((w.in-Err.ensures.kept k es now).1 kept)) s)
     ]
 
 pub returns : goal.returns
@@ -51,5 +52,5 @@ returns g c =
       | in-Err w ↦
           rw (w.result-is, refused-so w.in-Err.ensures.refused.0)
           (verdict-refused (meaning_of g.S.BackendSelection) (world_value c.self.inside) h c.args.registry c.args.cell c.args.threshold c.args.ok _ _ at
-          w.in-Err.ensures.refused.1 (λ k es now kept. absurd ((w.in-Err.ensures.kept k es now).1 kept)) s)
+          w.in-Err.ensures.refused.1 (λ k es now kept. false≢true ((w.in-Err.ensures.kept k es now).1 kept)) s)
     ])
