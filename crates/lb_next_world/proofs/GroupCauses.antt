@@ -85,16 +85,17 @@ number-gone n many =
       | inr t ↦ (let few : n < 2 ^ 64 = t.1 in absurd (omega (arith, few, many)))
     ]
 
-module _ {C : Type 0} (M : Meaning C) where
-  abbrev given : History C → ℕ → ℕ
+module _ {C : Type 0} where
+  abbrev pub given : History C → ℕ → ℕ
   given h r = registry.registered_after (registry_events r h) + 1
 
-  abbrev cells : History C → ℕ → ℕ
+  abbrev pub cells : History C → ℕ → ℕ
   cells h r = registry.cells_given (key_at r h) (registry.Applied ∷ registry.Registered ∷ registry_events r h)
 
-  abbrev there : History C → ℕ → ℕ → Bool
+  abbrev pub there : History C → ℕ → ℕ → Bool
   there h r a = nat_lt r (length (registries h)) && nat_lt a (gates h)
 
+module _ {C : Type 0} (M : Meaning C) where
   nothing-against : (h : History C) (r a : ℕ) (cs : List C) → there h r a ≡ true → least (map (M.refusal []) cs) ≡ None → given h r < 2 ^ 64
       → cells h r < 2 ^ 64
       → earlier (no_such (there h r a)) (earlier (memory_apart (least (map (M.refusal []) cs))) (earlier (no_number (given h r)) (no_number (cells h r)))) ≡ None

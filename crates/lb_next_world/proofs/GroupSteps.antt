@@ -1,7 +1,8 @@
 -- The step that makes a group, of a world: what it answers where it is refused.
-use Rattle.std.proofs.Common.{◌≡◌, ◌⊎◌, inl, inr, ◌<◌, ◌≤◌, ◌+◌, ◌^◌, ◌&&◌, ◌∙◌, ℕ, Bool, true, false, List, [], ◌∷◌, length, map, refl, sym, ap, subst, slice_get, arith}
-use Rattle.std.specs.Prelude.{Option, Some, None, nat_lt, slice_set}
-use Rattle.std.proofs.lemmas.Bool.{lt-ltb, le-ltb, ltb-true, and_parts}
+use Rattle.std.proofs.Common.{◌≡◌, ◌⊎◌, inl, inr, ◌<◌, ◌≤◌, ◌+◌, ◌^◌, ◌&&◌, ◌↔◌, ◌∙◌, ℕ, Bool, true, false, List, [], ◌∷◌, length, map, refl, sym, ap, subst, slice_get, arith}
+use Rattle.std.specs.Prelude.{Option, Some, None, IsTrue, nat_lt, slice_set}
+use Rattle.std.proofs.lemmas.Bool.{lt-ltb, le-ltb, ltb-true, and_parts, false≢true}
+use Rattle.std.proofs.lemmas.Bool.Decides.{leb_tells}
 use Rattle.std.proofs.lemmas.Option.{none-some, slice_get_within}
 use Rattle.lb_select.specs.Refusals.{earlier, least}
 use Rattle.lb_select.specs.declared.refusal.Refusal.{Refusal}
@@ -21,7 +22,7 @@ use Rattle.lb_history.specs.Answers.{Answers, no_such}
 use Rattle.lb_next_world.specs.Rules.{WorldRule, key_gives}
 use Rattle.lb_next_world.specs.Stands.{Stands}
 use Rattle.lb_next_world.specs.Views.{WorldValue}
-use Rattle.lb_next_world.proofs.GroupCauses.{there, given, cells, group-right, group-missed, group-refused, group-full, no-cause, is-there}
+use Rattle.lb_next_world.proofs.GroupCauses.{there, cells, group-right, group-missed, group-refused, group-full, no-cause, is-there}
 use Rattle.lb_next_world.proofs.Quiet.{refused-still, world-refused}
 use Rattle.lb_next_world.proofs.Registries.{AtRegistry, registry-next}
 
@@ -42,12 +43,17 @@ memory-only cause e none either off =
       | inr p ↦ elim p.1 [ inl is ↦ is | inr is ↦ absurd (off is) ]
     ]
 
-module _ {C : Type 0} (M : Meaning C) where
+-- a registry that is not full has a number left
+pub not-full : (b : Bool) (n : ℕ) → (IsTrue b ↔ (2 ^ 64 ≤ n)) → b ≡ false → n < 2 ^ 64
+not-full b n told is =
+    elim (leb_tells (2 ^ 64) n) [
+      | inl t ↦ absurd (false≢true (sym is ∙ told.1 t.1))
+      | inr t ↦ t.1
+    ]
+
+module _ {C : Type 0} where
   abbrev pub in-tables : WorldValue C → ℕ → ℕ → Bool
   in-tables w r a = nat_lt r (length w.registries) && nat_lt a (length w.gates)
-
-  same-there : (w : WorldValue C) (h : History C) (r a : ℕ) → Stands M w h → there h r a ≡ in-tables w r a
-  same-there w h r a s = rw (s.registries_are, s.gates_are) refl
 
   -- no cause stands: registry and gate are there
   pub none-stands : (w : WorldValue C) (r a : ℕ) (b : Bool) (cause : Option Refusal) → b ≡ in-tables w r a → earlier (no_such b) cause ≡ None
@@ -55,7 +61,18 @@ module _ {C : Type 0} (M : Meaning C) where
   none-stands w r a b cause is none =
       let both = no-cause (no_such b) cause none in
       let parts = and_parts (nat_lt r (length w.registries)) (nat_lt a (length w.gates)) (sym is ∙ is-there b both.0) in
-      (ltb-true r (length w.registries) parts.0, (ltb-true a (length w.gates) parts.1, both.1))
+      (ltb-true r (length w.registries) parts.0, ltb-true a (length w.gates) parts.1, both.1)
+
+  -- a number of a cell is left, since marks that are applied start no cell
+  pub cells-fit : (h : History C) (r : ℕ) (u : RegistryValue WorldRule) → IsRegistryAfter key_gives (key_at r h) (registry_events r h) u → cells h r < 2 ^ 64
+  cells-fit h r u now =
+      let same : registry.cells_given (key_at r h) (registry.Applied ∷ registry.Registered ∷ registry_events r h) ≡ registry.cells_given (key_at r h) (registry_events r h) =
+      marks_start_none (key_at r h) (registry.Registered ∷ registry_events r h) now.state.sets in
+      omega (arith, same, now.state.fits)
+
+module _ {C : Type 0} (M : Meaning C) where
+  same-there : (w : WorldValue C) (h : History C) (r a : ℕ) → Stands M w h → there h r a ≡ in-tables w r a
+  same-there w h r a s = rw (s.registries_are, s.gates_are) refl
 
   all-there : (w : WorldValue C) (h : History C) (r a : ℕ) → r < length w.registries → a < length w.gates → Stands M w h → there h r a ≡ true
   all-there w h r a in_ at s = same-there w h r a s ∙ rw (lt-ltb r (length w.registries) in_, lt-ltb a (length w.gates) at) refl
@@ -102,13 +119,6 @@ module _ {C : Type 0} (M : Meaning C) where
       (inl
       (group-full M h r a cs (all-there w h r a (slice_get_within w.registries r u in_) at s) none
       (many (key_at r h) (registry_events r h) (s.kept r u in_)))) s
-
-  -- a number of a cell is left, since marks that are applied start no cell
-  pub cells-fit : (h : History C) (r : ℕ) (u : RegistryValue WorldRule) → IsRegistryAfter key_gives (key_at r h) (registry_events r h) u → cells h r < 2 ^ 64
-  cells-fit h r u now =
-      let same : registry.cells_given (key_at r h) (registry.Applied ∷ registry.Registered ∷ registry_events r h) ≡ registry.cells_given (key_at r h) (registry_events r h) =
-      marks_start_none (key_at r h) (registry.Registered ∷ registry_events r h) now.state.sets in
-      omega (arith, same, now.state.fits)
 
   pub group-lacks : (w : WorldValue C) (h : History C) (r a : ℕ) (cs : List C) (e : Refusal) (u v : RegistryValue WorldRule) → slice_get w.registries r ≡ Some u
       → a < length w.gates → least (map (M.refusal []) cs) ≡ None

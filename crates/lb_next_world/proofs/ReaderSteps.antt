@@ -158,8 +158,8 @@ module _ {C : Type 0} (M : Meaning C) where
   -- nobody enters
   pub enter-nowhere : (w : WorldValue C) (h : History C) (g s : ℕ) → length w.groups ≤ g → Stands M w h
       → Stands M w ((step.enter g s, answer.Refused refusal.NoSuch) ∷ h)
-  enter-nowhere w h g s past k =
-      let none : made_at g h ≡ None = slice_get_past (made h) g (omega (arith, past, k.groups_are)) in
+  enter-nowhere w h g s few k =
+      let none : made_at g h ≡ None = slice_get_past (made h) g (omega (arith, few, k.groups_are)) in
       world-refused M w h (step.enter g s) refusal.NoSuch
       (inl (sym (ap (λ (o : Option (Made C)). at_one (config_in s o) (λ c. enter_answer (reading-now h g s) (length (entries h)) (served (past g s h)))) none))) k
 
@@ -384,7 +384,7 @@ module _ {C : Type 0} (M : Meaning C) where
       ((joins-alike M h k.run r.group).views (made_of e) own.made_is)
       (told (key_at e.registry h) (registry_events e.registry h) (k.kept e.registry u registry-there) _ _ own.core_is))) in
       world-still M w h (step.ready t (Some b)) (answer.Ready is)
-      (subst (λ (o : Option (Option Entered)). ReadyAnswers h o (Some b) (answer.Ready is)) (sym (entered-in w h t (Some r) there k)) (is, (refl, judged)))
+      (subst (λ (o : Option (Option Entered)). ReadyAnswers h o (Some b) (answer.Ready is)) (sym (entered-in w h t (Some r) there k)) (is, refl, judged))
       (still h (step.ready t (Some b)) (answer.Ready is) refl refl refl refl (λ k. refl) (λ k e. refl) (λ es. refl) refl refl (λ w. refl) (λ i b. refl)) k
 
 module _ {C : Type 0} (M : Meaning C) where
@@ -402,7 +402,7 @@ module _ {C : Type 0} (M : Meaning C) where
       (λ (ys : List (Option (HeldValue C))).
       Stands M (record w { groups = slice_set w.groups g (with_core d.core e); readers = ys }) ((step.enter g s, answer.Reader t r.generation) ∷ h))
       (sym grown)
-      (enter-next M w h g s t e d.core q x r there told some few left number same stays answers.1.0 answers.1.1.0 own k))
+      (enter-next M w h g s t e d.core q x r there told some few left number same stays answers.1 answers.2 own k))
 
   pub refused-now : (w : WorldValue C) (h : History C) (g s : ℕ) (e d : EntryValue C) (rs : List (Option (HeldValue C))) (q : Option ℕ) (x : ℕ) (f : Refusal)
       → slice_get w.groups g ≡ Some e → d ≡ with_core d.core e → rs ≡ w.readers

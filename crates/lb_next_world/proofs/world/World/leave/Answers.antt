@@ -22,7 +22,7 @@ returns-in_default g c =
     let within : c.args.reader < length c.self.inside.readers.items = omega arith in
     let at = at-place c.self.inside.readers.items c.args.reader c.index_mut-place.result.now within c.index_mut-place.ensures.value in
     let gone = at ∙ ap Some (sym (rw c.in_default.is at c.replace-2.view_is ∙ c.replace.ensures.value)) in
-    rw (← c.self.view_is)
+    rw (← c.self.view_is, c.replace.ensures.after)
     (λ h s. leave-gone (meaning_of g.S.BackendSelection) (world_value c.self.inside) h c.args.reader gone s)
 
 pub index_mut-entry-requires : goal.index_mut-entry-requires
@@ -58,7 +58,7 @@ invariant_of-self-2 g c =
     let low = group-there (meaning_of g.S.BackendSelection) (world_value c.self.inside) _ c.args.reader _ reader c.self.invariant.stands in
     let at-group = at-place c.self.inside.groups.items _ c.index_mut-entry.result.now low c.index_mut-entry.ensures.value in
     rw c.replace.ensures.after
-    (founded (meaning_of g.S.BackendSelection) (world_value c.self.inside) _ (seen.leave c.args.reader) (answer.Left c.in-Some.reader.generation) c.self.invariant
+    (founded (meaning_of g.S.BackendSelection) (world_value c.self.inside) _ (seen.leave c.args.reader) _ c.self.invariant
     (λ h s.
     left-now (meaning_of g.S.BackendSelection) (world_value c.self.inside) h c.args.reader _ _ c.leave.new.self reader at-group c.leave.ensures.rest c.leave.ensures.site
     (c.leave.ensures.stands _ _ (s.each _ _ at-group).core_is) s))
