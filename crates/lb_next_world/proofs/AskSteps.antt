@@ -115,8 +115,8 @@ module _ {C : Type 0} (M : Meaning C) where
       inl
       (ap answer.Refused no_such
       ∙ sym
-          (ap (λ (o : Option (Made C)). at_one o (λ m. at_one (slice_get m.configs s) (λ x. asked n (ask_answer (past_of s (group_events g h)) (is_out m.gate h) now)))) is.made_is
-          ∙ ap (λ (o : Option C). at_one o (λ x. asked n (ask_answer (past_of s (group_events g h)) (is_out e.gate h) now))) (slice_get_past (configs_of e.core.group) s past))) in
+      (ap (λ (o : Option (Made C)). at_one o (λ m. at_one (slice_get m.configs s) (λ x. asked n (ask_answer (past_of s (group_events g h)) (is_out m.gate h) now)))) is.made_is
+      ∙ ap (λ (o : Option C). at_one o (λ x. asked n (ask_answer (past_of s (group_events g h)) (is_out e.gate h) now))) (slice_get_past (configs_of e.core.group) s past))) in
       subst (λ (x : GateView). EntryNext M h g (step.ask g s now) (answer.Refused r) e z (with_core core e) x v) (sym back)
       (next-told M h (step.ask g s now) (answer.Refused r) g e core z v (refused-still h (step.ask g s now) r) is same stays right refl kept)
 
@@ -168,9 +168,9 @@ module _ {C : Type 0} (M : Meaning C) where
             (own.members ∙ ap (λ (k : group.History). group.order_members (past_of s k)) (group-of g h))
             (same_Some j.config c (sym own.config ∙ there)) own.permit)
             ∙ sym
-                (ap (λ (q : group.History). held_of (origin e.core) s c q (work g s ((st, a) ∷ h)))
-                (ap (past_of s) (events-here h st a g refl) ∙ past-same s (group.Granted now) (group_events g h))
-                ∙ ap (λ (b : Bool). held_of (origin e.core) s c (group.At s (group.Granted now) ∷ past g s h) (cond b works.building (work g s h))) (here g s))))
+            (ap (λ (q : group.History). held_of (origin e.core) s c q (work g s ((st, a) ∷ h)))
+            (ap (past_of s) (events-here h st a g refl) ∙ past-same s (group.Granted now) (group_events g h))
+            ∙ ap (λ (b : Bool). held_of (origin e.core) s c (group.At s (group.Granted now) ∷ past g s h) (cond b works.building (work g s h))) (here g s))))
             (λ b. is.loads_are b);
         registry_is = refl;
         gate_is = refl;

@@ -6,6 +6,10 @@ pub mod CoreSteps
 pub mod TaskSteps
 pub mod ReturnSteps
 pub mod AskSteps
+pub mod SelectSteps
+pub mod SameSets
+pub mod Listed
+pub mod UpdateSteps
 pub mod EmptyWorld
 pub mod Registries
 pub mod RegistrySteps

@@ -212,8 +212,8 @@ module _ {C : Type 0} (M : Meaning C) where
             inr
             (ap (answer.BuildFailed j.generation) q.1
             ∙ ap (without_memory {C = C} (step.build g s now))
-                (job-right h g s e j (λ c. built_or_failed (granted p) (M.refusal (members_of (granted p) (group_events g h)) c)) (answer.Built j.generation) is has
-                (ap (built_or_failed (granted p)) (same ∙ q.0) ∙ ap answer.Built n)))
+            (job-right h g s e j (λ c. built_or_failed (granted p) (M.refusal (members_of (granted p) (group_events g h)) c)) (answer.Built j.generation) is has
+            (ap (built_or_failed (granted p)) (same ∙ q.0) ∙ ap answer.Built n)))
       ]
 
   same-parts : (a t : Task C) (n m : ℕ) → a ≡ t → n ≡ m → (let left : BuiltValue C = record { task = a; ended = n } in left ≡ record { task = t; ended = m })
@@ -253,8 +253,8 @@ module _ {C : Type 0} (M : Meaning C) where
             (same-built b (last_job (origin e.core) s c p) now
             (task_is ∙ has.is ∙ ap (λ (x : C). last_job (origin e.core) s x p) (same_Some has.config c (sym has.there ∙ there))) ended_is)
             ∙ sym
-                (ap (λ (q : group.History). held_of (origin e.core) s c (past_of s q) (work g s ((st, a) ∷ h))) (events-here h st a g refl)
-                ∙ ap (λ (x : Bool). held_of (origin e.core) s c p (cond x (works.built now) (work g s h))) (here g s))))
+            (ap (λ (q : group.History). held_of (origin e.core) s c (past_of s q) (work g s ((st, a) ∷ h))) (events-here h st a g refl)
+            ∙ ap (λ (x : Bool). held_of (origin e.core) s c p (cond x (works.built now) (work g s h))) (here g s))))
             (λ m. is.loads_are m);
         registry_is = refl;
         gate_is = refl;

@@ -6,6 +6,7 @@ ghost use Rattle.lb_history.specs.Steps as seen;
 ghost use Rattle.lb_next_world.specs.Locals.{local_seen, IsWhole};
 ghost use Rattle.lb_next_world.specs.Stands.{IsEntry, Does, DoesAtRegistry, DoesAlone};
 
+mod listed;
 mod membership;
 mod readers;
 mod tasks;

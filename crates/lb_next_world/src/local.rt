@@ -1,5 +1,8 @@
 //! The steps at one group, without the number of the group.
 //! The backends of these are there: a step whose address was refused never comes so far.
+ghost use Rattle.std.specs.Prelude.{◌≡◌};
+ghost use Rattle.lb_history.specs.Answers.{has_refused as refused_among};
+
 use lb_history::step::Listing;
 use lb_select::backend::Backend;
 
@@ -57,4 +60,11 @@ pub(crate) enum Local<'a> {
         backend: &'a Backend,
         load: u64,
     },
+}
+
+// Whether an address was refused.
+pub(crate) fn has_refused(listings: &[Listing]) -> bool
+    ensures { result ≡ refused_among listings.now }
+{
+    listings.iter().any(|listing| listing.backend.is_none())
 }

@@ -1,7 +1,7 @@
 //! The world: tables of registries, gates, groups and readers, and one method for all steps at a group.
 //! Its contract is over histories alone; what lies in the tables is no part of it.
 ghost use Rattle.std.specs.Prelude.{◌≡◌, ◌∷◌, [], ℕ, map, IfOk, IfErr, vec_len};
-ghost use Rattle.lb_history.specs.Answers.{IsRun, has_refused as refused_among};
+ghost use Rattle.lb_history.specs.Answers.{IsRun};
 ghost use Rattle.lb_history.specs.History.{History, after};
 ghost use Rattle.lb_history.specs.Meanings.{meaning_of};
 ghost use Rattle.lb_history.specs.Promises.{Promised, ViewFollows, LivesExactly, NeverFalls, Raises, DestroysExactly};
@@ -18,7 +18,7 @@ mod registries;
 
 use crate::entry::Entry;
 use crate::held::Held;
-use crate::local::Local;
+use crate::local::{Local, has_refused};
 use crate::rule::WorldRegistry;
 use lb_history::answer::Answer;
 use lb_history::step::{Listing, Step};
@@ -187,7 +187,14 @@ impl<S: BackendSelection> World<S> {
 
     /// Takes a step that selects, and answers it as `step` does. Key and random words are lent, so that the step takes no memory
     /// for them.
-    pub fn select(&mut self, group: u64, slot: usize, key: &[u8], limit: usize, words: &[u64]) -> Answer
+    pub fn select(
+        &mut self,
+        group: u64,
+        slot: usize,
+        key: &[u8],
+        limit: usize,
+        words: &[u64],
+    ) -> Answer
         ensures { (h : History S.Config) → Stands (meaning_of S.BackendSelection) self.old h
             → Stands (meaning_of S.BackendSelection) self.new
             ((seen.select group slot key.now limit words.now, result) ∷ h) }
@@ -259,11 +266,4 @@ impl<S: BackendSelection> World<S> {
         };
         self.at_group(group, Local::Load { backend, load })
     }
-}
-
-// Whether an address was refused.
-fn has_refused(listings: &[Listing]) -> bool
-    ensures { result ≡ refused_among listings.now }
-{
-    listings.iter().any(|listing| listing.backend.is_none())
 }

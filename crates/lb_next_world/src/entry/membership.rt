@@ -1,19 +1,16 @@
 //! Steps of a group's membership and selections: how a group is made and updated, and what its slots select.
 //! Every cause of refusal is tested before memory is taken.
-ghost use Rattle.std.specs.Prelude.{◌≡◌, ◌<◌, ◌+◌, ◌^◌, ◌∷◌, ℕ, List, [], map, false, not, None, Err, IfOk, IfErr, OnErr};
-ghost use Rattle.lb_select.specs.Memberships.{same_members};
+ghost use Rattle.std.specs.Prelude.{◌≡◌, ◌<◌, ◌+◌, ◌^◌, ◌∷◌, ℕ, List, [], map, false, None, Err, IfOk, OnErr};
 ghost use Rattle.lb_group.specs.GroupCalls.{schedule_refusal as refusal_after};
-ghost use Rattle.lb_health.specs.Joined.{settings_of};
 ghost use Rattle.lb_joined.specs.JoinedHistory.{group_events};
 ghost use Rattle.lb_joined.specs.Stands.{After};
 ghost use Rattle.lb_history.specs.Answers.{has_refused};
 ghost use Rattle.lb_history.specs.History.{members_in};
 ghost use Rattle.lb_history.specs.Meanings.{meaning_of};
-ghost use Rattle.lb_history.specs.Shared.{settings_in};
 ghost use Rattle.lb_history.specs.Steps as seen;
 ghost use Rattle.lb_next_world.specs.Rules.{key_gives};
 ghost use Rattle.lb_next_world.specs.Stands.{IsEntry, Does, DoesAtRegistry};
-ghost use Rattle.lb_next_world.specs.Calls.{IsNewEntry};
+ghost use Rattle.lb_next_world.specs.Calls.{IsNewEntry, scheduled_as, selection_as};
 ghost use Rattle.lb_rebuild.specs.Gate.{GateView};
 ghost use Rattle.lb_select.specs.Backends.{Member};
 ghost use Rattle.lb_select.specs.Refusals.{least};
@@ -21,20 +18,19 @@ ghost use Rattle.lb_registry.specs.Registry.{IsRegistryAfter};
 ghost use Rattle.lb_registry.specs.RegistryEvents.{Event, Registered, Applied, registered_after};
 
 use super::Entry;
+use super::listed::{differs, members_from, settings_from};
 use crate::held::with_places;
 use crate::rule::WorldRegistry;
 use lb_group::answers::Selection;
-use lb_health::view::Settings;
+use lb_group::schedule::Scheduled;
 use lb_history::answer::Answer;
 use lb_history::step::Listing;
 use lb_joined::group::GroupCore;
 use lb_rebuild::gate::GateCore;
-use lb_select::backend::Backend;
 use lb_select::loads::Loads;
 use lb_select::refusal::Refusal;
 use lb_select::walk::BackendSelection;
 use std::alloc::Global;
-use std::collections::{BTreeMap, BTreeSet};
 
 impl<S: BackendSelection> Entry<S> {
     // A group over that registry and that gate by their numbers, with a slot for each configuration. Refused for memory alone, where
@@ -100,8 +96,7 @@ impl<S: BackendSelection> Entry<S> {
         };
         match self.core.schedule(alloc, registry, members, settings, now) {
             Err(refusal) => Answer::Refused(refusal),
-            Ok(scheduled) if scheduled.changed => Answer::Generation(scheduled.generation),
-            Ok(scheduled) => Answer::Same(scheduled.generation),
+            Ok(scheduled) => generation_of(&scheduled),
         }
     }
 
@@ -118,20 +113,11 @@ impl<S: BackendSelection> Entry<S> {
         ensures { (z : GateView) → Does (meaning_of S.BackendSelection)
             (λ (g : ℕ). seen.select g slot key.now limit words.now) self.old z registry.now result self.new z registry.now }
     {
+        let loads = &self.loads;
         let selection = self
             .core
-            .select(alloc, registry, slot, key, limit, words, &self.loads);
-        let Selection {
-            answer,
-            drawn: _,
-            tickets,
-        } = selection;
-        match answer {
-            Ok(Some(backend)) => Answer::Backend(backend, tickets),
-            Ok(None) => Answer::NoBackend(tickets),
-            Err(Refusal::OutOfMemory) => Answer::NotSelected(tickets),
-            Err(refusal) => Answer::Refused(refusal),
-        }
+            .select(alloc, registry, slot, key, limit, words, loads);
+        answer_of(selection)
     }
 
     // Why the group can't take these backends, memory and numbers of cells apart. It takes no memory.
@@ -148,54 +134,29 @@ impl<S: BackendSelection> Entry<S> {
     }
 }
 
-// Whether these backends are another membership than that one. It takes no memory, and compares each backend with each.
-fn differs(listings: &[Listing], members: &BTreeSet<Backend>) -> bool
-    ensures { result ≡ not (same_members (members_in listings.now) members.now.keys) }
+// The generation that is the newest now or still, as an answer.
+fn generation_of(scheduled: &Scheduled) -> Answer
+    ensures { result ≡ scheduled_as scheduled.now }
 {
-    let gone = members.iter().any(|member| !lists(listings, member));
-    gone || listings.iter().any(|listing| is_new(listing, members))
-}
-
-// Whether the backend is among these, by identity.
-fn lists(listings: &[Listing], backend: &Backend) -> bool {
-    listings.iter().any(|listing| match &listing.backend {
-        Some(listed) => listed == backend,
-        None => false,
-    })
-}
-
-// Whether a backend is there that is no member.
-fn is_new(listing: &Listing, members: &BTreeSet<Backend>) -> bool {
-    match &listing.backend {
-        Some(backend) => !members.contains(backend),
-        None => false,
+    if scheduled.changed {
+        return Answer::Generation(scheduled.generation);
     }
+    Answer::Same(scheduled.generation)
 }
 
-// The set of the backends that are there; of several of one identity the first stays.
-fn members_from(alloc: Global, listings: Vec<Listing>) -> Result<BTreeSet<Backend>, Refusal>
-    ensures set { IfOk result (λ set. set.keys ≡ members_in listings.items) }
-    ensures err { IfErr result (λ e. e ≡ Refusal.OutOfMemory) }
+// A selection as an answer. One that was refused for memory may have moved the counter of tickets.
+fn answer_of(selection: Selection) -> Answer
+    ensures { result ≡ selection_as selection }
 {
-    let mut members = BTreeSet::new(alloc);
-    for listing in listings {
-        if let Some(backend) = listing.backend {
-            members.insert(backend)?;
-        }
+    let Selection {
+        answer,
+        drawn: _,
+        tickets,
+    } = selection;
+    match answer {
+        Ok(Some(backend)) => Answer::Backend(backend, tickets),
+        Ok(None) => Answer::NoBackend(tickets),
+        Err(Refusal::OutOfMemory) => Answer::NotSelected(tickets),
+        Err(refusal) => Answer::Refused(refusal),
     }
-    Ok(members)
-}
-
-// The flags that the marks set; of several marks of one identity the last counts.
-fn settings_from(alloc: Global, listings: &[Listing]) -> Result<Settings, Refusal>
-    ensures settings { IfOk result (λ settings. settings_of settings.entries ≡ settings_in listings.now) }
-    ensures err { IfErr result (λ e. e ≡ Refusal.OutOfMemory) }
-{
-    let mut settings = BTreeMap::new(alloc);
-    for listing in listings {
-        if let (Some(backend), Some(on)) = (&listing.backend, listing.mark) {
-            settings.insert((backend.addr.clone()?, backend.weight), on)?;
-        }
-    }
-    Ok(settings)
 }

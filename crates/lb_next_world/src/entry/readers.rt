@@ -55,7 +55,12 @@ impl<S: BackendSelection> Entry<S> {
     }
 
     // Whether a backend is ready in the generation that a reader reads.
-    pub(crate) fn ready(&self, reader: &Reader<S>, registry: &WorldRegistry, backend: &Backend) -> bool
+    pub(crate) fn ready(
+        &self,
+        reader: &Reader<S>,
+        registry: &WorldRegistry,
+        backend: &Backend,
+    ) -> bool
         requires { IsOwnReader self.now.core reader.now }
         ensures { (key_of : Member → Member) (events : List Event)
             → IsRegistryAfter key_gives key_of events registry.now

@@ -63,7 +63,10 @@ impl<S: BackendSelection> Entry<S> {
             return Answer::Refused(Refusal::NothingInFlight);
         };
         let generation = job.generation();
-        match job.build(alloc, || now) {
+        let clock = || -> u128
+            ensures { result ≡ now }
+        { now };
+        match job.build(alloc, clock) {
             Ok(built) => {
                 place.hold(Work::Ready(built));
                 Answer::Built(generation)

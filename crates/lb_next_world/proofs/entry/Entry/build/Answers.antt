@@ -70,7 +70,7 @@ returns-in-Ok g c =
     let at = at-place c.self.inside.works.items c.args.slot c.index_mut-place.result.now within c.index_mut-place.ensures.value in
     let b = c.in-Ok.ensures.built in
     rw (c.generation-generation.ensures, c.hold.ensures)
-    (does-build (meaning_of g.S.BackendSelection) h n c.args.slot c.args.now _ c.in-Some.job c.in-Ok.built _ _ run is (at ∙ ap Some c.in-Some.ensures.0) b.0 b.1 (sym b.2) kept))
+    (does-build (meaning_of g.S.BackendSelection) h n c.args.slot c.args.now _ c.in-Some.job c.in-Ok.built _ _ run is (at ∙ ap Some c.in-Some.ensures.0) b.0 b.1 b.2 kept))
 
 pub returns-in-Ok-fail : goal.returns-in-Ok-fail
 returns-in-Ok-fail g c =
