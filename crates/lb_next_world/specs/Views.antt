@@ -1,0 +1,66 @@
+-- A world as contracts see it: its tables as plain lists, with what is held for each slot and each reader.
+use Rattle.std.specs.Prelude.{◌≡◌, ℕ, List, Option, Some, None}
+use Rattle.std.specs.Option.{option_map}
+use Rattle.lb_select.specs.Backends.{Member}
+use Rattle.lb_rebuild.specs.Gate.{GateId, GateView}
+use Rattle.lb_rebuild.specs.Identity.{GroupId}
+use Rattle.lb_registry.specs.Registry.{RegistryValue}
+use Rattle.lb_group.specs.Values.{Task, BuiltValue, ReaderValue, configs_of}
+use Rattle.lb_group.specs.Stands as group
+use Rattle.lb_joined.specs.Stands.{JoinedValue}
+use Rattle.lb_history.specs.History.{Entered}
+use Rattle.lb_next_world.specs.Rules.{WorldRule}
+
+-- what is held for a slot: nothing, a job, or what was built of it
+pub data WorkValue (C : Type 0) : Type 0 where
+  nothing : WorkValue C
+  building : Task C → WorkValue C
+  ready : BuiltValue C → WorkValue C
+
+abbrev pub NotBuilding : {C : Type 0} → WorkValue C → Type 0
+NotBuilding nothing = Unit {0}
+NotBuilding (building t) = ⊥
+NotBuilding (ready b) = Unit {0}
+
+abbrev pub NotReady : {C : Type 0} → WorkValue C → Type 0
+NotReady nothing = Unit {0}
+NotReady (building t) = Unit {0}
+NotReady (ready b) = ⊥
+
+-- a reader with the number of its group
+pub record HeldValue (C : Type 0) : Type 0 where
+  pub group : ℕ
+  pub reader : ReaderValue C
+
+abbrev pub entered_of : {C : Type 0} → HeldValue C → Entered
+entered_of r = record { group = r.group; slot = r.reader.slot; generation = r.reader.generation }
+
+-- a group with the numbers of its registry and its gate, what is held for its slots, and its loads
+pub record EntryValue (C : Type 0) : Type 0 where
+  pub registry : ℕ
+  pub gate : ℕ
+  pub core : JoinedValue C
+  pub works : List (WorkValue C)
+  pub loads : List (Member × ℕ)
+
+pub record WorldValue (C : Type 0) : Type 0 where
+  pub registries : List (RegistryValue WorldRule)
+  pub gates : List GateView
+  pub groups : List (EntryValue C)
+  pub readers : List (Option (HeldValue C))
+
+-- what a group was made with, by its core
+abbrev pub site : {C : Type 0} → JoinedValue C → group.Made C
+site v = record { id = v.group.id; gate = v.group.gate; configs = configs_of v.group }
+
+-- whose a group's jobs are: which group it is, and the gate of their permits
+pub record Origin : Type 0 where
+  pub id : GroupId
+  pub gate : GateId
+
+abbrev pub origin : {C : Type 0} → JoinedValue C → Origin
+origin v = record { id = v.group.id; gate = v.group.gate }
+
+-- a reader is one of this group
+abbrev pub IsOwnReader : {C : Type 0} → JoinedValue C → ReaderValue C → Type 0
+IsOwnReader v r = r.group ≡ v.group.id

@@ -1,0 +1,182 @@
+//! A group of a world: its core with the numbers of its registry and its gate, what is held for its slots, and its loads.
+//! Each call here is a step at the group; its contract is told by the world's history, with the group's number as a parameter.
+ghost use Rattle.std.specs.Prelude.{◌≡◌, ℕ, Some, if◌then◌else◌};
+ghost use Rattle.lb_history.specs.Meanings.{meaning_of};
+ghost use Rattle.lb_history.specs.Steps as seen;
+ghost use Rattle.lb_next_world.specs.Locals.{local_seen, IsWhole};
+ghost use Rattle.lb_next_world.specs.Stands.{IsEntry, Does, DoesAtRegistry, DoesAlone};
+
+mod listed;
+mod membership;
+mod readers;
+mod tasks;
+
+use crate::held::Place;
+use crate::local::Local;
+use crate::rule::WorldRegistry;
+use lb_history::answer::{Answer, SlotCounts};
+use lb_joined::group::GroupCore;
+use lb_rebuild::gate::GateCore;
+use lb_select::backend::Backend;
+use lb_select::loads::Loads;
+use lb_select::refusal::Refusal;
+use lb_select::walk::BackendSelection;
+use std::alloc::Global;
+use std::marker::Model;
+
+// A group with its registry, its gate, its works and its loads.
+pub(crate) struct Entry<S: BackendSelection> {
+    pub(crate) registry: usize,
+    pub(crate) gate: usize,
+    pub(crate) core: GroupCore<S>,
+    pub(crate) works: Vec<Place<S>>,
+    pub(crate) loads: Loads,
+}
+
+impl<S: BackendSelection> Model for Entry<S> {
+    ghost use Rattle.lb_next_world.specs.Views.{EntryValue};
+
+    ghost Value = { EntryValue S.Config };
+
+    ghost view = { λ e. record {
+      registry = e.registry;
+      gate = e.gate;
+      core = e.core;
+      works = e.works.items;
+      loads = e.loads;
+    } };
+}
+
+impl<S: BackendSelection> Entry<S> {
+    // Lets the group go with the world, and what is held for its slots.
+    pub(crate) fn close(self) {
+        let Entry {
+            registry: _,
+            gate: _,
+            core: _,
+            mut works,
+            loads: _,
+        } = self;
+        while let Some(place) = works.pop() {
+            place.close();
+        }
+        works.destroy_empty();
+    }
+
+    // The number of its gate.
+    pub(crate) fn gate(&self) -> usize
+        ensures { result ≡ self.now.gate }
+    {
+        self.gate
+    }
+
+    // The number of its registry.
+    pub(crate) fn registry(&self) -> usize
+        ensures { result ≡ self.now.registry }
+    {
+        self.registry
+    }
+
+    // Takes the step, and answers it.
+    pub(crate) fn take(
+        &mut self,
+        alloc: Global,
+        gate: &mut GateCore,
+        registry: &mut WorldRegistry,
+        local: Local<'_>,
+    ) -> Answer
+        requires gate { gate.old.id ≡ self.old.core.group.gate }
+        requires whole { IsWhole local }
+        requires stands { IsEntry (meaning_of S.BackendSelection) self.old }
+        ensures { Does (meaning_of S.BackendSelection) (λ (g : ℕ). local_seen g local.entry)
+            self.old gate.old registry.old result self.new gate.new registry.new }
+    {
+        match local {
+            Local::Update { now, listings } => self.update(alloc, registry, listings, now),
+            Local::Ask { slot, now } => self.ask(slot, gate, now),
+            Local::Build { slot, now } => self.build(alloc, slot, gate, registry, now),
+            Local::FailBuild { slot, now } => self.fail_build(slot, gate, registry, now),
+            Local::Lost { slot } => self.lost(slot),
+            Local::Publish { slot } => self.publish(slot),
+            Local::Abandon { slot } => self.abandon(slot),
+            Local::Destroy { slot } => self.destroy(slot, gate, registry),
+            Local::Select {
+                slot,
+                key,
+                limit,
+                words,
+            } => self.select(alloc, registry, slot, key, limit, words),
+            Local::Enable { backend } => self.set_enable(backend, true),
+            Local::Disable { backend } => self.set_enable(backend, false),
+            Local::Cancel => self.cancel(registry),
+            Local::Counts { slot } => self.counts(slot),
+            Local::Timing { slot } => self.timing(slot),
+            Local::Load { backend, load } => self.load(alloc, backend, load),
+        }
+    }
+
+    // The numbers of a slot.
+    fn counts(&self, slot: usize) -> Answer
+        ensures { DoesAlone (meaning_of S.BackendSelection) (λ (g : ℕ). seen.counts g slot)
+            self.now result self.now }
+    {
+        let core = &self.core;
+        match (
+            core.served(slot),
+            core.flight(slot),
+            core.is_waiting(slot),
+            core.counts(slot),
+        ) {
+            (Some(served), Some(flight), Some(waiting), Some(counts)) => Answer::Numbers(
+                SlotCounts {
+                    newest: core.newest(),
+                    served,
+                    flight,
+                    waiting,
+                    counts,
+                },
+            ),
+            _ => Answer::Refused(Refusal::NoSuch),
+        }
+    }
+
+    // The timing of a slot's last publication.
+    fn timing(&self, slot: usize) -> Answer
+        ensures { DoesAlone (meaning_of S.BackendSelection) (λ (g : ℕ). seen.timing g slot)
+            self.now result self.now }
+    {
+        match self.core.timing(slot) {
+            Some(timing) => Answer::Timed(timing),
+            None => Answer::Refused(Refusal::NoSuch),
+        }
+    }
+
+    // Stops the rebuilds for good.
+    fn cancel(&mut self, registry: &mut WorldRegistry) -> Answer
+        ensures { DoesAtRegistry (meaning_of S.BackendSelection) (λ (g : ℕ). seen.cancel g)
+            self.old registry.old result self.new registry.new }
+    {
+        self.core.cancel(registry);
+        Answer::Cancelled
+    }
+
+    // Enables or disables a backend.
+    fn set_enable(&mut self, backend: &Backend, enabled: bool) -> Answer
+        ensures { DoesAlone (meaning_of S.BackendSelection)
+            (λ (g : ℕ). if enabled then seen.enable g (Some backend.now) else seen.disable g (Some backend.now)) self.old result self.new }
+    {
+        self.core.set_enable(backend, enabled);
+        Answer::Done
+    }
+
+    // Sets the load of a backend.
+    fn load(&mut self, alloc: Global, backend: &Backend, load: u64) -> Answer
+        ensures { DoesAlone (meaning_of S.BackendSelection)
+            (λ (g : ℕ). seen.load g (Some backend.now) load) self.old result self.new }
+    {
+        match self.loads.set(alloc, backend, load) {
+            Ok(()) => Answer::Done,
+            Err(refusal) => Answer::Refused(refusal),
+        }
+    }
+}
