@@ -1,4 +1,5 @@
 pub mod Calls
+pub mod Cells
 pub mod Ever
 pub mod Founded
 pub mod Locals
