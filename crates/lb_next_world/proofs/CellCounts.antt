@@ -14,7 +14,7 @@ use Rattle.std.proofs.lemmas.List.Folds.{list_any-append}
 use Rattle.std.proofs.lemmas.Map.Made.{is_member-filter, length-from_keys}
 use Rattle.lb_select.specs.Backends.{Member, address_cmp, member_cmp, same_member}
 use Rattle.lb_select.specs.Unique.{firsts, distinct}
-use Rattle.lb_rebuild.specs.Memberships.{some_and}
+use Rattle.lb_next_world.specs.Listings.{some_and}
 use Rattle.lb_registry.specs.Fresh.{has_key, fresh}
 use Rattle.lb_registry.specs.Keys.{IsRuleOf, by_identity, by_address}
 use Rattle.lb_registry.specs.Registry.{RegistryValue, IsRegistryAfter}

@@ -12,7 +12,7 @@ use Rattle.lb_select.specs.Backends.{Member, member_cmp, same_member}
 use Rattle.lb_select.specs.Memberships.{same_members, set_of}
 use Rattle.lb_select.specs.Seen.{address_seen}
 use Rattle.lb_select.specs.declared.backend.SocketAddr.{SocketAddr}
-use Rattle.lb_rebuild.specs.Memberships.{none_or, some_and}
+use Rattle.lb_next_world.specs.Listings.{none_or, some_and}
 use Rattle.lb_health.specs.Joined.{settings_of}
 use Rattle.lb_history.specs.declared.step.Listing.{Listing}
 use Rattle.lb_history.specs.History.{members_in}
