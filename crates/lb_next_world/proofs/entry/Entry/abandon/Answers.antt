@@ -1,5 +1,5 @@
 -- What is held built is the last job, so it is awaited.
-use Rattle.std.proofs.Common.{◌≡◌, ◌<◌, ◌≤◌, ◌∙◌, inl, refl, sym, ap, length, true, arith, slice_get}
+use Rattle.std.proofs.Common.{◌<◌, ◌≤◌, ◌∙◌, inl, refl, ap, length, arith}
 use Rattle.std.specs.Prelude.{Some}
 use Rattle.lb_select.specs.declared.refusal.Refusal.TheVariants as refusal
 use Rattle.lb_group.specs.Values.{BuiltValue}

@@ -1,5 +1,5 @@
 -- What the slot answers, and the job that goes to its place.
-use Rattle.std.proofs.Common.{◌<◌, ◌∙◌, refl, sym, ap, length, arith}
+use Rattle.std.proofs.Common.{◌<◌, length, arith}
 use Rattle.lb_group.specs.GroupHistory.{cancelled, building, up_to_date, not_due, busy}
 use Rattle.lb_group.specs.Values.{configs_of}
 use Rattle.lb_history.specs.Meanings.{meaning_of}

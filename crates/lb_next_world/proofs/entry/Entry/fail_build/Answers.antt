@@ -1,5 +1,5 @@
 -- The job that is held is the last one, so it is awaited; its snapshot is let go.
-use Rattle.std.proofs.Common.{◌≡◌, ◌<◌, ◌≤◌, ◌∙◌, inl, refl, sym, ap, length, true, arith, slice_get}
+use Rattle.std.proofs.Common.{◌<◌, ◌≤◌, ◌∙◌, inl, refl, ap, length, arith}
 use Rattle.std.specs.Prelude.{Some}
 use Rattle.lb_select.specs.declared.refusal.Refusal.TheVariants as refusal
 use Rattle.lb_group.specs.Values.{Task}

@@ -18,7 +18,6 @@ use Rattle.lb_history.specs.Meanings.{Meaning, meaning_of}
 use Rattle.lb_history.specs.History.{History, Made, made_at, load_of}
 use Rattle.lb_history.specs.Shared.{registry_events, key_of}
 use Rattle.lb_history.specs.Answers.{Answers, at_one, without_memory}
-use Rattle.lb_history.specs.Joined.{joined_events}
 use Rattle.lb_next_world.specs.Rules.{WorldRule, key_gives}
 use Rattle.lb_next_world.specs.Stands.{EntryIs, EntryNext}
 use Rattle.lb_next_world.specs.Views.{EntryValue, site}

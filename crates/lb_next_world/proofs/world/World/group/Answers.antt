@@ -1,6 +1,6 @@
 -- Where no cause stands, the entry that is new joins the groups, over its registry and its gate.
-use Rattle.std.proofs.Common.{◌≡◌, ◌<◌, ◌≤◌, ◌∙◌, [], ◌∷◌, ◌++◌, List, length, map, refl, sym, ap, subst, arith}
-use Rattle.std.specs.Prelude.{Some, slice_set}
+use Rattle.std.proofs.Common.{◌≡◌, ◌∙◌, [], ◌∷◌, ◌++◌, List, length, map, refl, sym, ap, subst, arith}
+use Rattle.std.specs.Prelude.{slice_set}
 use Rattle.lb_select.specs.Backends.{Member}
 use Rattle.lb_select.specs.Refusals.{earlier, least}
 use Rattle.lb_select.specs.declared.refusal.Refusal.TheVariants as refusal

@@ -1,7 +1,6 @@
 -- A reader comes back to the group that it entered, whose slot counts it.
-use Rattle.std.proofs.Common.{◌≡◌, ◌<◌, ◌≤◌, ◌∙◌, length, sym, ap, arith}
+use Rattle.std.proofs.Common.{◌<◌, ◌≤◌, ◌∙◌, length, sym, ap, arith}
 use Rattle.std.specs.Prelude.{Some}
-use Rattle.lb_history.specs.declared.answer.Answer.TheVariants as answer
 use Rattle.lb_history.specs.Meanings.{meaning_of}
 use Rattle.lb_history.specs.Steps as seen
 use Rattle.lb_next_world.specs.Founded.{world_value}
