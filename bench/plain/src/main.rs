@@ -1,5 +1,5 @@
 //! The yardstick: a plain Rust program without dependencies or proofs that answers the scripts of lbsim.
-use plainsim::script::{parse, Line};
+use plainsim::script::parse;
 use plainsim::world::World;
 use std::io::{self, BufRead, BufWriter, Write};
 use std::process::ExitCode;
@@ -40,9 +40,6 @@ fn read_line(input: &mut impl BufRead, line: &mut Vec<u8>) -> Result<bool, Endin
 fn answer(world: &mut World, line: &[u8], output: &mut impl Write) -> io::Result<Result<(), Ending>> {
     let parsed = std::str::from_utf8(line).ok().and_then(parse);
     let Some(line) = parsed else { return Ok(Err(Ending::BadLine)) };
-    if matches!(line, Line::Registry) && world.has_registry() {
-        return Ok(Err(Ending::BadLine));
-    }
     match world.take(line) {
         Ok(answer) => writeln!(output, "{answer}")?,
         Err(refusal) => writeln!(output, "refused {refusal}")?,

@@ -83,9 +83,10 @@ pub struct Selector {
     backends: Vec<Backend>,
     method: Method,
     ticket: u64,
-    /// How busy each backend is; 0 where nothing is said.
-    pub loads: BTreeMap<Backend, u64>,
 }
+
+/// How busy each backend is; 0 where nothing is said.
+pub type Loads = BTreeMap<Backend, u64>;
 
 impl Selector {
     pub fn build(kind: Kind, set: &BTreeSet<Backend>) -> Result<Selector, Unbuildable> {
@@ -96,18 +97,24 @@ impl Selector {
             Kind::Ketama => ring(&backends)?,
             Kind::Least => Method::Loads,
         };
-        Ok(Selector { backends, method, ticket: 0, loads: BTreeMap::new() })
+        Ok(Selector { backends, method, ticket: 0 })
     }
 
-    /// The first of the distinct candidates for the key, of which at most `limit` are looked at.
-    pub fn select(&mut self, key: &[u8], limit: u64) -> Option<&Backend> {
+    /// The first accepted one of the distinct candidates for the key, of which at most `limit` are looked at.
+    pub fn select(
+        &mut self,
+        key: &[u8],
+        limit: u64,
+        loads: &Loads,
+        accept: impl Fn(&Backend) -> bool,
+    ) -> Option<&Backend> {
         let mut walk = match &self.method {
             Method::Weighted { in_turn, .. } => Walk::First(draw(*in_turn, &mut self.ticket, key)),
             Method::Ring(points) => {
                 let place = crc(key);
                 Walk::Point(points.partition_point(|(point, _)| *point < place))
             }
-            Method::Loads => Walk::Listed(by_load(&self.backends, &self.loads).into_iter()),
+            Method::Loads => Walk::Listed(by_load(&self.backends, loads).into_iter()),
         };
         let mut seen = HashSet::new();
         for step in 0.. {
@@ -115,8 +122,8 @@ impl Selector {
             if step >= limit {
                 return None;
             }
-            // Every backend is accepted.
-            if seen.insert(self.backends[index].hash_key()) {
+            let backend = &self.backends[index];
+            if seen.insert(backend.hash_key()) && accept(backend) {
                 return Some(&self.backends[index]);
             }
         }
@@ -163,7 +170,7 @@ impl Walk {
 }
 
 /// The backends of a weight above 0, by their load for each unit of weight.
-fn by_load(backends: &[Backend], loads: &BTreeMap<Backend, u64>) -> Vec<usize> {
+fn by_load(backends: &[Backend], loads: &Loads) -> Vec<usize> {
     let weighed = backends.iter().enumerate().filter(|(_, backend)| backend.weight > 0);
     let mut read: Vec<(usize, u64, u64)> =
         weighed.map(|(index, backend)| (index, backend.weight, loads.get(backend).copied().unwrap_or(0))).collect();

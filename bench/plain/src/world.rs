@@ -1,266 +1,128 @@
 //! Registries, gates, groups and readers, and what each line does to them.
 
-use crate::script::Line;
-use crate::selection::{Backend, Kind, Selector, Unbuildable};
-use std::collections::BTreeSet;
-use std::fmt;
-use std::rc::Rc;
-
-pub enum Refusal {
-    InvalidAddress,
-    TooManyBackends,
-    WeightTooLarge,
-    TooManyPoints,
-    NoSuch,
-    StillRead(u64),
-    NothingInFlight,
-    NothingBuilt,
-    NothingRetired,
-    NoSuchReader,
-}
-
-impl From<Unbuildable> for Refusal {
-    fn from(cause: Unbuildable) -> Refusal {
-        match cause {
-            Unbuildable::TooManyBackends => Refusal::TooManyBackends,
-            Unbuildable::WeightTooLarge => Refusal::WeightTooLarge,
-            Unbuildable::TooManyPoints => Refusal::TooManyPoints,
-        }
-    }
-}
-
-impl fmt::Display for Refusal {
-    fn fmt(&self, out: &mut fmt::Formatter<'_>) -> fmt::Result {
-        match self {
-            Refusal::InvalidAddress => write!(out, "1 InvalidAddress"),
-            Refusal::TooManyBackends => write!(out, "3 TooManyBackends"),
-            Refusal::WeightTooLarge => write!(out, "4 WeightTooLarge"),
-            Refusal::TooManyPoints => write!(out, "5 TooManyPoints"),
-            Refusal::NoSuch => write!(out, "9 NoSuch"),
-            Refusal::StillRead(readers) => write!(out, "11 StillRead {readers}"),
-            Refusal::NothingInFlight => write!(out, "12 NothingInFlight"),
-            Refusal::NothingBuilt => write!(out, "13 NothingBuilt"),
-            Refusal::NothingRetired => write!(out, "14 NothingRetired"),
-            Refusal::NoSuchReader => write!(out, "15 NoSuchReader"),
-        }
-    }
-}
-
-pub enum Answer<'a> {
-    Numbered(&'static str, u64),
-    Word(&'static str),
-    Failed(u64, Refusal),
-    Backend(&'a Backend),
-}
-
-impl fmt::Display for Answer<'_> {
-    fn fmt(&self, out: &mut fmt::Formatter<'_>) -> fmt::Result {
-        match self {
-            Answer::Numbered(name, number) => write!(out, "{name} {number}"),
-            Answer::Word(word) => out.write_str(word),
-            Answer::Failed(generation, refusal) => write!(out, "failed {generation} {refusal}"),
-            Answer::Backend(backend) => write!(out, "backend {backend}"),
-        }
-    }
-}
-
-/// A selector that a slot serves or served, with the readers in it.
-struct Serving {
-    generation: u64,
-    selector: Selector,
-    readers: u64,
-}
-
-struct Flight {
-    generation: u64,
-    members: Rc<BTreeSet<Backend>>,
-    built: Option<Selector>,
-}
-
-struct Slot {
-    served: Serving,
-    flight: Option<Flight>,
-    retired: Option<Serving>,
-}
-
-struct Group {
-    gate: usize,
-    kind: Kind,
-    newest: u64,
-    members: Rc<BTreeSet<Backend>>,
-    slots: Vec<Slot>,
-}
-
-/// A slot, and what its group has for all of them.
-struct At<'a> {
-    slot: &'a mut Slot,
-    is_out: &'a mut bool,
-    kind: Kind,
-    newest: u64,
-    members: &'a Rc<BTreeSet<Backend>>,
-}
+use crate::answer::{Answer, Refusal};
+use crate::group::Group;
+use crate::registry::Registry;
+use crate::script::{AtSlot, Line, Listed};
+use crate::selection::{Backend, Kind};
 
 struct Reader {
     group: usize,
-    slot: usize,
+    slot: u64,
     generation: u64,
 }
 
 #[derive(Default)]
 pub struct World {
-    registries: u64,
+    registries: Vec<Registry>,
     // whether a gate's permit is out
     gates: Vec<bool>,
     groups: Vec<Group>,
     readers: Vec<Option<Reader>>,
 }
 
-impl World {
-    pub fn has_registry(&self) -> bool {
-        self.registries > 0
-    }
+fn there(backend: Option<Backend>) -> Result<Backend, Refusal> {
+    backend.ok_or(Refusal::InvalidAddress)
+}
 
-    pub fn take(&mut self, line: Line<'_>) -> Result<Answer<'_>, Refusal> {
+impl World {
+    pub fn take(&mut self, line: Line<'_>) -> Result<Answer, Refusal> {
         match line {
-            Line::Registry => {
-                self.registries += 1;
-                Ok(Answer::Numbered("registry", self.registries - 1))
+            Line::Registry { by_address, healthy } => {
+                self.registries.push(Registry::new(by_address, healthy));
+                Ok(Answer::Numbered("registry", self.registries.len() as u64 - 1))
             }
             Line::Gate => {
                 self.gates.push(false);
                 Ok(Answer::Numbered("gate", self.gates.len() as u64 - 1))
             }
-            Line::Group { registry, gate, kind, slots } => self.group(registry, gate, kind, slots),
-            Line::Update { group, backends } => self.update(group, backends),
-            Line::Ask { group, slot } => self.ask(group, slot),
-            Line::Build { group, slot } => self.build(group, slot),
-            Line::Publish { group, slot } => self.publish(group, slot),
+            Line::Group { registry, gate, kind, slots } => self.make_group(registry, gate, kind, slots),
+            Line::Update { group, now, listed } => self.update(group, listed, now),
+            Line::AtSlot { group, slot, what } => self.at_slot(group, slot, what),
             Line::Enter { group, slot } => self.enter(group, slot),
-            Line::Leave { reader } => self.leave(reader),
-            Line::Destroy { group, slot } => self.destroy(group, slot),
-            Line::Select { group, slot, key, limit } => self.select(group, slot, key, limit),
+            Line::Ready { reader, backend } => {
+                let backend = there(backend)?;
+                let Reader { group, slot, generation } = *self.reader(reader)?.as_ref().ok_or(Refusal::NoSuchReader)?;
+                self.groups[group].ready(slot, generation, &backend)
+            }
+            Line::Leave { reader } => {
+                let Reader { group, slot, generation } = self.reader(reader)?.take().ok_or(Refusal::NoSuchReader)?;
+                self.groups[group].leave(slot, generation)
+            }
+            Line::Select { group, slot, key, limit } => {
+                let selected = self.group(group)?.select(slot, key, limit);
+                Ok(selected.map_or(Answer::Word("none"), Answer::Backend))
+            }
+            Line::Verdict { registry, cell, ok, threshold } => {
+                let flipped = self.registry(registry)?.observe(cell, ok, threshold)?;
+                Ok(Answer::Word(if flipped { "flipped" } else { "kept" }))
+            }
+            Line::SetEnable { group, backend, enabled } => {
+                let backend = there(backend)?;
+                self.group(group)?.set_enable(&backend, enabled);
+                Ok(Answer::Word("ok"))
+            }
+            Line::Load { group, backend, load } => {
+                let backend = there(backend)?;
+                self.group(group)?.set_load(backend, load);
+                Ok(Answer::Word("ok"))
+            }
+            Line::Cancel { group } => {
+                let group = self.groups.get_mut(group as usize).ok_or(Refusal::NoSuch)?;
+                group.cancel(&mut self.registries[group.registry]);
+                Ok(Answer::Word("cancelled"))
+            }
+            Line::Targets { registry } => Ok(Answer::Targets(self.registry(registry)?.targets())),
         }
     }
 
-    fn group(&mut self, registry: u64, gate: u64, kind: Kind, slots: usize) -> Result<Answer<'_>, Refusal> {
-        if registry >= self.registries || gate >= self.gates.len() as u64 {
+    fn registry(&mut self, registry: u64) -> Result<&mut Registry, Refusal> {
+        self.registries.get_mut(registry as usize).ok_or(Refusal::NoSuch)
+    }
+
+    fn group(&mut self, group: u64) -> Result<&mut Group, Refusal> {
+        self.groups.get_mut(group as usize).ok_or(Refusal::NoSuch)
+    }
+
+    fn reader(&mut self, reader: u64) -> Result<&mut Option<Reader>, Refusal> {
+        self.readers.get_mut(reader as usize).ok_or(Refusal::NoSuchReader)
+    }
+
+    fn make_group(&mut self, registry: u64, gate: u64, kind: Kind, slots: usize) -> Result<Answer, Refusal> {
+        if gate >= self.gates.len() as u64 {
             return Err(Refusal::NoSuch);
         }
-        let members = Rc::new(BTreeSet::new());
-        let slots = (0..slots).map(|_| Slot::new(kind, &members)).collect::<Result<_, _>>()?;
-        self.groups.push(Group { gate: gate as usize, kind, newest: 0, members, slots });
+        let group = Group::new((registry as usize, gate as usize), self.registry(registry)?, kind, slots)?;
+        self.groups.push(group);
         Ok(Answer::Numbered("group", self.groups.len() as u64 - 1))
     }
 
-    fn update(&mut self, group: u64, backends: Vec<Option<Backend>>) -> Result<Answer<'_>, Refusal> {
-        let members: BTreeSet<Backend> = backends.into_iter().collect::<Option<_>>().ok_or(Refusal::InvalidAddress)?;
+    fn update(&mut self, group: u64, listed: Vec<Listed>, now: u128) -> Result<Answer, Refusal> {
+        let marked = listed.into_iter().map(|(backend, mark)| Ok((there(backend)?, mark)));
+        let marked = marked.collect::<Result<_, Refusal>>()?;
         let group = self.groups.get_mut(group as usize).ok_or(Refusal::NoSuch)?;
-        if members == *group.members {
-            return Ok(Answer::Numbered("same", group.newest));
-        }
-        group.members = Rc::new(members);
-        group.newest += 1;
-        Ok(Answer::Numbered("generation", group.newest))
+        group.update(&mut self.registries[group.registry], marked, now)
     }
 
-    fn at(&mut self, group: u64, slot: u64) -> Result<At<'_>, Refusal> {
-        let Group { gate, kind, newest, members, slots } =
-            self.groups.get_mut(group as usize).ok_or(Refusal::NoSuch)?;
-        let slot = slots.get_mut(slot as usize).ok_or(Refusal::NoSuch)?;
-        let is_out = &mut self.gates[*gate];
-        Ok(At { slot, is_out, kind: *kind, newest: *newest, members })
-    }
-
-    fn ask(&mut self, group: u64, slot: u64) -> Result<Answer<'_>, Refusal> {
-        let At { slot, is_out, newest, members, .. } = self.at(group, slot)?;
-        if slot.flight.is_some() {
-            return Ok(Answer::Word("building"));
-        }
-        if slot.served.generation == newest {
-            return Ok(Answer::Word("idle"));
-        }
-        if slot.retired.is_some() || *is_out {
-            return Ok(Answer::Word("busy"));
-        }
-        *is_out = true;
-        slot.flight = Some(Flight { generation: newest, members: members.clone(), built: None });
-        Ok(Answer::Numbered("build", newest))
-    }
-
-    fn build(&mut self, group: u64, slot: u64) -> Result<Answer<'_>, Refusal> {
-        let At { slot, is_out, kind, .. } = self.at(group, slot)?;
-        let flight = slot.flight.as_mut().filter(|flight| flight.built.is_none()).ok_or(Refusal::NothingInFlight)?;
-        let generation = flight.generation;
-        match Selector::build(kind, &flight.members) {
-            Ok(selector) => {
-                flight.built = Some(selector);
-                Ok(Answer::Numbered("built", generation))
-            }
-            Err(cause) => {
-                slot.flight = None;
-                *is_out = false;
-                Ok(Answer::Failed(generation, cause.into()))
-            }
+    fn at_slot(&mut self, group: u64, slot: u64, what: AtSlot) -> Result<Answer, Refusal> {
+        let group = self.groups.get_mut(group as usize).ok_or(Refusal::NoSuch)?;
+        let is_out = &mut self.gates[group.gate];
+        match what {
+            AtSlot::Ask(now) => group.ask(slot, is_out, now),
+            AtSlot::Build(now) => group.build(slot, is_out, now),
+            AtSlot::FailBuild(now) => group.fail(slot, is_out, now),
+            AtSlot::Lost => group.lose(slot),
+            AtSlot::Publish => group.publish(slot),
+            AtSlot::Abandon => group.abandon(slot),
+            AtSlot::Destroy => group.destroy(slot, is_out),
+            AtSlot::Counts => group.counts(slot),
+            AtSlot::Timing => group.timing(slot),
         }
     }
 
-    fn publish(&mut self, group: u64, slot: u64) -> Result<Answer<'_>, Refusal> {
-        let At { slot, .. } = self.at(group, slot)?;
-        match slot.flight.take() {
-            Some(Flight { generation, built: Some(selector), .. }) => {
-                let serving = Serving { generation, selector, readers: 0 };
-                slot.retired = Some(std::mem::replace(&mut slot.served, serving));
-                Ok(Answer::Numbered("published", generation))
-            }
-            flight => {
-                slot.flight = flight;
-                Err(Refusal::NothingBuilt)
-            }
-        }
-    }
-
-    fn enter(&mut self, group: u64, slot: u64) -> Result<Answer<'_>, Refusal> {
-        let served = &mut self.at(group, slot)?.slot.served;
-        served.readers += 1;
-        let generation = served.generation;
-        self.readers.push(Some(Reader { group: group as usize, slot: slot as usize, generation }));
+    fn enter(&mut self, group: u64, slot: u64) -> Result<Answer, Refusal> {
+        let generation = self.group(group)?.enter(slot)?;
+        self.readers.push(Some(Reader { group: group as usize, slot, generation }));
         Ok(Answer::Numbered("reader", self.readers.len() as u64 - 1))
-    }
-
-    fn leave(&mut self, reader: u64) -> Result<Answer<'_>, Refusal> {
-        let place = self.readers.get_mut(reader as usize).ok_or(Refusal::NoSuchReader)?;
-        let Reader { group, slot, generation } = place.take().ok_or(Refusal::NoSuchReader)?;
-        let slot = &mut self.groups[group].slots[slot];
-        match &mut slot.retired {
-            Some(retired) if retired.generation == generation => retired.readers -= 1,
-            _ => slot.served.readers -= 1,
-        }
-        Ok(Answer::Word("left"))
-    }
-
-    fn destroy(&mut self, group: u64, slot: u64) -> Result<Answer<'_>, Refusal> {
-        let At { slot, is_out, .. } = self.at(group, slot)?;
-        match &slot.retired {
-            None => Err(Refusal::NothingRetired),
-            Some(retired) if retired.readers > 0 => Err(Refusal::StillRead(retired.readers)),
-            Some(_) => {
-                slot.retired = None;
-                *is_out = false;
-                Ok(Answer::Word("destroyed"))
-            }
-        }
-    }
-
-    fn select(&mut self, group: u64, slot: u64, key: &[u8], limit: u64) -> Result<Answer<'_>, Refusal> {
-        let group = self.groups.get_mut(group as usize).ok_or(Refusal::NoSuch)?;
-        let selected = group.slots.get_mut(slot as usize).and_then(|slot| slot.served.selector.select(key, limit));
-        Ok(selected.map_or(Answer::Word("none"), Answer::Backend))
-    }
-}
-
-impl Slot {
-    fn new(kind: Kind, members: &BTreeSet<Backend>) -> Result<Slot, Refusal> {
-        let selector = Selector::build(kind, members)?;
-        Ok(Slot { served: Serving { generation: 0, selector, readers: 0 }, flight: None, retired: None })
     }
 }

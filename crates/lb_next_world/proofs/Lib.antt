@@ -9,6 +9,7 @@ pub mod AskSteps
 pub mod SelectSteps
 pub mod SameSets
 pub mod Listed
+pub mod CellCounts
 pub mod UpdateSteps
 pub mod EmptyWorld
 pub mod Registries

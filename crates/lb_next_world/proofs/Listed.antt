@@ -1,5 +1,5 @@
 -- What the listings of an update list: the members that are there, and the settings that the marks set.
-use Rattle.std.specs.Prelude.{◌≡◌, ℕ, Bool, ◌&&◌, ◌||◌, List, [], ◌∷◌, ◌++◌, Option, Some, None, filter_map, fold, map, refl}
+use Rattle.std.specs.Prelude.{◌≡◌, ℕ, Bool, ◌&&◌, ◌||◌, List, [], ◌∷◌, ◌++◌, Option, Some, None, filter_map, fold, refl}
 use Rattle.std.proofs.Common.{ap, sym, ◌∙◌, Ordering, Less, Equal, Greater}
 use Rattle.std.specs.List.{list_all, list_any, cons_option}
 use Rattle.std.specs.BTreeMap.{insert_entry}
@@ -12,7 +12,7 @@ use Rattle.lb_select.specs.Backends.{Member, member_cmp, same_member}
 use Rattle.lb_select.specs.Memberships.{same_members, set_of}
 use Rattle.lb_select.specs.Seen.{address_seen}
 use Rattle.lb_select.specs.declared.backend.SocketAddr.{SocketAddr}
-use Rattle.lb_rebuild.specs.Memberships.{none_or, some_and}
+use Rattle.lb_next_world.specs.Listings.{none_or, some_and}
 use Rattle.lb_health.specs.Joined.{settings_of}
 use Rattle.lb_history.specs.declared.step.Listing.{Listing}
 use Rattle.lb_history.specs.History.{members_in}
@@ -20,7 +20,7 @@ use Rattle.lb_history.specs.Shared.{marked, settings_in}
 use Rattle.lb_next_world.specs.Calls.{set_marked, with_key}
 use Rattle.lb_next_world.proofs.SameSets.{same_set}
 
-abbrev present : List Listing → List Member
+abbrev pub present : List Listing → List Member
 present ls = filter_map (λ l. l.backend) ls
 
 -- a backend that is there comes in front
@@ -37,7 +37,7 @@ all_there : (f : Member → Bool) (ls : List Listing) → list_all (λ l. none_o
 all_there f [] = refl
 all_there f (l ∷ ls) = ap (λ b. none_or f l.backend && b) (all_there f ls) ∙ all-cons f l.backend (present ls)
 
-one_there : (f : Member → Bool) (ls : List Listing) → list_any (λ l. some_and f l.backend) ls ≡ list_any f (present ls)
+pub one_there : (f : Member → Bool) (ls : List Listing) → list_any (λ l. some_and f l.backend) ls ≡ list_any f (present ls)
 one_there f [] = refl
 one_there f (l ∷ ls) = ap (λ b. some_and f l.backend || b) (one_there f ls) ∙ any-cons f l.backend (present ls)
 

@@ -1,5 +1,5 @@
 -- The steps that update a group: why one is refused, and what a new membership and its settings do to the group and the registry.
-use Rattle.std.proofs.Common.{◌≡◌, ◌⊎◌, inl, inr, ◌≤◌, ◌+◌, ◌^◌, ◌&&◌, ◌==◌, ◌∙◌, ℕ, Bool, true, false, not, cond, nat_le, List, [], ◌∷◌, ◌++◌, length, refl, sym, ap, subst, arith}
+use Rattle.std.proofs.Common.{◌≡◌, ◌↔◌, IsTrue, true≢false, inl, inr, ◌≤◌, ◌+◌, ◌^◌, ◌&&◌, ◌==◌, ◌∙◌, ℕ, Bool, true, false, cond, nat_le, List, ◌∷◌, refl, sym, ap, subst}
 use Rattle.std.specs.Prelude.{Option, Some, None, Result, Ok, Err}
 use Rattle.std.proofs.lemmas.Bool.{not-false, le-leb, leb-true}
 use Rattle.lb_select.specs.Backends.{Member}
@@ -7,7 +7,7 @@ use Rattle.lb_select.specs.Memberships.{same_members}
 use Rattle.lb_select.specs.Refusals.{earlier}
 use Rattle.lb_select.specs.declared.refusal.Refusal.{Refusal}
 use Rattle.lb_select.specs.declared.refusal.Refusal.TheVariants as refusal
-use Rattle.lb_rebuild.specs.Gate.{GateView, gate}
+use Rattle.lb_rebuild.specs.Gate.{GateView}
 use Rattle.lb_registry.specs.Registry.{RegistryValue, IsRegistryAfter}
 use Rattle.lb_registry.specs.RegistryEvents as registry
 use Rattle.lb_health.specs.Joined.{registry_updated}
@@ -26,10 +26,10 @@ use Rattle.lb_history.specs.declared.answer.Answer.{Answer}
 use Rattle.lb_history.specs.declared.answer.Answer.TheVariants as answer
 use Rattle.lb_history.specs.declared.step.Listing.{Listing}
 use Rattle.lb_history.specs.Meanings.{Meaning}
-use Rattle.lb_history.specs.History.{History, Made, members_in, made_at, registry_of, work, happened, group_events, load_of}
-use Rattle.lb_history.specs.Shared.{changed, registry_events, view_events, events_in, view_in, key_of, settings_in}
+use Rattle.lb_history.specs.History.{History, Made, members_in, made_at, registry_of, group_events}
+use Rattle.lb_history.specs.Shared.{registry_events, view_events, events_in, view_in, key_of, settings_in}
 use Rattle.lb_history.specs.Answers.{IsRun, Answers, answer_after, at_one, refuse, has_refused, no_number, where_, unless_refused, update_answer, without_memory}
-use Rattle.lb_history.specs.Joined.{joined_after, joined_events, SchedulesAlike}
+use Rattle.lb_history.specs.Joined.{joined_after, joined_events}
 use Rattle.lb_history.proofs.Joining.{follows}
 use Rattle.lb_history.proofs.Registered.{is-registered}
 use Rattle.lb_history.proofs.Sharing.{shares}
@@ -150,6 +150,37 @@ module _ {C : Type 0} (M : Meaning C) where
   view-there h g ms e run is none =
       is-registered M h run g (made_of e) is.made_is
       (uncancelled (is_change ms (group_events g h) && newest (group_events g h) == 18446744073709551615) (is_cancelled (group_events g h)) none)
+
+  -- what the count of numbers told of the listings, before memory is taken
+  abbrev pub Counted : History C → ℕ → EntryValue C → List Listing → Bool → Type 0
+  Counted h g e ls lacking =
+      registry.has_view e.core.view.id (registry.views_after (registry_events e.registry h)) ≡ true
+      → (IsTrue lacking ↔ ((is_change (members_in ls) (joined.group_events (joined_events g h)) ≡ true) × (2 ^ 64 ≤ cells h g e ls)))
+
+  counted : (h : History C) (g : ℕ) (ls : List Listing) (e : EntryValue C) (lacking : Bool) → IsRun M h → EntryIs h g e
+      → schedule_refusal (members_in ls) (group_events g h) ≡ None → Counted h g e ls lacking
+      → (IsTrue lacking ↔ ((is_change (members_in ls) (group_events g h) ≡ true) × (2 ^ 64 ≤ cells h g e ls)))
+  counted h g ls e lacking run is none told =
+      subst (λ (p : group.History). IsTrue lacking ↔ ((is_change (members_in ls) p ≡ true) × (2 ^ 64 ≤ cells h g e ls))) (group-of g h)
+      (told (view-there h g (members_in ls) e run is none))
+
+  -- refused for numbers by the count
+  pub counted-right : (h : History C) (g now : ℕ) (ls : List Listing) (e : EntryValue C) (lacking : Bool) → IsRun M h → EntryIs h g e
+      → has_refused ls ≡ false → schedule_refusal (members_in ls) (joined.group_events (joined_events g h)) ≡ None → Counted h g e ls lacking
+      → lacking ≡ true → Answers M h (step.update g now ls) (answer.Refused refusal.NumbersExhausted)
+  counted-right h g now ls e lacking run is whole own told is-so =
+      let none = ap (schedule_refusal (members_in ls)) (sym (group-of g h)) ∙ own in
+      let both = (counted h g ls e lacking run is none told).0 is-so in
+      numbers-right h g now ls e is whole none both.0 (le-leb (2 ^ 64) (cells h g e ls) both.1)
+
+  -- and for memory after it
+  pub uncounted-right : (h : History C) (g now : ℕ) (ls : List Listing) (e : EntryValue C) (lacking : Bool) → IsRun M h → EntryIs h g e
+      → has_refused ls ≡ false → schedule_refusal (members_in ls) (joined.group_events (joined_events g h)) ≡ None → Counted h g e ls lacking
+      → lacking ≡ false → Answers M h (step.update g now ls) (answer.Refused refusal.OutOfMemory)
+  uncounted-right h g now ls e lacking run is whole own told not-so =
+      let none = ap (schedule_refusal (members_in ls)) (sym (group-of g h)) ∙ own in
+      memory-right h g now ls e is whole none
+      (λ change. left-false (2 ^ 64) (cells h g e ls) (λ more. true≢false (sym ((counted h g ls e lacking run is none told).1 (change, more)) ∙ not-so)))
 
   -- what the core stands for is what the step did to the group
   stays : (h : History C) (g now : ℕ) (ls : List Listing) (a : Answer) (e : EntryValue C) (v : JoinedValue C) → EntryIs h g e

@@ -1,6 +1,8 @@
 pub mod Calls
+pub mod Cells
 pub mod Ever
 pub mod Founded
+pub mod Listings
 pub mod Locals
 pub mod Rules
 pub mod Stands

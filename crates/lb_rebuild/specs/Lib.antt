@@ -1,10 +1,3 @@
-pub mod Calls
-pub mod Fresh
 pub mod Gate
 pub mod GateRule
-pub mod Groups
 pub mod Identity
-pub mod Kept
-pub mod Memberships
-pub mod Selecting
-pub mod Views

@@ -17,7 +17,7 @@ use Rattle.lb_registry.specs.declared.targets.View.{View}
 use Rattle.lb_registry.specs.CellEvents as cell
 use Rattle.lb_registry.specs.CellEvents.{CellEvent, Changed, Hold, changes, IsKept}
 use Rattle.lb_registry.specs.Internal.Changing.{IsStarted}
-use Rattle.lb_registry.specs.Internal.Fresh.{fresh}
+use Rattle.lb_registry.specs.Fresh.{fresh}
 use Rattle.lb_registry.specs.Internal.Replacing.{IsShown, IsPrepared, IsReplaced}
 use Rattle.lb_registry.specs.Registry.{IsStateAfter, RegistryValue, IsRegistryAfter, IsGrowthRefusal}
 use Rattle.lb_registry.specs.RegistryEvents.{Event, Registered, Applied, Updated, is_view, at_view, with_members, new_view, has_view, members_of, after_update, after_show, cells_by, cells_in, changes_after, registered_after, views_after, cell_events, cells_given}

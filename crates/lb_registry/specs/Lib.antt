@@ -1,4 +1,5 @@
 pub mod CellEvents
+pub mod Fresh
 pub mod Internal
 pub mod Keys
 pub mod Registry

@@ -4,7 +4,7 @@ ghost use Rattle.std.specs.Prelude.{◌≡◌, ◌↔◌, ◌+◌, ◌≤◌, �
 ghost use Rattle.std.specs.List.{list_any};
 ghost use Rattle.std.specs.List.Sorted.{IsStrictlySortedBy};
 ghost use Rattle.lb_select.specs.Backends.{Member, member_cmp, same_member};
-ghost use Rattle.lb_registry.specs.Internal.Fresh.{has_key, fresh};
+ghost use Rattle.lb_registry.specs.Fresh.{has_key, fresh};
 ghost use Rattle.lb_registry.specs.Keys.{IsRuleOf};
 ghost use Rattle.lb_registry.specs.Targets.{view_value, live};
 
@@ -37,7 +37,7 @@ fn shares_key<R: KeyRule>(
 }
 
 // Whether a backend of a view that no mark waits for has the key of this one.
-fn is_taken<R: KeyRule>(rule: &R, views: &[View], backend: &Backend) -> bool
+pub(crate) fn is_taken<R: KeyRule>(rule: &R, views: &[View], backend: &Backend) -> bool
     ensures { (key_of : Member → Member) → IsRuleOf R.gives rule.now key_of
         → result ≡ has_key key_of (live (map view_value views.now)) (key_of backend.now) }
 {

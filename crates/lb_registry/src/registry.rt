@@ -3,18 +3,19 @@
 ghost use Rattle.std.specs.Prelude.{◌≡◌, ◌≢◌, ◌↔◌, ◌+◌, ◌<◌, ◌≤◌, ◌^◌, ℕ, List, [], ◌∷◌, length, true, false, IsTrue, IfOk};
 ghost use Rattle.std.specs.Prelude.{OnOk, OnErr, IsOk, IsErrOf, Err, ◌++◌, vec_len, vec_capacity};
 ghost use Rattle.std.specs.List.{filter_map};
-ghost use Rattle.lb_select.specs.Backends.{Member, member_cmp};
+ghost use Rattle.lb_select.specs.Backends.{Member, member_cmp, same_member};
+ghost use Rattle.lb_registry.specs.Fresh.{has_key};
 ghost use Rattle.lb_registry.specs.Keys.{by_identity, by_address, IsRuleOf};
 ghost use Rattle.lb_registry.specs.Registry.{IsRegistryAfter, target_at, targets_after, IsGrowthRefusal, IsUpdateRefusal};
 ghost use Rattle.lb_registry.specs.RegistryEvents.{Event, Registered, Applied, Updated, Marked, Observed, Released, Configured};
 ghost use Rattle.lb_registry.specs.RegistryEvents.{has_view, registered_after, views_after, after_update, after_show};
 ghost use Rattle.lb_registry.specs.RegistryEvents.{shown_cells, cells_given, cell_events, cell_health, IsCellKept};
 ghost use Rattle.lb_registry.specs.Table.{table_value, IsTableAfter};
-ghost use Rattle.lb_registry.specs.Targets.{target_keys};
+ghost use Rattle.lb_registry.specs.Targets.{live, target_keys};
 ghost use Rattle.lb_registry.specs.Verdicts.{Verdict};
 
 use crate::change::{apply, is_same, place_of, replace};
-use crate::fresh::lacks_numbers;
+use crate::fresh::{is_taken, lacks_numbers};
 use crate::keys::{ByNumber, KeyRule, Rule};
 use crate::table::{CellTable, Held};
 use crate::targets::{Place, Target, View, live_order};
@@ -154,6 +155,30 @@ impl<R: KeyRule + Drop> Registry<R> {
             → (IsTrue result ↔ (2 ^ 64 ≤ cells_given key_of (Updated id members.now.keys ∷ Applied ∷ events))) }
     {
         lacks_numbers(&self.rule, &self.views, members, self.table.numbering.next)
+    }
+
+    /// How many numbers are left for cells. It takes no memory.
+    pub fn numbers_left(&self) -> u64
+        ensures { (key_of : Member → Member) (events : List Event) → IsRegistryAfter R.gives key_of events self.now
+            → result + cells_given key_of events + 1 ≡ 2 ^ 64 }
+    {
+        u64::MAX - self.table.numbering.next
+    }
+
+    /// Whether a backend of a view whose removal doesn't wait has the key of this one, which so starts no cell. It takes no memory.
+    pub fn has_key(&self, backend: &Backend) -> bool
+        ensures { (key_of : Member → Member) (events : List Event) → IsRegistryAfter R.gives key_of events self.now
+            → result ≡ has_key key_of (live (views_after events)) (key_of backend.now) }
+    {
+        is_taken(&self.rule, &self.views, backend)
+    }
+
+    /// Whether two backends have one key, by which they share a cell. It takes no memory.
+    pub fn same_key(&self, backend: &Backend, other: &Backend) -> bool
+        ensures { (key_of : Member → Member) (events : List Event) → IsRegistryAfter R.gives key_of events self.now
+            → result ≡ same_member (key_of backend.now) (key_of other.now) }
+    {
+        self.rule.same(backend, other)
     }
 
     /// Whether there is a view of this number whose removal doesn't wait. It takes no memory.
@@ -298,17 +323,6 @@ impl<R: KeyRule + Drop> Registry<R> {
         ensures refused { OnErr result ((result ≡ Err Refusal.NoSuch) × (self.new ≡ self.old)) }
     {
         self.table.observe(cell, verdict, threshold)
-    }
-
-    /// Fewer than 2^64 views were registered, and fewer than 2^64 numbers of cells given, for whoever knows the registry's history.
-    pub fn numbers_fit(&self)
-        ensures views { (key_of : Member → Member) (events : List Event) → IsRegistryAfter R.gives key_of events self.now
-            → registered_after events < 2 ^ 64 }
-        ensures cells { (key_of : Member → Member) (events : List Event) → IsRegistryAfter R.gives key_of events self.now
-            → cells_given key_of events < 2 ^ 64 }
-    {
-        let _registered = self.registered;
-        let _next = self.table.numbering.next;
     }
 
     /// Whether a cell is kept and healthy. It takes no memory.

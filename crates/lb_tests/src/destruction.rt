@@ -1,13 +1,14 @@
 //! The order of a destruction: the selector is gone first, then that is reported, and only then does the gate grant again.
 //! Selectors count in `Noting` when they are gone.
 ghost use Rattle.std.specs.Prelude.{◌≡◌};
+ghost use Rattle.lb_group.specs.Stands.{SameSite};
 
 use crate::fixtures::set_of;
 use crate::noting::{Gone, Noting};
+use lb_group::answers::Ask;
+use lb_group::group::GroupCore;
+use lb_group::job::FailedBuild;
 use lb_rebuild::gate::GateCore;
-use lb_rebuild::group::GroupCore;
-use lb_rebuild::job::FailedBuild;
-use lb_rebuild::slot::Ask;
 use lb_select::refusal::Refusal;
 use std::alloc::Global;
 use std::sync::Arc;
@@ -22,20 +23,27 @@ fn granted(
 ) -> Result<bool, Refusal>
     requires { gate.old.id ≡ group.old.gate }
     ensures gate { gate.new.id ≡ gate.old.id }
-    ensures group { group.new.gate ≡ group.old.gate }
+    ensures site { SameSite group.old group.new }
 {
-    match group.ask(0, gate)? {
-        Ask::Building | Ask::Nothing | Ask::Busy => Ok(false),
-        Ask::Job(job) => match job.build(alloc) {
-            Ok(built) => {
-                group.publish(built);
-                Ok(true)
-            }
-            Err(FailedBuild { job, refusal }) => {
-                group.fail(job, gate);
-                Err(refusal)
-            }
-        },
+    let job = match group.ask(0, gate, 0)? {
+        Ask::Cancelled | Ask::Building | Ask::Nothing | Ask::NotDue(_) | Ask::Busy => {
+            return Ok(false);
+        }
+        Ask::Job(job) => job,
+    };
+    let built = match job.build(alloc, || 0) {
+        Ok(built) => built,
+        Err(FailedBuild { job, refusal }) => {
+            job.close();
+            return Err(refusal);
+        }
+    };
+    match group.publish(built) {
+        Ok(_) => Ok(true),
+        Err(built) => {
+            built.close();
+            Ok(false)
+        }
     }
 }
 
@@ -47,17 +55,25 @@ fn gone_before_the_report(rt: HostRuntime) -> Result<(), Fail> {
     let mut configs = Vec::new(alloc);
     configs.push(Gone(Some(gone.clone()?)))?;
     let mut group: GroupCore<Noting> = GroupCore::new(alloc, &gate, configs)?;
-    // A new group builds a selector of each configuration to see whether it can, and drops it.
+    // A new group builds a selector of each configuration to see whether it can, and may drop some.
     gone.store(0, Ordering::SeqCst);
-    group.schedule(alloc, set_of(alloc, &[("1.0.0.1:80", 1)])?)?;
+    group.schedule(alloc, set_of(alloc, &[("1.0.0.1:80", 1)])?, 0)?;
     assert!(rt; granted(alloc, &mut group, &mut gate)?);
-    group.schedule(alloc, set_of(alloc, &[("1.0.0.2:80", 1)])?)?;
+    group.schedule(alloc, set_of(alloc, &[("1.0.0.2:80", 1)])?, 0)?;
     let retired = group.take_retired(0)?;
     assert_eq!(rt; gone.load(Ordering::SeqCst), 0);
     let permit = retired.destroy();
     assert_eq!(rt; gone.load(Ordering::SeqCst), 1);
-    assert!(rt; matches!(granted(alloc, &mut group, &mut gate), Ok(false)));
-    group.destroyed(0, permit, &mut gate);
+    let early = granted(alloc, &mut group, &mut gate);
+    let reported = match group.destroyed(0, permit, &mut gate) {
+        Ok(()) => true,
+        Err(permit) => {
+            permit.spend();
+            false
+        }
+    };
+    assert_eq!(rt; early, Ok(false));
+    assert!(rt; reported);
     assert!(rt; granted(alloc, &mut group, &mut gate)?);
     assert_eq!(rt; gone.load(Ordering::SeqCst), 1);
     Ok(())

@@ -1,5 +1,5 @@
 //! The yardstick of crates/lb_bench: the same runs, from the same lines, with the same answers.
-use plainsim::selection::{Address, Backend, Kind, Selector};
+use plainsim::selection::{Address, Backend, Kind, Loads, Selector};
 use std::collections::BTreeSet;
 use std::io::{self, BufRead};
 use std::net::{IpAddr, Ipv4Addr, SocketAddr};
@@ -48,16 +48,16 @@ impl Run<'_> {
             _ => return None,
         };
         let mut selector = Selector::build(kind, &set).ok()?;
+        let mut loads = Loads::new();
         if let Kind::Least = kind {
-            let loads = set.into_iter().map(|backend| {
+            loads.extend(set.into_iter().map(|backend| {
                 let load = (number_of(&backend) + 3) * 7919 % 1000;
                 (backend, load)
-            });
-            selector.loads = loads.collect();
+            }));
         }
         let mut sum = 0u64;
         for number in 0..self.selections {
-            if let Some(backend) = selector.select(&number.to_le_bytes(), LIMIT) {
+            if let Some(backend) = selector.select(&number.to_le_bytes(), LIMIT, &loads, |_| true) {
                 // What is selected is the caller's own, as the library gives it.
                 sum = sum.wrapping_add(number_of(&backend.clone()));
             }

@@ -1,7 +1,7 @@
 //! Steps of a group's membership and selections: how a group is made and updated, and what its slots select.
 //! Every cause of refusal is tested before memory is taken.
-ghost use Rattle.std.specs.Prelude.{◌≡◌, ◌<◌, ◌+◌, ◌^◌, ◌∷◌, ℕ, List, [], map, false, None, Err, IfOk, OnErr};
-ghost use Rattle.lb_group.specs.GroupCalls.{schedule_refusal as refusal_after};
+ghost use Rattle.std.specs.Prelude.{◌≡◌, ◌↔◌, ◌<◌, ◌≤◌, ◌+◌, ◌^◌, ◌∷◌, ℕ, List, [], map, true, false, None, Err, IfOk, OnErr, IsTrue};
+ghost use Rattle.lb_group.specs.GroupCalls.{is_change, schedule_refusal as refusal_after};
 ghost use Rattle.lb_joined.specs.JoinedHistory.{group_events};
 ghost use Rattle.lb_joined.specs.Stands.{After};
 ghost use Rattle.lb_history.specs.Answers.{has_refused};
@@ -15,8 +15,12 @@ ghost use Rattle.lb_rebuild.specs.Gate.{GateView};
 ghost use Rattle.lb_select.specs.Backends.{Member};
 ghost use Rattle.lb_select.specs.Refusals.{least};
 ghost use Rattle.lb_registry.specs.Registry.{IsRegistryAfter};
-ghost use Rattle.lb_registry.specs.RegistryEvents.{Event, Registered, Applied, registered_after};
+ghost use Rattle.lb_registry.specs.RegistryEvents.{Event, Registered, Applied, Updated, cells_given, has_view};
+ghost use Rattle.lb_registry.specs.RegistryEvents.{registered_after, views_after};
 
+mod cells;
+
+use self::cells::lacks_numbers;
 use super::Entry;
 use super::listed::{differs, members_from, settings_from};
 use crate::held::with_places;
@@ -88,6 +92,9 @@ impl<S: BackendSelection> Entry<S> {
         if let Some(refusal) = self.refusal(&listings) {
             return Answer::Refused(refusal);
         }
+        if self.lacks_numbers(registry, &listings) {
+            return Answer::Refused(Refusal::NumbersExhausted);
+        }
         let Ok(settings) = settings_from(alloc, &listings) else {
             return Answer::Refused(Refusal::OutOfMemory);
         };
@@ -131,6 +138,16 @@ impl<S: BackendSelection> Entry<S> {
             return Some(Refusal::GroupCancelled);
         }
         None
+    }
+
+    // Whether these backends are another membership, for whose cells the numbers that are left aren't enough. It takes no memory.
+    fn lacks_numbers(&self, registry: &WorldRegistry, listings: &[Listing]) -> bool
+        ensures { (key_of : Member → Member) (events : List Event) → IsRegistryAfter key_gives key_of events registry.now
+            → has_view self.now.core.view.id (views_after events) ≡ true
+            → After self.now.core (λ made e. IsTrue result ↔ ((is_change (members_in listings.now) (group_events e) ≡ true)
+            × (2 ^ 64 ≤ cells_given key_of (Updated self.now.core.view.id (members_in listings.now) ∷ Applied ∷ events)))) }
+    {
+        lacks_numbers(registry, listings) && differs(listings, self.core.members())
     }
 }
 

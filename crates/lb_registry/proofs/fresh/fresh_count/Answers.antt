@@ -1,7 +1,7 @@
 use Rattle.std.proofs.Common.{◌≡◌, ◌≤◌, ◌+◌, ◌∙◌, ◌||◌, true, false, List, [], ◌∷◌, ◌++◌, length, map, sym, ap, arith, rules, append_assoc, length-append}
 use Rattle.std.specs.List.{list_any}
 use Rattle.lb_select.specs.Backends.{Member, same_member}
-use Rattle.lb_registry.specs.Internal.Fresh.{has_key}
+use Rattle.lb_registry.specs.Fresh.{has_key}
 use Rattle.lb_registry.specs.Targets.{ViewValue, view_value, live}
 use Rattle.lb_registry.proofs.FreshLemmas.{counted_on, take_front, or_some}
 use Rattle.lb_registry.proofs.fresh.fresh_count.Goals as goal

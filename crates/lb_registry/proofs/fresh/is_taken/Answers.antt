@@ -3,7 +3,7 @@ use Rattle.std.proofs.lemmas.List.{at_drop_more, take_all}
 use Rattle.std.specs.List.{list_any}
 use Rattle.lb_select.specs.Backends.{same_member}
 use Rattle.lb_registry.specs.declared.targets.View.{View}
-use Rattle.lb_registry.specs.Internal.Fresh.{has_key}
+use Rattle.lb_registry.specs.Fresh.{has_key}
 use Rattle.lb_registry.specs.Targets.{view_value, live}
 use Rattle.lb_registry.proofs.FreshLemmas.{taken_cons, and_none}
 use Rattle.lb_registry.proofs.fresh.is_taken.Goals as goal

@@ -1,6 +1,6 @@
 use Rattle.std.proofs.Common.{◌≡◌, map, drop}
 use Rattle.lb_select.specs.Backends.{Member}
-use Rattle.lb_registry.specs.Internal.Fresh.{has_key}
+use Rattle.lb_registry.specs.Fresh.{has_key}
 use Rattle.lb_registry.specs.Keys.{IsRuleOf}
 use Rattle.lb_registry.specs.Targets.{view_value, live}
 use Rattle.lb_registry.proofs.fresh.is_taken.Given as goal
