@@ -1,5 +1,5 @@
 -- Lemmas on what a script's run does for one line.
-use Rattle.std.proofs.Common.{◌≡◌, ℕ, List, length, ◌≤◌, Option, Some, None, Err, ap, ◌∙◌, sym, subst}
+use Rattle.std.proofs.Common.{ℕ, List, length, ◌≤◌, Option, Some, None, Err, ap, ◌∙◌, sym, subst}
 use Rattle.lb_history.specs.History.{History}
 use Rattle.lb_history.specs.Meanings.{Meaning}
 use Rattle.lb_next_world.specs.Views.{WorldValue}

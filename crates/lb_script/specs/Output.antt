@@ -1,7 +1,7 @@
 -- What a script's run writes: an answer for each line, each right after what came before it, and at an early end one more line
 -- that names the error. There may be several such texts, since memory may be refused at any line.
 use Rattle.std.specs.Prelude.{◌≡◌, ◌≢◌, ◌⊎◌, ℕ, ◌+◌, ◌<◌, ◌≤◌, Bool, true, false, List}
-use Rattle.std.specs.Prelude.{[], ◌∷◌, ◌++◌, codes, length, Option, Some, None, ◌&&◌, nat_lt, if◌then◌else◌}
+use Rattle.std.specs.Prelude.{[], ◌∷◌, ◌++◌, codes, length, Option, Some, None}
 use Rattle.std.specs.Io.KnownBytes.{Appends}
 use Rattle.lb_history.specs.Answers.{Answers}
 use Rattle.lb_history.specs.History.{History}
