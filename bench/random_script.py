@@ -10,15 +10,15 @@ ADDRESSES = [
     "1.0.0.1:80", "1.0.0.2:80", "1.0.0.1:81", "1.1.1.1:80", "255.255.255.255:65535",
     "[::1]:80", "[2001:db8::1]:443", "[::ffff:1.2.3.4]:80", "[fe80::1%0]:80", "unix:/a", "unix:/b/c",
 ]
-REFUSED = ["nonsense", "unix:", "1.1.1.1", "[fe80::1%3]:80", "256.1.1.1:80", "1.0.0.1:080", "01.0.0.1:80", ""]
+REFUSED = ["nonsense", "unix:", "1.1.1.1", "[fe80::1%3]:80", "256.1.1.1:80", "1.0.0.1:080", "01.0.0.1:80", "", "!1.0.0.1:80", "+1.0.0.1:80"]
 WEIGHTS = ["0", "1", "1", "2", "3", "7"]
 LARGE = ["26843546", "18446744073709551615"]
 KINDS = ["fnv", "rr", "ketama", "least"]
 ENDINGS = [
     "", "gate ", "gate\r", "bogus", "registry", "registry name", "registry identity healthy", "select 0 0  1", "select 0 0 k 01",
     "leave", "update 0 x", "update 0 0 1.0.0.1:80", "update 0 0 1.0.0.1:80/18446744073709551616", "group 0 0 fnv 1025",
-    "ask 0 0 340282366920938463463374607431768211456", "verdict 0 0 good 1", "verdict 0 0 ok", "ready 0", "ready 0 !1.0.0.1:80/1",
-    "enable 0 +1.0.0.1:80/1", "update 0 0 !+1.0.0.1:80/1", "update 0 0 !", "load 0 1.0.0.1:80/1", "lost 0", "failbuild 0 0",
+    "ask 0 0 340282366920938463463374607431768211456", "verdict 0 0 good 1", "verdict 0 0 ok", "ready 0",
+    "update 0 0 !", "load 0 1.0.0.1:80/1", "lost 0", "failbuild 0 0",
     "cancel", "targets 0 0", "counts 0", "timing 0 0 0", "abandon 0 0 0",
 ]
 

@@ -166,9 +166,6 @@ fn marked(word: &str) -> Option<Listed> {
 
 /// An address, `/` and a weight.
 fn backend(word: &str) -> Option<Option<Backend>> {
-    if word.starts_with(['!', '+']) {
-        return None;
-    }
     let (address, weight) = word.rsplit_once('/')?;
     let weight = spelled(weight)?.parse().ok()?;
     Some(Address::parse(address).map(|address| Backend { address, weight }))

@@ -1,5 +1,6 @@
 -- The steps that ask a slot for its next build: what it answers, and the job that it gets.
-use Rattle.std.proofs.Common.{◌≡◌, ◌⊎◌, inl, inr, ◌<◌, ◌≤◌, ◌==◌, ◌&&◌, ◌∙◌, ℕ, Bool, true, false, cond, List, [], ◌∷◌, ◌++◌, length, refl, sym, ap, subst, slice_get, arith}
+use Rattle.std.proofs.Common.{◌≡◌, ◌⊎◌, inl, inr, ◌<◌, ◌≤◌, ◌==◌, ◌&&◌, ◌∙◌, ℕ, Bool, true, false, cond, List, [], ◌∷◌, ◌++◌, length, refl}
+use Rattle.std.proofs.Common.{sym, ap, subst, slice_get, arith}
 use Rattle.std.specs.Prelude.{Option, Some, None, slice_set}
 use Rattle.std.proofs.lemmas.List.{length-set}
 use Rattle.std.proofs.lemmas.Option.{slice_get_past, same_Some}
@@ -10,7 +11,8 @@ use Rattle.lb_rebuild.specs.Gate.{GateView, GateId, gate}
 use Rattle.lb_rebuild.specs.Identity.{GroupId}
 use Rattle.lb_registry.specs.Registry.{RegistryValue, IsRegistryAfter}
 use Rattle.lb_group.specs.GroupHistory as group
-use Rattle.lb_group.specs.GroupHistory.{past_of, granted, granted_members, extra, is_aloft, AskAnswer, cancelled, building, up_to_date, not_due, busy, job, ask_answer}
+use Rattle.lb_group.specs.GroupHistory.{past_of, granted, granted_members, extra, is_aloft, AskAnswer, cancelled, building, up_to_date}
+use Rattle.lb_group.specs.GroupHistory.{not_due, busy, job, ask_answer}
 use Rattle.lb_group.specs.GroupCalls.{asked_events, IsJob}
 use Rattle.lb_group.specs.SlotCalls.{asked_gate}
 use Rattle.lb_group.specs.Values.{Task, configs_of}
@@ -49,13 +51,16 @@ module _ {C : Type 0} where
   -- another answer than a job changes nothing
   ask-still : (h : History C) (g s now n : ℕ) (t : AskAnswer) → ¬ (t ≡ job) → Quiet h (step.ask g s now) (asked n t)
   ask-still h g s now n cancelled off =
-      still h (step.ask g s now) answer.Cancelled refl refl refl refl (λ k. refl) (λ k e. refl) (λ es. refl) refl refl (λ w. refl) (λ i b. refl)
+      still h (step.ask g s now) answer.Cancelled refl refl refl refl (λ k. refl) (λ k e. refl) (λ es. refl) refl refl (λ w. refl)
+      (λ i b. refl)
   ask-still h g s now n building off =
-      still h (step.ask g s now) answer.Building refl refl refl refl (λ k. refl) (λ k e. refl) (λ es. refl) refl refl (λ w. refl) (λ i b. refl)
+      still h (step.ask g s now) answer.Building refl refl refl refl (λ k. refl) (λ k e. refl) (λ es. refl) refl refl (λ w. refl)
+      (λ i b. refl)
   ask-still h g s now n up_to_date off =
       still h (step.ask g s now) answer.Idle refl refl refl refl (λ k. refl) (λ k e. refl) (λ es. refl) refl refl (λ w. refl) (λ i b. refl)
   ask-still h g s now n (not_due m) off =
-      still h (step.ask g s now) (answer.Wait m) refl refl refl refl (λ k. refl) (λ k e. refl) (λ es. refl) refl refl (λ w. refl) (λ i b. refl)
+      still h (step.ask g s now) (answer.Wait m) refl refl refl refl (λ k. refl) (λ k e. refl) (λ es. refl) refl refl (λ w. refl)
+      (λ i b. refl)
   ask-still h g s now n busy off =
       still h (step.ask g s now) answer.Busy refl refl refl refl (λ k. refl) (λ k e. refl) (λ es. refl) refl refl (λ w. refl) (λ i b. refl)
   ask-still h g s now n job off = absurd (off refl)
@@ -69,12 +74,14 @@ module _ {C : Type 0} (M : Meaning C) where
       let n = group.newest (group_events g h) in
       inl
       (sym
-      (ap (λ (o : Option (Made C)). at_one o (λ m. at_one (slice_get m.configs s) (λ x. asked n (ask_answer (past g s h) (is_out m.gate h) now)))) is.made_is
+      (ap (λ (o : Option (Made C)). at_one o
+      (λ m. at_one (slice_get m.configs s) (λ x. asked n (ask_answer (past g s h) (is_out m.gate h) now)))) is.made_is
       ∙ ap (λ (o : Option C). at_one o (λ x. asked n (ask_answer (past g s h) (is_out e.gate h) now))) c.1
       ∙ ap (λ (b : Bool). asked n (ask_answer (past g s h) b now)) (sym out)
       ∙ ap (λ (k : group.History). asked n (ask_answer (past_of s k) z.out now)) (sym (group-of g h)) ∙ ap (asked n) (sym to)))
 
-  quiet-gate : (t : AskAnswer) (n : ℕ) (g s now : ℕ) (z : GateView) → ¬ (t ≡ job) → (asked_gate t z ≡ z) × (permit_after {C = C} (step.ask g s now) (asked n t) z.out ≡ z.out)
+  quiet-gate : (t : AskAnswer) (n : ℕ) (g s now : ℕ) (z : GateView) → ¬ (t ≡ job) → (asked_gate t z ≡ z)
+      × (permit_after {C = C} (step.ask g s now) (asked n t) z.out ≡ z.out)
   quiet-gate cancelled n g s now z off = (refl, refl)
   quiet-gate building n g s now z off = (refl, refl)
   quiet-gate up_to_date n g s now z off = (refl, refl)
@@ -90,7 +97,8 @@ module _ {C : Type 0} (M : Meaning C) where
   quiet-events busy s now off = refl
   quiet-events job s now off = absurd (off refl)
 
-  pub next-asked : (h : History C) (g s now : ℕ) (e : EntryValue C) (core : JoinedValue C) (z y : GateView) (v : RegistryValue WorldRule) (t : AskAnswer) → ¬ (t ≡ job)
+  pub next-asked : (h : History C) (g s now : ℕ) (e : EntryValue C) (core : JoinedValue C) (z y : GateView) (v : RegistryValue WorldRule)
+      (t : AskAnswer) → ¬ (t ≡ job)
       → EntryIs h g e → z.out ≡ is_out e.gate h → s < length (configs_of e.core.group)
       → t ≡ ask_answer (past_of s (joined.group_events (joined_events g h))) z.out now → stands.SameSite e.core core
       → stands.Stands (site e.core) (joined.in_group (asked_events s now t) ++ joined_events g h) core → y ≡ asked_gate t z
@@ -101,13 +109,16 @@ module _ {C : Type 0} (M : Meaning C) where
       let q = quiet-gate t n g s now z off in
       subst (λ (x : GateView). EntryNext M h g (step.ask g s now) (asked n t) e z (with_core core e) x v) (sym (back ∙ q.0))
       (next-told M h (step.ask g s now) (asked n t) g e core z v (ask-still h g s now n t off) is same
-      (subst (λ (es : group.History). stands.Stands (site e.core) (joined.in_group es ++ joined_events g h) core) (quiet-events t s now off) stays)
+      (subst (λ (es : group.History). stands.Stands (site e.core) (joined.in_group es ++ joined_events g h) core)
+      (quiet-events t s now off) stays)
       (ask-right h g s now e z t is out within to) q.1 kept)
 
   -- no such slot
-  pub next-unasked : (h : History C) (g s now : ℕ) (r : Refusal) (e : EntryValue C) (core : JoinedValue C) (z y : GateView) (v : RegistryValue WorldRule)
+  pub next-unasked : (h : History C) (g s now : ℕ) (r : Refusal) (e : EntryValue C) (core : JoinedValue C) (z y : GateView)
+      (v : RegistryValue WorldRule)
       → EntryIs h g e → r ≡ refusal.NoSuch → length (configs_of e.core.group) ≤ s → stands.SameSite e.core core
-      → stands.Stands (site e.core) (joined_events g h) core → y ≡ z → IsRegistryAfter key_gives (key_of g h) (registry_events e.registry h) v
+      → stands.Stands (site e.core) (joined_events g h) core → y ≡ z
+      → IsRegistryAfter key_gives (key_of g h) (registry_events e.registry h) v
       → EntryNext M h g (step.ask g s now) (answer.Refused r) e z (with_core core e) y v
   next-unasked h g s now r e core z y v is no_such past same stays back kept =
       let n = group.newest (group_events g h) in
@@ -115,10 +126,13 @@ module _ {C : Type 0} (M : Meaning C) where
       inl
       (ap answer.Refused no_such
       ∙ sym
-      (ap (λ (o : Option (Made C)). at_one o (λ m. at_one (slice_get m.configs s) (λ x. asked n (ask_answer (past_of s (group_events g h)) (is_out m.gate h) now)))) is.made_is
-      ∙ ap (λ (o : Option C). at_one o (λ x. asked n (ask_answer (past_of s (group_events g h)) (is_out e.gate h) now))) (slice_get_past (configs_of e.core.group) s past))) in
+      (ap (λ (o : Option (Made C)). at_one o
+      (λ m. at_one (slice_get m.configs s) (λ x. asked n (ask_answer (past_of s (group_events g h)) (is_out m.gate h) now)))) is.made_is
+      ∙ ap (λ (o : Option C). at_one o (λ x. asked n (ask_answer (past_of s (group_events g h)) (is_out e.gate h) now)))
+      (slice_get_past (configs_of e.core.group) s past))) in
       subst (λ (x : GateView). EntryNext M h g (step.ask g s now) (answer.Refused r) e z (with_core core e) x v) (sym back)
-      (next-told M h (step.ask g s now) (answer.Refused r) g e core z v (refused-still h (step.ask g s now) r) is same stays right refl kept)
+      (next-told M h (step.ask g s now) (answer.Refused r) g e core z v
+      (refused-still h (step.ask g s now) r) is same stays right refl kept)
 
   -- nothing is held where a job is granted
   grounded : (w : Work) → false ≡ is_held w → w ≡ works.idle
@@ -141,18 +155,22 @@ module _ {C : Type 0} (M : Meaning C) where
       left ≡ right)
   same-task i k s t n m xs ys c d p q w a b e f u = cc
 
-  pub does-grant : (h : History C) (g s now : ℕ) (e : EntryValue C) (core : JoinedValue C) (j : Task C) (old : WorkValue C) (z y : GateView) (v : RegistryValue WorldRule)
+  pub does-grant : (h : History C) (g s now : ℕ) (e : EntryValue C) (core : JoinedValue C) (j : Task C) (old : WorkValue C)
+      (z y : GateView) (v : RegistryValue WorldRule)
       → EntryIs h g e → z.out ≡ is_out e.gate h → s < length (configs_of e.core.group)
       → job ≡ ask_answer (past_of s (joined.group_events (joined_events g h))) z.out now
       → IsJob (site e.core) (joined.group_events (joined_events g h)) s j → stands.SameSite e.core core
-      → stands.Stands (site e.core) (joined.At s (group.Granted now) ∷ joined_events g h) core → slice_get e.works s ≡ Some old → y ≡ gate z.id true
+      → stands.Stands (site e.core) (joined.At s (group.Granted now) ∷ joined_events g h) core → slice_get e.works s ≡ Some old
+      → y ≡ gate z.id true
       → IsRegistryAfter key_gives (key_of g h) (registry_events e.registry h) v
-      → EntryNext M h g (step.ask g s now) (answer.Build j.generation) e z (record e { core = core; works = slice_set e.works s (view.building j) }) y v
+      → EntryNext M h g (step.ask g s now) (answer.Build j.generation) e z
+      (record e { core = core; works = slice_set e.works s (view.building j) }) y v
   does-grant h g s now e core j old z y v is out within to own same stays was back kept =
       let newest : group.newest (group_events g h) ≡ j.generation = sym (own.generation ∙ ap group.newest (group-of g h)) in
       let st : Step C = step.ask g s now in
       let a = answer.Build j.generation in
-      let at : AtGroup h st a g = record { group_is = refl; registry_is = refl; made_are = refl; gates_are = refl; registries_are = refl } in
+      let at : AtGroup h st a g =
+      record { group_is = refl; registry_is = refl; made_are = refl; gates_are = refl; registries_are = refl } in
       record {
         right = subst (λ (n : ℕ). Answers M h st (answer.Build n)) newest (ask-right h g s now e z job is out within to);
         is = entry-after h st a g e (record e { core = core; works = slice_set e.works s (view.building j) }) is refl refl refl same
@@ -163,14 +181,16 @@ module _ {C : Type 0} (M : Meaning C) where
             (λ r off. ap (λ (b : Bool). cond b works.building (work g r h)) (off-slot g s r off))
             (λ c there.
             ap view.building
-            (same-task j.group e.core.group.id j.slot s j.generation (group.newest (past g s h)) j.members (group.order_members (past g s h)) j.config c j.permit e.core.group.gate own.group own.place
+            (same-task j.group e.core.group.id j.slot s j.generation (group.newest (past g s h)) j.members
+            (group.order_members (past g s h)) j.config c j.permit e.core.group.gate own.group own.place
             (own.generation ∙ ap group.newest (group-of g h) ∙ sym (newest-past s (group_events g h)))
             (own.members ∙ ap (λ (k : group.History). group.order_members (past_of s k)) (group-of g h))
             (same_Some j.config c (sym own.config ∙ there)) own.permit)
             ∙ sym
             (ap (λ (q : group.History). held_of (origin e.core) s c q (work g s ((st, a) ∷ h)))
             (ap (past_of s) (events-here h st a g refl) ∙ past-same s (group.Granted now) (group_events g h))
-            ∙ ap (λ (b : Bool). held_of (origin e.core) s c (group.At s (group.Granted now) ∷ past g s h) (cond b works.building (work g s h))) (here g s))))
+            ∙ ap (λ (b : Bool). held_of (origin e.core) s c (group.At s (group.Granted now) ∷ past g s h)
+            (cond b works.building (work g s h))) (here g s))))
             (λ b. is.loads_are b);
         registry_is = refl;
         gate_is = refl;

@@ -1,5 +1,6 @@
 -- How many cells an update starts: the set of the listed backends starts one for each key that they have and no view has.
-use Rattle.std.proofs.Common.{◌≡◌, ◌≤◌, ◌+◌, ◌&&◌, ◌||◌, ◌∙◌, ℕ, Bool, true, false, cond, not, List, [], ◌∷◌, ◌++◌, length, map, filter, refl, sym, ap, arith, true≢false, if◌then◌else◌}
+use Rattle.std.proofs.Common.{◌≡◌, ◌≤◌, ◌+◌, ◌&&◌, ◌||◌, ◌∙◌, ℕ, Bool, true, false, cond, not, List, [], ◌∷◌, ◌++◌, length, map, filter}
+use Rattle.std.proofs.Common.{refl, sym, ap, arith, true≢false, if◌then◌else◌}
 use Rattle.std.specs.Prelude.{Option, Some, None, fold}
 use Rattle.std.specs.List.{list_any, cons_option, IsDistinct, AllByRecursion as Each}
 use Rattle.std.specs.List.Sorted.{IsStrictlySortedBy}
@@ -39,7 +40,8 @@ module _ {B : Type 0} {same : B → B → Bool} (laws : IsEquivalence same) wher
   first-apart x before [] known = tt
   first-apart x before (y ∷ ys) known =
       by-known (list_any (same y) before) refl
-      (first-apart x (before ++ y ∷ []) ys (λ z e. list_any-append (same z) before (y ∷ []) ∙ ap (λ b. b || list_any (same z) (y ∷ [])) (known z e)))
+      (first-apart x (before ++ y ∷ []) ys
+      (λ z e. list_any-append (same z) before (y ∷ []) ∙ ap (λ b. b || list_any (same z) (y ∷ [])) (known z e)))
     where
       by-test : (b : Bool) → same x y ≡ b → list_any (same y) before ≡ false → same x y ≡ false
       by-test true e none = absurd (true≢false (sym (known y e) ∙ none))
@@ -55,7 +57,8 @@ module _ {B : Type 0} {same : B → B → Bool} (laws : IsEquivalence same) wher
   firsts-apart before [] = tt
   firsts-apart before (x ∷ xs) =
       by-known (list_any (same x) before)
-      (first-apart x (before ++ x ∷ []) xs (λ y e. list_any-append (same y) before (x ∷ []) ∙ last (list_any (same y) before) (same y x) (laws.symm y x ∙ e)))
+      (first-apart x (before ++ x ∷ []) xs
+      (λ y e. list_any-append (same y) before (x ∷ []) ∙ last (list_any (same y) before) (same y x) (laws.symm y x ∙ e)))
       (firsts-apart (before ++ x ∷ []) xs)
     where
       last : (a b : Bool) → b ≡ true → (a || (b || false)) ≡ true
@@ -63,7 +66,8 @@ module _ {B : Type 0} {same : B → B → Bool} (laws : IsEquivalence same) wher
       last false true e = refl
       last false false e = e
 
-      by-known : (b : Bool) → Each (λ (y : B). same x y ≡ false) (firsts same (before ++ x ∷ []) xs) → IsDistinct same (firsts same (before ++ x ∷ []) xs)
+      by-known : (b : Bool) → Each (λ (y : B). same x y ≡ false) (firsts same (before ++ x ∷ []) xs)
+          → IsDistinct same (firsts same (before ++ x ∷ []) xs)
           → IsDistinct same (if b then firsts same (before ++ x ∷ []) xs else x ∷ firsts same (before ++ x ∷ []) xs)
       by-known true apart rest = rest
       by-known false apart rest = (apart, rest)
@@ -86,7 +90,8 @@ module _ (p : Candidate → Bool) where
   unfolding IsDistinct
   keys-apart [] d = tt
   keys-apart (c ∷ cs) d = by-test (p c) (keys-apart cs d.1) where
-    by-test : (b : Bool) → IsDistinct same_member (keys-of cs) → IsDistinct same_member (map (λ d. d.key) (cond b (c ∷ filter p cs) (filter p cs)))
+    by-test : (b : Bool) → IsDistinct same_member (keys-of cs)
+        → IsDistinct same_member (map (λ d. d.key) (cond b (c ∷ filter p cs) (filter p cs)))
     by-test true rest = (each-key c.key cs d.0, rest)
     by-test false rest = rest
 
@@ -96,13 +101,15 @@ module _ (key_of : Member → Member) (views : List ViewValue) where
 
   -- a test of keys that doesn't tell those of one identity apart
   new-alike : (j k : Member) → same_member j k ≡ true → is-new j ≡ is-new k
-  new-alike j k e = ap (λ (f : Member → Bool). not (list_any (λ (c : Candidate). f c.key) (candidates key_of views))) (λ i m. member_laws.congr j k m e i)
+  new-alike j k e =
+      ap (λ (f : Member → Bool). not (list_any (λ (c : Candidate). f c.key) (candidates key_of views))) (λ i m. member_laws.congr j k m e i)
 
   respects : (q j k : Member) → same_member j k ≡ true → same_member q j ≡ same_member q k
   respects q j k e = member_laws.symm q j ∙ member_laws.congr j k q e ∙ member_laws.symm k q
 
   -- one listing more in front
-  pub keys-more : (l : Listing) (ls : List Listing) → new_keys key_of views (l ∷ ls) ≡ cond (starts_cell key_of views l ls) 1 0 + new_keys key_of views ls
+  pub keys-more : (l : Listing) (ls : List Listing)
+      → new_keys key_of views (l ∷ ls) ≡ cond (starts_cell key_of views l ls) 1 0 + new_keys key_of views ls
   keys-more l ls = by-backend l.backend where
     by-backend : (o : Option Member)
         → distinct_count same_member (filter is-new (map key_of (cons_option o (present ls))))
@@ -116,16 +123,19 @@ module _ (key_of : Member → Member) (views : List ViewValue) where
       rest = filter is-new (map key_of (present ls))
 
       by-new : (t : Bool) → is-new k ≡ t
-          → distinct_count same_member (cond t (k ∷ rest) rest) ≡ cond (t && not (lists_key key_of k ls)) 1 0 + distinct_count same_member rest
+          → distinct_count same_member (cond t (k ∷ rest) rest) ≡ cond
+          (t && not (lists_key key_of k ls)) 1 0 + distinct_count same_member rest
       by-new false e = omega arith
       by-new true e =
           by-found (is_member same_member rest k)
           (is_member-filter member_laws is-new k (λ x s. new-alike k x s) (map key_of (present ls))
-          ∙ ap (λ t. is_member same_member (map key_of (present ls)) k && t) e ∙ and-true (is_member same_member (map key_of (present ls)) k)
+          ∙ ap (λ t. is_member same_member (map key_of (present ls)) k && t) e
+          ∙ and-true (is_member same_member (map key_of (present ls)) k)
           ∙ any-map key_of (same_member k) (present ls) ∙ sym (one_there (λ m. same_member k (key_of m)) ls))
         where
           by-found : (f : Bool) → f ≡ lists_key key_of k ls
-              → length (cond f (unique_keys same_member rest) (k ∷ unique_keys same_member rest)) ≡ cond (not (lists_key key_of k ls)) 1 0 + distinct_count same_member rest
+              → length (cond f (unique_keys same_member rest) (k ∷ unique_keys same_member rest)) ≡ cond
+              (not (lists_key key_of k ls)) 1 0 + distinct_count same_member rest
           by-found true is = omega (arith, ap {B = ℕ} (λ f. cond (not f) 1 0) is)
           by-found false is = omega (arith, ap {B = ℕ} (λ f. cond (not f) 1 0) is)
 
@@ -150,7 +160,9 @@ module _ (key_of : Member → Member) (views : List ViewValue) where
       see : Member → Candidate
       see k = record { place = record { backend = k; view = id }; key = k }
 
-      has : (k : Member) → is_member same_member (keys-of (λ (c : Candidate). is-new c.key) (distinct same_key (candidates_of key_of id (members_in ls)))) k
+      has : (k : Member)
+          → is_member same_member
+          (keys-of (λ (c : Candidate). is-new c.key) (distinct same_key (candidates_of key_of id (members_in ls)))) k
           ≡ is_member same_member (filter is-new (map key_of (present ls))) k
       has k =
           let cs = candidates_of key_of id (members_in ls) in
@@ -160,7 +172,8 @@ module _ (key_of : Member → Member) (views : List ViewValue) where
           ∙ is_member-filter key_laws passes (see k) (λ x s. new-alike k x.key s) (distinct same_key cs)
           ∙ ap (λ b. b && is-new k)
           (any-distinct (λ (c : Candidate). same_member k c.key) (λ c d s. respects k c.key d.key s) cs
-          ∙ any-map (λ (m : Member). record { place = record { backend = m; view = id }; key = key_of m }) (λ (c : Candidate). same_member k c.key) (members_in ls)
+          ∙ any-map (λ (m : Member). record { place = record { backend = m; view = id }; key = key_of m })
+          (λ (c : Candidate). same_member k c.key) (members_in ls)
           ∙ any_folded of-key (λ a b s. respects k (key_of a) (key_of b) (alike a b s)) [] (present ls)
           ∙ sym (any-map key_of (same_member k) (present ls)))
           ∙ sym (is_member-filter member_laws is-new k (λ x s. new-alike k x s) (map key_of (present ls)))
@@ -169,12 +182,14 @@ module _ (key_of : Member → Member) (views : List ViewValue) where
 each-inserted : (P : Member → Type 0) (ks : List Member) (k : Member) → Each P ks → P k → Each P (insert_key member_cmp ks k)
 each-inserted P [] k a it = (it, tt)
 each-inserted P (x ∷ ks) k a it = by-order (member_cmp k x) (each-inserted P ks k a.1 it) where
-  by-order : (o : Ordering) → Each P (insert_key member_cmp ks k) → Each P (match_ordering o (k ∷ x ∷ ks) (x ∷ ks) (x ∷ insert_key member_cmp ks k))
+  by-order : (o : Ordering) → Each P (insert_key member_cmp ks k)
+      → Each P (match_ordering o (k ∷ x ∷ ks) (x ∷ ks) (x ∷ insert_key member_cmp ks k))
   by-order Less rest = (it, a)
   by-order Equal rest = a
   by-order Greater rest = (a.0, rest)
 
-ascends-inserted : (ks : List Member) (k : Member) → IsStrictlySortedBy member_cmp ks → IsStrictlySortedBy member_cmp (insert_key member_cmp ks k)
+ascends-inserted : (ks : List Member) (k : Member) → IsStrictlySortedBy member_cmp ks
+    → IsStrictlySortedBy member_cmp (insert_key member_cmp ks k)
 unfolding IsStrictlySortedBy
 ascends-inserted [] k s = (tt, tt)
 ascends-inserted (x ∷ ks) k s = by-order (member_cmp k x) refl (ascends-inserted ks k s.1) where
@@ -182,9 +197,11 @@ ascends-inserted (x ∷ ks) k s = by-order (member_cmp k x) refl (ascends-insert
       → IsStrictlySortedBy member_cmp (match_ordering o (k ∷ x ∷ ks) (x ∷ ks) (x ∷ insert_key member_cmp ks k))
   by-order Less e rest = ((e, each-impl (λ (y : Member). member_cmp x y ≡ Less) (λ y l. member_total.trans k x y e l) ks s.0), s)
   by-order Equal e rest = s
-  by-order Greater e rest = (each-inserted (λ (y : Member). member_cmp x y ≡ Less) ks k s.0 (member_total.antisymm x k ∙ ap ordering_reverse e), rest)
+  by-order Greater e rest =
+      (each-inserted (λ (y : Member). member_cmp x y ≡ Less) ks k s.0 (member_total.antisymm x k ∙ ap ordering_reverse e), rest)
 
-ascends-folded : (acc xs : List Member) → IsStrictlySortedBy member_cmp acc → IsStrictlySortedBy member_cmp (fold (insert_key member_cmp) acc xs)
+ascends-folded : (acc xs : List Member) → IsStrictlySortedBy member_cmp acc
+    → IsStrictlySortedBy member_cmp (fold (insert_key member_cmp) acc xs)
 ascends-folded acc [] s = s
 ascends-folded acc (x ∷ xs) s = ascends-folded (insert_key member_cmp acc x) xs (ascends-inserted acc x s)
 
@@ -199,9 +216,11 @@ set-ascends ls = ascends-folded [] (present ls) none-ascend
 pub one-key : (rule : WorldRule) (key_of : Member → Member) → IsRuleOf key_gives rule key_of
     → (a b : Member) → same_member a b ≡ true → same_member (key_of a) (key_of b) ≡ true
 one-key Identity key_of gives a b e =
-    ap (λ x. same_member x (key_of b)) (sym (gives a (by_identity a) refl)) ∙ ap (same_member (by_identity a)) (sym (gives b (by_identity b) refl)) ∙ e
+    ap (λ x. same_member x (key_of b)) (sym (gives a (by_identity a) refl))
+    ∙ ap (same_member (by_identity a)) (sym (gives b (by_identity b) refl)) ∙ e
 one-key Address key_of gives a b e =
-    ap (λ x. same_member x (key_of b)) (sym (gives a (by_address a) refl)) ∙ ap (same_member (by_address a)) (sym (gives b (by_address b) refl))
+    ap (λ x. same_member x (key_of b)) (sym (gives a (by_address a) refl))
+    ∙ ap (same_member (by_address a)) (sym (gives b (by_address b) refl))
     ∙ by-address (address_cmp a.address b.address) (nat_cmp a.weight b.weight) e
   where
     by-address : (o p : Ordering) → is_eq (ordering_then o p) ≡ true → is_eq (ordering_then o Equal) ≡ true
@@ -213,7 +232,8 @@ one-key (Equivalence none) key_of gives a b e = elim none [ ]
 -- how many numbers the registry has given once a view has these members
 pub given-then : (key_of : Member → Member) (events : List Event) (id : ℕ) (v : RegistryValue WorldRule) (ls : List Listing)
     → IsRegistryAfter key_gives key_of events v → has_view id (views_after events) ≡ true
-    → cells_given key_of (Updated id (members_in ls) ∷ Applied ∷ events) ≡ new_keys key_of (live (views_after events)) ls + cells_given key_of events
+    → cells_given key_of (Updated id (members_in ls) ∷ Applied
+    ∷ events) ≡ new_keys key_of (live (views_after events)) ls + cells_given key_of events
 given-then key_of events id v ls r has =
     updated_given key_of events id (members_in ls) r.state.sets (set-ascends ls) has
     ∙ ap (λ n. n + cells_given key_of events) (set-starts key_of (live (views_after events)) (one-key v.rule key_of r.rule) id ls)

@@ -1,5 +1,6 @@
 -- Each kind of step at a group, from what the core's call does to the entry after it.
-use Rattle.std.proofs.Common.{◌≡◌, ◌⊎◌, inl, inr, ◌∙◌, ℕ, Bool, true, false, cond, List, [], ◌∷◌, ◌++◌, length, refl, sym, ap, subst, slice_get}
+use Rattle.std.proofs.Common.{◌≡◌, ◌⊎◌, inl, inr, ◌∙◌, ℕ, Bool, true, false, cond, List, [], ◌∷◌, ◌++◌, length, refl, sym, ap, subst}
+use Rattle.std.proofs.Common.{slice_get}
 use Rattle.std.specs.Prelude.{Option, Some, None, nat_lt}
 use Rattle.lb_select.specs.Backends.{Member}
 use Rattle.lb_select.specs.declared.refusal.Refusal.{Refusal}
@@ -38,7 +39,8 @@ use Rattle.lb_next_world.proofs.Next.{AtGroup, local-at, same-origin, entry-afte
 
 -- where there is a flight, what was read of it is its generation
 lost-told : (there flies : Bool) (n : ℕ) (f : Option (Option ℕ)) → f ≡ cond there (Some (cond flies (Some n) None)) None
-    → cond there (cond flies None (Some refusal.NothingInFlight)) (Some refusal.NoSuch) ≡ None → at_one f lost_answer ≡ answer.Lost (number_of f)
+    → cond there (cond flies None (Some refusal.NothingInFlight)) (Some refusal.NoSuch) ≡ None
+    → at_one f lost_answer ≡ answer.Lost (number_of f)
 lost-told true true n f is none = rw is refl
 lost-told true false n f is none = absurd (cc)
 lost-told false flies n f is none = absurd (cc)
@@ -57,12 +59,14 @@ same-flight (group.retired n) = refl
 same-flight (group.taken_out n) = refl
 
 same-numbers : (n m s t : ℕ) (f i : Option ℕ) (w x : Bool) (c d : Counts) → n ≡ m → s ≡ t → f ≡ i → w ≡ x → c ≡ d
-    → answer.Numbers (record { newest = n; served = s; flight = f; waiting = w; counts = c }) ≡ answer.Numbers (record { newest = m; served = t; flight = i; waiting = x; counts = d })
+    → answer.Numbers (record { newest = n; served = s; flight = f; waiting = w; counts = c }) ≡ answer.Numbers
+    (record { newest = m; served = t; flight = i; waiting = x; counts = d })
 same-numbers n m s t f i w x c d a b e u v = cc
 
 module _ {C : Type 0} (M : Meaning C) where
   -- a step that moves the core, and none of the works
-  pub next-core : (h : History C) (st : Step C) (a : Answer) (g : ℕ) (e : EntryValue C) (core : JoinedValue C) (z y : GateView) (v : RegistryValue WorldRule)
+  pub next-core : (h : History C) (st : Step C) (a : Answer) (g : ℕ) (e : EntryValue C) (core : JoinedValue C) (z y : GateView)
+      (v : RegistryValue WorldRule)
       → AtGroup h st a g → EntryIs h g e → stands.SameSite e.core core
       → stands.Stands (site e.core) (joined_after h (group_events g h) (joined_events g h) st a) core
       → no_grants (happened h (group_events g h) st a) ≡ true → ((s : ℕ) → work g s ((st, a) ∷ h) ≡ work g s h)
@@ -84,7 +88,8 @@ module _ {C : Type 0} (M : Meaning C) where
       }
 
   -- a step that told something, or was refused, by a core that stands for the same history
-  pub next-told : (h : History C) (st : Step C) (a : Answer) (g : ℕ) (e : EntryValue C) (core : JoinedValue C) (z : GateView) (v : RegistryValue WorldRule)
+  pub next-told : (h : History C) (st : Step C) (a : Answer) (g : ℕ) (e : EntryValue C) (core : JoinedValue C) (z : GateView)
+      (v : RegistryValue WorldRule)
       → Quiet h st a → EntryIs h g e → stands.SameSite e.core core → stands.Stands (site e.core) (joined_events g h) core → Answers M h st a
       → permit_after st a z.out ≡ z.out → IsRegistryAfter key_gives (key_of g h) (registry_events e.registry h) v
       → EntryNext M h g st a e z (with_core core e) z v
@@ -101,36 +106,44 @@ module _ {C : Type 0} (M : Meaning C) where
         kept = subst (λ (es : List registry.Event). IsRegistryAfter key_gives (key_of g h) es v) (sym (quiet.registry_is e.registry)) kept;
       }
 
-  pub does-cancel : (h : History C) (g : ℕ) (e : EntryValue C) (core : JoinedValue C) (z : GateView) (v : RegistryValue WorldRule) → EntryIs h g e
+  pub does-cancel : (h : History C) (g : ℕ) (e : EntryValue C) (core : JoinedValue C) (z : GateView) (v : RegistryValue WorldRule)
+      → EntryIs h g e
       → stands.SameSite e.core core → stands.Stands (site e.core) (joined.Cancelled ∷ joined_events g h) core
       → IsRegistryAfter key_gives (key_of g h) (registry.Marked e.core.view.id ∷ registry_events e.registry h) v
       → EntryNext M h g (step.cancel g) answer.Cancelled e z (with_core core e) z v
   does-cancel h g e core z v is same stays kept =
-      next-core h (step.cancel g) answer.Cancelled g e core z z v (local-at h g local.Cancel answer.Cancelled) is same stays refl (λ s. refl) (λ b. refl)
+      next-core h (step.cancel g) answer.Cancelled g e core z z v (local-at h g local.Cancel answer.Cancelled) is same stays refl
+      (λ s. refl) (λ b. refl)
       (inl (sym (ap (λ (o : Option (Made C)). at_one o (λ m. answer.Cancelled)) is.made_is))) refl
-      (subst (λ (i : ℕ). IsRegistryAfter key_gives (key_of g h) (registry.Marked i ∷ registry_events e.registry h) v) (sym (ap view_in is.made_is)) kept)
+      (subst (λ (i : ℕ). IsRegistryAfter key_gives (key_of g h) (registry.Marked i ∷ registry_events e.registry h) v)
+      (sym (ap view_in is.made_is)) kept)
 
-  pub does-set : (h : History C) (g : ℕ) (e : EntryValue C) (core : JoinedValue C) (z : GateView) (v : RegistryValue WorldRule) (b : Member) (on : Bool)
+  pub does-set : (h : History C) (g : ℕ) (e : EntryValue C) (core : JoinedValue C) (z : GateView) (v : RegistryValue WorldRule)
+      (b : Member) (on : Bool)
       → EntryIs h g e → stands.SameSite e.core core → stands.Stands (site e.core) (joined.Set b on ∷ joined_events g h) core
       → IsRegistryAfter key_gives (key_of g h) (registry_events e.registry h) v
       → EntryNext M h g (cond on (step.enable g (Some b)) (step.disable g (Some b))) answer.Done e z (with_core core e) z v
   does-set h g e core z v b true is same stays kept =
       next-core h (step.enable g (Some b)) answer.Done g e core z z v
       (record { group_is = refl; registry_is = refl; made_are = refl; gates_are = refl; registries_are = refl })
-      is same stays refl (λ s. refl) (λ b. refl) (inl (sym (ap (λ (o : Option (Made C)). at_one o (λ m. answer.Done)) is.made_is))) refl kept
+      is same stays refl (λ s. refl) (λ b. refl)
+      (inl (sym (ap (λ (o : Option (Made C)). at_one o (λ m. answer.Done)) is.made_is))) refl kept
   does-set h g e core z v b false is same stays kept =
       next-core h (step.disable g (Some b)) answer.Done g e core z z v
       (record { group_is = refl; registry_is = refl; made_are = refl; gates_are = refl; registries_are = refl })
-      is same stays refl (λ s. refl) (λ b. refl) (inl (sym (ap (λ (o : Option (Made C)). at_one o (λ m. answer.Done)) is.made_is))) refl kept
+      is same stays refl (λ s. refl) (λ b. refl)
+      (inl (sym (ap (λ (o : Option (Made C)). at_one o (λ m. answer.Done)) is.made_is))) refl kept
 
   -- what was read of a slot's flight
   pub flight-told : (h : History C) (g s : ℕ) (e : EntryValue C) (f : Option (Option ℕ)) → EntryIs h g e
       → f ≡ at_slot (site e.core) s (flight_after (group.past_of s (joined.group_events (joined_events g h))))
       → at_one (config g s h) (λ c. lost_answer (flight_of (group.extra (past g s h)))) ≡ at_one f lost_answer
   flight-told h g s e f is to =
-      ap (λ (o : Option ℕ). at_one (config g s h) (λ c. lost_answer o)) (same-flight (group.extra (past g s h))) ∙ reading-told h g s e flight_after lost_answer f is to
+      ap (λ (o : Option ℕ). at_one (config g s h) (λ c. lost_answer o)) (same-flight (group.extra (past g s h)))
+      ∙ reading-told h g s e flight_after lost_answer f is to
 
-  pub does-lost : (h : History C) (g s : ℕ) (e : EntryValue C) (core : JoinedValue C) (f : Option (Option ℕ)) (z : GateView) (v : RegistryValue WorldRule)
+  pub does-lost : (h : History C) (g s : ℕ) (e : EntryValue C) (core : JoinedValue C) (f : Option (Option ℕ)) (z : GateView)
+      (v : RegistryValue WorldRule)
       → EntryIs h g e → stands.SameSite e.core core → stands.Stands (site e.core) (joined.At s group.WorkerLost ∷ joined_events g h) core
       → f ≡ at_slot (site e.core) s (flight_after (group.past_of s (joined.group_events (joined_events g h))))
       → lose_refusal (site e.core) s (joined.group_events (joined_events g h)) ≡ None
@@ -144,7 +157,8 @@ module _ {C : Type 0} (M : Meaning C) where
       (inl
       (sym
       (flight-told h g s e f is to
-      ∙ lost-told (nat_lt s (length (configs_of e.core.group))) (group.is_flight (group.extra (group.past_of s k))) (group.flight_number (group.extra (group.past_of s k))) f to none)))
+      ∙ lost-told (nat_lt s (length (configs_of e.core.group))) (group.is_flight (group.extra (group.past_of s k)))
+      (group.flight_number (group.extra (group.past_of s k))) f to none)))
       refl kept
 
   pub lost-right : (h : History C) (g s : ℕ) (e : EntryValue C) (f : Option (Option ℕ)) (r : Refusal) → EntryIs h g e
@@ -155,16 +169,19 @@ module _ {C : Type 0} (M : Meaning C) where
       inl
       (sym
       (flight-told h g s e f is to
-      ∙ lost-refused (nat_lt s (length (configs_of e.core.group))) (group.is_flight (group.extra (group.past_of s k))) (group.flight_number (group.extra (group.past_of s k))) f r to some))
+      ∙ lost-refused (nat_lt s (length (configs_of e.core.group))) (group.is_flight (group.extra (group.past_of s k)))
+      (group.flight_number (group.extra (group.past_of s k))) f r to some))
 
   -- the numbers of a slot that were read
-  pub counts-right : (h : History C) (g s newest served : ℕ) (flight : Option ℕ) (waiting : Bool) (counts : Counts) (e : EntryValue C) → EntryIs h g e
+  pub counts-right : (h : History C) (g s newest served : ℕ) (flight : Option ℕ) (waiting : Bool) (counts : Counts) (e : EntryValue C)
+      → EntryIs h g e
       → newest ≡ group.newest (joined.group_events (joined_events g h))
       → at_slot (site e.core) s (group.served (group.past_of s (joined.group_events (joined_events g h)))) ≡ Some served
       → at_slot (site e.core) s (flight_after (group.past_of s (joined.group_events (joined_events g h)))) ≡ Some flight
       → at_slot (site e.core) s (group.waits (group.past_of s (joined.group_events (joined_events g h)))) ≡ Some waiting
       → at_slot (site e.core) s (counts_after (group.past_of s (joined.group_events (joined_events g h)))) ≡ Some counts
-      → Answers M h (step.counts g s) (answer.Numbers (record { newest = newest; served = served; flight = flight; waiting = waiting; counts = counts }))
+      → Answers M h (step.counts g s)
+      (answer.Numbers (record { newest = newest; served = served; flight = flight; waiting = waiting; counts = counts }))
   counts-right h g s newest served flight waiting counts e is n a b c d =
       let k = joined.group_events (joined_events g h) in
       let cs = configs_of e.core.group in
@@ -181,7 +198,8 @@ module _ {C : Type 0} (M : Meaning C) where
       (sym three ∙ ap group.waits same) (sym four ∙ ap counts_after same)
       ∙ sym (ap (λ (o : Option C). at_one o (λ x. answer.Numbers (numbers_of (past g s h)))) there))
 
-  pub counts-absent : {A : Type 0} (h : History C) (g s : ℕ) (e : EntryValue C) (x : A) (r : Option A) → EntryIs h g e → r ≡ at_slot (site e.core) s x → r ≡ None
+  pub counts-absent : {A : Type 0} (h : History C) (g s : ℕ) (e : EntryValue C) (x : A) (r : Option A) → EntryIs h g e
+      → r ≡ at_slot (site e.core) s x → r ≡ None
       → Answers M h (step.counts g s) (answer.Refused refusal.NoSuch)
   counts-absent h g s e x r is to none =
       inl

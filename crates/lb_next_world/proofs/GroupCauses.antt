@@ -1,5 +1,6 @@
 -- Why a group can't be made: its registry or its gate isn't there, a selector can't be built, or no number is left.
-use Rattle.std.proofs.Common.{◌≡◌, ◌⊎◌, inl, inr, ◌<◌, ◌≤◌, ◌+◌, ◌^◌, ◌&&◌, ◌∙◌, ℕ, Bool, true, false, cond, List, [], ◌∷◌, length, map, refl, sym, ap, arith}
+use Rattle.std.proofs.Common.{◌≡◌, ◌⊎◌, inl, inr, ◌<◌, ◌≤◌, ◌+◌, ◌^◌, ◌&&◌, ◌∙◌, ℕ, Bool, true, false, cond, List, [], ◌∷◌, length, map}
+use Rattle.std.proofs.Common.{refl, sym, ap, arith}
 use Rattle.std.specs.Prelude.{Option, Some, None, nat_lt, nat_le}
 use Rattle.std.proofs.lemmas.Option.{none-some}
 use Rattle.std.proofs.lemmas.Bool.Decides.{leb_tells}
@@ -21,7 +22,8 @@ last-of refusal.InvalidAddress = refl
 last-of e = refl
 
 -- so another cause goes before it
-stays : (e : Refusal) (b c : Bool) → earlier (Some e) (earlier (where_ b refusal.NumbersExhausted) (where_ c refusal.NumbersExhausted)) ≡ Some e
+stays : (e : Refusal) (b c : Bool)
+    → earlier (Some e) (earlier (where_ b refusal.NumbersExhausted) (where_ c refusal.NumbersExhausted)) ≡ Some e
 stays e true true = ap (λ (t : Bool). cond t (Some refusal.NumbersExhausted) (Some e)) (last-of e)
 stays e true false = ap (λ (t : Bool). cond t (Some refusal.NumbersExhausted) (Some e)) (last-of e)
 stays e false true = ap (λ (t : Bool). cond t (Some refusal.NumbersExhausted) (Some e)) (last-of e)
@@ -48,7 +50,8 @@ pub is-there : (b : Bool) → no_such b ≡ None → b ≡ true
 is-there true is = refl
 is-there false is = absurd (none-some refusal.NoSuch (sym is))
 
-apart-of : (t : Bool) (e f : Refusal) → memory_apart (Some e) ≡ Some e → memory_apart (Some f) ≡ Some f → memory_apart (cond t (Some f) (Some e)) ≡ cond t (Some f) (Some e)
+apart-of : (t : Bool) (e f : Refusal) → memory_apart (Some e) ≡ Some e → memory_apart (Some f) ≡ Some f
+    → memory_apart (cond t (Some f) (Some e)) ≡ cond t (Some f) (Some e)
 apart-of true e f a b = b
 apart-of false e f a b = a
 
@@ -98,9 +101,11 @@ module _ {C : Type 0} where
 module _ {C : Type 0} (M : Meaning C) where
   nothing-against : (h : History C) (r a : ℕ) (cs : List C) → there h r a ≡ true → least (map (M.refusal []) cs) ≡ None → given h r < 2 ^ 64
       → cells h r < 2 ^ 64
-      → earlier (no_such (there h r a)) (earlier (memory_apart (least (map (M.refusal []) cs))) (earlier (no_number (given h r)) (no_number (cells h r)))) ≡ None
+      → earlier (no_such (there h r a))
+      (earlier (memory_apart (least (map (M.refusal []) cs))) (earlier (no_number (given h r)) (no_number (cells h r)))) ≡ None
   nothing-against h r a cs is none first fits =
-      four (no_such (there h r a)) (memory_apart (least (map (M.refusal []) cs))) (no_number (given h r)) (no_number (cells h r)) (ap no_such is)
+      four (no_such (there h r a)) (memory_apart (least (map (M.refusal []) cs))) (no_number (given h r)) (no_number (cells h r))
+      (ap no_such is)
       (ap memory_apart none) (number-left _ first) (number-left _ fits)
 
   pub group-right : (h : History C) (r a : ℕ) (cs : List C) → there h r a ≡ true → least (map (M.refusal []) cs) ≡ None → given h r < 2 ^ 64
@@ -108,19 +113,22 @@ module _ {C : Type 0} (M : Meaning C) where
   group-right h r a cs is none first fits =
       sym (ap (λ (o : Option Refusal). unless_refused o (answer.Group (length (made h)))) (nothing-against h r a cs is none first fits))
 
-  pub group-missed : (h : History C) (r a : ℕ) (cs : List C) → there h r a ≡ true → least (map (M.refusal []) cs) ≡ None → given h r < 2 ^ 64
+  pub group-missed : (h : History C) (r a : ℕ) (cs : List C) → there h r a ≡ true → least (map (M.refusal []) cs) ≡ None
+      → given h r < 2 ^ 64
       → cells h r < 2 ^ 64 → answer.Refused refusal.OutOfMemory ≡ without_memory (step.group r a cs) (answer_after M h (step.group r a cs))
   group-missed h r a cs is none first fits =
       sym
       (ap (λ (o : Option Refusal). without_memory {C = C} (step.group r a cs) (unless_refused o (answer.Group (length (made h)))))
       (nothing-against h r a cs is none first fits))
 
-  pub group-refused : (h : History C) (r a : ℕ) (cs : List C) (e : Refusal) → earlier (no_such (there h r a)) (least (map (M.refusal []) cs)) ≡ Some e
+  pub group-refused : (h : History C) (r a : ℕ) (cs : List C) (e : Refusal)
+      → earlier (no_such (there h r a)) (least (map (M.refusal []) cs)) ≡ Some e
       → answer.Refused e ≡ answer_after M h (step.group r a cs)
   group-refused h r a cs e is =
       sym
       (ap (λ (o : Option Refusal). unless_refused o (answer.Group (length (made h))))
-      (first-cause (no_such (there h r a)) (memory_apart (least (map (M.refusal []) cs))) (nat_le (2 ^ 64) (given h r)) (nat_le (2 ^ 64) (cells h r)) e
+      (first-cause (no_such (there h r a)) (memory_apart (least (map (M.refusal []) cs))) (nat_le (2 ^ 64) (given h r))
+      (nat_le (2 ^ 64) (cells h r)) e
       (ap (earlier (no_such (there h r a))) (least-apart (map (M.refusal []) cs)) ∙ is)))
 
   pub group-full : (h : History C) (r a : ℕ) (cs : List C) → there h r a ≡ true → least (map (M.refusal []) cs) ≡ None → 2 ^ 64 ≤ given h r
@@ -128,5 +136,6 @@ module _ {C : Type 0} (M : Meaning C) where
   group-full h r a cs is none many =
       sym
       (ap (λ (o : Option Refusal). unless_refused o (answer.Group (length (made h))))
-      (full (no_such (there h r a)) (memory_apart (least (map (M.refusal []) cs))) (no_number (given h r)) (nat_le (2 ^ 64) (cells h r)) (ap no_such is)
+      (full (no_such (there h r a)) (memory_apart (least (map (M.refusal []) cs))) (no_number (given h r)) (nat_le (2 ^ 64) (cells h r))
+      (ap no_such is)
       (ap memory_apart none) (number-gone _ many)))

@@ -1,5 +1,6 @@
 -- The step that makes a group, of a world: what it answers where it is refused.
-use Rattle.std.proofs.Common.{◌≡◌, ◌⊎◌, inl, inr, ◌<◌, ◌≤◌, ◌+◌, ◌^◌, ◌&&◌, ◌↔◌, ◌∙◌, ℕ, Bool, true, false, List, [], ◌∷◌, length, map, refl, sym, ap, subst, slice_get, arith}
+use Rattle.std.proofs.Common.{◌≡◌, ◌⊎◌, inl, inr, ◌<◌, ◌≤◌, ◌+◌, ◌^◌, ◌&&◌, ◌↔◌, ◌∙◌, ℕ, Bool, true, false, List, [], ◌∷◌, length, map}
+use Rattle.std.proofs.Common.{refl, sym, ap, subst, slice_get, arith}
 use Rattle.std.specs.Prelude.{Option, Some, None, IsTrue, nat_lt, slice_set}
 use Rattle.std.proofs.lemmas.Bool.{lt-ltb, le-ltb, ltb-true, and_parts, false≢true}
 use Rattle.std.proofs.lemmas.Bool.Decides.{leb_tells}
@@ -35,7 +36,8 @@ pub first-test :
     (b : Bool) (r n m g k : ℕ) → m ≡ n → m ≤ r → b ≡ nat_lt r m → b ≡ (nat_lt r n && nat_lt g k)
 first-test b r n m g k same_n past is = rw (← same_n, le-ltb r m past) (is ∙ le-ltb r m past)
 
-pub memory-only : {A : Type 0} (cause : Option Refusal) (e : Refusal) → cause ≡ None → (cause ≡ Some e) ⊎ (A × ((e ≡ refusal.OutOfMemory) ⊎ (e ≡ refusal.NumbersExhausted)))
+pub memory-only : {A : Type 0} (cause : Option Refusal) (e : Refusal) → cause ≡ None → (cause ≡ Some e)
+    ⊎ (A × ((e ≡ refusal.OutOfMemory) ⊎ (e ≡ refusal.NumbersExhausted)))
     → (e ≡ refusal.NumbersExhausted → ⊥) → e ≡ refusal.OutOfMemory
 memory-only cause e none either off =
     elim either [
@@ -56,7 +58,8 @@ module _ {C : Type 0} where
   in-tables w r a = nat_lt r (length w.registries) && nat_lt a (length w.gates)
 
   -- no cause stands: registry and gate are there
-  pub none-stands : (w : WorldValue C) (r a : ℕ) (b : Bool) (cause : Option Refusal) → b ≡ in-tables w r a → earlier (no_such b) cause ≡ None
+  pub none-stands : (w : WorldValue C) (r a : ℕ) (b : Bool) (cause : Option Refusal) → b ≡ in-tables w r a
+      → earlier (no_such b) cause ≡ None
       → (r < length w.registries) × (a < length w.gates) × (cause ≡ None)
   none-stands w r a b cause is none =
       let both = no-cause (no_such b) cause none in
@@ -64,9 +67,11 @@ module _ {C : Type 0} where
       (ltb-true r (length w.registries) parts.0, ltb-true a (length w.gates) parts.1, both.1)
 
   -- a number of a cell is left, since marks that are applied start no cell
-  pub cells-fit : (h : History C) (r : ℕ) (u : RegistryValue WorldRule) → IsRegistryAfter key_gives (key_at r h) (registry_events r h) u → cells h r < 2 ^ 64
+  pub cells-fit : (h : History C) (r : ℕ) (u : RegistryValue WorldRule) → IsRegistryAfter key_gives (key_at r h) (registry_events r h) u
+      → cells h r < 2 ^ 64
   cells-fit h r u now =
-      let same : registry.cells_given (key_at r h) (registry.Applied ∷ registry.Registered ∷ registry_events r h) ≡ registry.cells_given (key_at r h) (registry_events r h) =
+      let same : registry.cells_given (key_at r h) (registry.Applied ∷ registry.Registered ∷ registry_events r h) ≡ registry.cells_given
+      (key_at r h) (registry_events r h) =
       marks_start_none (key_at r h) (registry.Registered ∷ registry_events r h) now.state.sets in
       omega (arith, same, now.state.fits)
 
@@ -74,7 +79,8 @@ module _ {C : Type 0} (M : Meaning C) where
   same-there : (w : WorldValue C) (h : History C) (r a : ℕ) → Stands M w h → there h r a ≡ in-tables w r a
   same-there w h r a s = rw (s.registries_are, s.gates_are) refl
 
-  all-there : (w : WorldValue C) (h : History C) (r a : ℕ) → r < length w.registries → a < length w.gates → Stands M w h → there h r a ≡ true
+  all-there : (w : WorldValue C) (h : History C) (r a : ℕ) → r < length w.registries → a < length w.gates → Stands M w h
+      → there h r a ≡ true
   all-there w h r a in_ at s = same-there w h r a s ∙ rw (lt-ltb r (length w.registries) in_, lt-ltb a (length w.gates) at) refl
 
   pub group-caused : (w : WorldValue C) (h : History C) (r a : ℕ) (cs : List C) (b : Bool) (e : Refusal) → b ≡ in-tables w r a
@@ -101,42 +107,54 @@ module _ {C : Type 0} (M : Meaning C) where
       }
 
   -- a refusal that may have touched the registry, which stands for its history as before
-  at-registry : (w : WorldValue C) (h : History C) (r a : ℕ) (cs : List C) (e : Refusal) (u v : RegistryValue WorldRule) → slice_get w.registries r ≡ Some u
-      → ((key_of : Member → Member) (events : List Event) → IsRegistryAfter key_gives key_of events u → IsRegistryAfter key_gives key_of events v)
+  at-registry : (w : WorldValue C) (h : History C) (r a : ℕ) (cs : List C) (e : Refusal) (u v : RegistryValue WorldRule)
+      → slice_get w.registries r ≡ Some u
+      → ((key_of : Member → Member) (events : List Event) → IsRegistryAfter key_gives key_of events u
+      → IsRegistryAfter key_gives key_of events v)
       → Answers M h (step.group r a cs) (answer.Refused e) → Stands M w h
       → Stands M (record w { registries = slice_set w.registries r v }) ((step.group r a cs, answer.Refused e) ∷ h)
   at-registry w h r a cs e u v in_ after right s =
       let now = s.kept r u in_ in
       registry-next M w h r (step.group r a cs) (answer.Refused e) u v (refused-at h r a cs e) right in_
-      (subst (λ (es : List Event). IsRegistryAfter key_gives (key_at r h) es v) (sym ((refused-still h (step.group r a cs) e).registry_is r)) (after _ _ now)) s
+      (subst (λ (es : List Event). IsRegistryAfter key_gives (key_at r h) es v)
+      (sym ((refused-still h (step.group r a cs) e).registry_is r)) (after _ _ now)) s
 
-  pub group-is-full : (w : WorldValue C) (h : History C) (r a : ℕ) (cs : List C) (u : RegistryValue WorldRule) → slice_get w.registries r ≡ Some u
+  pub group-is-full : (w : WorldValue C) (h : History C) (r a : ℕ) (cs : List C) (u : RegistryValue WorldRule)
+      → slice_get w.registries r ≡ Some u
       → a < length w.gates → least (map (M.refusal []) cs) ≡ None
-      → ((key_of : Member → Member) (events : List Event) → IsRegistryAfter key_gives key_of events u → 2 ^ 64 ≤ registry.registered_after events + 1)
-      → Stands M w h → Stands M (record w { registries = slice_set w.registries r u }) ((step.group r a cs, answer.Refused refusal.NumbersExhausted) ∷ h)
+      → ((key_of : Member → Member) (events : List Event) → IsRegistryAfter key_gives key_of events u
+      → 2 ^ 64 ≤ registry.registered_after events + 1)
+      → Stands M w h
+      → Stands M (record w { registries = slice_set w.registries r u }) ((step.group r a cs, answer.Refused refusal.NumbersExhausted) ∷ h)
   group-is-full w h r a cs u in_ at none many s =
       at-registry w h r a cs refusal.NumbersExhausted u u in_ (λ k es now. now)
       (inl
       (group-full M h r a cs (all-there w h r a (slice_get_within w.registries r u in_) at s) none
       (many (key_at r h) (registry_events r h) (s.kept r u in_)))) s
 
-  pub group-lacks : (w : WorldValue C) (h : History C) (r a : ℕ) (cs : List C) (e : Refusal) (u v : RegistryValue WorldRule) → slice_get w.registries r ≡ Some u
+  pub group-lacks : (w : WorldValue C) (h : History C) (r a : ℕ) (cs : List C) (e : Refusal) (u v : RegistryValue WorldRule)
+      → slice_get w.registries r ≡ Some u
       → a < length w.gates → least (map (M.refusal []) cs) ≡ None
-      → ((key_of : Member → Member) (events : List Event) → IsRegistryAfter key_gives key_of events u → registry.registered_after events + 1 < 2 ^ 64)
+      → ((key_of : Member → Member) (events : List Event) → IsRegistryAfter key_gives key_of events u
+      → registry.registered_after events + 1 < 2 ^ 64)
       → ((key_of : Member → Member) (events : List Event) → IsRegistryAfter key_gives key_of events u → e ≡ refusal.OutOfMemory)
-      → ((key_of : Member → Member) (events : List Event) → IsRegistryAfter key_gives key_of events u → IsRegistryAfter key_gives key_of events v)
+      → ((key_of : Member → Member) (events : List Event) → IsRegistryAfter key_gives key_of events u
+      → IsRegistryAfter key_gives key_of events v)
       → Stands M w h → Stands M (record w { registries = slice_set w.registries r v }) ((step.group r a cs, answer.Refused e) ∷ h)
   group-lacks w h r a cs e u v in_ at none left memory after s =
       let now = s.kept r u in_ in
       at-registry w h r a cs e u v in_ after
       (inr
       (ap answer.Refused (memory _ _ now)
-      ∙ group-missed M h r a cs (all-there w h r a (slice_get_within w.registries r u in_) at s) none (left _ _ now) (cells-fit h r u now))) s
+      ∙ group-missed M h r a cs (all-there w h r a (slice_get_within w.registries r u in_) at s) none (left _ _ now)
+      (cells-fit h r u now))) s
 
   -- the answer with the group's number is right
-  pub group-is-right : (w : WorldValue C) (h : History C) (r a n : ℕ) (cs : List C) (u : RegistryValue WorldRule) → slice_get w.registries r ≡ Some u
+  pub group-is-right : (w : WorldValue C) (h : History C) (r a n : ℕ) (cs : List C) (u : RegistryValue WorldRule)
+      → slice_get w.registries r ≡ Some u
       → a < length w.gates → least (map (M.refusal []) cs) ≡ None
-      → ((key_of : Member → Member) (events : List Event) → IsRegistryAfter key_gives key_of events u → registry.registered_after events + 1 < 2 ^ 64)
+      → ((key_of : Member → Member) (events : List Event) → IsRegistryAfter key_gives key_of events u
+      → registry.registered_after events + 1 < 2 ^ 64)
       → n ≡ length w.groups → Stands M w h → Answers M h (step.group r a cs) (answer.Group n)
   group-is-right w h r a n cs u in_ at none left number s =
       let now = s.kept r u in_ in

@@ -1,5 +1,6 @@
 -- What is held for the slots of a group after a step.
-use Rattle.std.proofs.Common.{◌≡◌, ◌⊎◌, inl, inr, ◌<◌, ◌≤◌, ◌==◌, ◌&&◌, ◌∙◌, ℕ, Bool, true, false, cond, List, [], ◌∷◌, ◌++◌, length, refl, sym, ap, subst, slice_get, arith}
+use Rattle.std.proofs.Common.{◌≡◌, ◌⊎◌, inl, inr, ◌<◌, ◌≤◌, ◌==◌, ◌&&◌, ◌∙◌, ℕ, Bool, true, false, cond, List, [], ◌∷◌, ◌++◌, length, refl}
+use Rattle.std.proofs.Common.{sym, ap, subst, slice_get, arith}
 use Rattle.std.specs.Prelude.{Option, Some, None, slice_set, nat_lt}
 use Rattle.std.proofs.lemmas.Bool.{ne_eqb, eq-eqb, lt-ltb}
 use Rattle.std.proofs.lemmas.Option.{slice_get_within, same_Some, none-some}
@@ -19,7 +20,8 @@ use Rattle.lb_group.proofs.Pasts.{lt-false, past-other, past-same}
 use Rattle.lb_history.specs.Steps.{Step}
 use Rattle.lb_history.specs.declared.answer.Answer.{Answer}
 use Rattle.lb_history.specs.Meanings.{Meaning}
-use Rattle.lb_history.specs.History.{History, Work, is_at, config_in, config, made, made_at, group_at, works_at, worked, work, happened, group_events, past}
+use Rattle.lb_history.specs.History.{History, Work, is_at, config_in, config, made, made_at, group_at, works_at, worked, work, happened}
+use Rattle.lb_history.specs.History.{group_events, past}
 use Rattle.lb_history.specs.Shared.{changed, registry_at, registry_events, key_of}
 use Rattle.lb_history.specs.Answers.{Answers, at_one}
 use Rattle.lb_history.specs.Joined.{joined_after, joined_events}
@@ -40,7 +42,8 @@ abbrev pub no_grants : group.History → Bool
 no_grants [] = true
 no_grants (e ∷ es) = no_grant e && no_grants es
 
-one-kept : (e : group.GroupEvent) (p : group.History) → no_grant e ≡ true → (granted (e ∷ p) ≡ granted p) × (granted_members (e ∷ p) ≡ granted_members p)
+one-kept : (e : group.GroupEvent) (p : group.History) → no_grant e ≡ true → (granted (e ∷ p) ≡ granted p)
+    × (granted_members (e ∷ p) ≡ granted_members p)
 one-kept (At i (group.Granted now)) p free = absurd (cc)
 one-kept e p free = (refl, refl)
 
@@ -74,17 +77,20 @@ module _ {C : Type 0} where
   pub events-here : (h : History C) (st : Step C) (a : Answer) (g : ℕ) → group_at h st ≡ Some g
       → group_events g ((st, a) ∷ h) ≡ happened h (group_events g h) st a ++ group_events g h
   events-here h st a g at =
-      ap (λ (b : Bool). cond b (happened h (group_events g h) st a ++ group_events g h) (group_events g h)) (ap (is_at g) at ∙ eq-eqb g g refl)
+      ap (λ (b : Bool). cond b (happened h (group_events g h) st a ++ group_events g h) (group_events g h))
+      (ap (is_at g) at ∙ eq-eqb g g refl)
 
   pub joined-here : (h : History C) (st : Step C) (a : Answer) (g : ℕ) → group_at h st ≡ Some g
       → joined_events g ((st, a) ∷ h) ≡ joined_after h (group_events g h) (joined_events g h) st a
   joined-here h st a g at =
-      ap (λ (b : Bool). cond b (joined_after h (group_events g h) (joined_events g h) st a) (joined_events g h)) (ap (is_at g) at ∙ eq-eqb g g refl)
+      ap (λ (b : Bool). cond b (joined_after h (group_events g h) (joined_events g h) st a) (joined_events g h))
+      (ap (is_at g) at ∙ eq-eqb g g refl)
 
   pub shared-here : (h : History C) (st : Step C) (a : Answer) (r : ℕ) → registry_at h st ≡ Some r
       → registry_events r ((st, a) ∷ h) ≡ changed h ((st, a) ∷ h) st a (registry_events r h)
   shared-here h st a r at =
-      ap (λ (b : Bool). cond b (changed h ((st, a) ∷ h) st a (registry_events r h)) (registry_events r h)) (ap (is_at r) at ∙ eq-eqb r r refl)
+      ap (λ (b : Bool). cond b (changed h ((st, a) ∷ h) st a (registry_events r h)) (registry_events r h))
+      (ap (is_at r) at ∙ eq-eqb r r refl)
 
   pub config-here : (h : History C) (g s : ℕ) (e : EntryValue C) → EntryIs h g e → config g s h ≡ slice_get (configs_of e.core.group) s
   config-here h g s e is = ap (config_in s) is.made_is
@@ -97,15 +103,18 @@ module _ {C : Type 0} where
   works-kept h st a g e is at free same s c k cs ks =
       let jobs = jobs-kept s (happened h (group_events g h) st a) (group_events g h) free in
       is.works_are s c k cs ks
-      ∙ held-by (origin e.core) s c (past g s h) (past_of s (happened h (group_events g h) st a ++ group_events g h)) (work g s h) (sym jobs.0) (sym jobs.1)
+      ∙ held-by (origin e.core) s c (past g s h) (past_of s (happened h (group_events g h) st a ++ group_events g h)) (work g s h)
+      (sym jobs.0) (sym jobs.1)
       ∙ ap (λ (p : group.History). held_of (origin e.core) s c (past_of s p) (work g s h)) (sym (events-here h st a g at))
       ∙ ap (held_of (origin e.core) s c (past g s ((st, a) ∷ h))) (sym (same s))
 
   -- one place of the works written
-  pub works-set : (h : History C) (st : Step C) (a : Answer) (g slot : ℕ) (e : EntryValue C) (old new : WorkValue C) (ws : List (WorkValue C)) → EntryIs h g e
+  pub works-set : (h : History C) (st : Step C) (a : Answer) (g slot : ℕ) (e : EntryValue C) (old new : WorkValue C)
+      (ws : List (WorkValue C)) → EntryIs h g e
       → slice_get e.works slot ≡ Some old → ws ≡ slice_set e.works slot new
       → ((s : ℕ) → ¬ (s ≡ slot) → past g s ((st, a) ∷ h) ≡ past g s h) → ((s : ℕ) → ¬ (s ≡ slot) → work g s ((st, a) ∷ h) ≡ work g s h)
-      → ((c : C) → slice_get (configs_of e.core.group) slot ≡ Some c → new ≡ held_of (origin e.core) slot c (past g slot ((st, a) ∷ h)) (work g slot ((st, a) ∷ h)))
+      → ((c : C) → slice_get (configs_of e.core.group) slot ≡ Some c
+      → new ≡ held_of (origin e.core) slot c (past g slot ((st, a) ∷ h)) (work g slot ((st, a) ∷ h)))
       → (s : ℕ) (c : C) (k : WorkValue C) → slice_get (configs_of e.core.group) s ≡ Some c → slice_get ws s ≡ Some k
       → k ≡ held_of (origin e.core) s c (past g s ((st, a) ∷ h)) (work g s ((st, a) ∷ h))
   works-set h st a g slot e old new ws is was to pasts works here s c k cs ks =
@@ -120,7 +129,8 @@ module _ {C : Type 0} where
       ]
 
   -- a number of a slot, where it is there
-  in-list : {A : Type 0} (cs : List C) (s : ℕ) (x : A) (told : A → Answer) → at_one (slice_get cs s) (λ c. told x) ≡ at_one (cond (nat_lt s (length cs)) (Some x) None) told
+  in-list : {A : Type 0} (cs : List C) (s : ℕ) (x : A) (told : A → Answer)
+      → at_one (slice_get cs s) (λ c. told x) ≡ at_one (cond (nat_lt s (length cs)) (Some x) None) told
   in-list cs s x told =
       elim (there cs s) [
         | inl none ↦ rw (none, lt-false s (length cs) (past_end cs s none)) refl
@@ -128,7 +138,8 @@ module _ {C : Type 0} where
       ]
 
   -- where a number of a slot was read, the slot is there, and the number is its own; else it isn't
-  pub there-of : {A : Type 0} (cs : List C) (s : ℕ) (x y : A) → cond (nat_lt s (length cs)) (Some x) None ≡ Some y → ((c : C) × (slice_get cs s ≡ Some c)) × (x ≡ y)
+  pub there-of : {A : Type 0} (cs : List C) (s : ℕ) (x y : A) → cond (nat_lt s (length cs)) (Some x) None ≡ Some y
+      → ((c : C) × (slice_get cs s ≡ Some c)) × (x ≡ y)
   there-of cs s x y is =
       elim (there cs s) [
         | inl none ↦ absurd (none-some y (rw (lt-false s (length cs) (past_end cs s none)) at is))
@@ -146,10 +157,12 @@ module _ {C : Type 0} where
   pub told-of : {A : Type 0} (h : History C) (g s : ℕ) (e : EntryValue C) (x : A) (r : Option A) (told : A → Answer) → EntryIs h g e
       → r ≡ at_slot (site e.core) s x → at_one (config g s h) (λ c. told x) ≡ at_one r told
   told-of h g s e x r told is to =
-      ap (λ (o : Option C). at_one o (λ c. told x)) (config-here h g s e is) ∙ in-list (configs_of e.core.group) s x told ∙ ap (λ (o : Option _). at_one o told) (sym to)
+      ap (λ (o : Option C). at_one o (λ c. told x)) (config-here h g s e is) ∙ in-list (configs_of e.core.group) s x told
+      ∙ ap (λ (o : Option _). at_one o told) (sym to)
 
   -- what is read of a slot's past
-  pub reading-told : {A : Type 0} (h : History C) (g s : ℕ) (e : EntryValue C) (f : group.History → A) (told : A → Answer) (r : Option A) → EntryIs h g e
+  pub reading-told : {A : Type 0} (h : History C) (g s : ℕ) (e : EntryValue C) (f : group.History → A) (told : A → Answer) (r : Option A)
+      → EntryIs h g e
       → r ≡ at_slot (site e.core) s (f (past_of s (joined.group_events (joined_events g h))))
       → at_one (config g s h) (λ c. told (f (past g s h))) ≡ at_one r told
   reading-told h g s e f told r is to =
@@ -157,8 +170,10 @@ module _ {C : Type 0} where
 
 module _ {C : Type 0} (M : Meaning C) where
   -- a right step after which nothing changed
-  pub next-still : (h : History C) (g : ℕ) (st : Step C) (a : Answer) (e : EntryValue C) (z : GateView) (v : RegistryValue WorldRule) → EntryIs h g e
-      → IsRegistryAfter key_gives (key_of g h) (registry_events e.registry h) v → Answers M h st a → Quiet h st a → permit_after st a z.out ≡ z.out
+  pub next-still : (h : History C) (g : ℕ) (st : Step C) (a : Answer) (e : EntryValue C) (z : GateView) (v : RegistryValue WorldRule)
+      → EntryIs h g e
+      → IsRegistryAfter key_gives (key_of g h) (registry_events e.registry h) v → Answers M h st a → Quiet h st a
+      → permit_after st a z.out ≡ z.out
       → EntryNext M h g st a e z e z v
   next-still h g st a e z v is kept right quiet out =
       record {

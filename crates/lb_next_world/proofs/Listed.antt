@@ -50,10 +50,12 @@ each_there ls (m ∷ ms) =
 
 -- whether the listings list these members, each against each
 pub listed_members : (ls : List Listing) (ms : List Member)
-    → (list_all (λ l. none_or (λ x. list_any (same_member x) ms) l.backend) ls && list_all (λ y. list_any (λ l. some_and (same_member y) l.backend) ls) ms)
+    → (list_all (λ l. none_or (λ x. list_any (same_member x) ms) l.backend) ls
+    && list_all (λ y. list_any (λ l. some_and (same_member y) l.backend) ls) ms)
     ≡ same_members (members_in ls) ms
 listed_members ls ms =
-    ap (λ b. b && list_all (λ y. list_any (λ l. some_and (same_member y) l.backend) ls) ms) (all_there (λ x. list_any (same_member x) ms) ls)
+    ap (λ b. b && list_all (λ y. list_any (λ l. some_and (same_member y) l.backend) ls) ms)
+    (all_there (λ x. list_any (same_member x) ms) ls)
     ∙ ap (λ b. list_all (λ x. list_any (same_member x) ms) (present ls) && b) (each_there ls ms) ∙ sym (same_set (present ls) ms)
 
 -- one listing more
@@ -63,7 +65,8 @@ fold-cons (Some x) ks = refl
 
 pub member-more : (ls : List Listing) (l : Listing) → members_in (ls ++ l ∷ []) ≡ with_key l.backend (members_in ls)
 member-more ls l =
-    ap set_of (filter_map-append (λ l. l.backend) ls (l ∷ [])) ∙ fold-append (insert_key member_cmp) [] (present ls) (cons_option l.backend [])
+    ap set_of (filter_map-append (λ l. l.backend) ls (l ∷ []))
+    ∙ fold-append (insert_key member_cmp) [] (present ls) (cons_option l.backend [])
     ∙ fold-cons l.backend (members_in ls)
 
 abbrev marks : List Listing → List (Member × Bool)
@@ -78,14 +81,16 @@ pub setting-more : (ls : List Listing) (l : Listing) → settings_in (ls ++ l �
 setting-more ls l =
     ap (λ (ms : List (Member × Bool)). fold (λ entries e. insert_entry member_cmp entries e.0 e.1) [] ms)
     (filter_map-append (λ l. marked l.backend l.mark) ls (l ∷ []))
-    ∙ fold-append (λ (entries : List (Member × Bool)) (e : Member × Bool). insert_entry member_cmp entries e.0 e.1) [] (marks ls) (cons_option (marked l.backend l.mark) [])
+    ∙ fold-append (λ (entries : List (Member × Bool)) (e : Member × Bool). insert_entry member_cmp entries e.0 e.1) [] (marks ls)
+    (cons_option (marked l.backend l.mark) [])
     ∙ fold-mark (marked l.backend l.mark) (settings_in ls)
 
 -- a setting is seen as one of a backend of that identity
 abbrev pub bare : SocketAddr × ℕ → Member
 bare k = bare_member k.1 (address_seen k.0)
 
-seen-by : (o : Ordering) (e : (SocketAddr × ℕ) × Bool) (es ins : List ((SocketAddr × ℕ) × Bool)) (new : List (Member × Bool)) (k : SocketAddr × ℕ) (on : Bool)
+seen-by : (o : Ordering) (e : (SocketAddr × ℕ) × Bool) (es ins : List ((SocketAddr × ℕ) × Bool)) (new : List (Member × Bool))
+    (k : SocketAddr × ℕ) (on : Bool)
     → settings_of ins ≡ new
     → settings_of (match_ordering o ((k, on) ∷ e ∷ es) ((e.0, on) ∷ es) (e ∷ ins))
     ≡ match_ordering o ((bare k, on) ∷ settings_of (e ∷ es)) ((bare e.0, on) ∷ settings_of es) ((bare e.0, e.1) ∷ new)
@@ -100,4 +105,5 @@ insert-seen cmp agrees [] k on = refl
 insert-seen cmp agrees (e ∷ es) k on =
     let new = insert_entry member_cmp (settings_of es) (bare k) on in
     seen-by (cmp k e.0) e es (insert_entry cmp es k on) new k on (insert-seen cmp agrees es k on)
-    ∙ ap (λ (o : Ordering). match_ordering o ((bare k, on) ∷ settings_of (e ∷ es)) ((bare e.0, on) ∷ settings_of es) ((bare e.0, e.1) ∷ new)) (agrees k e.0)
+    ∙ ap (λ (o : Ordering). match_ordering o ((bare k, on) ∷ settings_of (e ∷ es)) ((bare e.0, on) ∷ settings_of es)
+    ((bare e.0, e.1) ∷ new)) (agrees k e.0)

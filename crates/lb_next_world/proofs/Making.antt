@@ -1,5 +1,6 @@
 -- A group that is made: nothing has happened to it, nothing is held for it, and the others stay as they were.
-use Rattle.std.proofs.Common.{◌≡◌, ◌⊎◌, inl, inr, ◌<◌, ◌+◌, ◌==◌, ◌&&◌, ◌∙◌, ℕ, zero, suc, Bool, true, false, cond, List, [], ◌∷◌, ◌++◌, length, map, replicate, refl, sym, ap, subst, slice_get, arith}
+use Rattle.std.proofs.Common.{◌≡◌, ◌⊎◌, inl, inr, ◌<◌, ◌+◌, ◌==◌, ◌&&◌, ◌∙◌, ℕ, zero, suc, Bool, true, false, cond, List, [], ◌∷◌, ◌++◌}
+use Rattle.std.proofs.Common.{length, map, replicate, refl, sym, ap, subst, slice_get, arith}
 use Rattle.std.specs.Prelude.{Option, Some, None, slice_set}
 use Rattle.std.specs.Option.{option_map}
 use Rattle.std.proofs.lemmas.Bool.{ne_eqb, eq-eqb}
@@ -51,7 +52,8 @@ module _ {C : Type 0} (M : Meaning C) where
   nothing-loaded ((step.group r a cs, answer.Group n) ∷ h) run g none b = nothing-loaded h run.0 g (get-front (made h) _ g none) b
   nothing-loaded ((step.load i (Some c) l, answer.Done) ∷ h) run g none b =
       let m = found {C = C} (step.load i (Some c) l) (made_at i h) _ answer.Done refl run.1 in
-      unset (i == g) (same_member c b) l (load_of g b h) (ne_eqb i g (λ e. none-some m.0 (sym none ∙ sym (ap (λ (j : ℕ). made_at j h) e) ∙ m.1)))
+      unset (i == g) (same_member c b) l (load_of g b h)
+      (ne_eqb i g (λ e. none-some m.0 (sym none ∙ sym (ap (λ (j : ℕ). made_at j h) e) ∙ m.1)))
       ∙ nothing-loaded h run.0 g none b
   nothing-loaded ((st, a) ∷ h) run g none b = nothing-loaded h run.0 g none b
 
@@ -71,14 +73,16 @@ entered-at : {C : Type 0} (readers : List (Option (HeldValue C))) (es : List (Op
     → map (option_map entered_of) readers ≡ es → slice_get readers t ≡ Some (Some r) → slice_get es t ≡ Some (Some (entered_of r))
 entered-at {C = C} readers es t r is there = ap (λ (xs : List (Option Entered)). slice_get xs t) (sym is) ∙ mapped readers t there
   where
-    mapped : (xs : List (Option (HeldValue C))) (t : ℕ) → slice_get xs t ≡ Some (Some r) → slice_get (map (option_map entered_of) xs) t ≡ Some (Some (entered_of r))
+    mapped : (xs : List (Option (HeldValue C))) (t : ℕ) → slice_get xs t ≡ Some (Some r)
+        → slice_get (map (option_map entered_of) xs) t ≡ Some (Some (entered_of r))
     mapped [] t e = absurd (none-some (Some r) e)
     mapped (x ∷ xs) zero e = ap (λ (y : Option (HeldValue C)). Some (option_map entered_of y)) (same_Some x (Some r) e)
     mapped (x ∷ xs) (suc t) e = mapped xs t e
 
 module _ {C : Type 0} (M : Meaning C) where
   -- a reader is in a group that is there
-  reader-there : (h : History C) → IsRun M h → (t : ℕ) (e : Entered) → slice_get (entries h) t ≡ Some (Some e) → made_at e.group h ≡ None → ⊥
+  reader-there : (h : History C) → IsRun M h → (t : ℕ) (e : Entered) → slice_get (entries h) t ≡ Some (Some e) → made_at e.group h ≡ None
+      → ⊥
   reader-there h run t e there none =
       let some : 0 < group.readers e.generation (past e.group e.slot h) = reading M h run t e.generation e there refl in
       let zero_ : group.readers e.generation (past e.group e.slot h) ≡ 0 =
@@ -87,7 +91,8 @@ module _ {C : Type 0} (M : Meaning C) where
 
   -- the entry of the new group
   entry-made : (h : History C) (r a : ℕ) (id : GateId) (cs : List C) (n : ℕ) (e : EntryValue C) → IsRun M h → r < length (registries h)
-      → IsNewEntry r a id cs (registered_after (registry_events r h) + 1) e → EntryIs ((step.group r a cs, answer.Group n) ∷ h) (length (made h)) e
+      → IsNewEntry r a id cs (registered_after (registry_events r h) + 1) e
+      → EntryIs ((step.group r a cs, answer.Group n) ∷ h) (length (made h)) e
   entry-made h r a id cs n e run there new =
       let none : made_at (length (made h)) h ≡ None = slice_get_past (made h) (length (made h)) (omega arith) in
       let was = absent M h run (length (made h)) none in
@@ -97,8 +102,11 @@ module _ {C : Type 0} (M : Meaning C) where
         made_is = get_last (made h) _
             ∙ ap Some (same-entry _ _ _ _ _ _ _ _ (sym new.registry_is) (sym new.gate_is)
             (ap (λ (k : ℕ). k + 1) (sym (numbered M h run r there)) ∙ sym new.view_is) (sym configs));
-        core_is = subst (λ (k : core.Made C). stands.Stands k (joined_events (length (made h)) h) e.core) (same-core e.core.group.id _ _ _ _ (sym new.id_is) (sym configs))
-            (subst (λ (es : joined.History). stands.Stands (record { id = e.core.group.id; gate = id; configs = cs }) es e.core) (sym (nothing-joined M h run (length (made h)) none)) new.core_is);
+        core_is =
+            subst (λ (k : core.Made C). stands.Stands k (joined_events (length (made h)) h) e.core)
+            (same-core e.core.group.id _ _ _ _ (sym new.id_is) (sym configs))
+            (subst (λ (es : joined.History). stands.Stands (record { id = e.core.group.id; gate = id; configs = cs }) es e.core)
+            (sym (nothing-joined M h run (length (made h)) none)) new.core_is);
         works_in = ap length new.works_are ∙ length-replicate (length cs) nothing ∙ ap length (sym configs);
         works_are = λ s c k at found_.
             get_replicate (length cs) nothing s k (ap (λ (xs : List (WorkValue C)). slice_get xs s) (sym new.works_are) ∙ found_)
@@ -106,14 +114,17 @@ module _ {C : Type 0} (M : Meaning C) where
         loads_are = λ b. new.loads_are b ∙ sym (nothing-loaded M h run (length (made h)) none b);
       }
 
-  pub group-made : (w : WorldValue C) (h : History C) (r a n : ℕ) (cs : List C) (z : GateView) (u v : RegistryValue WorldRule) (e : EntryValue C)
+  pub group-made : (w : WorldValue C) (h : History C) (r a n : ℕ) (cs : List C) (z : GateView) (u v : RegistryValue WorldRule)
+      (e : EntryValue C)
       → n ≡ length w.groups → slice_get w.registries r ≡ Some u → slice_get w.gates a ≡ Some z
       → IsNewEntry r a z.id cs (registered_after (registry_events r h) + 1) e
       → IsRegistryAfter key_gives (key_at r h) (registry.Applied ∷ registry.Registered ∷ registry_events r h) v
       → Answers M h (step.group r a cs) (answer.Group n) → Stands M w h
-      → Stands M (record w { registries = slice_set w.registries r v; groups = w.groups ++ e ∷ [] }) ((step.group r a cs, answer.Group n) ∷ h)
+      → Stands M (record w { registries = slice_set w.registries r v; groups = w.groups ++ e ∷ [] })
+      ((step.group r a cs, answer.Group n) ∷ h)
   group-made w h r a n cs z u v e number there gate-there new now right s =
-      let inside : r < length (registries h) = (let low : r < length w.registries = slice_get_within w.registries r u there in omega (arith, low, s.registries_are)) in
+      let inside : r < length (registries h) =
+      (let low : r < length w.registries = slice_get_within w.registries r u there in omega (arith, low, s.registries_are)) in
       let more : length (slice_set w.registries r v) ≡ length w.registries = length-set w.registries r v in
       record {
         run = (s.run, right);
@@ -124,9 +135,11 @@ module _ {C : Type 0} (M : Meaning C) where
         kept = λ i x found_.
             elim (get_set w.registries r i u v x there found_) [
               | inl p ↦
-                  subst (λ (j : ℕ). IsRegistryAfter key_gives (key_at j h) (registry_events j ((step.group r a cs, answer.Group n) ∷ h)) x) (sym p.0)
+                  subst (λ (j : ℕ). IsRegistryAfter key_gives (key_at j h) (registry_events j ((step.group r a cs, answer.Group n) ∷ h)) x)
+                  (sym p.0)
                   (rw (eq-eqb r r refl)
-                  (subst (λ (t : RegistryValue WorldRule). IsRegistryAfter key_gives (key_at r h) (registry.Applied ∷ registry.Registered ∷ registry_events r h) t) (sym p.1) now))
+                  (subst (λ (t : RegistryValue WorldRule). IsRegistryAfter key_gives (key_at r h)
+                  (registry.Applied ∷ registry.Registered ∷ registry_events r h) t) (sym p.1) now))
               | inr p ↦ rw (ne_eqb r i (λ q. p.0 (sym q))) (s.kept i x p.1)
             ];
         outs = s.outs;
@@ -149,7 +162,8 @@ module _ {C : Type 0} (M : Meaning C) where
         on_site = λ g x found_.
             elim (get_push w.groups g e x found_) [
               | inl p ↦
-                  subst (λ (t : EntryValue C). OnSite (record w { registries = slice_set w.registries r v; groups = w.groups ++ e ∷ [] }) t) (sym p.1)
+                  subst (λ (t : EntryValue C). OnSite
+                  (record w { registries = slice_set w.registries r v; groups = w.groups ++ e ∷ [] }) t) (sym p.1)
                   (record {
                     view = z;
                     gate = ap (slice_get w.gates) new.gate_is ∙ gate-there;

@@ -1,5 +1,6 @@
 -- A step at a group, from the group's entry to the world: once for all kinds.
-use Rattle.std.proofs.Common.{◌≡◌, ◌⊎◌, inl, inr, ◌<◌, ◌≤◌, ◌==◌, ◌||◌, ◌&&◌, ◌∙◌, ℕ, Bool, true, false, cond, List, [], ◌∷◌, ◌++◌, length, map, refl, sym, ap, subst, slice_get, arith}
+use Rattle.std.proofs.Common.{◌≡◌, ◌⊎◌, inl, inr, ◌<◌, ◌≤◌, ◌==◌, ◌||◌, ◌&&◌, ◌∙◌, ℕ, Bool, true, false, cond, List, [], ◌∷◌, ◌++◌, length}
+use Rattle.std.proofs.Common.{map, refl, sym, ap, subst, slice_get, arith}
 use Rattle.std.specs.Prelude.{Option, Some, None, slice_set}
 use Rattle.std.specs.Option.{option_map}
 use Rattle.std.proofs.lemmas.Bool.{ne_eqb, eq-eqb, cases_eq}
@@ -23,7 +24,9 @@ use Rattle.lb_history.specs.Steps as step
 use Rattle.lb_history.specs.declared.answer.Answer.{Answer}
 use Rattle.lb_history.specs.declared.answer.Answer.TheVariants as answer
 use Rattle.lb_history.specs.Meanings.{Meaning}
-use Rattle.lb_history.specs.History.{History, Made, RegistryMade, is_at, gate_in, gate_of, registry_of, registries, gates, made, made_at, entries, group_at, works_at, worked, work, happened, group_events, past, is_grant, is_failure, is_destruction, is_out, load_of}
+use Rattle.lb_history.specs.History.{History, Made, RegistryMade, is_at, gate_in, gate_of, registry_of, registries, gates, made, made_at}
+use Rattle.lb_history.specs.History.{entries, group_at, works_at, worked, work, happened, group_events, past, is_grant, is_failure}
+use Rattle.lb_history.specs.History.{is_destruction, is_out, load_of}
 use Rattle.lb_history.specs.Shared.{key_in, key_at, key_of, registry_made, registry_at, registry_in, registry_events}
 use Rattle.lb_history.specs.Answers.{IsRun, Answers}
 use Rattle.lb_history.specs.Joined.{joined_after, joined_events}
@@ -100,7 +103,8 @@ module _ {C : Type 0} where
   loads-else h (step.load x None l) a g i b at off = refl
   loads-else h st a g i b at off = refl
 
-  pub entry-else : (h : History C) (st : Step C) (a : Answer) (g i : ℕ) (e : EntryValue C) → AtGroup h st a g → ¬ (i ≡ g) → EntryIs h i e → EntryIs ((st, a) ∷ h) i e
+  pub entry-else : (h : History C) (st : Step C) (a : Answer) (g i : ℕ) (e : EntryValue C) → AtGroup h st a g → ¬ (i ≡ g) → EntryIs h i e
+      → EntryIs ((st, a) ∷ h) i e
   entry-else h st a g i e at off is =
       let stays = others-stay h st a in
       let away : is_at i (group_at h st) ≡ false = ap (is_at i) at.group_is ∙ ne_eqb g i (λ p. off (sym p)) in
@@ -144,10 +148,12 @@ module _ {C : Type 0} (M : Meaning C) where
       record w { registries = slice_set w.registries e.registry v; gates = slice_set w.gates e.gate z; groups = slice_set w.groups g d }
 
   -- the site of a group stays
-  placed : (w : WorldValue C) (g : ℕ) (e d x : EntryValue C) (z y : GateView) (v : RegistryValue WorldRule) (rs : List (Option (HeldValue C)))
+  placed : (w : WorldValue C) (g : ℕ) (e d x : EntryValue C) (z y : GateView) (v : RegistryValue WorldRule)
+      (rs : List (Option (HeldValue C)))
       → slice_get w.gates e.gate ≡ Some z → y.id ≡ z.id → OnSite w x → OnSite (record (stepped w g e d y v) { readers = rs }) x
   placed w g e d x z y v rs there same on =
-      let inside : x.registry < length (slice_set w.registries e.registry v) = omega (arith, length-set w.registries e.registry v, on.registry) in
+      let inside : x.registry < length (slice_set w.registries e.registry v) =
+      omega (arith, length-set w.registries e.registry v, on.registry) in
       elim (cases_eq x.gate e.gate) [
         | inl p ↦
             let alike : z ≡ on.view = same_Some z on.view (sym there ∙ ap (slice_get w.gates) (sym p) ∙ on.gate) in
@@ -160,7 +166,8 @@ module _ {C : Type 0} (M : Meaning C) where
         | inr off ↦ record { view = on.view; gate = get_other w.gates e.gate x.gate y off ∙ on.gate; id = on.id; registry = inside }
       ]
 
-  site-kept : (w : WorldValue C) (e d : EntryValue C) → d.registry ≡ e.registry → d.gate ≡ e.gate → d.core.group.gate ≡ e.core.group.gate → OnSite w e → OnSite w d
+  site-kept : (w : WorldValue C) (e d : EntryValue C) → d.registry ≡ e.registry → d.gate ≡ e.gate → d.core.group.gate ≡ e.core.group.gate
+      → OnSite w e → OnSite w d
   site-kept w e d r z i on =
       record {
         view = on.view;
@@ -170,10 +177,12 @@ module _ {C : Type 0} (M : Meaning C) where
       }
 
   -- a step at a group, with the readers as they are after it
-  pub world-moves : (w : WorldValue C) (h : History C) (g : ℕ) (st : Step C) (a : Answer) (e d : EntryValue C) (z y : GateView) (u v : RegistryValue WorldRule)
+  pub world-moves : (w : WorldValue C) (h : History C) (g : ℕ) (st : Step C) (a : Answer) (e d : EntryValue C) (z y : GateView)
+      (u v : RegistryValue WorldRule)
       (rs : List (Option (HeldValue C)))
       → AtGroup h st a g → map (option_map entered_of) rs ≡ entries ((st, a) ∷ h)
-      → ((t : ℕ) (r : HeldValue C) → slice_get rs t ≡ Some (Some r) → (x : EntryValue C) → slice_get (slice_set w.groups g d) r.group ≡ Some x → IsOwnReader x.core r.reader)
+      → ((t : ℕ) (r : HeldValue C) → slice_get rs t ≡ Some (Some r) → (x : EntryValue C)
+      → slice_get (slice_set w.groups g d) r.group ≡ Some x → IsOwnReader x.core r.reader)
       → slice_get w.groups g ≡ Some e → slice_get w.gates e.gate ≡ Some z
       → slice_get w.registries e.registry ≡ Some u → EntryNext M h g st a e z d y v → Stands M w h
       → Stands M (record (stepped w g e d y v) { readers = rs }) ((st, a) ∷ h)
@@ -189,12 +198,15 @@ module _ {C : Type 0} (M : Meaning C) where
         groups_are = length-set w.groups g d ∙ s.groups_are ∙ ap length (sym at.made_are);
         readers_are = reads;
         kept = λ r x found.
-            subst (λ (ms : List RegistryMade). IsRegistryAfter key_gives (key_in (slice_get ms r)) (registry_events r ((st, a) ∷ h)) x) (sym at.registries_are)
+            subst (λ (ms : List RegistryMade). IsRegistryAfter key_gives (key_in (slice_get ms r)) (registry_events r ((st, a) ∷ h)) x)
+            (sym at.registries_are)
             (elim (get_set w.registries e.registry r u v x registry-there found) [
               | inl p ↦
                   subst (λ (i : ℕ). IsRegistryAfter key_gives (key_at i h) (registry_events i ((st, a) ∷ h)) x) (sym p.0)
-                  (subst (λ (t : RegistryValue WorldRule). IsRegistryAfter key_gives (key_at e.registry h) (registry_events e.registry ((st, a) ∷ h)) t) (sym p.1)
-                  (subst (λ (f : Member → Member). IsRegistryAfter key_gives f (registry_events e.registry ((st, a) ∷ h)) v) (key-here h g e is) next.kept))
+                  (subst (λ (t : RegistryValue WorldRule). IsRegistryAfter key_gives (key_at e.registry h)
+                  (registry_events e.registry ((st, a) ∷ h)) t) (sym p.1)
+                  (subst (λ (f : Member → Member). IsRegistryAfter key_gives f (registry_events e.registry ((st, a) ∷ h)) v)
+                  (key-here h g e is) next.kept))
               | inr p ↦
                   subst (λ (es : List registry.Event). IsRegistryAfter key_gives (key_at r h) es x)
                   (sym ((others-stay h st a).registries r (ap (is_at r) registry-is ∙ ne_eqb e.registry r (λ q. p.0 (sym q)))))
@@ -207,28 +219,34 @@ module _ {C : Type 0} (M : Meaning C) where
                   ∙ ap (permit_after st a) (s.outs e.gate z gate-there)
                   ∙ sym
                   (ap (λ (i : ℕ). is_out i ((st, a) ∷ h)) p.0
-                  ∙ ap (λ (t : Bool). cond t (permit_after st a (is_out e.gate h)) (is_out e.gate h)) (ap (is_at e.gate) gate-at ∙ eq-eqb e.gate e.gate refl))
+                  ∙ ap (λ (t : Bool). cond t (permit_after st a (is_out e.gate h)) (is_out e.gate h))
+                  (ap (is_at e.gate) gate-at ∙ eq-eqb e.gate e.gate refl))
               | inr p ↦
                   s.outs x q p.1
-                  ∙ sym (ap (λ (t : Bool). cond t (permit_after st a (is_out x h)) (is_out x h)) (ap (is_at x) gate-at ∙ ne_eqb e.gate x (λ q. p.0 (sym q))))
+                  ∙ sym (ap (λ (t : Bool). cond t (permit_after st a (is_out x h)) (is_out x h))
+                  (ap (is_at x) gate-at ∙ ne_eqb e.gate x (λ q. p.0 (sym q))))
             ];
         each = λ i x found.
             elim (get_set w.groups g i e d x there found) [
-              | inl p ↦ subst (λ (j : ℕ). EntryIs ((st, a) ∷ h) j x) (sym p.0) (subst (λ (t : EntryValue C). EntryIs ((st, a) ∷ h) g t) (sym p.1) next.is)
+              | inl p ↦ subst (λ (j : ℕ). EntryIs ((st, a) ∷ h) j x) (sym p.0)
+                  (subst (λ (t : EntryValue C). EntryIs ((st, a) ∷ h) g t) (sym p.1) next.is)
               | inr p ↦ entry-else h st a g i x at p.0 (s.each i x p.1)
             ];
         on_site = λ i x found.
             elim (get_set w.groups g i e d x there found) [
               | inl p ↦ subst (λ (t : EntryValue C). OnSite (record (stepped w g e d y v) { readers = rs }) t) (sym p.1)
-                  (placed w g e d d z y v rs gate-there after.0 (site-kept w e d next.registry_is next.gate_is (ap (λ (o : Origin). o.gate) next.origin_is) (s.on_site g e there)))
+                  (placed w g e d d z y v rs gate-there after.0
+                  (site-kept w e d next.registry_is next.gate_is (ap (λ (o : Origin). o.gate) next.origin_is) (s.on_site g e there)))
               | inr p ↦ placed w g e d x z y v rs gate-there after.0 (s.on_site i x p.1)
             ];
         own = owns;
       }
 
   -- the readers of before stay in their groups
-  pub own-kept : (w : WorldValue C) (h : History C) (g : ℕ) (e d : EntryValue C) → slice_get w.groups g ≡ Some e → origin d.core ≡ origin e.core → Stands M w h
-      → (t : ℕ) (r : HeldValue C) → slice_get w.readers t ≡ Some (Some r) → (x : EntryValue C) → slice_get (slice_set w.groups g d) r.group ≡ Some x
+  pub own-kept : (w : WorldValue C) (h : History C) (g : ℕ) (e d : EntryValue C) → slice_get w.groups g ≡ Some e
+      → origin d.core ≡ origin e.core → Stands M w h
+      → (t : ℕ) (r : HeldValue C) → slice_get w.readers t ≡ Some (Some r) → (x : EntryValue C)
+      → slice_get (slice_set w.groups g d) r.group ≡ Some x
       → IsOwnReader x.core r.reader
   own-kept w h g e d there same s t r found x in_ =
       elim (get_set w.groups g r.group e d x there in_) [
@@ -238,31 +256,38 @@ module _ {C : Type 0} (M : Meaning C) where
         | inr p ↦ s.own t r found x p.1
       ]
 
-  pub world-next : (w : WorldValue C) (h : History C) (g : ℕ) (st : Step C) (a : Answer) (e d : EntryValue C) (z y : GateView) (u v : RegistryValue WorldRule)
+  pub world-next : (w : WorldValue C) (h : History C) (g : ℕ) (st : Step C) (a : Answer) (e d : EntryValue C) (z y : GateView)
+      (u v : RegistryValue WorldRule)
       → AtGroup h st a g → entries ((st, a) ∷ h) ≡ entries h → slice_get w.groups g ≡ Some e → slice_get w.gates e.gate ≡ Some z
-      → slice_get w.registries e.registry ≡ Some u → EntryNext M h g st a e z d y v → Stands M w h → Stands M (stepped w g e d y v) ((st, a) ∷ h)
+      → slice_get w.registries e.registry ≡ Some u → EntryNext M h g st a e z d y v → Stands M w h
+      → Stands M (stepped w g e d y v) ((st, a) ∷ h)
   world-next w h g st a e d z y u v at same there gate-there registry-there next s =
-      world-moves w h g st a e d z y u v w.readers at (s.readers_are ∙ sym same) (own-kept w h g e d there next.origin_is s) there gate-there registry-there next s
+      world-moves w h g st a e d z y u v w.readers at (s.readers_are ∙ sym same)
+      (own-kept w h g e d there next.origin_is s) there gate-there registry-there next s
 
   -- a step at a group that its entry's call does
-  pub world-does : (w : WorldValue C) (h : History C) (g : ℕ) (st : ℕ → Step C) (a : Answer) (e d : EntryValue C) (z y : GateView) (u v : RegistryValue WorldRule)
+  pub world-does : (w : WorldValue C) (h : History C) (g : ℕ) (st : ℕ → Step C) (a : Answer) (e d : EntryValue C) (z y : GateView)
+      (u v : RegistryValue WorldRule)
       → AtGroup h (st g) a g → entries ((st g, a) ∷ h) ≡ entries h → slice_get w.groups g ≡ Some e → slice_get w.gates e.gate ≡ Some z
       → slice_get w.registries e.registry ≡ Some u → Does M st e z u a d y v → Stands M w h → Stands M (stepped w g e d y v) ((st g, a) ∷ h)
   world-does w h g st a e d z y u v at same there gate-there registry-there does s =
       let is = s.each g e there in
       world-next w h g (st g) a e d z y u v at same there gate-there registry-there
       (does h g s.run is (s.outs e.gate z gate-there)
-      (subst (λ (f : Member → Member). IsRegistryAfter key_gives f (registry_events e.registry h) u) (sym (key-here h g e is)) (s.kept e.registry u registry-there))) s
+      (subst (λ (f : Member → Member). IsRegistryAfter key_gives f (registry_events e.registry h) u) (sym (key-here h g e is))
+      (s.kept e.registry u registry-there))) s
 
   -- some history stands behind the world after it, too
-  pub founded : (w x : WorldValue C) (st : Step C) (a : Answer) → IsFounded M w → ((h : History C) → Stands M w h → Stands M x ((st, a) ∷ h)) → IsFounded M x
+  pub founded : (w x : WorldValue C) (st : Step C) (a : Answer) → IsFounded M w
+      → ((h : History C) → Stands M w h → Stands M x ((st, a) ∷ h)) → IsFounded M x
   founded w x st a was then_ = record { history = (st, a) ∷ was.history; stands = then_ was.history was.stands }
 
   pub entry-of : (w : WorldValue C) (g : ℕ) (e : EntryValue C) → IsFounded M w → slice_get w.groups g ≡ Some e → IsEntry M e
   entry-of w g e was there = record { history = was.history; number = g; run = was.stands.run; is = was.stands.each g e there }
 
   -- no such group
-  absent-right : (h : History C) (g : ℕ) (l : Local) → made_at g h ≡ None → IsWhole l → Answers M h (local_seen g l) (answer.Refused refusal.NoSuch)
+  absent-right : (h : History C) (g : ℕ) (l : Local) → made_at g h ≡ None → IsWhole l
+      → Answers M h (local_seen g l) (answer.Refused refusal.NoSuch)
   absent-right h g (is.Update now listings) none whole = inl (rw (whole, none) refl)
   absent-right h g (is.Select s key limit words) none whole = rw none refl
   absent-right h g l none whole = inl (rw none refl)

@@ -14,7 +14,9 @@ use Rattle.lb_history.specs.Steps as step
 use Rattle.lb_history.specs.declared.answer.Answer.{Answer}
 use Rattle.lb_history.specs.declared.answer.Answer.TheVariants as answer
 use Rattle.lb_history.specs.Meanings.{Meaning}
-use Rattle.lb_history.specs.History.{History, RegistryMade, Work, is_at, gate_in, registries, gates, made, made_at, entries, group_at, works_at, worked, work, happened, group_events, past, is_grant, is_failure, is_destruction, is_out, load_of}
+use Rattle.lb_history.specs.History.{History, RegistryMade, Work, is_at, gate_in, registries, gates, made, made_at, entries, group_at}
+use Rattle.lb_history.specs.History.{works_at, worked, work, happened, group_events, past, is_grant, is_failure, is_destruction, is_out}
+use Rattle.lb_history.specs.History.{load_of}
 use Rattle.lb_history.specs.Shared.{key_in, registry_at, changed, registry_events}
 use Rattle.lb_history.specs.Answers.{IsRun, Answers}
 use Rattle.lb_history.specs.Joined.{joined_after, joined_events}
@@ -59,10 +61,12 @@ module _ {C : Type 0} where
         made_are = m;
         entries_are = n;
         group_is = λ g.
-            ap (λ (es : group.History). cond (is_at g (group_at h st)) (es ++ group_events g h) (group_events g h)) (none (group_events g h))
+            ap (λ (es : group.History). cond (is_at g (group_at h st)) (es ++ group_events g h) (group_events g h))
+            (none (group_events g h))
             ∙ same-either (is_at g (group_at h st)) (group_events g h);
         joined_is = λ g.
-            ap (λ (es : joined.History). cond (is_at g (group_at h st)) es (joined_events g h)) (same (group_events g h) (joined_events g h))
+            ap (λ (es : joined.History). cond (is_at g (group_at h st)) es (joined_events g h))
+            (same (group_events g h) (joined_events g h))
             ∙ same-either (is_at g (group_at h st)) (joined_events g h);
         registry_is = λ x.
             ap (λ (es : List registry.Event). cond (is_at x (registry_at h st)) es (registry_events x h)) (events (registry_events x h))
@@ -77,17 +81,23 @@ module _ {C : Type 0} where
   -- a refusal changes nothing
   pub refused-still : (h : History C) (st : Step C) (r : Refusal) → Quiet h st (answer.Refused r)
   refused-still h (step.load g None l) r =
-      still h (step.load g None l) (answer.Refused r) refl refl refl refl (λ k. refl) (λ k e. refl) (λ es. refl) refl refl (λ w. refl) (λ i b. refl)
+      still h (step.load g None l) (answer.Refused r) refl refl refl refl (λ k. refl) (λ k e. refl) (λ es. refl) refl refl (λ w. refl)
+      (λ i b. refl)
   refused-still h (step.load g (Some c) l) r =
-      still h (step.load g (Some c) l) (answer.Refused r) refl refl refl refl (λ k. refl) (λ k e. refl) (λ es. refl) refl refl (λ w. refl) (λ i b. refl)
+      still h (step.load g (Some c) l) (answer.Refused r) refl refl refl refl (λ k. refl) (λ k e. refl) (λ es. refl) refl refl (λ w. refl)
+      (λ i b. refl)
   refused-still h (step.enable g None) r =
-      still h (step.enable g None) (answer.Refused r) refl refl refl refl (λ k. refl) (λ k e. refl) (λ es. refl) refl refl (λ w. refl) (λ i b. refl)
+      still h (step.enable g None) (answer.Refused r) refl refl refl refl (λ k. refl) (λ k e. refl) (λ es. refl) refl refl (λ w. refl)
+      (λ i b. refl)
   refused-still h (step.enable g (Some c)) r =
-      still h (step.enable g (Some c)) (answer.Refused r) refl refl refl refl (λ k. refl) (λ k e. refl) (λ es. refl) refl refl (λ w. refl) (λ i b. refl)
+      still h (step.enable g (Some c)) (answer.Refused r) refl refl refl refl (λ k. refl) (λ k e. refl) (λ es. refl) refl refl (λ w. refl)
+      (λ i b. refl)
   refused-still h (step.disable g None) r =
-      still h (step.disable g None) (answer.Refused r) refl refl refl refl (λ k. refl) (λ k e. refl) (λ es. refl) refl refl (λ w. refl) (λ i b. refl)
+      still h (step.disable g None) (answer.Refused r) refl refl refl refl (λ k. refl) (λ k e. refl) (λ es. refl) refl refl (λ w. refl)
+      (λ i b. refl)
   refused-still h (step.disable g (Some c)) r =
-      still h (step.disable g (Some c)) (answer.Refused r) refl refl refl refl (λ k. refl) (λ k e. refl) (λ es. refl) refl refl (λ w. refl) (λ i b. refl)
+      still h (step.disable g (Some c)) (answer.Refused r) refl refl refl refl (λ k. refl) (λ k e. refl) (λ es. refl) refl refl (λ w. refl)
+      (λ i b. refl)
   refused-still h st r =
       still h st (answer.Refused r) refl refl refl refl (λ k. refl) (λ k e. refl) (λ es. refl) refl refl (λ w. refl) (λ i b. refl)
 
@@ -102,15 +112,18 @@ module _ {C : Type 0} where
         works_in = is.works_in;
         works_are = λ s c x cs xs.
             is.works_are s c x cs xs
-            ∙ cong2 (held_of (origin e.core) s c) (past g s h) (past g s k) (work g s h) (work g s k) (ap (group.past_of s) (sym p)) (sym (w s));
+            ∙ cong2 (held_of (origin e.core) s c) (past g s h) (past g s k) (work g s h) (work g s k) (ap (group.past_of s) (sym p))
+            (sym (w s));
         loads_are = λ b. is.loads_are b ∙ sym (l b);
       }
 
-  pub entry-still : (h : History C) (st : Step C) (a : Answer) (g : ℕ) (e : EntryValue C) → Quiet h st a → EntryIs h g e → EntryIs ((st, a) ∷ h) g e
+  pub entry-still : (h : History C) (st : Step C) (a : Answer) (g : ℕ) (e : EntryValue C) → Quiet h st a → EntryIs h g e
+      → EntryIs ((st, a) ∷ h) g e
   entry-still h st a g e q is = entry-moves h ((st, a) ∷ h) g e q.made_are (q.joined_is g) (q.group_is g) (q.work_is g) (q.load_is g) is
 
 module _ {C : Type 0} (M : Meaning C) where
-  pub world-still : (w : WorldValue C) (h : History C) (st : Step C) (a : Answer) → Answers M h st a → Quiet h st a → Stands M w h → Stands M w ((st, a) ∷ h)
+  pub world-still : (w : WorldValue C) (h : History C) (st : Step C) (a : Answer) → Answers M h st a → Quiet h st a → Stands M w h
+      → Stands M w ((st, a) ∷ h)
   world-still w h st a right q s =
       record {
         run = (s.run, right);
@@ -119,8 +132,10 @@ module _ {C : Type 0} (M : Meaning C) where
         groups_are = s.groups_are ∙ ap length (sym q.made_are);
         readers_are = s.readers_are ∙ sym q.entries_are;
         kept = λ r v at.
-            subst (λ (ms : List RegistryMade). IsRegistryAfter key_gives (key_in (slice_get ms r)) (registry_events r ((st, a) ∷ h)) v) (sym q.registries_are)
-            (subst (λ (es : List registry.Event). IsRegistryAfter key_gives (key_in (slice_get (registries h) r)) es v) (sym (q.registry_is r)) (s.kept r v at));
+            subst (λ (ms : List RegistryMade). IsRegistryAfter key_gives (key_in (slice_get ms r)) (registry_events r ((st, a) ∷ h)) v)
+            (sym q.registries_are)
+            (subst (λ (es : List registry.Event). IsRegistryAfter key_gives (key_in (slice_get (registries h) r)) es v)
+            (sym (q.registry_is r)) (s.kept r v at));
         outs = λ x z at. s.outs x z at ∙ sym (q.out_is x);
         each = λ g e at. entry-still h st a g e q (s.each g e at);
         on_site = s.on_site;
@@ -128,5 +143,6 @@ module _ {C : Type 0} (M : Meaning C) where
       }
 
   -- a right refusal of a world that stays as it is
-  pub world-refused : (w : WorldValue C) (h : History C) (st : Step C) (r : Refusal) → Answers M h st (answer.Refused r) → Stands M w h → Stands M w ((st, answer.Refused r) ∷ h)
+  pub world-refused : (w : WorldValue C) (h : History C) (st : Step C) (r : Refusal) → Answers M h st (answer.Refused r) → Stands M w h
+      → Stands M w ((st, answer.Refused r) ∷ h)
   world-refused w h st r right s = world-still w h st (answer.Refused r) right (refused-still h st r) s

@@ -1,5 +1,6 @@
 -- Steps at a registry alone, and those that make a registry or a gate: what they leave of the world.
-use Rattle.std.proofs.Common.{◌≡◌, ◌⊎◌, inl, inr, ◌<◌, ◌+◌, ◌==◌, ◌∙◌, ℕ, Bool, true, false, cond, List, [], ◌∷◌, ◌++◌, length, map, refl, sym, ap, subst, slice_get, arith}
+use Rattle.std.proofs.Common.{◌≡◌, ◌⊎◌, inl, inr, ◌<◌, ◌+◌, ◌==◌, ◌∙◌, ℕ, Bool, true, false, cond, List, [], ◌∷◌, ◌++◌, length, map, refl}
+use Rattle.std.proofs.Common.{sym, ap, subst, slice_get, arith}
 use Rattle.std.specs.Prelude.{Option, Some, None, slice_set}
 use Rattle.std.specs.Option.{option_map}
 use Rattle.std.proofs.lemmas.Bool.{ne_eqb, eq-eqb}
@@ -17,7 +18,8 @@ use Rattle.lb_history.specs.declared.answer.Answer.{Answer}
 use Rattle.lb_history.specs.declared.answer.Answer.TheVariants as answer
 use Rattle.lb_history.specs.declared.step.CellKey.{CellKey}
 use Rattle.lb_history.specs.Meanings.{Meaning}
-use Rattle.lb_history.specs.History.{History, Made, RegistryMade, is_at, gate_at, slot_gate, registries, gates, made, made_at, entries, work, group_events, is_out, load_of}
+use Rattle.lb_history.specs.History.{History, Made, RegistryMade, is_at, gate_at, slot_gate, registries, gates, made, made_at, entries}
+use Rattle.lb_history.specs.History.{work, group_events, is_out, load_of}
 use Rattle.lb_history.specs.Shared.{key_by, key_in, key_at, started, registry_at, registry_events}
 use Rattle.lb_history.specs.Answers.{IsRun, Answers}
 use Rattle.lb_history.specs.Joined.{joined_events}
@@ -85,7 +87,8 @@ module _ {C : Type 0} where
   slot-on s x None e = absurd (none-some x e)
   slot-on s x (Some m) e = on m (slice_get m.configs s) e
     where
-      on : (m : Made C) (c : Option C) → option_map (λ c. m.gate) c ≡ Some x → (n : Made C) × ((let it : Option (Made C) = Some m in it ≡ Some n) × (n.gate ≡ x))
+      on : (m : Made C) (c : Option C) → option_map (λ c. m.gate) c ≡ Some x → (n : Made C)
+          × ((let it : Option (Made C) = Some m in it ≡ Some n) × (n.gate ≡ x))
       on m None e = absurd (none-some x e)
       on m (Some c) e = (m, (refl, same_Some m.gate x e))
 
@@ -102,18 +105,22 @@ module _ {C : Type 0} (M : Meaning C) where
         groups_are = s.groups_are ∙ ap length (sym at.made_are);
         readers_are = s.readers_are ∙ sym at.entries_are;
         kept = λ i x found_.
-            subst (λ (ms : List RegistryMade). IsRegistryAfter key_gives (key_in (slice_get ms i)) (registry_events i ((st, a) ∷ h)) x) (sym at.registries_are)
+            subst (λ (ms : List RegistryMade). IsRegistryAfter key_gives (key_in (slice_get ms i)) (registry_events i ((st, a) ∷ h)) x)
+            (sym at.registries_are)
             (elim (get_set w.registries r i u v x there found_) [
               | inl p ↦
                   subst (λ (j : ℕ). IsRegistryAfter key_gives (key_at j h) (registry_events j ((st, a) ∷ h)) x) (sym p.0)
-                  (subst (λ (t : RegistryValue WorldRule). IsRegistryAfter key_gives (key_at r h) (registry_events r ((st, a) ∷ h)) t) (sym p.1) now)
+                  (subst (λ (t : RegistryValue WorldRule). IsRegistryAfter key_gives (key_at r h) (registry_events r ((st, a) ∷ h)) t)
+                  (sym p.1) now)
               | inr p ↦
                   subst (λ (es : List registry.Event). IsRegistryAfter key_gives (key_at i h) es x)
                   (sym ((others-stay h st a).registries i (ap (is_at i) at.registry_is ∙ ne_eqb r i (λ q. p.0 (sym q)))))
                   (s.kept i x p.1)
             ]);
         outs = λ x z found_. s.outs x z found_ ∙ sym (at.outs_are x);
-        each = λ g e found_. entry-moves h ((st, a) ∷ h) g e at.made_are (at.joined_are g) (at.groups_are g) (at.works_are g) (at.loads_are g) (s.each g e found_);
+        each =
+            λ g e found_. entry-moves h ((st, a) ∷ h) g e at.made_are (at.joined_are g) (at.groups_are g) (at.works_are g) (at.loads_are g)
+            (s.each g e found_);
         on_site = λ g e found_.
             let on = s.on_site g e found_ in
             let same : length (slice_set w.registries r v) ≡ length w.registries = length-set w.registries r v in
@@ -136,15 +143,19 @@ module _ {C : Type 0} (M : Meaning C) where
               | inl p ↦
                   let last : i ≡ length (registries h) = p.0 ∙ s.registries_are in
                   rw (eq-eqb (length (registries h)) i (sym last))
-                  (subst (λ (o : Option RegistryMade). IsRegistryAfter key_gives (key_in o) (started healthy) x) (sym (last-same (registries h) _ i last))
+                  (subst (λ (o : Option RegistryMade). IsRegistryAfter key_gives (key_in o) (started healthy) x)
+                  (sym (last-same (registries h) _ i last))
                   (subst (λ (t : RegistryValue WorldRule). IsRegistryAfter key_gives (key_by rule) (started healthy) t) (sym p.1) new))
               | inr p ↦
                   let low : i < length (registries h) = (let l : i < length w.registries = p.0 in omega (arith, l, s.registries_are)) in
                   rw (ne_eqb (length (registries h)) i (λ e. omega (arith, e, low)))
-                  (subst (λ (o : Option RegistryMade). IsRegistryAfter key_gives (key_in o) (registry_events i h) x) (sym (front-same (registries h) _ i low)) (s.kept i x p.1))
+                  (subst (λ (o : Option RegistryMade). IsRegistryAfter key_gives (key_in o) (registry_events i h) x)
+                  (sym (front-same (registries h) _ i low)) (s.kept i x p.1))
             ];
         outs = s.outs;
-        each = λ g e found_. entry-moves h ((step.registry rule healthy, answer.Registry n) ∷ h) g e refl refl refl (λ r. refl) (λ b. refl) (s.each g e found_);
+        each =
+            λ g e found_. entry-moves h ((step.registry rule healthy, answer.Registry n) ∷ h) g e refl refl refl (λ r. refl) (λ b. refl)
+            (s.each g e found_);
         on_site = λ g e found_.
             let on = s.on_site g e found_ in
             let more : length (w.registries ++ v ∷ []) ≡ length w.registries + 1 = length_push w.registries v in

@@ -1,5 +1,6 @@
 -- Steps at a registry: the verdict of a check, and the targets.
-use Rattle.std.proofs.Common.{◌≡◌, ◌≢◌, ◌⊎◌, ◌↔◌, inl, inr, ◌<◌, ◌≤◌, ◌^◌, ◌∙◌, ℕ, Bool, true, false, not, List, [], ◌∷◌, length, refl, sym, ap, subst, slice_get, arith}
+use Rattle.std.proofs.Common.{◌≡◌, ◌≢◌, ◌⊎◌, ◌↔◌, inl, inr, ◌<◌, ◌≤◌, ◌^◌, ◌∙◌, ℕ, Bool, true, false, not, List, [], ◌∷◌, length, refl, sym}
+use Rattle.std.proofs.Common.{ap, subst, slice_get, arith}
 use Rattle.std.specs.Prelude.{Option, Some, None, Result, Ok, Err, slice_set, IsTrue, IsErrOf, MatchOption}
 use Rattle.std.proofs.lemmas.Bool.{eq-eqb, lt-leb}
 use Rattle.std.proofs.lemmas.Option.{none-some, slice_get_within, slice_get_past}
@@ -36,14 +37,18 @@ flip-told false true false p = p.1 (λ e. absurd (cc))
 flip-told false false true p = p.1 (λ e. absurd (cc))
 flip-told false false false p = refl
 
-verdict-told : (o : Option RegistryMade) (m : RegistryMade) (events : List Event) (c threshold : ℕ) (ok b : Bool) → o ≡ Some m → IsCellKept (key_in o) c events
-    → (IsTrue b ↔ (cell_health (key_in o) c (Observed c (record { ok = ok; threshold = threshold }) ∷ events) ≢ cell_health (key_in o) c events))
-    → MatchOption o (answer.Flipped b ≡ refuse refusal.NoSuch) (λ m. VerdictAnswers (key_by m.rule) events c ok threshold (answer.Flipped b))
+verdict-told : (o : Option RegistryMade) (m : RegistryMade) (events : List Event) (c threshold : ℕ) (ok b : Bool) → o ≡ Some m
+    → IsCellKept (key_in o) c events
+    → (IsTrue b ↔
+    (cell_health (key_in o) c (Observed c (record { ok = ok; threshold = threshold }) ∷ events) ≢ cell_health (key_in o) c events))
+    → MatchOption o (answer.Flipped b ≡ refuse refusal.NoSuch)
+    (λ m. VerdictAnswers (key_by m.rule) events c ok threshold (answer.Flipped b))
 verdict-told None m events c threshold ok b there kept flips = absurd (none-some m there)
 verdict-told (Some x) m events c threshold ok b there kept flips = inl (kept, ap answer.Flipped (flip-told b _ _ flips))
 
 verdict-missed : (o : Option RegistryMade) (events : List Event) (c threshold : ℕ) (ok : Bool) → (IsCellKept (key_in o) c events → ⊥)
-    → MatchOption o (answer.Refused refusal.NoSuch ≡ refuse refusal.NoSuch) (λ m. VerdictAnswers (key_by m.rule) events c ok threshold (answer.Refused refusal.NoSuch))
+    → MatchOption o (answer.Refused refusal.NoSuch ≡ refuse refusal.NoSuch)
+    (λ m. VerdictAnswers (key_by m.rule) events c ok threshold (answer.Refused refusal.NoSuch))
 verdict-missed None events c threshold ok off = refl
 verdict-missed (Some m) events c threshold ok off = inr (off, refl)
 
@@ -55,21 +60,26 @@ targets-told : (o : Option RegistryMade) (m : RegistryMade) (events : List Event
     → cells_given (key_in o) (Applied ∷ events) < 2 ^ 64 → ts ≡ targets_after (key_in o) (Applied ∷ events)
     → answer.Targets ts
     ≡ at_one o
-    (λ m. unless_refused (no_number (cells_given (key_by m.rule) (Applied ∷ events))) (answer.Targets (targets_after (key_by m.rule) (Applied ∷ events))))
+    (λ m. unless_refused (no_number (cells_given (key_by m.rule) (Applied ∷ events)))
+    (answer.Targets (targets_after (key_by m.rule) (Applied ∷ events))))
 targets-told None m events ts there few is = absurd (none-some m there)
 targets-told (Some x) m events ts there few is =
     ap answer.Targets is
-    ∙ sym (ap (λ (o : Option Refusal). unless_refused o (answer.Targets (targets_after (key_by x.rule) (Applied ∷ events)))) (number-left _ few))
+    ∙ sym (ap (λ (o : Option Refusal). unless_refused o (answer.Targets (targets_after (key_by x.rule) (Applied ∷ events))))
+    (number-left _ few))
 
-targets-missed : (C : Type 0) (r : ℕ) (o : Option RegistryMade) (m : RegistryMade) (events : List Event) → o ≡ Some m → cells_given (key_in o) (Applied ∷ events) < 2 ^ 64
+targets-missed : (C : Type 0) (r : ℕ) (o : Option RegistryMade) (m : RegistryMade) (events : List Event) → o ≡ Some m
+    → cells_given (key_in o) (Applied ∷ events) < 2 ^ 64
     → answer.Refused refusal.OutOfMemory
     ≡ without_memory {C = C} (step.targets r)
     (at_one o
-    (λ m. unless_refused (no_number (cells_given (key_by m.rule) (Applied ∷ events))) (answer.Targets (targets_after (key_by m.rule) (Applied ∷ events)))))
+    (λ m. unless_refused (no_number (cells_given (key_by m.rule) (Applied ∷ events)))
+    (answer.Targets (targets_after (key_by m.rule) (Applied ∷ events)))))
 targets-missed C r None m events there few = absurd (none-some m there)
 targets-missed C r (Some x) m events there few =
     sym
-    (ap (λ (o : Option Refusal). without_memory {C = C} (step.targets r) (unless_refused o (answer.Targets (targets_after (key_by x.rule) (Applied ∷ events)))))
+    (ap (λ (o : Option Refusal). without_memory {C = C} (step.targets r)
+    (unless_refused o (answer.Targets (targets_after (key_by x.rule) (Applied ∷ events)))))
     (number-left _ few))
 
 -- what a refused call says, of the refusal itself
@@ -79,7 +89,8 @@ refused-so is = cc
 pub growth-told : {A : Type 0} (e : Refusal) → IsGrowthRefusal {A = A} (Err e) → (e ≡ refusal.OutOfMemory) ⊎ (e ≡ refusal.NumbersExhausted)
 growth-told e cause = elim cause [ inl is ↦ inl (cc) | inr is ↦ inr (cc) ]
 
-pub lack-told : {A : Type 0} {P : Type 0} (e : Refusal) → (IsErrOf {T = A} (Err e) refusal.NumbersExhausted ↔ P) → e ≡ refusal.NumbersExhausted → P
+pub lack-told : {A : Type 0} {P : Type 0} (e : Refusal) → (IsErrOf {T = A} (Err e) refusal.NumbersExhausted ↔ P)
+    → e ≡ refusal.NumbersExhausted → P
 lack-told e told is = told.0 (ap Err is)
 
 module _ {C : Type 0} (M : Meaning C) where
@@ -100,14 +111,17 @@ module _ {C : Type 0} (M : Meaning C) where
   made-there : (w : WorldValue C) (h : History C) (r : ℕ) (u : RegistryValue WorldRule) → slice_get w.registries r ≡ Some u → Stands M w h
       → (m : RegistryMade) × (slice_get (registries h) r ≡ Some m)
   made-there w h r u there s =
-      let low : r < length w.registries = slice_get_within w.registries r u there in found (registries h) r (omega (arith, low, s.registries_are))
+      let low : r < length w.registries =
+      slice_get_within w.registries r u there in found (registries h) r (omega (arith, low, s.registries_are))
 
-  pub verdict-next : (w : WorldValue C) (h : History C) (r c threshold : ℕ) (ok b : Bool) (u v : RegistryValue WorldRule) → slice_get w.registries r ≡ Some u
+  pub verdict-next : (w : WorldValue C) (h : History C) (r c threshold : ℕ) (ok b : Bool) (u v : RegistryValue WorldRule)
+      → slice_get w.registries r ≡ Some u
       → ((key_of : Member → Member) (events : List Event) → IsRegistryAfter key_gives key_of events u
       → IsRegistryAfter key_gives key_of (Observed c (record { ok = ok; threshold = threshold }) ∷ events) v)
       → ((key_of : Member → Member) (events : List Event) → IsRegistryAfter key_gives key_of events u
       → (IsTrue b ↔ (cell_health key_of c (Observed c (record { ok = ok; threshold = threshold }) ∷ events) ≢ cell_health key_of c events)))
-      → ((key_of : Member → Member) (events : List Event) → IsRegistryAfter key_gives key_of events u → IsCellKept key_of c events) → Stands M w h
+      → ((key_of : Member → Member) (events : List Event) → IsRegistryAfter key_gives key_of events u → IsCellKept key_of c events)
+      → Stands M w h
       → Stands M (record w { registries = slice_set w.registries r v }) ((step.verdict r c ok threshold, answer.Flipped b) ∷ h)
   verdict-next w h r c threshold ok b u v there after flips kept s =
       let now = s.kept r u there in
@@ -116,8 +130,10 @@ module _ {C : Type 0} (M : Meaning C) where
       (verdict-told (slice_get (registries h) r) m.0 (registry_events r h) c threshold ok b m.1 (kept _ _ now) (flips _ _ now)) there
       (rw (eq-eqb r r refl) (after _ _ now)) s
 
-  pub verdict-refused : (w : WorldValue C) (h : History C) (r c threshold : ℕ) (ok : Bool) (u v : RegistryValue WorldRule) → slice_get w.registries r ≡ Some u
-      → v ≡ u → ((key_of : Member → Member) (events : List Event) → IsRegistryAfter key_gives key_of events u → IsCellKept key_of c events → ⊥) → Stands M w h
+  pub verdict-refused : (w : WorldValue C) (h : History C) (r c threshold : ℕ) (ok : Bool) (u v : RegistryValue WorldRule)
+      → slice_get w.registries r ≡ Some u
+      → v ≡ u → ((key_of : Member → Member) (events : List Event) → IsRegistryAfter key_gives key_of events u → IsCellKept key_of c events
+      → ⊥) → Stands M w h
       → Stands M (record w { registries = slice_set w.registries r v }) ((step.verdict r c ok threshold, answer.Refused refusal.NoSuch) ∷ h)
   verdict-refused w h r c threshold ok u v there same off s =
       let now = s.kept r u there in
@@ -132,9 +148,12 @@ module _ {C : Type 0} (M : Meaning C) where
       → cells_given key_of (Applied ∷ events) < 2 ^ 64
   marks-fit key_of events u now = omega (arith, marks_start_none key_of events now.state.sets, now.state.fits)
 
-  pub targets-next : (w : WorldValue C) (h : History C) (r : ℕ) (ts : List Target) (u v : RegistryValue WorldRule) → slice_get w.registries r ≡ Some u
-      → ((key_of : Member → Member) (events : List Event) → IsRegistryAfter key_gives key_of events u → IsRegistryAfter key_gives key_of (Applied ∷ events) v)
-      → ((key_of : Member → Member) (events : List Event) → IsRegistryAfter key_gives key_of events u → ts ≡ targets_after key_of (Applied ∷ events))
+  pub targets-next : (w : WorldValue C) (h : History C) (r : ℕ) (ts : List Target) (u v : RegistryValue WorldRule)
+      → slice_get w.registries r ≡ Some u
+      → ((key_of : Member → Member) (events : List Event) → IsRegistryAfter key_gives key_of events u
+      → IsRegistryAfter key_gives key_of (Applied ∷ events) v)
+      → ((key_of : Member → Member) (events : List Event) → IsRegistryAfter key_gives key_of events u
+      → ts ≡ targets_after key_of (Applied ∷ events))
       → Stands M w h → Stands M (record w { registries = slice_set w.registries r v }) ((step.targets r, answer.Targets ts) ∷ h)
   targets-next w h r ts u v there after told s =
       let now = s.kept r u there in
@@ -144,10 +163,13 @@ module _ {C : Type 0} (M : Meaning C) where
       (rw (eq-eqb r r refl) (after _ _ now)) s
 
   -- a refusal other than for the want of a number is for memory
-  pub targets-refused : (w : WorldValue C) (h : History C) (r : ℕ) (e : Refusal) (u v : RegistryValue WorldRule) → slice_get w.registries r ≡ Some u
-      → ((key_of : Member → Member) (events : List Event) → IsRegistryAfter key_gives key_of events u → IsRegistryAfter key_gives key_of events v)
+  pub targets-refused : (w : WorldValue C) (h : History C) (r : ℕ) (e : Refusal) (u v : RegistryValue WorldRule)
+      → slice_get w.registries r ≡ Some u
+      → ((key_of : Member → Member) (events : List Event) → IsRegistryAfter key_gives key_of events u
+      → IsRegistryAfter key_gives key_of events v)
       → (e ≡ refusal.OutOfMemory) ⊎ (e ≡ refusal.NumbersExhausted)
-      → ((key_of : Member → Member) (events : List Event) → IsRegistryAfter key_gives key_of events u → e ≡ refusal.NumbersExhausted → 2 ^ 64 ≤ cells_given key_of (Applied ∷ events))
+      → ((key_of : Member → Member) (events : List Event) → IsRegistryAfter key_gives key_of events u → e ≡ refusal.NumbersExhausted
+      → 2 ^ 64 ≤ cells_given key_of (Applied ∷ events))
       → Stands M w h → Stands M (record w { registries = slice_set w.registries r v }) ((step.targets r, answer.Refused e) ∷ h)
   targets-refused w h r e u v there after cause many s =
       let now = s.kept r u there in
@@ -160,4 +182,5 @@ module _ {C : Type 0} (M : Meaning C) where
       ] in
       registry-next M w h r (step.targets r) (answer.Refused e) u v (targets-at h r (answer.Refused e))
       (inr (ap answer.Refused memory ∙ targets-missed C r (slice_get (registries h) r) m.0 (registry_events r h) m.1 few)) there
-      (subst (λ (es : List Event). IsRegistryAfter key_gives (key_at r h) es v) (sym ((refused-still h (step.targets r) e).registry_is r)) (after _ _ now)) s
+      (subst (λ (es : List Event). IsRegistryAfter key_gives (key_at r h) es v) (sym ((refused-still h (step.targets r) e).registry_is r))
+      (after _ _ now)) s

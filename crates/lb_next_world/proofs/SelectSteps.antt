@@ -1,5 +1,6 @@
 -- The steps that select: what is told of the core's selection is what the history tells, and the counter of tickets is where it left it.
-use Rattle.std.proofs.Common.{◌≡◌, ◌⊎◌, inl, inr, ◌+◌, ◌&&◌, ◌==◌, ◌∙◌, ℕ, Bool, true, false, cond, nat_le, nat_lt, List, [], ◌∷◌, ◌++◌, length, refl, sym, ap, subst, slice_get, arith}
+use Rattle.std.proofs.Common.{◌≡◌, ◌⊎◌, inl, inr, ◌+◌, ◌&&◌, ◌==◌, ◌∙◌, ℕ, Bool, true, false, cond, nat_le, nat_lt, List, [], ◌∷◌, ◌++◌}
+use Rattle.std.proofs.Common.{length, refl, sym, ap, subst, slice_get, arith}
 use Rattle.std.specs.Prelude.{Option, Some, None, Result, Ok, Err, IsTrue, ◌↔◌, MatchBool, MatchOption}
 use Rattle.std.proofs.lemmas.Bool.{cases_eq, lt-ltb}
 use Rattle.std.proofs.lemmas.Option.{slice_get_within}
@@ -85,7 +86,8 @@ less-past : (b : Bool) (s t : ℕ) (p : group.History) → IsPast (cond b (At s 
 less-past true s t p may = may.0
 less-past false s t p may = may
 
-pub undrawn : {C : Type 0} (made : core.Made C) (s t : ℕ) (e : joined.History) (v : JoinedValue C) → t ≡ drawn (past_of s (joined.group_events e))
+pub undrawn : {C : Type 0} (made : core.Made C) (s t : ℕ) (e : joined.History) (v : JoinedValue C)
+    → t ≡ drawn (past_of s (joined.group_events e))
     → stands.Stands made (joined.At s (Drew t) ∷ e) v → stands.Stands made e v
 undrawn made s t e v is was =
     record {
@@ -100,13 +102,16 @@ undrawn made s t e v is was =
     }
 
 -- the answer of a selection that was refused for memory alone, as a history has it
-told-selected : (r : Result (Option Member) Refusal) (t : ℕ) → ((e : Refusal) → r ≡ Err e → e ≡ refusal.OutOfMemory) → selected_as r t ≡ selected t r
+told-selected : (r : Result (Option Member) Refusal) (t : ℕ) → ((e : Refusal) → r ≡ Err e → e ≡ refusal.OutOfMemory)
+    → selected_as r t ≡ selected t r
 told-selected (Ok None) t alone = refl
 told-selected (Ok (Some b)) t alone = refl
 told-selected (Err e) t alone = rw (alone e refl) refl
 
-alone-by : {S : Type 0} (accepts : Member → Bool → Type 0) (limit : ℕ) (gives : S → Draw → S → Type 0) (walks : List Draw → List Member → Bool → Type 0) (s t : S)
-    (r : Result (Option Member) Refusal) → Selects same_member accepts limit gives walks s r t → (e : Refusal) → r ≡ Err e → e ≡ refusal.OutOfMemory
+alone-by : {S : Type 0} (accepts : Member → Bool → Type 0) (limit : ℕ) (gives : S → Draw → S → Type 0)
+    (walks : List Draw → List Member → Bool → Type 0) (s t : S)
+    (r : Result (Option Member) Refusal) → Selects same_member accepts limit gives walks s r t → (e : Refusal) → r ≡ Err e
+    → e ≡ refusal.OutOfMemory
 alone-by accepts limit gives walks s t (Ok o) is e to = absurd (cc)
 alone-by accepts limit gives walks s t (Err x) is e to = let same : x ≡ e = cc in sym same ∙ is.0
 
@@ -132,30 +137,41 @@ module _ {C : Type 0} where
 
 module _ {C : Type 0} (M : Meaning C) where
   judged-alike : (h : History C) (g s : ℕ) (e : EntryValue C) → IsRun M h → EntryIs h g e → (b : Member) (is : Bool)
-      → calls.Judges (key_of g h) (registry_events e.registry h) (site e.core) (joined_events g h) (calls.served_at s (joined_events g h)) b is
+      → calls.Judges (key_of g h) (registry_events e.registry h) (site e.core) (joined_events g h)
+      (calls.served_at s (joined_events g h)) b is
       → Judges h g (served (past g s h)) b is
   judged-alike h g s e run is b ready was =
       let views : views_of (site e.core) (joined_events g h) ≡ view_events g h = (joins-alike M h run g).views (made_of e) is.made_is in
-      let events : registry_events e.registry h ≡ events_in (registry_of g h) h = sym (ap (λ (o : Option ℕ). events_in o h) (registry-here h g e is)) in
-      let n : calls.served_at s (joined_events g h) ≡ served (past g s h) = ap (λ (k : group.History). served (past_of s k)) (group-of g h) in
+      let events : registry_events e.registry h ≡ events_in (registry_of g h) h =
+      sym (ap (λ (o : Option ℕ). events_in o h) (registry-here h g e is)) in
+      let n : calls.served_at s (joined_events g h) ≡ served (past g s h) =
+      ap (λ (k : group.History). served (past_of s k)) (group-of g h) in
       subst (λ (vs : List ViewEvent). IsTrue ready ↔ IsReady (key_of g h) vs (events_in (registry_of g h) h) (served (past g s h)) b) views
-      (subst (λ (es : List registry.Event). IsTrue ready ↔ IsReady (key_of g h) (views_of (site e.core) (joined_events g h)) es (served (past g s h)) b) events
-      (subst (λ (m : ℕ). IsTrue ready ↔ IsReady (key_of g h) (views_of (site e.core) (joined_events g h)) (registry_events e.registry h) m b) n was))
+      (subst (λ (es : List registry.Event). IsTrue ready ↔ IsReady (key_of g h) (views_of (site e.core) (joined_events g h)) es
+      (served (past g s h)) b) events
+      (subst (λ (m : ℕ). IsTrue ready ↔ IsReady (key_of g h) (views_of (site e.core) (joined_events g h))
+      (registry_events e.registry h) m b) n was))
 
   -- the selection of a slot that is there
-  from-slot : (h : History C) (g s : ℕ) (key : List ℕ) (limit : ℕ) (words : List ℕ) (e : EntryValue C) (sel : Selection) (c : C) → IsRun M h → EntryIs h g e
+  from-slot : (h : History C) (g s : ℕ) (key : List ℕ) (limit : ℕ) (words : List ℕ) (e : EntryValue C) (sel : Selection) (c : C)
+      → IsRun M h → EntryIs h g e
       → slice_get (configs_of e.core.group) s ≡ Some c
-      → SelectsFrom M.random M.walks (calls.Judges (key_of g h) (registry_events e.registry h) (site e.core) (joined_events g h) (calls.served_at s (joined_events g h)))
+      → SelectsFrom M.random M.walks
+      (calls.Judges (key_of g h) (registry_events e.registry h) (site e.core) (joined_events g h) (calls.served_at s (joined_events g h)))
       (load_in e.loads) key limit words (served_members (past g s h)) c (drawn (past g s h)) sel
       → Selected M h g s key limit words sel
   from-slot h g s key limit words e sel c run is at from =
       let members_are : served_members (past g s h) ≡ members_of (served (past g s h)) (group_events g h) =
       ((promised M h run).members_kept g s).serving ∙ members-past (served (past g s h)) s (group_events g h) in
-      by-words (subst (λ (ms : List Member). SelectsFrom M.random M.walks (calls.Judges (key_of g h) (registry_events e.registry h) (site e.core) (joined_events g h) (calls.served_at s (joined_events g h)))
-      (load_in e.loads) key limit words ms c (drawn (past g s h)) sel) members_are from) (M.random (members_of (served (past g s h)) (group_events g h)) c && nat_le (length words) limit) refl
+      by-words (subst
+      (λ (ms : List Member). SelectsFrom M.random M.walks
+      (calls.Judges (key_of g h) (registry_events e.registry h) (site e.core) (joined_events g h) (calls.served_at s (joined_events g h)))
+      (load_in e.loads) key limit words ms c (drawn (past g s h)) sel) members_are from)
+      (M.random (members_of (served (past g s h)) (group_events g h)) c && nat_le (length words) limit) refl
     where
       Was : Member → Bool → Type 0
-      Was = calls.Judges (key_of g h) (registry_events e.registry h) (site e.core) (joined_events g h) (calls.served_at s (joined_events g h))
+      Was =
+          calls.Judges (key_of g h) (registry_events e.registry h) (site e.core) (joined_events g h) (calls.served_at s (joined_events g h))
 
       walks : List Draw → List Member → Bool → Type 0
       walks = M.walks (members_of (served (past g s h)) (group_events g h)) c key
@@ -168,10 +184,15 @@ module _ {C : Type 0} (M : Meaning C) where
 
       placed : (a : Answer) → Right a → SelectAnswers M h g s key limit words a
       placed a right =
-          subst (λ (o : Option (Made C)). MatchOption o (a ≡ answer.Refused refusal.NoSuch) (λ m. MatchOption (slice_get m.configs s) (a ≡ answer.NoBackend 0) (λ x. answers.SelectsIn M h g s (served (past g s h)) x key limit words a))) (sym is.made_is)
-          (subst (λ (o : Option C). MatchOption o (a ≡ answer.NoBackend 0) (λ x. answers.SelectsIn M h g s (served (past g s h)) x key limit words a)) (sym at) right)
+          subst (λ (o : Option (Made C)). MatchOption o (a ≡ answer.Refused refusal.NoSuch)
+          (λ m. MatchOption (slice_get m.configs s) (a ≡ answer.NoBackend 0)
+          (λ x. answers.SelectsIn M h g s (served (past g s h)) x key limit words a))) (sym is.made_is)
+          (subst (λ (o : Option C). MatchOption o (a ≡ answer.NoBackend 0)
+          (λ x. answers.SelectsIn M h g s (served (past g s h)) x key limit words a)) (sym at) right)
 
-      by-words : SelectsFrom M.random M.walks (calls.Judges (key_of g h) (registry_events e.registry h) (site e.core) (joined_events g h) (calls.served_at s (joined_events g h)))
+      by-words : SelectsFrom M.random M.walks
+          (calls.Judges (key_of g h) (registry_events e.registry h) (site e.core) (joined_events g h)
+          (calls.served_at s (joined_events g h)))
           (load_in e.loads) key limit words (members_of (served (past g s h)) (group_events g h)) c (drawn (past g s h)) sel
           → (b : Bool) → (M.random (members_of (served (past g s h)) (group_events g h)) c && nat_le (length words) limit) ≡ b
           → Selected M h g s key limit words sel
@@ -182,14 +203,18 @@ module _ {C : Type 0} (M : Meaning C) where
           let long = rw enough at from in
           let t : DrawnValue = long.0 in
           let all = alone-by Was limit (DrawnGives (load_in e.loads)) walks source t sel.answer long.1 in
-          let walked = selects-more same_member Was (Judges h g (served (past g s h))) (judged-alike h g s e run is) limit (LoadedGives (λ b. load_of g b h))
+          let walked =
+          selects-more same_member Was (Judges h g (served (past g s h))) (judged-alike h g s e run is) limit
+          (LoadedGives (λ b. load_of g b h))
           walks source.words t.words sel.answer
           (handed-selects (load_in e.loads) (λ b. load_of g b h) is.loads_are Was limit walks source t sel.answer long.1) in
           told (told-selected sel.answer sel.tickets all)
           (placed (selected sel.tickets sel.answer) (rw enough (sel.answer, t.words, walked, ap (λ (n : ℕ). selected n sel.answer) long.3)))
 
-  selects : (h : History C) (g s : ℕ) (key : List ℕ) (limit : ℕ) (words : List ℕ) (e : EntryValue C) (sel : Selection) → IsRun M h → EntryIs h g e
-      → SelectsIn M.random M.walks (calls.Judges (key_of g h) (registry_events e.registry h) (site e.core) (joined_events g h) (calls.served_at s (joined_events g h)))
+  selects : (h : History C) (g s : ℕ) (key : List ℕ) (limit : ℕ) (words : List ℕ) (e : EntryValue C) (sel : Selection) → IsRun M h
+      → EntryIs h g e
+      → SelectsIn M.random M.walks
+      (calls.Judges (key_of g h) (registry_events e.registry h) (site e.core) (joined_events g h) (calls.served_at s (joined_events g h)))
       (load_in e.loads) (site e.core) (group_events g h) s key limit words sel → Selected M h g s key limit words sel
   selects h g s key limit words e sel run is all =
       elim (there (configs_of e.core.group) s) [
@@ -198,7 +223,9 @@ module _ {C : Type 0} (M : Meaning C) where
             let right : selected sel.tickets sel.answer ≡ answer.NoBackend 0 =
             ap (selected sel.tickets) none-told.0 ∙ ap (λ (n : ℕ). answer.NoBackend n) none-told.2 in
             told (told-selected sel.answer sel.tickets (λ x to. absurd (ok-err none-told.0 to)))
-            (subst (λ (o : Option (Made C)). MatchOption o (selected sel.tickets sel.answer ≡ answer.Refused refusal.NoSuch) (λ m. MatchOption (slice_get m.configs s) (selected sel.tickets sel.answer ≡ answer.NoBackend 0) (λ x. answers.SelectsIn M h g s (served (past g s h)) x key limit words (selected sel.tickets sel.answer)))) (sym is.made_is)
+            (subst (λ (o : Option (Made C)). MatchOption o (selected sel.tickets sel.answer ≡ answer.Refused refusal.NoSuch)
+            (λ m. MatchOption (slice_get m.configs s) (selected sel.tickets sel.answer ≡ answer.NoBackend 0)
+            (λ x. answers.SelectsIn M h g s (served (past g s h)) x key limit words (selected sel.tickets sel.answer)))) (sym is.made_is)
             (rw none right))
         | inr at ↦ from-slot h g s key limit words e sel at.0 run is at.1 (rw at.1 at all)
       ]
@@ -206,17 +233,21 @@ module _ {C : Type 0} (M : Meaning C) where
       ok-err : {r : Result (Option Member) Refusal} {o : Option Member} {x : Refusal} → r ≡ Ok o → r ≡ Err x → ⊥
       ok-err a b = absurd (let clash = sym a ∙ b in cc)
 
-  drew-next : (h : History C) (g s : ℕ) (key : List ℕ) (limit : ℕ) (words : List ℕ) (a : Answer) (t : ℕ) (e : EntryValue C) (v : JoinedValue C) (z : GateView)
+  drew-next : (h : History C) (g s : ℕ) (key : List ℕ) (limit : ℕ) (words : List ℕ) (a : Answer) (t : ℕ) (e : EntryValue C)
+      (v : JoinedValue C) (z : GateView)
       (r : RegistryValue WorldRule) → EntryIs h g e → stands.SameSite e.core v
-      → stands.Stands (site e.core) (joined.in_group (cond (nat_lt s (length (configs_of e.core.group))) (At s (Drew t) ∷ []) []) ++ joined_events g h) v
+      → stands.Stands (site e.core)
+      (joined.in_group (cond (nat_lt s (length (configs_of e.core.group))) (At s (Drew t) ∷ []) []) ++ joined_events g h) v
       → ((k : group.History) → happened h k (step.select g s key limit words) a ≡ drew (config g s h) s t)
-      → joined_after h (group_events g h) (joined_events g h) (step.select g s key limit words) a ≡ joined.in_group (drew (config g s h) s t) ++ joined_events g h
+      → joined_after h (group_events g h) (joined_events g h) (step.select g s key limit words) a ≡ joined.in_group
+      (drew (config g s h) s t) ++ joined_events g h
       → ((q : ℕ) → work g q ((step.select g s key limit words, a) ∷ h) ≡ work g q h) → Answers M h (step.select g s key limit words) a
       → IsRegistryAfter key_gives (key_of g h) (registry_events e.registry h) r
       → EntryNext M h g (step.select g s key limit words) a e z (with_core v e) z r
   drew-next h g s key limit words a t e v z r is same moved events joins works right kept =
       let st : Step C = step.select g s key limit words in
-      let at : AtGroup h st a g = record { group_is = refl; registry_is = refl; made_are = refl; gates_are = refl; registries_are = refl } in
+      let at : AtGroup h st a g =
+      record { group_is = refl; registry_is = refl; made_are = refl; gates_are = refl; registries_are = refl } in
       let same-events : cond (nat_lt s (length (configs_of e.core.group))) (At s (Drew t) ∷ []) [] ≡ drew (config g s h) s t =
       sym (ap (λ (o : Option C). drew o s t) (config-here h g s e is) ∙ drew-told (configs_of e.core.group) s t) in
       next-core M h st a g e v z z r at is same
@@ -224,9 +255,11 @@ module _ {C : Type 0} (M : Meaning C) where
       (ap (λ (es : group.History). joined.in_group es ++ joined_events g h) same-events ∙ sym joins) moved)
       (ap no_grants (events (group_events g h)) ∙ no-draws (config g s h) s t) works (λ b. refl) right refl kept
 
-  to-told : (h : History C) (g s : ℕ) (key : List ℕ) (limit : ℕ) (words : List ℕ) (r : Result (Option Member) Refusal) (t : ℕ) (e : EntryValue C) (v : JoinedValue C)
+  to-told : (h : History C) (g s : ℕ) (key : List ℕ) (limit : ℕ) (words : List ℕ) (r : Result (Option Member) Refusal) (t : ℕ)
+      (e : EntryValue C) (v : JoinedValue C)
       (z : GateView) (x : RegistryValue WorldRule) → EntryIs h g e → stands.SameSite e.core v
-      → stands.Stands (site e.core) (joined.in_group (cond (nat_lt s (length (configs_of e.core.group))) (At s (Drew t) ∷ []) []) ++ joined_events g h) v
+      → stands.Stands (site e.core)
+      (joined.in_group (cond (nat_lt s (length (configs_of e.core.group))) (At s (Drew t) ∷ []) []) ++ joined_events g h) v
       → SelectAnswers M h g s key limit words (selected t r) → IsRegistryAfter key_gives (key_of g h) (registry_events e.registry h) x
       → EntryNext M h g (step.select g s key limit words) (selected t r) e z (with_core v e) z x
   to-told h g s key limit words (Ok None) t e v z x is same moved right kept =
@@ -237,23 +270,29 @@ module _ {C : Type 0} (M : Meaning C) where
       drew-next h g s key limit words (answer.NotSelected t) t e v z x is same moved (λ k. refl) refl (λ q. refl) right kept
 
   -- a selection, by what the core answered
-  pub does-select : (h : History C) (g s : ℕ) (key : List ℕ) (limit : ℕ) (words : List ℕ) (e : EntryValue C) (v : JoinedValue C) (sel : Selection) (z : GateView)
+  pub does-select : (h : History C) (g s : ℕ) (key : List ℕ) (limit : ℕ) (words : List ℕ) (e : EntryValue C) (v : JoinedValue C)
+      (sel : Selection) (z : GateView)
       (x : RegistryValue WorldRule) → IsRun M h → EntryIs h g e → stands.SameSite e.core v
-      → SelectsIn M.random M.walks (calls.Judges (key_of g h) (registry_events e.registry h) (site e.core) (joined_events g h) (calls.served_at s (joined_events g h)))
+      → SelectsIn M.random M.walks
+      (calls.Judges (key_of g h) (registry_events e.registry h) (site e.core) (joined_events g h) (calls.served_at s (joined_events g h)))
       (load_in e.loads) (site e.core) (joined.group_events (joined_events g h)) s key limit words sel
       → stands.Stands (site e.core) (calls.after_select (site e.core) s sel (joined_events g h)) v
       → IsRegistryAfter key_gives (key_of g h) (registry_events e.registry h) x
       → EntryNext M h g (step.select g s key limit words) (selection_as sel) e z (with_core v e) z x
   does-select h g s key limit words e v sel z x run is same all moved kept =
       elim (selects h g s key limit words e sel run is
-      (subst (λ (k : group.History). SelectsIn M.random M.walks (calls.Judges (key_of g h) (registry_events e.registry h) (site e.core) (joined_events g h) (calls.served_at s (joined_events g h)))
+      (subst (λ (k : group.History). SelectsIn M.random M.walks
+      (calls.Judges (key_of g h) (registry_events e.registry h) (site e.core) (joined_events g h) (calls.served_at s (joined_events g h)))
       (load_in e.loads) (site e.core) k s key limit words sel) (group-of g h) all)) [
         | refused c there short left right ↦
             let within : nat_lt s (length (configs_of e.core.group)) ≡ true =
-            lt-ltb s (length (configs_of e.core.group)) (slice_get_within (configs_of e.core.group) s c (sym (config-here h g s e is) ∙ there)) in
+            lt-ltb s (length (configs_of e.core.group))
+            (slice_get_within (configs_of e.core.group) s c (sym (config-here h g s e is) ∙ there)) in
             let back : stands.Stands (site e.core) (joined_events g h) v =
-            undrawn (site e.core) s sel.tickets (joined_events g h) v (left ∙ ap (λ (k : group.History). drawn (past_of s k)) (sym (group-of g h)))
-            (subst (λ (b : Bool). stands.Stands (site e.core) (joined.in_group (cond b (At s (Drew sel.tickets) ∷ []) []) ++ joined_events g h) v) within moved) in
+            undrawn (site e.core) s sel.tickets (joined_events g h) v
+            (left ∙ ap (λ (k : group.History). drawn (past_of s k)) (sym (group-of g h)))
+            (subst (λ (b : Bool). stands.Stands (site e.core)
+            (joined.in_group (cond b (At s (Drew sel.tickets) ∷ []) []) ++ joined_events g h) v) within moved) in
             subst (λ (a : Answer). EntryNext M h g (step.select g s key limit words) a e z (with_core v e) z x)
             (sym (ap (λ (r : Result (Option Member) Refusal). selected_as r sel.tickets) short))
             (next-told M h (step.select g s key limit words) (answer.Refused refusal.NotEnoughWords) g e v z x

@@ -1,5 +1,6 @@
 -- Steps that bring a slot's job or its built selector back: what is held of it is the last job, and its place is empty then.
-use Rattle.std.proofs.Common.{◌≡◌, ◌⊎◌, inl, inr, ◌<◌, ◌≤◌, ◌==◌, ◌&&◌, ◌∙◌, ℕ, Bool, true, false, cond, List, [], ◌∷◌, ◌++◌, length, get_or, refl, sym, ap, subst, slice_get, arith}
+use Rattle.std.proofs.Common.{◌≡◌, ◌⊎◌, inl, inr, ◌<◌, ◌≤◌, ◌==◌, ◌&&◌, ◌∙◌, ℕ, Bool, true, false, cond, List, [], ◌∷◌, ◌++◌, length}
+use Rattle.std.proofs.Common.{get_or, refl, sym, ap, subst, slice_get, arith}
 use Rattle.std.specs.Prelude.{Option, Some, None, Ok, slice_set}
 use Rattle.std.proofs.lemmas.Bool.{ne_eqb, eq-eqb, false≢true}
 use Rattle.std.proofs.lemmas.List.{length-set, set-get_or}
@@ -60,7 +61,8 @@ module _ {C : Type 0} where
   built-is id s c p works.building b e = absurd (cc)
   built-is id s c p (works.built now) b e = let same : b ≡ record { task = last_job id s c p; ended = now } = cc in (now, refl, same)
 
-  job-is : (id : Origin) (s : ℕ) (c : C) (p : group.History) (w : Work) (j : Task C) → view.building j ≡ held_of id s c p w → (w ≡ works.building) × (j ≡ last_job id s c p)
+  job-is : (id : Origin) (s : ℕ) (c : C) (p : group.History) (w : Work) (j : Task C) → view.building j ≡ held_of id s c p w
+      → (w ≡ works.building) × (j ≡ last_job id s c p)
   job-is id s c p works.idle j e = absurd (cc)
   job-is id s c p works.building j e = let same : j ≡ last_job id s c p = cc in (refl, same)
   job-is id s c p (works.built now) j e = absurd (cc)
@@ -69,7 +71,8 @@ module _ {C : Type 0} where
   pub slot-there : (h : History C) (g s : ℕ) (e : EntryValue C) (k : WorkValue C) → EntryIs h g e → slice_get e.works s ≡ Some k
       → (c : C) × (slice_get (configs_of e.core.group) s ≡ Some c)
   slot-there h g s e k is at =
-      let inside : s < length (configs_of e.core.group) = omega (arith, is.works_in, slice_get_within e.works s k at) in found (configs_of e.core.group) s inside
+      let inside : s < length (configs_of e.core.group) =
+      omega (arith, is.works_in, slice_get_within e.works s k at) in found (configs_of e.core.group) s inside
 
   -- the job that is held, or what was built of it
   pub record HasJob (h : History C) (g s : ℕ) (e : EntryValue C) (j : Task C) : Type 0 where
@@ -85,13 +88,15 @@ module _ {C : Type 0} where
     pub work_is : work g s h ≡ works.built moment
     pub is : b ≡ record { task = last_job (origin e.core) s config (past g s h); ended = moment }
 
-  pub has-job : (h : History C) (g s : ℕ) (e : EntryValue C) (j : Task C) → EntryIs h g e → slice_get e.works s ≡ Some (view.building j) → HasJob h g s e j
+  pub has-job : (h : History C) (g s : ℕ) (e : EntryValue C) (j : Task C) → EntryIs h g e → slice_get e.works s ≡ Some (view.building j)
+      → HasJob h g s e j
   has-job h g s e j is at =
       let c = slot-there h g s e (view.building j) is at in
       let k = job-is (origin e.core) s c.0 (past g s h) (work g s h) j (is.works_are s c.0 (view.building j) c.1 at) in
       record { config = c.0; there = c.1; work_is = k.0; is = k.1 }
 
-  pub has-built : (h : History C) (g s : ℕ) (e : EntryValue C) (b : BuiltValue C) → EntryIs h g e → slice_get e.works s ≡ Some (view.ready b) → HasBuilt h g s e b
+  pub has-built : (h : History C) (g s : ℕ) (e : EntryValue C) (b : BuiltValue C) → EntryIs h g e
+      → slice_get e.works s ≡ Some (view.ready b) → HasBuilt h g s e b
   has-built h g s e b is at =
       let c = slot-there h g s e (view.ready b) is at in
       let k = built-is (origin e.core) s c.0 (past g s h) (work g s h) b (is.works_are s c.0 (view.ready b) c.1 at) in
@@ -107,13 +112,15 @@ same-place xs i x at = ap (slice_set xs i) (sym (get_or_from_slice_get xs i x x 
 pub none-right : {A : Type 0} (o : Option A) (f : A → Answer) → o ≡ None → answer.Refused refusal.NoSuch ≡ at_one o f
 none-right o f is = rw is refl
 
-not-ready : {C : Type 0} (id : Origin) (s : ℕ) (c : C) (p : group.History) (w : Work) (a : Answer) (k : WorkValue C) → k ≡ held_of id s c p w → NotReady k
+not-ready : {C : Type 0} (id : Origin) (s : ℕ) (c : C) (p : group.History) (w : Work) (a : Answer) (k : WorkValue C)
+    → k ≡ held_of id s c p w → NotReady k
     → answer.Refused refusal.NothingBuilt ≡ of_built w a
 not-ready id s c p works.idle a k e off = refl
 not-ready id s c p works.building a k e off = refl
 not-ready id s c p (works.built now) a k e off = absurd (subst NotReady e off)
 
-not-building : {C : Type 0} (id : Origin) (s : ℕ) (c : C) (p : group.History) (w : Work) (a : Answer) (k : WorkValue C) → k ≡ held_of id s c p w → NotBuilding k
+not-building : {C : Type 0} (id : Origin) (s : ℕ) (c : C) (p : group.History) (w : Work) (a : Answer) (k : WorkValue C)
+    → k ≡ held_of id s c p w → NotBuilding k
     → answer.Refused refusal.NothingInFlight ≡ of_job w a
 not-building id s c p works.idle a k e off = refl
 not-building id s c p works.building a k e off = absurd (subst NotBuilding e off)
@@ -124,23 +131,27 @@ module _ {C : Type 0} where
       → b ≡ record { task = last_job id s c p; ended = now } → slice_get cs b.task.slot ≡ Some b.task.config
   configured cs id s now c p b there is = rw is there
 
-  pub built-config : (h : History C) (g s : ℕ) (e : EntryValue C) (b : BuiltValue C) → HasBuilt h g s e b → slice_get (configs_of e.core.group) b.task.slot ≡ Some b.task.config
+  pub built-config : (h : History C) (g s : ℕ) (e : EntryValue C) (b : BuiltValue C) → HasBuilt h g s e b
+      → slice_get (configs_of e.core.group) b.task.slot ≡ Some b.task.config
   built-config h g s e b has = configured (configs_of e.core.group) (origin e.core) s has.moment has.config (past g s h) b has.there has.is
 
   -- a slot that isn't there
   pub beyond : (h : History C) (g s : ℕ) (e : EntryValue C) → EntryIs h g e → length e.works ≤ s → config g s h ≡ None
   beyond h g s e is past =
-      let few : length (configs_of e.core.group) ≤ s = omega (arith, is.works_in, past) in config-here h g s e is ∙ slice_get_past (configs_of e.core.group) s few
+      let few : length (configs_of e.core.group) ≤ s = omega (arith, is.works_in, past) in config-here h g s e is
+      ∙ slice_get_past (configs_of e.core.group) s few
 
   -- where the place has nothing built, or no job
-  pub unbuilt : (h : History C) (g s : ℕ) (e : EntryValue C) (k : WorkValue C) (a : Answer) → EntryIs h g e → slice_get e.works s ≡ Some k → NotReady k
+  pub unbuilt : (h : History C) (g s : ℕ) (e : EntryValue C) (k : WorkValue C) (a : Answer) → EntryIs h g e → slice_get e.works s ≡ Some k
+      → NotReady k
       → answer.Refused refusal.NothingBuilt ≡ at_one (config g s h) (λ c. of_built (work g s h) a)
   unbuilt h g s e k a is at off =
       let c = slot-there h g s e k is at in
       not-ready (origin e.core) s c.0 (past g s h) (work g s h) a k (is.works_are s c.0 k c.1 at) off
       ∙ sym (ap (λ (o : Option C). at_one o (λ x. of_built (work g s h) a)) (config-here h g s e is ∙ c.1))
 
-  pub unstarted : (h : History C) (g s : ℕ) (e : EntryValue C) (k : WorkValue C) (a : C → Answer) → EntryIs h g e → slice_get e.works s ≡ Some k → NotBuilding k
+  pub unstarted : (h : History C) (g s : ℕ) (e : EntryValue C) (k : WorkValue C) (a : C → Answer) → EntryIs h g e
+      → slice_get e.works s ≡ Some k → NotBuilding k
       → answer.Refused refusal.NothingInFlight ≡ at_one (config g s h) (λ c. of_job (work g s h) (a c))
   unstarted h g s e k a is at off =
       let c = slot-there h g s e k is at in
@@ -149,8 +160,10 @@ module _ {C : Type 0} where
 
 module _ {C : Type 0} (M : Meaning C) where
   -- a place written as it was
-  pub next-same : (h : History C) (g : ℕ) (st : Step C) (a : Answer) (e : EntryValue C) (s : ℕ) (x k : WorkValue C) (z y : GateView) (v : RegistryValue WorldRule)
-      → slice_get e.works s ≡ Some x → k ≡ x → EntryNext M h g st a e z e y v → EntryNext M h g st a e z (record e { works = slice_set e.works s k }) y v
+  pub next-same : (h : History C) (g : ℕ) (st : Step C) (a : Answer) (e : EntryValue C) (s : ℕ) (x k : WorkValue C) (z y : GateView)
+      (v : RegistryValue WorldRule)
+      → slice_get e.works s ≡ Some x → k ≡ x → EntryNext M h g st a e z e y v
+      → EntryNext M h g st a e z (record e { works = slice_set e.works s k }) y v
   next-same h g st a e s x k z y v at same next =
       subst (λ (ws : List (WorkValue C)). EntryNext M h g st a e z (record e { works = ws }) y v)
       (sym (ap (slice_set e.works s) same ∙ same-place e.works s x at)) next
@@ -165,14 +178,20 @@ module _ {C : Type 0} (M : Meaning C) where
       → is_awaited b.task.slot b.task.generation (joined.group_events (joined_events g h)) ≡ false → ⊥
   not-refused h g s e b run has off =
       let up = awaited h g s (works.built has.moment) run has.work_is refl in
-      false≢true (sym (sym (ap (λ (x : BuiltValue C). is_awaited x.task.slot x.task.generation (joined.group_events (joined_events g h))) has.is ∙ up) ∙ off))
+      false≢true
+      (sym (sym (ap (λ (x : BuiltValue C). is_awaited x.task.slot x.task.generation (joined.group_events (joined_events g h))) has.is ∙ up)
+      ∙ off))
 
   -- a step by which what was held of a slot's job comes back
-  pub next-emptied : (h : History C) (st : Step C) (a : Answer) (g s : ℕ) (e : EntryValue C) (core : JoinedValue C) (old : WorkValue C) (z y : GateView)
-      (v : RegistryValue WorldRule) (x : group.SlotEvent) → AtGroup h st a g → EntryIs h g e → stands.SameSite e.core core → slice_get e.works s ≡ Some old
-      → happened h (group_events g h) st a ≡ At s x ∷ [] → joined_after h (group_events g h) (joined_events g h) st a ≡ joined.At s x ∷ joined_events g h
+  pub next-emptied : (h : History C) (st : Step C) (a : Answer) (g s : ℕ) (e : EntryValue C) (core : JoinedValue C) (old : WorkValue C)
+      (z y : GateView)
+      (v : RegistryValue WorldRule) (x : group.SlotEvent) → AtGroup h st a g → EntryIs h g e → stands.SameSite e.core core
+      → slice_get e.works s ≡ Some old
+      → happened h (group_events g h) st a ≡ At s x ∷ [] → joined_after h (group_events g h) (joined_events g h) st a ≡ joined.At s x
+      ∷ joined_events g h
       → stands.Stands (site e.core) (joined.At s x ∷ joined_events g h) core
-      → ((r : ℕ) → work g r ((st, a) ∷ h) ≡ cond (g == g && s == r) works.idle (work g r h)) → ((b : Member) → load_of g b ((st, a) ∷ h) ≡ load_of g b h)
+      → ((r : ℕ) → work g r ((st, a) ∷ h) ≡ cond (g == g && s == r) works.idle (work g r h))
+      → ((b : Member) → load_of g b ((st, a) ∷ h) ≡ load_of g b h)
       → Answers M h st a → y ≡ gate z.id (permit_after st a z.out)
       → IsRegistryAfter key_gives (key_of g h) (registry_events e.registry ((st, a) ∷ h)) v
       → EntryNext M h g st a e z (record e { core = core; works = slice_set e.works s view.nothing }) y v
@@ -189,7 +208,8 @@ module _ {C : Type 0} (M : Meaning C) where
             (λ r off. moved r ∙ ap (λ (b : Bool). cond b works.idle (work g r h)) (off-slot g s r off))
             (λ c there.
             sym
-            (ap (held_of (origin e.core) s c (past g s ((st, a) ∷ h))) (moved s ∙ ap (λ (b : Bool). cond b works.idle (work g s h)) (here g s)))))
+            (ap (held_of (origin e.core) s c (past g s ((st, a) ∷ h)))
+            (moved s ∙ ap (λ (b : Bool). cond b works.idle (work g s h)) (here g s)))))
             (λ b. is.loads_are b ∙ sym (loads b));
         registry_is = refl;
         gate_is = refl;
@@ -199,9 +219,11 @@ module _ {C : Type 0} (M : Meaning C) where
       }
 
   -- a registry at which nothing happened
-  pub unshared : (h : History C) (st : Step C) (a : Answer) (g : ℕ) (e : EntryValue C) (v : RegistryValue WorldRule) → AtGroup h st a g → EntryIs h g e
+  pub unshared : (h : History C) (st : Step C) (a : Answer) (g : ℕ) (e : EntryValue C) (v : RegistryValue WorldRule) → AtGroup h st a g
+      → EntryIs h g e
       → changed h ((st, a) ∷ h) st a (registry_events e.registry h) ≡ registry_events e.registry h
-      → IsRegistryAfter key_gives (key_of g h) (registry_events e.registry h) v → IsRegistryAfter key_gives (key_of g h) (registry_events e.registry ((st, a) ∷ h)) v
+      → IsRegistryAfter key_gives (key_of g h) (registry_events e.registry h) v
+      → IsRegistryAfter key_gives (key_of g h) (registry_events e.registry ((st, a) ∷ h)) v
   unshared h st a g e v at is same kept =
       subst (λ (es : List registry.Event). IsRegistryAfter key_gives (key_of g h) es v)
       (sym (shared-here h st a e.registry (at.registry_is ∙ registry-here h g e is) ∙ same)) kept
@@ -219,32 +241,41 @@ module _ {C : Type 0} (M : Meaning C) where
   abandoned-is h g s e b has = ap (λ (x : BuiltValue C). joined.At x.task.slot (group.Abandoned x.task.members)) has.is
 
   pub published-is : (h : History C) (g s : ℕ) (e : EntryValue C) (b : BuiltValue C) → HasBuilt h g s e b
-      → joined.At b.task.slot (group.Published b.ended b.task.members) ≡ joined.At s (group.Published (ended (work g s h)) (granted_members (past g s h)))
+      → joined.At b.task.slot (group.Published b.ended b.task.members) ≡ joined.At s
+      (group.Published (ended (work g s h)) (granted_members (past g s h)))
   published-is h g s e b has =
       ap (λ (x : BuiltValue C). joined.At x.task.slot (group.Published x.ended x.task.members)) has.is
       ∙ ap (λ (w : Work). joined.At s (group.Published (ended w) (granted_members (past g s h)))) (sym has.work_is)
 
-  pub does-abandon : (h : History C) (g s : ℕ) (e : EntryValue C) (b : BuiltValue C) (core : JoinedValue C) (z : GateView) (v : RegistryValue WorldRule)
+  pub does-abandon : (h : History C) (g s : ℕ) (e : EntryValue C) (b : BuiltValue C) (core : JoinedValue C) (z : GateView)
+      (v : RegistryValue WorldRule)
       → EntryIs h g e → slice_get e.works s ≡ Some (view.ready b) → stands.SameSite e.core core
       → stands.Stands (site e.core) (joined.At b.task.slot (group.Abandoned b.task.members) ∷ joined_events g h) core
       → IsRegistryAfter key_gives (key_of g h) (registry_events e.registry h) v
-      → EntryNext M h g (step.abandon g s) (answer.Abandoned b.task.generation) e z (record e { core = core; works = slice_set e.works s view.nothing }) z v
+      → EntryNext M h g (step.abandon g s) (answer.Abandoned b.task.generation) e z
+      (record e { core = core; works = slice_set e.works s view.nothing }) z v
   does-abandon h g s e b core z v is at same stays kept =
       let has = has-built h g s e b is at in
-      next-emptied h (step.abandon g s) (answer.Abandoned b.task.generation) g s e core (view.ready b) z z v (group.Abandoned (granted_members (past g s h)))
+      next-emptied h (step.abandon g s) (answer.Abandoned b.task.generation) g s e core (view.ready b) z z v
+      (group.Abandoned (granted_members (past g s h)))
       (record { group_is = refl; registry_is = refl; made_are = refl; gates_are = refl; registries_are = refl }) is same at refl refl
-      (subst (λ (x : joined.Event). stands.Stands (site e.core) (x ∷ joined_events g h) core) (abandoned-is h g s e b has) stays) (λ r. refl) (λ b. refl)
-      (inl (built-there h g s e b (answer.Abandoned (granted (past g s h))) (answer.Abandoned b.task.generation) is has (ap (λ (x : BuiltValue C). answer.Abandoned x.task.generation) (sym has.is))))
-      refl (unshared h (step.abandon g s) (answer.Abandoned b.task.generation) g e v (record { group_is = refl; registry_is = refl; made_are = refl; gates_are = refl; registries_are = refl }) is refl kept)
+      (subst (λ (x : joined.Event). stands.Stands (site e.core) (x ∷ joined_events g h) core) (abandoned-is h g s e b has) stays)
+      (λ r. refl) (λ b. refl)
+      (inl (built-there h g s e b (answer.Abandoned (granted (past g s h))) (answer.Abandoned b.task.generation) is has
+      (ap (λ (x : BuiltValue C). answer.Abandoned x.task.generation) (sym has.is))))
+      refl (unshared h (step.abandon g s) (answer.Abandoned b.task.generation) g e v
+      (record { group_is = refl; registry_is = refl; made_are = refl; gates_are = refl; registries_are = refl }) is refl kept)
 
   served-here : (h : History C) (g s : ℕ) (e : EntryValue C) (b : BuiltValue C) → HasBuilt h g s e b
       → publish_answer b.task.slot b.task.generation (joined.group_events (joined_events g h))
       ≡ cond (is_served s (group_events g h)) (told.Published b.task.generation) (told.Abandoned b.task.generation)
   served-here h g s e b has =
-      ap (λ (i : ℕ). publish_answer i b.task.generation (joined.group_events (joined_events g h))) (ap (λ (x : BuiltValue C). x.task.slot) has.is)
+      ap (λ (i : ℕ). publish_answer i b.task.generation (joined.group_events (joined_events g h)))
+      (ap (λ (x : BuiltValue C). x.task.slot) has.is)
       ∙ ap (λ (k : group.History). publish_answer s b.task.generation k) (group-of g h)
 
-  pub does-publish : (h : History C) (g s n : ℕ) (e : EntryValue C) (b : BuiltValue C) (core : JoinedValue C) (z : GateView) (v : RegistryValue WorldRule)
+  pub does-publish : (h : History C) (g s n : ℕ) (e : EntryValue C) (b : BuiltValue C) (core : JoinedValue C) (z : GateView)
+      (v : RegistryValue WorldRule)
       → EntryIs h g e → slice_get e.works s ≡ Some (view.ready b) → stands.SameSite e.core core
       → stands.Stands (site e.core) (joined.At b.task.slot (group.Published b.ended b.task.members) ∷ joined_events g h) core
       → told.Published n ≡ publish_answer b.task.slot b.task.generation (joined.group_events (joined_events g h))
@@ -253,16 +284,22 @@ module _ {C : Type 0} (M : Meaning C) where
   does-publish h g s n e b core z v is at same stays to kept =
       let has = has-built h g s e b is at in
       let t = told-published (is_served s (group_events g h)) n b.task.generation (to ∙ served-here h g s e b has) in
-      next-emptied h (step.publish g s) (answer.Published n) g s e core (view.ready b) z z v (group.Published (ended (work g s h)) (granted_members (past g s h)))
+      next-emptied h (step.publish g s) (answer.Published n) g s e core (view.ready b) z z v
+      (group.Published (ended (work g s h)) (granted_members (past g s h)))
       (record { group_is = refl; registry_is = refl; made_are = refl; gates_are = refl; registries_are = refl }) is same at refl refl
-      (subst (λ (x : joined.Event). stands.Stands (site e.core) (x ∷ joined_events g h) core) (published-is h g s e b has) stays) (λ r. refl) (λ b. refl)
+      (subst (λ (x : joined.Event). stands.Stands (site e.core) (x ∷ joined_events g h) core) (published-is h g s e b has) stays)
+      (λ r. refl) (λ b. refl)
       (inl
-      (built-there h g s e b (cond (is_served s (group_events g h)) (answer.Published (granted (past g s h))) (answer.Abandoned (granted (past g s h)))) (answer.Published n) is has
+      (built-there h g s e b
+      (cond (is_served s (group_events g h)) (answer.Published (granted (past g s h))) (answer.Abandoned (granted (past g s h))))
+      (answer.Published n) is has
       (ap (λ (q : Bool). cond q (answer.Published (granted (past g s h))) (answer.Abandoned (granted (past g s h)))) t.0
       ∙ ap (λ (x : BuiltValue C). answer.Published x.task.generation) (sym has.is) ∙ ap answer.Published (sym t.1))))
-      refl (unshared h (step.publish g s) (answer.Published n) g e v (record { group_is = refl; registry_is = refl; made_are = refl; gates_are = refl; registries_are = refl }) is refl kept)
+      refl (unshared h (step.publish g s) (answer.Published n) g e v
+      (record { group_is = refl; registry_is = refl; made_are = refl; gates_are = refl; registries_are = refl }) is refl kept)
 
-  pub does-retire : (h : History C) (g s n : ℕ) (e : EntryValue C) (b : BuiltValue C) (core : JoinedValue C) (z : GateView) (v : RegistryValue WorldRule)
+  pub does-retire : (h : History C) (g s n : ℕ) (e : EntryValue C) (b : BuiltValue C) (core : JoinedValue C) (z : GateView)
+      (v : RegistryValue WorldRule)
       → EntryIs h g e → slice_get e.works s ≡ Some (view.ready b) → stands.SameSite e.core core
       → stands.Stands (site e.core) (joined.At b.task.slot (group.Abandoned b.task.members) ∷ joined_events g h) core
       → told.Abandoned n ≡ publish_answer b.task.slot b.task.generation (joined.group_events (joined_events g h))
@@ -271,16 +308,22 @@ module _ {C : Type 0} (M : Meaning C) where
   does-retire h g s n e b core z v is at same stays to kept =
       let has = has-built h g s e b is at in
       let t = told-abandoned (is_served s (group_events g h)) n b.task.generation (to ∙ served-here h g s e b has) in
-      next-emptied h (step.publish g s) (answer.Abandoned n) g s e core (view.ready b) z z v (group.Abandoned (granted_members (past g s h)))
+      next-emptied h (step.publish g s) (answer.Abandoned n) g s e core (view.ready b) z z v
+      (group.Abandoned (granted_members (past g s h)))
       (record { group_is = refl; registry_is = refl; made_are = refl; gates_are = refl; registries_are = refl }) is same at refl refl
-      (subst (λ (x : joined.Event). stands.Stands (site e.core) (x ∷ joined_events g h) core) (abandoned-is h g s e b has) stays) (λ r. refl) (λ b. refl)
+      (subst (λ (x : joined.Event). stands.Stands (site e.core) (x ∷ joined_events g h) core) (abandoned-is h g s e b has) stays)
+      (λ r. refl) (λ b. refl)
       (inl
-      (built-there h g s e b (cond (is_served s (group_events g h)) (answer.Published (granted (past g s h))) (answer.Abandoned (granted (past g s h)))) (answer.Abandoned n) is has
+      (built-there h g s e b
+      (cond (is_served s (group_events g h)) (answer.Published (granted (past g s h))) (answer.Abandoned (granted (past g s h))))
+      (answer.Abandoned n) is has
       (ap (λ (q : Bool). cond q (answer.Published (granted (past g s h))) (answer.Abandoned (granted (past g s h)))) t.0
       ∙ ap (λ (x : BuiltValue C). answer.Abandoned x.task.generation) (sym has.is) ∙ ap answer.Abandoned (sym t.1))))
-      refl (unshared h (step.publish g s) (answer.Abandoned n) g e v (record { group_is = refl; registry_is = refl; made_are = refl; gates_are = refl; registries_are = refl }) is refl kept)
+      refl (unshared h (step.publish g s) (answer.Abandoned n) g e v
+      (record { group_is = refl; registry_is = refl; made_are = refl; gates_are = refl; registries_are = refl }) is refl kept)
 
-  pub does-tell : (h : History C) (g s : ℕ) (t : Told) (e : EntryValue C) (b : BuiltValue C) (core : JoinedValue C) (z : GateView) (v : RegistryValue WorldRule)
+  pub does-tell : (h : History C) (g s : ℕ) (t : Told) (e : EntryValue C) (b : BuiltValue C) (core : JoinedValue C) (z : GateView)
+      (v : RegistryValue WorldRule)
       → EntryIs h g e → slice_get e.works s ≡ Some (view.ready b) → stands.SameSite e.core core
       → stands.Stands (site e.core) (joined.in_group (publish_events b (Ok t)) ++ joined_events g h) core
       → t ≡ publish_answer b.task.slot b.task.generation (joined.group_events (joined_events g h))

@@ -1,5 +1,6 @@
 -- The steps that update a group: why one is refused, and what a new membership and its settings do to the group and the registry.
-use Rattle.std.proofs.Common.{◌≡◌, ◌↔◌, IsTrue, true≢false, inl, inr, ◌≤◌, ◌+◌, ◌^◌, ◌&&◌, ◌==◌, ◌∙◌, ℕ, Bool, true, false, cond, nat_le, List, ◌∷◌, refl, sym, ap, subst}
+use Rattle.std.proofs.Common.{◌≡◌, ◌↔◌, IsTrue, true≢false, inl, inr, ◌≤◌, ◌+◌, ◌^◌, ◌&&◌, ◌==◌, ◌∙◌, ℕ, Bool, true, false, cond, nat_le}
+use Rattle.std.proofs.Common.{List, ◌∷◌, refl, sym, ap, subst}
 use Rattle.std.specs.Prelude.{Option, Some, None, Result, Ok, Err}
 use Rattle.std.proofs.lemmas.Bool.{not-false, le-leb, leb-true}
 use Rattle.lb_select.specs.Backends.{Member}
@@ -28,7 +29,8 @@ use Rattle.lb_history.specs.declared.step.Listing.{Listing}
 use Rattle.lb_history.specs.Meanings.{Meaning}
 use Rattle.lb_history.specs.History.{History, Made, members_in, made_at, registry_of, group_events}
 use Rattle.lb_history.specs.Shared.{registry_events, view_events, events_in, view_in, key_of, settings_in}
-use Rattle.lb_history.specs.Answers.{IsRun, Answers, answer_after, at_one, refuse, has_refused, no_number, where_, unless_refused, update_answer, without_memory}
+use Rattle.lb_history.specs.Answers.{IsRun, Answers, answer_after, at_one, refuse, has_refused, no_number, where_, unless_refused}
+use Rattle.lb_history.specs.Answers.{update_answer, without_memory}
 use Rattle.lb_history.specs.Joined.{joined_after, joined_events}
 use Rattle.lb_history.proofs.Joining.{follows}
 use Rattle.lb_history.proofs.Registered.{is-registered}
@@ -47,7 +49,8 @@ use Rattle.lb_next_world.proofs.Quiet.{refused-still}
 abbrev cause : Bool → Bool → Option Refusal
 cause a b = cond a (Some refusal.GenerationsExhausted) (cond b (Some refusal.GroupCancelled) None)
 
-first-cause : (a b c d : Bool) (r : Refusal) → cause a b ≡ Some r → earlier (cause a b) (cond c (where_ d refusal.NumbersExhausted) None) ≡ Some r
+first-cause : (a b c d : Bool) (r : Refusal) → cause a b ≡ Some r
+    → earlier (cause a b) (cond c (where_ d refusal.NumbersExhausted) None) ≡ Some r
 first-cause true b true true r is = is
 first-cause true b true false r is = is
 first-cause true b false d r is = is
@@ -97,15 +100,21 @@ module _ {C : Type 0} (M : Meaning C) where
       unless_refused
       (earlier (schedule_refusal (members_in ls) (group_events g h))
       (cond (is_change (members_in ls) (group_events g h))
-      (no_number (registry.cells_given (key_of g h) (registry.Updated m.view (members_in ls) ∷ registry.Applied ∷ registry_events m.registry h))) None))
+      (no_number
+      (registry.cells_given (key_of g h) (registry.Updated m.view (members_in ls) ∷ registry.Applied ∷ registry_events m.registry h)))
+      None))
       (update_answer (newest (group_events g h)) (is_change (members_in ls) (group_events g h))) in
-      ap (λ (b : Bool). cond b (refuse refusal.InvalidAddress) (at_one (made_at g h) Told)) whole ∙ ap (λ (o : Option (Made C)). at_one o Told) is.made_is
+      ap (λ (b : Bool). cond b (refuse refusal.InvalidAddress) (at_one (made_at g h) Told)) whole
+      ∙ ap (λ (o : Option (Made C)). at_one o Told) is.made_is
 
-  pub cause-right : (h : History C) (g now : ℕ) (ls : List Listing) (e : EntryValue C) (r : Refusal) → EntryIs h g e → has_refused ls ≡ false
+  pub cause-right : (h : History C) (g now : ℕ) (ls : List Listing) (e : EntryValue C) (r : Refusal) → EntryIs h g e
+      → has_refused ls ≡ false
       → schedule_refusal (members_in ls) (group_events g h) ≡ Some r → Answers M h (step.update g now ls) (answer.Refused r)
   cause-right h g now ls e r is whole some =
       let c = is_change (members_in ls) (group_events g h) in
-      let first = first-cause (c && newest (group_events g h) == 18446744073709551615) (is_cancelled (group_events g h)) c (nat_le (2 ^ 64) (cells h g e ls)) r some in
+      let first =
+      first-cause (c && newest (group_events g h) == 18446744073709551615) (is_cancelled (group_events g h)) c
+      (nat_le (2 ^ 64) (cells h g e ls)) r some in
       inl
       (sym
       (told h g now ls e is whole
@@ -119,8 +128,10 @@ module _ {C : Type 0} (M : Meaning C) where
   fits h g now ls e is whole none enough =
       let c = is_change (members_in ls) (group_events g h) in
       told h g now ls e is whole
-      ∙ ap (λ (o : Option Refusal). unless_refused (earlier o (cond c (no_number (cells h g e ls)) None)) (update_answer (newest (group_events g h)) c)) none
-      ∙ ap (λ (o : Option Refusal). unless_refused o (update_answer (newest (group_events g h)) c)) (unlacked c (nat_le (2 ^ 64) (cells h g e ls)) enough)
+      ∙ ap (λ (o : Option Refusal). unless_refused (earlier o (cond c (no_number (cells h g e ls)) None))
+      (update_answer (newest (group_events g h)) c)) none
+      ∙ ap (λ (o : Option Refusal). unless_refused o (update_answer (newest (group_events g h)) c))
+      (unlacked c (nat_le (2 ^ 64) (cells h g e ls)) enough)
 
   pub memory-right : (h : History C) (g now : ℕ) (ls : List Listing) (e : EntryValue C) → EntryIs h g e → has_refused ls ≡ false
       → schedule_refusal (members_in ls) (group_events g h) ≡ None
@@ -140,16 +151,19 @@ module _ {C : Type 0} (M : Meaning C) where
       inl
       (sym
       (told h g now ls e is whole
-      ∙ ap (λ (o : Option Refusal). unless_refused (earlier o (cond (is_change (members_in ls) (group_events g h)) (no_number (cells h g e ls)) None)) a) none
+      ∙ ap (λ (o : Option Refusal). unless_refused
+      (earlier o (cond (is_change (members_in ls) (group_events g h)) (no_number (cells h g e ls)) None)) a) none
       ∙ ap (λ (b : Bool). unless_refused (cond b (no_number (cells h g e ls)) None) a) change
       ∙ ap (λ (b : Bool). unless_refused (where_ b refusal.NumbersExhausted) a) lacks))
 
   -- the view of a group that has no cause is there
-  pub view-there : (h : History C) (g : ℕ) (ms : List Member) (e : EntryValue C) → IsRun M h → EntryIs h g e → schedule_refusal ms (group_events g h) ≡ None
+  pub view-there : (h : History C) (g : ℕ) (ms : List Member) (e : EntryValue C) → IsRun M h → EntryIs h g e
+      → schedule_refusal ms (group_events g h) ≡ None
       → registry.has_view e.core.view.id (registry.views_after (registry_events e.registry h)) ≡ true
   view-there h g ms e run is none =
       is-registered M h run g (made_of e) is.made_is
-      (uncancelled (is_change ms (group_events g h) && newest (group_events g h) == 18446744073709551615) (is_cancelled (group_events g h)) none)
+      (uncancelled (is_change ms (group_events g h) && newest (group_events g h) == 18446744073709551615)
+      (is_cancelled (group_events g h)) none)
 
   -- what the count of numbers told of the listings, before memory is taken
   abbrev pub Counted : History C → ℕ → EntryValue C → List Listing → Bool → Type 0
@@ -166,7 +180,8 @@ module _ {C : Type 0} (M : Meaning C) where
 
   -- refused for numbers by the count
   pub counted-right : (h : History C) (g now : ℕ) (ls : List Listing) (e : EntryValue C) (lacking : Bool) → IsRun M h → EntryIs h g e
-      → has_refused ls ≡ false → schedule_refusal (members_in ls) (joined.group_events (joined_events g h)) ≡ None → Counted h g e ls lacking
+      → has_refused ls ≡ false → schedule_refusal (members_in ls) (joined.group_events (joined_events g h)) ≡ None
+      → Counted h g e ls lacking
       → lacking ≡ true → Answers M h (step.update g now ls) (answer.Refused refusal.NumbersExhausted)
   counted-right h g now ls e lacking run is whole own told is-so =
       let none = ap (schedule_refusal (members_in ls)) (sym (group-of g h)) ∙ own in
@@ -175,39 +190,47 @@ module _ {C : Type 0} (M : Meaning C) where
 
   -- and for memory after it
   pub uncounted-right : (h : History C) (g now : ℕ) (ls : List Listing) (e : EntryValue C) (lacking : Bool) → IsRun M h → EntryIs h g e
-      → has_refused ls ≡ false → schedule_refusal (members_in ls) (joined.group_events (joined_events g h)) ≡ None → Counted h g e ls lacking
+      → has_refused ls ≡ false → schedule_refusal (members_in ls) (joined.group_events (joined_events g h)) ≡ None
+      → Counted h g e ls lacking
       → lacking ≡ false → Answers M h (step.update g now ls) (answer.Refused refusal.OutOfMemory)
   uncounted-right h g now ls e lacking run is whole own told not-so =
       let none = ap (schedule_refusal (members_in ls)) (sym (group-of g h)) ∙ own in
       memory-right h g now ls e is whole none
-      (λ change. left-false (2 ^ 64) (cells h g e ls) (λ more. true≢false (sym ((counted h g ls e lacking run is none told).1 (change, more)) ∙ not-so)))
+      (λ change. left-false (2 ^ 64) (cells h g e ls)
+      (λ more. true≢false (sym ((counted h g ls e lacking run is none told).1 (change, more)) ∙ not-so)))
 
   -- what the core stands for is what the step did to the group
   stays : (h : History C) (g now : ℕ) (ls : List Listing) (a : Answer) (e : EntryValue C) (v : JoinedValue C) → EntryIs h g e
       → joined_events g ((step.update g now ls, a) ∷ h)
-      ≡ after_schedule (key_of g h) (view_in (made_at g h)) (members_in ls) (settings_in ls) now (events_in (registry_of g h) h) (joined_events g h)
+      ≡ after_schedule (key_of g h) (view_in (made_at g h)) (members_in ls) (settings_in ls) now (events_in (registry_of g h) h)
+      (joined_events g h)
       → stands.Stands (site e.core)
       (after_schedule (key_of g h) e.core.view.id (members_in ls) (settings_in ls) now (registry_events e.registry h) (joined_events g h)) v
       → stands.Stands (site e.core) (joined_after h (group_events g h) (joined_events g h) (step.update g now ls) a) v
   stays h g now ls a e v is alike was =
       subst (λ (es : joined.History). stands.Stands (site e.core) es v)
-      (ap (λ (i : ℕ). after_schedule (key_of g h) i (members_in ls) (settings_in ls) now (registry_events e.registry h) (joined_events g h)) (sym (ap view_in is.made_is))
-      ∙ ap (λ (es : List registry.Event). after_schedule (key_of g h) (view_in (made_at g h)) (members_in ls) (settings_in ls) now es (joined_events g h))
+      (ap (λ (i : ℕ). after_schedule (key_of g h) i (members_in ls) (settings_in ls) now (registry_events e.registry h)
+      (joined_events g h)) (sym (ap view_in is.made_is))
+      ∙ ap (λ (es : List registry.Event). after_schedule (key_of g h) (view_in (made_at g h)) (members_in ls) (settings_in ls) now es
+      (joined_events g h))
       (sym (ap (λ (o : Option ℕ). events_in o h) (registry-here h g e is)))
       ∙ sym alike ∙ joined-here h (step.update g now ls) a g refl) was
 
-  views-are : (h : History C) (g : ℕ) (e : EntryValue C) → IsRun M h → EntryIs h g e → views_of (site e.core) (joined_events g h) ≡ view_events g h
+  views-are : (h : History C) (g : ℕ) (e : EntryValue C) → IsRun M h → EntryIs h g e
+      → views_of (site e.core) (joined_events g h) ≡ view_events g h
   views-are h g e run is = (joins-alike M h run g).views (made_of e) is.made_is
 
   -- another membership
-  pub does-change : (h : History C) (g now n : ℕ) (ls : List Listing) (e : EntryValue C) (v : JoinedValue C) (z : GateView) (x : RegistryValue WorldRule)
+  pub does-change : (h : History C) (g now n : ℕ) (ls : List Listing) (e : EntryValue C) (v : JoinedValue C) (z : GateView)
+      (x : RegistryValue WorldRule)
       → IsRun M h → EntryIs h g e → has_refused ls ≡ false → schedule_refusal (members_in ls) (group_events g h) ≡ None
       → is_change (members_in ls) (group_events g h) ≡ true → nat_le (2 ^ 64) (cells h g e ls) ≡ false → n ≡ newest (group_events g h) + 1
       → stands.SameSite e.core v
       → stands.Stands (site e.core)
       (after_schedule (key_of g h) e.core.view.id (members_in ls) (settings_in ls) now (registry_events e.registry h) (joined_events g h)) v
       → IsRegistryAfter key_gives (key_of g h)
-      (registry_updated (key_of g h) e.core.view.id (members_in ls) (views_of (site e.core) (joined_events g h)) (registry_events e.registry h)) x
+      (registry_updated (key_of g h) e.core.view.id (members_in ls) (views_of (site e.core) (joined_events g h))
+      (registry_events e.registry h)) x
       → EntryNext M h g (step.update g now ls) (answer.Generation n) e z (with_core v e) z x
   does-change h g now n ls e v z x run is whole none change enough number same was kept =
       let st : Step C = step.update g now ls in
@@ -216,21 +239,26 @@ module _ {C : Type 0} (M : Meaning C) where
       inl
       (ap answer.Generation number
       ∙ sym (fits h g now ls e is whole none (λ c. enough) ∙ ap (update_answer (newest (group_events g h))) change)) in
-      let at : AtGroup h st a g = record { group_is = refl; registry_is = refl; made_are = refl; gates_are = refl; registries_are = refl } in
-      next-core M h st a g e v z z x at is same (stays h g now ls a e v is (schedules-alike M h st a (run, right)) was) refl (λ s. refl) (λ b. refl) right refl
+      let at : AtGroup h st a g =
+      record { group_is = refl; registry_is = refl; made_are = refl; gates_are = refl; registries_are = refl } in
+      next-core M h st a g e v z z x at is same (stays h g now ls a e v is (schedules-alike M h st a (run, right)) was) refl (λ s. refl)
+      (λ b. refl) right refl
       (subst (λ (es : List registry.Event). IsRegistryAfter key_gives (key_of g h) es x)
-      (ap (λ (vs : List ViewEvent). registry_updated (key_of g h) e.core.view.id (members_in ls) vs (registry_events e.registry h)) (views-are h g e run is)
+      (ap (λ (vs : List ViewEvent). registry_updated (key_of g h) e.core.view.id (members_in ls) vs (registry_events e.registry h))
+      (views-are h g e run is)
       ∙ sym (shares M h st a (run, right) (made_of e) is.made_is)
       ∙ shared-here h st a e.registry (at.registry_is ∙ registry-here h g e is)) kept)
 
   -- the same membership
-  pub does-keep : (h : History C) (g now n : ℕ) (ls : List Listing) (e : EntryValue C) (v : JoinedValue C) (z : GateView) (x : RegistryValue WorldRule)
+  pub does-keep : (h : History C) (g now n : ℕ) (ls : List Listing) (e : EntryValue C) (v : JoinedValue C) (z : GateView)
+      (x : RegistryValue WorldRule)
       → IsRun M h → EntryIs h g e → has_refused ls ≡ false → schedule_refusal (members_in ls) (group_events g h) ≡ None
       → is_change (members_in ls) (group_events g h) ≡ false → n ≡ newest (group_events g h) → stands.SameSite e.core v
       → stands.Stands (site e.core)
       (after_schedule (key_of g h) e.core.view.id (members_in ls) (settings_in ls) now (registry_events e.registry h) (joined_events g h)) v
       → IsRegistryAfter key_gives (key_of g h)
-      (registry_updated (key_of g h) e.core.view.id (members_in ls) (views_of (site e.core) (joined_events g h)) (registry_events e.registry h)) x
+      (registry_updated (key_of g h) e.core.view.id (members_in ls) (views_of (site e.core) (joined_events g h))
+      (registry_events e.registry h)) x
       → EntryNext M h g (step.update g now ls) (answer.Same n) e z (with_core v e) z x
   does-keep h g now n ls e v z x run is whole none change number same was kept =
       let st : Step C = step.update g now ls in
@@ -238,14 +266,18 @@ module _ {C : Type 0} (M : Meaning C) where
       let right : Answers M h st a =
       inl
       (ap answer.Same number
-      ∙ sym (fits h g now ls e is whole none (λ c. absurd (true-false (sym c ∙ change))) ∙ ap (update_answer (newest (group_events g h))) change)) in
-      let at : AtGroup h st a g = record { group_is = refl; registry_is = refl; made_are = refl; gates_are = refl; registries_are = refl } in
+      ∙ sym (fits h g now ls e is whole none (λ c. absurd (true-false (sym c ∙ change)))
+      ∙ ap (update_answer (newest (group_events g h))) change)) in
+      let at : AtGroup h st a g =
+      record { group_is = refl; registry_is = refl; made_are = refl; gates_are = refl; registries_are = refl } in
       let alike : same_members (members_in ls) (membership_after (view_events g h)) ≡ true =
       ap (same_members (members_in ls)) (follows M h run g).membership
       ∙ not-false (same_members (members_in ls) (members_of (newest (group_events g h)) (group_events g h))) change in
-      next-core M h st a g e v z z x at is same (stays h g now ls a e v is (schedules-alike M h st a (run, right)) was) refl (λ s. refl) (λ b. refl) right refl
+      next-core M h st a g e v z z x at is same (stays h g now ls a e v is (schedules-alike M h st a (run, right)) was) refl (λ s. refl)
+      (λ b. refl) right refl
       (subst (λ (es : List registry.Event). IsRegistryAfter key_gives (key_of g h) es x)
-      (ap (λ (vs : List ViewEvent). registry_updated (key_of g h) e.core.view.id (members_in ls) vs (registry_events e.registry h)) (views-are h g e run is)
+      (ap (λ (vs : List ViewEvent). registry_updated (key_of g h) e.core.view.id (members_in ls) vs (registry_events e.registry h))
+      (views-are h g e run is)
       ∙ same-events (registry_events e.registry h) _ (same_members (members_in ls) (membership_after (view_events g h))) alike) kept)
     where
       true-false : true ≡ false → ⊥
@@ -263,7 +295,8 @@ module _ {C : Type 0} (M : Meaning C) where
       → stands.Stands (site e.core)
       (after_schedule (key_of g h) e.core.view.id (members_in ls) (settings_in ls) now (registry_events e.registry h) (joined_events g h)) v
       → IsRegistryAfter key_gives (key_of g h)
-      (registry_updated (key_of g h) e.core.view.id (members_in ls) (views_of (site e.core) (joined_events g h)) (registry_events e.registry h)) x
+      (registry_updated (key_of g h) e.core.view.id (members_in ls) (views_of (site e.core) (joined_events g h))
+      (registry_events e.registry h)) x
       → EntryNext M h g (step.update g now ls) (scheduled_as s) e z (with_core v e) z x
   does-schedule h g now ls s e v z x run is whole right-so enough same was kept =
       by-change (is_change (members_in ls) (group_events g h)) refl
@@ -277,10 +310,12 @@ module _ {C : Type 0} (M : Meaning C) where
       changed-is : s.changed ≡ is_change (members_in ls) (group_events g h)
       changed-is = right-so.1 ∙ ap (is_change (members_in ls)) (group-of g h)
 
-      number-is : s.generation ≡ cond (is_change (members_in ls) (group_events g h)) (newest (group_events g h) + 1) (newest (group_events g h))
+      number-is : s.generation ≡ cond (is_change (members_in ls) (group_events g h)) (newest (group_events g h) + 1)
+          (newest (group_events g h))
       number-is = right-so.2 ∙ ap (λ (p : group.History). cond (is_change (members_in ls) p) (newest p + 1) (newest p)) (group-of g h)
 
-      by-change : (b : Bool) → is_change (members_in ls) (group_events g h) ≡ b → EntryNext M h g (step.update g now ls) (scheduled_as s) e z (with_core v e) z x
+      by-change : (b : Bool) → is_change (members_in ls) (group_events g h) ≡ b
+          → EntryNext M h g (step.update g now ls) (scheduled_as s) e z (with_core v e) z x
       by-change true is-change =
           subst (λ (a : Answer). EntryNext M h g (step.update g now ls) a e z (with_core v e) z x)
           (sym (ap (λ (b : Bool). cond b (answer.Generation s.generation) (answer.Same s.generation)) (changed-is ∙ is-change)))
@@ -293,7 +328,8 @@ module _ {C : Type 0} (M : Meaning C) where
           (number-is ∙ ap (λ (b : Bool). cond b (newest (group_events g h) + 1) (newest (group_events g h))) is-change) same was kept)
 
   -- a refusal of the core's: of a cause of the group, or where none stands and the membership is another one, of the registry
-  pub refused-right : (h : History C) (g now : ℕ) (ls : List Listing) (e : EntryValue C) (r : Refusal) → IsRun M h → EntryIs h g e → has_refused ls ≡ false
+  pub refused-right : (h : History C) (g now : ℕ) (ls : List Listing) (e : EntryValue C) (r : Refusal) → IsRun M h → EntryIs h g e
+      → has_refused ls ≡ false
       → IsRefusedFor (joined.group_events (joined_events g h)) (members_in ls) r
       → (r ≡ refusal.NoSuch → registry.has_view e.core.view.id (registry.views_after (registry_events e.registry h)) ≡ false)
       → (r ≡ refusal.NumbersExhausted → 2 ^ 64 ≤ cells h g e ls)
@@ -333,7 +369,8 @@ module _ {C : Type 0} (M : Meaning C) where
       → 2 ^ 64 ≤ registry.cells_given (key_of g h) (registry.Updated e.core.view.id ms ∷ registry.Applied ∷ registry_events e.registry h)
       → answer ≡ Err refusal.NumbersExhausted
 
-  lacks : (h : History C) (g : ℕ) (ls : List Listing) (e : EntryValue C) (ms : List Member) (answer : Result Scheduled Refusal) → IsRun M h → EntryIs h g e
+  lacks : (h : History C) (g : ℕ) (ls : List Listing) (e : EntryValue C) (ms : List Member) (answer : Result Scheduled Refusal) → IsRun M h
+      → EntryIs h g e
       → ms ≡ members_in ls → Lacking h g e ms answer → schedule_refusal (members_in ls) (group_events g h) ≡ None
       → is_change (members_in ls) (group_events g h) ≡ true → 2 ^ 64 ≤ cells h g e ls → answer ≡ Err refusal.NumbersExhausted
   lacks h g ls e ms answer run is same lacking none change more =
@@ -342,7 +379,8 @@ module _ {C : Type 0} (M : Meaning C) where
       (view-there h g (members_in ls) e run is none) more
 
   -- the core refused it
-  pub does-refuse : (h : History C) (g now : ℕ) (ls : List Listing) (ms : List Member) (r : Refusal) (e : EntryValue C) (v : JoinedValue C) (z : GateView)
+  pub does-refuse : (h : History C) (g now : ℕ) (ls : List Listing) (ms : List Member) (r : Refusal) (e : EntryValue C) (v : JoinedValue C)
+      (z : GateView)
       (x : RegistryValue WorldRule) → IsRun M h → EntryIs h g e → has_refused ls ≡ false → ms ≡ members_in ls
       → IsRefusedFor (joined.group_events (joined_events g h)) ms r
       → (r ≡ refusal.NoSuch → registry.has_view e.core.view.id (registry.views_after (registry_events e.registry h)) ≡ false)
@@ -353,33 +391,44 @@ module _ {C : Type 0} (M : Meaning C) where
       → EntryNext M h g (step.update g now ls) (answer.Refused r) e z (with_core v e) z x
   does-refuse h g now ls ms r e v z x run is whole same why unknown numbers lacking site-same was kept =
       next-told M h (step.update g now ls) (answer.Refused r) g e v z x (refused-still h (step.update g now ls) r) is site-same was
-      (refused-right h g now ls e r run is whole (subst (λ (xs : List Member). IsRefusedFor (joined.group_events (joined_events g h)) xs r) same why) unknown
+      (refused-right h g now ls e r run is whole
+      (subst (λ (xs : List Member). IsRefusedFor (joined.group_events (joined_events g h)) xs r) same why) unknown
       (λ n.
       subst
-      (λ (xs : List Member). 2 ^ 64 ≤ registry.cells_given (key_of g h) (registry.Updated e.core.view.id xs ∷ registry.Applied ∷ registry_events e.registry h))
+      (λ (xs : List Member). 2 ^ 64 ≤ registry.cells_given (key_of g h)
+      (registry.Updated e.core.view.id xs ∷ registry.Applied ∷ registry_events e.registry h))
       same (numbers n))
       (λ none change more. same-cause r (lacks h g ls e ms (Err r) run is same lacking none change more)))
       refl kept
     where
-      same-cause : (a : Refusal) → (let told : Result Scheduled Refusal = Err a in told ≡ Err refusal.NumbersExhausted) → a ≡ refusal.NumbersExhausted
+      same-cause : (a : Refusal) → (let told : Result Scheduled Refusal = Err a in told ≡ Err refusal.NumbersExhausted)
+          → a ≡ refusal.NumbersExhausted
       same-cause a is = cc
 
   -- the core made it the newest, or left the newest
-  pub does-update : (h : History C) (g now : ℕ) (ls : List Listing) (ms : List Member) (flags : List (Member × Bool)) (s : Scheduled) (e : EntryValue C)
-      (v : JoinedValue C) (z : GateView) (x : RegistryValue WorldRule) → IsRun M h → EntryIs h g e → has_refused ls ≡ false → ms ≡ members_in ls
+  pub does-update : (h : History C) (g now : ℕ) (ls : List Listing) (ms : List Member) (flags : List (Member × Bool)) (s : Scheduled)
+      (e : EntryValue C)
+      (v : JoinedValue C) (z : GateView) (x : RegistryValue WorldRule) → IsRun M h → EntryIs h g e → has_refused ls ≡ false
+      → ms ≡ members_in ls
       → flags ≡ settings_in ls → Schedules (site e.core) (joined_events g h) ms (Ok s) → Lacking h g e ms (Ok s) → stands.SameSite e.core v
-      → stands.Stands (site e.core) (after_schedule (key_of g h) e.core.view.id ms flags now (registry_events e.registry h) (joined_events g h)) v
+      → stands.Stands (site e.core)
+      (after_schedule (key_of g h) e.core.view.id ms flags now (registry_events e.registry h) (joined_events g h)) v
       → IsRegistryAfter key_gives (key_of g h)
       (registry_updated (key_of g h) e.core.view.id ms (views_of (site e.core) (joined_events g h)) (registry_events e.registry h)) x
       → EntryNext M h g (step.update g now ls) (scheduled_as s) e z (with_core v e) z x
   does-update h g now ls ms flags s e v z x run is whole same marks right-so lacking site-same was kept =
       let own = subst (λ (xs : List Member). Schedules (site e.core) (joined_events g h) xs (Ok s)) same right-so in
-      let none : schedule_refusal (members_in ls) (group_events g h) ≡ None = ap (schedule_refusal (members_in ls)) (sym (group-of g h)) ∙ own.0 in
+      let none : schedule_refusal (members_in ls) (group_events g h) ≡ None = ap (schedule_refusal (members_in ls)) (sym (group-of g h))
+      ∙ own.0 in
       does-schedule h g now ls s e v z x run is whole own
       (λ change.
       left-false (2 ^ 64) (cells h g e ls)
       (λ more. absurd (let clash = lacks h g ls e ms (Ok s) run is same lacking none change more in cc)))
       site-same
-      (subst (λ (fs : List (Member × Bool)). stands.Stands (site e.core) (after_schedule (key_of g h) e.core.view.id (members_in ls) fs now (registry_events e.registry h) (joined_events g h)) v) marks
-      (subst (λ (xs : List Member). stands.Stands (site e.core) (after_schedule (key_of g h) e.core.view.id xs flags now (registry_events e.registry h) (joined_events g h)) v) same was))
-      (subst (λ (xs : List Member). IsRegistryAfter key_gives (key_of g h) (registry_updated (key_of g h) e.core.view.id xs (views_of (site e.core) (joined_events g h)) (registry_events e.registry h)) x) same kept)
+      (subst (λ (fs : List (Member × Bool)). stands.Stands (site e.core)
+      (after_schedule (key_of g h) e.core.view.id (members_in ls) fs now (registry_events e.registry h) (joined_events g h)) v) marks
+      (subst (λ (xs : List Member). stands.Stands (site e.core)
+      (after_schedule (key_of g h) e.core.view.id xs flags now (registry_events e.registry h) (joined_events g h)) v) same was))
+      (subst (λ (xs : List Member). IsRegistryAfter key_gives (key_of g h)
+      (registry_updated (key_of g h) e.core.view.id xs (views_of (site e.core) (joined_events g h)) (registry_events e.registry h)) x) same
+      kept)

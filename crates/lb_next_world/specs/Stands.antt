@@ -51,7 +51,8 @@ module _ {C : Type 0} (M : Meaning C) where
     pub gates_are : length w.gates ≡ gates h
     pub groups_are : length w.groups ≡ length (made h)
     pub readers_are : map (option_map entered_of) w.readers ≡ entries h
-    pub kept : (r : ℕ) (v : RegistryValue WorldRule) → slice_get w.registries r ≡ Some v → IsRegistryAfter key_gives (key_at r h) (registry_events r h) v
+    pub kept : (r : ℕ) (v : RegistryValue WorldRule) → slice_get w.registries r ≡ Some v
+        → IsRegistryAfter key_gives (key_at r h) (registry_events r h) v
     pub outs : (a : ℕ) (z : GateView) → slice_get w.gates a ≡ Some z → z.out ≡ is_out a h
     pub each : (g : ℕ) (e : EntryValue C) → slice_get w.groups g ≡ Some e → EntryIs h g e
     pub on_site : (g : ℕ) (e : EntryValue C) → slice_get w.groups g ≡ Some e → OnSite w e
@@ -76,7 +77,8 @@ module _ {C : Type 0} (M : Meaning C) where
     pub kept : IsRegistryAfter key_gives (key_of g h) (registry_events e.registry ((st, a) ∷ h)) v2
 
   -- what a call at an entry does, after each history and as each number
-  abbrev pub Does : (ℕ → Step C) → EntryValue C → GateView → RegistryValue WorldRule → Answer → EntryValue C → GateView → RegistryValue WorldRule → Type 0
+  abbrev pub Does : (ℕ → Step C) → EntryValue C → GateView → RegistryValue WorldRule → Answer → EntryValue C → GateView
+      → RegistryValue WorldRule → Type 0
   Does st e z v a e2 z2 v2 =
       (h : History C) (g : ℕ) → IsRun M h → EntryIs h g e → z.out ≡ is_out e.gate h
       → IsRegistryAfter key_gives (key_of g h) (registry_events e.registry h) v
@@ -86,7 +88,8 @@ module _ {C : Type 0} (M : Meaning C) where
   abbrev pub DoesAtGate : (ℕ → Step C) → EntryValue C → GateView → Answer → EntryValue C → GateView → Type 0
   DoesAtGate st e z a e2 z2 = (v : RegistryValue WorldRule) → Does st e z v a e2 z2 v
 
-  abbrev pub DoesAtRegistry : (ℕ → Step C) → EntryValue C → RegistryValue WorldRule → Answer → EntryValue C → RegistryValue WorldRule → Type 0
+  abbrev pub DoesAtRegistry : (ℕ → Step C) → EntryValue C → RegistryValue WorldRule → Answer → EntryValue C → RegistryValue WorldRule
+      → Type 0
   DoesAtRegistry st e v a e2 v2 = (z : GateView) → Does st e z v a e2 z v2
 
   abbrev pub DoesAlone : (ℕ → Step C) → EntryValue C → Answer → EntryValue C → Type 0

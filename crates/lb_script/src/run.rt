@@ -2,7 +2,7 @@
 //! The text is that of a world's run, whatever reader and writer stand at the ends.
 ghost use Rattle.std.specs.Prelude.{◌≡◌, ℕ, ◌++◌, false, true, codes, OnOk, OnErr, IfSome, is_none};
 ghost use Rattle.std.specs.Io.KnownBytes.{Appends};
-ghost use Rattle.lb_world.specs.Meanings.{meaning_of};
+ghost use Rattle.lb_history.specs.Meanings.{meaning_of};
 ghost use Rattle.lb_counted.specs.Counted.{inner_of, has_failed, is_flushed};
 ghost use Rattle.lb_counted.specs.Stream.{AppendsFront};
 ghost use Rattle.lb_script.specs.Output.{Wrote, WroteFront};

@@ -2,26 +2,24 @@
 //! What a run keeps between its lines stands here; the buffers are used again for each line.
 ghost use Rattle.std.specs.Prelude.{◌≡◌, ◌≢◌, [], ◌∷◌, Err, true};
 ghost use Rattle.std.specs.Io.KnownBytes.{Keeps, prepend_known};
-ghost use Rattle.lb_world.specs.History.{History};
-ghost use Rattle.lb_world.specs.Meanings.{meaning_of};
-ghost use Rattle.lb_world.specs.Stands.{Stands};
+ghost use Rattle.lb_history.specs.History.{History};
+ghost use Rattle.lb_history.specs.Meanings.{meaning_of};
+ghost use Rattle.lb_next_world.specs.Stands.{Stands};
 ghost use Rattle.lb_step_text.specs.LineSteps.{line_step_seen};
 ghost use Rattle.lb_counted.specs.Counted.{inner_of, has_failed};
 ghost use Rattle.lb_counted.specs.Stream.{OnBytes};
-ghost use Rattle.lb_script.specs.Output.{makes_registry, made_registry};
-ghost use Rattle.lb_script.specs.Session.{Holds, AnswersLine, TakesTurn};
+ghost use Rattle.lb_script.specs.Session.{AnswersLine, TakesTurn};
 
 use lb_counted::counted::Counted;
+use lb_history::answer::Answer;
 use lb_kinds::kinds::Kind;
 use lb_lines::lines::{LineRead, read_line};
 use lb_lines::read_ahead::ReadAhead;
+use lb_next_world::world::World;
 use lb_select::walk::BackendSelection;
 use lb_step_text::error::ScriptError;
 use lb_step_text::parse::{LineStep, parse};
 use lb_step_text::texts::push_answer;
-use lb_world::answer::Answer;
-use lb_world::step::Step;
-use lb_world::world::World;
 use std::alloc::Global;
 use std::io::{Read, Write};
 
@@ -44,7 +42,6 @@ pub(crate) enum Turn {
 #[derive(Drop)]
 pub(crate) struct Session<S: BackendSelection> {
     world: World<S>,
-    has_registry: bool,
     ahead: ReadAhead,
     line: Vec<u8>,
     pub(crate) text: Vec<u8>,
@@ -53,12 +50,11 @@ pub(crate) struct Session<S: BackendSelection> {
 impl<S: BackendSelection<Config = Kind>> Session<S> {
     /// A run that has read nothing.
     pub(crate) fn new(alloc: Global) -> Session<S>
-        ensures holds { Holds (meaning_of S.BackendSelection) result.world result.has_registry [] }
+        ensures stands { Stands (meaning_of S.BackendSelection) result.world [] }
         ensures ahead { result.ahead ≡ [] }
     {
         Session {
             world: World::new(alloc),
-            has_registry: false,
             ahead: ReadAhead::new(),
             line: Vec::new(alloc),
             text: Vec::new(alloc),
@@ -73,10 +69,10 @@ impl<S: BackendSelection<Config = Kind>> Session<S> {
         writer: &mut Counted<W>,
     ) -> Turn
         ensures turn { let M = meaning_of S.BackendSelection in
-            (h : History Kind) → Holds M self.old.world self.old.has_registry h
+            (h : History Kind) → Stands M self.old.world h
             → OnBytes (prepend_known self.old.ahead (R.remaining (inner_of reader.old)))
             (prepend_known self.new.ahead (R.remaining (inner_of reader.new)))
-            (TakesTurn M h self.new.world self.new.has_registry (self.new.text.items) result) }
+            (TakesTurn M h self.new.world (self.new.text.items) result) }
         ensures none { result ≡ Turn.Failed ScriptError.Read → self.new.ahead ≡ [] }
         ensures written { Keeps (W.contents (inner_of writer.old)) (W.contents (inner_of writer.new)) }
         ensures reader_failed { result ≡ Turn.Failed ScriptError.Read → has_failed reader.new ≡ true }
@@ -104,17 +100,13 @@ impl<S: BackendSelection<Config = Kind>> Session<S> {
     // Takes the step that the line asks for, and makes the text that of its answer and a line feed.
     fn answer(&mut self, alloc: Global) -> Result<(), ScriptError>
         ensures line { let M = meaning_of S.BackendSelection in
-            (h : History Kind) → Holds M self.old.world self.old.has_registry h
-            → AnswersLine M h self.old.line.items self.new.world self.new.has_registry (self.new.text.items) result }
+            (h : History Kind) → Stands M self.old.world h
+            → AnswersLine M h self.old.line.items self.new.world (self.new.text.items) result }
         ensures own { result ≢ Err ScriptError.Read }
         ensures ahead { self.new.ahead ≡ self.old.ahead }
     {
         let step = parse(alloc, &self.line)?;
-        if self.has_registry && makes_registry(&step) {
-            return Err(ScriptError::BadLine);
-        }
         let answer = take_step(&mut self.world, step);
-        self.has_registry |= made_registry(&answer);
         self.text.clear();
         push_answer(alloc, &mut self.text, &answer)?;
         self.text.push(b'\n')?;
@@ -135,23 +127,5 @@ fn take_step<S: BackendSelection<Config = Kind>>(world: &mut World<S>, step: Lin
             limit,
         } => world.select(group, slot, key, limit, &[]),
         LineStep::Other(step) => world.step(step),
-    }
-}
-
-fn makes_registry(step: &LineStep<'_>) -> bool
-    ensures { result ≡ makes_registry (line_step_seen step.now) }
-{
-    match step {
-        LineStep::Other(Step::Registry(_)) => true,
-        _ => false,
-    }
-}
-
-fn made_registry(answer: &Answer) -> bool
-    ensures { result ≡ made_registry answer.now }
-{
-    match answer {
-        Answer::Registry(_) => true,
-        _ => false,
     }
 }

@@ -1,9 +1,9 @@
 -- Lemmas on backends as a script spells them.
 use Rattle.std.proofs.Common.{◌≡◌, ◌≢◌, ℕ, suc, ◌<◌, ◌==◌, false, List, [], ◌∷◌, ◌++◌, None, Some, length, take, drop, get_or, arith, refl, sym, ap, subst, ◌∙◌, take-append-drop, lit<}
-use Rattle.std.specs.Str.Pattern.{RFindsChar, SplitsAroundMatch}
+use Rattle.std.specs.Str.Pattern.{RFindsChar, FindsCharPrefix, SplitsAroundMatch}
 use Rattle.std.proofs.lemmas.Bool.Decides.{nat_tests}
-use Rattle.std.proofs.lemmas.Str.Pattern.{NoCharPasses-char, drop_at_char}
-use Rattle.lb_step_text.specs.StepLines.{address_and_weight}
+use Rattle.std.proofs.lemmas.Str.Pattern.{NoCharPasses-char, drop_at_char, strip_prefix_char}
+use Rattle.lb_step_text.specs.StepLines.{address_and_weight, mark_of}
 
 slash_not : (x : ℕ) → x ≢ 47 → (x == 47) ≡ false
 slash_not x other = grind (arith, nat_tests)
@@ -38,3 +38,14 @@ divided_found word address weight h =
     sym (take-append-drop i word) ∙ ap (λ l. take i word ++ l) cut ∙ ap (λ l. take i word ++ 47 ∷ l) (sym h.4)
     ∙ ap (λ l. l ++ 47 ∷ weight) (sym h.3) in
     ap address_and_weight is ∙ divided_at address weight (subst (λ (l : List ℕ). (k : ℕ) → k < length l → get_or l k 0 ≢ 47) (sym h.4) after)
+
+is_other : (x y : ℕ) → x ≢ y → (x == y) ≡ false
+is_other x y other = grind (arith, nat_tests)
+
+-- what the library's `strip_prefix` says of a word with neither mark
+pub unmarked : (word : List ℕ) → FindsCharPrefix 33 word None → FindsCharPrefix 43 word None → (None, word) ≡ mark_of word
+unmarked [] no_disable no_enable = refl
+unmarked (x ∷ xs) no_disable no_enable =
+    let first : (x == 33) ≡ false = is_other x 33 (λ e. strip_prefix_char 33 (x ∷ xs) None no_disable (lit< tt) xs (ap (λ y. y ∷ xs) e)) in
+    let second : (x == 43) ≡ false = is_other x 43 (λ e. strip_prefix_char 43 (x ∷ xs) None no_enable (lit< tt) xs (ap (λ y. y ∷ xs) e)) in
+    rw (first, second) refl

@@ -1,4 +1,5 @@
 pub mod BackendsLemmas
+pub mod FiguresLemmas
 pub mod NumbersLemmas
 pub mod ParseLemmas
 pub mod WordsLemmas

@@ -5,7 +5,7 @@ use Rattle.std.proofs.lemmas.Bool.{false_from_ne_true}
 use Rattle.std.proofs.lemmas.Str.{is_utf8-from_IsUtf8, IsUtf8-from_is_utf8}
 use Rattle.std.specs.Str.{is_utf8}
 use Rattle.std.specs.Str.Pattern.{StripsPrefix, FindsTextPrefix}
-use Rattle.lb_world.specs.Steps.{StepView, step_seen}
+use Rattle.lb_history.specs.Steps.{Step, step_seen}
 use Rattle.std.specs.Prelude.{Option, Result, Err}
 use Rattle.lb_step_text.specs.declared.error.ScriptError.{ScriptError}
 use Rattle.lb_step_text.specs.declared.error.ScriptError.TheVariants.{BadLine, LineTooLong, Read, OutOfMemory}
@@ -27,7 +27,7 @@ step_of-read line text words r h same cut read =
     subst (λ meaning. Reads line_step_seen meaning r) (step_of-words line text words h same cut) read
 
 -- an error tells the same of a line's step as of a step by itself
-pub read_error : (meaning : Option (StepView Kind)) (e : ScriptError) → Reads step_seen meaning (Err e) → Reads line_step_seen meaning (Err e)
+pub read_error : (meaning : Option (Step Kind)) (e : ScriptError) → Reads step_seen meaning (Err e) → Reads line_step_seen meaning (Err e)
 read_error meaning BadLine h = h
 read_error meaning LineTooLong h = h
 read_error meaning Read h = h

@@ -3,9 +3,9 @@ use Rattle.std.specs.Prelude.{[]}
 use Rattle.lb_kinds.specs.declared.kinds.Kind.{Kind}
 use Rattle.lb_step_text.specs.declared.parse.LineStep.{LineStep}
 use Rattle.lb_step_text.specs.declared.parse.LineStep.TheVariants.{Select, Other}
-use Rattle.lb_world.specs.Steps.{StepView, step_seen}
-use Rattle.lb_world.specs.Steps as step
+use Rattle.lb_history.specs.Steps.{Step, step_seen}
+use Rattle.lb_history.specs.Steps as step
 
-abbrev pub line_step_seen : LineStep → StepView Kind
+abbrev pub line_step_seen : LineStep → Step Kind
 line_step_seen (Select group slot key limit) = step.select group slot key.now limit []
 line_step_seen (Other st) = step_seen st

@@ -1,33 +1,53 @@
-//! Backends as a script spells them: an address, a slash and a weight.
+//! Backends as a script spells them: an address, a slash and a weight, and in an update a mark before these.
 //! An address that can't be one is told apart from a word that no backend is spelled as.
 ghost use Rattle.std.specs.Prelude.{◌≡◌, option_map};
-ghost use Rattle.lb_step_text.specs.StepLines.{Reads, backend_of, backends_of, address_and_weight, is_marked};
+ghost use Rattle.lb_step_text.specs.StepLines.{Reads, backend_of, mark_of, listing_of, listings_of, address_and_weight};
 
 use crate::error::ScriptError;
 use crate::numbers::number;
 use crate::words::Words;
+use lb_history::step::Listing;
 use lb_select::backend::Backend;
 use lb_select::refusal::Refusal;
 use std::alloc::Global;
 
-/// The backends that the words spell, each `None` where its address is refused. Memory is taken.
-pub fn backends(alloc: Global, words: Words<'_>) -> Result<Vec<Option<Backend>>, ScriptError>
-    ensures { Reads (λ listed. listed.items) (backends_of words.entry) result }
+/// The backends of an update that the words spell, each `None` where its address is refused. Memory is taken.
+pub fn listings(alloc: Global, words: Words<'_>) -> Result<Vec<Listing>, ScriptError>
+    ensures { Reads (λ listed. listed.items) (listings_of words.entry) result }
 {
     let mut listed = Vec::new(alloc);
     for word in words {
-        listed.push(backend(alloc, word)?)?;
+        listed.push(listing(alloc, word)?)?;
     }
     Ok(listed)
 }
 
-// A backend with nothing attached, or `None` where its address is refused. Memory is taken for a path.
-fn backend(alloc: Global, word: &str) -> Result<Option<Backend>, ScriptError>
+// A backend, marked or not. Memory is taken for a path.
+fn listing(alloc: Global, word: &str) -> Result<Listing, ScriptError>
+    ensures { Reads (λ listing. listing) (listing_of word.now) result }
+{
+    let (mark, word) = strip_mark(word);
+    let backend = backend(alloc, word)?;
+    Ok(Listing { backend, mark })
+}
+
+// What the mark says, and the word after it.
+fn strip_mark(word: &str) -> (Option<bool>, &str)
+    ensures { (result.0, result.1.now) ≡ mark_of word.now }
+{
+    if let Some(rest) = word.strip_prefix('!') {
+        return (Some(false), rest);
+    }
+    match word.strip_prefix('+') {
+        Some(rest) => (Some(true), rest),
+        None => (None, word),
+    }
+}
+
+/// A backend with nothing attached, or `None` where its address is refused. Memory is taken for a path.
+pub fn backend(alloc: Global, word: &str) -> Result<Option<Backend>, ScriptError>
     ensures { Reads (λ found. found) (backend_of word.now) result }
 {
-    if is_marked(word.as_bytes()) {
-        return Err(ScriptError::BadLine);
-    }
     let Some((address, weight)) = divide(word) else {
         return Err(ScriptError::BadLine);
     };
@@ -48,15 +68,5 @@ fn divide(word: &str) -> Option<(&str, &str)>
     match word.rsplit_once('/') {
         Some((address, weight)) => Some((address, weight)),
         None => None,
-    }
-}
-
-// Whether the word begins with a mark.
-fn is_marked(word: &[u8]) -> bool
-    ensures { result ≡ is_marked word.now }
-{
-    match word {
-        [b'!' | b'+', ..] => true,
-        _ => false,
     }
 }

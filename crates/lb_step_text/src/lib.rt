@@ -5,7 +5,10 @@
 pub mod backend_text;
 pub mod backends;
 pub mod error;
+mod figures;
+pub mod listed;
 pub mod numbers;
 pub mod parse;
+mod plain;
 pub mod texts;
 pub mod words;

@@ -1,24 +1,19 @@
 //! The step that a line of a script asks for.
-//! A line's first word says which kind of step it is; the words after it are read without memory, but for lists and keys.
+//! A line's first word says which kind of step it is; the words after it are read without memory, but for lists, keys and paths.
 ghost use Rattle.std.specs.Prelude.{◌≡◌, option_map, IfOk};
-ghost use Rattle.lb_step_text.specs.StepLines.{Reads, both, selector_kind_of, slot_of, slot_moment_of, lone_of};
-ghost use Rattle.lb_step_text.specs.StepLines.{registry_of, gate_of, count, group_parts_of, group_of, update_of};
-ghost use Rattle.lb_step_text.specs.StepLines.{select_parts_of, select_of, plain_step_of, other_step_of, step_of_words, step_of};
+ghost use Rattle.lb_step_text.specs.StepLines.{Reads, select_parts_of, select_of, other_step_of, step_of_words, step_of};
 ghost use Rattle.lb_step_text.specs.LineSteps.{line_step_seen};
 ghost use Rattle.lb_step_text.specs.Words.{words_of};
-ghost use Rattle.lb_world.specs.Steps.{step_seen};
+ghost use Rattle.lb_history.specs.Steps.{step_seen};
 
-use crate::backends::backends;
 use crate::error::ScriptError;
-use crate::numbers::{number, wide_number};
+use crate::listed::{backend_step, group, update};
+use crate::numbers::number;
 use crate::words::Words;
+use lb_history::step::Step;
 use lb_kinds::kinds::Kind;
-use lb_world::step::{HealthKey, Step};
 use std::alloc::{AllocError, Global};
 use std::str;
-
-/// The most slots that a script may give a group.
-pub const SLOT_LIMIT: u64 = 1024;
 
 /// A step that a line asks for.
 #[derive(Drop)]
@@ -26,9 +21,9 @@ pub enum LineStep<'a> {
     /// A selection, with no random words handed in. Its key is lent from the line, so that it takes no memory.
     Select {
         group: u64,
-        slot: u64,
+        slot: usize,
         key: &'a [u8],
-        limit: u64,
+        limit: usize,
     },
     /// Any other step.
     Other(Step<Kind>),
@@ -58,7 +53,7 @@ impl<'a> LineStep<'a> {
 }
 
 /// The step that the line asks for, the line given without its line feed. A bad line where it asks for none; memory is
-/// taken where the step has a list.
+/// taken where the step has a list or a path.
 pub fn parse(alloc: Global, line: &[u8]) -> Result<LineStep<'_>, ScriptError>
     ensures { Reads line_step_seen (step_of line.now) result }
 {
@@ -111,169 +106,7 @@ fn other_step(alloc: Global, first: &str, words: Words<'_>) -> Result<Step<Kind>
     if first == "group" {
         return group(alloc, words);
     }
-    plain_step(first, words).ok_or(ScriptError::BadLine)
-}
-
-// A step whose words are read without memory, by its first word.
-fn plain_step(first: &str, words: Words<'_>) -> Option<Step<Kind>>
-    ensures { option_map step_seen result ≡ plain_step_of first.now words.entry }
-{
-    if first == "ask" {
-        let ((group, slot), now) = slot_moment(words)?;
-        return Some(Step::Ask { group, slot, now });
-    }
-    if first == "build" {
-        let ((group, slot), now) = slot_moment(words)?;
-        return Some(Step::Build { group, slot, now });
-    }
-    if first == "publish" {
-        let (group, slot) = slot(words)?;
-        return Some(Step::Publish { group, slot });
-    }
-    if first == "enter" {
-        let (group, slot) = slot(words)?;
-        return Some(Step::Enter { group, slot });
-    }
-    if first == "leave" {
-        let reader = lone(words)?;
-        return Some(Step::Leave { reader });
-    }
-    if first == "destroy" {
-        let (group, slot) = slot(words)?;
-        return Some(Step::Destroy { group, slot });
-    }
-    if first == "registry" {
-        return registry(words);
-    }
-    if first == "gate" { gate(words) } else { None }
-}
-
-fn registry(mut words: Words<'_>) -> Option<Step<Kind>>
-    ensures { option_map step_seen result ≡ registry_of words.entry }
-{
-    let key = words.next()?;
-    let rest = words.next();
-    if key == "identity" && rest.is_none() {
-        Some(Step::Registry(HealthKey::Identity))
-    } else {
-        None
-    }
-}
-
-fn gate(mut words: Words<'_>) -> Option<Step<Kind>>
-    ensures { option_map step_seen result ≡ gate_of words.entry }
-{
-    match words.next() {
-        None => Some(Step::Gate),
-        Some(_) => None,
-    }
-}
-
-// A group and a slot.
-fn slot(mut words: Words<'_>) -> Option<(u64, u64)>
-    ensures { result ≡ slot_of words.entry }
-{
-    let group = number(words.next()?)?;
-    let slot = number(words.next()?)?;
-    match words.next() {
-        None => Some((group, slot)),
-        Some(_) => None,
-    }
-}
-
-// A group, a slot and a moment.
-fn slot_moment(mut words: Words<'_>) -> Option<((u64, u64), u128)>
-    ensures { result ≡ slot_moment_of words.entry }
-{
-    let group = number(words.next()?)?;
-    let slot = number(words.next()?)?;
-    let now = wide_number(words.next()?)?;
-    match words.next() {
-        None => Some(((group, slot), now)),
-        Some(_) => None,
-    }
-}
-
-// One number.
-fn lone(mut words: Words<'_>) -> Option<u64>
-    ensures { result ≡ lone_of words.entry }
-{
-    let value = number(words.next()?)?;
-    match words.next() {
-        None => Some(value),
-        Some(_) => None,
-    }
-}
-
-fn kind(word: &str) -> Option<Kind>
-    ensures { result ≡ selector_kind_of word.now }
-{
-    if word == "fnv" {
-        Some(Kind::Fnv)
-    } else if word == "rr" {
-        Some(Kind::RoundRobin)
-    } else if word == "ketama" {
-        Some(Kind::Ketama)
-    } else {
-        None
-    }
-}
-
-// A group has a slot for each of its configurations.
-fn group(alloc: Global, words: Words<'_>) -> Result<Step<Kind>, ScriptError>
-    ensures { Reads step_seen (group_of words.entry) result }
-{
-    let Some(((registry, gate), (kind, slots))) = group_parts(words) else {
-        return Err(ScriptError::BadLine);
-    };
-    let configs = Vec::from_elem(alloc, kind, slots as usize)?;
-    Ok(Step::Group {
-        registry,
-        gate,
-        configs,
-    })
-}
-
-// The registry, the gate, the kind of the slots and how many there are.
-fn group_parts(mut words: Words<'_>) -> Option<((u64, u64), (Kind, u64))>
-    ensures { result ≡ group_parts_of words.entry }
-{
-    let registry = number(words.next()?)?;
-    let gate = number(words.next()?)?;
-    let kind = kind(words.next()?)?;
-    let slots = slot_count(words.next()?)?;
-    match words.next() {
-        None => Some(((registry, gate), (kind, slots))),
-        Some(_) => None,
-    }
-}
-
-fn slot_count(word: &str) -> Option<u64>
-    ensures { result ≡ count word.now }
-{
-    let slots = number(word)?;
-    if slots <= SLOT_LIMIT {
-        Some(slots)
-    } else {
-        None
-    }
-}
-
-fn update(alloc: Global, mut words: Words<'_>) -> Result<Step<Kind>, ScriptError>
-    ensures { Reads step_seen (update_of words.entry) result }
-{
-    let (Some(group), Some(now)) = (words.next(), words.next()) else {
-        return Err(ScriptError::BadLine);
-    };
-    let (Some(group), Some(now)) = (number(group), wide_number(now)) else {
-        return Err(ScriptError::BadLine);
-    };
-    let backends = backends(alloc, words)?;
-    Ok(Step::Update {
-        group,
-        now,
-        backends,
-    })
+    backend_step(alloc, first, words)
 }
 
 fn select<'a>(words: Words<'a>) -> Option<LineStep<'a>>
@@ -282,9 +115,9 @@ fn select<'a>(words: Words<'a>) -> Option<LineStep<'a>>
     let ((group, slot), (key, limit)) = select_parts(words)?;
     Some(LineStep::Select {
         group,
-        slot,
+        slot: slot as usize,
         key: key.as_bytes(),
-        limit,
+        limit: limit as usize,
     })
 }
 

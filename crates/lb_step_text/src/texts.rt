@@ -1,12 +1,14 @@
 //! The texts of answers, and of the last line of a script that ends early.
 //! Texts are appended to bytes that are used again, so that a line takes no memory once these have grown.
 ghost use Rattle.std.specs.Prelude.{◌≡◌, ◌++◌, codes, decimal, OnOk};
+ghost use Rattle.lb_select.specs.AddressText.{member_text};
 ghost use Rattle.lb_step_text.specs.Texts.{readers_text, refusal_text, answer_text};
 
 use crate::backend_text::push_backend;
-use itoa::Buffer;
+use crate::figures::{push_counts, push_flag, push_numbered, push_targets, push_timing, push_wide};
+use lb_history::answer::Answer;
+use lb_select::backend::Backend;
 use lb_select::refusal::Refusal;
-use lb_world::answer::Answer;
 use std::alloc::{AllocError, Global};
 
 /// Appends the text of an answer, without a line feed.
@@ -21,30 +23,37 @@ pub fn push_answer(alloc: Global, text: &mut Vec<u8>, answer: &Answer) -> Result
         Answer::Same(n) => push_numbered(text, b"same ", *n),
         Answer::Build(n) => push_numbered(text, b"build ", *n),
         Answer::Busy => text.extend_from_slice(b"busy"),
+        Answer::Wait(moment) => push_wide(text, b"wait ", *moment),
         Answer::Idle => text.extend_from_slice(b"idle"),
         Answer::Building => text.extend_from_slice(b"building"),
+        Answer::Cancelled => text.extend_from_slice(b"cancelled"),
         Answer::Built(n) => push_numbered(text, b"built ", *n),
         Answer::BuildFailed(n, refusal) => push_failure(text, *n, refusal),
+        Answer::Failed(n) => push_numbered(text, b"failed ", *n),
+        Answer::Lost(n) => push_numbered(text, b"lost ", *n),
         Answer::Published(n) => push_numbered(text, b"published ", *n),
-        Answer::Reader(n) => push_numbered(text, b"reader ", *n),
-        Answer::Left => text.extend_from_slice(b"left"),
+        Answer::Abandoned(n) => push_numbered(text, b"abandoned ", *n),
+        Answer::Reader(n, _) => push_numbered(text, b"reader ", *n),
+        Answer::Ready(is_ready) => push_flag(text, *is_ready, b"yes", b"no"),
+        Answer::Left(_) => text.extend_from_slice(b"left"),
         Answer::Destroyed => text.extend_from_slice(b"destroyed"),
-        Answer::Backend(backend) => {
-            text.extend_from_slice(b"backend ")?;
-            push_backend(alloc, text, backend)
-        },
-        Answer::NoBackend => text.extend_from_slice(b"none"),
+        Answer::Backend(backend, _) => push_selected(alloc, text, backend),
+        Answer::NoBackend(_) => text.extend_from_slice(b"none"),
+        Answer::NotSelected(_) => push_refused(text, &Refusal::OutOfMemory),
+        Answer::Flipped(has_flipped) => push_flag(text, *has_flipped, b"flipped", b"kept"),
+        Answer::Done => text.extend_from_slice(b"ok"),
+        Answer::Targets(list) => push_targets(alloc, text, &list.targets),
+        Answer::Numbers(slot) => push_counts(text, slot),
+        Answer::Timed(timing) => push_timing(text, timing),
         Answer::Refused(refusal) => push_refused(text, refusal),
     }
 }
 
-// Words and a number.
-fn push_numbered(text: &mut Vec<u8>, words: &[u8], n: u64) -> Result<(), AllocError>
-    ensures { OnOk result (text.new.items ≡ text.old.items ++ (words.now ++ decimal n)) }
+fn push_selected(alloc: Global, text: &mut Vec<u8>, backend: &Backend) -> Result<(), AllocError>
+    ensures { OnOk result (text.new.items ≡ text.old.items ++ (codes "backend " ++ member_text backend.now)) }
 {
-    let mut buffer = Buffer::new();
-    text.extend_from_slice(words)?;
-    text.extend_from_slice(buffer.format(n).as_bytes())
+    text.extend_from_slice(b"backend ")?;
+    push_backend(alloc, text, backend)
 }
 
 fn push_failure(text: &mut Vec<u8>, n: u64, refusal: &Refusal) -> Result<(), AllocError>

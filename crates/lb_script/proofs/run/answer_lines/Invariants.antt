@@ -1,6 +1,6 @@
 use Rattle.std.proofs.Common.{◌≡◌, false, IfSome}
 use Rattle.std.specs.Io.KnownBytes.{prepend_known}
-use Rattle.lb_world.specs.Meanings.{meaning_of}
+use Rattle.lb_history.specs.Meanings.{meaning_of}
 use Rattle.lb_counted.specs.Counted.{inner_of, has_failed}
 use Rattle.lb_script.proofs.RunLemmas.{SoFar}
 use Rattle.lb_script.proofs.run.answer_lines.Given as goal
@@ -13,5 +13,5 @@ invariant-loop-number g l = record {
       (λ script. SoFar (meaning_of g.S.BackendSelection) script
       (prepend_known l.session.ahead (g.R.Read.remaining (inner_of l.reader)))
       (g.W.Write.contents (inner_of l.fn.writer)) (g.W.Write.contents (inner_of l.writer))
-      l.session.world l.session.has_registry l.number);
+      l.session.world l.number);
 }

@@ -7,7 +7,8 @@ use Rattle.lb_history.specs.Meanings.{meaning_of}
 use Rattle.lb_history.specs.Steps as seen
 use Rattle.lb_next_world.proofs.Holding.{next-still}
 use Rattle.lb_next_world.proofs.Quiet.{refused-still}
-use Rattle.lb_next_world.proofs.TaskSteps.{at-place, none-right, beyond, unbuilt, next-same, has-built, built-config, not-refused, does-abandon}
+use Rattle.lb_next_world.proofs.TaskSteps.{at-place, none-right, beyond, unbuilt, next-same, has-built, built-config, not-refused}
+use Rattle.lb_next_world.proofs.TaskSteps.{does-abandon}
 use Rattle.lb_next_world.proofs.entry.Entry.abandon.Goals as goal
 
 pub returns-then-slot-len : goal.returns-then-slot-len
@@ -24,7 +25,8 @@ returns-in_default g c =
     (λ z v h n run is out kept.
     let within : c.args.slot < length c.self.inside.works.items = omega arith in
     let at = at-place c.self.inside.works.items c.args.slot c.index_mut-place.result.now within c.index_mut-place.ensures.value in
-    next-same (meaning_of g.S.BackendSelection) h n (seen.abandon n c.args.slot) _ _ c.args.slot c.index_mut-place.result.now c.take_built.new.self z z v at
+    next-same (meaning_of g.S.BackendSelection) h n
+    (seen.abandon n c.args.slot) _ _ c.args.slot c.index_mut-place.result.now c.take_built.new.self z z v at
     c.in_default.ensures.1
     (next-still (meaning_of g.S.BackendSelection) h n (seen.abandon n c.args.slot) _ _ z v is kept
     (inl (unbuilt h n c.args.slot _ c.index_mut-place.result.now _ is at c.in_default.ensures.0))
@@ -67,5 +69,6 @@ returns g c =
     let within : c.args.slot < length c.self.inside.works.items = omega arith in
     let at = at-place c.self.inside.works.items c.args.slot c.index_mut-place.result.now within c.index_mut-place.ensures.value in
     rw (c.generation-generation.ensures, c.in-Some.ensures.1)
-    (does-abandon (meaning_of g.S.BackendSelection) h n c.args.slot _ c.in-Some.built _ z v is (at ∙ ap Some c.in-Some.ensures.0) c.abandon.ensures.site
+    (does-abandon (meaning_of g.S.BackendSelection) h n c.args.slot _ c.in-Some.built _ z v is
+    (at ∙ ap Some c.in-Some.ensures.0) c.abandon.ensures.site
     (c.in-Ok.ensures.stands _ _ is.core_is) kept))

@@ -27,7 +27,8 @@ returns-in-Err g c =
     rw (← c.self.view_is)
     (λ v h n run is out kept.
     let a = c.in-Err.ensures.answers _ _ is.core_is in
-    next-unasked (meaning_of g.S.BackendSelection) h n c.args.slot c.args.now _ _ _ _ _ v is a.0 a.1 c.ask.ensures.site (c.in-Err.ensures.stands _ _ is.core_is)
+    next-unasked (meaning_of g.S.BackendSelection) h n c.args.slot c.args.now _ _ _ _ _ v is a.0 a.1 c.ask.ensures.site
+    (c.in-Err.ensures.stands _ _ is.core_is)
     c.in-Err.ensures.gate kept)
 
 pub returns-in-Ok-Cancelled : goal.returns-in-Ok-Cancelled
@@ -36,7 +37,8 @@ returns-in-Ok-Cancelled g c =
     (λ v h n run is out kept.
     let a = rw c.in-Ok-Cancelled.field-0-is at (c.in-Ok-Cancelled.ensures.answers _ _ is.core_is) in
     let b = rw c.in-Ok-Cancelled.field-0-is at (c.in-Ok-Cancelled.ensures.stands _ _ is.core_is) in
-    next-asked (meaning_of g.S.BackendSelection) h n c.args.slot c.args.now _ _ _ _ v cancelled (λ e. cc) is out a.0 a.1 c.ask.ensures.site b
+    next-asked (meaning_of g.S.BackendSelection) h n c.args.slot c.args.now _ _ _ _ v cancelled
+    (λ e. cc) is out a.0 a.1 c.ask.ensures.site b
     (rw c.in-Ok-Cancelled.field-0-is at c.in-Ok-Cancelled.ensures.gate) kept)
 
 pub returns-in-Ok-Building : goal.returns-in-Ok-Building
@@ -54,7 +56,8 @@ returns-in-Ok-Nothing g c =
     (λ v h n run is out kept.
     let a = rw c.in-Ok-Nothing.field-0-is at (c.in-Ok-Nothing.ensures.answers _ _ is.core_is) in
     let b = rw c.in-Ok-Nothing.field-0-is at (c.in-Ok-Nothing.ensures.stands _ _ is.core_is) in
-    next-asked (meaning_of g.S.BackendSelection) h n c.args.slot c.args.now _ _ _ _ v up_to_date (λ e. cc) is out a.0 a.1 c.ask.ensures.site b
+    next-asked (meaning_of g.S.BackendSelection) h n c.args.slot c.args.now _ _ _ _ v up_to_date
+    (λ e. cc) is out a.0 a.1 c.ask.ensures.site b
     (rw c.in-Ok-Nothing.field-0-is at c.in-Ok-Nothing.ensures.gate) kept)
 
 pub returns-in-Ok-NotDue : goal.returns-in-Ok-NotDue
@@ -63,7 +66,8 @@ returns-in-Ok-NotDue g c =
     (λ v h n run is out kept.
     let a = rw c.in-Ok-NotDue.field-0-is at (c.in-Ok-NotDue.ensures.answers _ _ is.core_is) in
     let b = rw c.in-Ok-NotDue.field-0-is at (c.in-Ok-NotDue.ensures.stands _ _ is.core_is) in
-    next-asked (meaning_of g.S.BackendSelection) h n c.args.slot c.args.now _ _ _ _ v (not_due c.in-Ok-NotDue.moment) (λ e. cc) is out a.0 a.1 c.ask.ensures.site b
+    next-asked (meaning_of g.S.BackendSelection) h n c.args.slot c.args.now _ _ _ _ v (not_due c.in-Ok-NotDue.moment)
+    (λ e. cc) is out a.0 a.1 c.ask.ensures.site b
     (rw c.in-Ok-NotDue.field-0-is at c.in-Ok-NotDue.ensures.gate) kept)
 
 pub returns-in-Ok-Busy : goal.returns-in-Ok-Busy
@@ -85,5 +89,6 @@ returns-in-Ok-Job g c =
     let within : c.args.slot < length c.self.inside.works.items = omega (arith, is.works_in, inside) in
     let at = at-place c.self.inside.works.items c.args.slot c.index_mut-place.result.now within c.index_mut-place.ensures.value in
     rw (c.generation-generation.ensures, c.hold.ensures)
-    (does-grant (meaning_of g.S.BackendSelection) h n c.args.slot c.args.now _ _ c.in-Ok-Job.job _ _ _ v is out a.0 a.1 a.2 c.ask.ensures.site b at
+    (does-grant
+    (meaning_of g.S.BackendSelection) h n c.args.slot c.args.now _ _ c.in-Ok-Job.job _ _ _ v is out a.0 a.1 a.2 c.ask.ensures.site b at
     (rw c.in-Ok-Job.field-0-is at c.in-Ok-Job.ensures.gate) kept))

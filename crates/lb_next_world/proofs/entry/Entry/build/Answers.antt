@@ -25,7 +25,8 @@ returns-in_default g c =
     (λ h n run is out kept.
     let within : c.args.slot < length c.self.inside.works.items = omega arith in
     let at = at-place c.self.inside.works.items c.args.slot c.index_mut-place.result.now within c.index_mut-place.ensures.value in
-    next-same (meaning_of g.S.BackendSelection) h n (seen.build n c.args.slot c.args.now) _ _ c.args.slot c.index_mut-place.result.now c.take_job.new.self _ _ _ at
+    next-same (meaning_of g.S.BackendSelection) h n
+    (seen.build n c.args.slot c.args.now) _ _ c.args.slot c.index_mut-place.result.now c.take_job.new.self _ _ _ at
     c.in_default.ensures.1
     (next-still (meaning_of g.S.BackendSelection) h n (seen.build n c.args.slot c.args.now) _ _ _ _ is kept
     (inl (unstarted h n c.args.slot _ c.index_mut-place.result.now _ is at c.in_default.ensures.0))
@@ -36,14 +37,16 @@ fail-requires-clause-own g c =
     let within : c.args.slot < length c.self.inside.works.items = omega arith in
     let at = at-place c.self.inside.works.items c.args.slot c.index_mut-place.result.now within c.index_mut-place.ensures.value in
     let own = rw (← c.self.view_is) at c.requires.stands.is in
-    rw c.in-Err.ensures.failed.0 (ap (λ (b : Task g.row.S-Config.Denot). b.group) (has-job _ _ c.args.slot _ _ own (at ∙ ap Some c.in-Some.ensures.0)).is)
+    rw c.in-Err.ensures.failed.0
+    (ap (λ (b : Task g.row.S-Config.Denot). b.group) (has-job _ _ c.args.slot _ _ own (at ∙ ap Some c.in-Some.ensures.0)).is)
 
 pub fail-requires-clause-permit : goal.fail-requires-clause-permit
 fail-requires-clause-permit g c =
     let within : c.args.slot < length c.self.inside.works.items = omega arith in
     let at = at-place c.self.inside.works.items c.args.slot c.index_mut-place.result.now within c.index_mut-place.ensures.value in
     let own = rw (← c.self.view_is) at c.requires.stands.is in
-    rw c.in-Err.ensures.failed.0 (ap (λ (b : Task g.row.S-Config.Denot). b.permit) (has-job _ _ c.args.slot _ _ own (at ∙ ap Some c.in-Some.ensures.0)).is)
+    rw c.in-Err.ensures.failed.0
+    (ap (λ (b : Task g.row.S-Config.Denot). b.permit) (has-job _ _ c.args.slot _ _ own (at ∙ ap Some c.in-Some.ensures.0)).is)
 
 pub fail-requires-clause-config : goal.fail-requires-clause-config
 fail-requires-clause-config g c =
@@ -70,7 +73,8 @@ returns-in-Ok g c =
     let at = at-place c.self.inside.works.items c.args.slot c.index_mut-place.result.now within c.index_mut-place.ensures.value in
     let b = c.in-Ok.ensures.built in
     rw (c.generation-generation.ensures, c.hold.ensures)
-    (does-build (meaning_of g.S.BackendSelection) h n c.args.slot c.args.now _ c.in-Some.job c.in-Ok.built _ _ run is (at ∙ ap Some c.in-Some.ensures.0) b.0 b.1 b.2 kept))
+    (does-build (meaning_of g.S.BackendSelection) h n c.args.slot c.args.now _ c.in-Some.job c.in-Ok.built _ _ run is
+    (at ∙ ap Some c.in-Some.ensures.0) b.0 b.1 b.2 kept))
 
 pub returns-in-Ok-fail : goal.returns-in-Ok-fail
 returns-in-Ok-fail g c =
@@ -82,5 +86,6 @@ returns-in-Ok-fail g c =
     rw (c.generation-generation.ensures, c.in-Some.ensures.1)
     (does-fall (meaning_of g.S.BackendSelection) h n c.args.slot c.args.now _ _ c.in-Some.job _ _ _ _ run is held c.fail.ensures.site
     (rw c.in-Err.ensures.failed.0 at (c.in-Ok-fail.ensures.stands _ _ is.core_is)) c.in-Ok-fail.ensures.gate
-    (fallen-right (meaning_of g.S.BackendSelection) h n c.args.slot c.args.now _ _ c.in-Some.job run is (has-job _ _ c.args.slot _ _ is held) c.in-Err.ensures.failed.1)
+    (fallen-right (meaning_of g.S.BackendSelection) h n c.args.slot c.args.now _ _ c.in-Some.job run is
+    (has-job _ _ c.args.slot _ _ is held) c.in-Err.ensures.failed.1)
     (rw c.in-Err.ensures.failed.0 at (c.in-Ok-fail.ensures.registry _ _ kept _ _ is.core_is))))

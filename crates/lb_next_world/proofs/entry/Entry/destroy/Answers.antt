@@ -13,13 +13,16 @@ pub unreachable-requires : goal.unreachable-requires
 unreachable-requires g c =
     let own = rw (← c.self.view_is) at c.requires.stands.is in
     let after = c.in-Ok.ensures.stands _ _ own.core_is in
-    false≢true (sym (c.in-Err-destroyed.ensures.answers _ _ after).0 ∙ owed-now (site c.self.inside.core) c.args.slot _ (c.in-Ok.ensures.answers _ _ own.core_is).0)
+    false≢true
+    (sym (c.in-Err-destroyed.ensures.answers _ _ after).0
+    ∙ owed-now (site c.self.inside.core) c.args.slot _ (c.in-Ok.ensures.answers _ _ own.core_is).0)
 
 pub returns-in-Err : goal.returns-in-Err
 returns-in-Err g c =
     rw (← c.self.view_is)
     (λ h n run is out kept.
-    next-told (meaning_of g.S.BackendSelection) h (seen.destroy n c.args.slot) _ n _ _ _ _ (refused-still h (seen.destroy n c.args.slot) _) is
+    next-told (meaning_of g.S.BackendSelection) h (seen.destroy n c.args.slot) _ n _ _ _ _
+    (refused-still h (seen.destroy n c.args.slot) _) is
     c.take_retired.ensures.site (c.in-Err.ensures.stands _ _ is.core_is)
     (destroy-refused (meaning_of g.S.BackendSelection) h n c.args.slot _ _ is (c.in-Err.ensures.answers _ _ is.core_is)) refl kept)
 

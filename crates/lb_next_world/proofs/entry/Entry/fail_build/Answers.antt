@@ -25,7 +25,8 @@ returns-in_default g c =
     (λ h n run is out kept.
     let within : c.args.slot < length c.self.inside.works.items = omega arith in
     let at = at-place c.self.inside.works.items c.args.slot c.index_mut-place.result.now within c.index_mut-place.ensures.value in
-    next-same (meaning_of g.S.BackendSelection) h n (seen.failbuild n c.args.slot c.args.now) _ _ c.args.slot c.index_mut-place.result.now c.take_job.new.self _ _ _ at
+    next-same (meaning_of g.S.BackendSelection) h n
+    (seen.failbuild n c.args.slot c.args.now) _ _ c.args.slot c.index_mut-place.result.now c.take_job.new.self _ _ _ at
     c.in_default.ensures.1
     (next-still (meaning_of g.S.BackendSelection) h n (seen.failbuild n c.args.slot c.args.now) _ _ _ _ is kept
     (inl (unstarted h n c.args.slot _ c.index_mut-place.result.now _ is at c.in_default.ensures.0))
@@ -68,5 +69,6 @@ returns g c =
     let within : c.args.slot < length c.self.inside.works.items = omega arith in
     let at = at-place c.self.inside.works.items c.args.slot c.index_mut-place.result.now within c.index_mut-place.ensures.value in
     rw (c.generation-generation.ensures, c.in-Some.ensures.1)
-    (does-fail (meaning_of g.S.BackendSelection) h n c.args.slot c.args.now _ c.in-Some.job _ _ _ _ run is (at ∙ ap Some c.in-Some.ensures.0) c.fail.ensures.site
+    (does-fail (meaning_of g.S.BackendSelection) h n c.args.slot c.args.now _ c.in-Some.job _ _ _ _ run is
+    (at ∙ ap Some c.in-Some.ensures.0) c.fail.ensures.site
     (c.in-Ok.ensures.stands _ _ is.core_is) c.in-Ok.ensures.gate (c.in-Ok.ensures.registry _ _ kept _ _ is.core_is)))

@@ -29,16 +29,21 @@ use Rattle.lb_next_world.proofs.entry.Entry.load.Goals.{in-Ok, in-Err}
 
 module _ {C : Type 0} (M : Meaning C) where
   -- loads that are what the history tells
-  lent : (h : History C) (g : ℕ) (b : Member) (l : ℕ) (a : Answer) (e : EntryValue C) (new : List (Member × ℕ)) (z : GateView) (v : RegistryValue WorldRule)
-      → EntryIs h g e → Answers M h (step.load g (Some b) l) a → ((q : Member) → load_in new q ≡ load_of g q ((step.load g (Some b) l, a) ∷ h))
+  lent : (h : History C) (g : ℕ) (b : Member) (l : ℕ) (a : Answer) (e : EntryValue C) (new : List (Member × ℕ)) (z : GateView)
+      (v : RegistryValue WorldRule)
+      → EntryIs h g e → Answers M h (step.load g (Some b) l) a
+      → ((q : Member) → load_in new q ≡ load_of g q ((step.load g (Some b) l, a) ∷ h))
       → IsRegistryAfter key_gives (key_of g h) (registry_events e.registry h) v
       → EntryNext M h g (step.load g (Some b) l) a e z (record e { loads = new }) z v
   lent h g b l a e new z v is right loads kept =
       let st : Step C = step.load g (Some b) l in
-      let at : AtGroup h st a g = record { group_is = refl; registry_is = refl; made_are = refl; gates_are = refl; registries_are = refl } in
+      let at : AtGroup h st a g =
+      record { group_is = refl; registry_is = refl; made_are = refl; gates_are = refl; registries_are = refl } in
       record {
         right = right;
-        is = entry-after h st a g e (record e { loads = new }) is refl refl refl (record { group = record { id = refl; gate = refl; configs = refl }; id = refl })
+        is =
+            entry-after h st a g e (record e { loads = new }) is refl refl refl
+            (record { group = record { id = refl; gate = refl; configs = refl }; id = refl })
             (subst (λ (es : joined.History). stands.Stands (site e.core) es e.core) (sym (joined-here h st a g refl)) is.core_is) refl
             (works-kept h st a g e is refl refl (λ s. refl)) loads;
         registry_is = refl;
@@ -51,8 +56,10 @@ module _ {C : Type 0} (M : Meaning C) where
   found : (h : History C) (g : ℕ) (e : EntryValue C) (a : Answer) → EntryIs h g e → at_one (made_at g h) (λ m. a) ≡ a
   found h g e a is = ap (λ (o : Option (Made C)). at_one o (λ m. a)) is.made_is
 
-  does-load : (h : History C) (g : ℕ) (b : Member) (l : ℕ) (e : EntryValue C) (new : List (Member × ℕ)) (z : GateView) (v : RegistryValue WorldRule)
-      → EntryIs h g e → SetsLoad (load_in e.loads) b l (load_in new) → IsRegistryAfter key_gives (key_of g h) (registry_events e.registry h) v
+  does-load : (h : History C) (g : ℕ) (b : Member) (l : ℕ) (e : EntryValue C) (new : List (Member × ℕ)) (z : GateView)
+      (v : RegistryValue WorldRule)
+      → EntryIs h g e → SetsLoad (load_in e.loads) b l (load_in new)
+      → IsRegistryAfter key_gives (key_of g h) (registry_events e.registry h) v
       → EntryNext M h g (step.load g (Some b) l) answer.Done e z (record e { loads = new }) z v
   does-load h g b l e new z v is sets kept =
       lent h g b l answer.Done e new z v is (inl (sym (found h g e answer.Done is)))
@@ -61,7 +68,8 @@ module _ {C : Type 0} (M : Meaning C) where
       ∙ sym (ap (λ (t : Bool). cond (t && same_member b q) l (load_of g q h)) (eq-eqb g g refl)))
       kept
 
-  unset : (h : History C) (g : ℕ) (b : Member) (l : ℕ) (r : Refusal) (e : EntryValue C) (new : List (Member × ℕ)) (z : GateView) (v : RegistryValue WorldRule)
+  unset : (h : History C) (g : ℕ) (b : Member) (l : ℕ) (r : Refusal) (e : EntryValue C) (new : List (Member × ℕ)) (z : GateView)
+      (v : RegistryValue WorldRule)
       → EntryIs h g e → r ≡ refusal.OutOfMemory → ((q : Member) → load_in new q ≡ load_in e.loads q)
       → IsRegistryAfter key_gives (key_of g h) (registry_events e.registry h) v
       → EntryNext M h g (step.load g (Some b) l) (answer.Refused r) e z (record e { loads = new }) z v
@@ -80,5 +88,6 @@ returns g c =
           (does-load (meaning_of g.S.BackendSelection) h n c.args.backend.now c.args.load _ _ z v is w.in-Ok.ensures.set kept)
       | in-Err w ↦
           rw w.result-is
-          (unset (meaning_of g.S.BackendSelection) h n c.args.backend.now c.args.load _ _ _ z v is w.in-Err.ensures.refused.0 w.in-Err.ensures.refused.1 kept)
+          (unset (meaning_of g.S.BackendSelection) h n c.args.backend.now c.args.load _ _ _ z v is w.in-Err.ensures.refused.0
+          w.in-Err.ensures.refused.1 kept)
     ])

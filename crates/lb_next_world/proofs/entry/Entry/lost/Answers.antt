@@ -18,9 +18,11 @@ returns g c =
           (w.in-Ok.ensures.stands _ _ is.core_is) (c.flight-flight.ensures _ _ is.core_is) (w.in-Ok.ensures.answers _ _ is.core_is) kept)
       | in-Err w ↦
           rw w.result-is
-          (next-told (meaning_of g.S.BackendSelection) h (seen.lost n c.args.slot) _ n _ _ z v (refused-still h (seen.lost n c.args.slot) _) is
+          (next-told (meaning_of g.S.BackendSelection) h (seen.lost n c.args.slot) _ n _ _ z v
+          (refused-still h (seen.lost n c.args.slot) _) is
           c.worker_lost.ensures.site (w.in-Err.ensures.stands _ _ is.core_is)
-          (lost-right (meaning_of g.S.BackendSelection) h n c.args.slot _ c.flight-flight.result _ is (c.flight-flight.ensures _ _ is.core_is)
+          (lost-right (meaning_of g.S.BackendSelection) h n c.args.slot _ c.flight-flight.result _ is
+          (c.flight-flight.ensures _ _ is.core_is)
           (w.in-Err.ensures.answers _ _ is.core_is))
           refl kept)
     ])

@@ -21,7 +21,8 @@ returns-in-Some g c =
     (sym
     (reading-told h n c.args.slot _ timing (λ t. answer.Timed t) c.timing.result is (c.timing.ensures _ _ is.core_is)
     ∙ ap (λ (r : Option (Option Timing)). at_one r (λ t. answer.Timed t)) c.in-Some.is)))
-    (still h (seen.timing n c.args.slot) _ refl refl refl refl (λ k. refl) (λ k e. refl) (λ es. refl) refl refl (λ w. refl) (λ i b. refl)) refl)
+    (still h (seen.timing n c.args.slot) _ refl refl refl refl (λ k. refl) (λ k e. refl) (λ es. refl) refl refl (λ w. refl) (λ i b. refl))
+    refl)
 
 pub returns-in-None : goal.returns-in-None
 returns-in-None g c =

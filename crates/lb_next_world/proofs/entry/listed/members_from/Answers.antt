@@ -25,6 +25,9 @@ loop-listing-preserved c =
 pub returns-clause-set : goal.returns-clause-set
 returns-clause-set c =
     let gives = c.into_iter-listing-iterator.ensures.into_iter_gives in
-    let all = YieldsList-end (YieldsList-from_vec c.args.listings.items gives.0 (gives.1 ∙ c.args.listings.ok.0)) c.loop-listing.yielded c.loop-listing.listing-iterator c.loop-listing.yielded_by c.next.result c.next.new.self c.in-None.is c.next.ensures.steps in
+    let all =
+    YieldsList-end
+    (YieldsList-from_vec c.args.listings.items gives.0 (gives.1 ∙ c.args.listings.ok.0)) c.loop-listing.yielded
+    c.loop-listing.listing-iterator c.loop-listing.yielded_by c.next.result c.next.new.self c.in-None.is c.next.ensures.steps in
     let taken = sym (map_same c.loop-listing.yielded) ∙ all.0 in
     c.loop-listing.invariant.gathered ∙ ap members_in taken

@@ -12,5 +12,7 @@ loop-listing-preserved c =
     let ls = c.args.listings.now in
     let i = c.loop-listing.listing-index in
     let item = c.listing-item.result in
-    c.in_ok-set_mark.ensures.set ∙ ap (set_marked (marked item.backend item.mark)) c.loop-listing.invariant ∙ sym (setting-more (take i ls) item)
-    ∙ ap settings_in (sym (take_more ls i item c.loop-listing-test.true ∙ ap (λ (l : Listing). take i ls ++ l ∷ []) (sym c.listing-item.is)))
+    c.in_ok-set_mark.ensures.set ∙ ap (set_marked (marked item.backend item.mark)) c.loop-listing.invariant
+    ∙ sym (setting-more (take i ls) item)
+    ∙ ap settings_in (sym
+    (take_more ls i item c.loop-listing-test.true ∙ ap (λ (l : Listing). take i ls ++ l ∷ []) (sym c.listing-item.is)))

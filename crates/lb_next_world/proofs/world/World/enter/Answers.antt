@@ -26,7 +26,8 @@ returns-in_default g c =
     let at = at-place c.self.inside.groups.items c.args.group c.index_mut-entry.result.now within c.index_mut-entry.ensures.value in
     rw (← c.self.view_is)
     (λ h s.
-    enter-absent (meaning_of g.S.BackendSelection) (world_value c.self.inside) h c.args.group c.args.slot c.index_mut-entry.result.now c.readers.result at
+    enter-absent (meaning_of g.S.BackendSelection)
+    (world_value c.self.inside) h c.args.group c.args.slot c.index_mut-entry.result.now c.readers.result at
     (c.readers.ensures _ _ (s.each _ _ at).core_is) c.in_default.is s)
 
 pub invariant_of-self-then-number : goal.invariant_of-self-then-number
@@ -36,18 +37,23 @@ invariant_of-self-then-number g c =
     elim c.then-number.branch [
       | then-number-via-then-number w ↦
           rw w.self-inside-is
-          (founded (meaning_of g.S.BackendSelection) (world_value c.self.inside) _ (seen.enter c.args.group c.args.slot) (answer.Refused refusal.NumbersExhausted)
+          (founded (meaning_of g.S.BackendSelection) (world_value c.self.inside) _ (seen.enter c.args.group c.args.slot)
+          (answer.Refused refusal.NumbersExhausted)
           c.self.invariant
           (λ h s.
-          enter-full (meaning_of g.S.BackendSelection) (world_value c.self.inside) h c.args.group c.args.slot c.index_mut-entry.result.now c.readers.result
+          enter-full (meaning_of g.S.BackendSelection)
+          (world_value c.self.inside) h c.args.group c.args.slot c.index_mut-entry.result.now c.readers.result
           c.in-Some.readers at (c.readers.ensures _ _ (s.each _ _ at).core_is) c.in-Some.is
-          (inl (let many : length c.self.inside.readers.items ≡ 18446744073709551615 = omega (arith, c.len-number.ensures, w.if-number.true) in many)) s))
+          (inl (let many : length c.self.inside.readers.items ≡ 18446744073709551615 = omega
+          (arith, c.len-number.ensures, w.if-number.true) in many)) s))
       | then-number-via-else-number+then-readers w ↦
           rw w.self-inside-is
-          (founded (meaning_of g.S.BackendSelection) (world_value c.self.inside) _ (seen.enter c.args.group c.args.slot) (answer.Refused refusal.NumbersExhausted)
+          (founded (meaning_of g.S.BackendSelection) (world_value c.self.inside) _ (seen.enter c.args.group c.args.slot)
+          (answer.Refused refusal.NumbersExhausted)
           c.self.invariant
           (λ h s.
-          enter-full (meaning_of g.S.BackendSelection) (world_value c.self.inside) h c.args.group c.args.slot c.index_mut-entry.result.now c.readers.result
+          enter-full (meaning_of g.S.BackendSelection)
+          (world_value c.self.inside) h c.args.group c.args.slot c.index_mut-entry.result.now c.readers.result
           c.in-Some.readers at (c.readers.ensures _ _ (s.each _ _ at).core_is) c.in-Some.is
           (inr (let many : c.in-Some.readers ≡ 18446744073709551615 = omega (arith, w.if-readers.true) in many)) s))
     ]
@@ -61,12 +67,15 @@ returns-then-number g c =
     elim c.then-number.branch [
       | then-number-via-then-number w ↦
           rw w.self-inside-is
-          (enter-full (meaning_of g.S.BackendSelection) (world_value c.self.inside) h c.args.group c.args.slot c.index_mut-entry.result.now c.readers.result
+          (enter-full (meaning_of g.S.BackendSelection)
+          (world_value c.self.inside) h c.args.group c.args.slot c.index_mut-entry.result.now c.readers.result
           c.in-Some.readers at (c.readers.ensures _ _ (s.each _ _ at).core_is) c.in-Some.is
-          (inl (let many : length c.self.inside.readers.items ≡ 18446744073709551615 = omega (arith, c.len-number.ensures, w.if-number.true) in many)) s)
+          (inl (let many : length c.self.inside.readers.items ≡ 18446744073709551615 = omega
+          (arith, c.len-number.ensures, w.if-number.true) in many)) s)
       | then-number-via-else-number+then-readers w ↦
           rw w.self-inside-is
-          (enter-full (meaning_of g.S.BackendSelection) (world_value c.self.inside) h c.args.group c.args.slot c.index_mut-entry.result.now c.readers.result
+          (enter-full (meaning_of g.S.BackendSelection)
+          (world_value c.self.inside) h c.args.group c.args.slot c.index_mut-entry.result.now c.readers.result
           c.in-Some.readers at (c.readers.ensures _ _ (s.each _ _ at).core_is) c.in-Some.is
           (inr (let many : c.in-Some.readers ≡ 18446744073709551615 = omega (arith, w.if-readers.true) in many)) s)
     ])
@@ -75,41 +84,51 @@ pub returns-in_default-reserve : goal.returns-in_default-reserve
 returns-in_default-reserve g c =
     let within : c.args.group < length c.self.inside.groups.items = omega arith in
     let at = at-place c.self.inside.groups.items c.args.group c.index_mut-entry.result.now within c.index_mut-entry.ensures.value in
-    let few : ¬ (length c.self.inside.readers.items ≡ 18446744073709551615) = λ is. omega (arith, is, c.len-number.ensures, c.if-number.false) in
+    let few : ¬ (length c.self.inside.readers.items ≡ 18446744073709551615) =
+    λ is. omega (arith, is, c.len-number.ensures, c.if-number.false) in
     let left : ¬ (c.in-Some.readers ≡ 18446744073709551615) = λ is. omega (arith, is, c.if-readers.false) in
     rw (← c.self.view_is, c.reserve.ensures.items)
     (λ h s.
-    enter-memory (meaning_of g.S.BackendSelection) (world_value c.self.inside) h c.args.group c.args.slot c.index_mut-entry.result.now c.readers.result
+    enter-memory (meaning_of g.S.BackendSelection)
+    (world_value c.self.inside) h c.args.group c.args.slot c.index_mut-entry.result.now c.readers.result
     c.in-Some.readers at (c.readers.ensures _ _ (s.each _ _ at).core_is) c.in-Some.is few left s)
 
 pub invariant_of-self-in-Ok-enter : goal.invariant_of-self-in-Ok-enter
 invariant_of-self-in-Ok-enter g c =
     let within : c.args.group < length c.self.inside.groups.items = omega arith in
     let at = at-place c.self.inside.groups.items c.args.group c.index_mut-entry.result.now within c.index_mut-entry.ensures.value in
-    let few : ¬ (length c.self.inside.readers.items ≡ 18446744073709551615) = λ is. omega (arith, is, c.len-number.ensures, c.if-number.false) in
+    let few : ¬ (length c.self.inside.readers.items ≡ 18446744073709551615) =
+    λ is. omega (arith, is, c.len-number.ensures, c.if-number.false) in
     let left : ¬ (c.in-Some.readers ≡ 18446744073709551615) = λ is. omega (arith, is, c.if-readers.false) in
-    let grown : c.push_reserved.new.self.items ≡ c.self.inside.readers.items ++ Some (record { group = c.args.group; reader = c.in-Ok-enter.reader }) ∷ [] =
+    let grown : c.push_reserved.new.self.items ≡ c.self.inside.readers.items
+    ++ Some (record { group = c.args.group; reader = c.in-Ok-enter.reader }) ∷ [] =
     c.push_reserved.ensures.items
-    ∙ ap (λ (l : List (Option (HeldValue g.row.S-Config.Denot))). l ++ Some (record { group = c.args.group; reader = c.in-Ok-enter.reader }) ∷ []) c.reserve.ensures.items in
+    ∙ ap (λ (l : List (Option (HeldValue g.row.S-Config.Denot))). l
+    ++ Some (record { group = c.args.group; reader = c.in-Ok-enter.reader }) ∷ []) c.reserve.ensures.items in
     let last : c.len-number.result ≡ length c.self.inside.readers.items = omega arith in
     founded (meaning_of g.S.BackendSelection) (world_value c.self.inside) _ (seen.enter c.args.group c.args.slot)
     (answer.Reader c.len-number.result c.in-Ok-enter.reader.generation) c.self.invariant
     (λ h s.
-    entered-now (meaning_of g.S.BackendSelection) (world_value c.self.inside) h c.args.group c.args.slot c.len-number.result c.index_mut-entry.result.now
+    entered-now (meaning_of g.S.BackendSelection)
+    (world_value c.self.inside) h c.args.group c.args.slot c.len-number.result c.index_mut-entry.result.now
     c.enter.new.self c.push_reserved.new.self.items c.readers.result c.in-Some.readers c.in-Ok-enter.reader at c.enter.ensures.rest grown
     (c.readers.ensures _ _ (s.each _ _ at).core_is) c.in-Some.is few left last c.enter.ensures.site
-    (c.in-Ok-enter.ensures.stands _ _ (s.each _ _ at).core_is) (c.in-Ok-enter.ensures.answers _ _ (s.each _ _ at).core_is) c.in-Ok-enter.ensures.own s)
+    (c.in-Ok-enter.ensures.stands _ _ (s.each _ _ at).core_is)
+    (c.in-Ok-enter.ensures.answers _ _ (s.each _ _ at).core_is) c.in-Ok-enter.ensures.own s)
 
 pub invariant_of-self-in-Err : goal.invariant_of-self-in-Err
 invariant_of-self-in-Err g c =
     let within : c.args.group < length c.self.inside.groups.items = omega arith in
     let at = at-place c.self.inside.groups.items c.args.group c.index_mut-entry.result.now within c.index_mut-entry.ensures.value in
-    let few : ¬ (length c.self.inside.readers.items ≡ 18446744073709551615) = λ is. omega (arith, is, c.len-number.ensures, c.if-number.false) in
+    let few : ¬ (length c.self.inside.readers.items ≡ 18446744073709551615) =
+    λ is. omega (arith, is, c.len-number.ensures, c.if-number.false) in
     let left : ¬ (c.in-Some.readers ≡ 18446744073709551615) = λ is. omega (arith, is, c.if-readers.false) in
-    founded (meaning_of g.S.BackendSelection) (world_value c.self.inside) _ (seen.enter c.args.group c.args.slot) (answer.Refused c.in-Err.refusal) c.self.invariant
+    founded (meaning_of g.S.BackendSelection) (world_value c.self.inside) _ (seen.enter c.args.group c.args.slot)
+    (answer.Refused c.in-Err.refusal) c.self.invariant
     (λ h s.
     refused-now (meaning_of g.S.BackendSelection) (world_value c.self.inside) h c.args.group c.args.slot c.index_mut-entry.result.now
-    c.enter.new.self c.reserve.new.self.items c.readers.result c.in-Some.readers c.in-Err.refusal at c.enter.ensures.rest c.reserve.ensures.items
+    c.enter.new.self c.reserve.new.self.items c.readers.result c.in-Some.readers c.in-Err.refusal at c.enter.ensures.rest
+    c.reserve.ensures.items
     (c.readers.ensures _ _ (s.each _ _ at).core_is) c.in-Some.is few left c.enter.ensures.site
     (c.in-Err.ensures.stands _ _ (s.each _ _ at).core_is) (c.in-Err.ensures.answers _ _ (s.each _ _ at).core_is) s)
 
@@ -117,28 +136,35 @@ pub returns-in-Ok-enter : goal.returns-in-Ok-enter
 returns-in-Ok-enter g c =
     let within : c.args.group < length c.self.inside.groups.items = omega arith in
     let at = at-place c.self.inside.groups.items c.args.group c.index_mut-entry.result.now within c.index_mut-entry.ensures.value in
-    let few : ¬ (length c.self.inside.readers.items ≡ 18446744073709551615) = λ is. omega (arith, is, c.len-number.ensures, c.if-number.false) in
+    let few : ¬ (length c.self.inside.readers.items ≡ 18446744073709551615) =
+    λ is. omega (arith, is, c.len-number.ensures, c.if-number.false) in
     let left : ¬ (c.in-Some.readers ≡ 18446744073709551615) = λ is. omega (arith, is, c.if-readers.false) in
-    let grown : c.push_reserved.new.self.items ≡ c.self.inside.readers.items ++ Some (record { group = c.args.group; reader = c.in-Ok-enter.reader }) ∷ [] =
+    let grown : c.push_reserved.new.self.items ≡ c.self.inside.readers.items
+    ++ Some (record { group = c.args.group; reader = c.in-Ok-enter.reader }) ∷ [] =
     c.push_reserved.ensures.items
-    ∙ ap (λ (l : List (Option (HeldValue g.row.S-Config.Denot))). l ++ Some (record { group = c.args.group; reader = c.in-Ok-enter.reader }) ∷ []) c.reserve.ensures.items in
+    ∙ ap (λ (l : List (Option (HeldValue g.row.S-Config.Denot))). l
+    ++ Some (record { group = c.args.group; reader = c.in-Ok-enter.reader }) ∷ []) c.reserve.ensures.items in
     let last : c.len-number.result ≡ length c.self.inside.readers.items = omega arith in
     rw (← c.self.view_is, c.generation-generation.ensures)
     (λ h s.
-    entered-now (meaning_of g.S.BackendSelection) (world_value c.self.inside) h c.args.group c.args.slot c.len-number.result c.index_mut-entry.result.now
+    entered-now (meaning_of g.S.BackendSelection)
+    (world_value c.self.inside) h c.args.group c.args.slot c.len-number.result c.index_mut-entry.result.now
     c.enter.new.self c.push_reserved.new.self.items c.readers.result c.in-Some.readers c.in-Ok-enter.reader at c.enter.ensures.rest grown
     (c.readers.ensures _ _ (s.each _ _ at).core_is) c.in-Some.is few left last c.enter.ensures.site
-    (c.in-Ok-enter.ensures.stands _ _ (s.each _ _ at).core_is) (c.in-Ok-enter.ensures.answers _ _ (s.each _ _ at).core_is) c.in-Ok-enter.ensures.own s)
+    (c.in-Ok-enter.ensures.stands _ _ (s.each _ _ at).core_is)
+    (c.in-Ok-enter.ensures.answers _ _ (s.each _ _ at).core_is) c.in-Ok-enter.ensures.own s)
 
 pub returns-in-Err : goal.returns-in-Err
 returns-in-Err g c =
     let within : c.args.group < length c.self.inside.groups.items = omega arith in
     let at = at-place c.self.inside.groups.items c.args.group c.index_mut-entry.result.now within c.index_mut-entry.ensures.value in
-    let few : ¬ (length c.self.inside.readers.items ≡ 18446744073709551615) = λ is. omega (arith, is, c.len-number.ensures, c.if-number.false) in
+    let few : ¬ (length c.self.inside.readers.items ≡ 18446744073709551615) =
+    λ is. omega (arith, is, c.len-number.ensures, c.if-number.false) in
     let left : ¬ (c.in-Some.readers ≡ 18446744073709551615) = λ is. omega (arith, is, c.if-readers.false) in
     rw (← c.self.view_is)
     (λ h s.
     refused-now (meaning_of g.S.BackendSelection) (world_value c.self.inside) h c.args.group c.args.slot c.index_mut-entry.result.now
-    c.enter.new.self c.reserve.new.self.items c.readers.result c.in-Some.readers c.in-Err.refusal at c.enter.ensures.rest c.reserve.ensures.items
+    c.enter.new.self c.reserve.new.self.items c.readers.result c.in-Some.readers c.in-Err.refusal at c.enter.ensures.rest
+    c.reserve.ensures.items
     (c.readers.ensures _ _ (s.each _ _ at).core_is) c.in-Some.is few left c.enter.ensures.site
     (c.in-Err.ensures.stands _ _ (s.each _ _ at).core_is) (c.in-Err.ensures.answers _ _ (s.each _ _ at).core_is) s)

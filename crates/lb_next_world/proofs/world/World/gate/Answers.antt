@@ -14,20 +14,25 @@ use Rattle.lb_next_world.proofs.world.World.gate.Goals as goal
 pub returns-in_default : goal.returns-in_default
 returns-in_default g c =
     rw (← c.self.view_is)
-    (λ h stands. world-refused (meaning_of g.S.BackendSelection) (world_value c.self.inside) h seen.gate refusal.OutOfMemory (inr refl) stands)
+    (λ h stands. world-refused (meaning_of g.S.BackendSelection) (world_value c.self.inside) h seen.gate refusal.OutOfMemory
+    (inr refl) stands)
 
 pub returns-in_default-push : goal.returns-in_default-push
 returns-in_default-push g c =
     rw (← c.self.view_is, c.in_default-push.ensures.items)
-    (λ h stands. world-refused (meaning_of g.S.BackendSelection) (world_value c.self.inside) h seen.gate refusal.OutOfMemory (inr refl) stands)
+    (λ h stands. world-refused (meaning_of g.S.BackendSelection) (world_value c.self.inside) h seen.gate refusal.OutOfMemory
+    (inr refl) stands)
 
 pub invariant_of-self-2 : goal.invariant_of-self-2
 invariant_of-self-2 g c =
     let f = c.self.invariant in
-    subst (λ (zs : List GateView). IsFounded (meaning_of g.S.BackendSelection) (record (world_value c.self.inside) { gates = zs })) (sym c.in-Ok-push.ensures.items)
+    subst (λ (zs : List GateView). IsFounded (meaning_of g.S.BackendSelection) (record (world_value c.self.inside) { gates = zs }))
+    (sym c.in-Ok-push.ensures.items)
     (record {
       history = (seen.gate, answer.Gate (length c.self.inside.gates.items)) ∷ f.history;
-      stands = gate-made (meaning_of g.S.BackendSelection) (world_value c.self.inside) f.history (length c.self.inside.gates.items) c.in-Ok.gate refl
+      stands =
+          gate-made (meaning_of g.S.BackendSelection) (world_value c.self.inside) f.history
+          (length c.self.inside.gates.items) c.in-Ok.gate refl
           c.in-Ok.ensures.free f.stands;
     })
 
@@ -36,6 +41,8 @@ returns g c =
     let last : c.len-number.result ≡ length c.self.inside.gates.items = omega arith in
     rw (← c.self.view_is)
     (λ h stands.
-    subst (λ (zs : List GateView). Stands (meaning_of g.S.BackendSelection) (record (world_value c.self.inside) { gates = zs }) ((seen.gate, answer.Gate c.len-number.result) ∷ h))
+    subst (λ (zs : List GateView). Stands (meaning_of g.S.BackendSelection) (record (world_value c.self.inside) { gates = zs })
+    ((seen.gate, answer.Gate c.len-number.result) ∷ h))
     (sym c.in-Ok-push.ensures.items)
-    (gate-made (meaning_of g.S.BackendSelection) (world_value c.self.inside) h c.len-number.result c.in-Ok.gate last c.in-Ok.ensures.free stands))
+    (gate-made (meaning_of g.S.BackendSelection)
+    (world_value c.self.inside) h c.len-number.result c.in-Ok.gate last c.in-Ok.ensures.free stands))

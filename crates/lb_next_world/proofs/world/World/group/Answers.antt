@@ -14,7 +14,8 @@ use Rattle.lb_next_world.specs.Founded.{world_value}
 use Rattle.lb_next_world.specs.Rules.{key_gives}
 use Rattle.lb_next_world.specs.Stands.{Stands}
 use Rattle.lb_next_world.specs.Views.{EntryValue}
-use Rattle.lb_next_world.proofs.GroupSteps.{first-test, second-test, in-tables, none-stands, not-full, group-caused, group-is-full, group-lacks, group-is-right}
+use Rattle.lb_next_world.proofs.GroupSteps.{first-test, second-test, in-tables, none-stands, not-full, group-caused, group-is-full}
+use Rattle.lb_next_world.proofs.GroupSteps.{group-lacks, group-is-right}
 use Rattle.lb_next_world.proofs.Making.{group-made}
 use Rattle.lb_next_world.proofs.Next.{founded}
 use Rattle.lb_next_world.proofs.RegistrySteps.{refused-so}
@@ -27,14 +28,16 @@ returns-in-Some g c =
     let there : c.if-registry-len.is_there ≡ in-tables (world_value c.self.inside) c.args.registry c.args.gate =
     elim c.if-registry-len.branch [
       | then-registry-len w ↦
-          second-test _ c.args.registry _ c.len.result c.args.gate _ w.len-then-registry-len.result (omega arith) (omega arith) w.if-registry-len.true w.is_there-is
+          second-test _ c.args.registry _ c.len.result c.args.gate _ w.len-then-registry-len.result (omega arith)
+          (omega arith) w.if-registry-len.true w.is_there-is
       | else-registry-len w ↦ first-test _ c.args.registry _ c.len.result c.args.gate _ (omega arith) w.if-registry-len.false w.is_there-is
     ] in
     let reason : c.least_refusal-cause.result ≡ least (map (g.S.BackendSelection.refusal []) c.args.configs.items) =
     rw c.deref.ensures.value at c.least_refusal-cause.ensures in
     rw (← c.self.view_is)
     (λ h s.
-    group-caused (meaning_of g.S.BackendSelection) (world_value c.self.inside) h c.args.registry c.args.gate c.args.configs.items c.if-registry-len.is_there
+    group-caused (meaning_of g.S.BackendSelection)
+    (world_value c.self.inside) h c.args.registry c.args.gate c.args.configs.items c.if-registry-len.is_there
     c.in-Some.refusal there (ap (earlier (no_such c.if-registry-len.is_there)) (sym reason) ∙ sym c.earlier_cause.ensures ∙ c.in-Some.is) s)
 
 pub returns-then-is_full : goal.returns-then-is_full
@@ -42,7 +45,8 @@ returns-then-is_full g c =
     let there : c.if-registry-len.is_there ≡ in-tables (world_value c.self.inside) c.args.registry c.args.gate =
     elim c.if-registry-len.branch [
       | then-registry-len w ↦
-          second-test _ c.args.registry _ c.len.result c.args.gate _ w.len-then-registry-len.result (omega arith) (omega arith) w.if-registry-len.true w.is_there-is
+          second-test _ c.args.registry _ c.len.result c.args.gate _ w.len-then-registry-len.result (omega arith)
+          (omega arith) w.if-registry-len.true w.is_there-is
       | else-registry-len w ↦ first-test _ c.args.registry _ c.len.result c.args.gate _ (omega arith) w.if-registry-len.false w.is_there-is
     ] in
     let reason : c.least_refusal-cause.result ≡ least (map (g.S.BackendSelection.refusal []) c.args.configs.items) =
@@ -50,10 +54,12 @@ returns-then-is_full g c =
     let free = none-stands (world_value c.self.inside) c.args.registry c.args.gate c.if-registry-len.is_there
     (least (map (g.S.BackendSelection.refusal []) c.args.configs.items)) there
     (ap (earlier (no_such c.if-registry-len.is_there)) (sym reason) ∙ sym c.earlier_cause.ensures ∙ c.in_default.is) in
-    let at = at-place c.self.inside.registries.items c.args.registry c.index_mut-registry.result.now free.0 c.index_mut-registry.ensures.value in
+    let at = at-place c.self.inside.registries.items c.args.registry c.index_mut-registry.result.now free.0
+    c.index_mut-registry.ensures.value in
     rw (← c.self.view_is)
     (λ h s.
-    group-is-full (meaning_of g.S.BackendSelection) (world_value c.self.inside) h c.args.registry c.args.gate c.args.configs.items c.index_mut-registry.result.now
+    group-is-full (meaning_of g.S.BackendSelection)
+    (world_value c.self.inside) h c.args.registry c.args.gate c.args.configs.items c.index_mut-registry.result.now
     at free.1 free.2 (λ k es now. (c.is_full.ensures k es now).0 c.if-is_full.true) s)
 
 pub returns-in_default-reserve : goal.returns-in_default-reserve
@@ -61,7 +67,8 @@ returns-in_default-reserve g c =
     let there : c.if-registry-len.is_there ≡ in-tables (world_value c.self.inside) c.args.registry c.args.gate =
     elim c.if-registry-len.branch [
       | then-registry-len w ↦
-          second-test _ c.args.registry _ c.len.result c.args.gate _ w.len-then-registry-len.result (omega arith) (omega arith) w.if-registry-len.true w.is_there-is
+          second-test _ c.args.registry _ c.len.result c.args.gate _ w.len-then-registry-len.result (omega arith)
+          (omega arith) w.if-registry-len.true w.is_there-is
       | else-registry-len w ↦ first-test _ c.args.registry _ c.len.result c.args.gate _ (omega arith) w.if-registry-len.false w.is_there-is
     ] in
     let reason : c.least_refusal-cause.result ≡ least (map (g.S.BackendSelection.refusal []) c.args.configs.items) =
@@ -69,12 +76,14 @@ returns-in_default-reserve g c =
     let free = none-stands (world_value c.self.inside) c.args.registry c.args.gate c.if-registry-len.is_there
     (least (map (g.S.BackendSelection.refusal []) c.args.configs.items)) there
     (ap (earlier (no_such c.if-registry-len.is_there)) (sym reason) ∙ sym c.earlier_cause.ensures ∙ c.in_default.is) in
-    let at = at-place c.self.inside.registries.items c.args.registry c.index_mut-registry.result.now free.0 c.index_mut-registry.ensures.value in
+    let at = at-place c.self.inside.registries.items c.args.registry c.index_mut-registry.result.now free.0
+    c.index_mut-registry.ensures.value in
     let left = λ (k : Member → Member) (es : List Event) (now : IsRegistryAfter key_gives k es c.index_mut-registry.result.now).
     not-full _ _ (c.is_full.ensures k es now) c.if-is_full.false in
     rw (← c.self.view_is, c.reserve.ensures.items)
     (λ h s.
-    group-lacks (meaning_of g.S.BackendSelection) (world_value c.self.inside) h c.args.registry c.args.gate c.args.configs.items refusal.OutOfMemory
+    group-lacks (meaning_of g.S.BackendSelection)
+    (world_value c.self.inside) h c.args.registry c.args.gate c.args.configs.items refusal.OutOfMemory
     c.index_mut-registry.result.now c.index_mut-registry.result.now at free.1 free.2 left (λ k es now. refl) (λ k es now. now) s)
 
 pub invariant_of-self-in-Ok-new : goal.invariant_of-self-in-Ok-new
@@ -82,7 +91,8 @@ invariant_of-self-in-Ok-new g c =
     let there : c.if-registry-len.is_there ≡ in-tables (world_value c.self.inside) c.args.registry c.args.gate =
     elim c.if-registry-len.branch [
       | then-registry-len w ↦
-          second-test _ c.args.registry _ c.len.result c.args.gate _ w.len-then-registry-len.result (omega arith) (omega arith) w.if-registry-len.true w.is_there-is
+          second-test _ c.args.registry _ c.len.result c.args.gate _ w.len-then-registry-len.result (omega arith)
+          (omega arith) w.if-registry-len.true w.is_there-is
       | else-registry-len w ↦ first-test _ c.args.registry _ c.len.result c.args.gate _ (omega arith) w.if-registry-len.false w.is_there-is
     ] in
     let reason : c.least_refusal-cause.result ≡ least (map (g.S.BackendSelection.refusal []) c.args.configs.items) =
@@ -90,22 +100,29 @@ invariant_of-self-in-Ok-new g c =
     let free = none-stands (world_value c.self.inside) c.args.registry c.args.gate c.if-registry-len.is_there
     (least (map (g.S.BackendSelection.refusal []) c.args.configs.items)) there
     (ap (earlier (no_such c.if-registry-len.is_there)) (sym reason) ∙ sym c.earlier_cause.ensures ∙ c.in_default.is) in
-    let at = at-place c.self.inside.registries.items c.args.registry c.index_mut-registry.result.now free.0 c.index_mut-registry.ensures.value in
+    let at = at-place c.self.inside.registries.items c.args.registry c.index_mut-registry.result.now free.0
+    c.index_mut-registry.ensures.value in
     let left = λ (k : Member → Member) (es : List Event) (now : IsRegistryAfter key_gives k es c.index_mut-registry.result.now).
     not-full _ _ (c.is_full.ensures k es now) c.if-is_full.false in
     let at-gate = at-place c.self.inside.gates.items c.args.gate c.index.result.now free.1 c.index.ensures in
-    let last : c.len-number.result ≡ length c.self.inside.groups.items = omega (arith, c.len-number.ensures, ap length c.reserve.ensures.items) in
+    let last : c.len-number.result ≡ length c.self.inside.groups.items =
+    omega (arith, c.len-number.ensures, ap length c.reserve.ensures.items) in
     founded (meaning_of g.S.BackendSelection) (world_value c.self.inside) _ (seen.group c.args.registry c.args.gate c.args.configs.items)
     (answer.Group c.len-number.result) c.self.invariant
     (λ h s.
     subst (λ (es : List (EntryValue g.row.S-Config.Denot)).
-    Stands (meaning_of g.S.BackendSelection) (record (world_value c.self.inside) { registries = slice_set c.self.inside.registries.items c.args.registry c.new.new.registry; groups = es })
+    Stands (meaning_of g.S.BackendSelection)
+    (record (world_value c.self.inside)
+    { registries = slice_set c.self.inside.registries.items c.args.registry c.new.new.registry; groups = es })
     ((seen.group c.args.registry c.args.gate c.args.configs.items, answer.Group c.len-number.result) ∷ h))
-    (sym (c.push_reserved.ensures.items ∙ ap (λ (es : List (EntryValue g.row.S-Config.Denot)). es ++ c.in-Ok-new.entry ∷ []) c.reserve.ensures.items))
+    (sym (c.push_reserved.ensures.items
+    ∙ ap (λ (es : List (EntryValue g.row.S-Config.Denot)). es ++ c.in-Ok-new.entry ∷ []) c.reserve.ensures.items))
     (let new = c.in-Ok-new.ensures.made _ _ (s.kept _ _ at) in
-    group-made (meaning_of g.S.BackendSelection) (world_value c.self.inside) h c.args.registry c.args.gate c.len-number.result c.args.configs.items
+    group-made (meaning_of g.S.BackendSelection)
+    (world_value c.self.inside) h c.args.registry c.args.gate c.len-number.result c.args.configs.items
     c.index.result.now c.index_mut-registry.result.now c.new.new.registry c.in-Ok-new.entry last at at-gate new.0 new.1
-    (group-is-right (meaning_of g.S.BackendSelection) (world_value c.self.inside) h c.args.registry c.args.gate c.len-number.result c.args.configs.items
+    (group-is-right (meaning_of g.S.BackendSelection)
+    (world_value c.self.inside) h c.args.registry c.args.gate c.len-number.result c.args.configs.items
     c.index_mut-registry.result.now at free.1 free.2 left last s) s))
 
 pub invariant_of-self-in-Err : goal.invariant_of-self-in-Err
@@ -113,7 +130,8 @@ invariant_of-self-in-Err g c =
     let there : c.if-registry-len.is_there ≡ in-tables (world_value c.self.inside) c.args.registry c.args.gate =
     elim c.if-registry-len.branch [
       | then-registry-len w ↦
-          second-test _ c.args.registry _ c.len.result c.args.gate _ w.len-then-registry-len.result (omega arith) (omega arith) w.if-registry-len.true w.is_there-is
+          second-test _ c.args.registry _ c.len.result c.args.gate _ w.len-then-registry-len.result (omega arith)
+          (omega arith) w.if-registry-len.true w.is_there-is
       | else-registry-len w ↦ first-test _ c.args.registry _ c.len.result c.args.gate _ (omega arith) w.if-registry-len.false w.is_there-is
     ] in
     let reason : c.least_refusal-cause.result ≡ least (map (g.S.BackendSelection.refusal []) c.args.configs.items) =
@@ -121,15 +139,18 @@ invariant_of-self-in-Err g c =
     let free = none-stands (world_value c.self.inside) c.args.registry c.args.gate c.if-registry-len.is_there
     (least (map (g.S.BackendSelection.refusal []) c.args.configs.items)) there
     (ap (earlier (no_such c.if-registry-len.is_there)) (sym reason) ∙ sym c.earlier_cause.ensures ∙ c.in_default.is) in
-    let at = at-place c.self.inside.registries.items c.args.registry c.index_mut-registry.result.now free.0 c.index_mut-registry.ensures.value in
+    let at = at-place c.self.inside.registries.items c.args.registry c.index_mut-registry.result.now free.0
+    c.index_mut-registry.ensures.value in
     let left = λ (k : Member → Member) (es : List Event) (now : IsRegistryAfter key_gives k es c.index_mut-registry.result.now).
     not-full _ _ (c.is_full.ensures k es now) c.if-is_full.false in
     rw c.reserve.ensures.items
     (founded (meaning_of g.S.BackendSelection) (world_value c.self.inside) _ (seen.group c.args.registry c.args.gate c.args.configs.items)
     (answer.Refused c.in-Err.refusal) c.self.invariant
     (λ h s.
-    group-lacks (meaning_of g.S.BackendSelection) (world_value c.self.inside) h c.args.registry c.args.gate c.args.configs.items c.in-Err.refusal
-    c.index_mut-registry.result.now c.new.new.registry at free.1 free.2 left (λ k es now. refused-so (c.in-Err.ensures.refused k es now (left k es now)))
+    group-lacks (meaning_of g.S.BackendSelection)
+    (world_value c.self.inside) h c.args.registry c.args.gate c.args.configs.items c.in-Err.refusal
+    c.index_mut-registry.result.now c.new.new.registry at free.1 free.2 left
+    (λ k es now. refused-so (c.in-Err.ensures.refused k es now (left k es now)))
     c.in-Err.ensures.err s))
 
 pub returns-in-Ok-new : goal.returns-in-Ok-new
@@ -137,7 +158,8 @@ returns-in-Ok-new g c =
     let there : c.if-registry-len.is_there ≡ in-tables (world_value c.self.inside) c.args.registry c.args.gate =
     elim c.if-registry-len.branch [
       | then-registry-len w ↦
-          second-test _ c.args.registry _ c.len.result c.args.gate _ w.len-then-registry-len.result (omega arith) (omega arith) w.if-registry-len.true w.is_there-is
+          second-test _ c.args.registry _ c.len.result c.args.gate _ w.len-then-registry-len.result (omega arith)
+          (omega arith) w.if-registry-len.true w.is_there-is
       | else-registry-len w ↦ first-test _ c.args.registry _ c.len.result c.args.gate _ (omega arith) w.if-registry-len.false w.is_there-is
     ] in
     let reason : c.least_refusal-cause.result ≡ least (map (g.S.BackendSelection.refusal []) c.args.configs.items) =
@@ -145,21 +167,28 @@ returns-in-Ok-new g c =
     let free = none-stands (world_value c.self.inside) c.args.registry c.args.gate c.if-registry-len.is_there
     (least (map (g.S.BackendSelection.refusal []) c.args.configs.items)) there
     (ap (earlier (no_such c.if-registry-len.is_there)) (sym reason) ∙ sym c.earlier_cause.ensures ∙ c.in_default.is) in
-    let at = at-place c.self.inside.registries.items c.args.registry c.index_mut-registry.result.now free.0 c.index_mut-registry.ensures.value in
+    let at = at-place c.self.inside.registries.items c.args.registry c.index_mut-registry.result.now free.0
+    c.index_mut-registry.ensures.value in
     let left = λ (k : Member → Member) (es : List Event) (now : IsRegistryAfter key_gives k es c.index_mut-registry.result.now).
     not-full _ _ (c.is_full.ensures k es now) c.if-is_full.false in
     let at-gate = at-place c.self.inside.gates.items c.args.gate c.index.result.now free.1 c.index.ensures in
-    let last : c.len-number.result ≡ length c.self.inside.groups.items = omega (arith, c.len-number.ensures, ap length c.reserve.ensures.items) in
+    let last : c.len-number.result ≡ length c.self.inside.groups.items =
+    omega (arith, c.len-number.ensures, ap length c.reserve.ensures.items) in
     rw (← c.self.view_is)
     (λ h s.
     subst (λ (es : List (EntryValue g.row.S-Config.Denot)).
-    Stands (meaning_of g.S.BackendSelection) (record (world_value c.self.inside) { registries = slice_set c.self.inside.registries.items c.args.registry c.new.new.registry; groups = es })
+    Stands (meaning_of g.S.BackendSelection)
+    (record (world_value c.self.inside)
+    { registries = slice_set c.self.inside.registries.items c.args.registry c.new.new.registry; groups = es })
     ((seen.group c.args.registry c.args.gate c.args.configs.items, answer.Group c.len-number.result) ∷ h))
-    (sym (c.push_reserved.ensures.items ∙ ap (λ (es : List (EntryValue g.row.S-Config.Denot)). es ++ c.in-Ok-new.entry ∷ []) c.reserve.ensures.items))
+    (sym (c.push_reserved.ensures.items
+    ∙ ap (λ (es : List (EntryValue g.row.S-Config.Denot)). es ++ c.in-Ok-new.entry ∷ []) c.reserve.ensures.items))
     (let new = c.in-Ok-new.ensures.made _ _ (s.kept _ _ at) in
-    group-made (meaning_of g.S.BackendSelection) (world_value c.self.inside) h c.args.registry c.args.gate c.len-number.result c.args.configs.items
+    group-made (meaning_of g.S.BackendSelection)
+    (world_value c.self.inside) h c.args.registry c.args.gate c.len-number.result c.args.configs.items
     c.index.result.now c.index_mut-registry.result.now c.new.new.registry c.in-Ok-new.entry last at at-gate new.0 new.1
-    (group-is-right (meaning_of g.S.BackendSelection) (world_value c.self.inside) h c.args.registry c.args.gate c.len-number.result c.args.configs.items
+    (group-is-right (meaning_of g.S.BackendSelection)
+    (world_value c.self.inside) h c.args.registry c.args.gate c.len-number.result c.args.configs.items
     c.index_mut-registry.result.now at free.1 free.2 left last s) s))
 
 pub returns-in-Err : goal.returns-in-Err
@@ -167,7 +196,8 @@ returns-in-Err g c =
     let there : c.if-registry-len.is_there ≡ in-tables (world_value c.self.inside) c.args.registry c.args.gate =
     elim c.if-registry-len.branch [
       | then-registry-len w ↦
-          second-test _ c.args.registry _ c.len.result c.args.gate _ w.len-then-registry-len.result (omega arith) (omega arith) w.if-registry-len.true w.is_there-is
+          second-test _ c.args.registry _ c.len.result c.args.gate _ w.len-then-registry-len.result (omega arith)
+          (omega arith) w.if-registry-len.true w.is_there-is
       | else-registry-len w ↦ first-test _ c.args.registry _ c.len.result c.args.gate _ (omega arith) w.if-registry-len.false w.is_there-is
     ] in
     let reason : c.least_refusal-cause.result ≡ least (map (g.S.BackendSelection.refusal []) c.args.configs.items) =
@@ -175,11 +205,14 @@ returns-in-Err g c =
     let free = none-stands (world_value c.self.inside) c.args.registry c.args.gate c.if-registry-len.is_there
     (least (map (g.S.BackendSelection.refusal []) c.args.configs.items)) there
     (ap (earlier (no_such c.if-registry-len.is_there)) (sym reason) ∙ sym c.earlier_cause.ensures ∙ c.in_default.is) in
-    let at = at-place c.self.inside.registries.items c.args.registry c.index_mut-registry.result.now free.0 c.index_mut-registry.ensures.value in
+    let at = at-place c.self.inside.registries.items c.args.registry c.index_mut-registry.result.now free.0
+    c.index_mut-registry.ensures.value in
     let left = λ (k : Member → Member) (es : List Event) (now : IsRegistryAfter key_gives k es c.index_mut-registry.result.now).
     not-full _ _ (c.is_full.ensures k es now) c.if-is_full.false in
     rw (← c.self.view_is, c.reserve.ensures.items)
     (λ h s.
-    group-lacks (meaning_of g.S.BackendSelection) (world_value c.self.inside) h c.args.registry c.args.gate c.args.configs.items c.in-Err.refusal
-    c.index_mut-registry.result.now c.new.new.registry at free.1 free.2 left (λ k es now. refused-so (c.in-Err.ensures.refused k es now (left k es now)))
+    group-lacks (meaning_of g.S.BackendSelection)
+    (world_value c.self.inside) h c.args.registry c.args.gate c.args.configs.items c.in-Err.refusal
+    c.index_mut-registry.result.now c.new.new.registry at free.1 free.2 left
+    (λ k es now. refused-so (c.in-Err.ensures.refused k es now (left k es now)))
     c.in-Err.ensures.err s)

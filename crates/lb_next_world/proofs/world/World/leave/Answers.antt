@@ -29,7 +29,11 @@ index_mut-entry-requires g c =
     let within : c.args.reader < length c.self.inside.readers.items = omega arith in
     let at = at-place c.self.inside.readers.items c.args.reader c.index_mut-place.result.now within c.index_mut-place.ensures.value in
     let reader = at ∙ ap Some (sym (rw c.in-Some.is at c.replace-2.view_is ∙ c.replace.ensures.value)) in
-    omega (arith, group-there (meaning_of g.S.BackendSelection) (world_value c.self.inside) _ c.args.reader _ reader c.self.invariant.stands)
+    omega (
+      arith,
+      group-there (meaning_of g.S.BackendSelection)
+          (world_value c.self.inside) _ c.args.reader _ reader c.self.invariant.stands,
+    )
 
 pub leave-requires-clause-own : goal.leave-requires-clause-own
 leave-requires-clause-own g c =
@@ -59,7 +63,8 @@ invariant_of-self-2 g c =
     rw c.replace.ensures.after
     (founded (meaning_of g.S.BackendSelection) (world_value c.self.inside) _ (seen.leave c.args.reader) _ c.self.invariant
     (λ h s.
-    left-now (meaning_of g.S.BackendSelection) (world_value c.self.inside) h c.args.reader _ _ c.leave.new.self reader at-group c.leave.ensures.rest c.leave.ensures.site
+    left-now (meaning_of g.S.BackendSelection)
+    (world_value c.self.inside) h c.args.reader _ _ c.leave.new.self reader at-group c.leave.ensures.rest c.leave.ensures.site
     (c.leave.ensures.stands _ _ (s.each _ _ at-group).core_is) s))
 
 pub returns : goal.returns
@@ -71,5 +76,6 @@ returns g c =
     let at-group = at-place c.self.inside.groups.items _ c.index_mut-entry.result.now low c.index_mut-entry.ensures.value in
     rw (← c.self.view_is, c.replace.ensures.after, c.generation-generation.ensures)
     (λ h s.
-    left-now (meaning_of g.S.BackendSelection) (world_value c.self.inside) h c.args.reader _ _ c.leave.new.self reader at-group c.leave.ensures.rest c.leave.ensures.site
+    left-now (meaning_of g.S.BackendSelection)
+    (world_value c.self.inside) h c.args.reader _ _ c.leave.new.self reader at-group c.leave.ensures.rest c.leave.ensures.site
     (c.leave.ensures.stands _ _ (s.each _ _ at-group).core_is) s)

@@ -10,4 +10,5 @@ use Rattle.lb_next_world.proofs.world.World.load.Goals as goal
 pub returns-in_default : goal.returns-in_default
 returns-in_default g c =
     rw c.in_default.is
-    (λ h s. world-refused (meaning_of g.S.BackendSelection) _ h (seen.load c.args.group None c.args.load) refusal.InvalidAddress (inl refl) s)
+    (λ h s. world-refused (meaning_of g.S.BackendSelection) _ h (seen.load c.args.group None c.args.load) refusal.InvalidAddress
+    (inl refl) s)

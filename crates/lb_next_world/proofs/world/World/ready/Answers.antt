@@ -28,14 +28,16 @@ returns-in_default-index g c =
     let at = at-place c.self.inside.readers.items c.args.reader c.index.result.now within c.index.ensures in
     rw (← c.self.view_is, c.in-Some.is)
     (λ h s.
-    ready-gone (meaning_of g.S.BackendSelection) (world_value c.self.inside) h c.args.reader c.in-Some.backend (at ∙ ap Some c.in_default-index.is) s)
+    ready-gone (meaning_of g.S.BackendSelection) (world_value c.self.inside) h c.args.reader c.in-Some.backend
+    (at ∙ ap Some c.in_default-index.is) s)
 
 pub index-entry-requires : goal.index-entry-requires
 index-entry-requires g c =
     let within : c.args.reader < length c.self.inside.readers.items = omega arith in
     let at = at-place c.self.inside.readers.items c.args.reader c.index.result.now within c.index.ensures in
     let reader = at ∙ ap Some c.in-Some-index.is in
-    let there = group-there (meaning_of g.S.BackendSelection) (world_value c.self.inside) _ c.args.reader _ reader c.self.invariant.stands in
+    let there =
+    group-there (meaning_of g.S.BackendSelection) (world_value c.self.inside) _ c.args.reader _ reader c.self.invariant.stands in
     omega (arith, c.group.ensures, there)
 
 pub index-registry-requires : goal.index-registry-requires
@@ -43,9 +45,11 @@ index-registry-requires g c =
     let within : c.args.reader < length c.self.inside.readers.items = omega arith in
     let at = at-place c.self.inside.readers.items c.args.reader c.index.result.now within c.index.ensures in
     let reader = at ∙ ap Some c.in-Some-index.is in
-    let there = group-there (meaning_of g.S.BackendSelection) (world_value c.self.inside) _ c.args.reader _ reader c.self.invariant.stands in
+    let there =
+    group-there (meaning_of g.S.BackendSelection) (world_value c.self.inside) _ c.args.reader _ reader c.self.invariant.stands in
     let low : c.group.result < length c.self.inside.groups.items = omega (arith, c.group.ensures, there) in
-    let at-group = rw c.group.ensures at (at-place c.self.inside.groups.items c.group.result c.index-entry.result.now low c.index-entry.ensures) in
+    let at-group =
+    rw c.group.ensures at (at-place c.self.inside.groups.items c.group.result c.index-entry.result.now low c.index-entry.ensures) in
     let on = c.self.invariant.stands.on_site _ _ at-group in
     omega (arith, c.registry.ensures, on.registry)
 
@@ -54,9 +58,11 @@ ready-requires g c =
     let within : c.args.reader < length c.self.inside.readers.items = omega arith in
     let at = at-place c.self.inside.readers.items c.args.reader c.index.result.now within c.index.ensures in
     let reader = at ∙ ap Some c.in-Some-index.is in
-    let there = group-there (meaning_of g.S.BackendSelection) (world_value c.self.inside) _ c.args.reader _ reader c.self.invariant.stands in
+    let there =
+    group-there (meaning_of g.S.BackendSelection) (world_value c.self.inside) _ c.args.reader _ reader c.self.invariant.stands in
     let low : c.group.result < length c.self.inside.groups.items = omega (arith, c.group.ensures, there) in
-    let at-group = rw c.group.ensures at (at-place c.self.inside.groups.items c.group.result c.index-entry.result.now low c.index-entry.ensures) in
+    let at-group =
+    rw c.group.ensures at (at-place c.self.inside.groups.items c.group.result c.index-entry.result.now low c.index-entry.ensures) in
     rw c.reader.ensures (c.self.invariant.stands.own c.args.reader _ reader _ at-group)
 
 pub returns : goal.returns
@@ -64,14 +70,17 @@ returns g c =
     let within : c.args.reader < length c.self.inside.readers.items = omega arith in
     let at = at-place c.self.inside.readers.items c.args.reader c.index.result.now within c.index.ensures in
     let reader = at ∙ ap Some c.in-Some-index.is in
-    let there = group-there (meaning_of g.S.BackendSelection) (world_value c.self.inside) _ c.args.reader _ reader c.self.invariant.stands in
+    let there =
+    group-there (meaning_of g.S.BackendSelection) (world_value c.self.inside) _ c.args.reader _ reader c.self.invariant.stands in
     let low : c.group.result < length c.self.inside.groups.items = omega (arith, c.group.ensures, there) in
-    let at-group = rw c.group.ensures at (at-place c.self.inside.groups.items c.group.result c.index-entry.result.now low c.index-entry.ensures) in
+    let at-group =
+    rw c.group.ensures at (at-place c.self.inside.groups.items c.group.result c.index-entry.result.now low c.index-entry.ensures) in
     let on = c.self.invariant.stands.on_site _ _ at-group in
     let in_registries : c.registry.result < length c.self.inside.registries.items = omega (arith, c.registry.ensures, on.registry) in
     let at-registry = rw c.registry.ensures at
     (at-place c.self.inside.registries.items c.registry.result c.index-registry.result.now in_registries c.index-registry.ensures) in
     rw (← c.self.view_is, c.in-Some.is)
     (λ h s.
-    ready-next (meaning_of g.S.BackendSelection) (world_value c.self.inside) h c.args.reader c.in-Some.backend c.ready.result _ _ _ reader at-group at-registry
+    ready-next (meaning_of g.S.BackendSelection)
+    (world_value c.self.inside) h c.args.reader c.in-Some.backend c.ready.result _ _ _ reader at-group at-registry
     (rw c.reader.ensures at c.ready.ensures) s)

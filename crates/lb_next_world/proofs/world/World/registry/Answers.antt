@@ -15,15 +15,19 @@ use Rattle.lb_next_world.proofs.world.World.registry.Goals as goal
 pub returns-in_default : goal.returns-in_default
 returns-in_default g c =
     rw (← c.self.view_is, c.in_default.ensures.items)
-    (λ h stands. world-refused (meaning_of g.S.BackendSelection) (world_value c.self.inside) h (seen.registry c.args.rule c.args.healthy) refusal.OutOfMemory (inr refl) stands)
+    (λ h stands. world-refused (meaning_of g.S.BackendSelection) (world_value c.self.inside) h
+    (seen.registry c.args.rule c.args.healthy) refusal.OutOfMemory (inr refl) stands)
 
 pub invariant_of-self-2 : goal.invariant_of-self-2
 invariant_of-self-2 g c =
     let f = c.self.invariant in
-    subst (λ (rs : List (RegistryValue WorldRule)). IsFounded (meaning_of g.S.BackendSelection) (record (world_value c.self.inside) { registries = rs })) (sym c.in-Ok.ensures.items)
+    subst (λ (rs : List (RegistryValue WorldRule)). IsFounded (meaning_of g.S.BackendSelection)
+    (record (world_value c.self.inside) { registries = rs })) (sym c.in-Ok.ensures.items)
     (record {
       history = (seen.registry c.args.rule c.args.healthy, answer.Registry (length c.self.inside.registries.items)) ∷ f.history;
-      stands = registry-made (meaning_of g.S.BackendSelection) (world_value c.self.inside) f.history c.args.rule c.args.healthy (length c.self.inside.registries.items)
+      stands =
+          registry-made (meaning_of g.S.BackendSelection) (world_value c.self.inside) f.history c.args.rule c.args.healthy
+          (length c.self.inside.registries.items)
           c.started_registry-registry.result refl c.started_registry-registry.ensures f.stands;
     })
 
@@ -34,7 +38,9 @@ returns g c =
     (λ h stands.
     subst
     (λ (rs : List (RegistryValue WorldRule)).
-    Stands (meaning_of g.S.BackendSelection) (record (world_value c.self.inside) { registries = rs }) ((seen.registry c.args.rule c.args.healthy, answer.Registry c.len-number.result) ∷ h))
+    Stands (meaning_of g.S.BackendSelection) (record (world_value c.self.inside) { registries = rs })
+    ((seen.registry c.args.rule c.args.healthy, answer.Registry c.len-number.result) ∷ h))
     (sym c.in-Ok.ensures.items)
-    (registry-made (meaning_of g.S.BackendSelection) (world_value c.self.inside) h c.args.rule c.args.healthy c.len-number.result c.started_registry-registry.result last
+    (registry-made (meaning_of g.S.BackendSelection)
+    (world_value c.self.inside) h c.args.rule c.args.healthy c.len-number.result c.started_registry-registry.result last
     c.started_registry-registry.ensures stands))

@@ -37,7 +37,10 @@ loop-step-preserved g c =
 pub returns-clause-stands : goal.returns-clause-stands
 returns-clause-stands g c =
     let gives = c.into_iter-step-iterator.ensures.into_iter_gives in
-    let all = YieldsList-end (YieldsList-from_vec c.args.steps.items gives.0 (gives.1 ∙ c.args.steps.ok.0)) c.loop-step.yielded c.loop-step.step-iterator c.loop-step.yielded_by c.next.result c.next.new.self c.in-None.is c.next.ensures.steps in
+    let all =
+    YieldsList-end
+    (YieldsList-from_vec c.args.steps.items gives.0 (gives.1 ∙ c.args.steps.ok.0)) c.loop-step.yielded c.loop-step.step-iterator
+    c.loop-step.yielded_by c.next.result c.next.new.self c.in-None.is c.next.ensures.steps in
     let taken = sym (map-same c.loop-step.yielded) ∙ all.0 in
     λ h stands.
     rw taken at (c.loop-step.invariant.stood h stands)
@@ -45,7 +48,10 @@ returns-clause-stands g c =
 pub returns-clause-run : goal.returns-clause-run
 returns-clause-run g c =
     let gives = c.into_iter-step-iterator.ensures.into_iter_gives in
-    let all = YieldsList-end (YieldsList-from_vec c.args.steps.items gives.0 (gives.1 ∙ c.args.steps.ok.0)) c.loop-step.yielded c.loop-step.step-iterator c.loop-step.yielded_by c.next.result c.next.new.self c.in-None.is c.next.ensures.steps in
+    let all =
+    YieldsList-end
+    (YieldsList-from_vec c.args.steps.items gives.0 (gives.1 ∙ c.args.steps.ok.0)) c.loop-step.yielded c.loop-step.step-iterator
+    c.loop-step.yielded_by c.next.result c.next.new.self c.in-None.is c.next.ensures.steps in
     let taken = sym (map-same c.loop-step.yielded) ∙ all.0 in
     λ h stands.
     (rw taken at (c.loop-step.invariant.stood h stands)).run
@@ -53,55 +59,83 @@ returns-clause-run g c =
 pub returns-clause-promised : goal.returns-clause-promised
 returns-clause-promised g c =
     let gives = c.into_iter-step-iterator.ensures.into_iter_gives in
-    let all = YieldsList-end (YieldsList-from_vec c.args.steps.items gives.0 (gives.1 ∙ c.args.steps.ok.0)) c.loop-step.yielded c.loop-step.step-iterator c.loop-step.yielded_by c.next.result c.next.new.self c.in-None.is c.next.ensures.steps in
+    let all =
+    YieldsList-end
+    (YieldsList-from_vec c.args.steps.items gives.0 (gives.1 ∙ c.args.steps.ok.0)) c.loop-step.yielded c.loop-step.step-iterator
+    c.loop-step.yielded_by c.next.result c.next.new.self c.in-None.is c.next.ensures.steps in
     let taken = sym (map-same c.loop-step.yielded) ∙ all.0 in
     λ h stands.
-    always (meaning_of g.S.BackendSelection) (Promised (meaning_of g.S.BackendSelection)) (promised (meaning_of g.S.BackendSelection)) _ (rw taken at (c.loop-step.invariant.stood h stands)).run
+    always (meaning_of g.S.BackendSelection) (Promised (meaning_of g.S.BackendSelection)) (promised (meaning_of g.S.BackendSelection)) _
+    (rw taken at (c.loop-step.invariant.stood h stands)).run
 
 pub returns-clause-view_follows : goal.returns-clause-view_follows
 returns-clause-view_follows g c =
     let gives = c.into_iter-step-iterator.ensures.into_iter_gives in
-    let all = YieldsList-end (YieldsList-from_vec c.args.steps.items gives.0 (gives.1 ∙ c.args.steps.ok.0)) c.loop-step.yielded c.loop-step.step-iterator c.loop-step.yielded_by c.next.result c.next.new.self c.in-None.is c.next.ensures.steps in
+    let all =
+    YieldsList-end
+    (YieldsList-from_vec c.args.steps.items gives.0 (gives.1 ∙ c.args.steps.ok.0)) c.loop-step.yielded c.loop-step.step-iterator
+    c.loop-step.yielded_by c.next.result c.next.new.self c.in-None.is c.next.ensures.steps in
     let taken = sym (map-same c.loop-step.yielded) ∙ all.0 in
     λ h stands.
-    always (meaning_of g.S.BackendSelection) (λ k. (i : ℕ) → ViewFollows i k) (view-follows (meaning_of g.S.BackendSelection)) _ (rw taken at (c.loop-step.invariant.stood h stands)).run
+    always (meaning_of g.S.BackendSelection) (λ k. (i : ℕ) → ViewFollows i k) (view-follows (meaning_of g.S.BackendSelection)) _
+    (rw taken at (c.loop-step.invariant.stood h stands)).run
 
 pub returns-clause-lives_exactly : goal.returns-clause-lives_exactly
 returns-clause-lives_exactly g c =
     let gives = c.into_iter-step-iterator.ensures.into_iter_gives in
-    let all = YieldsList-end (YieldsList-from_vec c.args.steps.items gives.0 (gives.1 ∙ c.args.steps.ok.0)) c.loop-step.yielded c.loop-step.step-iterator c.loop-step.yielded_by c.next.result c.next.new.self c.in-None.is c.next.ensures.steps in
+    let all =
+    YieldsList-end
+    (YieldsList-from_vec c.args.steps.items gives.0 (gives.1 ∙ c.args.steps.ok.0)) c.loop-step.yielded c.loop-step.step-iterator
+    c.loop-step.yielded_by c.next.result c.next.new.self c.in-None.is c.next.ensures.steps in
     let taken = sym (map-same c.loop-step.yielded) ∙ all.0 in
     λ h stands.
-    always (meaning_of g.S.BackendSelection) LivesExactly (lives-exactly (meaning_of g.S.BackendSelection)) _ (rw taken at (c.loop-step.invariant.stood h stands)).run
+    always (meaning_of g.S.BackendSelection) LivesExactly (lives-exactly (meaning_of g.S.BackendSelection)) _
+    (rw taken at (c.loop-step.invariant.stood h stands)).run
 
 pub returns-clause-never_falls : goal.returns-clause-never_falls
 returns-clause-never_falls g c =
     let gives = c.into_iter-step-iterator.ensures.into_iter_gives in
-    let all = YieldsList-end (YieldsList-from_vec c.args.steps.items gives.0 (gives.1 ∙ c.args.steps.ok.0)) c.loop-step.yielded c.loop-step.step-iterator c.loop-step.yielded_by c.next.result c.next.new.self c.in-None.is c.next.ensures.steps in
+    let all =
+    YieldsList-end
+    (YieldsList-from_vec c.args.steps.items gives.0 (gives.1 ∙ c.args.steps.ok.0)) c.loop-step.yielded c.loop-step.step-iterator
+    c.loop-step.yielded_by c.next.result c.next.new.self c.in-None.is c.next.ensures.steps in
     let taken = sym (map-same c.loop-step.yielded) ∙ all.0 in
     λ h stands.
-    each-step (meaning_of g.S.BackendSelection) NeverFalls (never-falls (meaning_of g.S.BackendSelection)) _ (rw taken at (c.loop-step.invariant.stood h stands)).run
+    each-step (meaning_of g.S.BackendSelection) NeverFalls (never-falls (meaning_of g.S.BackendSelection)) _
+    (rw taken at (c.loop-step.invariant.stood h stands)).run
 
 pub returns-clause-first_accepted : goal.returns-clause-first_accepted
 returns-clause-first_accepted g c =
     let gives = c.into_iter-step-iterator.ensures.into_iter_gives in
-    let all = YieldsList-end (YieldsList-from_vec c.args.steps.items gives.0 (gives.1 ∙ c.args.steps.ok.0)) c.loop-step.yielded c.loop-step.step-iterator c.loop-step.yielded_by c.next.result c.next.new.self c.in-None.is c.next.ensures.steps in
+    let all =
+    YieldsList-end
+    (YieldsList-from_vec c.args.steps.items gives.0 (gives.1 ∙ c.args.steps.ok.0)) c.loop-step.yielded c.loop-step.step-iterator
+    c.loop-step.yielded_by c.next.result c.next.new.self c.in-None.is c.next.ensures.steps in
     let taken = sym (map-same c.loop-step.yielded) ∙ all.0 in
     λ h stands.
-    each-step (meaning_of g.S.BackendSelection) (FirstAccepted (meaning_of g.S.BackendSelection)) (first-accepted (meaning_of g.S.BackendSelection)) _ (rw taken at (c.loop-step.invariant.stood h stands)).run
+    each-step (meaning_of g.S.BackendSelection) (FirstAccepted (meaning_of g.S.BackendSelection))
+    (first-accepted (meaning_of g.S.BackendSelection)) _ (rw taken at (c.loop-step.invariant.stood h stands)).run
 
 pub returns-clause-raises : goal.returns-clause-raises
 returns-clause-raises g c =
     let gives = c.into_iter-step-iterator.ensures.into_iter_gives in
-    let all = YieldsList-end (YieldsList-from_vec c.args.steps.items gives.0 (gives.1 ∙ c.args.steps.ok.0)) c.loop-step.yielded c.loop-step.step-iterator c.loop-step.yielded_by c.next.result c.next.new.self c.in-None.is c.next.ensures.steps in
+    let all =
+    YieldsList-end
+    (YieldsList-from_vec c.args.steps.items gives.0 (gives.1 ∙ c.args.steps.ok.0)) c.loop-step.yielded c.loop-step.step-iterator
+    c.loop-step.yielded_by c.next.result c.next.new.self c.in-None.is c.next.ensures.steps in
     let taken = sym (map-same c.loop-step.yielded) ∙ all.0 in
     λ h stands.
-    each-step (meaning_of g.S.BackendSelection) Raises (raises (meaning_of g.S.BackendSelection)) _ (rw taken at (c.loop-step.invariant.stood h stands)).run
+    each-step (meaning_of g.S.BackendSelection) Raises (raises (meaning_of g.S.BackendSelection)) _
+    (rw taken at (c.loop-step.invariant.stood h stands)).run
 
 pub returns-clause-destroys_exactly : goal.returns-clause-destroys_exactly
 returns-clause-destroys_exactly g c =
     let gives = c.into_iter-step-iterator.ensures.into_iter_gives in
-    let all = YieldsList-end (YieldsList-from_vec c.args.steps.items gives.0 (gives.1 ∙ c.args.steps.ok.0)) c.loop-step.yielded c.loop-step.step-iterator c.loop-step.yielded_by c.next.result c.next.new.self c.in-None.is c.next.ensures.steps in
+    let all =
+    YieldsList-end
+    (YieldsList-from_vec c.args.steps.items gives.0 (gives.1 ∙ c.args.steps.ok.0)) c.loop-step.yielded c.loop-step.step-iterator
+    c.loop-step.yielded_by c.next.result c.next.new.self c.in-None.is c.next.ensures.steps in
     let taken = sym (map-same c.loop-step.yielded) ∙ all.0 in
     λ h stands.
-    each-step (meaning_of g.S.BackendSelection) DestroysExactly (destroys (meaning_of g.S.BackendSelection)) _ (rw taken at (c.loop-step.invariant.stood h stands)).run
+    each-step (meaning_of g.S.BackendSelection) DestroysExactly (destroys (meaning_of g.S.BackendSelection)) _
+    (rw taken at (c.loop-step.invariant.stood h stands)).run

@@ -23,15 +23,20 @@ invariant_of-self g c =
     let at = at-place c.self.inside.registries.items c.args.registry c.index_mut-at.result.now within c.index_mut-at.ensures.value in
     elim c.match-targets.branch [
       | in-Ok w ↦
-          founded (meaning_of g.S.BackendSelection) (world_value c.self.inside) _ (seen.targets c.args.registry) (answer.Targets w.in-Ok.targets.items) c.self.invariant
+          founded (meaning_of g.S.BackendSelection) (world_value c.self.inside) _ (seen.targets c.args.registry)
+          (answer.Targets w.in-Ok.targets.items) c.self.invariant
           (λ h s.
-          targets-next (meaning_of g.S.BackendSelection) (world_value c.self.inside) h c.args.registry w.in-Ok.targets.items _ _ at w.in-Ok.ensures.ok
+          targets-next (meaning_of g.S.BackendSelection)
+          (world_value c.self.inside) h c.args.registry w.in-Ok.targets.items _ _ at w.in-Ok.ensures.ok
           w.in-Ok.ensures.targets s)
       | in-Err w ↦
-          founded (meaning_of g.S.BackendSelection) (world_value c.self.inside) _ (seen.targets c.args.registry) (answer.Refused w.in-Err.refusal) c.self.invariant
+          founded (meaning_of g.S.BackendSelection) (world_value c.self.inside) _ (seen.targets c.args.registry)
+          (answer.Refused w.in-Err.refusal) c.self.invariant
           (λ h s.
-          targets-refused (meaning_of g.S.BackendSelection) (world_value c.self.inside) h c.args.registry w.in-Err.refusal _ _ at w.in-Err.ensures.err
-          (growth-told w.in-Err.refusal w.in-Err.ensures.refused) (λ k es now. lack-told w.in-Err.refusal (w.in-Err.ensures.exhausted k es now)) s)
+          targets-refused (meaning_of g.S.BackendSelection)
+          (world_value c.self.inside) h c.args.registry w.in-Err.refusal _ _ at w.in-Err.ensures.err
+          (growth-told w.in-Err.refusal w.in-Err.ensures.refused)
+          (λ k es now. lack-told w.in-Err.refusal (w.in-Err.ensures.exhausted k es now)) s)
     ]
 
 pub returns : goal.returns
@@ -43,10 +48,13 @@ returns g c =
     elim c.match-targets.branch [
       | in-Ok w ↦
           rw w.result-is
-          (targets-next (meaning_of g.S.BackendSelection) (world_value c.self.inside) h c.args.registry w.in-Ok.targets.items _ _ at w.in-Ok.ensures.ok
+          (targets-next (meaning_of g.S.BackendSelection)
+          (world_value c.self.inside) h c.args.registry w.in-Ok.targets.items _ _ at w.in-Ok.ensures.ok
           w.in-Ok.ensures.targets s)
       | in-Err w ↦
           rw w.result-is
-          (targets-refused (meaning_of g.S.BackendSelection) (world_value c.self.inside) h c.args.registry w.in-Err.refusal _ _ at w.in-Err.ensures.err
-          (growth-told w.in-Err.refusal w.in-Err.ensures.refused) (λ k es now. lack-told w.in-Err.refusal (w.in-Err.ensures.exhausted k es now)) s)
+          (targets-refused (meaning_of g.S.BackendSelection)
+          (world_value c.self.inside) h c.args.registry w.in-Err.refusal _ _ at w.in-Err.ensures.err
+          (growth-told w.in-Err.refusal w.in-Err.ensures.refused)
+          (λ k es now. lack-told w.in-Err.refusal (w.in-Err.ensures.exhausted k es now)) s)
     ])

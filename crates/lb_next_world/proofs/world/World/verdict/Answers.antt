@@ -25,16 +25,20 @@ invariant_of-self g c =
     let at = at-place c.self.inside.registries.items c.args.registry c.index_mut-at.result.now within c.index_mut-at.ensures.value in
     elim c.match-observe.branch [
       | in-Ok w ↦
-          founded (meaning_of g.S.BackendSelection) (world_value c.self.inside) _ (seen.verdict c.args.registry c.args.cell c.args.ok c.args.threshold)
+          founded (meaning_of g.S.BackendSelection) (world_value c.self.inside) _
+          (seen.verdict c.args.registry c.args.cell c.args.ok c.args.threshold)
           (answer.Flipped w.in-Ok.flipped) c.self.invariant
           (λ h s.
-          verdict-next (meaning_of g.S.BackendSelection) (world_value c.self.inside) h c.args.registry c.args.cell c.args.threshold c.args.ok w.in-Ok.flipped _ _ at
+          verdict-next (meaning_of g.S.BackendSelection)
+          (world_value c.self.inside) h c.args.registry c.args.cell c.args.threshold c.args.ok w.in-Ok.flipped _ _ at
           w.in-Ok.ensures.after w.in-Ok.ensures.flipped (λ k es now. (w.in-Ok.ensures.kept k es now).0 refl) s)
       | in-Err w ↦
-          founded (meaning_of g.S.BackendSelection) (world_value c.self.inside) _ (seen.verdict c.args.registry c.args.cell c.args.ok c.args.threshold)
+          founded (meaning_of g.S.BackendSelection) (world_value c.self.inside) _
+          (seen.verdict c.args.registry c.args.cell c.args.ok c.args.threshold)
           (answer.Refused refusal.NoSuch) c.self.invariant
           (λ h s.
-          verdict-refused (meaning_of g.S.BackendSelection) (world_value c.self.inside) h c.args.registry c.args.cell c.args.threshold c.args.ok _ _ at
+          verdict-refused (meaning_of g.S.BackendSelection)
+          (world_value c.self.inside) h c.args.registry c.args.cell c.args.threshold c.args.ok _ _ at
           w.in-Err.ensures.refused.1 (λ k es now kept. false≢true ((w.in-Err.ensures.kept k es now).1 kept)) s)
     ]
 
@@ -47,10 +51,12 @@ returns g c =
     elim c.match-observe.branch [
       | in-Ok w ↦
           rw w.result-is
-          (verdict-next (meaning_of g.S.BackendSelection) (world_value c.self.inside) h c.args.registry c.args.cell c.args.threshold c.args.ok w.in-Ok.flipped _ _ at
+          (verdict-next (meaning_of g.S.BackendSelection)
+          (world_value c.self.inside) h c.args.registry c.args.cell c.args.threshold c.args.ok w.in-Ok.flipped _ _ at
           w.in-Ok.ensures.after w.in-Ok.ensures.flipped (λ k es now. (w.in-Ok.ensures.kept k es now).0 refl) s)
       | in-Err w ↦
           rw (w.result-is, refused-so w.in-Err.ensures.refused.0)
-          (verdict-refused (meaning_of g.S.BackendSelection) (world_value c.self.inside) h c.args.registry c.args.cell c.args.threshold c.args.ok _ _ at
+          (verdict-refused (meaning_of g.S.BackendSelection)
+          (world_value c.self.inside) h c.args.registry c.args.cell c.args.threshold c.args.ok _ _ at
           w.in-Err.ensures.refused.1 (λ k es now kept. false≢true ((w.in-Err.ensures.kept k es now).1 kept)) s)
     ])

@@ -1,18 +1,17 @@
 use Rattle.std.proofs.Common.{rules}
 use Rattle.lb_step_text.specs.LineSteps.{line_step_seen}
-use Rattle.lb_script.proofs.SessionLemmas.{marks_after}
 use Rattle.lb_script.proofs.session.Session.answer.Goals as goal
 
 pub returns-clause-line : goal.returns-clause-line
 returns-clause-line g c =
-    λ h held.
+    λ h before.
     let st = line_step_seen c.in_ok-step.step in
-    let stands = c.take_step-answer.ensures h held.stands in
+    let stands = c.take_step-answer.ensures h before in
     record {
       st = st;
       a = c.take_step-answer.result;
       is = search rules;
       right = stands.run.1;
-      holds = record { stands = stands; marks = rw c.made_registry.ensures (marks_after c.args.self.now.has_registry h st c.take_step-answer.result held.marks) };
+      stands = stands;
       printed = search rules;
     }

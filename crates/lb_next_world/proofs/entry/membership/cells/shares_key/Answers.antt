@@ -11,7 +11,8 @@ returns-then-has_same_key c =
     let has : List Listing → Bool = lists_key key_of (key_of c.args.backend.now) in
     let i = c.loop-listing.listing-index in
     let rest = drop (i + 1) c.args.listings.now in
-    sym (sym (c.loop-listing.invariant key_of events r) ∙ at_drop_more has c.args.listings.now i c.listing-item.result c.loop-listing-test.true
+    sym (sym (c.loop-listing.invariant key_of events r)
+    ∙ at_drop_more has c.args.listings.now i c.listing-item.result c.loop-listing-test.true
     ∙ ap (λ (l : Listing). has (l ∷ rest)) (sym c.listing-item.is)
     ∙ ap (λ b. b || has rest) (sym (c.has_same_key.ensures key_of events r) ∙ c.if-has_same_key.true))
 

@@ -22,7 +22,8 @@ loop-place-preserved c =
         λ key_of events r.
             let views = live (views_after events) in
             let keys : List Listing → ℕ = new_keys key_of views in
-            let one : starts_cell key_of views item rest ≡ true = sym (ap (starts_cell key_of views item) whole) ∙ sym (c.starts.ensures key_of events r) ∙ w.if-starts.true in
+            let one : starts_cell key_of views item rest ≡ true = sym (ap (starts_cell key_of views item) whole)
+            ∙ sym (c.starts.ensures key_of events r) ∙ w.if-starts.true in
             omega (
               arith,
               w.count-is,
@@ -38,7 +39,8 @@ loop-place-preserved c =
         λ key_of events r.
             let views = live (views_after events) in
             let keys : List Listing → ℕ = new_keys key_of views in
-            let none : starts_cell key_of views item rest ≡ false = sym (ap (starts_cell key_of views item) whole) ∙ sym (c.starts.ensures key_of events r) ∙ w.if-starts.false in
+            let none : starts_cell key_of views item rest ≡ false = sym (ap (starts_cell key_of views item) whole)
+            ∙ sym (c.starts.ensures key_of events r) ∙ w.if-starts.false in
             omega (
               arith,
               w.count-is,

@@ -11,4 +11,5 @@ abbrev pub invariant-loop-place : goal.invariant-loop-place
 invariant-loop-place l =
     (l.count ≤ l.place)
     × ((key_of : Member → Member) (events : List Event) → IsRegistryAfter key_gives key_of events l.registry
-    → l.count + new_keys key_of (live (views_after events)) (drop l.place l.listings) ≡ new_keys key_of (live (views_after events)) l.listings)
+    → l.count + new_keys key_of (live (views_after events))
+    (drop l.place l.listings) ≡ new_keys key_of (live (views_after events)) l.listings)
