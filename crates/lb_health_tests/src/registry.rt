@@ -2,6 +2,7 @@
 use crate::fixtures::{Members, set_of};
 use lb_registry::health::Health;
 use lb_registry::registry::RegistryCore;
+use lb_select::backend::Backend;
 use lb_select::refusal::Refusal;
 use std::alloc::Global;
 use std::test::Fail;
@@ -95,6 +96,25 @@ fn cells_go_with_their_views(rt: HostRuntime) -> Result<(), Fail> {
     assert_eq!(rt; registry.target_count(alloc)?, 0);
     assert_eq!(rt; registry.observe(0, true, 1), Err(Refusal::NoSuch));
     assert!(rt; !registry.cell_ready(0));
+    Ok(())
+}
+
+// A backend of any weight has the key of its address, until the last view that has it is marked; each cell took a number.
+#[test]
+fn keys_and_numbers_are_told(rt: HostRuntime) -> Result<(), Fail> {
+    let alloc = rt.alloc();
+    let mut registry = two_views(alloc, RegistryCore::by_address(alloc))?;
+    let heavy = Backend::new_with_weight(alloc, "1.0.0.1:80", 9)?;
+    let light = Backend::new(alloc, "1.0.0.1:80")?;
+    let other = Backend::new(alloc, "1.0.0.2:80")?;
+    assert_eq!(rt; registry.numbers_left(), 18446744073709551614);
+    assert!(rt; registry.same_key(&heavy, &light));
+    assert!(rt; !registry.same_key(&heavy, &other));
+    assert!(rt; !registry.has_key(&other));
+    registry.remove_view(1);
+    assert!(rt; registry.has_key(&heavy));
+    registry.remove_view(2);
+    assert!(rt; !registry.has_key(&heavy));
     Ok(())
 }
 
