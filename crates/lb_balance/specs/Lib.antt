@@ -1,0 +1,2 @@
+pub mod GroupUpdates
+pub mod Timings
