@@ -1,2 +1,3 @@
+pub mod Balancer
 pub mod GroupUpdates
 pub mod Timings

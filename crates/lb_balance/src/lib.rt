@@ -5,4 +5,5 @@
 
 pub mod group_core;
 pub mod moments;
+pub mod served;
 pub mod timings;
