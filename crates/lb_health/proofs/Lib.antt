@@ -1,4 +1,5 @@
 pub mod FlagLemmas
+pub mod LookupLemmas
 pub mod SnapshotLemmas
 pub mod ViewLemmas
 pub mod PassLemmas

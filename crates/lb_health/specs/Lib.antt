@@ -1,5 +1,6 @@
 pub mod Discoveries
 pub mod Joined
+pub mod Lookups
 pub mod Passes
 pub mod Snapshots
 pub mod Updates

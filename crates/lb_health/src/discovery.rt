@@ -1,21 +1,20 @@
 //! Discovery: where the backends of a view come from.
 //! A discovery gives a set and settings; of a backend that the settings omit the flag stays.
-ghost use Rattle.std.specs.Prelude.{◌≡◌, [], IfOk, IsErrOf, OnErr, Err};
-ghost use Rattle.std.specs.Iterator.{IsFinite};
-ghost use Rattle.std.specs.Option.{option_map};
-ghost use Rattle.lb_select.specs.AddressText.{socket_seen};
-ghost use Rattle.lb_select.specs.Seen.{inet_seen};
+ghost use Rattle.std.specs.Prelude.{◌≡◌, ℕ, [], List, IfOk, IsErrOf, OnErr, Err};
+ghost use Rattle.std.specs.Borrow.{Bor};
+ghost use Rattle.std.specs.Iterator.{Drains, IsFinite};
 ghost use Rattle.lb_health.specs.Discoveries.{Discovers, MayFault, IsDiscoveryRefusal, IsLookupRefusal};
 ghost use Rattle.lb_health.specs.Joined.{settings_of};
+ghost use Rattle.lb_health.specs.Lookups.{IsMadeOf};
 
+use crate::lookup::gather;
 use crate::view::Settings;
-use lb_select::backend::{Backend, Ext, InetAddr, SocketAddr};
+use lb_select::backend::Backend;
 use lb_select::refusal::Refusal;
 use std::alloc::Global;
 use std::collections::BTreeSet;
-use std::io::ErrorKind;
 use std::marker::Model;
-use std::net::{self, Net, ToSocketAddrs};
+use std::net::Net;
 
 /// What a discovery gives: the backends, and which of them are enabled or disabled.
 pub type Discovered = (BTreeSet<Backend>, Settings);
@@ -67,12 +66,16 @@ impl Static {
         }
     }
 
-    /// The backends of weight 1 at the addresses that the texts spell, or that the network knows for the host that they name.
+    /// The backends of weight 1 at the addresses of the texts, each once. A text that std reads as a socket address has that one,
+    /// and no network is asked; of another text, `host:port`, the network looks up the host, and may give any addresses.
+    ///
+    /// What a network gives for a name, and that a text without a host and a port has no address, no contract tells.
     ///
     /// # Errors
     ///
-    /// `InvalidAddress` where an address has a scope id other than 0; `Discovery` where a text is no address and its host can't
-    /// be looked up; `OutOfMemory` where memory is refused.
+    /// `InvalidAddress` where an address has a scope id other than 0; where none has, `Discovery` where a text is no address and
+    /// its host can't be looked up; and only then `OutOfMemory` where memory is refused. Each text is asked about, also after one
+    /// that is refused.
     pub fn try_from_iter<'a, N: Net, I: Iterator<Item = &'a str> + Drop>(
         alloc: Global,
         net: &N,
@@ -80,29 +83,18 @@ impl Static {
     ) -> Result<Static, Refusal>
         requires can { I.can_next texts }
         requires ends { IsFinite (I.remaining texts) }
-        ensures { OnErr result (IsLookupRefusal result) }
+        ensures made { (read : List (Bor (List ℕ))) × Drains I.next_gives texts read × IsMadeOf read result }
+        ensures refused { OnErr result (IsLookupRefusal result) }
     {
         let mut backends = BTreeSet::new(alloc);
+        let mut cause = None;
         for text in texts {
-            let addresses = match text.to_socket_addrs(net) {
-                Ok(addresses) => addresses,
-                Err(fault) if fault.kind() == ErrorKind::OutOfMemory => return Err(
-                    Refusal::OutOfMemory,
-                ),
-                Err(_) => return Err(Refusal::Discovery),
-            };
-            for address in addresses {
-                let Some(inet) = inet_of(address) else {
-                    return Err(Refusal::InvalidAddress);
-                };
-                backends.insert(Backend {
-                    addr: SocketAddr::Inet(inet),
-                    weight: 1,
-                    ext: Ext::new(alloc),
-                })?;
-            }
+            cause = gather(alloc, net, text, &mut backends, cause);
         }
-        Ok(Static { backends })
+        match cause {
+            Some(refusal) => Err(refusal),
+            None => Ok(Static { backends }),
+        }
     }
 
     /// A copy of the backends. Refused `OutOfMemory` where there is no room for it.
@@ -146,22 +138,6 @@ impl<D: ServiceDiscovery> ServiceDiscovery for DiscoverySource<D> {
                 Err(Refusal::OutOfMemory) => Err(Refusal::OutOfMemory),
                 Err(_) => Err(Refusal::Discovery),
             },
-        }
-    }
-}
-
-// The address of std, where it has no scope.
-fn inet_of(addr: net::SocketAddr) -> Option<InetAddr>
-    ensures { option_map inet_seen result ≡ socket_seen addr }
-{
-    match addr {
-        net::SocketAddr::V4(v4) => Some(InetAddr::V4(v4.ip().octets(), v4.port())),
-        net::SocketAddr::V6(v6) => {
-            if v6.scope_id() == 0 {
-                Some(InetAddr::V6(v6.ip().octets(), v6.port()))
-            } else {
-                None
-            }
         }
     }
 }

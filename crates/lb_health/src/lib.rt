@@ -5,6 +5,7 @@
 pub mod backends;
 pub mod discovery;
 pub mod laws;
+mod lookup;
 pub mod registry;
 mod snapshot;
 pub mod view;

@@ -446,8 +446,8 @@ impl ViewCore {
         self.current.members.contains(backend)
     }
 
-    // Whether the newest membership is this one, by identity.
-    fn is_membership(&self, members: &BTreeSet<Backend>) -> bool
+    /// Whether the newest membership is this one, by identity. It takes no memory.
+    pub fn is_membership(&self, members: &BTreeSet<Backend>) -> bool
         ensures { (views : List ViewEvent) → IsViewAfter views self.now
             → result ≡ same_members members.now.keys (membership_after views) }
     {

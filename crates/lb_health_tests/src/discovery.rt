@@ -61,4 +61,8 @@ fn texts_that_are_refused(rt: HostRuntime) {
         let made = Static::try_from_iter(alloc, &rt, texts.iter().copied());
         assert_eq!(rt; made.err(), Some(refusal));
     }
+    // The least number of the two is answered, whatever their order.
+    let both = ["1.1.1.1", "[fe80::1%3]:80", "1.0.0.1:80"];
+    let made = Static::try_from_iter(alloc, &rt, both.iter().copied());
+    assert_eq!(rt; made.err(), Some(Refusal::InvalidAddress));
 }

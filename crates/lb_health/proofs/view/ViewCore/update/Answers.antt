@@ -1,9 +1,7 @@
-use Rattle.std.proofs.Common.{sym, subst, [], ◌∷◌, List}
+use Rattle.std.proofs.Common.{sym, subst}
 use Rattle.std.specs.Prelude.{Bool, if◌then◌else◌}
 use Rattle.lb_registry.specs.Registry.{IsRegistryAfter}
-use Rattle.lb_health.specs.Joined.{registry_changed, after_settings, settings_of}
-use Rattle.lb_health.specs.ViewEvents.{ViewEvent, Shown}
-use Rattle.lb_health.specs.Views.{IsViewAfter}
+use Rattle.lb_health.specs.Joined.{registry_changed}
 use Rattle.lb_health.proofs.view.ViewCore.update.Goals as goal
 
 pub returns-clause-registry : goal.returns-clause-registry

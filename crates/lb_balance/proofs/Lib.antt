@@ -1,0 +1,2 @@
+pub mod SlotCounts
+pub mod Balancing

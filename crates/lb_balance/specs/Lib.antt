@@ -1,0 +1,3 @@
+pub mod Balancer
+pub mod GroupUpdates
+pub mod Timings

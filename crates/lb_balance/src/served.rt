@@ -1,0 +1,164 @@
+//! A view with the selector that is built of its newest membership: the two change as one, or not at all.
+ghost use Rattle.std.specs.Prelude.{◌≡◌, ◌-◌, ◌∷◌, [], ℕ, List, None, MatchOption, true, false, unwrap_or};
+ghost use Rattle.std.specs.Prelude.{IfOk, IfErr, OnErr};
+ghost use Rattle.std.specs.Arc.{arc_value};
+ghost use Rattle.std.specs.Option.{option_or};
+ghost use Rattle.lb_select.specs.Backends.{Member};
+ghost use Rattle.lb_select.specs.Refusals.{Refuses, memory_apart};
+ghost use Rattle.lb_select.specs.Memberships.{same_members};
+ghost use Rattle.lb_registry.specs.Registry.{IsRegistryAfter};
+ghost use Rattle.lb_registry.specs.RegistryEvents.{Event};
+ghost use Rattle.lb_health.specs.Joined.{registry_updated, settings_of};
+ghost use Rattle.lb_health.specs.ViewEvents.{ViewEvent};
+ghost use Rattle.lb_health.specs.Views.{IsViewAfter};
+ghost use Rattle.lb_balance.specs.Balancer.{After, Stands, members_now, update_cause, updated, view_cause, view_events};
+ghost use Rattle.lb_balance.specs.Timings.{Reads};
+
+use crate::moments::MomentSource;
+use lb_health::view::{Settings, ViewCore};
+use lb_registry::keys::KeyRule;
+use lb_registry::registry::Registry;
+use lb_select::backend::Backend;
+use lb_select::refusal::Refusal;
+use lb_select::walk::BackendSelection;
+use lb_select::words::CoreWords;
+use rand_core::Rng;
+use std::alloc::Global;
+use std::collections::BTreeSet;
+use std::marker::Model;
+use std::sync::Arc;
+
+/// A view of a registry, and the selector that is served: one of the view's newest membership, with a source of words whose
+/// counter of tickets began at 0 when it was built.
+///
+/// Contracts tell it by the history of its events; some history stands behind each.
+#[derive(Drop)]
+pub struct Served<S: BackendSelection, G: Drop> {
+    view: ViewCore,
+    config: S::Config,
+    selector: Arc<S>,
+    words: CoreWords<G>,
+}
+
+impl<S: BackendSelection, G: Drop> Model for Served<S, G> {
+    ghost use Rattle.std.specs.Prelude.{◌≡◌};
+    ghost use Rattle.std.specs.Arc.{arc_value};
+    ghost use Rattle.lb_balance.specs.Balancer.{ServedValue, IsFounded};
+
+    ghost Value = { ServedValue S.Config G };
+
+    ghost view = { λ b. record {
+      view = b.view;
+      config = b.config;
+      members = S.members (arc_value b.selector);
+      words = b.words;
+    } };
+
+    ghost invariant = { λ b. (S.built_with (arc_value b.selector) ≡ b.config) × IsFounded (record {
+      view = b.view;
+      config = b.config;
+      members = S.members (arc_value b.selector);
+      words = b.words;
+    }) };
+}
+
+impl<S: BackendSelection, G: Rng + Drop> Served<S, G> {
+    /// Takes what was discovered. Another membership than the newest becomes the next generation, and a selector that is built of it
+    /// is served from then on; the clock is read before and after the build, and what it took is answered. The same membership
+    /// changes nothing but flags, and the clock is not read.
+    ///
+    /// # Errors
+    ///
+    /// For another membership: the cause for which its selector can't be built; where there is none, `GenerationsExhausted`,
+    /// `NoSuch` where the registry has no such view, or `NumbersExhausted` where no number is left for a cell; and only then
+    /// `OutOfMemory` where memory is refused. View, selector, words and registry are then as before.
+    pub fn update<R: KeyRule + Drop, K: MomentSource>(
+        &mut self,
+        alloc: Global,
+        registry: &mut Registry<R>,
+        members: BTreeSet<Backend>,
+        settings: Settings,
+        clock: &mut K,
+    ) -> Result<Option<u128>, Refusal>
+        ensures updated { (key_of : Member → Member) (events : List Event) → IsRegistryAfter R.gives key_of events registry.old
+            → After self.old (λ e. Refuses (update_cause (S.refusal members.keys self.old.config) key_of self.old.view.id members.keys events e)
+            (λ _. Stands (updated key_of self.old.view.id members.keys (settings_of settings.entries) events e) self.new
+            × IsRegistryAfter R.gives key_of (registry_updated key_of self.old.view.id members.keys (view_events e) events) registry.new)
+            result) }
+        ensures built { IfOk result (λ build. After self.old (λ e. MatchOption build
+            ((same_members members.keys (members_now e) ≡ true) × (clock.new ≡ clock.old))
+            (λ d. (same_members members.keys (members_now e) ≡ false) × ((before : ℕ) × ((after : ℕ)
+            × Reads K.reads clock.old (before ∷ after ∷ []) clock.new × (d ≡ after - before)))))) }
+        ensures err { OnErr result (After self.old (λ e. Stands e self.new)) }
+        ensures registry_err { OnErr result ((key_of : Member → Member) (events : List Event)
+            → IsRegistryAfter R.gives key_of events registry.old
+            → IsRegistryAfter R.gives key_of events registry.new) }
+        ensures kept { OnErr result (self.new ≡ record self.old { view = self.new.view }) }
+        ensures id { self.new.view.id ≡ self.old.view.id }
+        ensures config { self.new.config ≡ self.old.config }
+    {
+        if self.view.is_membership(&members) {
+            self.view
+                .update(alloc, registry, members, settings, |_members| ())?;
+            return Ok(None);
+        }
+        let before = clock.now();
+        let selector = build::<S, R>(alloc, &self.view, registry, &members, &self.config)?;
+        let after = clock.now();
+        self.view
+            .update(alloc, registry, members, settings, |_members| ())?;
+        self.selector = selector;
+        self.words.tickets = 0;
+        Ok(Some(after.saturating_sub(before)))
+    }
+}
+
+// The selector of another membership; refused for the least cause that stands, and for memory only where there is none.
+fn build<S: BackendSelection, R: KeyRule + Drop>(
+    alloc: Global,
+    view: &ViewCore,
+    registry: &Registry<R>,
+    members: &BTreeSet<Backend>,
+    config: &S::Config,
+) -> Result<Arc<S>, Refusal>
+    ensures made { IfOk result (λ s. (memory_apart (S.refusal members.now.keys config.now) ≡ None)
+        × (S.members (arc_value s) ≡ members.now.keys) × (S.built_with (arc_value s) ≡ config.now)) }
+    ensures refused { IfErr result (λ r. (key_of : Member → Member) (views : List ViewEvent) (events : List Event)
+        → IsViewAfter views view.now → IsRegistryAfter R.gives key_of events registry.now
+        → r ≡ unwrap_or (option_or (memory_apart (S.refusal members.now.keys config.now))
+        (view_cause key_of view.now.id members.now.keys events views)) Refusal.OutOfMemory) }
+{
+    let refusal = match S::build_with_config(alloc, members, config) {
+        Ok(selector) => match Arc::new(alloc, selector) {
+            Ok(selector) => return Ok(selector),
+            Err(_refused) => Refusal::OutOfMemory,
+        },
+        Err(refusal) => refusal,
+    };
+    match refusal {
+        Refusal::OutOfMemory => Err(cause_without_memory(view, registry, members)),
+        refusal => Err(refusal),
+    }
+}
+
+// Why view and registry refuse another membership, or that memory is refused.
+fn cause_without_memory<R: KeyRule + Drop>(
+    view: &ViewCore,
+    registry: &Registry<R>,
+    members: &BTreeSet<Backend>,
+) -> Refusal
+    ensures { (key_of : Member → Member) (views : List ViewEvent) (events : List Event)
+        → IsViewAfter views view.now → IsRegistryAfter R.gives key_of events registry.now
+        → result ≡ unwrap_or (view_cause key_of view.now.id members.now.keys events views) Refusal.OutOfMemory }
+{
+    if view.generation() == u64::MAX {
+        return Refusal::GenerationsExhausted;
+    }
+    if !registry.has_view(view.id()) {
+        return Refusal::NoSuch;
+    }
+    if registry.lacks_numbers(members) {
+        return Refusal::NumbersExhausted;
+    }
+    Refusal::OutOfMemory
+}
