@@ -5,8 +5,8 @@ use Rattle.std.specs.Result.{result_ok}
 use Rattle.std.proofs.KnownBytes.{Appends-nil, Appends-trans, Appends-kept}
 use Rattle.lb_history.specs.History.{History}
 use Rattle.lb_history.specs.Meanings.{Meaning}
-use Rattle.lb_next_world.specs.Stands.{Stands}
-use Rattle.lb_next_world.specs.Views.{WorldValue}
+use Rattle.lb_world.specs.Stands.{Stands}
+use Rattle.lb_world.specs.Views.{WorldValue}
 use Rattle.lb_step_text.specs.declared.error.ScriptError.{ScriptError}
 use Rattle.lb_step_text.specs.declared.error.ScriptError.TheVariants.{BadLine, LineTooLong, Read, OutOfMemory}
 use Rattle.lb_script.specs.declared.session.Turn.{Turn}

@@ -2,7 +2,7 @@
 use Rattle.std.proofs.Common.{ℕ, List, length, ◌≤◌, Option, Some, None, Err, ap, ◌∙◌, sym, subst}
 use Rattle.lb_history.specs.History.{History}
 use Rattle.lb_history.specs.Meanings.{Meaning}
-use Rattle.lb_next_world.specs.Views.{WorldValue}
+use Rattle.lb_world.specs.Views.{WorldValue}
 use Rattle.lb_step_text.specs.declared.error.ScriptError.{ScriptError}
 use Rattle.lb_step_text.specs.declared.error.ScriptError.TheVariants.{BadLine, LineTooLong, Read, OutOfMemory}
 use Rattle.lb_lines.specs.declared.lines.LineRead.TheVariants.{Line}

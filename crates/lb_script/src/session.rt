@@ -4,7 +4,7 @@ ghost use Rattle.std.specs.Prelude.{◌≡◌, ◌≢◌, [], ◌∷◌, Err, tr
 ghost use Rattle.std.specs.Io.KnownBytes.{Keeps, prepend_known};
 ghost use Rattle.lb_history.specs.History.{History};
 ghost use Rattle.lb_history.specs.Meanings.{meaning_of};
-ghost use Rattle.lb_next_world.specs.Stands.{Stands};
+ghost use Rattle.lb_world.specs.Stands.{Stands};
 ghost use Rattle.lb_step_text.specs.LineSteps.{line_step_seen};
 ghost use Rattle.lb_counted.specs.Counted.{inner_of, has_failed};
 ghost use Rattle.lb_counted.specs.Stream.{OnBytes};
@@ -15,7 +15,7 @@ use lb_history::answer::Answer;
 use lb_kinds::kinds::Kind;
 use lb_lines::lines::{LineRead, read_line};
 use lb_lines::read_ahead::ReadAhead;
-use lb_next_world::world::World;
+use lb_world::world::World;
 use lb_select::walk::BackendSelection;
 use lb_step_text::error::ScriptError;
 use lb_step_text::parse::{LineStep, parse};

@@ -74,7 +74,7 @@ module _ (p : Member → Bool) (respects : (a b : Member) → same_member a b �
   any_inserted [] k = or_swap (p k) false
   any_inserted (x ∷ ks) k = any_step x k ks (member_cmp k x) (respects k x) (any_inserted ks k)
 
-  any_folded : (acc xs : List Member) → list_any p (fold (insert_key member_cmp) acc xs) ≡ (list_any p acc || list_any p xs)
+  pub any_folded : (acc xs : List Member) → list_any p (fold (insert_key member_cmp) acc xs) ≡ (list_any p acc || list_any p xs)
   any_folded acc [] = or_swap false (list_any p acc)
   any_folded acc (x ∷ xs) =
       any_folded (insert_key member_cmp acc x) xs ∙ ap (λ v. v || list_any p xs) (any_inserted acc x)

@@ -1,41 +1,103 @@
--- A world stands for a history: every answer in it was right, and what the world holds is what the history tells.
-use Rattle.std.specs.Prelude.{◌≡◌, ℕ, ◌+◌, [], Some, None, length, slice_get}
-use Rattle.lb_rebuild.specs.Views.{Task, SlotView}
-use Rattle.lb_world.specs.Meanings.{Meaning}
-use Rattle.lb_world.specs.History.{History, Made, made, config, registries, gates, groups, generations, newest, members, events, served}
-use Rattle.lb_world.specs.History.{flight, ready, retired, entries, count_on, grants, fails, destroys}
-use Rattle.lb_world.specs.Answers.{IsRun, HasDrawn}
-use Rattle.lb_world.specs.Views.{WorkView, PlaceView, EntryView, WorldView, task_of, ready_of, flight_of, retired_of, holders}
-use Rattle.lb_world.specs.Lawful.{Always, OneExtra, InOrder}
+-- A world stands for a history: the answers are a run, and each table is what the history tells.
+use Rattle.std.specs.Prelude.{◌≡◌, ◌<◌, ℕ, Bool, true, false, ◌||◌, ◌∷◌, List, Option, Some, None, length, map, slice_get, if◌then◌else◌}
+use Rattle.std.specs.Option.{option_map}
+use Rattle.lb_select.specs.Backends.{Member}
+use Rattle.lb_select.specs.Loads.{load_in}
+use Rattle.lb_rebuild.specs.Gate.{GateView, gate}
+use Rattle.lb_registry.specs.Registry.{RegistryValue, IsRegistryAfter}
+use Rattle.lb_group.specs.Values.{configs_of}
+use Rattle.lb_joined.specs.Stands as joined
+use Rattle.lb_history.specs.Steps.{Step}
+use Rattle.lb_history.specs.declared.answer.Answer.{Answer}
+use Rattle.lb_history.specs.Meanings.{Meaning}
+use Rattle.lb_history.specs.History.{History, Made, registries, gates, made, made_at, entries, past, work, is_out, is_grant, is_failure}
+use Rattle.lb_history.specs.History.{is_destruction, load_of}
+use Rattle.lb_history.specs.Shared.{key_at, key_of, registry_events}
+use Rattle.lb_history.specs.Answers.{IsRun, Answers}
+use Rattle.lb_history.specs.Joined.{joined_events}
+use Rattle.lb_world.specs.Rules.{WorldRule, key_gives}
+use Rattle.lb_world.specs.Views.{WorkValue, HeldValue, entered_of, EntryValue, WorldValue, site, origin, IsOwnReader}
+use Rattle.lb_world.specs.Works.{held_of}
+
+-- the permit of a gate after a step at one of its groups
+abbrev pub permit_after : {C : Type 0} → Step C → Answer → Bool → Bool
+permit_after st a out = if is_grant st a then true else if is_failure st a || is_destruction st a then false else out
+
+-- the gate of a group is there, with the identity that the group has of it, and its registry is there
+pub record OnSite {C : Type 0} (w : WorldValue C) (e : EntryValue C) : Type 0 where
+  pub view : GateView
+  pub gate : slice_get w.gates e.gate ≡ Some view
+  pub id : view.id ≡ e.core.group.gate
+  pub registry : e.registry < length w.registries
+
+module _ {C : Type 0} where
+  -- what a group was made with, as its entry has it
+  abbrev pub made_of : EntryValue C → Made C
+  made_of e = record { registry = e.registry; gate = e.gate; view = e.core.view.id; configs = configs_of e.core.group }
+
+  -- the entry is what the history tells of the group
+  pub record EntryIs (h : History C) (g : ℕ) (e : EntryValue C) : Type 0 where
+    pub made_is : made_at g h ≡ Some (made_of e)
+    pub core_is : joined.Stands (site e.core) (joined_events g h) e.core
+    pub works_in : length e.works ≡ length (configs_of e.core.group)
+    pub works_are : (s : ℕ) (c : C) (k : WorkValue C) → slice_get (configs_of e.core.group) s ≡ Some c → slice_get e.works s ≡ Some k
+        → k ≡ held_of (origin e.core) s c (past g s h) (work g s h)
+    pub loads_are : (b : Member) → load_in e.loads b ≡ load_of g b h
 
 module _ {C : Type 0} (M : Meaning C) where
-  -- what a history tells of a slot
-  pub record SlotTells (h : History C) (g s : ℕ) (p : PlaceView C) : Type 0 where
-    pub configured : config g s h ≡ Some p.slot.config
-    pub serves : served (events g s h) ≡ p.slot.serving.generation
-    pub lists : members g p.slot.serving.generation h ≡ p.slot.serving.members
-    pub flies : flight (events g s h) ≡ flight_of p.slot.stage
-    pub builds : ready (events g s h) ≡ ready_of p.work
-    pub retires : retired (events g s h) ≡ retired_of p.slot.stage
-    pub tasks : (t : Task C) → task_of p.work ≡ Some t → members g t.generation h ≡ t.members
-    pub drawn : HasDrawn M g s h p.slot.serving.tickets
-
-  pub record Stands (w : WorldView C) (h : History C) : Type 0 where
+  pub record Stands (w : WorldValue C) (h : History C) : Type 0 where
     pub run : IsRun M h
-    pub registries_are : registries h ≡ w.registries
-    pub gates_are : gates h ≡ length w.gates
-    pub groups_are : groups h ≡ length w.groups
-    pub unmade : (g : ℕ) → slice_get w.groups g ≡ None → made g h ≡ None
-    pub made_is : (g : ℕ) (e : EntryView C) → slice_get w.groups g ≡ Some e
-        → (m : Made C) × (made g h ≡ Some m) × (m.gate ≡ e.gate) × (length m.configs ≡ length e.core.slots)
-    pub newest_is : (g : ℕ) (e : EntryView C) → slice_get w.groups g ≡ Some e → newest g h ≡ e.core.newest
-    pub members_are : (g : ℕ) (e : EntryView C) → slice_get w.groups g ≡ Some e → members g e.core.newest h ≡ e.core.current
-    pub slots_tell : (g : ℕ) (e : EntryView C) (s : ℕ) (x : SlotView C) (k : WorkView C)
-        → slice_get w.groups g ≡ Some e → slice_get e.core.slots s ≡ Some x → slice_get e.works s ≡ Some k
-        → SlotTells h g s (record { slot = x; work = k })
-    pub ungrouped : (g : ℕ) → made g h ≡ None → generations g h ≡ []
-    pub unslotted : (g s : ℕ) → config g s h ≡ None → (events g s h ≡ []) × HasDrawn M g s h 0
-    pub entries_are : entries h ≡ w.readers
-    pub ledger : (a : ℕ) → count_on grants a h ≡ count_on fails a h + count_on destroys a h + holders a w.groups
-    pub extras_ever : Always OneExtra h
-    pub order_ever : Always InOrder h
+    pub registries_are : length w.registries ≡ length (registries h)
+    pub gates_are : length w.gates ≡ gates h
+    pub groups_are : length w.groups ≡ length (made h)
+    pub readers_are : map (option_map entered_of) w.readers ≡ entries h
+    pub kept : (r : ℕ) (v : RegistryValue WorldRule) → slice_get w.registries r ≡ Some v
+        → IsRegistryAfter key_gives (key_at r h) (registry_events r h) v
+    pub outs : (a : ℕ) (z : GateView) → slice_get w.gates a ≡ Some z → z.out ≡ is_out a h
+    pub each : (g : ℕ) (e : EntryValue C) → slice_get w.groups g ≡ Some e → EntryIs h g e
+    pub on_site : (g : ℕ) (e : EntryValue C) → slice_get w.groups g ≡ Some e → OnSite w e
+    pub own : (t : ℕ) (r : HeldValue C) → slice_get w.readers t ≡ Some (Some r) → (e : EntryValue C)
+        → slice_get w.groups r.group ≡ Some e → IsOwnReader e.core r.reader
+
+  -- some history stands behind it
+  pub record IsFounded (w : WorldValue C) : Type 0 where
+    pub history : History C
+    pub stands : Stands w history
+
+  -- a right step at a group: the group, its gate and its registry after it
+  pub record EntryNext (h : History C) (g : ℕ) (st : Step C) (a : Answer) (e : EntryValue C) (z : GateView) (e2 : EntryValue C)
+      (z2 : GateView) (v2 : RegistryValue WorldRule)
+      : Type 0 where
+    pub right : Answers M h st a
+    pub is : EntryIs ((st, a) ∷ h) g e2
+    pub registry_is : e2.registry ≡ e.registry
+    pub gate_is : e2.gate ≡ e.gate
+    pub origin_is : origin e2.core ≡ origin e.core
+    pub out : z2 ≡ gate z.id (permit_after st a z.out)
+    pub kept : IsRegistryAfter key_gives (key_of g h) (registry_events e.registry ((st, a) ∷ h)) v2
+
+  -- what a call at an entry does, after each history and as each number
+  abbrev pub Does : (ℕ → Step C) → EntryValue C → GateView → RegistryValue WorldRule → Answer → EntryValue C → GateView
+      → RegistryValue WorldRule → Type 0
+  Does st e z v a e2 z2 v2 =
+      (h : History C) (g : ℕ) → IsRun M h → EntryIs h g e → z.out ≡ is_out e.gate h
+      → IsRegistryAfter key_gives (key_of g h) (registry_events e.registry h) v
+      → EntryNext h g (st g) a e z e2 z2 v2
+
+  -- the same, where the gate or the registry is not at hand and stays as it is
+  abbrev pub DoesAtGate : (ℕ → Step C) → EntryValue C → GateView → Answer → EntryValue C → GateView → Type 0
+  DoesAtGate st e z a e2 z2 = (v : RegistryValue WorldRule) → Does st e z v a e2 z2 v
+
+  abbrev pub DoesAtRegistry : (ℕ → Step C) → EntryValue C → RegistryValue WorldRule → Answer → EntryValue C → RegistryValue WorldRule
+      → Type 0
+  DoesAtRegistry st e v a e2 v2 = (z : GateView) → Does st e z v a e2 z v2
+
+  abbrev pub DoesAlone : (ℕ → Step C) → EntryValue C → Answer → EntryValue C → Type 0
+  DoesAlone st e a e2 = (z : GateView) (v : RegistryValue WorldRule) → Does st e z v a e2 z v
+
+-- some history stands behind the entry
+pub record IsEntry {C : Type 0} (M : Meaning C) (e : EntryValue C) : Type 0 where
+  pub history : History C
+  pub number : ℕ
+  pub run : IsRun M history
+  pub is : EntryIs history number e

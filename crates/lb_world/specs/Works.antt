@@ -1,9 +1,32 @@
--- How the work that a world holds for a slot is seen.
-use Rattle.lb_world.specs.Views.{WorkView, nothing, building, ready}
-use Rattle.lb_world.specs.declared.entry.Work.{Work}
-use Rattle.lb_world.specs.declared.entry.Work.TheVariants as work
+-- What is held for a slot, of the program and as a history tells it.
+use Rattle.std.specs.Prelude.{ℕ, List, Option, Some, None}
+use Rattle.lb_select.specs.Backends.{Member, same_member}
+use Rattle.lb_group.specs.GroupHistory.{History, granted, granted_members}
+use Rattle.lb_group.specs.Values.{Task}
+use Rattle.lb_history.specs.History.{Work, idle}
+use Rattle.lb_history.specs.History as work
+use Rattle.lb_world.specs.Views.{WorkValue, nothing, building, ready, Origin}
+use Rattle.lb_world.specs.declared.held.Work as declared
+use Rattle.lb_world.specs.declared.held.Work.TheVariants as is
 
-abbrev pub work_view : {S I C : Type 0} → Work S I C → WorkView C
-work_view work.Nothing = nothing
-work_view (work.Building job) = building job
-work_view (work.Ready built) = ready built
+abbrev pub work_value : {S I C : Type 0} → declared.Work S I C → WorkValue C
+work_value is.Nothing = nothing
+work_value (is.Building j) = building j
+work_value (is.Ready b) = ready b
+
+-- the last job of a slot, after its past
+abbrev pub last_job : {C : Type 0} → Origin → ℕ → C → History → Task C
+last_job o slot c p =
+    record {
+      group = o.id;
+      slot = slot;
+      generation = granted p;
+      members = granted_members p;
+      config = c;
+      permit = o.gate;
+    }
+
+abbrev pub held_of : {C : Type 0} → Origin → ℕ → C → History → Work → WorkValue C
+held_of o slot c p idle = nothing
+held_of o slot c p work.building = building (last_job o slot c p)
+held_of o slot c p (work.built now) = ready (record { task = last_job o slot c p; ended = now })

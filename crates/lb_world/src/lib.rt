@@ -2,7 +2,8 @@
 //! Its contract is over histories: every answer is the one that the definitions give after what came before it.
 #![tactic(auto)]
 
-pub mod answer;
 mod entry;
-pub mod step;
+mod held;
+mod local;
+pub mod rule;
 pub mod world;

@@ -1,51 +1,56 @@
-//! The world: tables of registries, gates, groups and readers, and one method for each kind of step.
+//! The world: tables of registries, gates, groups and readers, and one method for all steps at a group.
 //! Its contract is over histories alone; what lies in the tables is no part of it.
-ghost use Rattle.std.specs.Prelude.{◌≡◌, List, [], ◌∷◌, IfOk, IfErr, OnErr, vec_len, map};
-ghost use Rattle.lb_world.specs.History.{History, after};
-ghost use Rattle.lb_world.specs.Meanings.{meaning_of};
-ghost use Rattle.lb_world.specs.Steps as seen;
-ghost use Rattle.lb_world.specs.Steps.{step_seen};
+ghost use Rattle.std.specs.Prelude.{◌≡◌, ◌∷◌, [], ℕ, map, IfOk, IfErr, vec_len};
+ghost use Rattle.lb_history.specs.Answers.{IsRun};
+ghost use Rattle.lb_history.specs.History.{History, after};
+ghost use Rattle.lb_history.specs.Meanings.{meaning_of};
+ghost use Rattle.lb_history.specs.Promises.{Promised, ViewFollows, LivesExactly, NeverFalls, Raises, DestroysExactly};
+ghost use Rattle.lb_history.specs.Selected.{FirstAccepted};
+ghost use Rattle.lb_history.specs.Steps as seen;
+ghost use Rattle.lb_history.specs.Steps.{step_seen};
+ghost use Rattle.lb_world.specs.Ever.{Always, EachStep};
+ghost use Rattle.lb_world.specs.Locals.{local_seen, IsWhole};
 ghost use Rattle.lb_world.specs.Stands.{Stands};
-ghost use Rattle.lb_world.specs.Lawful.{Always, EachStep, FirstAccepted, NewestServed, NeverFalls, FreeGateGrants, OneExtra, ExtrasAre};
-ghost use Rattle.lb_world.specs.Lawful.{ReadersExact};
 
-mod groups;
+mod made;
 mod readers;
+mod registries;
 
-use crate::answer::Answer;
-use crate::entry::{Entry, Held, Place, Work};
-use crate::step::{HealthKey, Step};
+use crate::entry::Entry;
+use crate::held::Held;
+use crate::local::{Local, has_refused};
+use crate::rule::WorldRegistry;
+use lb_history::answer::Answer;
+use lb_history::step::{Listing, Step};
 use lb_rebuild::gate::GateCore;
-use lb_rebuild::group::GroupCore;
 use lb_select::backend::Backend;
 use lb_select::refusal::Refusal;
 use lb_select::walk::BackendSelection;
 use std::alloc::Global;
-use std::collections::BTreeSet;
 use std::marker::Model;
-use std::mem;
 
 /// A world of registries, gates and groups over selectors of one type. It takes a step at a time.
+///
+/// Contracts see its tables; some history stands behind every world.
 pub struct World<S: BackendSelection> {
     alloc: Global,
-    registries: Vec<HealthKey>,
+    registries: Vec<WorldRegistry>,
     gates: Vec<GateCore>,
     groups: Vec<Entry<S>>,
     readers: Vec<Option<Held<S>>>,
 }
 
 impl<S: BackendSelection> Model for World<S> {
-    ghost use Rattle.lb_world.specs.Views.{WorldView};
+    ghost use Rattle.lb_world.specs.Views.{WorldValue};
+    ghost use Rattle.lb_world.specs.Founded.{world_value};
+    ghost use Rattle.lb_world.specs.Stands.{IsFounded};
+    ghost use Rattle.lb_history.specs.Meanings.{meaning_of};
 
-    ghost Value = { WorldView S.Config };
+    ghost Value = { WorldValue S.Config };
 
-    ghost use Rattle.std.specs.Prelude.{length};
-    ghost use Rattle.lb_world.specs.Meanings.{meaning_of};
-    ghost use Rattle.lb_world.specs.Founded.{IsFounded, world_view};
+    ghost view = { world_value };
 
-    ghost view = { world_view };
-
-    ghost invariant = { λ w. IsFounded (meaning_of S.BackendSelection) (world_view w) };
+    ghost invariant = { λ w. IsFounded (meaning_of S.BackendSelection) (world_value w) };
 }
 
 impl<S: BackendSelection> Drop for World<S> {
@@ -85,13 +90,13 @@ impl<S: BackendSelection> World<S> {
     }
 
     /// Takes one step, and answers it as the definitions do after any history that the world stands for. A refused step leaves
-    /// everything as it was, save that a selection refused for memory may have drawn words.
+    /// everything as it was, save that a selection refused for memory may have drawn tickets.
     pub fn step(&mut self, step: Step<S::Config>) -> Answer
         ensures { (h : History S.Config) → Stands (meaning_of S.BackendSelection) self.old h
             → Stands (meaning_of S.BackendSelection) self.new ((step_seen step, result) ∷ h) }
     {
         match step {
-            Step::Registry(key) => self.registry(key),
+            Step::Registry { rule, healthy } => self.registry(rule, healthy),
             Step::Gate => self.gate(),
             Step::Group {
                 registry,
@@ -101,14 +106,20 @@ impl<S: BackendSelection> World<S> {
             Step::Update {
                 group,
                 now,
-                backends,
-            } => self.update(group, now, backends),
-            Step::Ask { group, slot, now } => self.ask(group, slot, now),
-            Step::Build { group, slot, now } => self.build(group, slot, now),
-            Step::Publish { group, slot } => self.publish(group, slot),
+                listings,
+            } => self.update(group, now, listings),
+            Step::Ask { group, slot, now } => self.at_group(group, Local::Ask { slot, now }),
+            Step::Build { group, slot, now } => self.at_group(group, Local::Build { slot, now }),
+            Step::FailBuild { group, slot, now } => {
+                self.at_group(group, Local::FailBuild { slot, now })
+            }
+            Step::Lost { group, slot } => self.at_group(group, Local::Lost { slot }),
+            Step::Publish { group, slot } => self.at_group(group, Local::Publish { slot }),
+            Step::Abandon { group, slot } => self.at_group(group, Local::Abandon { slot }),
             Step::Enter { group, slot } => self.enter(group, slot),
+            Step::Ready { reader, backend } => self.ready(reader, backend),
             Step::Leave { reader } => self.leave(reader),
-            Step::Destroy { group, slot } => self.destroy(group, slot),
+            Step::Destroy { group, slot } => self.at_group(group, Local::Destroy { slot }),
             Step::Select {
                 group,
                 slot,
@@ -116,6 +127,23 @@ impl<S: BackendSelection> World<S> {
                 limit,
                 words,
             } => self.select(group, slot, &key, limit, &words),
+            Step::Verdict {
+                registry,
+                cell,
+                ok,
+                threshold,
+            } => self.verdict(registry, cell, ok, threshold),
+            Step::Enable { group, backend } => self.enable(group, backend),
+            Step::Disable { group, backend } => self.disable(group, backend),
+            Step::Cancel { group } => self.at_group(group, Local::Cancel),
+            Step::Targets { registry } => self.targets(registry),
+            Step::Counts { group, slot } => self.at_group(group, Local::Counts { slot }),
+            Step::Timing { group, slot } => self.at_group(group, Local::Timing { slot }),
+            Step::Load {
+                group,
+                backend,
+                load,
+            } => self.load(group, backend, load),
         }
     }
 
@@ -125,25 +153,27 @@ impl<S: BackendSelection> World<S> {
     ///
     /// `OutOfMemory` where the memory for the answers is refused; then no step was taken.
     pub fn run(&mut self, steps: Vec<Step<S::Config>>) -> Result<Vec<Answer>, Refusal>
-        ensures run { IfOk result (λ answers. (h : History S.Config) → Stands (meaning_of S.BackendSelection) self.old h
+        ensures stands { IfOk result (λ answers. (h : History S.Config) → Stands (meaning_of S.BackendSelection) self.old h
             → Stands (meaning_of S.BackendSelection) self.new (after h (map step_seen steps.items) answers.items)) }
+        ensures run { IfOk result (λ answers. (h : History S.Config) → Stands (meaning_of S.BackendSelection) self.old h
+            → IsRun (meaning_of S.BackendSelection) (after h (map step_seen steps.items) answers.items)) }
         ensures each { IfOk result (λ answers. vec_len answers ≡ vec_len steps) }
 
-        // Of the whole history, whatever it was before.
+        // Of the whole history and of each step in it, whatever it was before.
+        ensures promised { IfOk result (λ answers. (h : History S.Config) → Stands (meaning_of S.BackendSelection) self.old h
+            → Always (Promised (meaning_of S.BackendSelection)) (after h (map step_seen steps.items) answers.items)) }
+        ensures view_follows { IfOk result (λ answers. (h : History S.Config) → Stands (meaning_of S.BackendSelection) self.old h
+            → Always (λ k. (g : ℕ) → ViewFollows g k) (after h (map step_seen steps.items) answers.items)) }
+        ensures lives_exactly { IfOk result (λ answers. (h : History S.Config) → Stands (meaning_of S.BackendSelection) self.old h
+            → Always LivesExactly (after h (map step_seen steps.items) answers.items)) }
+        ensures never_falls { IfOk result (λ answers. (h : History S.Config) → Stands (meaning_of S.BackendSelection) self.old h
+            → EachStep NeverFalls (after h (map step_seen steps.items) answers.items)) }
         ensures first_accepted { IfOk result (λ answers. (h : History S.Config) → Stands (meaning_of S.BackendSelection) self.old h
             → EachStep (FirstAccepted (meaning_of S.BackendSelection)) (after h (map step_seen steps.items) answers.items)) }
-        ensures newest_served { IfOk result (λ answers. (h : History S.Config) → Stands (meaning_of S.BackendSelection) self.old h
-            → Always NewestServed (after h (map step_seen steps.items) answers.items)) }
-        ensures served_never_falls { IfOk result (λ answers. (h : History S.Config) → Stands (meaning_of S.BackendSelection) self.old h
-            → EachStep NeverFalls (after h (map step_seen steps.items) answers.items)) }
-        ensures free_gate_grants { IfOk result (λ answers. (h : History S.Config) → Stands (meaning_of S.BackendSelection) self.old h
-            → EachStep FreeGateGrants (after h (map step_seen steps.items) answers.items)) }
-        ensures one_extra { IfOk result (λ answers. (h : History S.Config) → Stands (meaning_of S.BackendSelection) self.old h
-            → Always OneExtra (after h (map step_seen steps.items) answers.items)) }
-        ensures extras_are { IfOk result (λ answers. (h : History S.Config) → Stands (meaning_of S.BackendSelection) self.old h
-            → Always ExtrasAre (after h (map step_seen steps.items) answers.items)) }
-        ensures readers_exact { IfOk result (λ answers. (h : History S.Config) → Stands (meaning_of S.BackendSelection) self.old h
-            → EachStep ReadersExact (after h (map step_seen steps.items) answers.items)) }
+        ensures raises { IfOk result (λ answers. (h : History S.Config) → Stands (meaning_of S.BackendSelection) self.old h
+            → EachStep Raises (after h (map step_seen steps.items) answers.items)) }
+        ensures destroys_exactly { IfOk result (λ answers. (h : History S.Config) → Stands (meaning_of S.BackendSelection) self.old h
+            → EachStep DestroysExactly (after h (map step_seen steps.items) answers.items)) }
 
         // Where the answers have no room, no step was taken.
         ensures err { IfErr result (λ r. (r ≡ Refusal.OutOfMemory) × (self.new ≡ self.old)) }
@@ -155,75 +185,85 @@ impl<S: BackendSelection> World<S> {
         Ok(answers)
     }
 
-    fn registry(&mut self, key: HealthKey) -> Answer
+    /// Takes a step that selects, and answers it as `step` does. Key and random words are lent, so that the step takes no memory
+    /// for them.
+    pub fn select(
+        &mut self,
+        group: u64,
+        slot: usize,
+        key: &[u8],
+        limit: usize,
+        words: &[u64],
+    ) -> Answer
         ensures { (h : History S.Config) → Stands (meaning_of S.BackendSelection) self.old h
-            → Stands (meaning_of S.BackendSelection) self.new ((seen.registry key, result) ∷ h) }
+            → Stands (meaning_of S.BackendSelection) self.new
+            ((seen.select group slot key.now limit words.now, result) ∷ h) }
     {
-        let number = self.registries.len() as u64;
-        let Ok(()) = self.registries.push(key) else {
-            return Answer::Refused(Refusal::OutOfMemory);
+        let local = Local::Select {
+            slot,
+            key,
+            limit,
+            words,
         };
-        Answer::Registry(number)
+        self.at_group(group, local)
     }
 
-    fn gate(&mut self) -> Answer
+    // Takes a step at a group, with the group's gate and registry.
+    fn at_group(&mut self, group: u64, local: Local<'_>) -> Answer
+        requires { IsWhole local }
         ensures { (h : History S.Config) → Stands (meaning_of S.BackendSelection) self.old h
-            → Stands (meaning_of S.BackendSelection) self.new ((seen.gate, result) ∷ h) }
-    {
-        let number = self.gates.len() as u64;
-        let Ok(gate) = GateCore::new(self.alloc) else {
-            return Answer::Refused(Refusal::OutOfMemory);
-        };
-        let Ok(()) = self.gates.push(gate) else {
-            return Answer::Refused(Refusal::OutOfMemory);
-        };
-        Answer::Gate(number)
-    }
-
-    fn ask(&mut self, group: u64, slot: u64, now: u128) -> Answer
-        ensures { (h : History S.Config) → Stands (meaning_of S.BackendSelection) self.old h
-            → Stands (meaning_of S.BackendSelection) self.new ((seen.ask group slot now, result) ∷ h) }
+            → Stands (meaning_of S.BackendSelection) self.new ((local_seen group local.entry, result) ∷ h) }
     {
         if group as usize >= self.groups.len() {
             return Answer::Refused(Refusal::NoSuch);
         }
         let entry = &mut self.groups[group as usize];
         let gate = &mut self.gates[entry.gate()];
-        entry.ask(slot as usize, gate)
+        let registry = &mut self.registries[entry.registry()];
+        entry.take(self.alloc, gate, registry, local)
     }
 
-    fn build(&mut self, group: u64, slot: u64, now: u128) -> Answer
+    fn update(&mut self, group: u64, now: u128, listings: Vec<Listing>) -> Answer
         ensures { (h : History S.Config) → Stands (meaning_of S.BackendSelection) self.old h
-            → Stands (meaning_of S.BackendSelection) self.new ((seen.build group slot now, result) ∷ h) }
+            → Stands (meaning_of S.BackendSelection) self.new
+            ((seen.update group now listings.items, result) ∷ h) }
     {
-        if group as usize >= self.groups.len() {
-            return Answer::Refused(Refusal::NoSuch);
+        if has_refused(&listings) {
+            return Answer::Refused(Refusal::InvalidAddress);
         }
-        let entry = &mut self.groups[group as usize];
-        let gate = &mut self.gates[entry.gate()];
-        entry.build(self.alloc, slot as usize, gate)
+        self.at_group(group, Local::Update { now, listings })
     }
 
-    fn publish(&mut self, group: u64, slot: u64) -> Answer
+    fn enable(&mut self, group: u64, backend: Option<Backend>) -> Answer
         ensures { (h : History S.Config) → Stands (meaning_of S.BackendSelection) self.old h
-            → Stands (meaning_of S.BackendSelection) self.new ((seen.publish group slot, result) ∷ h) }
+            → Stands (meaning_of S.BackendSelection) self.new
+            ((seen.enable group backend, result) ∷ h) }
     {
-        if group as usize >= self.groups.len() {
-            return Answer::Refused(Refusal::NoSuch);
-        }
-        let entry = &mut self.groups[group as usize];
-        entry.publish(slot as usize)
+        let Some(backend) = &backend else {
+            return Answer::Refused(Refusal::InvalidAddress);
+        };
+        self.at_group(group, Local::Enable { backend })
     }
 
-    fn destroy(&mut self, group: u64, slot: u64) -> Answer
+    fn disable(&mut self, group: u64, backend: Option<Backend>) -> Answer
         ensures { (h : History S.Config) → Stands (meaning_of S.BackendSelection) self.old h
-            → Stands (meaning_of S.BackendSelection) self.new ((seen.destroy group slot, result) ∷ h) }
+            → Stands (meaning_of S.BackendSelection) self.new
+            ((seen.disable group backend, result) ∷ h) }
     {
-        if group as usize >= self.groups.len() {
-            return Answer::Refused(Refusal::NoSuch);
-        }
-        let entry = &mut self.groups[group as usize];
-        let gate = &mut self.gates[entry.gate()];
-        entry.destroy(slot as usize, gate)
+        let Some(backend) = &backend else {
+            return Answer::Refused(Refusal::InvalidAddress);
+        };
+        self.at_group(group, Local::Disable { backend })
+    }
+
+    fn load(&mut self, group: u64, backend: Option<Backend>, load: u64) -> Answer
+        ensures { (h : History S.Config) → Stands (meaning_of S.BackendSelection) self.old h
+            → Stands (meaning_of S.BackendSelection) self.new
+            ((seen.load group backend load, result) ∷ h) }
+    {
+        let Some(backend) = &backend else {
+            return Answer::Refused(Refusal::InvalidAddress);
+        };
+        self.at_group(group, Local::Load { backend, load })
     }
 }

@@ -4,4 +4,4 @@ pub use lb_history::answer::{Answer, SlotCounts, TargetList};
 pub use lb_history::laws;
 pub use lb_history::step::{CellKey, Listing, Step};
 pub use lb_kinds::kinds::{Chosen, Kind};
-pub use lb_next_world::world::World;
+pub use lb_world::world::World;

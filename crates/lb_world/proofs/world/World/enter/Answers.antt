@@ -1,75 +1,170 @@
-use Rattle.std.proofs.Common.{◌≡◌, ◌<◌, ◌∙◌, length, arith, ap}
-use Rattle.std.specs.Prelude.{◌-◌, ◌^◌, ◌++◌, ◌∷◌, [], Some, refl}
-use Rattle.lb_world.specs.Founded.{world_view}
-use Rattle.lb_world.proofs.Founding.{at_index, founded_next}
-use Rattle.lb_world.proofs.FoundingMore.{enter_nowhere, enter_no_slot_here, enter_lacking_here, enter_refused_here, enter_full_here, enters}
-use Rattle.lb_world.proofs.Done.{agrees_of}
+-- The group's core lets the reader enter; the reader's number is that of its place.
+use Rattle.std.proofs.Common.{◌≡◌, ◌<◌, ◌≤◌, ◌∙◌, inl, inr, [], ◌∷◌, ◌++◌, List, length, ap, arith}
+use Rattle.std.specs.Prelude.{Some, Option}
+use Rattle.lb_select.specs.declared.refusal.Refusal.TheVariants as refusal
+use Rattle.lb_history.specs.declared.answer.Answer.TheVariants as answer
+use Rattle.lb_history.specs.Meanings.{meaning_of}
+use Rattle.lb_history.specs.Steps as seen
+use Rattle.lb_world.specs.Founded.{world_value}
+use Rattle.lb_world.specs.Views.{HeldValue}
+use Rattle.lb_world.proofs.Next.{founded}
+use Rattle.lb_world.proofs.ReaderSteps.{enter-nowhere, enter-absent, enter-full, enter-memory, entered-now, refused-now}
+use Rattle.lb_world.proofs.TaskSteps.{at-place}
 use Rattle.lb_world.proofs.world.World.enter.Goals as goal
+use Rattle.lb_world.proofs.world.World.enter.Goals.{then-number-via-then-number, then-number-via-else-number+then-readers}
 
 pub returns-then-group-len : goal.returns-then-group-len
 returns-then-group-len g c =
     rw (← c.self.view_is)
-    (λ h stands. enter_nowhere _ (world_view c.self.inside) h c.args.group c.args.slot c.self.invariant.sound stands (omega arith))
-
-pub returns-then-slot-slot_count : goal.returns-then-slot-slot_count
-returns-then-slot-slot_count g c =
-    let l : c.args.group < length c.self.inside.groups.items = omega arith in
-    let at_group = at_index _ _ _ l c.index_mut-entry.ensures.value in
-    rw (← c.self.view_is)
-    (λ h stands. enter_no_slot_here _ (world_view c.self.inside) h c.args.group c.args.slot _ c.self.invariant.sound stands at_group (omega (arith, c.slot_count.ensures)))
-
-pub returns-then-number : goal.returns-then-number
-returns-then-number g c =
-    let l : c.args.group < length c.self.inside.groups.items = omega arith in
-    let at_group = at_index _ _ _ l c.index_mut-entry.ensures.value in
-    rw (← c.self.view_is)
-    (λ h stands.
-    enter_full_here _ (world_view c.self.inside) h c.args.group c.args.slot _ c.self.invariant.sound stands at_group
-    (omega (arith, c.slot_count.ensures)) (omega (arith, c.len-number.ensures, c.if-number.true)))
+    (λ h s.
+    enter-nowhere (meaning_of g.S.BackendSelection) (world_value c.self.inside) h c.args.group c.args.slot
+    (let past : length c.self.inside.groups.items ≤ c.args.group = omega arith in past) s)
 
 pub returns-in_default : goal.returns-in_default
 returns-in_default g c =
-    let l : c.args.group < length c.self.inside.groups.items = omega arith in
-    let at_group = at_index _ _ _ l c.index_mut-entry.ensures.value in
-    let numbers : length c.self.inside.readers.items < 2 ^ 64 - 1 = omega (arith, c.len-number.ensures, c.len-number.type_inv, c.if-number.false) in
+    let within : c.args.group < length c.self.inside.groups.items = omega arith in
+    let at = at-place c.self.inside.groups.items c.args.group c.index_mut-entry.result.now within c.index_mut-entry.ensures.value in
     rw (← c.self.view_is)
-    (λ h stands.
-    enter_lacking_here _ (world_view c.self.inside) h c.args.group c.args.slot _ _ c.self.invariant.sound stands at_group
-    (omega (arith, c.slot_count.ensures)) numbers c.reserve.ensures.items)
+    (λ h s.
+    enter-absent (meaning_of g.S.BackendSelection)
+    (world_value c.self.inside) h c.args.group c.args.slot c.index_mut-entry.result.now c.readers.result at
+    (c.readers.ensures _ _ (s.each _ _ at).core_is) c.in_default.is s)
 
-pub enter-requires : goal.enter-requires
-enter-requires g c =
-    let l : c.args.group < length c.self.inside.groups.items = omega arith in
-    let at_group = at_index _ _ _ l c.index_mut-entry.ensures.value in
-    record { agrees = agrees_of (world_view c.self.inside) _ _ c.self.invariant.sound at_group }
+pub invariant_of-self-then-number : goal.invariant_of-self-then-number
+invariant_of-self-then-number g c =
+    let within : c.args.group < length c.self.inside.groups.items = omega arith in
+    let at = at-place c.self.inside.groups.items c.args.group c.index_mut-entry.result.now within c.index_mut-entry.ensures.value in
+    elim c.then-number.branch [
+      | then-number-via-then-number w ↦
+          rw w.self-inside-is
+          (founded (meaning_of g.S.BackendSelection) (world_value c.self.inside) _ (seen.enter c.args.group c.args.slot)
+          (answer.Refused refusal.NumbersExhausted)
+          c.self.invariant
+          (λ h s.
+          enter-full (meaning_of g.S.BackendSelection)
+          (world_value c.self.inside) h c.args.group c.args.slot c.index_mut-entry.result.now c.readers.result
+          c.in-Some.readers at (c.readers.ensures _ _ (s.each _ _ at).core_is) c.in-Some.is
+          (inl (let many : length c.self.inside.readers.items ≡ 18446744073709551615 = omega
+          (arith, c.len-number.ensures, w.if-number.true) in many)) s))
+      | then-number-via-else-number+then-readers w ↦
+          rw w.self-inside-is
+          (founded (meaning_of g.S.BackendSelection) (world_value c.self.inside) _ (seen.enter c.args.group c.args.slot)
+          (answer.Refused refusal.NumbersExhausted)
+          c.self.invariant
+          (λ h s.
+          enter-full (meaning_of g.S.BackendSelection)
+          (world_value c.self.inside) h c.args.group c.args.slot c.index_mut-entry.result.now c.readers.result
+          c.in-Some.readers at (c.readers.ensures _ _ (s.each _ _ at).core_is) c.in-Some.is
+          (inr (let many : c.in-Some.readers ≡ 18446744073709551615 = omega (arith, w.if-readers.true) in many)) s))
+    ]
+
+pub returns-then-number : goal.returns-then-number
+returns-then-number g c =
+    let within : c.args.group < length c.self.inside.groups.items = omega arith in
+    let at = at-place c.self.inside.groups.items c.args.group c.index_mut-entry.result.now within c.index_mut-entry.ensures.value in
+    rw (← c.self.view_is)
+    (λ h s.
+    elim c.then-number.branch [
+      | then-number-via-then-number w ↦
+          rw w.self-inside-is
+          (enter-full (meaning_of g.S.BackendSelection)
+          (world_value c.self.inside) h c.args.group c.args.slot c.index_mut-entry.result.now c.readers.result
+          c.in-Some.readers at (c.readers.ensures _ _ (s.each _ _ at).core_is) c.in-Some.is
+          (inl (let many : length c.self.inside.readers.items ≡ 18446744073709551615 = omega
+          (arith, c.len-number.ensures, w.if-number.true) in many)) s)
+      | then-number-via-else-number+then-readers w ↦
+          rw w.self-inside-is
+          (enter-full (meaning_of g.S.BackendSelection)
+          (world_value c.self.inside) h c.args.group c.args.slot c.index_mut-entry.result.now c.readers.result
+          c.in-Some.readers at (c.readers.ensures _ _ (s.each _ _ at).core_is) c.in-Some.is
+          (inr (let many : c.in-Some.readers ≡ 18446744073709551615 = omega (arith, w.if-readers.true) in many)) s)
+    ])
+
+pub returns-in_default-reserve : goal.returns-in_default-reserve
+returns-in_default-reserve g c =
+    let within : c.args.group < length c.self.inside.groups.items = omega arith in
+    let at = at-place c.self.inside.groups.items c.args.group c.index_mut-entry.result.now within c.index_mut-entry.ensures.value in
+    let few : ¬ (length c.self.inside.readers.items ≡ 18446744073709551615) =
+    λ is. omega (arith, is, c.len-number.ensures, c.if-number.false) in
+    let left : ¬ (c.in-Some.readers ≡ 18446744073709551615) = λ is. omega (arith, is, c.if-readers.false) in
+    rw (← c.self.view_is, c.reserve.ensures.items)
+    (λ h s.
+    enter-memory (meaning_of g.S.BackendSelection)
+    (world_value c.self.inside) h c.args.group c.args.slot c.index_mut-entry.result.now c.readers.result
+    c.in-Some.readers at (c.readers.ensures _ _ (s.each _ _ at).core_is) c.in-Some.is few left s)
 
 pub invariant_of-self-in-Ok-enter : goal.invariant_of-self-in-Ok-enter
 invariant_of-self-in-Ok-enter g c =
-    let l : c.args.group < length c.self.inside.groups.items = omega arith in
-    let at_group = at_index _ _ _ l c.index_mut-entry.ensures.value in
-    let numbers : length c.self.inside.readers.items < 2 ^ 64 - 1 = omega (arith, c.len-number.ensures, c.len-number.type_inv, c.if-number.false) in
-    founded_next _ (world_view c.self.inside) _ _ _ c.self.invariant
-    (λ h stands.
-    enters _ (world_view c.self.inside) h c.args.group c.args.slot _ _ _ (length c.self.inside.readers.items) _ c.self.invariant.sound stands at_group numbers
-    (rw c.in-Ok-enter.is at c.enter.ensures) refl (c.push_reserved.ensures.items ∙ ap (λ l. l ++ Some (record { group = c.args.group; slot = c.in-Ok-enter.reader.slot; generation = c.in-Ok-enter.reader.generation }) ∷ []) c.reserve.ensures.items))
+    let within : c.args.group < length c.self.inside.groups.items = omega arith in
+    let at = at-place c.self.inside.groups.items c.args.group c.index_mut-entry.result.now within c.index_mut-entry.ensures.value in
+    let few : ¬ (length c.self.inside.readers.items ≡ 18446744073709551615) =
+    λ is. omega (arith, is, c.len-number.ensures, c.if-number.false) in
+    let left : ¬ (c.in-Some.readers ≡ 18446744073709551615) = λ is. omega (arith, is, c.if-readers.false) in
+    let grown : c.push_reserved.new.self.items ≡ c.self.inside.readers.items
+    ++ Some (record { group = c.args.group; reader = c.in-Ok-enter.reader }) ∷ [] =
+    c.push_reserved.ensures.items
+    ∙ ap (λ (l : List (Option (HeldValue g.row.S-Config.Denot))). l
+    ++ Some (record { group = c.args.group; reader = c.in-Ok-enter.reader }) ∷ []) c.reserve.ensures.items in
+    let last : c.len-number.result ≡ length c.self.inside.readers.items = omega arith in
+    founded (meaning_of g.S.BackendSelection) (world_value c.self.inside) _ (seen.enter c.args.group c.args.slot)
+    (answer.Reader c.len-number.result c.in-Ok-enter.reader.generation) c.self.invariant
+    (λ h s.
+    entered-now (meaning_of g.S.BackendSelection)
+    (world_value c.self.inside) h c.args.group c.args.slot c.len-number.result c.index_mut-entry.result.now
+    c.enter.new.self c.push_reserved.new.self.items c.readers.result c.in-Some.readers c.in-Ok-enter.reader at c.enter.ensures.rest grown
+    (c.readers.ensures _ _ (s.each _ _ at).core_is) c.in-Some.is few left last c.enter.ensures.site
+    (c.in-Ok-enter.ensures.stands _ _ (s.each _ _ at).core_is)
+    (c.in-Ok-enter.ensures.answers _ _ (s.each _ _ at).core_is) c.in-Ok-enter.ensures.own s)
+
+pub invariant_of-self-in-Err : goal.invariant_of-self-in-Err
+invariant_of-self-in-Err g c =
+    let within : c.args.group < length c.self.inside.groups.items = omega arith in
+    let at = at-place c.self.inside.groups.items c.args.group c.index_mut-entry.result.now within c.index_mut-entry.ensures.value in
+    let few : ¬ (length c.self.inside.readers.items ≡ 18446744073709551615) =
+    λ is. omega (arith, is, c.len-number.ensures, c.if-number.false) in
+    let left : ¬ (c.in-Some.readers ≡ 18446744073709551615) = λ is. omega (arith, is, c.if-readers.false) in
+    founded (meaning_of g.S.BackendSelection) (world_value c.self.inside) _ (seen.enter c.args.group c.args.slot)
+    (answer.Refused c.in-Err.refusal) c.self.invariant
+    (λ h s.
+    refused-now (meaning_of g.S.BackendSelection) (world_value c.self.inside) h c.args.group c.args.slot c.index_mut-entry.result.now
+    c.enter.new.self c.reserve.new.self.items c.readers.result c.in-Some.readers c.in-Err.refusal at c.enter.ensures.rest
+    c.reserve.ensures.items
+    (c.readers.ensures _ _ (s.each _ _ at).core_is) c.in-Some.is few left c.enter.ensures.site
+    (c.in-Err.ensures.stands _ _ (s.each _ _ at).core_is) (c.in-Err.ensures.answers _ _ (s.each _ _ at).core_is) s)
 
 pub returns-in-Ok-enter : goal.returns-in-Ok-enter
 returns-in-Ok-enter g c =
-    let l : c.args.group < length c.self.inside.groups.items = omega arith in
-    let at_group = at_index _ _ _ l c.index_mut-entry.ensures.value in
-    let numbers : length c.self.inside.readers.items < 2 ^ 64 - 1 = omega (arith, c.len-number.ensures, c.len-number.type_inv, c.if-number.false) in
+    let within : c.args.group < length c.self.inside.groups.items = omega arith in
+    let at = at-place c.self.inside.groups.items c.args.group c.index_mut-entry.result.now within c.index_mut-entry.ensures.value in
+    let few : ¬ (length c.self.inside.readers.items ≡ 18446744073709551615) =
+    λ is. omega (arith, is, c.len-number.ensures, c.if-number.false) in
+    let left : ¬ (c.in-Some.readers ≡ 18446744073709551615) = λ is. omega (arith, is, c.if-readers.false) in
+    let grown : c.push_reserved.new.self.items ≡ c.self.inside.readers.items
+    ++ Some (record { group = c.args.group; reader = c.in-Ok-enter.reader }) ∷ [] =
+    c.push_reserved.ensures.items
+    ∙ ap (λ (l : List (Option (HeldValue g.row.S-Config.Denot))). l
+    ++ Some (record { group = c.args.group; reader = c.in-Ok-enter.reader }) ∷ []) c.reserve.ensures.items in
     let last : c.len-number.result ≡ length c.self.inside.readers.items = omega arith in
-    rw (← c.self.view_is)
-    (λ h stands.
-    (enters _ (world_view c.self.inside) h c.args.group c.args.slot _ _ _ _ _ c.self.invariant.sound stands at_group numbers
-    (rw c.in-Ok-enter.is at c.enter.ensures) last (c.push_reserved.ensures.items ∙ ap (λ l. l ++ Some (record { group = c.args.group; slot = c.in-Ok-enter.reader.slot; generation = c.in-Ok-enter.reader.generation }) ∷ []) c.reserve.ensures.items)).1)
+    rw (← c.self.view_is, c.generation-generation.ensures)
+    (λ h s.
+    entered-now (meaning_of g.S.BackendSelection)
+    (world_value c.self.inside) h c.args.group c.args.slot c.len-number.result c.index_mut-entry.result.now
+    c.enter.new.self c.push_reserved.new.self.items c.readers.result c.in-Some.readers c.in-Ok-enter.reader at c.enter.ensures.rest grown
+    (c.readers.ensures _ _ (s.each _ _ at).core_is) c.in-Some.is few left last c.enter.ensures.site
+    (c.in-Ok-enter.ensures.stands _ _ (s.each _ _ at).core_is)
+    (c.in-Ok-enter.ensures.answers _ _ (s.each _ _ at).core_is) c.in-Ok-enter.ensures.own s)
 
 pub returns-in-Err : goal.returns-in-Err
 returns-in-Err g c =
-    let l : c.args.group < length c.self.inside.groups.items = omega arith in
-    let at_group = at_index _ _ _ l c.index_mut-entry.ensures.value in
-    let numbers : length c.self.inside.readers.items < 2 ^ 64 - 1 = omega (arith, c.len-number.ensures, c.len-number.type_inv, c.if-number.false) in
+    let within : c.args.group < length c.self.inside.groups.items = omega arith in
+    let at = at-place c.self.inside.groups.items c.args.group c.index_mut-entry.result.now within c.index_mut-entry.ensures.value in
+    let few : ¬ (length c.self.inside.readers.items ≡ 18446744073709551615) =
+    λ is. omega (arith, is, c.len-number.ensures, c.if-number.false) in
+    let left : ¬ (c.in-Some.readers ≡ 18446744073709551615) = λ is. omega (arith, is, c.if-readers.false) in
     rw (← c.self.view_is)
-    (λ h stands.
-    enter_refused_here _ (world_view c.self.inside) h c.args.group c.args.slot _ _ _ _ c.self.invariant.sound stands at_group numbers
-    (rw c.in-Err.is at c.enter.ensures) c.reserve.ensures.items)
+    (λ h s.
+    refused-now (meaning_of g.S.BackendSelection) (world_value c.self.inside) h c.args.group c.args.slot c.index_mut-entry.result.now
+    c.enter.new.self c.reserve.new.self.items c.readers.result c.in-Some.readers c.in-Err.refusal at c.enter.ensures.rest
+    c.reserve.ensures.items
+    (c.readers.ensures _ _ (s.each _ _ at).core_is) c.in-Some.is few left c.enter.ensures.site
+    (c.in-Err.ensures.stands _ _ (s.each _ _ at).core_is) (c.in-Err.ensures.answers _ _ (s.each _ _ at).core_is) s)

@@ -1,80 +1,218 @@
-use Rattle.std.proofs.Common.{◌≡◌, ◌∷◌, None, true, length, refl, sym, ap, subst, map, [], arith}
-use Rattle.std.specs.Prelude.{nat_lt, ◌&&◌}
+-- Where no cause stands, the entry that is new joins the groups, over its registry and its gate.
+use Rattle.std.proofs.Common.{◌≡◌, ◌∙◌, [], ◌∷◌, ◌++◌, List, length, map, refl, sym, ap, subst, arith}
+use Rattle.std.specs.Prelude.{slice_set}
+use Rattle.lb_select.specs.Backends.{Member}
 use Rattle.lb_select.specs.Refusals.{earlier, least}
-use Rattle.lb_world.specs.declared.answer.Answer.TheVariants as answer
-use Rattle.lb_world.specs.Answers.{no_such, IsFor}
-use Rattle.lb_world.specs.Founded.{world_view}
-use Rattle.lb_world.specs.Meanings.{meaning_of}
+use Rattle.lb_select.specs.declared.refusal.Refusal.TheVariants as refusal
+use Rattle.lb_registry.specs.Registry.{IsRegistryAfter}
+use Rattle.lb_registry.specs.RegistryEvents.{Event}
+use Rattle.lb_history.specs.Answers.{no_such}
+use Rattle.lb_history.specs.declared.answer.Answer.TheVariants as answer
+use Rattle.lb_history.specs.Meanings.{meaning_of}
+use Rattle.lb_history.specs.Steps as seen
+use Rattle.lb_world.specs.Founded.{world_value}
+use Rattle.lb_world.specs.Rules.{key_gives}
 use Rattle.lb_world.specs.Stands.{Stands}
-use Rattle.lb_world.specs.Steps as seen
-use Rattle.lb_world.specs.Views.{WorldView}
-use Rattle.lb_world.proofs.Founding.{founded_next}
-use Rattle.lb_world.proofs.FoundingMore.{group_is_refused}
-use Rattle.lb_world.proofs.GroupTold.{first_test, second_test, group_told}
+use Rattle.lb_world.specs.Views.{EntryValue}
+use Rattle.lb_world.proofs.GroupSteps.{first-test, second-test, in-tables, none-stands, not-full, group-caused, group-is-full}
+use Rattle.lb_world.proofs.GroupSteps.{group-lacks, group-is-right}
+use Rattle.lb_world.proofs.Making.{group-made}
+use Rattle.lb_world.proofs.Next.{founded}
+use Rattle.lb_world.proofs.RegistrySteps.{refused-so}
+use Rattle.lb_world.proofs.TaskSteps.{at-place}
 use Rattle.lb_world.proofs.world.World.group.Goals as goal
-use Rattle.lb_world.proofs.world.World.group.Goals.{then-registry-len, else-registry-len, then-not-is_there-via-then-not-is_there, then-not-is_there-via-else-not-is_there+then-is_err}
+use Rattle.lb_world.proofs.world.World.group.Goals.{then-registry-len, else-registry-len}
 
-pub returns-then-not-is_there : goal.returns-then-not-is_there
-returns-then-not-is_there g c =
-    let there : c.if-registry-len.is_there ≡ (nat_lt c.args.registry (length c.self.inside.registries.items) && nat_lt c.args.gate (length c.self.inside.gates.items)) =
+pub returns-in-Some : goal.returns-in-Some
+returns-in-Some g c =
+    let there : c.if-registry-len.is_there ≡ in-tables (world_value c.self.inside) c.args.registry c.args.gate =
     elim c.if-registry-len.branch [
       | then-registry-len w ↦
-          second_test _ c.args.registry _ c.len.result c.args.gate _ w.len-then-registry-len.result (omega arith) (omega arith) w.if-registry-len.true w.is_there-is
-      | else-registry-len w ↦ first_test _ c.args.registry _ c.len.result c.args.gate _ (omega arith) w.if-registry-len.false w.is_there-is
+          second-test _ c.args.registry _ c.len.result c.args.gate _ w.len-then-registry-len.result (omega arith)
+          (omega arith) w.if-registry-len.true w.is_there-is
+      | else-registry-len w ↦ first-test _ c.args.registry _ c.len.result c.args.gate _ (omega arith) w.if-registry-len.false w.is_there-is
     ] in
-    let same : world_view c.then-not-is_there.self-inside ≡ world_view c.self.inside =
-    elim c.then-not-is_there.branch [
-      | then-not-is_there-via-then-not-is_there w ↦ ap (λ (i : _). world_view i) w.self-inside-is
-      | then-not-is_there-via-else-not-is_there+then-is_err w ↦ rw (w.self-inside-is, w.reserve.ensures.items) refl
-    ] in
+    let reason : c.least_refusal-cause.result ≡ least (map (g.S.BackendSelection.refusal []) c.args.configs.items) =
+    rw c.deref.ensures.value at c.least_refusal-cause.ensures in
     rw (← c.self.view_is)
-    (λ h stands.
-    subst (λ (v : WorldView _). Stands (meaning_of g.S.BackendSelection) v ((seen.group c.args.registry c.args.gate c.args.configs.items, answer.Refused c.group_refusal.result) ∷ h)) (sym same)
-    (group_is_refused _ (world_view c.self.inside) h c.args.registry c.args.gate c.args.configs.items c.group_refusal.result c.self.invariant.sound stands
-    (rw (← there) (rw c.deref.ensures.value at c.group_refusal.ensures))))
+    (λ h s.
+    group-caused (meaning_of g.S.BackendSelection)
+    (world_value c.self.inside) h c.args.registry c.args.gate c.args.configs.items c.if-registry-len.is_there
+    c.in-Some.refusal there (ap (earlier (no_such c.if-registry-len.is_there)) (sym reason) ∙ sym c.earlier_cause.ensures ∙ c.in-Some.is) s)
 
-pub invariant_of-self-in-Ok : goal.invariant_of-self-in-Ok
-invariant_of-self-in-Ok g c =
-    let there : c.if-registry-len.is_there ≡ (nat_lt c.args.registry (length c.self.inside.registries.items) && nat_lt c.args.gate (length c.self.inside.gates.items)) =
+pub returns-then-is_full : goal.returns-then-is_full
+returns-then-is_full g c =
+    let there : c.if-registry-len.is_there ≡ in-tables (world_value c.self.inside) c.args.registry c.args.gate =
     elim c.if-registry-len.branch [
       | then-registry-len w ↦
-          second_test _ c.args.registry _ c.len.result c.args.gate _ w.len-then-registry-len.result (omega arith) (omega arith) w.if-registry-len.true w.is_there-is
-      | else-registry-len w ↦ first_test _ c.args.registry _ c.len.result c.args.gate _ (omega arith) w.if-registry-len.false w.is_there-is
+          second-test _ c.args.registry _ c.len.result c.args.gate _ w.len-then-registry-len.result (omega arith)
+          (omega arith) w.if-registry-len.true w.is_there-is
+      | else-registry-len w ↦ first-test _ c.args.registry _ c.len.result c.args.gate _ (omega arith) w.if-registry-len.false w.is_there-is
     ] in
-    let free : earlier (no_such c.if-registry-len.is_there) (least (map (g.S.BackendSelection.refusal []) c.args.configs.items)) ≡ None =
-    rw c.if-not-is_there.false c.in-Ok.ensures.0 in
-    founded_next _ (world_view c.self.inside) _ _ _ c.self.invariant
-    (group_told _ (world_view c.self.inside) c.args.registry c.args.gate _ _ c.args.configs.items c.in-Ok.entry c.push_reserved.new.self.items c.self.invariant.sound
-    (rw (← there) free)
-    c.index.ensures c.in-Ok.ensures.1 (rw c.reserve.ensures.items at c.push_reserved.ensures.items) refl)
-
-pub returns-in-Ok : goal.returns-in-Ok
-returns-in-Ok g c =
-    let there : c.if-registry-len.is_there ≡ (nat_lt c.args.registry (length c.self.inside.registries.items) && nat_lt c.args.gate (length c.self.inside.gates.items)) =
-    elim c.if-registry-len.branch [
-      | then-registry-len w ↦
-          second_test _ c.args.registry _ c.len.result c.args.gate _ w.len-then-registry-len.result (omega arith) (omega arith) w.if-registry-len.true w.is_there-is
-      | else-registry-len w ↦ first_test _ c.args.registry _ c.len.result c.args.gate _ (omega arith) w.if-registry-len.false w.is_there-is
-    ] in
-    let free : earlier (no_such c.if-registry-len.is_there) (least (map (g.S.BackendSelection.refusal []) c.args.configs.items)) ≡ None =
-    rw c.if-not-is_there.false c.in-Ok.ensures.0 in
-    let last : c.len-number.result ≡ length c.self.inside.groups.items = omega arith in
+    let reason : c.least_refusal-cause.result ≡ least (map (g.S.BackendSelection.refusal []) c.args.configs.items) =
+    rw c.deref.ensures.value at c.least_refusal-cause.ensures in
+    let free = none-stands (world_value c.self.inside) c.args.registry c.args.gate c.if-registry-len.is_there
+    (least (map (g.S.BackendSelection.refusal []) c.args.configs.items)) there
+    (ap (earlier (no_such c.if-registry-len.is_there)) (sym reason) ∙ sym c.earlier_cause.ensures ∙ c.in_default.is) in
+    let at = at-place c.self.inside.registries.items c.args.registry c.index_mut-registry.result.now free.0
+    c.index_mut-registry.ensures.value in
     rw (← c.self.view_is)
-    (λ h stands.
-    (group_told _ (world_view c.self.inside) c.args.registry c.args.gate c.len-number.result _ c.args.configs.items c.in-Ok.entry c.push_reserved.new.self.items c.self.invariant.sound
-    (rw (← there) free)
-    c.index.ensures c.in-Ok.ensures.1 (rw c.reserve.ensures.items at c.push_reserved.ensures.items) last h stands).1)
+    (λ h s.
+    group-is-full (meaning_of g.S.BackendSelection)
+    (world_value c.self.inside) h c.args.registry c.args.gate c.args.configs.items c.index_mut-registry.result.now
+    at free.1 free.2 (λ k es now. (c.is_full.ensures k es now).0 c.if-is_full.true) s)
+
+pub returns-in_default-reserve : goal.returns-in_default-reserve
+returns-in_default-reserve g c =
+    let there : c.if-registry-len.is_there ≡ in-tables (world_value c.self.inside) c.args.registry c.args.gate =
+    elim c.if-registry-len.branch [
+      | then-registry-len w ↦
+          second-test _ c.args.registry _ c.len.result c.args.gate _ w.len-then-registry-len.result (omega arith)
+          (omega arith) w.if-registry-len.true w.is_there-is
+      | else-registry-len w ↦ first-test _ c.args.registry _ c.len.result c.args.gate _ (omega arith) w.if-registry-len.false w.is_there-is
+    ] in
+    let reason : c.least_refusal-cause.result ≡ least (map (g.S.BackendSelection.refusal []) c.args.configs.items) =
+    rw c.deref.ensures.value at c.least_refusal-cause.ensures in
+    let free = none-stands (world_value c.self.inside) c.args.registry c.args.gate c.if-registry-len.is_there
+    (least (map (g.S.BackendSelection.refusal []) c.args.configs.items)) there
+    (ap (earlier (no_such c.if-registry-len.is_there)) (sym reason) ∙ sym c.earlier_cause.ensures ∙ c.in_default.is) in
+    let at = at-place c.self.inside.registries.items c.args.registry c.index_mut-registry.result.now free.0
+    c.index_mut-registry.ensures.value in
+    let left = λ (k : Member → Member) (es : List Event) (now : IsRegistryAfter key_gives k es c.index_mut-registry.result.now).
+    not-full _ _ (c.is_full.ensures k es now) c.if-is_full.false in
+    rw (← c.self.view_is, c.reserve.ensures.items)
+    (λ h s.
+    group-lacks (meaning_of g.S.BackendSelection)
+    (world_value c.self.inside) h c.args.registry c.args.gate c.args.configs.items refusal.OutOfMemory
+    c.index_mut-registry.result.now c.index_mut-registry.result.now at free.1 free.2 left (λ k es now. refl) (λ k es now. now) s)
+
+pub invariant_of-self-in-Ok-new : goal.invariant_of-self-in-Ok-new
+invariant_of-self-in-Ok-new g c =
+    let there : c.if-registry-len.is_there ≡ in-tables (world_value c.self.inside) c.args.registry c.args.gate =
+    elim c.if-registry-len.branch [
+      | then-registry-len w ↦
+          second-test _ c.args.registry _ c.len.result c.args.gate _ w.len-then-registry-len.result (omega arith)
+          (omega arith) w.if-registry-len.true w.is_there-is
+      | else-registry-len w ↦ first-test _ c.args.registry _ c.len.result c.args.gate _ (omega arith) w.if-registry-len.false w.is_there-is
+    ] in
+    let reason : c.least_refusal-cause.result ≡ least (map (g.S.BackendSelection.refusal []) c.args.configs.items) =
+    rw c.deref.ensures.value at c.least_refusal-cause.ensures in
+    let free = none-stands (world_value c.self.inside) c.args.registry c.args.gate c.if-registry-len.is_there
+    (least (map (g.S.BackendSelection.refusal []) c.args.configs.items)) there
+    (ap (earlier (no_such c.if-registry-len.is_there)) (sym reason) ∙ sym c.earlier_cause.ensures ∙ c.in_default.is) in
+    let at = at-place c.self.inside.registries.items c.args.registry c.index_mut-registry.result.now free.0
+    c.index_mut-registry.ensures.value in
+    let left = λ (k : Member → Member) (es : List Event) (now : IsRegistryAfter key_gives k es c.index_mut-registry.result.now).
+    not-full _ _ (c.is_full.ensures k es now) c.if-is_full.false in
+    let at-gate = at-place c.self.inside.gates.items c.args.gate c.index.result.now free.1 c.index.ensures in
+    let last : c.len-number.result ≡ length c.self.inside.groups.items =
+    omega (arith, c.len-number.ensures, ap length c.reserve.ensures.items) in
+    founded (meaning_of g.S.BackendSelection) (world_value c.self.inside) _ (seen.group c.args.registry c.args.gate c.args.configs.items)
+    (answer.Group c.len-number.result) c.self.invariant
+    (λ h s.
+    subst (λ (es : List (EntryValue g.row.S-Config.Denot)).
+    Stands (meaning_of g.S.BackendSelection)
+    (record (world_value c.self.inside)
+    { registries = slice_set c.self.inside.registries.items c.args.registry c.new.new.registry; groups = es })
+    ((seen.group c.args.registry c.args.gate c.args.configs.items, answer.Group c.len-number.result) ∷ h))
+    (sym (c.push_reserved.ensures.items
+    ∙ ap (λ (es : List (EntryValue g.row.S-Config.Denot)). es ++ c.in-Ok-new.entry ∷ []) c.reserve.ensures.items))
+    (let new = c.in-Ok-new.ensures.made _ _ (s.kept _ _ at) in
+    group-made (meaning_of g.S.BackendSelection)
+    (world_value c.self.inside) h c.args.registry c.args.gate c.len-number.result c.args.configs.items
+    c.index.result.now c.index_mut-registry.result.now c.new.new.registry c.in-Ok-new.entry last at at-gate new.0 new.1
+    (group-is-right (meaning_of g.S.BackendSelection)
+    (world_value c.self.inside) h c.args.registry c.args.gate c.len-number.result c.args.configs.items
+    c.index_mut-registry.result.now at free.1 free.2 left last s) s))
+
+pub invariant_of-self-in-Err : goal.invariant_of-self-in-Err
+invariant_of-self-in-Err g c =
+    let there : c.if-registry-len.is_there ≡ in-tables (world_value c.self.inside) c.args.registry c.args.gate =
+    elim c.if-registry-len.branch [
+      | then-registry-len w ↦
+          second-test _ c.args.registry _ c.len.result c.args.gate _ w.len-then-registry-len.result (omega arith)
+          (omega arith) w.if-registry-len.true w.is_there-is
+      | else-registry-len w ↦ first-test _ c.args.registry _ c.len.result c.args.gate _ (omega arith) w.if-registry-len.false w.is_there-is
+    ] in
+    let reason : c.least_refusal-cause.result ≡ least (map (g.S.BackendSelection.refusal []) c.args.configs.items) =
+    rw c.deref.ensures.value at c.least_refusal-cause.ensures in
+    let free = none-stands (world_value c.self.inside) c.args.registry c.args.gate c.if-registry-len.is_there
+    (least (map (g.S.BackendSelection.refusal []) c.args.configs.items)) there
+    (ap (earlier (no_such c.if-registry-len.is_there)) (sym reason) ∙ sym c.earlier_cause.ensures ∙ c.in_default.is) in
+    let at = at-place c.self.inside.registries.items c.args.registry c.index_mut-registry.result.now free.0
+    c.index_mut-registry.ensures.value in
+    let left = λ (k : Member → Member) (es : List Event) (now : IsRegistryAfter key_gives k es c.index_mut-registry.result.now).
+    not-full _ _ (c.is_full.ensures k es now) c.if-is_full.false in
+    rw c.reserve.ensures.items
+    (founded (meaning_of g.S.BackendSelection) (world_value c.self.inside) _ (seen.group c.args.registry c.args.gate c.args.configs.items)
+    (answer.Refused c.in-Err.refusal) c.self.invariant
+    (λ h s.
+    group-lacks (meaning_of g.S.BackendSelection)
+    (world_value c.self.inside) h c.args.registry c.args.gate c.args.configs.items c.in-Err.refusal
+    c.index_mut-registry.result.now c.new.new.registry at free.1 free.2 left
+    (λ k es now. refused-so (c.in-Err.ensures.refused k es now (left k es now)))
+    c.in-Err.ensures.err s))
+
+pub returns-in-Ok-new : goal.returns-in-Ok-new
+returns-in-Ok-new g c =
+    let there : c.if-registry-len.is_there ≡ in-tables (world_value c.self.inside) c.args.registry c.args.gate =
+    elim c.if-registry-len.branch [
+      | then-registry-len w ↦
+          second-test _ c.args.registry _ c.len.result c.args.gate _ w.len-then-registry-len.result (omega arith)
+          (omega arith) w.if-registry-len.true w.is_there-is
+      | else-registry-len w ↦ first-test _ c.args.registry _ c.len.result c.args.gate _ (omega arith) w.if-registry-len.false w.is_there-is
+    ] in
+    let reason : c.least_refusal-cause.result ≡ least (map (g.S.BackendSelection.refusal []) c.args.configs.items) =
+    rw c.deref.ensures.value at c.least_refusal-cause.ensures in
+    let free = none-stands (world_value c.self.inside) c.args.registry c.args.gate c.if-registry-len.is_there
+    (least (map (g.S.BackendSelection.refusal []) c.args.configs.items)) there
+    (ap (earlier (no_such c.if-registry-len.is_there)) (sym reason) ∙ sym c.earlier_cause.ensures ∙ c.in_default.is) in
+    let at = at-place c.self.inside.registries.items c.args.registry c.index_mut-registry.result.now free.0
+    c.index_mut-registry.ensures.value in
+    let left = λ (k : Member → Member) (es : List Event) (now : IsRegistryAfter key_gives k es c.index_mut-registry.result.now).
+    not-full _ _ (c.is_full.ensures k es now) c.if-is_full.false in
+    let at-gate = at-place c.self.inside.gates.items c.args.gate c.index.result.now free.1 c.index.ensures in
+    let last : c.len-number.result ≡ length c.self.inside.groups.items =
+    omega (arith, c.len-number.ensures, ap length c.reserve.ensures.items) in
+    rw (← c.self.view_is)
+    (λ h s.
+    subst (λ (es : List (EntryValue g.row.S-Config.Denot)).
+    Stands (meaning_of g.S.BackendSelection)
+    (record (world_value c.self.inside)
+    { registries = slice_set c.self.inside.registries.items c.args.registry c.new.new.registry; groups = es })
+    ((seen.group c.args.registry c.args.gate c.args.configs.items, answer.Group c.len-number.result) ∷ h))
+    (sym (c.push_reserved.ensures.items
+    ∙ ap (λ (es : List (EntryValue g.row.S-Config.Denot)). es ++ c.in-Ok-new.entry ∷ []) c.reserve.ensures.items))
+    (let new = c.in-Ok-new.ensures.made _ _ (s.kept _ _ at) in
+    group-made (meaning_of g.S.BackendSelection)
+    (world_value c.self.inside) h c.args.registry c.args.gate c.len-number.result c.args.configs.items
+    c.index.result.now c.index_mut-registry.result.now c.new.new.registry c.in-Ok-new.entry last at at-gate new.0 new.1
+    (group-is-right (meaning_of g.S.BackendSelection)
+    (world_value c.self.inside) h c.args.registry c.args.gate c.len-number.result c.args.configs.items
+    c.index_mut-registry.result.now at free.1 free.2 left last s) s))
 
 pub returns-in-Err : goal.returns-in-Err
 returns-in-Err g c =
-    let there : c.if-registry-len.is_there ≡ (nat_lt c.args.registry (length c.self.inside.registries.items) && nat_lt c.args.gate (length c.self.inside.gates.items)) =
+    let there : c.if-registry-len.is_there ≡ in-tables (world_value c.self.inside) c.args.registry c.args.gate =
     elim c.if-registry-len.branch [
       | then-registry-len w ↦
-          second_test _ c.args.registry _ c.len.result c.args.gate _ w.len-then-registry-len.result (omega arith) (omega arith) w.if-registry-len.true w.is_there-is
-      | else-registry-len w ↦ first_test _ c.args.registry _ c.len.result c.args.gate _ (omega arith) w.if-registry-len.false w.is_there-is
+          second-test _ c.args.registry _ c.len.result c.args.gate _ w.len-then-registry-len.result (omega arith)
+          (omega arith) w.if-registry-len.true w.is_there-is
+      | else-registry-len w ↦ first-test _ c.args.registry _ c.len.result c.args.gate _ (omega arith) w.if-registry-len.false w.is_there-is
     ] in
-    let cause : IsFor (earlier (no_such c.if-registry-len.is_there) (least (map (g.S.BackendSelection.refusal []) c.args.configs.items))) c.in-Err.refusal =
-    rw c.if-not-is_there.false c.in-Err.ensures in
+    let reason : c.least_refusal-cause.result ≡ least (map (g.S.BackendSelection.refusal []) c.args.configs.items) =
+    rw c.deref.ensures.value at c.least_refusal-cause.ensures in
+    let free = none-stands (world_value c.self.inside) c.args.registry c.args.gate c.if-registry-len.is_there
+    (least (map (g.S.BackendSelection.refusal []) c.args.configs.items)) there
+    (ap (earlier (no_such c.if-registry-len.is_there)) (sym reason) ∙ sym c.earlier_cause.ensures ∙ c.in_default.is) in
+    let at = at-place c.self.inside.registries.items c.args.registry c.index_mut-registry.result.now free.0
+    c.index_mut-registry.ensures.value in
+    let left = λ (k : Member → Member) (es : List Event) (now : IsRegistryAfter key_gives k es c.index_mut-registry.result.now).
+    not-full _ _ (c.is_full.ensures k es now) c.if-is_full.false in
     rw (← c.self.view_is, c.reserve.ensures.items)
-    (λ h stands.
-    group_is_refused _ (world_view c.self.inside) h c.args.registry c.args.gate c.args.configs.items c.in-Err.refusal c.self.invariant.sound stands (rw (← there) cause))
+    (λ h s.
+    group-lacks (meaning_of g.S.BackendSelection)
+    (world_value c.self.inside) h c.args.registry c.args.gate c.args.configs.items c.in-Err.refusal
+    c.index_mut-registry.result.now c.new.new.registry at free.1 free.2 left
+    (λ k es now. refused-so (c.in-Err.ensures.refused k es now (left k es now)))
+    c.in-Err.ensures.err s)

@@ -1,8 +1,0 @@
--- The set of the backends that are there has their members.
-use Rattle.std.proofs.Common.{◌∙◌, ap}
-use Rattle.std.specs.Prelude.{not}
-use Rattle.lb_next_world.proofs.Listed.{listed_members}
-use Rattle.lb_next_world.proofs.entry.listed.differs.Goals as goal
-
-pub returns : goal.returns
-returns c = ap not (c.lists_members.ensures ∙ listed_members c.args.listings.now c.args.members.now.keys)

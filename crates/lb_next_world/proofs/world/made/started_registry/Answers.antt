@@ -1,7 +1,0 @@
--- Cells that start unhealthy are the registry's first event.
-use Rattle.std.proofs.Common.{[]}
-use Rattle.lb_history.specs.Shared.{key_by}
-use Rattle.lb_next_world.proofs.world.made.started_registry.Goals as goal
-
-pub returns : goal.returns
-returns c = rw c.if-healthy.false (c.start_unhealthy.ensures (key_by c.args.rule) [] c.new_registry-registry.ensures)

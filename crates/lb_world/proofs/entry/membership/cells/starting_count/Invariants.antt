@@ -1,0 +1,15 @@
+use Rattle.std.proofs.Common.{◌≡◌, ◌≤◌, ◌+◌, List, drop}
+use Rattle.lb_select.specs.Backends.{Member}
+use Rattle.lb_registry.specs.Registry.{IsRegistryAfter}
+use Rattle.lb_registry.specs.RegistryEvents.{Event, views_after}
+use Rattle.lb_registry.specs.Targets.{live}
+use Rattle.lb_world.specs.Cells.{new_keys}
+use Rattle.lb_world.specs.Rules.{key_gives}
+use Rattle.lb_world.proofs.entry.membership.cells.starting_count.Given as goal
+
+abbrev pub invariant-loop-place : goal.invariant-loop-place
+invariant-loop-place l =
+    (l.count ≤ l.place)
+    × ((key_of : Member → Member) (events : List Event) → IsRegistryAfter key_gives key_of events l.registry
+    → l.count + new_keys key_of (live (views_after events))
+    (drop l.place l.listings) ≡ new_keys key_of (live (views_after events)) l.listings)

@@ -1,0 +1,71 @@
+//! Steps of the readers of a group.
+//! A reader comes back to the group that it entered.
+ghost use Rattle.std.specs.Prelude.{◌≡◌, ◌↔◌, ◌∷◌, [], List, IsTrue, IfOk};
+ghost use Rattle.lb_select.specs.Backends.{Member};
+ghost use Rattle.lb_group.specs.GroupCalls.{Enters, at_slot, done_at};
+ghost use Rattle.lb_group.specs.GroupHistory.{Entered, Left, past_of, readers as readers_after, served};
+ghost use Rattle.lb_health.specs.Joined.{IsReady};
+ghost use Rattle.lb_joined.specs.JoinedHistory.{At, group_events, in_group};
+ghost use Rattle.lb_joined.specs.Stands.{After, Becomes, SameSite, views_of};
+ghost use Rattle.lb_registry.specs.Registry.{IsRegistryAfter};
+ghost use Rattle.lb_registry.specs.RegistryEvents.{Event};
+ghost use Rattle.lb_world.specs.Rules.{key_gives};
+ghost use Rattle.lb_world.specs.Views.{IsOwnReader};
+ghost use Rattle.lb_world.specs.Calls.{with_core, IsCounted};
+
+use super::Entry;
+use crate::rule::WorldRegistry;
+use lb_group::retired::Reader;
+use lb_select::backend::Backend;
+use lb_select::refusal::Refusal;
+use lb_select::walk::BackendSelection;
+
+impl<S: BackendSelection> Entry<S> {
+    // How many readers are in what the slot serves, or `None` where no such slot is there.
+    pub(crate) fn readers(&self, slot: usize) -> Option<u64>
+        ensures { After self.now.core (λ made e.
+            result ≡ at_slot made slot (readers_after (served (past_of slot (group_events e))) (past_of slot (group_events e)))) }
+    {
+        self.core.readers(slot)
+    }
+
+    // Lets a reader enter what the slot serves.
+    pub(crate) fn enter(&mut self, slot: usize) -> Result<Reader<S>, Refusal>
+        ensures answers { After self.old.core (λ made e. Enters made (group_events e) slot result) }
+        ensures stands { Becomes self.old.core (in_group (done_at slot Entered result)) self.new.core }
+        ensures site { SameSite self.old.core self.new.core }
+        ensures own { IfOk result (λ r. IsOwnReader self.new.core r) }
+        ensures rest { self.new ≡ with_core self.new.core self.old }
+    {
+        self.core.enter(slot)
+    }
+
+    // Takes back a reader that the slot counts.
+    pub(crate) fn leave(&mut self, reader: Reader<S>)
+        requires own { IsOwnReader self.old.core reader }
+        requires counted { IsCounted self.old.core reader.slot reader.generation }
+        ensures stands { Becomes self.old.core (At reader.slot (Left reader.generation) ∷ []) self.new.core }
+        ensures site { SameSite self.old.core self.new.core }
+        ensures rest { self.new ≡ with_core self.new.core self.old }
+    {
+        match self.core.leave(reader) {
+            Ok(()) => {}
+            Err(_reader) => unreachable!(),
+        }
+    }
+
+    // Whether a backend is ready in the generation that a reader reads.
+    pub(crate) fn ready(
+        &self,
+        reader: &Reader<S>,
+        registry: &WorldRegistry,
+        backend: &Backend,
+    ) -> bool
+        requires { IsOwnReader self.now.core reader.now }
+        ensures { (key_of : Member → Member) (events : List Event)
+            → IsRegistryAfter key_gives key_of events registry.now
+            → After self.now.core (λ made e. IsTrue result ↔ IsReady key_of (views_of made e) events reader.now.generation backend.now) }
+    {
+        self.core.ready(reader, registry, backend)
+    }
+}

@@ -1,0 +1,202 @@
+//! Steps of the jobs of a slot: what is granted, built, lost, published or abandoned, and what is retired.
+//! What a slot's job has become lies in the slot's place from the ask on, so each of these finds there what the history tells.
+ghost use Rattle.std.specs.Prelude.{◌≡◌, ℕ};
+ghost use Rattle.lb_history.specs.Meanings.{meaning_of};
+ghost use Rattle.lb_history.specs.Steps as seen;
+ghost use Rattle.lb_world.specs.Calls.{number_of, told_as};
+ghost use Rattle.lb_world.specs.Stands.{IsEntry, Does, DoesAtGate, DoesAlone};
+
+use super::Entry;
+use crate::held::Work;
+use crate::rule::WorldRegistry;
+use lb_group::answers::{Ask, Told};
+use lb_group::job::{FailedBuild, Job};
+use lb_history::answer::Answer;
+use lb_rebuild::gate::GateCore;
+use lb_select::refusal::Refusal;
+use lb_select::walk::BackendSelection;
+use std::alloc::Global;
+
+impl<S: BackendSelection> Entry<S> {
+    // Asks the slot for its next build, and holds the job.
+    pub(crate) fn ask(&mut self, slot: usize, gate: &mut GateCore, now: u128) -> Answer
+        requires gate { gate.old.id ≡ self.old.core.group.gate }
+        requires stands { IsEntry (meaning_of S.BackendSelection) self.old }
+        ensures { DoesAtGate (meaning_of S.BackendSelection) (λ (g : ℕ). seen.ask g slot now)
+            self.old gate.old result self.new gate.new }
+    {
+        match self.core.ask(slot, gate, now) {
+            Err(refusal) => Answer::Refused(refusal),
+            Ok(Ask::Cancelled) => Answer::Cancelled,
+            Ok(Ask::Building) => Answer::Building,
+            Ok(Ask::Nothing) => Answer::Idle,
+            Ok(Ask::NotDue(moment)) => Answer::Wait(moment),
+            Ok(Ask::Busy) => Answer::Busy,
+            Ok(Ask::Job(job)) => {
+                let generation = job.generation();
+                let place = &mut self.works[slot];
+                place.hold(Work::Building(job));
+                Answer::Build(generation)
+            }
+        }
+    }
+
+    // Runs the build that is held for the slot; one that is refused gives its permit back.
+    pub(crate) fn build(
+        &mut self,
+        alloc: Global,
+        slot: usize,
+        gate: &mut GateCore,
+        registry: &mut WorldRegistry,
+        now: u128,
+    ) -> Answer
+        requires gate { gate.old.id ≡ self.old.core.group.gate }
+        requires stands { IsEntry (meaning_of S.BackendSelection) self.old }
+        ensures { Does (meaning_of S.BackendSelection) (λ (g : ℕ). seen.build g slot now)
+            self.old gate.old registry.old result self.new gate.new registry.new }
+    {
+        if slot >= self.works.len() {
+            return Answer::Refused(Refusal::NoSuch);
+        }
+        let place = &mut self.works[slot];
+        let Some(job) = place.take_job() else {
+            return Answer::Refused(Refusal::NothingInFlight);
+        };
+        let generation = job.generation();
+        let clock = || -> u128
+            ensures { result ≡ now }
+        { now };
+        match job.build(alloc, clock) {
+            Ok(built) => {
+                place.hold(Work::Ready(built));
+                Answer::Built(generation)
+            }
+            Err(FailedBuild { job, refusal }) => match self.core.fail(job, registry, gate, now) {
+                Ok(()) => Answer::BuildFailed(generation, refusal),
+                Err(_job) => unreachable!(),
+            },
+        }
+    }
+
+    // Ends the build that is held for the slot as failed.
+    pub(crate) fn fail_build(
+        &mut self,
+        slot: usize,
+        gate: &mut GateCore,
+        registry: &mut WorldRegistry,
+        now: u128,
+    ) -> Answer
+        requires gate { gate.old.id ≡ self.old.core.group.gate }
+        requires stands { IsEntry (meaning_of S.BackendSelection) self.old }
+        ensures { Does (meaning_of S.BackendSelection) (λ (g : ℕ). seen.failbuild g slot now)
+            self.old gate.old registry.old result self.new gate.new registry.new }
+    {
+        if slot >= self.works.len() {
+            return Answer::Refused(Refusal::NoSuch);
+        }
+        let place = &mut self.works[slot];
+        let Some(job) = place.take_job() else {
+            return Answer::Refused(Refusal::NothingInFlight);
+        };
+        let generation = job.generation();
+        match self.core.fail(job, registry, gate, now) {
+            Ok(()) => Answer::Failed(generation),
+            Err(_job) => unreachable!(),
+        }
+    }
+
+    // Ends the slot's flight as lost; what is held of it stays.
+    pub(crate) fn lost(&mut self, slot: usize) -> Answer
+        ensures { DoesAlone (meaning_of S.BackendSelection) (λ (g : ℕ). seen.lost g slot)
+            self.old result self.new }
+    {
+        let flight = self.core.flight(slot);
+        match self.core.worker_lost(slot) {
+            Ok(()) => Answer::Lost(number_in(flight)),
+            Err(refusal) => Answer::Refused(refusal),
+        }
+    }
+
+    // Serves what is held built for the slot, or retires it unserved.
+    pub(crate) fn publish(&mut self, slot: usize) -> Answer
+        requires stands { IsEntry (meaning_of S.BackendSelection) self.old }
+        ensures { DoesAlone (meaning_of S.BackendSelection) (λ (g : ℕ). seen.publish g slot)
+            self.old result self.new }
+    {
+        if slot >= self.works.len() {
+            return Answer::Refused(Refusal::NoSuch);
+        }
+        let place = &mut self.works[slot];
+        let Some(built) = place.take_built() else {
+            return Answer::Refused(Refusal::NothingBuilt);
+        };
+        match self.core.publish(built) {
+            Ok(told) => answer_to(told),
+            Err(_built) => unreachable!(),
+        }
+    }
+
+    // Retires what is held built for the slot, unserved.
+    pub(crate) fn abandon(&mut self, slot: usize) -> Answer
+        requires stands { IsEntry (meaning_of S.BackendSelection) self.old }
+        ensures { DoesAlone (meaning_of S.BackendSelection) (λ (g : ℕ). seen.abandon g slot)
+            self.old result self.new }
+    {
+        if slot >= self.works.len() {
+            return Answer::Refused(Refusal::NoSuch);
+        }
+        let place = &mut self.works[slot];
+        let Some(built) = place.take_built() else {
+            return Answer::Refused(Refusal::NothingBuilt);
+        };
+        let generation = built.generation();
+        match self.core.abandon(built) {
+            Ok(()) => Answer::Abandoned(generation),
+            Err(_built) => unreachable!(),
+        }
+    }
+
+    // Destroys what the slot retired, once no reader is left in it, and only then reports it.
+    pub(crate) fn destroy(
+        &mut self,
+        slot: usize,
+        gate: &mut GateCore,
+        registry: &mut WorldRegistry,
+    ) -> Answer
+        requires gate { gate.old.id ≡ self.old.core.group.gate }
+        requires stands { IsEntry (meaning_of S.BackendSelection) self.old }
+        ensures { Does (meaning_of S.BackendSelection) (λ (g : ℕ). seen.destroy g slot)
+            self.old gate.old registry.old result self.new gate.new registry.new }
+    {
+        match self.core.take_retired(slot) {
+            Err(refusal) => Answer::Refused(refusal),
+            Ok(retired) => {
+                let permit = retired.destroy();
+                match self.core.destroyed(slot, permit, registry, gate) {
+                    Ok(()) => Answer::Destroyed,
+                    Err(_permit) => unreachable!(),
+                }
+            }
+        }
+    }
+}
+
+// What became of a built selector, as an answer.
+fn answer_to(told: Told) -> Answer
+    ensures { result ≡ told_as told }
+{
+    match told {
+        Told::Published(generation) => Answer::Published(generation),
+        Told::Abandoned(generation) => Answer::Abandoned(generation),
+    }
+}
+
+// The number that is there.
+fn number_in(flight: Option<Option<u64>>) -> u64
+    ensures { result ≡ number_of flight }
+{
+    match flight {
+        Some(Some(generation)) => generation,
+        _ => 0,
+    }
+}

@@ -1,0 +1,138 @@
+//! What a world holds for others: the job or the built selector of each slot, and the readers.
+//! A job and a built selector lie here between the steps that ask, build and publish.
+ghost use Rattle.std.specs.Prelude.{◌≡◌, ◌≤◌, [], MatchOption, replicate, vec_capacity};
+ghost use Rattle.lb_world.specs.Views.{nothing, building, ready, NotBuilding, NotReady};
+ghost use Rattle.lb_world.specs.Works.{work_value};
+
+use lb_group::job::{Built, Job};
+use lb_group::retired::Reader;
+use lb_select::walk::BackendSelection;
+use std::marker::Model;
+use std::mem;
+
+// What is held for a slot.
+pub(crate) enum Work<S: BackendSelection> {
+    Nothing,
+    Building(Job<S>),
+    Ready(Built<S>),
+}
+
+// One place for a slot's work, made with the group, so that asking takes no memory.
+pub(crate) struct Place<S: BackendSelection> {
+    pub(crate) work: Work<S>,
+}
+
+impl<S: BackendSelection> Model for Place<S> {
+    ghost use Rattle.lb_world.specs.Views.{WorkValue};
+    ghost use Rattle.lb_world.specs.Works.{work_value};
+
+    ghost Value = { WorkValue S.Config };
+
+    ghost view = { λ p. work_value p.work };
+}
+
+impl<S: BackendSelection> Place<S> {
+    // Lets the work go with the world.
+    pub(crate) fn close(self) {
+        let Place { work } = self;
+        match work {
+            Work::Nothing => {}
+            Work::Building(job) => job.close(),
+            Work::Ready(built) => built.close(),
+        }
+    }
+
+    // Puts work where none is held.
+    pub(crate) fn hold(&mut self, work: Work<S>)
+        requires { self.old ≡ nothing }
+        ensures { self.new ≡ work_value work }
+    {
+        match mem::replace(&mut self.work, work) {
+            Work::Nothing => {}
+            Work::Building(_job) => unreachable!(),
+            Work::Ready(_built) => unreachable!(),
+        }
+    }
+
+    // Takes the job that is held; what is built stays.
+    pub(crate) fn take_job(&mut self) -> Option<Job<S>>
+        ensures { MatchOption result (NotBuilding self.old × (self.new ≡ self.old))
+            (λ t. (self.old ≡ building t) × (self.new ≡ nothing)) }
+    {
+        match mem::replace(&mut self.work, Work::Nothing) {
+            Work::Building(job) => Some(job),
+            Work::Nothing => None,
+            Work::Ready(built) => {
+                self.hold(Work::Ready(built));
+                None
+            }
+        }
+    }
+
+    // Takes the built selector that is held; a job stays.
+    pub(crate) fn take_built(&mut self) -> Option<Built<S>>
+        ensures { MatchOption result (NotReady self.old × (self.new ≡ self.old)) (λ b. (self.old ≡ ready b) × (self.new ≡ nothing)) }
+    {
+        match mem::replace(&mut self.work, Work::Nothing) {
+            Work::Ready(built) => Some(built),
+            Work::Nothing => None,
+            Work::Building(job) => {
+                self.hold(Work::Building(job));
+                None
+            }
+        }
+    }
+}
+
+// A place for each of so many slots, with nothing held, in a list that has room for them.
+pub(crate) fn with_places<S: BackendSelection>(
+    mut room: Vec<Place<S>>,
+    count: usize,
+) -> Vec<Place<S>>
+    requires empty { room.items ≡ [] }
+    requires fits { count ≤ vec_capacity room }
+    ensures { result.items ≡ replicate count nothing }
+{
+    for _ in 0..count {
+        room.push_reserved(Place {
+            work: Work::Nothing,
+        });
+    }
+    room
+}
+
+// A reader with the number of its group.
+pub(crate) struct Held<S: BackendSelection> {
+    pub(crate) group: usize,
+    pub(crate) reader: Reader<S>,
+}
+
+impl<S: BackendSelection> Model for Held<S> {
+    ghost use Rattle.lb_world.specs.Views.{HeldValue};
+
+    ghost Value = { HeldValue S.Config };
+
+    ghost view = { λ r. record { group = r.group; reader = r.reader } };
+}
+
+impl<S: BackendSelection> Held<S> {
+    // The number of its group.
+    pub(crate) fn group(&self) -> usize
+        ensures { result ≡ self.now.group }
+    {
+        self.group
+    }
+
+    // The reader itself.
+    pub(crate) fn reader(&self) -> &Reader<S>
+        ensures { result.now ≡ self.now.reader }
+    {
+        &self.reader
+    }
+
+    // Lets the reader go with the world.
+    pub(crate) fn close(self) {
+        let Held { group: _, reader } = self;
+        reader.close();
+    }
+}

@@ -1,0 +1,43 @@
+//! Steps at a registry: verdicts of checks, and its targets.
+//! A verdict reaches a cell that is kept; the targets are those after the marks that wait.
+ghost use Rattle.std.specs.Prelude.{◌≡◌, ◌∷◌};
+ghost use Rattle.lb_history.specs.History.{History};
+ghost use Rattle.lb_history.specs.Meanings.{meaning_of};
+ghost use Rattle.lb_history.specs.Steps as seen;
+ghost use Rattle.lb_world.specs.Stands.{Stands};
+
+use super::World;
+use lb_history::answer::{Answer, TargetList};
+use lb_select::refusal::Refusal;
+use lb_select::walk::BackendSelection;
+
+impl<S: BackendSelection> World<S> {
+    pub(super) fn verdict(&mut self, registry: u64, cell: u64, ok: bool, threshold: usize) -> Answer
+        ensures { (h : History S.Config) → Stands (meaning_of S.BackendSelection) self.old h
+            → Stands (meaning_of S.BackendSelection) self.new
+            ((seen.verdict registry cell ok threshold, result) ∷ h) }
+    {
+        if registry as usize >= self.registries.len() {
+            return Answer::Refused(Refusal::NoSuch);
+        }
+        let at = &mut self.registries[registry as usize];
+        match at.observe(cell, ok, threshold) {
+            Ok(flipped) => Answer::Flipped(flipped),
+            Err(refusal) => Answer::Refused(refusal),
+        }
+    }
+
+    pub(super) fn targets(&mut self, registry: u64) -> Answer
+        ensures { (h : History S.Config) → Stands (meaning_of S.BackendSelection) self.old h
+            → Stands (meaning_of S.BackendSelection) self.new ((seen.targets registry, result) ∷ h) }
+    {
+        if registry as usize >= self.registries.len() {
+            return Answer::Refused(Refusal::NoSuch);
+        }
+        let at = &mut self.registries[registry as usize];
+        match at.targets(self.alloc) {
+            Ok(targets) => Answer::Targets(TargetList { targets }),
+            Err(refusal) => Answer::Refused(refusal),
+        }
+    }
+}
