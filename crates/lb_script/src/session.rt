@@ -15,11 +15,11 @@ use lb_history::answer::Answer;
 use lb_kinds::kinds::Kind;
 use lb_lines::lines::{LineRead, read_line};
 use lb_lines::read_ahead::ReadAhead;
-use lb_world::world::World;
 use lb_select::walk::BackendSelection;
 use lb_step_text::error::ScriptError;
 use lb_step_text::parse::{LineStep, parse};
 use lb_step_text::texts::push_answer;
+use lb_world::world::World;
 use std::alloc::Global;
 use std::io::{Read, Write};
 
