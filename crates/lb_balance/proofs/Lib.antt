@@ -1,2 +1,1 @@
 pub mod SlotCounts
-pub mod Balancing

@@ -1,3 +1,2 @@
-pub mod Balancer
 pub mod GroupUpdates
 pub mod Timings

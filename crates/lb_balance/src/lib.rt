@@ -5,5 +5,4 @@
 
 pub mod group_core;
 pub mod moments;
-pub mod served;
 pub mod timings;
