@@ -12,6 +12,9 @@ pub mod script;
 pub mod selection;
 pub mod world;
 
+pub use lb_balance::group_core::LoadBalancerGroupCore;
+pub use lb_balance::moments::MomentSource;
+pub use lb_balance::timings::{SelectorUpdateTimings, UpdateTimings};
 pub use lb_health::backends::{BackendView, Backends};
 pub use lb_health::registry::HealthRegistry;
 pub use lb_select::backend::{Backend, Ext, InetAddr, SocketAddr};
