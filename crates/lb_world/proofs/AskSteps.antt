@@ -1,7 +1,7 @@
 -- The steps that ask a slot for its next build: what it answers, and the job that it gets.
-use Rattle.std.proofs.Common.{◌≡◌, ◌⊎◌, inl, inr, ◌<◌, ◌≤◌, ◌==◌, ◌&&◌, ◌∙◌, ℕ, Bool, true, false, cond, List, [], ◌∷◌, ◌++◌, length, refl}
-use Rattle.std.proofs.Common.{sym, ap, subst, slice_get, arith}
-use Rattle.std.specs.Prelude.{Option, Some, None, slice_set}
+use Rattle.std.proofs.Common.{◌≡◌, inl, ◌<◌, ◌≤◌, ◌∙◌, ℕ, Bool, true, false, cond, List, [], ◌∷◌, ◌++◌, length, refl}
+use Rattle.std.proofs.Common.{sym, ap, subst, slice_get}
+use Rattle.std.specs.Prelude.{Option, Some, slice_set}
 use Rattle.std.proofs.lemmas.List.{length-set}
 use Rattle.std.proofs.lemmas.Option.{slice_get_past, same_Some}
 use Rattle.lb_select.specs.Backends.{Member}
@@ -22,7 +22,6 @@ use Rattle.lb_joined.specs.Stands as stands
 use Rattle.lb_joined.specs.Stands.{JoinedValue}
 use Rattle.lb_history.specs.Steps.{Step}
 use Rattle.lb_history.specs.Steps as step
-use Rattle.lb_history.specs.declared.answer.Answer.{Answer}
 use Rattle.lb_history.specs.declared.answer.Answer.TheVariants as answer
 use Rattle.lb_history.specs.Meanings.{Meaning}
 use Rattle.lb_history.specs.History.{History, Made, Work, is_out, is_held, work, happened, group_events, past}
@@ -39,7 +38,7 @@ use Rattle.lb_world.specs.Rules.{WorldRule, key_gives}
 use Rattle.lb_world.specs.Stands.{EntryIs, EntryNext, permit_after}
 use Rattle.lb_world.specs.Views.{WorkValue, EntryValue, site, origin}
 use Rattle.lb_world.specs.Views as view
-use Rattle.lb_world.specs.Works.{held_of, last_job}
+use Rattle.lb_world.specs.Works.{held_of}
 use Rattle.lb_world.proofs.CoreSteps.{next-told}
 use Rattle.lb_world.proofs.Places.{found}
 use Rattle.lb_world.proofs.Quiet.{Quiet, still, refused-still}

@@ -1,6 +1,5 @@
 -- Each kind of step at a group, from what the core's call does to the entry after it.
-use Rattle.std.proofs.Common.{◌≡◌, ◌⊎◌, inl, inr, ◌∙◌, ℕ, Bool, true, false, cond, List, [], ◌∷◌, ◌++◌, length, refl, sym, ap, subst}
-use Rattle.std.proofs.Common.{slice_get}
+use Rattle.std.proofs.Common.{◌≡◌, inl, ◌∙◌, ℕ, Bool, true, false, cond, List, ◌∷◌, length, refl, sym, ap, subst}
 use Rattle.std.specs.Prelude.{Option, Some, None, nat_lt}
 use Rattle.lb_select.specs.Backends.{Member}
 use Rattle.lb_select.specs.declared.refusal.Refusal.{Refusal}
@@ -23,9 +22,9 @@ use Rattle.lb_history.specs.Steps as step
 use Rattle.lb_history.specs.declared.answer.Answer.{Answer}
 use Rattle.lb_history.specs.declared.answer.Answer.TheVariants as answer
 use Rattle.lb_history.specs.Meanings.{Meaning}
-use Rattle.lb_history.specs.History.{History, Made, config, made_at, work, happened, group_events, past, load_of}
+use Rattle.lb_history.specs.History.{History, Made, config, work, happened, group_events, past, load_of}
 use Rattle.lb_history.specs.Shared.{changed, registry_events, view_in, key_of}
-use Rattle.lb_history.specs.Answers.{IsRun, Answers, at_one, lost_answer, flight_of, numbers_of}
+use Rattle.lb_history.specs.Answers.{Answers, at_one, lost_answer, flight_of, numbers_of}
 use Rattle.lb_history.specs.Joined.{joined_after, joined_events}
 use Rattle.lb_history.proofs.Together.{group-of}
 use Rattle.lb_world.specs.declared.local.Local.TheVariants as local
@@ -33,7 +32,7 @@ use Rattle.lb_world.specs.Calls.{with_core, number_of}
 use Rattle.lb_world.specs.Rules.{WorldRule, key_gives}
 use Rattle.lb_world.specs.Stands.{EntryIs, EntryNext, permit_after}
 use Rattle.lb_world.specs.Views.{EntryValue, site}
-use Rattle.lb_world.proofs.Quiet.{Quiet, refused-still, entry-still}
+use Rattle.lb_world.proofs.Quiet.{Quiet, entry-still}
 use Rattle.lb_world.proofs.Holding.{there-of, absent-of, config-here, joined-here, shared-here, works-kept, no_grants, reading-told}
 use Rattle.lb_world.proofs.Next.{AtGroup, local-at, same-origin, entry-after, registry-here}
 

@@ -14,10 +14,9 @@ use Rattle.lb_registry.specs.RegistryEvents as registry
 use Rattle.lb_registry.specs.RegistryEvents.{Event}
 use Rattle.lb_registry.proofs.FreshLemmas.{marks_start_none}
 use Rattle.lb_history.specs.Steps as step
-use Rattle.lb_history.specs.declared.answer.Answer.{Answer}
 use Rattle.lb_history.specs.declared.answer.Answer.TheVariants as answer
 use Rattle.lb_history.specs.Meanings.{Meaning}
-use Rattle.lb_history.specs.History.{History, registries, gates}
+use Rattle.lb_history.specs.History.{History}
 use Rattle.lb_history.specs.Shared.{key_at, registry_events}
 use Rattle.lb_history.specs.Answers.{Answers, no_such}
 use Rattle.lb_world.specs.Rules.{WorldRule, key_gives}

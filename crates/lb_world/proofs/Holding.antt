@@ -1,14 +1,13 @@
 -- What is held for the slots of a group after a step.
-use Rattle.std.proofs.Common.{◌≡◌, ◌⊎◌, inl, inr, ◌<◌, ◌≤◌, ◌==◌, ◌&&◌, ◌∙◌, ℕ, Bool, true, false, cond, List, [], ◌∷◌, ◌++◌, length, refl}
-use Rattle.std.proofs.Common.{sym, ap, subst, slice_get, arith}
+use Rattle.std.proofs.Common.{◌≡◌, inl, inr, ◌&&◌, ◌∙◌, ℕ, Bool, true, false, cond, List, [], ◌∷◌, ◌++◌, length, refl}
+use Rattle.std.proofs.Common.{sym, ap, subst, slice_get}
 use Rattle.std.specs.Prelude.{Option, Some, None, slice_set, nat_lt}
-use Rattle.std.proofs.lemmas.Bool.{ne_eqb, eq-eqb, lt-ltb}
+use Rattle.std.proofs.lemmas.Bool.{eq-eqb, lt-ltb}
 use Rattle.std.proofs.lemmas.Option.{slice_get_within, same_Some, none-some}
 use Rattle.lb_select.specs.declared.refusal.Refusal.TheVariants as refusal
 use Rattle.lb_history.specs.declared.answer.Answer.TheVariants as answer
 use Rattle.lb_joined.specs.JoinedHistory as joined
 use Rattle.lb_history.proofs.Together.{group-of}
-use Rattle.lb_select.specs.Backends.{Member}
 use Rattle.lb_rebuild.specs.Gate.{GateView, gate}
 use Rattle.lb_registry.specs.Registry.{RegistryValue, IsRegistryAfter}
 use Rattle.lb_registry.specs.RegistryEvents as registry
@@ -16,7 +15,7 @@ use Rattle.lb_group.specs.GroupHistory as group
 use Rattle.lb_group.specs.GroupHistory.{At, past_of, granted, granted_members}
 use Rattle.lb_group.specs.GroupCalls.{at_slot}
 use Rattle.lb_group.specs.Values.{configs_of}
-use Rattle.lb_group.proofs.Pasts.{lt-false, past-other, past-same}
+use Rattle.lb_group.proofs.Pasts.{lt-false}
 use Rattle.lb_history.specs.Steps.{Step}
 use Rattle.lb_history.specs.declared.answer.Answer.{Answer}
 use Rattle.lb_history.specs.Meanings.{Meaning}

@@ -1,13 +1,11 @@
 -- A group that is made: nothing has happened to it, nothing is held for it, and the others stay as they were.
-use Rattle.std.proofs.Common.{◌≡◌, ◌⊎◌, inl, inr, ◌<◌, ◌+◌, ◌==◌, ◌&&◌, ◌∙◌, ℕ, zero, suc, Bool, true, false, cond, List, [], ◌∷◌, ◌++◌}
-use Rattle.std.proofs.Common.{length, map, replicate, refl, sym, ap, subst, slice_get, arith}
+use Rattle.std.proofs.Common.{◌≡◌, inl, inr, ◌<◌, ◌+◌, ◌==◌, ◌&&◌, ◌∙◌, ℕ, zero, suc, Bool, true, false, cond, List, [], ◌∷◌, ◌++◌}
+use Rattle.std.proofs.Common.{length, map, refl, sym, ap, subst, slice_get, arith}
 use Rattle.std.specs.Prelude.{Option, Some, None, slice_set}
 use Rattle.std.specs.Option.{option_map}
 use Rattle.std.proofs.lemmas.Bool.{ne_eqb, eq-eqb}
 use Rattle.std.proofs.lemmas.List.{length-set, length_push, length-replicate}
 use Rattle.std.proofs.lemmas.Option.{same_Some, none-some, slice_get_within, slice_get_past}
-use mathlib.Core.Logic.{dite}
-use native.Mathlib.Decide.{ℕ_discrete}
 use Rattle.lb_select.specs.Backends.{Member, same_member}
 use Rattle.lb_rebuild.specs.Gate.{GateId, GateView}
 use Rattle.lb_rebuild.specs.Identity.{GroupId}
@@ -22,11 +20,10 @@ use Rattle.lb_joined.specs.JoinedHistory as joined
 use Rattle.lb_joined.specs.Stands as stands
 use Rattle.lb_history.specs.Steps.{Step}
 use Rattle.lb_history.specs.Steps as step
-use Rattle.lb_history.specs.declared.answer.Answer.{Answer}
 use Rattle.lb_history.specs.declared.answer.Answer.TheVariants as answer
 use Rattle.lb_history.specs.Meanings.{Meaning}
-use Rattle.lb_history.specs.History.{History, Made, Entered, is_at, over, registries, made, made_at, entries, past, work, load_of}
-use Rattle.lb_history.specs.Shared.{key_in, key_at, registry_events}
+use Rattle.lb_history.specs.History.{History, Made, Entered, registries, made, made_at, entries, past, load_of}
+use Rattle.lb_history.specs.Shared.{key_at, registry_events}
 use Rattle.lb_history.specs.Answers.{IsRun, Answers}
 use Rattle.lb_history.specs.Joined.{joined_events}
 use Rattle.lb_history.proofs.Absent.{absent, found, get-front}
@@ -36,10 +33,9 @@ use Rattle.lb_history.proofs.Together.{nothing-joined}
 use Rattle.lb_world.specs.Calls.{IsNewEntry}
 use Rattle.lb_world.specs.Rules.{WorldRule, key_gives}
 use Rattle.lb_world.specs.Stands.{EntryIs, Stands, OnSite, made_of}
-use Rattle.lb_world.specs.Views.{WorkValue, nothing, HeldValue, EntryValue, WorldValue, site, origin, entered_of}
+use Rattle.lb_world.specs.Views.{WorkValue, nothing, HeldValue, EntryValue, WorldValue, origin, entered_of}
 use Rattle.lb_world.specs.Works.{held_of}
-use Rattle.lb_world.proofs.Places.{get_set, get_push, get_last, get_kept, get_replicate, none_push}
-use Rattle.lb_world.proofs.Places as places
+use Rattle.lb_world.proofs.Places.{get_set, get_push, get_last, get_kept, get_replicate}
 
 unset : (b c : Bool) (l k : ℕ) → b ≡ false → cond (b && c) l k ≡ k
 unset true c l k e = absurd (cc)

@@ -1,5 +1,5 @@
 -- A step at a group, from the group's entry to the world: once for all kinds.
-use Rattle.std.proofs.Common.{◌≡◌, ◌⊎◌, inl, inr, ◌<◌, ◌≤◌, ◌==◌, ◌||◌, ◌&&◌, ◌∙◌, ℕ, Bool, true, false, cond, List, [], ◌∷◌, ◌++◌, length}
+use Rattle.std.proofs.Common.{◌≡◌, inl, inr, ◌<◌, ◌≤◌, ◌==◌, ◌&&◌, ◌∙◌, ℕ, Bool, false, cond, List, ◌∷◌, length}
 use Rattle.std.proofs.Common.{map, refl, sym, ap, subst, slice_get, arith}
 use Rattle.std.specs.Prelude.{Option, Some, None, slice_set}
 use Rattle.std.specs.Option.{option_map}
@@ -13,10 +13,8 @@ use Rattle.lb_rebuild.specs.Gate.{GateId, GateView, gate}
 use Rattle.lb_rebuild.specs.Identity.{GroupId}
 use Rattle.lb_registry.specs.Registry.{RegistryValue, IsRegistryAfter}
 use Rattle.lb_registry.specs.RegistryEvents as registry
-use Rattle.lb_group.specs.GroupHistory as group
 use Rattle.lb_group.specs.Stands as group-made
 use Rattle.lb_group.specs.Values.{configs_of}
-use Rattle.lb_joined.specs.JoinedHistory as joined
 use Rattle.lb_joined.specs.Stands as stands
 use Rattle.lb_joined.specs.Stands.{JoinedValue}
 use Rattle.lb_history.specs.Steps.{Step}
@@ -25,17 +23,17 @@ use Rattle.lb_history.specs.declared.answer.Answer.{Answer}
 use Rattle.lb_history.specs.declared.answer.Answer.TheVariants as answer
 use Rattle.lb_history.specs.Meanings.{Meaning}
 use Rattle.lb_history.specs.History.{History, Made, RegistryMade, is_at, gate_in, gate_of, registry_of, registries, gates, made, made_at}
-use Rattle.lb_history.specs.History.{entries, group_at, works_at, worked, work, happened, group_events, past, is_grant, is_failure}
-use Rattle.lb_history.specs.History.{is_destruction, is_out, load_of}
-use Rattle.lb_history.specs.Shared.{key_in, key_at, key_of, registry_made, registry_at, registry_in, registry_events}
-use Rattle.lb_history.specs.Answers.{IsRun, Answers}
-use Rattle.lb_history.specs.Joined.{joined_after, joined_events}
+use Rattle.lb_history.specs.History.{entries, group_at, works_at, worked, work, past}
+use Rattle.lb_history.specs.History.{is_out, load_of}
+use Rattle.lb_history.specs.Shared.{key_in, key_at, key_of, registry_made, registry_at, registry_events}
+use Rattle.lb_history.specs.Answers.{Answers}
+use Rattle.lb_history.specs.Joined.{joined_events}
 use Rattle.lb_history.proofs.Steps.{others-stay}
 use Rattle.lb_world.specs.declared.local.Local.{Local}
 use Rattle.lb_world.specs.declared.local.Local.TheVariants as is
 use Rattle.lb_world.specs.Locals.{local_seen, IsWhole}
 use Rattle.lb_world.specs.Rules.{WorldRule, key_gives}
-use Rattle.lb_world.specs.Stands.{EntryIs, EntryNext, Stands, OnSite, made_of, permit_after, Does, IsFounded, IsEntry}
+use Rattle.lb_world.specs.Stands.{EntryIs, EntryNext, Stands, OnSite, permit_after, Does, IsFounded, IsEntry}
 use Rattle.lb_world.specs.Views.{WorkValue, HeldValue, entered_of, EntryValue, WorldValue, Origin, site, origin, IsOwnReader}
 use Rattle.lb_world.specs.Works.{held_of}
 use Rattle.lb_world.proofs.Places.{get_same, get_other, get_set}

@@ -1,7 +1,6 @@
 -- Steps after which nothing changed: a refusal, or an answer that only tells.
-use Rattle.std.proofs.Common.{◌≡◌, ◌∙◌, ℕ, Bool, true, false, ◌||◌, cond, List, [], ◌∷◌, ◌++◌, length, refl, sym, ap, subst, slice_get, map}
-use Rattle.std.specs.Prelude.{Option, Some, None}
-use Rattle.std.specs.Option.{option_map}
+use Rattle.std.proofs.Common.{◌≡◌, ◌∙◌, ℕ, Bool, true, false, ◌||◌, cond, List, [], ◌∷◌, ◌++◌, length, refl, sym, ap, subst, slice_get}
+use Rattle.std.specs.Prelude.{Some, None}
 use Rattle.lb_select.specs.Backends.{Member}
 use Rattle.lb_select.specs.declared.refusal.Refusal.{Refusal}
 use Rattle.lb_registry.specs.RegistryEvents as registry
@@ -14,15 +13,15 @@ use Rattle.lb_history.specs.Steps as step
 use Rattle.lb_history.specs.declared.answer.Answer.{Answer}
 use Rattle.lb_history.specs.declared.answer.Answer.TheVariants as answer
 use Rattle.lb_history.specs.Meanings.{Meaning}
-use Rattle.lb_history.specs.History.{History, RegistryMade, Work, is_at, gate_in, registries, gates, made, made_at, entries, group_at}
+use Rattle.lb_history.specs.History.{History, RegistryMade, Work, is_at, gate_in, registries, gates, made, entries, group_at}
 use Rattle.lb_history.specs.History.{works_at, worked, work, happened, group_events, past, is_grant, is_failure, is_destruction, is_out}
 use Rattle.lb_history.specs.History.{load_of}
 use Rattle.lb_history.specs.Shared.{key_in, registry_at, changed, registry_events}
-use Rattle.lb_history.specs.Answers.{IsRun, Answers}
+use Rattle.lb_history.specs.Answers.{Answers}
 use Rattle.lb_history.specs.Joined.{joined_after, joined_events}
 use Rattle.lb_history.proofs.Placing.{same-either}
-use Rattle.lb_world.specs.Rules.{WorldRule, key_gives}
-use Rattle.lb_world.specs.Stands.{EntryIs, Stands, OnSite}
+use Rattle.lb_world.specs.Rules.{key_gives}
+use Rattle.lb_world.specs.Stands.{EntryIs, Stands}
 use Rattle.lb_world.specs.Views.{EntryValue, WorldValue, site, origin}
 use Rattle.lb_world.specs.Works.{held_of}
 

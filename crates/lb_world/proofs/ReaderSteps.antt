@@ -1,10 +1,9 @@
 -- Steps of readers: one enters, leaves, or is asked.
 use Rattle.std.proofs.Common.{◌≡◌, ◌⊎◌, inl, inr, ◌<◌, ◌≤◌, ◌==◌, ◌||◌, ◌&&◌, ◌↔◌, ◌∙◌, ℕ, zero, suc, Bool, true, false, cond, List, []}
 use Rattle.std.proofs.Common.{◌∷◌, ◌++◌, length, map, refl, sym, ap, subst, slice_get, arith}
-use Rattle.std.specs.Prelude.{Option, Some, None, Result, Ok, Err, IsTrue, slice_set, nat_lt}
+use Rattle.std.specs.Prelude.{Option, Some, None, Ok, Err, IsTrue, slice_set, nat_lt}
 use Rattle.std.specs.Option.{option_map}
 use Rattle.std.proofs.lemmas.Bool.{ne_eqb, eq-eqb, lt-ltb}
-use Rattle.std.proofs.lemmas.List.{length-set}
 use Rattle.std.proofs.lemmas.Option.{same_Some, none-some, slice_get_within, slice_get_past}
 use Rattle.lb_select.specs.Backends.{Member}
 use Rattle.lb_select.specs.declared.refusal.Refusal.{Refusal}
@@ -16,7 +15,7 @@ use Rattle.lb_health.specs.Joined.{IsReady}
 use Rattle.lb_health.specs.ViewEvents.{ViewEvent}
 use Rattle.lb_group.specs.GroupHistory as group
 use Rattle.lb_group.specs.GroupHistory.{past_of, served}
-use Rattle.lb_group.specs.GroupCalls.{Enters, enter_refusal, at_slot, is_read}
+use Rattle.lb_group.specs.GroupCalls.{Enters, enter_refusal, at_slot}
 use Rattle.lb_group.specs.Values.{ReaderValue, configs_of}
 use Rattle.lb_joined.specs.JoinedHistory as joined
 use Rattle.lb_joined.specs.Stands as stands
@@ -26,9 +25,9 @@ use Rattle.lb_history.specs.Steps as step
 use Rattle.lb_history.specs.declared.answer.Answer.{Answer}
 use Rattle.lb_history.specs.declared.answer.Answer.TheVariants as answer
 use Rattle.lb_history.specs.Meanings.{Meaning}
-use Rattle.lb_history.specs.History.{History, Made, Entered, config_in, config, slot_in, group_in, made, made_at, entries, group_at}
-use Rattle.lb_history.specs.History.{group_events, past, registry_of}
-use Rattle.lb_history.specs.Shared.{key_at, key_of, events_in, registry_in, registry_at, registry_events, view_events}
+use Rattle.lb_history.specs.History.{History, Made, Entered, config_in, config, slot_in, group_in, made, made_at, entries}
+use Rattle.lb_history.specs.History.{past, registry_of}
+use Rattle.lb_history.specs.Shared.{key_at, key_of, events_in, registry_in, registry_events, view_events}
 use Rattle.lb_history.specs.Answers.{IsRun, Answers, ReadyAnswers, Judges, at_one, refuse, enter_answer, leave_answer, answer_after}
 use Rattle.lb_history.specs.Answers.{without_memory}
 use Rattle.lb_history.specs.Joined.{joined_events}
@@ -41,7 +40,7 @@ use Rattle.lb_world.specs.Stands.{EntryIs, EntryNext, Stands, made_of}
 use Rattle.lb_world.specs.Views.{HeldValue, EntryValue, WorldValue, site, entered_of, IsOwnReader}
 use Rattle.lb_world.proofs.CoreSteps.{next-core, next-told}
 use Rattle.lb_world.proofs.Holding.{config-here, there-of, absent-of}
-use Rattle.lb_world.proofs.Next.{AtGroup, same-origin, key-here, registry-here, stepped, world-moves, own-kept}
+use Rattle.lb_world.proofs.Next.{AtGroup, same-origin, key-here, registry-here, world-moves, own-kept}
 use Rattle.lb_world.proofs.Places as places
 use Rattle.lb_world.proofs.Places.{get_set, get_push, get_kept, get_same, get_last}
 use Rattle.lb_world.proofs.Quiet.{still, refused-still, world-still, world-refused}

@@ -1,5 +1,5 @@
 -- Steps at a registry alone, and those that make a registry or a gate: what they leave of the world.
-use Rattle.std.proofs.Common.{◌≡◌, ◌⊎◌, inl, inr, ◌<◌, ◌+◌, ◌==◌, ◌∙◌, ℕ, Bool, true, false, cond, List, [], ◌∷◌, ◌++◌, length, map, refl}
+use Rattle.std.proofs.Common.{◌≡◌, inl, inr, ◌<◌, ◌+◌, ◌∙◌, ℕ, Bool, true, false, List, [], ◌∷◌, ◌++◌, length, refl}
 use Rattle.std.proofs.Common.{sym, ap, subst, slice_get, arith}
 use Rattle.std.specs.Prelude.{Option, Some, None, slice_set}
 use Rattle.std.specs.Option.{option_map}
@@ -10,25 +10,22 @@ use Rattle.lb_select.specs.Backends.{Member}
 use Rattle.lb_rebuild.specs.Gate.{GateView}
 use Rattle.lb_registry.specs.Registry.{RegistryValue, IsRegistryAfter}
 use Rattle.lb_registry.specs.RegistryEvents as registry
-use Rattle.lb_group.specs.GroupHistory as group
-use Rattle.lb_joined.specs.JoinedHistory as joined
 use Rattle.lb_history.specs.Steps.{Step}
 use Rattle.lb_history.specs.Steps as step
 use Rattle.lb_history.specs.declared.answer.Answer.{Answer}
 use Rattle.lb_history.specs.declared.answer.Answer.TheVariants as answer
 use Rattle.lb_history.specs.declared.step.CellKey.{CellKey}
 use Rattle.lb_history.specs.Meanings.{Meaning}
-use Rattle.lb_history.specs.History.{History, Made, RegistryMade, is_at, gate_at, slot_gate, registries, gates, made, made_at, entries}
+use Rattle.lb_history.specs.History.{History, Made, RegistryMade, is_at, gate_at, registries, gates, made, made_at, entries}
 use Rattle.lb_history.specs.History.{work, group_events, is_out, load_of}
 use Rattle.lb_history.specs.Shared.{key_by, key_in, key_at, started, registry_at, registry_events}
-use Rattle.lb_history.specs.Answers.{IsRun, Answers}
+use Rattle.lb_history.specs.Answers.{Answers}
 use Rattle.lb_history.specs.Joined.{joined_events}
-use Rattle.lb_history.specs.Promises.{OneExtra}
 use Rattle.lb_history.proofs.Counting.{one-extra}
 use Rattle.lb_history.proofs.Steps.{others-stay}
 use Rattle.lb_world.specs.Rules.{WorldRule, key_gives}
-use Rattle.lb_world.specs.Stands.{EntryIs, Stands, OnSite, made_of}
-use Rattle.lb_world.specs.Views.{EntryValue, WorldValue}
+use Rattle.lb_world.specs.Stands.{Stands, made_of}
+use Rattle.lb_world.specs.Views.{WorldValue}
 use Rattle.lb_world.proofs.Places.{get_set, get_push, get_last, get_kept, found}
 use Rattle.lb_world.proofs.Quiet.{entry-moves}
 

@@ -1,7 +1,7 @@
 -- Steps at a registry: the verdict of a check, and the targets.
-use Rattle.std.proofs.Common.{◌≡◌, ◌≢◌, ◌⊎◌, ◌↔◌, inl, inr, ◌<◌, ◌≤◌, ◌^◌, ◌∙◌, ℕ, Bool, true, false, not, List, [], ◌∷◌, length, refl, sym}
+use Rattle.std.proofs.Common.{◌≡◌, ◌≢◌, ◌⊎◌, ◌↔◌, inl, inr, ◌<◌, ◌≤◌, ◌^◌, ◌∙◌, ℕ, Bool, true, false, not, List, ◌∷◌, length, refl, sym}
 use Rattle.std.proofs.Common.{ap, subst, slice_get, arith}
-use Rattle.std.specs.Prelude.{Option, Some, None, Result, Ok, Err, slice_set, IsTrue, IsErrOf, MatchOption}
+use Rattle.std.specs.Prelude.{Option, Some, None, Result, Err, slice_set, IsTrue, IsErrOf, MatchOption}
 use Rattle.std.proofs.lemmas.Bool.{eq-eqb, lt-leb}
 use Rattle.std.proofs.lemmas.Option.{none-some, slice_get_within, slice_get_past}
 use Rattle.lb_select.specs.Backends.{Member}
@@ -13,12 +13,11 @@ use Rattle.lb_registry.specs.RegistryEvents.{Event, Applied, Observed, IsCellKep
 use Rattle.lb_registry.specs.Verdicts.{agree}
 use Rattle.lb_registry.proofs.FreshLemmas.{marks_start_none}
 use Rattle.lb_history.specs.Steps as step
-use Rattle.lb_history.specs.declared.answer.Answer.{Answer}
 use Rattle.lb_history.specs.declared.answer.Answer.TheVariants as answer
 use Rattle.lb_history.specs.Meanings.{Meaning}
 use Rattle.lb_history.specs.History.{History, RegistryMade, registries}
 use Rattle.lb_history.specs.Shared.{key_by, key_in, key_at, registry_events}
-use Rattle.lb_history.specs.Answers.{Answers, VerdictAnswers, refuse, unless_refused, at_one, where_, no_number, without_memory}
+use Rattle.lb_history.specs.Answers.{VerdictAnswers, refuse, unless_refused, at_one, where_, no_number, without_memory}
 use Rattle.lb_world.specs.Rules.{WorldRule, key_gives}
 use Rattle.lb_world.specs.Stands.{Stands}
 use Rattle.lb_world.specs.Views.{WorldValue}

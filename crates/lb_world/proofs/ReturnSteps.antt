@@ -1,5 +1,5 @@
 -- Steps that give a permit back: a build that failed, and a selector that was destroyed. The registry lets go of their snapshots.
-use Rattle.std.proofs.Common.{◌≡◌, ◌⊎◌, inl, inr, ◌==◌, ◌&&◌, ◌∙◌, ℕ, Bool, true, false, cond, List, [], ◌∷◌, ◌++◌, length, refl, sym, ap}
+use Rattle.std.proofs.Common.{◌≡◌, ◌⊎◌, inl, inr, ◌&&◌, ◌∙◌, ℕ, Bool, true, false, cond, List, ◌∷◌, length, refl, sym, ap}
 use Rattle.std.proofs.Common.{subst, slice_get}
 use Rattle.std.specs.Prelude.{Option, Some, None, slice_set, nat_lt}
 use Rattle.std.proofs.lemmas.Bool.{eqb-true, false≢true}
@@ -38,7 +38,7 @@ use Rattle.lb_history.proofs.Promised.{promised}
 use Rattle.lb_history.proofs.Sharing.{shares}
 use Rattle.lb_history.proofs.Together.{joins-alike, group-of}
 use Rattle.lb_world.specs.Rules.{WorldRule, key_gives}
-use Rattle.lb_world.specs.Stands.{EntryIs, EntryNext, permit_after, made_of}
+use Rattle.lb_world.specs.Stands.{EntryIs, EntryNext, made_of}
 use Rattle.lb_world.specs.Views.{WorkValue, EntryValue, Origin, site, origin}
 use Rattle.lb_world.specs.Views as view
 use Rattle.lb_world.proofs.Holding.{config-here, shared-here, reading-told, joined-here, events-here, works-set}

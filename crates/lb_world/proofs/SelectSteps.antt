@@ -1,28 +1,28 @@
 -- The steps that select: what is told of the core's selection is what the history tells, and the counter of tickets is where it left it.
-use Rattle.std.proofs.Common.{◌≡◌, ◌⊎◌, inl, inr, ◌+◌, ◌&&◌, ◌==◌, ◌∙◌, ℕ, Bool, true, false, cond, nat_le, nat_lt, List, [], ◌∷◌, ◌++◌}
-use Rattle.std.proofs.Common.{length, refl, sym, ap, subst, slice_get, arith}
-use Rattle.std.specs.Prelude.{Option, Some, None, Result, Ok, Err, IsTrue, ◌↔◌, MatchBool, MatchOption}
+use Rattle.std.proofs.Common.{◌≡◌, inl, inr, ◌+◌, ◌&&◌, ◌==◌, ◌∙◌, ℕ, Bool, true, false, cond, nat_le, nat_lt, List, [], ◌∷◌, ◌++◌}
+use Rattle.std.proofs.Common.{length, refl, sym, ap, subst, slice_get}
+use Rattle.std.specs.Prelude.{Option, Some, None, Result, Ok, Err, IsTrue, ◌↔◌, MatchOption}
 use Rattle.std.proofs.lemmas.Bool.{cases_eq, lt-ltb}
 use Rattle.std.proofs.lemmas.Option.{slice_get_within}
 use Rattle.lb_select.specs.Backends.{Member, same_member}
-use Rattle.lb_select.specs.Draws.{Draw, HandedValue, LoadedGives}
+use Rattle.lb_select.specs.Draws.{Draw, LoadedGives}
 use Rattle.lb_select.specs.Loads.{load_in}
 use Rattle.lb_select.specs.Selections.{Selects}
 use Rattle.lb_select.specs.declared.refusal.Refusal.{Refusal}
 use Rattle.lb_select.specs.declared.refusal.Refusal.TheVariants as refusal
 use Rattle.lb_select.proofs.SelectionsSeen.{selects-more}
-use Rattle.lb_rebuild.specs.Gate.{GateView, GateId, gate}
+use Rattle.lb_rebuild.specs.Gate.{GateView, GateId}
 use Rattle.lb_registry.specs.Registry.{RegistryValue, IsRegistryAfter}
 use Rattle.lb_registry.specs.RegistryEvents as registry
 use Rattle.lb_health.specs.ViewEvents.{ViewEvent}
 use Rattle.lb_group.specs.Drawn.{DrawnValue, DrawnGives}
-use Rattle.lb_group.specs.GroupCalls.{SelectsIn, select_events}
+use Rattle.lb_group.specs.GroupCalls.{SelectsIn}
 use Rattle.lb_group.specs.GroupHistory as group
 use Rattle.lb_group.specs.GroupHistory.{At, Drew, past_of, drawn, served, served_members, members_of, IsPast, IsGroupHistory}
 use Rattle.lb_group.specs.SlotCalls.{SelectsFrom, drawn_slot}
 use Rattle.lb_group.specs.Stands as core
 use Rattle.lb_group.specs.Stands.{StandsFor, slot_after, slots_after, group_after}
-use Rattle.lb_group.specs.Values.{GroupValue, SlotValue, configs_of}
+use Rattle.lb_group.specs.Values.{SlotValue, configs_of}
 use Rattle.lb_group.specs.declared.answers.Selection.{Selection}
 use Rattle.lb_group.proofs.Pasts.{lt-false, past-other, past-same, members-past}
 use Rattle.lb_group.proofs.Selecting.{handed-selects}
@@ -37,7 +37,7 @@ use Rattle.lb_history.specs.Steps as step
 use Rattle.lb_history.specs.declared.answer.Answer.{Answer}
 use Rattle.lb_history.specs.declared.answer.Answer.TheVariants as answer
 use Rattle.lb_history.specs.Meanings.{Meaning}
-use Rattle.lb_history.specs.History.{History, Made, drew, config, made_at, registry_of, group_events, past, work, happened, load_of}
+use Rattle.lb_history.specs.History.{History, Made, drew, config, registry_of, group_events, past, work, happened, load_of}
 use Rattle.lb_history.specs.Shared.{events_in, registry_events, view_events, key_of}
 use Rattle.lb_history.specs.Answers as answers
 use Rattle.lb_history.specs.Answers.{IsRun, Answers, Judges, selected, SelectAnswers}

@@ -1,5 +1,5 @@
 -- Steps that bring a slot's job or its built selector back: what is held of it is the last job, and its place is empty then.
-use Rattle.std.proofs.Common.{◌≡◌, ◌⊎◌, inl, inr, ◌<◌, ◌≤◌, ◌==◌, ◌&&◌, ◌∙◌, ℕ, Bool, true, false, cond, List, [], ◌∷◌, ◌++◌, length}
+use Rattle.std.proofs.Common.{◌≡◌, inl, ◌<◌, ◌≤◌, ◌==◌, ◌&&◌, ◌∙◌, ℕ, Bool, true, false, cond, List, [], ◌∷◌, ◌++◌, length}
 use Rattle.std.proofs.Common.{get_or, refl, sym, ap, subst, slice_get, arith}
 use Rattle.std.specs.Prelude.{Option, Some, None, Ok, slice_set}
 use Rattle.std.proofs.lemmas.Bool.{ne_eqb, eq-eqb, false≢true}
@@ -39,7 +39,7 @@ use Rattle.lb_world.specs.Views.{WorkValue, EntryValue, Origin, site, origin, No
 use Rattle.lb_world.specs.Views as view
 use Rattle.lb_world.specs.Calls.{told_as}
 use Rattle.lb_world.specs.Works.{held_of, last_job}
-use Rattle.lb_world.proofs.Holding.{joined-here, events-here, shared-here, works-set, config-here, no_grant}
+use Rattle.lb_world.proofs.Holding.{joined-here, events-here, shared-here, works-set, config-here}
 use Rattle.lb_world.proofs.Next.{AtGroup, same-origin, entry-after, registry-here}
 use Rattle.lb_world.proofs.Places.{found}
 

@@ -1,8 +1,12 @@
 -- What holds of each step of a history, and what holds after each.
-use Rattle.std.specs.Prelude.{List, [], ◌∷◌}
+use Rattle.std.specs.Prelude.{ℕ, [], ◌∷◌}
+use Rattle.lb_select.specs.Backends.{Member}
+use Rattle.lb_health.specs.Joined.{IsReady}
 use Rattle.lb_history.specs.Steps.{Step}
 use Rattle.lb_history.specs.declared.answer.Answer.{Answer}
-use Rattle.lb_history.specs.History.{History}
+use Rattle.lb_history.specs.History.{History, registry_of}
+use Rattle.lb_history.specs.Shared.{key_of, events_in, view_events}
+use Rattle.lb_history.specs.Promises.{JudgedBy}
 
 module _ {C : Type 0} where
   -- of each step with its answer, and what came before it
@@ -14,3 +18,8 @@ module _ {C : Type 0} where
   abbrev pub Always : (History C → Type 0) → History C → Type 0
   Always P [] = P []
   Always P ((st, a) ∷ h) = P ((st, a) ∷ h) × Always P h
+
+  -- what is ready in a generation is so by the members and the cells of that generation, and by no other's
+  abbrev pub JudgedByOwn : History C → Type 0
+  JudgedByOwn h =
+      (g n : ℕ) (b : Member) → IsReady (key_of g h) (view_events g h) (events_in (registry_of g h) h) n b → JudgedBy g n b h

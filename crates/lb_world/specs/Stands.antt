@@ -1,5 +1,5 @@
 -- A world stands for a history: the answers are a run, and each table is what the history tells.
-use Rattle.std.specs.Prelude.{◌≡◌, ◌<◌, ℕ, Bool, true, false, ◌||◌, ◌∷◌, List, Option, Some, None, length, map, slice_get, if◌then◌else◌}
+use Rattle.std.specs.Prelude.{◌≡◌, ◌<◌, ℕ, Bool, true, false, ◌||◌, ◌∷◌, Some, length, map, slice_get, if◌then◌else◌}
 use Rattle.std.specs.Option.{option_map}
 use Rattle.lb_select.specs.Backends.{Member}
 use Rattle.lb_select.specs.Loads.{load_in}

@@ -1,6 +1,5 @@
 -- A world as contracts see it: its tables as plain lists, with what is held for each slot and each reader.
-use Rattle.std.specs.Prelude.{◌≡◌, ℕ, List, Option, Some, None}
-use Rattle.std.specs.Option.{option_map}
+use Rattle.std.specs.Prelude.{◌≡◌, ℕ, List, Option}
 use Rattle.lb_select.specs.Backends.{Member}
 use Rattle.lb_rebuild.specs.Gate.{GateId, GateView}
 use Rattle.lb_rebuild.specs.Identity.{GroupId}

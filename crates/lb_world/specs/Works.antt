@@ -1,6 +1,5 @@
 -- What is held for a slot, of the program and as a history tells it.
-use Rattle.std.specs.Prelude.{ℕ, List, Option, Some, None}
-use Rattle.lb_select.specs.Backends.{Member, same_member}
+use Rattle.std.specs.Prelude.{ℕ}
 use Rattle.lb_group.specs.GroupHistory.{History, granted, granted_members}
 use Rattle.lb_group.specs.Values.{Task}
 use Rattle.lb_history.specs.History.{Work, idle}

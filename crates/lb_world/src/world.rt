@@ -8,7 +8,7 @@ ghost use Rattle.lb_history.specs.Promises.{Promised, ViewFollows, LivesExactly,
 ghost use Rattle.lb_history.specs.Selected.{FirstAccepted};
 ghost use Rattle.lb_history.specs.Steps as seen;
 ghost use Rattle.lb_history.specs.Steps.{step_seen};
-ghost use Rattle.lb_world.specs.Ever.{Always, EachStep};
+ghost use Rattle.lb_world.specs.Ever.{Always, EachStep, JudgedByOwn};
 ghost use Rattle.lb_world.specs.Locals.{local_seen, IsWhole};
 ghost use Rattle.lb_world.specs.Stands.{Stands};
 
@@ -166,6 +166,8 @@ impl<S: BackendSelection> World<S> {
             → Always (λ k. (g : ℕ) → ViewFollows g k) (after h (map step_seen steps.items) answers.items)) }
         ensures lives_exactly { IfOk result (λ answers. (h : History S.Config) → Stands (meaning_of S.BackendSelection) self.old h
             → Always LivesExactly (after h (map step_seen steps.items) answers.items)) }
+        ensures judged { IfOk result (λ answers. (h : History S.Config) → Stands (meaning_of S.BackendSelection) self.old h
+            → Always JudgedByOwn (after h (map step_seen steps.items) answers.items)) }
         ensures never_falls { IfOk result (λ answers. (h : History S.Config) → Stands (meaning_of S.BackendSelection) self.old h
             → EachStep NeverFalls (after h (map step_seen steps.items) answers.items)) }
         ensures first_accepted { IfOk result (λ answers. (h : History S.Config) → Stands (meaning_of S.BackendSelection) self.old h

@@ -1,6 +1,5 @@
 -- The group with its gate and its registry, lent to the entry's call.
-use Rattle.std.proofs.Common.{◌≡◌, ◌<◌, ◌≤◌, ◌∙◌, ℕ, length, arith, slice_get, refl, sym, ap}
-use Rattle.std.specs.Prelude.{Some}
+use Rattle.std.proofs.Common.{◌<◌, ◌≤◌, ◌∙◌, ℕ, length, arith, sym, ap}
 use Rattle.std.proofs.lemmas.Option.{slice_get_within, same_Some}
 use Rattle.lb_rebuild.specs.Gate.{GateView}
 use Rattle.lb_history.specs.Meanings.{meaning_of}

@@ -3,16 +3,18 @@ use Rattle.std.proofs.Common.{◌∙◌, ℕ, length, map, sym, ap, arith}
 use Rattle.std.proofs.lemmas.Iterator.Adapters.{YieldsList-from_vec}
 use Rattle.std.proofs.lemmas.Iterator.Consumers.{YieldsList-end}
 use Rattle.std.proofs.lemmas.List.{length_push}
-use Rattle.lb_history.specs.History.{History}
-use Rattle.lb_history.specs.Meanings.{meaning_of}
+use Rattle.lb_history.specs.History.{History, after}
+use Rattle.lb_history.specs.Meanings.{Meaning, meaning_of}
 use Rattle.lb_history.specs.Promises.{Promised, ViewFollows, LivesExactly, NeverFalls, Raises, DestroysExactly}
 use Rattle.lb_history.specs.Selected.{FirstAccepted}
 use Rattle.lb_history.specs.Steps.{step_seen}
-use Rattle.lb_history.proofs.Joining.{view-follows}
+use Rattle.lb_history.proofs.Joining.{view-follows, judged-by}
 use Rattle.lb_history.proofs.Living.{lives-exactly}
 use Rattle.lb_history.proofs.Promised.{promised, never-falls}
 use Rattle.lb_history.proofs.Selecting.{first-accepted}
 use Rattle.lb_history.proofs.Steps.{raises, destroys}
+use Rattle.lb_world.specs.Ever.{JudgedByOwn}
+use Rattle.lb_world.specs.Stands.{Stands}
 use Rattle.lb_world.proofs.Runs.{after-push, map-push, map-length, map-same, each-step, always}
 use Rattle.lb_world.proofs.world.World.run.Goals as goal
 
@@ -34,108 +36,29 @@ loop-step-preserved g c =
           (c.step.ensures _ (c.loop-step.invariant.stood h stands));
     }
 
-pub returns-clause-stands : goal.returns-clause-stands
-returns-clause-stands g c =
+pub returns : goal.returns
+returns g c =
     let gives = c.into_iter-step-iterator.ensures.into_iter_gives in
     let all =
     YieldsList-end
     (YieldsList-from_vec c.args.steps.items gives.0 (gives.1 ∙ c.args.steps.ok.0)) c.loop-step.yielded c.loop-step.step-iterator
     c.loop-step.yielded_by c.next.result c.next.new.self c.in-None.is c.next.ensures.steps in
     let taken = sym (map-same c.loop-step.yielded) ∙ all.0 in
-    λ h stands.
-    rw taken at (c.loop-step.invariant.stood h stands)
-
-pub returns-clause-run : goal.returns-clause-run
-returns-clause-run g c =
-    let gives = c.into_iter-step-iterator.ensures.into_iter_gives in
-    let all =
-    YieldsList-end
-    (YieldsList-from_vec c.args.steps.items gives.0 (gives.1 ∙ c.args.steps.ok.0)) c.loop-step.yielded c.loop-step.step-iterator
-    c.loop-step.yielded_by c.next.result c.next.new.self c.in-None.is c.next.ensures.steps in
-    let taken = sym (map-same c.loop-step.yielded) ∙ all.0 in
-    λ h stands.
-    (rw taken at (c.loop-step.invariant.stood h stands)).run
-
-pub returns-clause-promised : goal.returns-clause-promised
-returns-clause-promised g c =
-    let gives = c.into_iter-step-iterator.ensures.into_iter_gives in
-    let all =
-    YieldsList-end
-    (YieldsList-from_vec c.args.steps.items gives.0 (gives.1 ∙ c.args.steps.ok.0)) c.loop-step.yielded c.loop-step.step-iterator
-    c.loop-step.yielded_by c.next.result c.next.new.self c.in-None.is c.next.ensures.steps in
-    let taken = sym (map-same c.loop-step.yielded) ∙ all.0 in
-    λ h stands.
-    always (meaning_of g.S.BackendSelection) (Promised (meaning_of g.S.BackendSelection)) (promised (meaning_of g.S.BackendSelection)) _
-    (rw taken at (c.loop-step.invariant.stood h stands)).run
-
-pub returns-clause-view_follows : goal.returns-clause-view_follows
-returns-clause-view_follows g c =
-    let gives = c.into_iter-step-iterator.ensures.into_iter_gives in
-    let all =
-    YieldsList-end
-    (YieldsList-from_vec c.args.steps.items gives.0 (gives.1 ∙ c.args.steps.ok.0)) c.loop-step.yielded c.loop-step.step-iterator
-    c.loop-step.yielded_by c.next.result c.next.new.self c.in-None.is c.next.ensures.steps in
-    let taken = sym (map-same c.loop-step.yielded) ∙ all.0 in
-    λ h stands.
-    always (meaning_of g.S.BackendSelection) (λ k. (i : ℕ) → ViewFollows i k) (view-follows (meaning_of g.S.BackendSelection)) _
-    (rw taken at (c.loop-step.invariant.stood h stands)).run
-
-pub returns-clause-lives_exactly : goal.returns-clause-lives_exactly
-returns-clause-lives_exactly g c =
-    let gives = c.into_iter-step-iterator.ensures.into_iter_gives in
-    let all =
-    YieldsList-end
-    (YieldsList-from_vec c.args.steps.items gives.0 (gives.1 ∙ c.args.steps.ok.0)) c.loop-step.yielded c.loop-step.step-iterator
-    c.loop-step.yielded_by c.next.result c.next.new.self c.in-None.is c.next.ensures.steps in
-    let taken = sym (map-same c.loop-step.yielded) ∙ all.0 in
-    λ h stands.
-    always (meaning_of g.S.BackendSelection) LivesExactly (lives-exactly (meaning_of g.S.BackendSelection)) _
-    (rw taken at (c.loop-step.invariant.stood h stands)).run
-
-pub returns-clause-never_falls : goal.returns-clause-never_falls
-returns-clause-never_falls g c =
-    let gives = c.into_iter-step-iterator.ensures.into_iter_gives in
-    let all =
-    YieldsList-end
-    (YieldsList-from_vec c.args.steps.items gives.0 (gives.1 ∙ c.args.steps.ok.0)) c.loop-step.yielded c.loop-step.step-iterator
-    c.loop-step.yielded_by c.next.result c.next.new.self c.in-None.is c.next.ensures.steps in
-    let taken = sym (map-same c.loop-step.yielded) ∙ all.0 in
-    λ h stands.
-    each-step (meaning_of g.S.BackendSelection) NeverFalls (never-falls (meaning_of g.S.BackendSelection)) _
-    (rw taken at (c.loop-step.invariant.stood h stands)).run
-
-pub returns-clause-first_accepted : goal.returns-clause-first_accepted
-returns-clause-first_accepted g c =
-    let gives = c.into_iter-step-iterator.ensures.into_iter_gives in
-    let all =
-    YieldsList-end
-    (YieldsList-from_vec c.args.steps.items gives.0 (gives.1 ∙ c.args.steps.ok.0)) c.loop-step.yielded c.loop-step.step-iterator
-    c.loop-step.yielded_by c.next.result c.next.new.self c.in-None.is c.next.ensures.steps in
-    let taken = sym (map-same c.loop-step.yielded) ∙ all.0 in
-    λ h stands.
-    each-step (meaning_of g.S.BackendSelection) (FirstAccepted (meaning_of g.S.BackendSelection))
-    (first-accepted (meaning_of g.S.BackendSelection)) _ (rw taken at (c.loop-step.invariant.stood h stands)).run
-
-pub returns-clause-raises : goal.returns-clause-raises
-returns-clause-raises g c =
-    let gives = c.into_iter-step-iterator.ensures.into_iter_gives in
-    let all =
-    YieldsList-end
-    (YieldsList-from_vec c.args.steps.items gives.0 (gives.1 ∙ c.args.steps.ok.0)) c.loop-step.yielded c.loop-step.step-iterator
-    c.loop-step.yielded_by c.next.result c.next.new.self c.in-None.is c.next.ensures.steps in
-    let taken = sym (map-same c.loop-step.yielded) ∙ all.0 in
-    λ h stands.
-    each-step (meaning_of g.S.BackendSelection) Raises (raises (meaning_of g.S.BackendSelection)) _
-    (rw taken at (c.loop-step.invariant.stood h stands)).run
-
-pub returns-clause-destroys_exactly : goal.returns-clause-destroys_exactly
-returns-clause-destroys_exactly g c =
-    let gives = c.into_iter-step-iterator.ensures.into_iter_gives in
-    let all =
-    YieldsList-end
-    (YieldsList-from_vec c.args.steps.items gives.0 (gives.1 ∙ c.args.steps.ok.0)) c.loop-step.yielded c.loop-step.step-iterator
-    c.loop-step.yielded_by c.next.result c.next.new.self c.in-None.is c.next.ensures.steps in
-    let taken = sym (map-same c.loop-step.yielded) ∙ all.0 in
-    λ h stands.
-    each-step (meaning_of g.S.BackendSelection) DestroysExactly (destroys (meaning_of g.S.BackendSelection)) _
-    (rw taken at (c.loop-step.invariant.stood h stands)).run
+    let m : Meaning g.row.S-Config.Denot = meaning_of g.S.BackendSelection in
+    let stood : (h : History g.row.S-Config.Denot) → Stands m c.args.self.now h
+    → Stands m c.loop-step.self (after h (map step_seen c.args.steps.items) c.loop-step.answers.items) =
+    λ h stands. rw taken at (c.loop-step.invariant.stood h stands) in
+    record {
+      stands = stood;
+      run = λ h stands. (stood h stands).run;
+      each = omega (arith, c.loop-step.answers.ok.0, c.args.steps.ok.0, c.loop-step.invariant.answered, ap length taken);
+      promised = λ h stands. always m (Promised m) (promised m) _ (stood h stands).run;
+      view_follows = λ h stands. always m (λ k. (i : ℕ) → ViewFollows i k) (view-follows m) _ (stood h stands).run;
+      lives_exactly = λ h stands. always m LivesExactly (lives-exactly m) _ (stood h stands).run;
+      judged = λ h stands. always m JudgedByOwn (judged-by m) _ (stood h stands).run;
+      never_falls = λ h stands. each-step m NeverFalls (never-falls m) _ (stood h stands).run;
+      first_accepted = λ h stands. each-step m (FirstAccepted m) (first-accepted m) _ (stood h stands).run;
+      raises = λ h stands. each-step m Raises (raises m) _ (stood h stands).run;
+      destroys_exactly = λ h stands. each-step m DestroysExactly (destroys m) _ (stood h stands).run;
+      err = tt;
+    }
