@@ -51,7 +51,8 @@ impl<S: BackendSelection, D: ServiceDiscovery + Drop> LoadBalancerGroupCore<S, D
         discovery: DiscoverySource<D>,
         configs: Vec<S::Config>,
     ) -> Result<LoadBalancerGroupCore<S, D>, Refusal>
-        ensures stands { IfOk result (λ b. Stands (record { id = b.group.group.id; gate = gate.now.id; configs = configs.items }) [] b.group) }
+        ensures stands { IfOk result (λ b. Stands
+            (record { id = b.group.group.id; gate = gate.now.id; configs = configs.items }) [] b.group) }
         ensures gate { IfOk result (λ b. b.group.group.gate ≡ gate.now.id) }
         ensures id { IfOk result (λ b. (key_of : Member → Member) (events : List Event)
             → IsRegistryAfter R.gives key_of events registry.old → b.group.view.id ≡ registered_after events + 1) }
@@ -89,8 +90,8 @@ impl<S: BackendSelection, D: ServiceDiscovery + Drop> LoadBalancerGroupCore<S, D
         registry: &mut Registry<R>,
         clock: &mut K,
     ) -> Result<Scheduled, Refusal>
-        ensures updated { IfOk result (λ s. IsGroupUpdated R.gives self.old.discovery self.old.group registry.old K.reads clock.old clock.new
-            self.new.group registry.new self.new.timing s) }
+        ensures updated { IfOk result (λ s. IsGroupUpdated R.gives self.old.discovery self.old.group registry.old
+            K.reads clock.old clock.new self.new.group registry.new self.new.timing s) }
         ensures err { OnErr result (After self.old.group (λ made e. Stands made e self.new.group)) }
         ensures registry_err { OnErr result ((key_of : Member → Member) (events : List Event)
             → IsRegistryAfter R.gives key_of events registry.old

@@ -9,7 +9,8 @@ ghost use Rattle.lb_select.specs.Refusals.{Refuses};
 ghost use Rattle.lb_select.specs.declared.refusal.Refusal.{Refusal};
 ghost use Rattle.lb_select.specs.Seen.{inet_seen};
 ghost use Rattle.lb_health.specs.Discoveries.{IsDiscoveryRefusal};
-ghost use Rattle.lb_health.specs.Lookups.{Answer, AreAnswers, FindsSpelled, Gathers, cause_of, cause_after, socket_answer, with_answer, with_answers};
+ghost use Rattle.lb_health.specs.Lookups.{Answer, AreAnswers, FindsSpelled, Gathers, cause_of, cause_after};
+ghost use Rattle.lb_health.specs.Lookups.{socket_answer, with_answer, with_answers};
 
 use lb_select::backend::{Backend, Ext, InetAddr, SocketAddr};
 use lb_select::causes::earlier;
