@@ -89,7 +89,8 @@ pub(crate) fn push_targets(
     text: &mut Vec<u8>,
     targets: &[Target],
 ) -> Result<(), AllocError>
-    ensures { OnOk result (text.new.items ≡ text.old.items ++ (codes "targets " ++ decimal (length targets.now) ++ targets_text targets.now)) }
+    ensures { OnOk result (text.new.items
+        ≡ text.old.items ++ (codes "targets " ++ decimal (length targets.now) ++ targets_text targets.now)) }
 {
     push_numbered(text, b"targets ", targets.len() as u64)?;
     for target in targets {
