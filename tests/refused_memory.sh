@@ -45,11 +45,19 @@ def instead(line):
     return [[]]
 
 
+def renumbered(answer, missing):
+    """An answer, or an error at a line behind which this many lines are missing."""
+    words = answer.split(b" ")
+    if words[0] != b"error":
+        return answer
+    return b" ".join((words[0], b"%d" % (int(words[1]) + missing), *words[2:]))
+
+
 def goes_on(lines, at, rest):
     """Whether the rest answers the lines after that one as the yardstick does."""
     for stand_in in instead(lines[at]):
         answers = written(PLAIN, lines[:at] + stand_in + lines[at + 1:])
-        if answers[at + len(stand_in):] == rest:
+        if [renumbered(line, 1 - len(stand_in)) for line in answers[at + len(stand_in):]] == rest:
             return True
     return False
 

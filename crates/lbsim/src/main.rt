@@ -5,7 +5,7 @@
 use lb_counted::counted::Counted;
 use lb_script::run::run_script;
 use std::env;
-use std::io::{self, BufWriter, Write};
+use std::io::{self, BufWriter, ErrorKind, Write};
 use std::process::ExitCode;
 use std::rt::Env;
 
@@ -16,11 +16,18 @@ const BAD_ARGUMENTS: &[u8] = b"error 0 BadArguments\n";
 
 const OUT_OF_MEMORY: &[u8] = b"error 1 OutOfMemory\n";
 
-// Whether the program was given an argument, text or not.
-fn has_arguments(rt: &(impl Env + AllocGlobal)) -> bool {
+// The line with which the program ends before it reads: it was given an argument, text or not, or there is no memory to tell.
+fn early_end(rt: &(impl Env + AllocGlobal)) -> Option<&'static [u8]> {
     match env::args(rt) {
-        Ok(arguments) => arguments.count() > 1,
-        Err(_) => true,
+        Ok(arguments) => {
+            if arguments.count() > 1 {
+                Some(BAD_ARGUMENTS)
+            } else {
+                None
+            }
+        }
+        Err(fault) if fault.kind() == ErrorKind::OutOfMemory => Some(OUT_OF_MEMORY),
+        Err(_) => Some(BAD_ARGUMENTS),
     }
 }
 
@@ -33,8 +40,8 @@ fn end_with(rt: &impl Print, line: &[u8]) -> ExitCode {
 }
 
 fn main(rt: HostRuntime) -> ExitCode {
-    if has_arguments(&rt) {
-        return end_with(&rt, BAD_ARGUMENTS);
+    if let Some(line) = early_end(&rt) {
+        return end_with(&rt, line);
     }
     let Ok(buffered) = BufWriter::with_capacity(rt.alloc(), OUTPUT_CAPACITY, io::writer(&rt)) else {
         return end_with(&rt, OUT_OF_MEMORY);
