@@ -227,7 +227,9 @@ one-key Address key_of gives a b e =
     by-address Less p e = e
     by-address Equal p e = refl
     by-address Greater p e = e
-one-key (Equivalence none) key_of gives a b e = elim none [ ]
+one-key (Equivalence own) key_of gives a b e =
+    ap (λ x. same_member x (key_of b)) (sym (gives a (by_identity a) refl))
+    ∙ ap (same_member (by_identity a)) (sym (gives b (by_identity b) refl)) ∙ e
 
 -- how many numbers the registry has given once a view has these members
 pub given-then : (key_of : Member → Member) (events : List Event) (id : ℕ) (v : RegistryValue WorldRule) (ls : List Listing)

@@ -1,14 +1,15 @@
--- The keys that a registry of a world gives: by identity or by address, as no caller's rule is there.
+-- The keys that a registry of a world gives: by identity or by address. Where a caller's rule would stand there is identity.
+use Rattle.std.specs.Prelude.{◌≡◌}
 use Rattle.lb_select.specs.Backends.{Member}
-use Rattle.lb_registry.specs.Keys.{rule_gives}
+use Rattle.lb_registry.specs.Keys.{by_identity, rule_gives}
 use Rattle.lb_registry.specs.declared.keys.Rule.{Rule}
-use Rattle.lb_world.specs.declared.rule.NoRule.{NoRule}
+use Rattle.lb_world.specs.declared.rule.ByIdentity.{ByIdentity}
 
-abbrev pub none_gives : NoRule → Member → Member → Type 0
-none_gives rule b k = ⊥
+abbrev pub identity_gives : ByIdentity → Member → Member → Type 0
+identity_gives rule b k = k ≡ by_identity b
 
-abbrev pub key_gives : Rule NoRule → Member → Member → Type 0
-key_gives = rule_gives none_gives
+abbrev pub key_gives : Rule ByIdentity → Member → Member → Type 0
+key_gives = rule_gives identity_gives
 
 abbrev pub WorldRule : Type 0
-WorldRule = Rule NoRule
+WorldRule = Rule ByIdentity

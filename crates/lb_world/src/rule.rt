@@ -1,29 +1,33 @@
-//! The key rules of a world's registries: by identity or by address, and no caller's.
+//! The key rules of a world's registries: by identity or by address. No registry of a world has a caller's rule.
 ghost use Rattle.std.specs.Prelude.{◌≡◌};
 
 use lb_registry::keys::{KeyRule, Rule};
 use lb_registry::registry::Registry;
-use lb_select::backend::Backend;
+use lb_select::backend::{Backend, Ext};
 use lb_select::refusal::Refusal;
 use std::alloc::Global;
 
-/// A caller's rule that nobody has.
+/// What stands where a caller's rule would: address and weight, as `Rule::Identity`. No step makes a registry of it.
 #[derive(Drop)]
-pub enum NoRule {}
+pub struct ByIdentity;
 
-impl KeyRule for NoRule {
-    ghost use Rattle.lb_world.specs.Rules.{none_gives};
+impl KeyRule for ByIdentity {
+    ghost use Rattle.lb_world.specs.Rules.{identity_gives};
 
-    ghost gives = { none_gives };
+    ghost gives = { identity_gives };
 
     fn key(&self, alloc: Global, backend: &Backend) -> Result<Backend, Refusal> {
-        match *self {}
+        Ok(Backend {
+            addr: backend.addr.clone()?,
+            weight: backend.weight,
+            ext: Ext::new(alloc),
+        })
     }
 
     fn same(&self, backend: &Backend, other: &Backend) -> bool {
-        match *self {}
+        backend == other
     }
 }
 
 /// A registry of a world.
-pub type WorldRegistry = Registry<Rule<NoRule>>;
+pub type WorldRegistry = Registry<Rule<ByIdentity>>;
