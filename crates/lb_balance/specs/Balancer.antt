@@ -1,5 +1,5 @@
 -- A view with the selector of its newest membership: what happens to it, newest first, and what it is then.
-use Rattle.std.specs.Prelude.{◌≡◌, ◌==◌, ◌+◌, ◌^◌, ℕ, Bool, not, nat_le, List, [], ◌∷◌, Option, Some, None, if◌then◌else◌}
+use Rattle.std.specs.Prelude.{◌≡◌, ◌↔◌, ◌==◌, IsTrue, ◌+◌, ◌^◌, ℕ, Bool, not, nat_le, List, [], ◌∷◌, Option, Some, None, if◌then◌else◌}
 use Rattle.std.specs.List.{list_any}
 use Rattle.std.specs.Option.{option_or}
 use Rattle.lb_select.specs.Backends.{Member, same_member}
@@ -8,7 +8,9 @@ use Rattle.lb_select.specs.Refusals.{memory_apart}
 use Rattle.lb_select.specs.declared.refusal.Refusal.{Refusal}
 use Rattle.lb_select.specs.declared.refusal.Refusal.TheVariants.{GenerationsExhausted, NoSuch, NumbersExhausted}
 use Rattle.lb_select.specs.declared.words.CoreWords.{CoreWords}
+use Rattle.lb_registry.specs.Registry.{RegistryValue, IsRegistryAfter}
 use Rattle.lb_registry.specs.RegistryEvents as registry
+use Rattle.lb_health.specs.Joined.{IsReady}
 use Rattle.lb_health.specs.Snapshots.{ViewValue}
 use Rattle.lb_health.specs.ViewEvents as view
 use Rattle.lb_health.specs.Views.{IsViewAfter}
@@ -93,3 +95,15 @@ abbrev pub update_cause :
 update_cause build key_of id members events e =
     if same_members members (members_now e) then None
     else option_or (memory_apart build) (view_cause key_of id members events (view_events e))
+
+-- whether a backend is ready in the newest generation, by the live cells of its snapshot and the flags as they are
+abbrev pub Judges : (Member → Member) → List registry.Event → History → Member → Bool → Type 0
+Judges key_of events e b ready =
+    IsTrue ready ↔ IsReady key_of (view_events e) events (view.generation_after (view_events e)) b
+
+-- the same, whatever view and registry have been through
+abbrev pub IsJudged : {R : Type 0} → (R → Member → Member → Type 0) → ViewValue → RegistryValue R → Member → Bool → Type 0
+IsJudged gives v r b ready =
+    (key_of : Member → Member) (views : List view.ViewEvent) (events : List registry.Event)
+    → IsViewAfter views v → IsRegistryAfter gives key_of events r
+    → (IsTrue ready ↔ IsReady key_of views events (view.generation_after views) b)
