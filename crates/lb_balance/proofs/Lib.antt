@@ -1,2 +1,3 @@
 pub mod SlotCounts
 pub mod Balancing
+pub mod Choosing
