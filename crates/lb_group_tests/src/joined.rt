@@ -1,9 +1,11 @@
 //! Groups joined with their views, as calls: readiness in the snapshot that a reader entered, and which cells live how long.
-ghost use Rattle.std.specs.Prelude.{◌≡◌, IfOk};
+ghost use Rattle.std.specs.Prelude.{◌≡◌, Some, slice_get};
+ghost use Rattle.lb_group.specs.Values.{configs_of};
 ghost use Rattle.lb_joined.specs.Stands.{SameSite};
 
 use crate::calls::{alone, built};
 use lb_group::answers::{Ask, Told};
+use lb_group::job::Job;
 use lb_health::view::Settings;
 use lb_joined::group::GroupCore;
 use lb_rebuild::gate::GateCore;
@@ -13,83 +15,119 @@ use lb_select::refusal::Refusal;
 use lb_weighted::selection::RoundRobin;
 use std::alloc::Global;
 use std::collections::BTreeSet;
+use std::marker::Model;
 use std::test::Fail;
 
-// A group of one slot with a view of this registry.
-pub(crate) fn joined_of_one(
-    alloc: Global,
-    registry: &mut RegistryCore,
-    gate: &GateCore,
-) -> Result<GroupCore<RoundRobin>, Refusal>
-    ensures { IfOk result (λ g. g.group.gate ≡ gate.now.id) }
-{
-    let mut configs = Vec::new(alloc);
-    configs.push(())?;
-    GroupCore::new(alloc, registry, gate, configs)
+/// A joined group of one slot with its gate. Its registry is lent to each call.
+#[derive(Drop)]
+pub(crate) struct Joined {
+    pub(crate) gate: GateCore,
+    pub(crate) group: GroupCore<RoundRobin>,
 }
 
-// Asks slot 0, and publishes what is built at once; `None` where there is no job.
-pub(crate) fn rebuilt(
+impl Model for Joined {
+    ghost use Rattle.std.specs.Prelude.{◌≡◌};
+
+    ghost Value = { Unit {0} };
+
+    ghost view = { λ j. record {} };
+
+    ghost invariant = { λ j. j.group.group.gate ≡ j.gate.id };
+}
+
+impl Joined {
+    /// A group over that registry and a new gate.
+    pub(crate) fn new(alloc: Global, registry: &mut RegistryCore) -> Result<Joined, Refusal> {
+        let gate = GateCore::new(alloc)?;
+        let mut configs = Vec::new(alloc);
+        configs.push(())?;
+        let group = GroupCore::new(alloc, registry, &gate, configs)?;
+        Ok(Joined { gate, group })
+    }
+
+    /// Gives the group these backends without settings; whether they are another membership.
+    pub(crate) fn scheduled(
+        &mut self,
+        alloc: Global,
+        registry: &mut RegistryCore,
+        backends: BTreeSet<Backend>,
+        now: u128,
+    ) -> Result<bool, Refusal> {
+        self.scheduled_with(alloc, registry, backends, Settings::new(alloc), now)
+    }
+
+    /// The same with settings.
+    pub(crate) fn scheduled_with(
+        &mut self,
+        alloc: Global,
+        registry: &mut RegistryCore,
+        backends: BTreeSet<Backend>,
+        settings: Settings,
+        now: u128,
+    ) -> Result<bool, Refusal> {
+        let scheduled = self
+            .group
+            .schedule(alloc, registry, backends, settings, now)?;
+        Ok(scheduled.changed)
+    }
+
+    /// Asks for a job, and publishes what is built at once; `None` where there is no job.
+    pub(crate) fn rebuilt(&mut self, alloc: Global, now: u128) -> Result<Option<Told>, Refusal> {
+        match self.group.ask(0, &mut self.gate, now)? {
+            Ask::Cancelled | Ask::Building | Ask::Nothing | Ask::NotDue(_) | Ask::Busy => Ok(None),
+            Ask::Job(job) => published(alloc, &mut self.group, job, now),
+        }
+    }
+
+    // Takes the retired selector out, destroys it and reports it; whether the report was owed.
+    fn destroyed(&mut self, registry: &mut RegistryCore) -> Result<bool, Refusal> {
+        let permit = self.group.take_retired(0)?.destroy();
+        match self.group.destroyed(0, permit, registry, &mut self.gate) {
+            Ok(()) => Ok(true),
+            Err(permit) => {
+                permit.spend();
+                Ok(false)
+            }
+        }
+    }
+
+    /// Sets a flag.
+    pub(crate) fn set_enable(&mut self, backend: &Backend, enabled: bool) {
+        self.group.set_enable(backend, enabled);
+    }
+
+    // Whether the backend is ready for a reader that enters and leaves again.
+    fn is_ready(&mut self, registry: &RegistryCore, backend: &Backend) -> Result<bool, Refusal> {
+        let reader = self.group.enter(0)?;
+        let ready = self.group.ready(&reader, registry, backend);
+        match self.group.leave(reader) {
+            Ok(()) => Ok(ready),
+            Err(reader) => {
+                reader.close();
+                Err(Refusal::NoSuchReader)
+            }
+        }
+    }
+}
+
+// Builds a job and publishes what was built.
+fn published(
     alloc: Global,
     group: &mut GroupCore<RoundRobin>,
-    gate: &mut GateCore,
+    job: Job<RoundRobin>,
     now: u128,
 ) -> Result<Option<Told>, Refusal>
-    requires { gate.old.id ≡ group.old.group.gate }
-    ensures gate { gate.new.id ≡ gate.old.id }
-    ensures site { SameSite group.old group.new }
+    requires own { job.group ≡ group.old.group.id }
+    requires permit { job.permit ≡ group.old.group.gate }
+    requires config { slice_get (configs_of group.old.group) job.slot ≡ Some job.config }
+    ensures { SameSite group.old group.new }
 {
-    let job = match group.ask(0, gate, now)? {
-        Ask::Cancelled | Ask::Building | Ask::Nothing | Ask::NotDue(_) | Ask::Busy => {
-            return Ok(None);
-        }
-        Ask::Job(job) => job,
-    };
     let built = built(alloc, job, now)?;
     match group.publish(built) {
         Ok(told) => Ok(Some(told)),
         Err(built) => {
             built.close();
             Ok(None)
-        }
-    }
-}
-
-// Takes the retired selector out of slot 0, destroys it and reports it; whether the report was owed.
-fn destroyed(
-    group: &mut GroupCore<RoundRobin>,
-    registry: &mut RegistryCore,
-    gate: &mut GateCore,
-) -> Result<bool, Refusal>
-    requires { gate.old.id ≡ group.old.group.gate }
-    ensures gate { gate.new.id ≡ gate.old.id }
-    ensures site { SameSite group.old group.new }
-{
-    let permit = group.take_retired(0)?.destroy();
-    match group.destroyed(0, permit, registry, gate) {
-        Ok(()) => Ok(true),
-        Err(permit) => {
-            permit.spend();
-            Ok(false)
-        }
-    }
-}
-
-// Whether the backend is ready for a reader that enters slot 0 and leaves it again.
-fn is_ready(
-    group: &mut GroupCore<RoundRobin>,
-    registry: &RegistryCore,
-    backend: &Backend,
-) -> Result<bool, Refusal>
-    ensures { SameSite group.old group.new }
-{
-    let reader = group.enter(0)?;
-    let ready = group.ready(&reader, registry, backend);
-    match group.leave(reader) {
-        Ok(()) => Ok(ready),
-        Err(reader) => {
-            reader.close();
-            Err(Refusal::NoSuchReader)
         }
     }
 }
@@ -105,39 +143,32 @@ fn address(alloc: Global) -> Result<SocketAddr, Refusal> {
 fn old_snapshot_keeps_its_cells(rt: HostRuntime) -> Result<(), Fail> {
     let alloc = rt.alloc();
     let mut registry = RegistryCore::new(alloc);
-    let mut gate = GateCore::new(alloc)?;
-    let mut group = joined_of_one(alloc, &mut registry, &gate)?;
+    let mut joined = Joined::new(alloc, &mut registry)?;
     let backend = Backend::new(alloc, "1.0.0.1:80")?;
     let first = alone(alloc, "1.0.0.1:80")?;
-    assert_eq!(rt; group.id(), 1);
-    group.schedule(alloc, &mut registry, first, Settings::new(alloc), 0)?;
-    assert_eq!(rt;
-        rebuilt(alloc, &mut group, &mut gate, 0)?,
-        Some(Told::Published(1))
-    );
-    assert!(rt; destroyed(&mut group, &mut registry, &mut gate)?);
-    assert!(rt; is_ready(&mut group, &registry, &backend)?);
+    assert_eq!(rt; joined.group.id(), 1);
+    joined.scheduled(alloc, &mut registry, first, 0)?;
+    assert_eq!(rt; joined.rebuilt(alloc, 0)?, Some(Told::Published(1)));
+    assert!(rt; joined.destroyed(&mut registry)?);
+    assert!(rt; joined.is_ready(&registry, &backend)?);
     assert_eq!(rt; registry.observe(0, false, 1), Ok(true));
-    group.set_enable(&backend, false);
+    joined.set_enable(&backend, false);
     let none = BTreeSet::new(alloc);
-    group.schedule(alloc, &mut registry, none, Settings::new(alloc), 1)?;
+    joined.scheduled(alloc, &mut registry, none, 1)?;
     let again = alone(alloc, "1.0.0.1:80")?;
-    group.schedule(alloc, &mut registry, again, Settings::new(alloc), 2)?;
-    assert_eq!(rt; group.newest(), 3);
+    joined.scheduled(alloc, &mut registry, again, 2)?;
+    assert_eq!(rt; joined.group.newest(), 3);
     assert!(rt; registry.cell_ready(1));
-    assert!(rt; !is_ready(&mut group, &registry, &backend)?);
-    group.set_enable(&backend, true);
-    assert!(rt; !is_ready(&mut group, &registry, &backend)?);
+    assert!(rt; !joined.is_ready(&registry, &backend)?);
+    joined.set_enable(&backend, true);
+    assert!(rt; !joined.is_ready(&registry, &backend)?);
     assert_eq!(rt; registry.observe(0, true, 1), Ok(true));
-    assert!(rt; is_ready(&mut group, &registry, &backend)?);
-    assert_eq!(rt;
-        rebuilt(alloc, &mut group, &mut gate, 3)?,
-        Some(Told::Published(3))
-    );
-    assert!(rt; is_ready(&mut group, &registry, &backend)?);
-    assert!(rt; destroyed(&mut group, &mut registry, &mut gate)?);
+    assert!(rt; joined.is_ready(&registry, &backend)?);
+    assert_eq!(rt; joined.rebuilt(alloc, 3)?, Some(Told::Published(3)));
+    assert!(rt; joined.is_ready(&registry, &backend)?);
+    assert!(rt; joined.destroyed(&mut registry)?);
     assert_eq!(rt; registry.observe(0, true, 1), Err(Refusal::NoSuch));
-    assert!(rt; is_ready(&mut group, &registry, &backend)?);
+    assert!(rt; joined.is_ready(&registry, &backend)?);
     Ok(())
 }
 
@@ -146,24 +177,19 @@ fn old_snapshot_keeps_its_cells(rt: HostRuntime) -> Result<(), Fail> {
 fn settings_reach_the_newest_membership(rt: HostRuntime) -> Result<(), Fail> {
     let alloc = rt.alloc();
     let mut registry = RegistryCore::new(alloc);
-    let mut gate = GateCore::new(alloc)?;
-    let mut group = joined_of_one(alloc, &mut registry, &gate)?;
+    let mut joined = Joined::new(alloc, &mut registry)?;
     let backend = Backend::new(alloc, "1.0.0.1:80")?;
     let mut settings = Settings::new(alloc);
     settings.insert((address(alloc)?, 1), false)?;
     let first = alone(alloc, "1.0.0.1:80")?;
-    group.schedule(alloc, &mut registry, first, settings, 0)?;
-    assert_eq!(rt;
-        rebuilt(alloc, &mut group, &mut gate, 0)?,
-        Some(Told::Published(1))
-    );
-    assert!(rt; !is_ready(&mut group, &registry, &backend)?);
+    joined.scheduled_with(alloc, &mut registry, first, settings, 0)?;
+    assert_eq!(rt; joined.rebuilt(alloc, 0)?, Some(Told::Published(1)));
+    assert!(rt; !joined.is_ready(&registry, &backend)?);
     let same = alone(alloc, "1.0.0.1:80")?;
-    let answer = group.schedule(alloc, &mut registry, same, Settings::new(alloc), 1)?;
-    assert!(rt; !answer.changed);
-    assert!(rt; !is_ready(&mut group, &registry, &backend)?);
-    group.set_enable(&backend, true);
-    assert!(rt; is_ready(&mut group, &registry, &backend)?);
+    assert!(rt; !joined.scheduled(alloc, &mut registry, same, 1)?);
+    assert!(rt; !joined.is_ready(&registry, &backend)?);
+    joined.set_enable(&backend, true);
+    assert!(rt; joined.is_ready(&registry, &backend)?);
     Ok(())
 }
 
@@ -172,22 +198,18 @@ fn settings_reach_the_newest_membership(rt: HostRuntime) -> Result<(), Fail> {
 fn cancelled_view_is_removed(rt: HostRuntime) -> Result<(), Fail> {
     let alloc = rt.alloc();
     let mut registry = RegistryCore::new(alloc);
-    let mut gate = GateCore::new(alloc)?;
-    let mut group = joined_of_one(alloc, &mut registry, &gate)?;
+    let mut joined = Joined::new(alloc, &mut registry)?;
     let backend = Backend::new(alloc, "1.0.0.1:80")?;
     let first = alone(alloc, "1.0.0.1:80")?;
-    group.schedule(alloc, &mut registry, first, Settings::new(alloc), 0)?;
-    assert_eq!(rt;
-        rebuilt(alloc, &mut group, &mut gate, 0)?,
-        Some(Told::Published(1))
-    );
+    joined.scheduled(alloc, &mut registry, first, 0)?;
+    assert_eq!(rt; joined.rebuilt(alloc, 0)?, Some(Told::Published(1)));
     assert_eq!(rt; registry.target_count(alloc)?, 1);
-    group.cancel(&mut registry);
+    joined.group.cancel(&mut registry);
     assert_eq!(rt; registry.target_count(alloc)?, 0);
-    assert!(rt; is_ready(&mut group, &registry, &backend)?);
+    assert!(rt; joined.is_ready(&registry, &backend)?);
     let next = alone(alloc, "1.0.0.2:80")?;
-    let refused = group.schedule(alloc, &mut registry, next, Settings::new(alloc), 1);
-    assert!(rt; matches!(refused, Err(Refusal::GroupCancelled)));
-    assert_eq!(rt; rebuilt(alloc, &mut group, &mut gate, 1)?, None);
+    let refused = joined.scheduled(alloc, &mut registry, next, 1);
+    assert_eq!(rt; refused, Err(Refusal::GroupCancelled));
+    assert_eq!(rt; joined.rebuilt(alloc, 1)?, None);
     Ok(())
 }

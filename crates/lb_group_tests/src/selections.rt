@@ -1,13 +1,9 @@
 //! Selections of groups as calls: which backend comes by readiness, by what accepts, and by loads.
 //! The weight tells which backend it is.
-ghost use Rattle.lb_joined.specs.Stands.{SameSite};
-
-use crate::joined::{joined_of_one, rebuilt};
+use crate::joined::Joined;
 use lb_group::answers::{Ask, Selection};
 use lb_group::group::GroupCore;
 use lb_group::job::FailedBuild;
-use lb_health::view::Settings;
-use lb_joined::group;
 use lb_rebuild::gate::GateCore;
 use lb_registry::registry::RegistryCore;
 use lb_select::backend::Backend;
@@ -40,15 +36,40 @@ fn told(selection: Selection) -> Result<(Option<usize>, u64), Refusal> {
     Ok((found.map(|backend| backend.weight), selection.drawn))
 }
 
-// Selects from slot 0 by readiness.
-fn selected(
-    alloc: Global,
-    group: &mut group::GroupCore<RoundRobin>,
-    registry: &RegistryCore,
-) -> Result<(Option<usize>, u64), Refusal>
-    ensures { SameSite group.old group.new }
-{
-    told(group.select(alloc, registry, 0, b"", 16, &[], &Loads::new()))
+impl Joined {
+    // Selects by readiness.
+    fn selected(
+        &mut self,
+        alloc: Global,
+        registry: &RegistryCore,
+        slot: usize,
+        limit: usize,
+    ) -> Result<(Option<usize>, u64), Refusal> {
+        told(
+            self.group
+                .select(alloc, registry, slot, b"", limit, &[], &Loads::new()),
+        )
+    }
+
+    // Selects among what isn't ready: what came, and where the counter of tickets stands.
+    fn selected_unready(
+        &mut self,
+        alloc: Global,
+        registry: &RegistryCore,
+    ) -> Result<((Option<usize>, u64), u64), Refusal> {
+        let selection = self.group.select_with(
+            alloc,
+            registry,
+            0,
+            b"",
+            16,
+            &[],
+            &Loads::new(),
+            &|_backend: &Backend, ready: bool| !ready,
+        );
+        let tickets = selection.tickets;
+        Ok((told(selection)?, tickets))
+    }
 }
 
 // The first ready one is selected; what accepts is asked with each backend and whether it is ready.
@@ -56,32 +77,20 @@ fn selected(
 fn ready_ones_are_selected(rt: HostRuntime) -> Result<(), Fail> {
     let alloc = rt.alloc();
     let mut registry = RegistryCore::new(alloc);
-    let mut gate = GateCore::new(alloc)?;
-    let mut group = joined_of_one(alloc, &mut registry, &gate)?;
-    assert_eq!(rt; selected(alloc, &mut group, &registry)?, (None, 1));
-    let set = by_weight(alloc, 2)?;
-    group.schedule(alloc, &mut registry, set, Settings::new(alloc), 0)?;
-    rebuilt(alloc, &mut group, &mut gate, 0)?;
-    assert_eq!(rt; selected(alloc, &mut group, &registry)?, (Some(1), 1));
-    group.set_enable(&one(alloc, 2)?, false);
+    let mut joined = Joined::new(alloc, &mut registry)?;
+    assert_eq!(rt; joined.selected(alloc, &registry, 0, 16)?, (None, 1));
+    joined.scheduled(alloc, &mut registry, by_weight(alloc, 2)?, 0)?;
+    joined.rebuilt(alloc, 0)?;
+    assert_eq!(rt; joined.selected(alloc, &registry, 0, 16)?, (Some(1), 1));
+    joined.set_enable(&one(alloc, 2)?, false);
     // Ticket 1 is of the second by weight, ticket 2 of the first by rank.
-    assert_eq!(rt; selected(alloc, &mut group, &registry)?, (Some(1), 2));
-    let loads = Loads::new();
-    let idle = group.select_with(
-        alloc,
-        &registry,
-        0,
-        b"",
-        16,
-        &[],
-        &loads,
-        &|_backend: &Backend, ready: bool| !ready,
-    );
+    assert_eq!(rt; joined.selected(alloc, &registry, 0, 16)?, (Some(1), 2));
     // Tickets 3 and 4 are of the first one, ticket 5 is of the second.
-    assert_eq!(rt; idle.tickets, 6);
-    assert_eq!(rt; told(idle)?, (Some(2), 3));
-    let nowhere = group.select(alloc, &registry, 1, b"", 16, &[], &loads);
-    assert_eq!(rt; told(nowhere)?, (None, 0));
+    assert_eq!(rt;
+        joined.selected_unready(alloc, &registry)?,
+        ((Some(2), 3), 6)
+    );
+    assert_eq!(rt; joined.selected(alloc, &registry, 1, 16)?, (None, 0));
     Ok(())
 }
 
@@ -90,19 +99,13 @@ fn ready_ones_are_selected(rt: HostRuntime) -> Result<(), Fail> {
 fn served_generation_judges(rt: HostRuntime) -> Result<(), Fail> {
     let alloc = rt.alloc();
     let mut registry = RegistryCore::new(alloc);
-    let mut gate = GateCore::new(alloc)?;
-    let mut group = joined_of_one(alloc, &mut registry, &gate)?;
-    let set = by_weight(alloc, 1)?;
-    group.schedule(alloc, &mut registry, set, Settings::new(alloc), 0)?;
-    rebuilt(alloc, &mut group, &mut gate, 0)?;
-    let none = BTreeSet::new(alloc);
-    group.schedule(alloc, &mut registry, none, Settings::new(alloc), 1)?;
-    assert_eq!(rt; selected(alloc, &mut group, &registry)?, (Some(1), 1));
+    let mut joined = Joined::new(alloc, &mut registry)?;
+    joined.scheduled(alloc, &mut registry, by_weight(alloc, 1)?, 0)?;
+    joined.rebuilt(alloc, 0)?;
+    joined.scheduled(alloc, &mut registry, BTreeSet::new(alloc), 1)?;
+    assert_eq!(rt; joined.selected(alloc, &registry, 0, 16)?, (Some(1), 1));
     assert_eq!(rt; registry.observe(0, false, 1), Ok(true));
-    assert_eq!(rt;
-        told(group.select(alloc, &registry, 0, b"", 3, &[], &Loads::new()))?,
-        (None, 4)
-    );
+    assert_eq!(rt; joined.selected(alloc, &registry, 0, 3)?, (None, 4));
     Ok(())
 }
 
