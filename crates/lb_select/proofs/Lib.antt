@@ -4,6 +4,7 @@ pub mod Clones
 pub mod LeastCauses
 pub mod Lists
 pub mod LoadTables
+pub mod Octets
 pub mod SameBackends
 pub mod Searches
 pub mod SelectionLaws

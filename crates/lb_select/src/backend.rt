@@ -3,11 +3,12 @@
 ghost use Rattle.std.specs.Prelude.{◌≡◌, IfOk, Some, None, option_map};
 ghost use Rattle.std.specs.Cmp.{partial_order_from_own_ties};
 ghost use Rattle.std.specs.Cmp.Rules.{comparing};
-ghost use Rattle.std.specs.Ordering.{as_partial_cmp};
+ghost use Rattle.std.specs.Cmp.Lexicographic.{slice_cmp};
+ghost use Rattle.std.specs.Ordering.{as_partial_cmp, nat_cmp};
 ghost use Rattle.std.proofs.Common.{rules};
 ghost use Rattle.lb_select.specs.AddressText.{address_of_text, address_refusal, bare_member, internet_backend, IsSpelledBy};
 ghost use Rattle.lb_select.specs.AddressText.{path_of_text, path_refusal, member_text, GivesSocket};
-ghost use Rattle.lb_select.specs.Backends.{unix, Member, member_cmp, same_member, member_hash, identity_of};
+ghost use Rattle.lb_select.specs.Backends.{unix, Member, address_cmp, member_cmp, same_member, member_hash, identity_of};
 ghost use Rattle.lb_select.specs.Refusals.{Refuses};
 ghost use Rattle.lb_select.specs.Seen.{address_seen, entries_seen};
 ghost use Rattle.lb_select.specs.Identity.{hash_alike};
@@ -164,6 +165,37 @@ impl fmt::Display for Backend {
     }
 }
 
+// How the octets of two IPv4 addresses compare, as one number each.
+fn compared_four(octets: &[u8; 4], others: &[u8; 4]) -> Ordering
+    ensures { result ≡ slice_cmp nat_cmp octets.now others.now }
+{
+    u32::from_be_bytes(*octets).cmp(&u32::from_be_bytes(*others))
+}
+
+// How the octets of two IPv6 addresses compare, as one number each.
+fn compared_sixteen(octets: &[u8; 16], others: &[u8; 16]) -> Ordering
+    ensures { result ≡ slice_cmp nat_cmp octets.now others.now }
+{
+    u128::from_be_bytes(*octets).cmp(&u128::from_be_bytes(*others))
+}
+
+// How two addresses compare: what `Ord` answers, but octets are compared as numbers.
+fn compared(addr: &SocketAddr, other: &SocketAddr) -> Ordering
+    ensures { result ≡ address_cmp (address_seen addr.now) (address_seen other.now) }
+{
+    match (addr, other) {
+        (
+            SocketAddr::Inet(InetAddr::V4(octets, port)),
+            SocketAddr::Inet(InetAddr::V4(others, other_port)),
+        ) => compared_four(octets, others).then(port.cmp(other_port)),
+        (
+            SocketAddr::Inet(InetAddr::V6(octets, port)),
+            SocketAddr::Inet(InetAddr::V6(others, other_port)),
+        ) => compared_sixteen(octets, others).then(port.cmp(other_port)),
+        _ => addr.cmp(other),
+    }
+}
+
 impl Clone for SocketAddr {
     ghost is_clone = { λ a b. address_seen b ≡ address_seen a };
 
@@ -231,9 +263,7 @@ impl Ord for Backend {
     ghost matches_eq = { Prim.search (comparing, rules) depth 9 };
 
     fn cmp(&self, other: &Backend) -> Ordering {
-        self.addr
-            .cmp(&other.addr)
-            .then(self.weight.cmp(&other.weight))
+        compared(&self.addr, &other.addr).then(self.weight.cmp(&other.weight))
     }
 }
 
