@@ -1,5 +1,5 @@
 -- Views and table together after a change: the marks applied, one view's membership exchanged, and a refused change put back.
-use Rattle.std.proofs.Common.{◌≡◌, ◌<◌, ◌≤◌, ◌^◌, ℕ, zero, suc, inl, inr, Bool, true, false, cond, ◌||◌, List, [], ◌∷◌, map, length, filter, not, position, set, get_or, Some, Result, Ok, Err, OnOk, ◌++◌, ◌+◌, refl, sym, ap, subst, ◌∙◌, nat_lt, length-append, take, ◌-◌, arith, ◌↔◌, IsTrue, true≢false, ⊎_elim}
+use Rattle.std.proofs.Common.{◌≡◌, ◌<◌, ◌≤◌, ◌^◌, ℕ, zero, suc, inl, inr, Bool, true, false, cond, ◌||◌, List, [], ◌∷◌, map, length, filter, not, position, set, get_or, Some, Result, Ok, Err, IfOk, OnOk, ◌++◌, ◌+◌, refl, sym, ap, subst, ◌∙◌, nat_lt, length-append, take, ◌-◌, arith, ◌↔◌, IsTrue, true≢false, ⊎_elim}
 use Rattle.std.proofs.lemmas.Bool.{cases_lt}
 use Rattle.std.proofs.lemmas.List.{map-append, take-append-le, take_all}
 use Rattle.std.proofs.lemmas.Option.{cond_some, same_Some, slice_get_read}
@@ -122,6 +122,11 @@ pub put_back :
 put_back [] place x y z at is = absurd (cc)
 put_back (w ∷ items) zero x y z at is = ap (λ v. v ∷ map view_value items) (is ∙ ap view_value (sym (same_Some w x at)))
 put_back (w ∷ items) (suc place) x y z at is = ap (λ vs. view_value w ∷ vs) (put_back items place x y z at is)
+
+-- what follows where a call succeeds
+pub if_ok : {A E : Type 0} {P Q : A → Type 0} (r : Result A E) → ((a : A) → P a → Q a) → IfOk r P → IfOk r Q
+if_ok (Ok a) f h = f a h
+if_ok (Err e) f h = tt
 
 -- a clause of a call that went well, from two of its callee's
 pub on_both : {A E : Type 0} {P Q S : Type 0} (r : Result A E) → OnOk r P → OnOk r Q → (P → Q → S) → OnOk r S

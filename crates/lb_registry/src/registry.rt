@@ -10,7 +10,7 @@ ghost use Rattle.lb_registry.specs.Registry.{IsRegistryAfter, target_at, targets
 ghost use Rattle.lb_registry.specs.RegistryEvents.{Event, Registered, Applied, Updated, Marked, Observed, Released, Configured};
 ghost use Rattle.lb_registry.specs.RegistryEvents.{has_view, registered_after, views_after, after_update, after_show};
 ghost use Rattle.lb_registry.specs.RegistryEvents.{shown_cells, cells_given, cell_events, cell_health, IsCellKept};
-ghost use Rattle.lb_registry.specs.Table.{table_value, IsTableAfter};
+ghost use Rattle.lb_registry.specs.Table.{table_value, IsTableAfter, IsPruned};
 ghost use Rattle.lb_registry.specs.Targets.{live, target_keys};
 ghost use Rattle.lb_registry.specs.Verdicts.{Verdict};
 
@@ -388,7 +388,7 @@ fn with_targets(
 ) -> Vec<Target>
     requires { vec_len targets + length order.entries ≤ vec_capacity targets }
     ensures { (key_of : Member → Member) (events : List Event) → IsTableAfter member_cmp (cell_events key_of events) (table_value table.now)
-        → result.items ≡ targets.items ++ filter_map (target_at key_of events) order.entries }
+        → IsPruned member_cmp (cell_events key_of events) (table_value table.now) → result.items ≡ targets.items ++ filter_map (target_at key_of events) order.entries }
 {
     for (place, key) in order {
         if let Some(cell) = table.numbering.by_key.get(&key).copied() {

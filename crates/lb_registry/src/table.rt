@@ -99,24 +99,21 @@ impl<K: HealthKey> CellTable<K> {
         self.start = healthy;
     }
 
-    // The health of a cell, where it is kept: a target has it, or a live snapshot.
+    // The health of a cell, where it is kept: what isn't kept isn't stored.
     fn kept(&self, cell: u64) -> Option<Health>
         ensures kept { (events : List (CellEvent K)) → IsTableAfter K.cmp events (table_value self.now)
-            → MatchOption result (¬ IsKept K.cmp events cell)
+            → IsPruned K.cmp events (table_value self.now) → MatchOption result (¬ IsKept K.cmp events cell)
             (λ h. IsKept K.cmp events cell × IsHealthAfter (start_of (eq_by_cmp K.cmp) cell events) (verdicts_of cell events) h) }
         ensures stored { IsSome result → IsSome (value_at nat_cmp (table_value self.now).cells cell) }
     {
         let stored = self.cells.get(&cell)?;
-        if keeps(&self.numbering, &self.held, cell, &stored.key) {
-            Some(stored.health)
-        } else {
-            None
-        }
+        Some(stored.health)
     }
 
     // Whether the cell is kept and healthy.
     pub(crate) fn cell_ready(&self, cell: u64) -> bool
         ensures { (events : List (CellEvent K)) → IsTableAfter K.cmp events (table_value self.now)
+            → IsPruned K.cmp events (table_value self.now)
             → (IsTrue result ↔ (IsKept K.cmp events cell × (health_of (eq_by_cmp K.cmp) cell events ≡ true))) }
     {
         match self.kept(cell) {
@@ -133,12 +130,12 @@ impl<K: HealthKey> CellTable<K> {
         threshold: usize,
     ) -> Result<bool, Refusal>
         ensures after { OnOk result ((events : List (CellEvent K)) → IsTableAfter K.cmp events (table_value self.old)
-            → IsTableAfter K.cmp (Observed cell (record { ok = verdict; threshold = threshold }) ∷ events) (table_value self.new)) }
+            → IsPruned K.cmp events (table_value self.old) → IsTableAfter K.cmp (Observed cell (record { ok = verdict; threshold = threshold }) ∷ events) (table_value self.new)) }
         ensures flipped { IfOk result (λ flipped. (events : List (CellEvent K)) → IsTableAfter K.cmp events (table_value self.old)
-            → (IsTrue flipped ↔ (health_of (eq_by_cmp K.cmp) cell (Observed cell (record { ok = verdict; threshold = threshold }) ∷ events)
+            → IsPruned K.cmp events (table_value self.old) → (IsTrue flipped ↔ (health_of (eq_by_cmp K.cmp) cell (Observed cell (record { ok = verdict; threshold = threshold }) ∷ events)
             ≢ health_of (eq_by_cmp K.cmp) cell events))) }
         ensures kept { (events : List (CellEvent K)) → IsTableAfter K.cmp events (table_value self.old)
-            → (IsOk result ↔ IsKept K.cmp events cell) }
+            → IsPruned K.cmp events (table_value self.old) → (IsOk result ↔ IsKept K.cmp events cell) }
         ensures pruned { OnOk result ((events : List (CellEvent K)) → IsPruned K.cmp events (table_value self.old)
             → IsPruned K.cmp (Observed cell (record { ok = verdict; threshold = threshold }) ∷ events) (table_value self.new)) }
         ensures refused { OnErr result ((result ≡ Err Refusal.NoSuch) × (self.new ≡ self.old)) }

@@ -44,7 +44,8 @@ returns-clause-targets g c =
     let now = seen g.R.KeyRule.gives key_of events _ _ c.self.view_is r in
     let order = c.in_ok-order.ensures.ok key_of now.rule ∙ ap (λ (vs : List View). targets_in key_of (live (map view_value vs))) c.deref.ensures.value
     ∙ ap (λ vs. targets_in key_of (live vs)) now.state.listed in
-    c.with_targets.ensures key_of (Applied ∷ events) (c.in_ok-apply.ensures.ok key_of events now.rule now.state).cells
+    let after = c.in_ok-apply.ensures.ok key_of events now.rule now.state in
+    c.with_targets.ensures key_of (Applied ∷ events) after.cells after.pruned
     ∙ ap (λ (ts : List Target). ts ++ filter_map (target_at key_of (Applied ∷ events)) c.in_ok-order.order.entries) (c.in_ok-reserve.ensures.items ∙ c.new-targets.ensures.items)
     ∙ ap (filter_map (target_at key_of (Applied ∷ events))) order
 

@@ -10,11 +10,11 @@ use Rattle.lb_registry.proofs.table.CellTable.observe.Goals as goal
 
 pub returns-in-Some-get_mut-clause-after : goal.returns-in-Some-get_mut-clause-after
 returns-in-Some-get_mut-clause-after g c =
-    λ events table.
+    λ events table only.
     let t = table_value c.args.self.now in
     let made : Cell g.row.K.Denot = record { key = c.in-Some-get_mut.stored.now.key; health = c.observe_health-flipped.new.self } in
     let there : value_at nat_cmp t.cells c.args.cell ≡ Some c.in-Some-get_mut.stored.now = sym c.in-Some-get_mut.ensures.value in
-    let kept = c.in-Some.ensures.kept events table in
+    let kept = c.in-Some.ensures.kept events table only in
     observed g.met.K.Ord.total events t table c.args.cell (record { ok = c.args.verdict; threshold = c.args.threshold }) c.in-Some-get_mut.stored.now made
     (c.get_mut.follows.lender made).entries there kept.0 refl
     (c.observe_health-flipped.ensures.after (start_of (eq_by_cmp g.K.Ord.cmp) c.args.cell events) (verdicts_of c.args.cell events) kept.1)
