@@ -4,6 +4,7 @@ pub mod Counting
 pub mod Crcs
 pub mod Filling
 pub mod Removals
+pub mod Indexing
 pub mod Lists
 pub mod Owners
 pub mod Placing

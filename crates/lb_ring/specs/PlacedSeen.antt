@@ -1,4 +1,5 @@
 -- How a built selector is seen.
+use Rattle.lb_ring.specs.Buckets.{IsIndexOf}
 use Rattle.lb_ring.specs.Placed.{Placed, IsPlaced}
 use Rattle.lb_ring.specs.declared.ketama.KetamaHashing.TheInside.{Inside}
 
@@ -6,6 +7,7 @@ use Rattle.lb_ring.specs.declared.ketama.KetamaHashing.TheInside.{Inside}
 abbrev pub placed_seen : Inside → Placed
 placed_seen r = record { members = r.backends.items; owners = r.owners.items; points = r.points.items; multiple = r.config.point_multiple }
 
--- its points are those of its backends
-abbrev pub IsPlacedSeen : Inside → Type 0
-IsPlacedSeen r = IsPlaced r.backends.items r.owners.items r.points.items
+-- its points are those of its backends, and the index is theirs
+pub record IsPlacedSeen (r : Inside) : Type 0 where
+  pub placed : IsPlaced r.backends.items r.owners.items r.points.items
+  pub indexed : IsIndexOf r.points.items r.index.shift r.index.starts.items

@@ -11,7 +11,8 @@ ghost use Rattle.lb_ring.specs.RingLaws.{walk_starts, walk_ends, walk_undrawn, w
 
 use crate::crc::crc32;
 use crate::fill::{Marks, marks_of, members_of, weight_on_ring};
-use crate::points::{arrange, first_from};
+use crate::index::Index;
+use crate::points::arrange;
 use lb_select::backend::Backend;
 use lb_select::refusal::Refusal;
 use lb_select::walk::{BackendIter, BackendSelection};
@@ -29,6 +30,7 @@ pub struct KetamaHashing {
     backends: Vec<Backend>,
     owners: Vec<usize>,
     points: Vec<(u32, u32)>,
+    index: Index,
     config: KetamaConfig,
 }
 
@@ -76,10 +78,12 @@ impl KetamaHashing {
         let Marks { owners, points } = marks_of(alloc, &backends, weight)?;
         let mut points = points;
         arrange(&mut points);
+        let index = Index::of(alloc, &points)?;
         Ok(KetamaHashing {
             backends,
             owners,
             points,
+            index,
             config,
         })
     }
@@ -88,7 +92,7 @@ impl KetamaHashing {
     fn start_of(&self, key: &[u8]) -> usize
         ensures { IsStart self.now key.now result }
     {
-        first_from(&self.points, crc32(key))
+        self.index.first_from(&self.points, crc32(key))
     }
 
     // The index itself, or 0 where it is past the last point.

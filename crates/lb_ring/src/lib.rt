@@ -5,6 +5,7 @@
 mod chain;
 pub mod crc;
 mod fill;
+mod index;
 pub mod ketama;
 pub mod laws;
 mod points;
