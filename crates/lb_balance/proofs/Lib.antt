@@ -1,1 +1,4 @@
 pub mod SlotCounts
+pub mod Balancing
+pub mod Choosing
+pub mod Readings

@@ -1,2 +1,4 @@
+pub mod Balancer
+pub mod BalancerUpdates
 pub mod GroupUpdates
 pub mod Timings

@@ -3,6 +3,8 @@
 //! The registry, the gate and the clock are lent to the calls; threads and locks come above.
 #![tactic(auto)]
 
+pub mod balancer_core;
 pub mod group_core;
 pub mod moments;
+pub mod served;
 pub mod timings;
