@@ -176,6 +176,26 @@ impl<S: BackendSelection> Built<S> {
         self.order.generation
     }
 
+    /// The same selector, the build of which ended at that moment: for a clock that isn't lent to `build`.
+    pub fn ended_at(self, ended: u128) -> Built<S>
+        ensures { result ≡ record self { ended = ended } }
+    {
+        let Built {
+            place,
+            order,
+            permit,
+            selector,
+            ended: _,
+        } = self;
+        Built {
+            place,
+            order,
+            permit,
+            selector,
+            ended,
+        }
+    }
+
     /// Lets the selector go for good: its gate never grants again.
     pub fn close(self) {
         let Built {

@@ -1,6 +1,7 @@
 //! Selectors that are served or were, and the readers that are in them.
 //! A retired selector holds the permit of the extra selector that it is, until it is destroyed and reported.
 ghost use Rattle.std.specs.Prelude.{◌≡◌};
+ghost use Rattle.std.specs.Arc.{arc_value};
 
 use crate::place::Place;
 use lb_rebuild::gate::Permit;
@@ -136,6 +137,14 @@ impl<S: BackendSelection> Reader<S> {
         ensures { result ≡ self.now.generation }
     {
         self.generation
+    }
+
+    /// The selector that was entered.
+    pub fn selector(&self) -> &Arc<S>
+        ensures members { S.members (arc_value result.now) ≡ self.now.members }
+        ensures config { S.built_with (arc_value result.now) ≡ self.now.config }
+    {
+        &self.selector
     }
 
     /// Lets the reader go for good: the selector that it is in can't be destroyed from then on.

@@ -9,7 +9,7 @@ pub mod causes;
 pub mod laws;
 pub mod loads;
 pub mod refusal;
-mod seen;
+pub mod seen;
 pub mod select;
 pub mod unique;
 pub mod walk;

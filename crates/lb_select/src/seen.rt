@@ -8,17 +8,19 @@ use crate::backend::Backend;
 use std::alloc::{AllocError, Global};
 use std::collections::BTreeSet;
 
+/// The backends that came so far, by identity. A selection of one's own asks it for repeats, as `select` does.
 // The backends of the set have nothing attached. The one that came last is not in it yet, so that a selection that turns down
 // one backend alone puts nothing into it.
 #[derive(Drop)]
-pub(crate) struct SeenBackends {
+pub struct SeenBackends {
     alloc: Global,
     identities: BTreeSet<Backend>,
     last: Option<Backend>,
 }
 
 impl SeenBackends {
-    pub(crate) fn new(alloc: Global) -> Self
+    /// No backend came yet. It takes no memory.
+    pub fn new(alloc: Global) -> Self
         ensures { (q : Member) → has_backend result q ≡ false }
     {
         SeenBackends {
@@ -28,8 +30,8 @@ impl SeenBackends {
         }
     }
 
-    // Whether a backend of this identity came already.
-    pub(crate) fn contains(&self, backend: &Backend) -> bool
+    /// Whether a backend of this identity came already.
+    pub fn contains(&self, backend: &Backend) -> bool
         ensures { result ≡ has_backend self.now backend.now }
     {
         if let Some(last) = &self.last {
@@ -40,8 +42,8 @@ impl SeenBackends {
         self.identities.contains(backend)
     }
 
-    // From here on the backend came already. Where memory is refused nothing changes.
-    pub(crate) fn remember(&mut self, backend: &Backend) -> Result<(), AllocError>
+    /// From here on the backend came already. Where memory is refused nothing changes.
+    pub fn remember(&mut self, backend: &Backend) -> Result<(), AllocError>
         ensures remembered { IfOk result (λ _. (q : Member)
             → has_backend self.new q ≡ (has_backend self.old q || same_member q backend.now)) }
         ensures refused { IfErr result (λ _. (q : Member) → has_backend self.new q ≡ has_backend self.old q) }

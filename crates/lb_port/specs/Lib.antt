@@ -1,0 +1,4 @@
+pub mod Calls
+pub mod Found
+pub mod Looks
+pub mod Through

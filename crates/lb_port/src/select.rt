@@ -1,0 +1,96 @@
+//! A selection from a group by its port: a reader enters, its selector's walk is searched, and the reader leaves.
+//! Each call of the port is one step, and others' steps may fall between.
+ghost use Rattle.std.specs.Prelude.{◌≡◌};
+ghost use Rattle.lb_port.specs.Looks.{Answers, SelectsBy, SelectedThrough};
+
+use crate::port::GroupPort;
+use crate::words::ReaderWords;
+use lb_group::retired::Reader;
+use lb_select::backend::Backend;
+use lb_select::refusal::Refusal;
+use lb_select::seen::SeenBackends;
+use lb_select::walk::{BackendIter, BackendSelection};
+use std::alloc::Global;
+
+/// The first that `accept` accepts of the distinct backends among the first `max_iterations` candidates of what the slot serves,
+/// asked with each and whether it is ready, or `None` where none of them is accepted or no such slot is there.
+///
+/// # Errors
+///
+/// `OutOfMemory` where memory is refused, and what the port refuses for the entry. A reader that has entered leaves in any case.
+pub fn select_through<S: BackendSelection, P: GroupPort<S>, F: Fn(&Backend, bool) -> bool>(
+    alloc: Global,
+    port: &mut P,
+    slot: usize,
+    key: &[u8],
+    max_iterations: usize,
+    accept: &F,
+) -> Result<Option<Backend>, Refusal>
+    requires { F.IsAlwaysCallable accept.now }
+    ensures { SelectedThrough (λ b ready a. Answers F.Fn accept.now b ready a) max_iterations P.draws P.readies P.entered
+        P.left S.walks key.now port.old slot result port.new }
+{
+    match port.enter(slot) {
+        Ok(reader) => {
+            let answer = select_for(alloc, port, &reader, key, max_iterations, accept);
+            port.leave(reader);
+            answer
+        }
+        Err(Refusal::NoSuch) => Ok(None),
+        Err(refusal) => Err(refusal),
+    }
+}
+
+// A selection for a reader that has entered.
+fn select_for<S: BackendSelection, P: GroupPort<S>, F: Fn(&Backend, bool) -> bool>(
+    alloc: Global,
+    port: &mut P,
+    reader: &Reader<S>,
+    key: &[u8],
+    limit: usize,
+    accept: &F,
+) -> Result<Option<Backend>, Refusal>
+    requires accept { F.IsAlwaysCallable accept.now }
+    requires own { P.owns_reader port.old reader.now }
+    ensures { SelectsBy (λ b ready a. Answers F.Fn accept.now b ready a) limit P.draws P.readies
+        (S.walks reader.now.members reader.now.config key.now) port.old reader.now result port.new }
+{
+    let mut words = ReaderWords { port, reader };
+    first_accepted(alloc, &mut words, key, limit, accept)
+}
+
+// The first of the walk that is accepted. What is refused is not copied.
+fn first_accepted<'p, 'r, S: BackendSelection, P: GroupPort<S>, F: Fn(&Backend, bool) -> bool>(
+    alloc: Global,
+    words: &mut ReaderWords<'p, 'r, S, P>,
+    key: &[u8],
+    limit: usize,
+    accept: &F,
+) -> Result<Option<Backend>, Refusal>
+    requires accept { F.IsAlwaysCallable accept.now }
+    requires own { P.owns_reader words.old.port.now words.old.reader.now }
+    ensures selects { SelectsBy (λ b ready a. Answers F.Fn accept.now b ready a) limit P.draws P.readies
+        (S.walks words.old.reader.now.members words.old.reader.now.config key.now) words.old.port.now words.old.reader.now
+        result words.new.port.now }
+    ensures same_reference { words.new.port.ghost_name ≡ words.old.port.ghost_name }
+{
+    let mut iter = S::iter(words.reader.selector(), key, words)?;
+    let mut seen = SeenBackends::new(alloc);
+    for _ in 0..limit {
+        let Some(candidate) = iter.next(words) else {
+            return Ok(None);
+        };
+        if seen.contains(candidate) {
+            continue;
+        }
+        let ready = words.port.ready(words.reader, candidate);
+        if accept(candidate, ready) {
+            let answer = candidate.copied(alloc)?;
+            return Ok(Some(answer));
+        }
+        seen.remember(candidate)?;
+    }
+    // The candidate past the limit is drawn too, and not looked at.
+    let _past = iter.next(words);
+    Ok(None)
+}
