@@ -17,3 +17,6 @@ pub mod Sharing
 pub mod Numbering
 pub mod Together
 pub mod Registered
+pub mod Refusing
+pub mod Unrefused
+pub mod Drawing

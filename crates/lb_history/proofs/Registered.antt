@@ -1,10 +1,10 @@
 -- In a run the view of a group that is not cancelled is registered, and no mark waits for it.
-use Rattle.std.proofs.Common.{◌≡◌, ◌⊎◌, inl, inr, ◌<◌, ◌≤◌, ◌+◌, ◌==◌, ◌&&◌, ◌||◌, ◌∙◌, ℕ, zero, suc, Bool, true, false, not, cond, List, [], ◌∷◌, ◌++◌, length, refl, sym, ap, subst, arith}
-use Rattle.std.specs.Prelude.{Option, Some, None, slice_get}
+use Rattle.std.proofs.Common.{◌≡◌, inl, inr, ◌<◌, ◌≤◌, ◌+◌, ◌==◌, ◌&&◌, ◌||◌, ◌∙◌, ℕ, zero, suc, Bool, true, false, not, cond, List, [], ◌∷◌, ◌++◌, length, refl, sym, ap, subst, arith}
+use Rattle.std.specs.Prelude.{Option, Some, slice_get}
 use Rattle.std.specs.Option.{option_map}
 use Rattle.std.specs.List.{AllByRecursion as Each}
 use Rattle.std.proofs.lemmas.Bool.{eq-eqb, ne_eqb, eqb-true}
-use Rattle.std.proofs.lemmas.Option.{none-some, same_Some, slice_get_within}
+use Rattle.std.proofs.lemmas.Option.{none-some, same_Some}
 use mathlib.Core.Logic.{dite}
 use native.Mathlib.Decide.{ℕ_discrete}
 use Rattle.lb_select.specs.Backends.{Member}
@@ -18,8 +18,8 @@ use Rattle.lb_history.specs.Steps as step
 use Rattle.lb_history.specs.declared.answer.Answer.{Answer}
 use Rattle.lb_history.specs.declared.answer.Answer.TheVariants as answer
 use Rattle.lb_history.specs.Meanings.{Meaning}
-use Rattle.lb_history.specs.History.{History, Made, is_at, members_in, config, drew, over, registries, made, made_at, registry_of, group_at, happened, group_events}
-use Rattle.lb_history.specs.Shared.{started, is_live, configs_in, view_in, let_go, extra_at, registry_at, changed, registry_events}
+use Rattle.lb_history.specs.History.{History, Made, is_at, members_in, over, registries, made, made_at, registry_of, group_at, happened, group_events}
+use Rattle.lb_history.specs.Shared.{is_live, configs_in, view_in, let_go, extra_at, registry_at, changed, registry_events}
 use Rattle.lb_history.specs.Answers.{IsRun}
 use Rattle.lb_history.specs.Promises.{IsRegistered}
 use Rattle.lb_history.proofs.Absent.{found}

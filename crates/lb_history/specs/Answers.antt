@@ -4,7 +4,7 @@ use Rattle.std.specs.Prelude.{◌≡◌, ◌⊎◌, ◌↔◌, ℕ, ◌+◌, ◌
 use Rattle.std.specs.Prelude.{map, Option, Some, None, is_none, Result, Ok, Err, IsTrue, if◌then◌else◌, slice_get, MatchBool, MatchOption}
 use Rattle.std.specs.List.{list_any}
 use Rattle.lb_select.specs.Backends.{Member, same_member}
-use Rattle.lb_select.specs.Draws.{Draw, HandedValue, LoadedGives}
+use Rattle.lb_select.specs.Draws.{HandedValue, LoadedGives}
 use Rattle.lb_select.specs.Refusals.{earlier, least, memory_apart}
 use Rattle.lb_select.specs.Selections.{Selects}
 use Rattle.lb_select.specs.declared.refusal.Refusal.{Refusal}

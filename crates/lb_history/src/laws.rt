@@ -11,6 +11,7 @@ ghost use Rattle.lb_history.specs.Joined.{JoinsAlike, SchedulesAlike};
 ghost use Rattle.lb_history.specs.Meanings.{meaning_of};
 ghost use Rattle.lb_history.specs.Promises.{Promised, NeverFalls, Raises, DestroysExactly, SharesAlike, OthersStay, Untouched};
 ghost use Rattle.lb_history.specs.Promises.{ViewFollows, LivesExactly, JudgedBy, IsRegistered};
+ghost use Rattle.lb_history.specs.Refused.{TellsAlike, RefusedStays, unrefused};
 ghost use Rattle.lb_history.specs.Selected.{FirstAccepted};
 ghost use Rattle.lb_history.specs.declared.answer.Answer.{Answer};
 ghost use Rattle.lb_history.specs.Shared.{key_of, events_in, registry_events, view_events};
@@ -79,6 +80,15 @@ pub fn steps_tell<S: BackendSelection>()
         → DestroysExactly h st a }
     ensures shares { (h : History S.Config) (st : Step S.Config) (a : Answer) → IsRun (meaning_of S.BackendSelection) ((st, a) ∷ h)
         → SharesAlike h st a }
+{}
+
+/// A step that is refused changes nothing: whatever comes later, all that is told of the world is as without it, the same answers are
+/// right, and without it what comes is a run as well. So a run without all its refused steps is a run, and tells the same.
+pub fn refused_steps_change_nothing<S: BackendSelection>()
+    ensures stays { (h : History S.Config) (st : Step S.Config) (a : Answer) → IsRun (meaning_of S.BackendSelection) ((st, a) ∷ h)
+        → RefusedStays (meaning_of S.BackendSelection) h st a }
+    ensures left_out { (h : History S.Config) → IsRun (meaning_of S.BackendSelection) h
+        → IsRun (meaning_of S.BackendSelection) (unrefused h) × TellsAlike h (unrefused h) }
 {}
 
 /// After every step: one extra for each gate, pointwise and counted; the ledger; exact readers; each selector's members are those

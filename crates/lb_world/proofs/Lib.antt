@@ -19,3 +19,4 @@ pub mod Runs
 pub mod GroupCauses
 pub mod ReaderSteps
 pub mod GroupSteps
+pub mod Unrefused

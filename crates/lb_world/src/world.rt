@@ -5,6 +5,7 @@ ghost use Rattle.lb_history.specs.Answers.{IsRun};
 ghost use Rattle.lb_history.specs.History.{History, after};
 ghost use Rattle.lb_history.specs.Meanings.{meaning_of};
 ghost use Rattle.lb_history.specs.Promises.{Promised, ViewFollows, LivesExactly, NeverFalls, Raises, DestroysExactly};
+ghost use Rattle.lb_history.specs.Refused.{RefusedStays, unrefused};
 ghost use Rattle.lb_history.specs.Selected.{FirstAccepted};
 ghost use Rattle.lb_history.specs.Steps as seen;
 ghost use Rattle.lb_history.specs.Steps.{step_seen};
@@ -176,6 +177,12 @@ impl<S: BackendSelection> World<S> {
             → EachStep Raises (after h (map step_seen steps.items) answers.items)) }
         ensures destroys_exactly { IfOk result (λ answers. (h : History S.Config) → Stands (meaning_of S.BackendSelection) self.old h
             → EachStep DestroysExactly (after h (map step_seen steps.items) answers.items)) }
+
+        // A refused step changed nothing: the world stands for the history without the refused ones as well.
+        ensures refused_stays { IfOk result (λ answers. (h : History S.Config) → Stands (meaning_of S.BackendSelection) self.old h
+            → EachStep (RefusedStays (meaning_of S.BackendSelection)) (after h (map step_seen steps.items) answers.items)) }
+        ensures unrefused { IfOk result (λ answers. (h : History S.Config) → Stands (meaning_of S.BackendSelection) self.old h
+            → Stands (meaning_of S.BackendSelection) self.new (unrefused (after h (map step_seen steps.items) answers.items))) }
 
         // Where the answers have no room, no step was taken.
         ensures err { IfErr result (λ r. (r ≡ Refusal.OutOfMemory) × (self.new ≡ self.old)) }

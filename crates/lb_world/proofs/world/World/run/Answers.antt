@@ -6,8 +6,10 @@ use Rattle.std.proofs.lemmas.List.{length_push}
 use Rattle.lb_history.specs.History.{History, after}
 use Rattle.lb_history.specs.Meanings.{Meaning, meaning_of}
 use Rattle.lb_history.specs.Promises.{Promised, ViewFollows, LivesExactly, NeverFalls, Raises, DestroysExactly}
+use Rattle.lb_history.specs.Refused.{RefusedStays}
 use Rattle.lb_history.specs.Selected.{FirstAccepted}
 use Rattle.lb_history.specs.Steps.{step_seen}
+use Rattle.lb_history.proofs.Drawing.{refused-stays}
 use Rattle.lb_history.proofs.Joining.{view-follows, judged-by}
 use Rattle.lb_history.proofs.Living.{lives-exactly}
 use Rattle.lb_history.proofs.Promised.{promised, never-falls}
@@ -16,6 +18,7 @@ use Rattle.lb_history.proofs.Steps.{raises, destroys}
 use Rattle.lb_world.specs.Ever.{JudgedByOwn}
 use Rattle.lb_world.specs.Stands.{Stands}
 use Rattle.lb_world.proofs.Runs.{after-push, map-push, map-length, map-same, each-step, always}
+use Rattle.lb_world.proofs.Unrefused.{stands-unrefused}
 use Rattle.lb_world.proofs.world.World.run.Goals as goal
 
 pub loop-step-preserved : goal.loop-step-preserved
@@ -60,5 +63,8 @@ returns g c =
       first_accepted = λ h stands. each-step m (FirstAccepted m) (first-accepted m) _ (stood h stands).run;
       raises = λ h stands. each-step m Raises (raises m) _ (stood h stands).run;
       destroys_exactly = λ h stands. each-step m DestroysExactly (destroys m) _ (stood h stands).run;
+      refused_stays =
+          λ h stands. each-step m (RefusedStays m) (refused-stays m g.met.S.BackendSelection.few_words) _ (stood h stands).run;
+      unrefused = λ h stands. stands-unrefused m c.loop-step.self _ (stood h stands);
       err = tt;
     }
