@@ -28,7 +28,7 @@ last_digit m p q =
     (λ e h. greater (m + p) (m + q) (omega arith) ∙ sym e)
 
 -- two numbers of two digits in base k
-two_digits : (k x y p q : ℕ) → p < k → q < k → nat_cmp (x * k + p) (y * k + q) ≡ ordering_then (nat_cmp x y) (nat_cmp p q)
+pub two_digits : (k x y p q : ℕ) → p < k → q < k → nat_cmp (x * k + p) (y * k + q) ≡ ordering_then (nat_cmp x y) (nat_cmp p q)
 two_digits k x y p q hp hq =
     by_ranked (x < y) (x ≡ y) (y < x) (nat_cmp x y) (ranked x y _ refl)
     (λ e h. let room : suc x * k ≤ y * k = mul-le (suc x) k y k (omega arith) (omega arith) in

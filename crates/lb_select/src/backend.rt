@@ -4,7 +4,7 @@ ghost use Rattle.std.specs.Prelude.{◌≡◌, IfOk, Some, None, option_map};
 ghost use Rattle.std.specs.Cmp.{partial_order_from_own_ties};
 ghost use Rattle.std.specs.Cmp.Rules.{comparing};
 ghost use Rattle.std.specs.Cmp.Lexicographic.{slice_cmp};
-ghost use Rattle.std.specs.Ordering.{as_partial_cmp, nat_cmp};
+ghost use Rattle.std.specs.Ordering.{as_partial_cmp, nat_cmp, ordering_then};
 ghost use Rattle.std.proofs.Common.{rules};
 ghost use Rattle.lb_select.specs.AddressText.{address_of_text, address_refusal, bare_member, internet_backend, IsSpelledBy};
 ghost use Rattle.lb_select.specs.AddressText.{path_of_text, path_refusal, member_text, GivesSocket};
@@ -165,11 +165,13 @@ impl fmt::Display for Backend {
     }
 }
 
-// How the octets of two IPv4 addresses compare, as one number each.
-fn compared_four(octets: &[u8; 4], others: &[u8; 4]) -> Ordering
-    ensures { result ≡ slice_cmp nat_cmp octets.now others.now }
+// How two IPv4 addresses with their ports compare, each as one number.
+fn compared_v4(octets: &[u8; 4], port: u16, others: &[u8; 4], other_port: u16) -> Ordering
+    ensures { result ≡ ordering_then (slice_cmp nat_cmp octets.now others.now) (nat_cmp port other_port) }
 {
-    u32::from_be_bytes(*octets).cmp(&u32::from_be_bytes(*others))
+    let number = u64::from(u32::from_be_bytes(*octets)) * 0x1_0000 + u64::from(port);
+    let other = u64::from(u32::from_be_bytes(*others)) * 0x1_0000 + u64::from(other_port);
+    number.cmp(&other)
 }
 
 // How the octets of two IPv6 addresses compare, as one number each.
@@ -187,7 +189,7 @@ fn compared(addr: &SocketAddr, other: &SocketAddr) -> Ordering
         (
             SocketAddr::Inet(InetAddr::V4(octets, port)),
             SocketAddr::Inet(InetAddr::V4(others, other_port)),
-        ) => compared_four(octets, others).then(port.cmp(other_port)),
+        ) => compared_v4(octets, *port, others, *other_port),
         (
             SocketAddr::Inet(InetAddr::V6(octets, port)),
             SocketAddr::Inet(InetAddr::V6(others, other_port)),
@@ -263,7 +265,10 @@ impl Ord for Backend {
     ghost matches_eq = { Prim.search (comparing, rules) depth 9 };
 
     fn cmp(&self, other: &Backend) -> Ordering {
-        compared(&self.addr, &other.addr).then(self.weight.cmp(&other.weight))
+        match compared(&self.addr, &other.addr) {
+            Ordering::Equal => self.weight.cmp(&other.weight),
+            order => order,
+        }
     }
 }
 
