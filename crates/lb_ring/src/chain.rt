@@ -7,7 +7,7 @@ ghost use Rattle.lb_ring.specs.Crc.{crc_fed};
 ghost use Rattle.lb_ring.specs.Placed.{chain_entries};
 ghost use Rattle.lb_ring.specs.Sorted.{HasSmallPoints};
 
-use crate::crc::{START, crc_of_state, state_after};
+use crate::crc::{START, crc_of_state, state_after, state_after_word};
 use lb_select::backend::InetAddr;
 use std::alloc::{AllocError, Global};
 use std::net::{Ipv4Addr, Ipv6Addr};
@@ -33,7 +33,7 @@ pub(crate) fn text_state(alloc: Global, addr: &InetAddr) -> Result<u32, AllocErr
 fn point_after(state: u32, point: u32) -> u32
     ensures { result ≡ point_after state point }
 {
-    crc_of_state(state_after(state, &point.to_le_bytes()))
+    crc_of_state(state_after_word(state, point))
 }
 
 // Adds the first points of a chain, each with the number of its owner.

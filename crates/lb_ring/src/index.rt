@@ -14,7 +14,7 @@ const MOST_SHIFT: u32 = 31;
 const LEAST_SHIFT: u32 = 4;
 
 // A bucket has half as many points at least, where the places are spread evenly.
-const MOST_IN_BUCKET: usize = 16;
+const MOST_IN_BUCKET: usize = 8;
 
 /// Where the points of each bucket begin. The bucket of a place is its upper bits.
 #[derive(Drop)]
