@@ -2,3 +2,4 @@ pub mod SlotCounts
 pub mod Balancing
 pub mod Choosing
 pub mod Readings
+pub mod TextLemmas

@@ -1,8 +1,7 @@
 -- The moments that an update read, by what its build took.
-use Rattle.std.proofs.Common.{◌≡◌, ◌-◌, ◌+◌, ℕ, Bool, true, false, List, [], ◌∷◌, length, Option, Some, None, MatchOption, unwrap_or, refl, sym, subst, arith}
+use Rattle.std.proofs.Common.{◌≡◌, ◌-◌, ℕ, Bool, true, false, List, [], ◌∷◌, length, Option, Some, None, MatchOption, unwrap_or, refl, sym, subst, arith}
 use Rattle.std.specs.Prelude.{if◌then◌else◌}
 use Rattle.lb_balance.specs.Timings.{Reads, update_timing}
-use Rattle.lb_balance.specs.declared.timings.UpdateTimings.{UpdateTimings}
 
 less-none : (n : ℕ) → n ≡ n - 0
 less-none n = omega arith

@@ -1,4 +1,5 @@
 pub mod Balancer
 pub mod BalancerUpdates
 pub mod GroupUpdates
+pub mod Texts
 pub mod Timings

@@ -5,6 +5,8 @@
 
 pub mod balancer_core;
 pub mod group_core;
+pub mod lent;
+pub mod load_balancer;
 pub mod moments;
 pub mod served;
 pub mod timings;

@@ -5,16 +5,18 @@ ghost use Rattle.std.specs.Arc.{arc_value};
 ghost use Rattle.std.specs.Option.{option_or};
 ghost use Rattle.lb_select.specs.Backends.{Member, same_member};
 ghost use Rattle.lb_select.specs.Refusals.{Refuses, memory_apart};
-ghost use Rattle.lb_select.specs.Loads.{load_in};
+ghost use Rattle.lb_select.specs.Loads.{SetsLoad, load_in};
 ghost use Rattle.lb_select.specs.Selections.{Selects};
 ghost use Rattle.lb_select.specs.Memberships.{same_members};
 ghost use Rattle.lb_registry.specs.Registry.{IsRegistryAfter};
 ghost use Rattle.lb_registry.specs.RegistryEvents.{Event, Applied, Registered, registered_after};
+ghost use Rattle.lb_health.specs.Founded.{IsFounded};
 ghost use Rattle.lb_health.specs.Joined.{registry_updated, settings_of};
-ghost use Rattle.lb_health.specs.ViewEvents.{ViewEvent, generation_after};
+ghost use Rattle.lb_health.specs.ViewEvents.{ViewEvent, generation_after, membership_after};
 ghost use Rattle.lb_health.specs.Views.{IsViewAfter};
 ghost use Rattle.lb_joined.specs.JoinedCalls.{AcceptsBy, IsMakingRefusal};
-ghost use Rattle.lb_balance.specs.Balancer.{After, Drew, IsJudged, Judges, Set, Stands, members_now, update_cause, updated, view_cause, view_events};
+ghost use Rattle.lb_balance.specs.Balancer.{After, Drew, IsJudged, Judges, Set, Stands, Took, members_now, update_cause};
+ghost use Rattle.lb_balance.specs.Balancer.{updated, view_cause, view_events};
 ghost use Rattle.lb_balance.specs.Timings.{Reads};
 
 use crate::moments::MomentSource;
@@ -111,6 +113,29 @@ impl<S: BackendSelection, G: Rng + Drop> Served<S, G> {
         })
     }
 
+    // This view, with a selector over its newest membership: by this configuration, or by the default one. It is refused for the
+    // cause for which that gives no selector, and for memory only where there is none.
+    pub(crate) fn over(
+        alloc: Global,
+        view: ViewCore,
+        config: Option<S::Config>,
+        generator: G,
+    ) -> Result<Served<S, G>, Refusal>
+        requires { IsFounded view }
+        ensures stands { (views : List ViewEvent) → IsViewAfter views view
+            → Refuses (S.refusal (membership_after views) (unwrap_or config S.default_config)) (Stands (Took views ∷ [])) result }
+        ensures parts { IfOk result (λ v. (v.view ≡ view) × (v.config ≡ unwrap_or config S.default_config)
+            × (v.words.generator ≡ generator) × ((m : Member) → load_in v.words.loads m ≡ 0)) }
+    {
+        let selector = selector_of::<S>(alloc, view.members(), &config)?;
+        Ok(Served {
+            view,
+            config,
+            selector,
+            words: CoreWords::new(generator),
+        })
+    }
+
     /// Takes what was discovered. Another membership than the newest becomes the next generation, and a selector that is built of it
     /// is served from then on; the clock is read before and after the build, and what it took is answered. The same membership
     /// changes nothing but flags, and the clock is not read.
@@ -129,7 +154,8 @@ impl<S: BackendSelection, G: Rng + Drop> Served<S, G> {
         clock: &mut K,
     ) -> Result<Option<u128>, Refusal>
         ensures updated { (key_of : Member → Member) (events : List Event) → IsRegistryAfter R.gives key_of events registry.old
-            → After self.old (λ e. Refuses (update_cause (S.refusal members.keys self.old.config) key_of self.old.view.id members.keys events e)
+            → After self.old (λ e. Refuses
+            (update_cause (S.refusal members.keys self.old.config) key_of self.old.view.id members.keys events e)
             (λ _. Stands (updated key_of self.old.view.id members.keys (settings_of settings.entries) events e) self.new
             × IsRegistryAfter R.gives key_of (registry_updated key_of self.old.view.id members.keys (view_events e) events) registry.new)
             result) }
@@ -197,6 +223,17 @@ impl<S: BackendSelection, G: Rng + Drop> Served<S, G> {
         ensures id { self.new.view.id ≡ self.old.view.id }
     {
         self.view.set_enable(backend, enabled);
+    }
+
+    /// Sets the load of a backend's identity. Refused for memory alone, and then nothing is set; the words to come stay.
+    pub fn set_load(&mut self, alloc: Global, backend: &Backend, load: u64) -> Result<(), Refusal>
+        ensures set { IfOk result (λ _. SetsLoad (load_in self.old.words.loads) backend.now load (load_in self.new.words.loads)) }
+        ensures refused { IfErr result (λ r. (r ≡ Refusal.OutOfMemory)
+            × ((m : Member) → load_in self.new.words.loads m ≡ load_in self.old.words.loads m)) }
+        ensures stands { After self.old (λ e. Stands e self.new) }
+        ensures kept { self.new ≡ record self.old { words = record self.old.words { loads = self.new.words.loads } } }
+    {
+        self.words.set_load(alloc, backend, load)
     }
 
     /// Selects the first for which `accept` answers true, when it is asked with a backend and whether it is ready, of the distinct

@@ -1,4 +1,5 @@
 pub mod Discoveries
+pub mod Founded
 pub mod Joined
 pub mod Lookups
 pub mod Passes

@@ -11,6 +11,7 @@ ghost use Rattle.lb_registry.specs.Keys.{by_identity, rule_gives};
 ghost use Rattle.lb_registry.specs.Registry.{IsRegistryAfter, IsGrowthRefusal};
 ghost use Rattle.lb_registry.specs.RegistryEvents.{Event, Applied, Registered, registered_after, views_after, has_view, cells_given};
 ghost use Rattle.lb_health.specs.Discoveries.{MayFault};
+ghost use Rattle.lb_health.specs.Founded.{IsFounded};
 ghost use Rattle.lb_health.specs.Joined.{IsReady};
 ghost use Rattle.lb_health.specs.Snapshots.{IfHead};
 ghost use Rattle.lb_health.specs.Passes.{PassesWith, target_cells};
@@ -31,7 +32,7 @@ use std::collections::BTreeSet;
 use std::marker::Model;
 use std::sync::Arc;
 
-/// A discovery, a registry, and the view of the one in the other.
+/// A discovery, a registry, and the view of the one in the other. Some history stands behind the view.
 #[derive(Drop)]
 pub struct Backends<D, R, C> {
     discovery: DiscoverySource<D>,
@@ -43,11 +44,41 @@ pub struct Backends<D, R, C> {
 pub type BackendView<D, R, C> = Backends<D, R, C>;
 
 impl<D, R, C> Model for Backends<D, R, C> {
+    ghost use Rattle.lb_health.specs.Founded.{IsFounded};
     ghost use Rattle.lb_health.specs.Updates.{BackendsValue};
 
     ghost Value = { BackendsValue D R C };
 
     ghost view = { λ b. record { discovery = b.discovery; health = b.registry; view = b.view } };
+
+    ghost invariant = { λ b. IsFounded b.view };
+}
+
+/// What backends are made of.
+#[derive(Drop)]
+pub struct BackendsParts<D, R, C> {
+    pub discovery: DiscoverySource<D>,
+    pub registry: HealthRegistry<R, C>,
+    pub view: ViewCore,
+}
+
+impl<D, R, C> Backends<D, R, C> {
+    /// What the backends are made of, for whoever updates them otherwise.
+    pub fn into_parts(self) -> BackendsParts<D, R, C>
+        ensures parts { (result.discovery ≡ self.discovery) × (result.registry ≡ self.health) × (result.view ≡ self.view) }
+        ensures founded { IsFounded result.view }
+    {
+        let Backends {
+            discovery,
+            registry,
+            view,
+        } = self;
+        BackendsParts {
+            discovery,
+            registry,
+            view,
+        }
+    }
 }
 
 impl<D: ServiceDiscovery + Drop, N: KeyRule + Drop, C: HealthCheck + Drop> Backends<D, Rule<N>, C> {

@@ -24,7 +24,8 @@ use std::marker::Model;
 /// A registry of health and the check of its targets, which is set once.
 #[derive(Drop)]
 pub struct HealthRegistry<R, C> {
-    pub(crate) registry: Registry<R>,
+    /// The registry itself, for a call that is lent one.
+    pub registry: Registry<R>,
     check: Option<C>,
 }
 

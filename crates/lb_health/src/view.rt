@@ -122,6 +122,13 @@ impl ViewCore {
         self.current.generation
     }
 
+    /// The membership of the newest generation, lent. It takes no memory.
+    pub fn members(&self) -> &BTreeSet<Backend>
+        ensures { (views : List ViewEvent) → IsViewAfter views self.now → result.now.keys ≡ membership_after views }
+    {
+        &self.current.members
+    }
+
     /// The membership of the newest generation. Refused `OutOfMemory` where std refuses one more owner.
     pub fn get_backend(&self) -> Result<Arc<BTreeSet<Backend>>, Refusal>
         ensures members { IfOk result (λ set. (views : List ViewEvent) → IsViewAfter views self.now

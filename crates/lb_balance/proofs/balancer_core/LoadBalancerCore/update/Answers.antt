@@ -1,5 +1,4 @@
 -- The moments that were read, and what is served then.
-use Rattle.std.proofs.Common.{◌∷◌}
 use Rattle.lb_health.specs.Joined.{settings_of}
 use Rattle.lb_balance.proofs.Readings.{readings}
 use Rattle.lb_balance.proofs.balancer_core.LoadBalancerCore.update.Goals as goal
