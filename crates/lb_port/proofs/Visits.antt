@@ -1,6 +1,6 @@
 -- A selection by a port on its way: the calls for the reader, the candidates that were looked at, and what each end answers.
 use Rattle.std.specs.Prelude.{◌≡◌, ℕ, ◌+◌, ◌<◌, ◌≤◌, Bool, true, false, ◌||◌, List, [], ◌∷◌, ◌++◌, length, map, Option, Some, None, Result, Ok, Err, refl}
-use Rattle.std.proofs.Common.{sym, ap, ◌∙◌, arith, inl, inr, length-append, subst, append_assoc}
+use Rattle.std.proofs.Common.{sym, ap, ◌∙◌, arith, inl, inr, length-append, subst}
 use mathlib.Core.List.{map-append}
 use Rattle.std.specs.List.{AllByRecursion as Each}
 use Rattle.std.specs.Result.{IsErrAnd}
@@ -54,6 +54,18 @@ module _ {P R : Type 0} (draws : P → R → Draw → P → Type 0) (readies : P
   looks_keep owns draw ready p q [] is own = subst owns is own
   looks_keep owns draw ready p q (drew d ∷ ls) is own = looks_keep owns draw ready is.0 q ls is.2 (draw p d is.0 is.1 own)
   looks_keep owns draw ready p q (told b a ∷ ls) is own = looks_keep owns draw ready is.0 q ls is.2 (ready p b a is.0 is.1 own)
+
+-- a selection keeps what its calls keep
+pub selects_keep : {P R : Type 0} (draws : P → R → Draw → P → Type 0) (readies : P → R → Member → Bool → P → Type 0)
+    (accepts : Member → Bool → Bool → Type 0) (limit : ℕ) (walks : List Draw → List Member → Bool → Type 0) (owns : P → R → Type 0)
+    → ((x : P) (o : R) (d : Draw) (y : P) → draws x o d y → owns x o → owns y o)
+    → ((x : P) (o : R) (b : Member) (a : Bool) (y : P) → readies x o b a y → owns x o → owns y o)
+    → (p q : P) (r : R) (answer : Result (Option Member) Refusal) → SelectsBy accepts limit draws readies walks p r answer q → owns p r → owns q r
+selects_keep draws readies accepts limit walks owns draw ready p q r (Ok o) is own =
+    looks_keep draws readies r (λ x. owns x r) (λ x d y. draw x r d y) (λ x b a y. ready x r b a y) p q is.0 is.1 own
+selects_keep draws readies accepts limit walks owns draw ready p q r (Err e) (memory, inl same) own = subst (λ x. owns x r) (sym same) own
+selects_keep draws readies accepts limit walks owns draw ready p q r (Err e) (memory, inr more) own =
+    looks_keep draws readies r (λ x. owns x r) (λ x d y. draw x r d y) (λ x b a y. ready x r b a y) p q more.0 more.1 own
 
 -- a source of words that has the port, its reader, and the place of the port
 module _ {W P R N : Type 0} (port_of : W → P) (reader_of : W → R) (name_of : W → N)
@@ -192,7 +204,7 @@ module _ {W P R N : Type 0} (port_of : W → P) (reader_of : W → R) (name_of :
               known = more.0;
               asked = asked_distinct;
               rejects = subst (λ (xs : List (Member × Bool)). Each (λ x. accepts x.0 x.1 false) xs) (sym asked_told)
-              (Each-push (λ x. accepts x.0 x.1 false) (told_of p.looks) (b, a) p.rejects refused);
+                  (Each-push (λ x. accepts x.0 x.1 false) (told_of p.looks) (b, a) p.rejects refused);
               same = same-after (same-step step.0 v step.1) still;
             }
 
@@ -235,8 +247,7 @@ module _ {W P R N : Type 0} (port_of : W → P) (reader_of : W → R) (name_of :
             let w : walk i (draws_of (with_step p step.0 [])) cs true =
             subst (λ (xs : List Draw). walk i xs cs true) (sym (draws-step p step.0 [] refl)) ended in
             let whole = begun i (port_of v) (with_step p step.0 []) cs true begins (looked-step p step.0 v [] (port_of v) step.1 refl) w in
-            let here : told_of whole.looks ≡ told_of p.looks = whole.told ∙ told-step p step.0 [] ∙ append-nil (told_of p.looks) in
-            (
+            let here : told_of whole.looks ≡ told_of p.looks = whole.told ∙ told-step p step.0 [] ∙ append-nil (told_of p.looks) in (
               whole.looks,
               whole.looked,
               cs,
@@ -260,8 +271,7 @@ module _ {W P R N : Type 0} (port_of : W → P) (reader_of : W → R) (name_of :
             let w : walk i (draws_of (with_step p step.0 [])) cs false =
             Continues-closed walk i n (draws_of (with_step p step.0 [])) cs false (goes-step p step.0 (b ∷ []) n [] refl step.2) (starts n) in
             let whole = begun i (port_of v) (with_step p step.0 []) cs false begins (looked-step p step.0 v [] (port_of v) step.1 refl) w in
-            let here : told_of whole.looks ≡ told_of p.looks = whole.told ∙ told-step p step.0 [] ∙ append-nil (told_of p.looks) in
-            (
+            let here : told_of whole.looks ≡ told_of p.looks = whole.told ∙ told-step p step.0 [] ∙ append-nil (told_of p.looks) in (
               whole.looks,
               whole.looked,
               cs,
