@@ -42,17 +42,17 @@ module _ {P R : Type 0} (draws : P → R → Draw → P → Type 0) (readies : P
 module _ (accepts : Member → Bool → Bool → Type 0) (limit : ℕ) where
   -- it was asked of each, with the readiness that was told, and refused it
   abbrev pub AreRefused : List (Member × Bool) → Type 0
-  AreRefused told = Each (λ x. accepts x.0 x.1 false) told
+  AreRefused asked = Each (λ x. accepts x.0 x.1 false) asked
 
   -- These candidates were drawn, ended says whether the walk then ended, readiness was told of these backends, and this was
   -- answered. Each distinct candidate within the limit is asked for once, in their order, until one is accepted.
   abbrev pub IsTold : List Member → Bool → List (Member × Bool) → Option Member → Type 0
-  IsTold cs ended told (Some b) =
+  IsTold cs ended asked (Some b) =
       (before : List Member) × (cs ≡ before ++ b ∷ []) × (length cs ≤ limit)
-      × (first : List (Member × Bool)) × (ready : Bool) × (told ≡ first ++ (b, ready) ∷ [])
-      × (map (λ x. x.0) told ≡ distinct same_member cs) × AreRefused first × accepts b ready true
-  IsTold cs ended told None =
-      (map (λ x. x.0) told ≡ distinct same_member (take limit cs)) × AreRefused told
+      × (first : List (Member × Bool)) × (ready : Bool) × (asked ≡ first ++ (b, ready) ∷ [])
+      × (map (λ x. x.0) asked ≡ distinct same_member cs) × AreRefused first × accepts b ready true
+  IsTold cs ended asked None =
+      (map (λ x. x.0) asked ≡ distinct same_member (take limit cs)) × AreRefused asked
       × ((length cs ≡ limit + 1) ⊎ ((ended ≡ true) × (length cs ≤ limit)))
 
   module _ {P R : Type 0} (draws : P → R → Draw → P → Type 0) (readies : P → R → Member → Bool → P → Type 0)

@@ -26,12 +26,16 @@ use std::collections::BTreeSet;
 pub trait TakesBack<J, B, R> {
     // Which of them are its own.
     ghost owns_job: { Self → J → Type 0 };
+
     ghost owns_built: { Self → B → Type 0 };
+
     ghost owns_reader: { Self → R → Type 0 };
 
     // What taking one back leaves, and what it answers.
     ghost failed: { Self → J → ℕ → Self → Type 0 };
+
     ghost published: { Self → B → Told → Self → Type 0 };
+
     ghost left: { Self → R → Self → Type 0 };
 
     /// Takes back a job that failed at the moment `now`.
@@ -54,11 +58,17 @@ pub trait TakesBack<J, B, R> {
 pub trait GroupPort<S: BackendSelection>: TakesBack<Job<S>, Built<S>, Reader<S>> {
     // Port before, members, settings, moment, answer, port after; and so on for each call.
     ghost scheduled: { Self → List Member → List (Member × Bool) → ℕ → Result Scheduled Refusal → Self → Type 0 };
+
     ghost asked: { Self → ℕ → ℕ → Result (Ask S S.Iter S.Config) Refusal → Self → Type 0 };
+
     ghost entered: { Self → ℕ → Result (ReaderValue S.Config) Refusal → Self → Type 0 };
+
     ghost readies: { Self → ReaderValue S.Config → Member → Bool → Self → Type 0 };
+
     ghost draws: { Self → ReaderValue S.Config → Draw → Self → Type 0 };
+
     ghost taken: { Self → ℕ → Result RetiredValue Refusal → Self → Type 0 };
+
     ghost reported: { Self → ℕ → PermitValue → Self → Type 0 };
 
     // Whether the permit of a destroyed selector is owed to that slot.
@@ -114,6 +124,7 @@ pub trait GroupPort<S: BackendSelection>: TakesBack<Job<S>, Built<S>, Reader<S>>
     // A reader stays the port's own while words are drawn for it and while backends are asked for.
     ghost draws_keep: { (p : Self) (r : ReaderValue S.Config) (d : Draw) (q : Self) → draws p r d q
         → Self.owns_reader p r → Self.owns_reader q r };
+
     ghost readies_keep: { (p : Self) (r : ReaderValue S.Config) (b : Member) (a : Bool) (q : Self) → readies p r b a q
         → Self.owns_reader p r → Self.owns_reader q r };
 

@@ -123,8 +123,8 @@ impl Backend {
         Ok(Backend::bare(alloc, addr, self.weight))
     }
 
-    // The same backend. Where nothing is attached, no map is cloned.
-    pub(crate) fn copied(&self, alloc: Global) -> Result<Backend, AllocError>
+    /// The same backend. Where nothing is attached, no map is cloned.
+    pub fn copied(&self, alloc: Global) -> Result<Backend, AllocError>
         ensures { IfOk result (λ c. c ≡ self.now) }
     {
         if self.ext.is_empty() {
