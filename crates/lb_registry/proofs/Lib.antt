@@ -8,3 +8,4 @@ pub mod FreshLemmas
 pub mod StateLemmas
 pub mod LawLemmas
 pub mod KeptLemmas
+pub mod MarkLemmas

@@ -1,13 +1,14 @@
 //! Changes of a registry's views, and of its table with them: all that may be refused comes first, so that a refused change
 //! applies no mark and leaves views and table as they were for all who see them.
 ghost use Rattle.std.specs.Prelude.{◌≡◌, ◌<◌, ◌≤◌, ◌^◌, ℕ, List, [], ◌∷◌, length, map, position, Some, IfOk, OnOk, OnErr};
-ghost use Rattle.std.specs.Prelude.{IsErrOf, Err, slice_get, vec_len};
+ghost use Rattle.std.specs.Prelude.{IsErrOf, Err, MatchOption, false, slice_get, vec_len};
 ghost use Rattle.std.specs.List.{list_all, list_any};
 ghost use Rattle.std.specs.List.Sorted.{IsStrictlySortedBy};
 ghost use Rattle.std.specs.Option.{IsSomeAnd};
 ghost use Rattle.lb_select.specs.Backends.{Member, member_cmp, same_member};
 ghost use Rattle.lb_select.specs.Memberships.{same_members};
 ghost use Rattle.lb_registry.specs.CellEvents.{CellEvent, Changed, given_after};
+ghost use Rattle.lb_registry.specs.Internal.Changing.{left_of};
 ghost use Rattle.lb_registry.specs.Internal.Replacing.{IsPrepared, IsReplaced};
 ghost use Rattle.lb_registry.specs.Keys.{IsRuleOf};
 ghost use Rattle.lb_registry.specs.Registry.{IsStateAfter, IsGrowthRefusal};
@@ -113,26 +114,54 @@ fn numbers_of(alloc: Global, cells: &BTreeMap<Backend, u64>) -> Result<BTreeSet<
     Ok(numbers)
 }
 
-// All of a view's update that may be refused: the numbering after the marks, whose keys are given, and after the membership.
+// Whether a mark waits.
+fn has_marks(views: &[View]) -> bool
+    ensures { result ≡ list_any (λ v. v.marked) views.now }
+{
+    views.iter().any(|view| view.marked)
+}
+
+// The keys of the targets, where a mark waits.
+fn marked_keys<R: KeyRule>(
+    alloc: Global,
+    rule: &R,
+    views: &[View],
+) -> Result<Option<Vec<Backend>>, Refusal>
+    ensures ok { IfOk result (λ keys. MatchOption keys (list_any (λ v. v.marked) views.now ≡ false)
+        (λ v. (key_of : Member → Member) → IsRuleOf R.gives rule.now key_of
+        → v.items ≡ target_keys key_of (live (map view_value views.now)))) }
+    ensures refused { OnErr result (result ≡ Err Refusal.OutOfMemory) }
+{
+    if has_marks(views) {
+        Ok(Some(live_keys(alloc, rule, views)?))
+    } else {
+        Ok(None)
+    }
+}
+
+// All of a view's update that may be refused: the numbering after the marks, whose keys are given where one waits, and after the
+// membership.
 fn prepare<R: KeyRule>(
     alloc: Global,
     rule: &R,
     views: &[View],
     place: usize,
-    marked: &[Backend],
+    marked: Option<&[Backend]>,
     table: &mut CellTable<Backend>,
 ) -> Result<(Numbering<Backend>, Shown), Refusal>
     requires { place < length views.now }
     ensures ok { IfOk result (λ given. (key_of : Member → Member) (events : List (CellEvent Member)) (members : List Member)
         → IsRuleOf R.gives rule.now key_of → IsSomeAnd (slice_get views.now place) (λ v. v.members.keys ≡ members)
         → IsTableAfter member_cmp events (table_value table.old)
-        → IsPrepared key_of events (Changed (target_keys key_of (live (map view_value views.now))) ∷ Changed marked.now ∷ events)
+        → IsPrepared key_of events
+        (Changed (target_keys key_of (live (map view_value views.now))) ∷ Changed (left_of marked.entry events) ∷ events)
         members given.0 given.1 (table_value table.new)) }
     ensures err { OnErr result ((events : List (CellEvent Member)) → IsTableAfter member_cmp events (table_value table.old)
         → IsTableAfter member_cmp events (table_value table.new)) }
     ensures exhausted { (key_of : Member → Member) (events : List (CellEvent Member)) → IsRuleOf R.gives rule.now key_of
         → IsTableAfter member_cmp events (table_value table.old) → IsErrOf result Refusal.NumbersExhausted
-        → 2 ^ 64 ≤ given_after same_member (Changed (target_keys key_of (live (map view_value views.now))) ∷ Changed marked.now ∷ events) }
+        → 2 ^ 64 ≤ given_after same_member
+        (Changed (target_keys key_of (live (map view_value views.now))) ∷ Changed (left_of marked.entry events) ∷ events) }
     ensures refused { OnErr result (IsGrowthRefusal result) }
     ensures held { table.new.held ≡ table.old.held }
 {
@@ -173,9 +202,9 @@ pub(crate) fn replace<R: KeyRule>(
     ensures refused { OnErr result (IsGrowthRefusal result) }
     ensures held { table.new.held ≡ table.old.held }
 {
-    let marked = live_keys(alloc, rule, views)?;
+    let marked = marked_keys(alloc, rule, views)?;
     mem::swap(&mut views[place].members, &mut members);
-    match prepare(alloc, rule, views, place, &marked, table) {
+    match prepare(alloc, rule, views, place, marked.as_deref(), table) {
         Ok((numbering, shown)) => {
             table.commit(numbering);
             views.retain(|view| !view.marked);

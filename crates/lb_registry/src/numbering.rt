@@ -1,6 +1,6 @@
 //! Numbers of cells: a key that stays a target keeps its cell, and one that becomes a target gets the next number.
 //! A number is never used again.
-ghost use Rattle.std.specs.Prelude.{◌≡◌, ◌↔◌, ◌<◌, ◌≤◌, ◌^◌, ℕ, List, ◌∷◌, length, count_by, not, IfOk, OnErr, IsErrOf};
+ghost use Rattle.std.specs.Prelude.{◌≡◌, ◌↔◌, ◌<◌, ◌≤◌, ◌+◌, ◌^◌, ℕ, List, ◌∷◌, length, count_by, not, IfOk, OnErr, IsErrOf, IsTrue};
 ghost use Rattle.std.specs.Option.{is_some};
 ghost use Rattle.std.specs.Ordering.{eq_by_cmp, nat_cmp};
 ghost use Rattle.std.specs.BTreeMap as tree;
@@ -29,6 +29,14 @@ fn starting_count<K: HealthKey>(before: &Numbering<K>, keys: &[K]) -> usize
     keys.iter()
         .filter(|key| !before.by_key.contains_key(*key))
         .count()
+}
+
+// Whether more of the keys start than numbers are left; they are counted only where that can be. It takes no memory.
+fn are_too_many<K: HealthKey>(before: &Numbering<K>, keys: &[K]) -> bool
+    ensures { IsTrue result ↔ (2 ^ 64 ≤ count_by (λ k. not (is_some (tree.get K.cmp before.now.by_key k))) keys.now + before.now.next) }
+{
+    let left = u64::MAX - before.next;
+    keys.len() as u64 > left && starting_count(before, keys) as u64 > left
 }
 
 // Numbers the keys one by one. A key with a number keeps it, another one gets the next, and its cell is stored.
@@ -95,7 +103,7 @@ pub(crate) fn renumbered<K: HealthKey>(
         → (IsErrOf result Refusal.NumbersExhausted ↔ (2 ^ 64 ≤ length (starts (eq_by_cmp K.cmp) (keys.now ∷ all)))) }
     ensures refused { OnErr result (IsGrowthRefusal result) }
 {
-    if starting_count(before, keys) as u64 > u64::MAX - before.next {
+    if are_too_many(before, keys) {
         return Err(Refusal::NumbersExhausted);
     }
     numbered(alloc, before, keys, start, cells)

@@ -388,7 +388,8 @@ fn with_targets(
 ) -> Vec<Target>
     requires { vec_len targets + length order.entries ≤ vec_capacity targets }
     ensures { (key_of : Member → Member) (events : List Event) → IsTableAfter member_cmp (cell_events key_of events) (table_value table.now)
-        → IsPruned member_cmp (cell_events key_of events) (table_value table.now) → result.items ≡ targets.items ++ filter_map (target_at key_of events) order.entries }
+        → IsPruned member_cmp (cell_events key_of events) (table_value table.now)
+        → result.items ≡ targets.items ++ filter_map (target_at key_of events) order.entries }
 {
     for (place, key) in order {
         if let Some(cell) = table.numbering.by_key.get(&key).copied() {

@@ -6,7 +6,7 @@ ghost use Rattle.std.specs.Ordering.{eq_by_cmp, nat_cmp};
 ghost use Rattle.std.specs.List.{list_any};
 ghost use Rattle.lb_registry.specs.CellEvents.{CellEvent, Changed, Observed, Held as HeldNow, Released, Configured, verdicts_of};
 ghost use Rattle.lb_registry.specs.CellEvents.{start_of, health_of, given_after, IsKept};
-ghost use Rattle.lb_registry.specs.Internal.Changing.{IsStarted, is_cell, keeps_cell};
+ghost use Rattle.lb_registry.specs.Internal.Changing.{left_of, IsStarted, is_cell, keeps_cell};
 ghost use Rattle.lb_registry.specs.Registry.{IsGrowthRefusal};
 ghost use Rattle.lb_registry.specs.Starts.{value_at};
 ghost use Rattle.lb_registry.specs.Table.{hold_of, table_value, IsTableAfter, IsPruned};
@@ -130,9 +130,11 @@ impl<K: HealthKey> CellTable<K> {
         threshold: usize,
     ) -> Result<bool, Refusal>
         ensures after { OnOk result ((events : List (CellEvent K)) → IsTableAfter K.cmp events (table_value self.old)
-            → IsPruned K.cmp events (table_value self.old) → IsTableAfter K.cmp (Observed cell (record { ok = verdict; threshold = threshold }) ∷ events) (table_value self.new)) }
+            → IsPruned K.cmp events (table_value self.old)
+            → IsTableAfter K.cmp (Observed cell (record { ok = verdict; threshold = threshold }) ∷ events) (table_value self.new)) }
         ensures flipped { IfOk result (λ flipped. (events : List (CellEvent K)) → IsTableAfter K.cmp events (table_value self.old)
-            → IsPruned K.cmp events (table_value self.old) → (IsTrue flipped ↔ (health_of (eq_by_cmp K.cmp) cell (Observed cell (record { ok = verdict; threshold = threshold }) ∷ events)
+            → IsPruned K.cmp events (table_value self.old)
+            → (IsTrue flipped ↔ (health_of (eq_by_cmp K.cmp) cell (Observed cell (record { ok = verdict; threshold = threshold }) ∷ events)
             ≢ health_of (eq_by_cmp K.cmp) cell events))) }
         ensures kept { (events : List (CellEvent K)) → IsTableAfter K.cmp events (table_value self.old)
             → IsPruned K.cmp events (table_value self.old) → (IsOk result ↔ IsKept K.cmp events cell) }
@@ -176,25 +178,29 @@ impl<K: HealthKey> CellTable<K> {
         }
     }
 
-    // The numbering after two changes, to `first` and then to `second`; the cells that start are stored already. The table
-    // stays as it was for all who see it until the numbering is committed.
+    // The numbering after two changes, to `first`, or where that is `None` to what the change before left, and then to `second`;
+    // the cells that start are stored already. The table stays as it was for all who see it until the numbering is committed.
     pub(crate) fn started(
         &mut self,
         alloc: Global,
-        first: &[K],
+        first: Option<&[K]>,
         second: &[K],
     ) -> Result<Numbering<K>, Refusal>
         ensures ok { IfOk result (λ after. (events : List (CellEvent K)) → IsTableAfter K.cmp events (table_value self.old)
-            → IsStarted K.cmp events (Changed second.now ∷ Changed first.now ∷ events) (table_value self.new)
+            → IsStarted K.cmp events (Changed second.now ∷ Changed (left_of first.entry events) ∷ events) (table_value self.new)
             after.by_key.entries after.next) }
         ensures err { OnErr result ((events : List (CellEvent K)) → IsTableAfter K.cmp events (table_value self.old)
             → IsTableAfter K.cmp events (table_value self.new)) }
         ensures exhausted { (events : List (CellEvent K)) → IsTableAfter K.cmp events (table_value self.old)
             → IsErrOf result Refusal.NumbersExhausted
-            → 2 ^ 64 ≤ given_after (eq_by_cmp K.cmp) (Changed second.now ∷ Changed first.now ∷ events) }
+            → 2 ^ 64 ≤ given_after (eq_by_cmp K.cmp) (Changed second.now ∷ Changed (left_of first.entry events) ∷ events) }
         ensures refused { OnErr result (IsGrowthRefusal result) }
         ensures held { self.new.held ≡ self.old.held }
     {
+        let Some(first) = first else {
+            let after = renumbered(alloc, &self.numbering, second, self.start, &mut self.cells)?;
+            return Ok(after);
+        };
         let between = renumbered(alloc, &self.numbering, first, self.start, &mut self.cells)?;
         let after = renumbered(alloc, &between, second, self.start, &mut self.cells)?;
         Ok(after)

@@ -1,9 +1,10 @@
 -- A change of a table on its way: the cells of the keys that start are stored, and the numbering isn't exchanged yet.
-use Rattle.std.specs.Prelude.{◌≡◌, ◌≤◌, ◌<◌, ℕ, ◌==◌, ◌||◌, Bool, true, false, List, [], Option, Some, None}
+use Rattle.std.specs.Prelude.{◌≡◌, ◌≤◌, ◌<◌, ℕ, ◌==◌, ◌||◌, Bool, true, false, List, [], ◌∷◌, Option, Some, None}
 use Rattle.std.specs.declared.cmp.Ordering.{Ordering}
 use Rattle.std.specs.Ordering.{eq_by_cmp, nat_cmp}
 use Rattle.std.specs.List.{list_any}
 use Rattle.std.specs.Option.{IsSomeAnd}
+use Rattle.std.proofs.Common.{Bor}
 use Rattle.lb_registry.specs.declared.table.Cell.{Cell}
 use Rattle.lb_registry.specs.CellEvents.{CellEvent, Hold, changes, verdicts_of, holds_after, configured, given_after, start_of}
 use Rattle.lb_registry.specs.Starts.{cell_now, value_at, IsNumbered}
@@ -24,6 +25,16 @@ is_cell c (Some d) = d == c
 -- whether a stored cell is kept: the target of its key has it, or a live snapshot
 abbrev pub keeps_cell : {K : Type 0} → (K → K → Ordering) → List (K × ℕ) → List Hold → ℕ → K → Bool
 keeps_cell cmp by_key held c k = is_cell c (value_at cmp by_key k) || list_any (λ h. list_any (eq_by_cmp nat_cmp c) h.cells) held
+
+-- the keys that the last change left
+abbrev pub last_keys : {K : Type 0} → List (List K) → List K
+last_keys [] = []
+last_keys (now ∷ earlier) = now
+
+-- the keys that a change leaves: those that are given, and where none are, those that are left
+abbrev pub left_of : {K : Type 0} → Option (Bor (List K)) → List (CellEvent K) → List K
+left_of None events = last_keys (changes events)
+left_of (Some given) events = given.now
 
 -- later is these events and further changes
 pub record Extends {K : Type 0} (cmp : K → K → Ordering) (events later : List (CellEvent K)) : Type 0 where

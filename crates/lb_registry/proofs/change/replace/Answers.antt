@@ -1,4 +1,4 @@
-use Rattle.std.proofs.Common.{◌≡◌, ◌≤◌, ◌<◌, ◌^◌, List, ◌∷◌, map, length, not, refl, sym, ap, subst, ◌∙◌, rules, arith, get_or-set_same}
+use Rattle.std.proofs.Common.{◌≡◌, ◌≤◌, ◌<◌, ◌^◌, List, ◌∷◌, map, length, not, refl, sym, subst, ◌∙◌, rules, arith, get_or-set_same}
 use Rattle.std.proofs.lemmas.Fn.{filter_same}
 use Rattle.std.proofs.lemmas.Option.{slice_get_read}
 use Rattle.std.specs.List.{slice_get}
@@ -7,10 +7,13 @@ use Rattle.lb_select.specs.Backends.{Member, same_member}
 use Rattle.lb_select.specs.declared.refusal.Refusal.TheVariants.{NumbersExhausted}
 use Rattle.lb_registry.specs.declared.targets.View.{View}
 use Rattle.lb_registry.specs.CellEvents.{CellEvent, Changed, given_after}
+use Rattle.lb_registry.specs.Internal.Changing.{left_of}
 use Rattle.lb_registry.specs.Internal.Replacing.{IsPrepared}
+use Rattle.lb_registry.specs.Keys.{IsRuleOf}
 use Rattle.lb_registry.specs.RegistryEvents.{cell_events, with_members}
 use Rattle.lb_registry.specs.Table.{table_value}
 use Rattle.lb_registry.specs.Targets.{view_value, live, target_keys}
+use Rattle.lb_registry.proofs.MarkLemmas.{left_is}
 use Rattle.lb_registry.proofs.TableLemmas.{some_from}
 use Rattle.lb_registry.proofs.StateLemmas.{at_found, set_found, later_is, replaced, put_back, same_refusal}
 use Rattle.lb_registry.proofs.change.replace.Goals as goal
@@ -18,6 +21,9 @@ use Rattle.lb_registry.proofs.change.replace.Goals as goal
 pub returns-in-Ok-clause-ok : goal.returns-in-Ok-clause-ok
 returns-in-Ok-clause-ok g c =
     λ key_of events id rule found sorted fits state.
+    let keyed
+    = left_is (IsRuleOf g.R.KeyRule.gives c.args.rule.now) key_of events c.args.views.now.items c.deref.result.now c.in_ok-marked.marked c.as_deref.result
+    rule state.listed c.deref.ensures.value c.in_ok-marked.ensures.ok c.as_deref.ensures.cases in
     let x = c.index_mut.result.now in
     let members = c.args.members.keys in
     let y : View = record { id = x.id; marked = x.marked; members = c.swap.new.x } in
@@ -29,11 +35,11 @@ returns-in-Ok-clause-ok g c =
     = subst Has (sym c.deref-2.ensures.value)
     (some_from (λ (v : View). v.members.keys ≡ members) _ y (set_found c.args.views.now.items c.args.place x y at) (λ i. (c.swap.ensures.x_after i).keys)) in
     let Prepared : List View → Type 0
-    = λ vs. IsPrepared key_of (cell_events key_of events) (Changed (target_keys key_of (live (map view_value vs))) ∷ Changed c.deref-3.result.now ∷ cell_events key_of events)
+    = λ vs. IsPrepared key_of (cell_events key_of events) (Changed (target_keys key_of (live (map view_value vs))) ∷ Changed (left_of c.as_deref.result (cell_events key_of events)) ∷ cell_events key_of events)
     members c.in-Ok.numbering c.in-Ok.shown (table_value c.prepare.new.table) in
-    replaced key_of events id c.args.place members c.deref-3.result.now c.args.views.now.items c.retain.new.self.items x y (table_value c.args.table.now)
+    replaced key_of events id c.args.place members (left_of c.as_deref.result (cell_events key_of events)) c.args.views.now.items c.retain.new.self.items x y (table_value c.args.table.now)
     (table_value c.prepare.new.table) (table_value c.commit.new.self) c.in-Ok.numbering c.in-Ok.shown state found at exchanged
-    (c.deref-3.ensures.value ∙ c.in_ok-marked.ensures.ok key_of rule ∙ ap (λ (vs : List View). target_keys key_of (live (map view_value vs))) c.deref.ensures.value)
+    keyed
     (filter_same _ (λ (v : View). not v.marked) _ (λ x b f' t. search rules) _ _ c.retain.ensures.filtered)
     (subst Prepared c.deref-2.ensures.value (c.in-Ok.ensures.ok key_of (cell_events key_of events) members rule has state.cells))
     c.commit.ensures.after c.commit.ensures.pruned sorted fits
@@ -62,6 +68,9 @@ returns-clause-err g c =
 pub returns-clause-exhausted : goal.returns-clause-exhausted
 returns-clause-exhausted g c =
     λ key_of events id rule found state e.
+    let keyed
+    = left_is (IsRuleOf g.R.KeyRule.gives c.args.rule.now) key_of events c.args.views.now.items c.deref.result.now c.in_ok-marked.marked c.as_deref.result
+    rule state.listed c.deref.ensures.value c.in_ok-marked.ensures.ok c.as_deref.ensures.cases in
     let x = c.index_mut.result.now in
     let y : View = record { id = x.id; marked = x.marked; members = c.swap.new.x } in
     let at = at_found _ c.args.views.now.items c.args.place x found c.index_mut.ensures.value in
@@ -69,8 +78,8 @@ returns-clause-exhausted g c =
     = λ i. record { id = x.id; marked = x.marked; members = (c.swap.ensures.x_after i).keys } in
     let Many : List (CellEvent Member) → Type 0 = λ es. 2 ^ 64 ≤ given_after same_member es in
     let ManyOf : List View → Type 0
-    = λ vs. 2 ^ 64 ≤ given_after same_member (Changed (target_keys key_of (live (map view_value vs))) ∷ Changed c.deref-3.result.now ∷ cell_events key_of events) in
+    = λ vs. 2 ^ 64 ≤ given_after same_member (Changed (target_keys key_of (live (map view_value vs))) ∷ Changed (left_of c.as_deref.result (cell_events key_of events)) ∷ cell_events key_of events) in
     subst Many
-    (later_is key_of events id c.args.place c.args.members.keys c.deref-3.result.now c.args.views.now.items x y (table_value c.args.table.now) state found at exchanged
-    (c.deref-3.ensures.value ∙ c.in_ok-marked.ensures.ok key_of rule ∙ ap (λ (vs : List View). target_keys key_of (live (map view_value vs))) c.deref.ensures.value))
+    (later_is key_of events id c.args.place c.args.members.keys (left_of c.as_deref.result (cell_events key_of events)) c.args.views.now.items x y (table_value c.args.table.now) state found at exchanged
+    keyed)
     (subst ManyOf c.deref-2.ensures.value (c.in-Err.ensures.exhausted key_of (cell_events key_of events) rule state.cells (same_refusal c.in-Err.refusal NumbersExhausted e)))
