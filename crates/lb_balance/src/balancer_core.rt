@@ -122,6 +122,8 @@ impl<S: BackendSelection, G: Rng + Drop, D: ServiceDiscovery + Drop> LoadBalance
         ensures kept { OnErr result (self.new ≡ record self.old { served = record self.old.served { view = self.new.served.view } }) }
         ensures refused { IfErr result (IsRefusal R.gives self.old.discovery self.old.served registry.old S.refusal) }
         ensures discovery { self.new.discovery ≡ self.old.discovery }
+        ensures words { (self.new.served.words.generator ≡ self.old.served.words.generator)
+            × (self.new.served.words.loads ≡ self.old.served.words.loads) }
         ensures config { self.new.served.config ≡ self.old.served.config }
         ensures id { self.new.served.view.id ≡ self.old.served.view.id }
     {
