@@ -1,5 +1,5 @@
 //! A discovery with one selector, which an update builds: what is served is always the newest generation.
-ghost use Rattle.std.specs.Prelude.{◌≡◌, ◌↔◌, ◌≤◌, ◌+◌, ◌^◌, ◌∷◌, [], List, None, unwrap_or, IfOk, IfErr, IsErrOf, OnOk, OnErr};
+ghost use Rattle.std.specs.Prelude.{◌≡◌, ◌↔◌, ◌≤◌, ◌+◌, ◌^◌, ◌∷◌, [], List, Ok, Err, None, Some, unwrap_or, IfOk, IfErr, IsErrOf, IsSome, OnOk, OnErr};
 ghost use Rattle.lb_select.specs.Backends.{Member, same_member};
 ghost use Rattle.lb_select.specs.Loads.{load_in};
 ghost use Rattle.lb_select.specs.Refusals.{memory_apart};
@@ -14,6 +14,8 @@ use crate::moments::MomentSource;
 use crate::served::Served;
 use crate::timings::UpdateTimings;
 use lb_health::discovery::{DiscoverySource, ServiceDiscovery};
+use lb_health::registry::HealthRegistry;
+use lb_probe::health_check::HealthCheck;
 use lb_registry::keys::KeyRule;
 use lb_registry::registry::Registry;
 use lb_select::backend::Backend;
@@ -122,6 +124,8 @@ impl<S: BackendSelection, G: Rng + Drop, D: ServiceDiscovery + Drop> LoadBalance
         ensures kept { OnErr result (self.new ≡ record self.old { served = record self.old.served { view = self.new.served.view } }) }
         ensures refused { IfErr result (IsRefusal R.gives self.old.discovery self.old.served registry.old S.refusal) }
         ensures discovery { self.new.discovery ≡ self.old.discovery }
+        ensures words { (self.new.served.words.generator ≡ self.old.served.words.generator)
+            × (self.new.served.words.loads ≡ self.old.served.words.loads) }
         ensures config { self.new.served.config ≡ self.old.served.config }
         ensures id { self.new.served.view.id ≡ self.old.served.view.id }
     {
@@ -177,6 +181,18 @@ impl<S: BackendSelection, G: Rng + Drop, D: ServiceDiscovery + Drop> LoadBalance
     {
         self.served
             .select_with(alloc, registry, key, max_iterations, accept)
+    }
+
+    /// Sets the check of the registry that is lent. Refused `HealthCheckSet` where one is set, which stays.
+    pub fn set_health_check<R: KeyRule + Drop, C: HealthCheck + Drop>(
+        &self,
+        registry: &mut HealthRegistry<R, C>,
+        check: C,
+    ) -> Result<(), Refusal>
+        ensures set { registry.old.check ≡ None → (result ≡ Ok tt) × (registry.new ≡ record registry.old { check = Some check }) }
+        ensures refused { IsSome registry.old.check → (result ≡ Err Refusal.HealthCheckSet) × (registry.new ≡ registry.old) }
+    {
+        registry.set_health_check(check)
     }
 
     /// How long the last accepted update took; `None` before the first.

@@ -1,6 +1,6 @@
 //! A discovery with a group of slots, each of which serves a selector of its own that is rebuilt apart from an update.
-ghost use Rattle.std.specs.Prelude.{◌≡◌, ◌↔◌, ◌<◌, ◌≤◌, ◌+◌, ◌^◌, ◌∷◌, [], ℕ, List, length, map, Some, None, option_map};
-ghost use Rattle.std.specs.Prelude.{IfOk, IfErr, IsErrOf, IsTrue, OnOk, OnErr};
+ghost use Rattle.std.specs.Prelude.{◌≡◌, ◌↔◌, ◌<◌, ◌≤◌, ◌+◌, ◌^◌, ◌∷◌, [], ℕ, List, length, map, Ok, Err, Some, None, option_map};
+ghost use Rattle.std.specs.Prelude.{IfOk, IfErr, IsErrOf, IsSome, IsTrue, OnOk, OnErr};
 ghost use Rattle.lb_select.specs.Backends.{Member};
 ghost use Rattle.lb_select.specs.Loads.{load_in};
 ghost use Rattle.lb_select.specs.Refusals.{least, memory_apart};
@@ -19,7 +19,9 @@ use crate::timings::{SelectorUpdateTimings, UpdateTimings};
 use lb_group::answers::Selection;
 use lb_group::schedule::Scheduled;
 use lb_health::discovery::{DiscoverySource, ServiceDiscovery};
+use lb_health::registry::HealthRegistry;
 use lb_joined::group::GroupCore;
+use lb_probe::health_check::HealthCheck;
 use lb_rebuild::gate::GateCore;
 use lb_registry::keys::KeyRule;
 use lb_registry::registry::Registry;
@@ -235,6 +237,18 @@ impl<S: BackendSelection, D: ServiceDiscovery + Drop> LoadBalancerGroupCore<S, D
     {
         let counts = self.group.counts(slot)?;
         Some(counts.failed)
+    }
+
+    /// Sets the check of the registry that is lent. Refused `HealthCheckSet` where one is set, which stays.
+    pub fn set_health_check<R: KeyRule + Drop, C: HealthCheck + Drop>(
+        &self,
+        registry: &mut HealthRegistry<R, C>,
+        check: C,
+    ) -> Result<(), Refusal>
+        ensures set { registry.old.check ≡ None → (result ≡ Ok tt) × (registry.new ≡ record registry.old { check = Some check }) }
+        ensures refused { IsSome registry.old.check → (result ≡ Err Refusal.HealthCheckSet) × (registry.new ≡ registry.old) }
+    {
+        registry.set_health_check(check)
     }
 
     /// How long the last accepted update took; `None` before the first.

@@ -119,6 +119,41 @@ impl<
         }
     }
 
+    /// The same, whose random words are this generator's from now on.
+    pub fn with_generator(self, generator: Pcg64) -> LoadBalancer<S, D, R, C>
+        ensures same { result ≡ record self {
+          core = record self.core {
+            served = record self.core.served {
+              words = record self.core.served.words { generator = generator };
+            };
+          };
+        } }
+        ensures stands { After self.core.served (λ e. Stands e result.core.served) }
+    {
+        let LoadBalancer {
+            core: LoadBalancerCore {
+                discovery,
+                served,
+                timing,
+            },
+            registry,
+            health_check_frequency,
+            update_frequency,
+            parallel_health_check,
+        } = self;
+        LoadBalancer {
+            core: LoadBalancerCore {
+                discovery,
+                served: served.with_generator(generator),
+                timing,
+            },
+            registry,
+            health_check_frequency,
+            update_frequency,
+            parallel_health_check,
+        }
+    }
+
     /// Discovers, and updates what is served, as `LoadBalancerCore::update`. The clock is read at the start and at the end, and for
     /// another membership also before and after the build.
     ///
@@ -136,6 +171,8 @@ impl<
         ensures refused { IfErr result (IsRefusal R.gives self.old.core.discovery self.old.core.served self.old.registry.registry
             S.refusal) }
         ensures discovery { self.new.core.discovery ≡ self.old.core.discovery }
+        ensures words { (self.new.core.served.words.generator ≡ self.old.core.served.words.generator)
+            × (self.new.core.served.words.loads ≡ self.old.core.served.words.loads) }
         ensures config { self.new.core.served.config ≡ self.old.core.served.config }
         ensures id { self.new.core.served.view.id ≡ self.old.core.served.view.id }
         ensures kept { self.new ≡ record self.old {

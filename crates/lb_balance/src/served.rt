@@ -168,6 +168,7 @@ impl<S: BackendSelection, G: Rng + Drop> Served<S, G> {
             → IsRegistryAfter R.gives key_of events registry.old
             → IsRegistryAfter R.gives key_of events registry.new) }
         ensures kept { OnErr result (self.new ≡ record self.old { view = self.new.view }) }
+        ensures words { (self.new.words.generator ≡ self.old.words.generator) × (self.new.words.loads ≡ self.old.words.loads) }
         ensures id { self.new.view.id ≡ self.old.view.id }
         ensures config { self.new.config ≡ self.old.config }
     {
@@ -223,6 +224,16 @@ impl<S: BackendSelection, G: Rng + Drop> Served<S, G> {
         ensures id { self.new.view.id ≡ self.old.view.id }
     {
         self.view.set_enable(backend, enabled);
+    }
+
+    /// The same, whose random words are this generator's from now on.
+    pub fn with_generator(self, generator: G) -> Served<S, G>
+        ensures same { result ≡ record self { words = record self.words { generator = generator } } }
+        ensures stands { After self (λ e. Stands e result) }
+    {
+        let mut served = self;
+        served.words.generator = generator;
+        served
     }
 
     /// Sets the load of a backend's identity. Refused for memory alone, and then nothing is set; the words to come stay.

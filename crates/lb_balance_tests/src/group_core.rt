@@ -12,12 +12,12 @@ use lb_registry::registry::RegistryCore;
 use lb_select::backend::Backend;
 use lb_select::loads::Loads;
 use lb_select::refusal::Refusal;
-use lb_weighted::selection::RoundRobin;
+use lb_weighted::selection::{BackendSelection, Random, RoundRobin};
 use std::alloc::Global;
 use std::collections::BTreeSet;
 use std::test::Fail;
 
-type Balancer = LoadBalancerGroupCore<RoundRobin, Static>;
+type Balancer<S> = LoadBalancerGroupCore<S, Static>;
 
 #[derive(Drop)]
 struct Ticks {
@@ -42,9 +42,9 @@ fn one_backend(alloc: Global) -> Result<DiscoverySource<Static>, Refusal> {
 }
 
 // Asks for the slot's job, builds it and publishes what was built.
-fn rebuilt(
+fn rebuilt<S: BackendSelection>(
     alloc: Global,
-    balancer: &mut Balancer,
+    balancer: &mut Balancer<S>,
     gate: &mut GateCore,
 ) -> Result<Option<Told>, Refusal>
     requires { gate.old.id ≡ balancer.old.group.group.gate }
@@ -79,7 +79,7 @@ fn discovered_backends_are_served(rt: HostRuntime) -> Result<(), Fail> {
     let mut configs = Vec::new(alloc);
     configs.push(())?;
     let discovery = one_backend(alloc)?;
-    let mut balancer: Balancer = LoadBalancerGroupCore::from_backends_with_configs(
+    let mut balancer: Balancer<RoundRobin> = LoadBalancerGroupCore::from_backends_with_configs(
         alloc,
         &mut registry,
         &gate,
@@ -106,5 +106,34 @@ fn discovered_backends_are_served(rt: HostRuntime) -> Result<(), Fail> {
     let selection = balancer.select(alloc, &registry, 0, b"k", 1, &[], &Loads::new());
     assert!(rt; matches!(selection.answer, Ok(Some(_))));
     assert_eq!(rt; balancer.selector_count(), 1);
+    Ok(())
+}
+
+#[test]
+fn random_words_are_handed_in(rt: HostRuntime) -> Result<(), Fail> {
+    let alloc = rt.alloc();
+    let mut registry = RegistryCore::new(alloc);
+    let mut gate = GateCore::new(alloc)?;
+    let mut configs = Vec::new(alloc);
+    configs.push(())?;
+    let discovery = one_backend(alloc)?;
+    let mut balancer: Balancer<Random> = LoadBalancerGroupCore::from_backends_with_configs(
+        alloc,
+        &mut registry,
+        &gate,
+        discovery,
+        configs,
+    )?;
+    let mut clock = Ticks { next: 10 };
+    balancer.update(alloc, &mut registry, &mut clock)?;
+    assert_eq!(rt;
+        rebuilt(alloc, &mut balancer, &mut gate)?,
+        Some(Told::Published(1))
+    );
+    let loads = Loads::new();
+    let few = balancer.select(alloc, &registry, 0, b"k", 3, &[7, 8, 9], &loads);
+    assert_eq!(rt; few.answer, Err(Refusal::NotEnoughWords));
+    let enough = balancer.select(alloc, &registry, 0, b"k", 3, &[7, 8, 9, 10], &loads);
+    assert!(rt; matches!(enough.answer, Ok(Some(_))));
     Ok(())
 }

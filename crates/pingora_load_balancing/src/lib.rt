@@ -12,10 +12,14 @@ pub mod script;
 pub mod selection;
 pub mod world;
 
+pub use lb_balance::balancer_core::LoadBalancerCore;
 pub use lb_balance::group_core::LoadBalancerGroupCore;
+pub use lb_balance::lent::LentBackends;
+pub use lb_balance::load_balancer::LoadBalancer;
 pub use lb_balance::moments::MomentSource;
+pub use lb_balance::served::Served;
 pub use lb_balance::timings::{SelectorUpdateTimings, UpdateTimings};
-pub use lb_health::backends::{BackendView, Backends};
+pub use lb_health::backends::{BackendView, Backends, BackendsParts};
 pub use lb_health::registry::HealthRegistry;
 pub use lb_select::backend::{Backend, Ext, InetAddr, SocketAddr};
 pub use lb_select::loads::Loads;

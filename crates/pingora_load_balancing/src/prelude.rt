@@ -1,5 +1,5 @@
 //! What most users want, under the upstream crate's names.
-//! The balancers and the service of checks of upstream's prelude are to come.
+//! The service of checks of upstream's prelude is to come.
 pub use crate::health_check::TcpHealthCheck;
 pub use crate::selection::RoundRobin;
-pub use crate::{BackendView, HealthRegistry};
+pub use crate::{BackendView, HealthRegistry, LoadBalancer};
