@@ -3,6 +3,7 @@
 #![tactic(auto)]
 
 pub mod plain;
+mod plain_calls;
 pub mod port;
 pub mod select;
 pub mod source;

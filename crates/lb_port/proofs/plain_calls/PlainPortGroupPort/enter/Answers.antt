@@ -1,5 +1,5 @@
 use Rattle.lb_port.proofs.Plains.{enters_own}
-use Rattle.lb_port.proofs.plain.PlainPortGroupPort.enter.Goals as goal
+use Rattle.lb_port.proofs.plain_calls.PlainPortGroupPort.enter.Goals as goal
 
 pub returns-clause-own : goal.returns-clause-own
 returns-clause-own g c =

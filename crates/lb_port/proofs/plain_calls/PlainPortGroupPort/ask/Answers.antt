@@ -1,5 +1,5 @@
 use Rattle.lb_port.proofs.Plains.{asks_own}
-use Rattle.lb_port.proofs.plain.PlainPortGroupPort.ask.Goals as goal
+use Rattle.lb_port.proofs.plain_calls.PlainPortGroupPort.ask.Goals as goal
 
 pub returns-clause-own : goal.returns-clause-own
 returns-clause-own g c =
