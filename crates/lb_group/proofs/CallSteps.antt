@@ -1,5 +1,5 @@
 -- What each call on a slot says of the group's history: its answer, and what the group stands for after it.
-use Rattle.std.proofs.Common.{arith, ◌≡◌, ◌<◌, ◌&&◌, ◌||◌, ◌∙◌, ◌⊎◌, ◌++◌, ℕ, Bool, true, false, not, cond, nat_lt, List, ◌∷◌, length, set, refl, sym, ap, subst, inl, inr, Some, None, Result, Ok, Err, IfOk, IfErr, OnErr, slice_get}
+use Rattle.std.proofs.Common.{arith, ◌≡◌, ◌<◌, ◌&&◌, ◌||◌, ◌∙◌, ◌⊎◌, ◌++◌, ◌==◌, ◌+◌, ◌%◌, ◌^◌, MatchBool, ℕ, Bool, true, false, not, cond, nat_lt, List, [], ◌∷◌, length, set, refl, sym, ap, subst, inl, inr, Some, None, Result, Ok, Err, IfOk, IfErr, OnErr, slice_get}
 use Rattle.std.proofs.lemmas.Bool.{ltb-true, lt-ltb, eqb-true, eq-eqb, ne_eqb}
 use Rattle.lb_select.specs.Backends.{Member}
 use Rattle.lb_select.specs.Draws.{Draw}
@@ -7,12 +7,12 @@ use Rattle.lb_select.specs.declared.refusal.Refusal.{Refusal}
 use Rattle.lb_select.specs.declared.refusal.Refusal.TheVariants as refusal
 use Rattle.lb_rebuild.specs.Gate.{GateId, GateView}
 use Rattle.lb_rebuild.specs.Identity.{GroupId}
-use Rattle.lb_group.specs.GroupHistory.{Granted, Failed, Published, Abandoned, WorkerLost, TakenOut, Destroyed, Entered, Left, Drew, At, History, past_of, newest, scheduled_at, is_cancelled, granted, served, order_members, Extra, nothing, flight, lost, retired, taken_out, is_flight, is_extra, is_aloft, is_retired_of, is_taken_out, generation_of, extra, waits, readers, due_moment, AskAnswer, cancelled, building, up_to_date, not_due, busy, job, ask_answer, MayHappen}
+use Rattle.lb_group.specs.GroupHistory.{Granted, Failed, Published, Abandoned, WorkerLost, TakenOut, Destroyed, Entered, Left, Drew, At, History, past_of, newest, scheduled_at, is_cancelled, granted, served, order_members, Extra, nothing, flight, lost, retired, taken_out, is_flight, is_extra, is_aloft, is_retired_of, is_taken_out, generation_of, extra, waits, readers, due_moment, AskAnswer, cancelled, building, up_to_date, not_due, busy, job, ask_answer, MayHappen, drawn}
 use Rattle.lb_group.specs.Values.{OrderValue, PlaceValue, Task, BuiltValue, RetiredValue, ReaderValue, SlotValue, GroupValue, order_of, configs_of}
 use Rattle.lb_group.specs.Stands.{Made, order_due, left_readers, permit_in, slot_after, StandsFor}
 use Rattle.lb_group.specs.SlotSeen.{slot_value}
-use Rattle.lb_group.specs.SlotCalls.{slot_answer, ask_told, asked_slot, asked_gate, IsJobOf, failed_slot, published_slot, abandoned_slot, lost_slot, entered_slot, reader_of, readers_at, left_slot, take_refusal, taken_slot, TakesAt, destroyed_slot, drawn_slot, SelectsFrom, PublishesAt, AbandonsAt, LosesAt, LeavesAt}
-use Rattle.lb_group.specs.GroupCalls.{JobIs, IsOwnJob, Asks, asked_events, is_awaited, is_served, Publishes, publish_events, Abandons, abandon_events, lose_refusal, Unless, done_at, enter_refusal, Enters, is_read, Leaves, Takes, is_owed, SelectsIn, select_events}
+use Rattle.lb_group.specs.SlotCalls.{slot_answer, ask_told, asked_slot, asked_gate, IsJobOf, failed_slot, published_slot, abandoned_slot, lost_slot, entered_slot, reader_of, readers_at, left_slot, take_refusal, taken_slot, TakesAt, destroyed_slot, drawn_slot, TicketAt, SelectsFrom, PublishesAt, AbandonsAt, LosesAt, LeavesAt}
+use Rattle.lb_group.specs.GroupCalls.{JobIs, IsOwnJob, Asks, asked_events, is_awaited, is_served, Publishes, publish_events, Abandons, abandon_events, lose_refusal, Unless, done_at, enter_refusal, Enters, is_read, Leaves, Takes, is_owed, SelectsIn, select_events, IsTicket, ticket_events}
 use Rattle.lb_group.specs.declared.answers.Ask.{Ask}
 use Rattle.lb_group.specs.declared.answers.Ask.TheVariants as asked
 use Rattle.lb_group.specs.declared.answers.Told.{Told}
@@ -341,6 +341,22 @@ module _ {S I C : Type 0} {made : Made C} {h : History} {own : GroupId} {id : Ga
   selected-stands s to =
       rw (lt-ltb i (length made.configs) f.inside)
       (f.step (Drew s.tickets) tt (to ∙ ap (λ (z : SlotValue C). drawn_slot s.tickets z) f.slot ∙ drew-step made.gate f.config i s.tickets Past))
+
+  -- a ticket that was drawn
+  ticket-by : (b : Bool) (t : ℕ) → MatchBool b ((t ≡ drawn Past) × (slot_value y ≡ drawn_slot ((t + 1) % 2 ^ 64) (slot_after made.gate f.config Past))) (slot_value y ≡ slot_after made.gate f.config Past)
+      → (b ≡ true → t ≡ drawn Past) × StandsFor made (cond b (At i (Drew ((t + 1) % 2 ^ 64)) ∷ []) [] ++ h) (group_of own id n ms at st (set xs i y))
+  ticket-by true t is = (λ yes. is.0, f.step (Drew ((t + 1) % 2 ^ 64)) tt (is.1 ∙ drew-step made.gate f.config i ((t + 1) % 2 ^ 64) Past))
+  ticket-by false t is = (λ no. absurd (cc), f.same (is ∙ sym f.slot))
+
+  pub tickets : (k m g t : ℕ) → i ≡ k → m ≡ g → TicketAt m (slot_value x) t (slot_value y)
+      → IsTicket made h k g t × StandsFor made (ticket_events made k g t h ++ h) (group_of own id n ms at st (set xs i y))
+  tickets k m g t place number was =
+      let is : TicketAt g (slot_value x) t (slot_value y) = subst (λ (o : ℕ). TicketAt o (slot_value x) t (slot_value y)) number was in
+      let here : MatchBool (served Past == g) ((t ≡ drawn Past) × (slot_value y ≡ drawn_slot ((t + 1) % 2 ^ 64) (slot_after made.gate f.config Past))) (slot_value y ≡ slot_after made.gate f.config Past) =
+      subst (λ (z : SlotValue C). MatchBool (z.serving.generation == g) ((t ≡ z.serving.tickets) × (slot_value y ≡ drawn_slot ((t + 1) % 2 ^ 64) z)) (slot_value y ≡ z)) f.slot is in
+      let told = ticket-by (served Past == g) t here in
+      subst (λ (o : ℕ). IsTicket made h o g t × StandsFor made (ticket_events made o g t h ++ h) (group_of own id n ms at st (set xs i y))) place
+      (rw (lt-ltb i (length made.configs) f.inside) told)
 
   -- a number that is read from the slot
   pub shown : {A : Type 0} (a : A) (b : A) → a ≡ b → Some a ≡ cond (nat_lt i (length made.configs)) (Some b) None

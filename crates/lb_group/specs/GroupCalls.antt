@@ -1,6 +1,6 @@
 -- What the calls on a group answer after its history, and which events they add to it. An answer is told by cases; the events
 -- are a function of the call and its answer, so that what two calls did one after the other is the one list before the other.
-use Rattle.std.specs.Prelude.{◌≡◌, ◌==◌, ◌&&◌, ◌||◌, ◌+◌, ◌<◌, ◌≤◌, ◌^◌, ◌⊎◌, ℕ, Bool, true, false, not, nat_lt, List, [], ◌∷◌, map}
+use Rattle.std.specs.Prelude.{◌≡◌, ◌==◌, ◌&&◌, ◌||◌, ◌+◌, ◌%◌, ◌<◌, ◌≤◌, ◌^◌, ◌⊎◌, ℕ, Bool, true, false, not, nat_lt, List, [], ◌∷◌, map}
 use Rattle.std.specs.Prelude.{length, slice_get, Option, Some, None, Result, Ok, Err, MatchOption, if◌then◌else◌}
 use Rattle.lb_select.specs.Backends.{Member}
 use Rattle.lb_select.specs.Draws.{Draw}
@@ -238,6 +238,17 @@ taken_out_at made slot h = if nat_lt slot (length made.configs) then taken_out_n
 abbrev pub Reports : {C : Type 0} → Made C → History → ℕ → PermitValue → Result (Unit {0}) PermitValue → Type 0
 Reports made h slot permit (Ok u) = is_owed made slot h ≡ true
 Reports made h slot permit (Err p) = (is_owed made slot h ≡ false) × (p ≡ permit)
+
+-- whether the slot serves that generation
+abbrev pub serves : {C : Type 0} → Made C → ℕ → ℕ → History → Bool
+serves made slot n h = nat_lt slot (length made.configs) && (served (past_of slot h) == n)
+
+-- A ticket of the selector that a slot serves is the next of its counter. Of a ticket of a retired selector nothing is told.
+abbrev pub IsTicket : {C : Type 0} → Made C → History → ℕ → ℕ → ℕ → Type 0
+IsTicket made h slot n t = serves made slot n h ≡ true → t ≡ drawn (past_of slot h)
+
+abbrev pub ticket_events : {C : Type 0} → Made C → ℕ → ℕ → ℕ → History → History
+ticket_events made slot n t h = if serves made slot n h then At slot (Drew ((t + 1) % 2 ^ 64)) ∷ [] else []
 
 -- what a reading call answers: a number of the slot, or none where no such slot is there
 abbrev pub at_slot : {A C : Type 0} → Made C → ℕ → A → Option A

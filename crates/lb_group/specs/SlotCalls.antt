@@ -1,5 +1,5 @@
 -- What the calls on one slot answer and leave, as functions of what contracts see of it.
-use Rattle.std.specs.Prelude.{◌≡◌, ◌==◌, ◌&&◌, ◌||◌, ◌+◌, ◌-◌, ℕ, Bool, true, false, not, min, max, nat_lt, nat_le, MatchBool, List}
+use Rattle.std.specs.Prelude.{◌≡◌, ◌==◌, ◌&&◌, ◌||◌, ◌+◌, ◌-◌, ◌%◌, ◌^◌, ℕ, Bool, true, false, not, min, max, nat_lt, nat_le, MatchBool, List}
 use Rattle.std.specs.Prelude.{length, Option, Some, None, is_none, Result, Ok, Err, if◌then◌else◌}
 use Rattle.lb_select.specs.Backends.{Member, same_member}
 use Rattle.lb_select.specs.Draws.{Draw}
@@ -208,6 +208,11 @@ destroyed_slot x = record x { extra = nothing }
 -- the slot with its counter of tickets elsewhere
 abbrev pub drawn_slot : {C : Type 0} → ℕ → SlotValue C → SlotValue C
 drawn_slot n x = record x { serving = record x.serving { tickets = n } }
+
+-- a ticket of the selector that it serves is the next of its counter; one of another selector leaves the slot as it is seen
+abbrev pub TicketAt : {C : Type 0} → ℕ → SlotValue C → ℕ → SlotValue C → Type 0
+TicketAt n x t y =
+    MatchBool (x.serving.generation == n) ((t ≡ x.serving.tickets) × (y ≡ drawn_slot ((t + 1) % 2 ^ 64) x)) (y ≡ x)
 
 -- The first accepted of the candidates from a selector of these members and this configuration whose counter stands at `tickets`,
 -- with these loads. Where walks over it may draw random words, there must be more of them than the limit.

@@ -17,7 +17,7 @@ ghost use Rattle.lb_group.specs.Stands.{Made, StandsFor, SameSite, After, Become
 ghost use Rattle.lb_group.specs.GroupCalls.{Schedules, schedule_events, Prepares, Fits, FitsIfThere, IsCommitted, IsOwnJob, Asks};
 ghost use Rattle.lb_group.specs.GroupCalls.{ask_events, gate_after, Fails, fail_events, gate_back, Publishes, publish_events, Abandons};
 ghost use Rattle.lb_group.specs.GroupCalls.{abandon_events, Unless, lose_refusal, done_at, Enters, Leaves, Takes, Reports, at_slot};
-ghost use Rattle.lb_group.specs.GroupCalls.{taken_out_at, SelectsIn, select_events};
+ghost use Rattle.lb_group.specs.GroupCalls.{IsTicket, ticket_events, taken_out_at, SelectsIn, select_events};
 
 use crate::answers::{Ask, Counts, Selection, Timing, Told};
 use crate::job::{Built, Job};
@@ -352,6 +352,21 @@ impl<S: BackendSelection> GroupCore<S> {
         }
         let place = self.place(slot);
         self.slots[slot].enter(place)
+    }
+
+    /// The next ticket of the selector that a reader is in, in its slot and of its generation. Contracts tell it while that selector
+    /// is served. It takes no memory.
+    pub fn ticket(&mut self, reader: &Reader<S>) -> u64
+        ensures answers { After self.old (λ made h. IsTicket made h reader.now.slot reader.now.generation result) }
+        ensures stands { After self.old (λ made h. StandsFor made
+            (ticket_events made reader.now.slot reader.now.generation result h ++ h) self.new) }
+        ensures site { SameSite self.old self.new }
+    {
+        let slot = reader.slot();
+        if slot >= self.slots.len() {
+            return 0;
+        }
+        self.slots[slot].ticket(reader.generation())
     }
 
     /// Gives an entry back to its slot. It takes no memory.

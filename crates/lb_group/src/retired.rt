@@ -1,6 +1,6 @@
 //! Selectors that are served or were, and the readers that are in them.
 //! A retired selector holds the permit of the extra selector that it is, until it is destroyed and reported.
-ghost use Rattle.std.specs.Prelude.{◌≡◌};
+ghost use Rattle.std.specs.Prelude.{◌≡◌, ◌+◌, ◌%◌, ◌^◌};
 ghost use Rattle.std.specs.Arc.{arc_value};
 
 use crate::place::Place;
@@ -29,6 +29,17 @@ impl<S: BackendSelection> Model for Serving<S> {
       config = S.built_with (arc_value s.selector);
       tickets = s.tickets;
     } };
+}
+
+impl<S: BackendSelection> Serving<S> {
+    // The next ticket of its counter, which wraps at 2^64.
+    pub(crate) fn draw(&mut self) -> u64
+        ensures { (result ≡ self.old.tickets) × (self.new ≡ record self.old { tickets = (self.old.tickets + 1) % 2 ^ 64 }) }
+    {
+        let ticket = self.tickets;
+        self.tickets = ticket.wrapping_add(1);
+        ticket
+    }
 }
 
 /// A selector that is no longer served, with the permit of the extra selector that it is.
@@ -60,6 +71,13 @@ impl<S: BackendSelection> Retired<S> {
     {
         let serving = &self.serving;
         serving.generation
+    }
+
+    // The next ticket of its counter, which contracts do not see.
+    pub(crate) fn draw(&mut self) -> u64
+        ensures { self.new ≡ self.old }
+    {
+        self.serving.draw()
     }
 
     /// Drops the selector, outside all locks, and gives the permit that is to be reported.

@@ -59,7 +59,7 @@ impl<S: BackendSelection> Slot<S> {
     ghost use Rattle.lb_group.specs.SlotCalls.{slot_waits, slot_answer, ask_told, asked_slot, asked_gate, IsJobOf, ordered_slot};
     ghost use Rattle.lb_group.specs.SlotCalls.{failed_slot, published_slot, abandoned_slot, lost_slot, entered_slot, reader_of};
     ghost use Rattle.lb_group.specs.SlotCalls.{readers_at, left_slot, TakesAt, destroyed_slot, drawn_slot, superseded_more, SelectsFrom};
-    ghost use Rattle.lb_group.specs.SlotCalls.{FailsAt, PublishesAt, AbandonsAt, LosesAt, LeavesAt};
+    ghost use Rattle.lb_group.specs.SlotCalls.{TicketAt, FailsAt, PublishesAt, AbandonsAt, LosesAt, LeavesAt};
 
     // A slot that serves a selector of generation 0 over these backends, of which there are none.
     pub(crate) fn fresh(
@@ -425,6 +425,24 @@ impl<S: BackendSelection> Slot<S> {
             self.readers -= 1;
         } else {
             self.left_in -= 1;
+        }
+    }
+
+    // The next ticket of the selector of that generation, served or retired; 0 where there is none.
+    pub(crate) fn ticket(&mut self, generation: u64) -> u64
+        ensures { TicketAt generation (slot_value self.old) result (slot_value self.new) }
+    {
+        let serving = &mut self.serving;
+        if serving.generation == generation {
+            return serving.draw();
+        }
+        match &mut self.stage {
+            Stage::Retired(retired) if retired.generation() == generation => retired.draw(),
+            Stage::Free
+            | Stage::Flight(_)
+            | Stage::Lost(_)
+            | Stage::Retired(_)
+            | Stage::TakenOut(_) => 0,
         }
     }
 

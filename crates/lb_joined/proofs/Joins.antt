@@ -1,5 +1,5 @@
 -- What each call on group and view says of their one history.
-use Rattle.std.proofs.Common.{arith, ◌≡◌, ◌<◌, ◌+◌, ◌^◌, ◌&&◌, ◌∙◌, ℕ, Bool, true, false, not, cond, nat_lt, ◌⊎◌, inl, inr, List, [], ◌∷◌, ◌++◌, length, refl, sym, ap, subst, Some, None, Option, Result, Ok, Err, slice_get}
+use Rattle.std.proofs.Common.{arith, ◌≡◌, ◌<◌, ◌+◌, ◌%◌, ◌^◌, ◌&&◌, ◌∙◌, ℕ, Bool, true, false, not, cond, nat_lt, ◌⊎◌, inl, inr, List, [], ◌∷◌, ◌++◌, length, refl, sym, ap, subst, Some, None, Option, Result, Ok, Err, slice_get}
 use Rattle.std.proofs.lemmas.Bool.{lt-ltb, ltb-true, eqb-true}
 use Rattle.std.proofs.lemmas.Option.{slice_get_within}
 use Rattle.std.specs.Prelude.{All, IfOk}
@@ -9,7 +9,7 @@ use Rattle.lb_select.specs.declared.refusal.Refusal.{Refusal}
 use Rattle.lb_select.specs.declared.refusal.Refusal.TheVariants as refusal
 use Rattle.lb_group.specs.GroupHistory as group
 use Rattle.lb_group.specs.GroupHistory.{past_of, newest, granted, served, Extra, nothing, flight, lost, retired, taken_out, extra, is_aloft, is_taken_out, taken_out_number, generation_of, IsGroupHistory}
-use Rattle.lb_group.specs.GroupCalls.{is_change, Prepares, FitsIfThere, is_awaited, is_owed, taken_out_at, asked_events, done_at, publish_events, abandon_events, select_events}
+use Rattle.lb_group.specs.GroupCalls.{is_change, Prepares, FitsIfThere, is_awaited, is_owed, taken_out_at, asked_events, done_at, publish_events, abandon_events, select_events, serves, ticket_events}
 use Rattle.lb_group.specs.Stands as core
 use Rattle.lb_group.specs.Stands.{Made}
 use Rattle.lb_group.specs.Values.{Task, BuiltValue, PreparedValue, GroupValue, configs_of}
@@ -164,6 +164,23 @@ module _ {C : Type 0} where
   pub still-selected : (made : Made C) (slot : ℕ) (s : Selection) (e : History) → views_of made (in_group (select_events made slot s) ++ e) ≡ views_of made e
   still-selected made slot s e =
       elim (nat_lt slot (length made.configs)) as (λ b. views_of made (in_group (cond b (group.At slot (group.Drew s.tickets) ∷ []) []) ++ e) ≡ views_of made e) [ true ↦ refl | false ↦ refl ]
+
+  -- a ticket of a reader, whose events rest on what the slot serves
+  pub joined-ticket : (made : Made C) (e : History) (slot n t : ℕ) (w z : GroupValue C) (u : ViewValue) (v : JoinedValue C)
+      → (let parts : JoinedValue C = record { group = w; view = u } in parts ≡ v) → Stands made e v
+      → ((h : group.History) → core.StandsFor made h w → core.StandsFor made (ticket_events made slot n t h ++ h) z)
+      → (let after : JoinedValue C = record { group = z; view = u } in Stands made (in_group (ticket_events made slot n t (group_events e)) ++ e) after)
+  joined-ticket made e slot n t w z u v is s group_ =
+      let before : Stands made e (record { group = w; view = u }) = subst (λ (x : JoinedValue C). Stands made e x) (sym is) s in
+      let es : group.History = ticket_events made slot n t (group_events e) in
+      let still : views_of made (in_group es ++ e) ≡ views_of made e =
+      elim (serves made slot n (group_events e)) as (λ b. views_of made (in_group (cond b (group.At slot (group.Drew ((t + 1) % 2 ^ 64)) ∷ []) []) ++ e) ≡ views_of made e)
+      [ true ↦ refl | false ↦ refl ] in
+      record {
+        few = before.few;
+        group = subst (λ (h : group.History). core.StandsFor made h z) (sym (group-joined es e)) (group_ (group_events e) before.group);
+        view = subst (λ (l : List ViewEvent). IsViewAfter l u) (sym still) before.view;
+      }
 
   -- gate, configurations and the number of the view stay
   pub site-joined : (w z : GroupValue C) (u t : ViewValue) (v : JoinedValue C) → (let parts : JoinedValue C = record { group = w; view = u } in parts ≡ v)

@@ -1,6 +1,6 @@
 //! A group joined with its view: a membership reaches both or neither, and each slot holds the snapshots that it has in use.
 //! A call tests all that it can refuse for before it changes anything; builds run elsewhere, between `ask` and `publish`.
-ghost use Rattle.std.specs.Prelude.{◌≡◌, ◌≢◌, ◌↔◌, ◌≤◌, ◌+◌, ◌^◌, ◌∷◌, [], ℕ, List, true, false, map, replicate, None, Ok, Err};
+ghost use Rattle.std.specs.Prelude.{◌≡◌, ◌≢◌, ◌↔◌, ◌≤◌, ◌+◌, ◌^◌, ◌∷◌, ◌++◌, [], ℕ, List, true, false, map, replicate, None, Ok, Err};
 ghost use Rattle.std.specs.Prelude.{IfOk, IfErr, IsTrue, OnOk, OnErr, IsErrOf, slice_get};
 ghost use Rattle.std.specs.Arc.{arc_value};
 ghost use Rattle.lb_select.specs.Backends.{Member};
@@ -15,7 +15,7 @@ ghost use Rattle.lb_group.specs.Stands.{Made, After as AfterGroup, counts_after}
 ghost use Rattle.lb_group.specs.GroupCalls.{IsOwnJob, Asks, ask_events, gate_after, Fails, fail_events, gate_back, Publishes};
 ghost use Rattle.lb_group.specs.GroupCalls.{publish_events, Abandons, abandon_events, Unless, lose_refusal, done_at, Enters, Leaves};
 ghost use Rattle.lb_group.specs.GroupCalls.{is_change, schedule_refusal, Prepares, FitsIfThere};
-ghost use Rattle.lb_group.specs.GroupCalls.{Takes, Reports, at_slot, SelectsIn, select_events};
+ghost use Rattle.lb_group.specs.GroupCalls.{Takes, Reports, at_slot, SelectsIn, select_events, IsTicket, ticket_events};
 ghost use Rattle.lb_health.specs.Joined.{IsReady, settings_of, registry_updated};
 ghost use Rattle.lb_health.specs.ViewEvents.{Held};
 ghost use Rattle.lb_health.specs.Views.{IsViewAfter};
@@ -335,6 +335,16 @@ impl<S: BackendSelection> GroupCore<S> {
             → After self.now (λ made e. IsTrue result ↔ IsReady key_of (views_of made e) events reader.now.generation backend.now) }
     {
         self.view.ready_in(registry, reader.generation(), backend)
+    }
+
+    /// The next ticket of the selector that a reader is in, as for a group alone. It takes no memory.
+    pub fn ticket(&mut self, reader: &Reader<S>) -> u64
+        ensures answers { After self.old (λ made e. IsTicket made (group_events e) reader.now.slot reader.now.generation result) }
+        ensures stands { After self.old (λ made e. Stands made
+            (in_group (ticket_events made reader.now.slot reader.now.generation result (group_events e)) ++ e) self.new) }
+        ensures site { SameSite self.old self.new }
+    {
+        self.group.ticket(reader)
     }
 
     /// Gives an entry back to its slot. It takes no memory.

@@ -1,1 +1,3 @@
+pub mod Dues
+pub mod Plains
 pub mod Visits

@@ -2,6 +2,8 @@
 //! The plain group with its registry and its gate is one; threads and locks come above.
 #![tactic(auto)]
 
+pub mod plain;
+mod plain_calls;
 pub mod port;
 pub mod select;
 pub mod source;

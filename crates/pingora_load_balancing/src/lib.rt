@@ -5,6 +5,7 @@
 pub mod discovery;
 pub mod health;
 pub mod health_check;
+pub mod port;
 pub mod prelude;
 pub mod rebuild;
 pub mod schedule;
