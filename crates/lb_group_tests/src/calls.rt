@@ -1,9 +1,10 @@
-//! Calls that the rows make again and again, on groups of one slot. A job or a selector that isn't awaited is closed.
+//! Calls that the rows make again and again: two groups of one slot each on one gate, and what a job in hand goes through.
+//! A job or a selector that isn't awaited is closed.
 ghost use Rattle.std.specs.Prelude.{◌≡◌, IfOk, Some, slice_get};
 ghost use Rattle.lb_group.specs.Stands.{SameSite};
 ghost use Rattle.lb_group.specs.Values.{configs_of};
 
-use lb_group::answers::{Ask, Told};
+use lb_group::answers::{Ask, Counts, Timing, Told};
 use lb_group::group::GroupCore;
 use lb_group::job::{Built, FailedBuild, Job};
 use lb_rebuild::gate::GateCore;
@@ -12,14 +13,122 @@ use lb_select::refusal::Refusal;
 use lb_weighted::selection::RoundRobin;
 use std::alloc::Global;
 use std::collections::BTreeSet;
+use std::marker::Model;
 
-/// A group of one slot.
-pub(crate) fn group_of_one(alloc: Global, gate: &GateCore) -> Result<GroupCore<RoundRobin>, Refusal>
-    ensures { IfOk result (λ g. g.gate ≡ gate.now.id) }
-{
+/// A gate with two groups of one slot on it.
+#[derive(Drop)]
+pub(crate) struct Pair {
+    pub(crate) gate: GateCore,
+    pub(crate) group: GroupCore<RoundRobin>,
+    pub(crate) other: GroupCore<RoundRobin>,
+}
+
+impl Model for Pair {
+    ghost use Rattle.std.specs.Prelude.{◌≡◌};
+
+    ghost Value = { Unit {0} };
+
+    ghost view = { λ p. record {} };
+
+    ghost invariant = { λ p. (p.group.gate ≡ p.gate.id) × (p.other.gate ≡ p.gate.id) };
+}
+
+/// What a slot answers to who asks: a word, and the moment where it is due later.
+pub(crate) type Word = (&'static str, u128);
+
+impl Pair {
+    /// Two groups on a new gate.
+    pub(crate) fn new(alloc: Global) -> Result<Pair, Refusal> {
+        let gate = GateCore::new(alloc)?;
+        let group = GroupCore::new(alloc, &gate, one_slot(alloc)?)?;
+        let other = GroupCore::new(alloc, &gate, one_slot(alloc)?)?;
+        Ok(Pair { gate, group, other })
+    }
+
+    /// Gives the first group one backend; the generation that is its newest then.
+    pub(crate) fn scheduled(
+        &mut self,
+        alloc: Global,
+        addr: &str,
+        now: u128,
+    ) -> Result<u64, Refusal> {
+        scheduled(alloc, &mut self.group, addr, now)
+    }
+
+    /// The same of the second group.
+    pub(crate) fn other_scheduled(
+        &mut self,
+        alloc: Global,
+        addr: &str,
+        now: u128,
+    ) -> Result<u64, Refusal> {
+        scheduled(alloc, &mut self.other, addr, now)
+    }
+
+    /// What the first group answers to who asks. A job that comes is closed.
+    pub(crate) fn asked(&mut self, now: u128) -> Result<Word, Refusal> {
+        asked(&mut self.group, &mut self.gate, now)
+    }
+
+    /// Whether the first group answers this word, with no later moment.
+    pub(crate) fn answers(&mut self, now: u128, word: &str) -> Result<bool, Refusal> {
+        Ok(self.asked(now)? == (word, 0))
+    }
+
+    /// Whether the second group does.
+    pub(crate) fn other_answers(&mut self, now: u128, word: &str) -> Result<bool, Refusal> {
+        Ok(asked(&mut self.other, &mut self.gate, now)? == (word, 0))
+    }
+
+    /// Lets a job of the first group fail at once; whether it was awaited.
+    pub(crate) fn failed(&mut self, now: u128) -> Result<bool, Refusal> {
+        let job = job_at(&mut self.group, &mut self.gate, now)?;
+        Ok(failed(&mut self.group, job, &mut self.gate, now))
+    }
+
+    /// Builds a job of the first group, and publishes what was built.
+    pub(crate) fn rebuilt(
+        &mut self,
+        alloc: Global,
+        asked: u128,
+        ended: u128,
+    ) -> Result<Option<Told>, Refusal> {
+        rebuilt(alloc, &mut self.group, &mut self.gate, (asked, ended))
+    }
+
+    /// The generation that the first group serves.
+    pub(crate) fn served(&self) -> Option<u64> {
+        self.group.served(0)
+    }
+
+    /// The counts of the first group.
+    pub(crate) fn counts(&self) -> Option<Counts> {
+        self.group.counts(0)
+    }
+
+    /// The timing of the first group's last publication.
+    pub(crate) fn timing(&self) -> Option<Option<Timing>> {
+        self.group.timing(0)
+    }
+
+    /// Takes the retired selector out of the first group, destroys it and reports it; whether the report was owed.
+    pub(crate) fn destroyed(&mut self) -> Result<bool, Refusal> {
+        let permit = self.group.take_retired(0)?.destroy();
+        match self.group.destroyed(0, permit, &mut self.gate) {
+            Ok(()) => Ok(true),
+            Err(permit) => {
+                permit.spend();
+                Ok(false)
+            }
+        }
+    }
+}
+
+/// The configuration of one slot.
+pub(crate) fn one_slot(alloc: Global) -> Result<Vec<()>, Refusal> {
     let mut configs = Vec::new(alloc);
     configs.push(())?;
-    GroupCore::new(alloc, gate, configs)
+    Ok(configs)
 }
 
 /// The backend of weight 1 at this address, alone.
@@ -29,12 +138,25 @@ pub(crate) fn alone(alloc: Global, addr: &str) -> Result<BTreeSet<Backend>, Refu
     Ok(set)
 }
 
-/// Asks slot 0: the word for its answer, and the moment where it is due later. A job that comes is closed.
+/// Gives a group one backend; the generation that is its newest then.
+pub(crate) fn scheduled(
+    alloc: Global,
+    group: &mut GroupCore<RoundRobin>,
+    addr: &str,
+    now: u128,
+) -> Result<u64, Refusal>
+    ensures { SameSite group.old group.new }
+{
+    let scheduled = group.schedule(alloc, alone(alloc, addr)?, now)?;
+    Ok(scheduled.generation)
+}
+
+/// Asks slot 0 of a group. A job that comes is closed.
 pub(crate) fn asked(
     group: &mut GroupCore<RoundRobin>,
     gate: &mut GateCore,
     now: u128,
-) -> Result<(&'static str, u128), Refusal>
+) -> Result<Word, Refusal>
     requires { gate.old.id ≡ group.old.gate }
     ensures gate { gate.new.id ≡ gate.old.id }
     ensures site { SameSite group.old group.new }
@@ -145,21 +267,19 @@ pub(crate) fn abandoned(group: &mut GroupCore<RoundRobin>, built: Built<RoundRob
     }
 }
 
-/// Takes the retired selector out of slot 0, destroys it and reports it; whether the report was owed.
-pub(crate) fn destroyed(
+/// Builds a job and publishes what was built, where it is asked for at the one moment and built at the other.
+pub(crate) fn rebuilt(
+    alloc: Global,
     group: &mut GroupCore<RoundRobin>,
     gate: &mut GateCore,
-) -> Result<bool, Refusal>
+    moments: (u128, u128),
+) -> Result<Option<Told>, Refusal>
     requires { gate.old.id ≡ group.old.gate }
     ensures gate { gate.new.id ≡ gate.old.id }
     ensures site { SameSite group.old group.new }
 {
-    let permit = group.take_retired(0)?.destroy();
-    match group.destroyed(0, permit, gate) {
-        Ok(()) => Ok(true),
-        Err(permit) => {
-            permit.spend();
-            Ok(false)
-        }
-    }
+    let (asked, ended) = moments;
+    let job = job_at(group, gate, asked)?;
+    let built = built(alloc, job, ended)?;
+    Ok(published(group, built))
 }

@@ -19,6 +19,7 @@ use Rattle.lb_history.specs.Meanings.{Meaning}
 use Rattle.lb_history.specs.History.{History}
 use Rattle.lb_history.specs.Shared.{key_at, registry_events}
 use Rattle.lb_history.specs.Answers.{Answers, no_such}
+use Rattle.lb_world.specs.Calls.{in_tables}
 use Rattle.lb_world.specs.Rules.{WorldRule, key_gives}
 use Rattle.lb_world.specs.Stands.{Stands}
 use Rattle.lb_world.specs.Views.{WorldValue}
@@ -53,16 +54,12 @@ not-full b n told is =
     ]
 
 module _ {C : Type 0} where
-  abbrev pub in-tables : WorldValue C → ℕ → ℕ → Bool
-  in-tables w r a = nat_lt r (length w.registries) && nat_lt a (length w.gates)
-
   -- no cause stands: registry and gate are there
-  pub none-stands : (w : WorldValue C) (r a : ℕ) (b : Bool) (cause : Option Refusal) → b ≡ in-tables w r a
-      → earlier (no_such b) cause ≡ None
+  pub none-stands : (w : WorldValue C) (r a : ℕ) (cause : Option Refusal) → earlier (no_such (in_tables w r a)) cause ≡ None
       → (r < length w.registries) × (a < length w.gates) × (cause ≡ None)
-  none-stands w r a b cause is none =
-      let both = no-cause (no_such b) cause none in
-      let parts = and_parts (nat_lt r (length w.registries)) (nat_lt a (length w.gates)) (sym is ∙ is-there b both.0) in
+  none-stands w r a cause none =
+      let both = no-cause (no_such (in_tables w r a)) cause none in
+      let parts = and_parts (nat_lt r (length w.registries)) (nat_lt a (length w.gates)) (is-there (in_tables w r a) both.0) in
       (ltb-true r (length w.registries) parts.0, ltb-true a (length w.gates) parts.1, both.1)
 
   -- a number of a cell is left, since marks that are applied start no cell
@@ -75,20 +72,21 @@ module _ {C : Type 0} where
       omega (arith, same, now.state.fits)
 
 module _ {C : Type 0} (M : Meaning C) where
-  same-there : (w : WorldValue C) (h : History C) (r a : ℕ) → Stands M w h → there h r a ≡ in-tables w r a
+  same-there : (w : WorldValue C) (h : History C) (r a : ℕ) → Stands M w h → there h r a ≡ in_tables w r a
   same-there w h r a s = rw (s.registries_are, s.gates_are) refl
 
   all-there : (w : WorldValue C) (h : History C) (r a : ℕ) → r < length w.registries → a < length w.gates → Stands M w h
       → there h r a ≡ true
   all-there w h r a in_ at s = same-there w h r a s ∙ rw (lt-ltb r (length w.registries) in_, lt-ltb a (length w.gates) at) refl
 
-  pub group-caused : (w : WorldValue C) (h : History C) (r a : ℕ) (cs : List C) (b : Bool) (e : Refusal) → b ≡ in-tables w r a
-      → earlier (no_such b) (least (map (M.refusal []) cs)) ≡ Some e → Stands M w h → Stands M w ((step.group r a cs, answer.Refused e) ∷ h)
-  group-caused w h r a cs b e is cause s =
+  pub group-caused : (w : WorldValue C) (h : History C) (r a : ℕ) (cs : List C) (e : Refusal)
+      → earlier (no_such (in_tables w r a)) (least (map (M.refusal []) cs)) ≡ Some e → Stands M w h
+      → Stands M w ((step.group r a cs, answer.Refused e) ∷ h)
+  group-caused w h r a cs e cause s =
       world-refused M w h (step.group r a cs) e
       (inl
       (group-refused M h r a cs e
-      (ap (λ (t : Bool). earlier (no_such t) (least (map (M.refusal []) cs))) (same-there w h r a s ∙ sym is) ∙ cause))) s
+      (ap (λ (t : Bool). earlier (no_such t) (least (map (M.refusal []) cs))) (same-there w h r a s) ∙ cause))) s
 
   refused-at : (h : History C) (r a : ℕ) (cs : List C) (e : Refusal) → AtRegistry h (step.group r a cs) (answer.Refused e) r
   refused-at h r a cs e =

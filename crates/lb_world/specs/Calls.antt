@@ -1,5 +1,6 @@
 -- Words for what small calls answer.
-use Rattle.std.specs.Prelude.{◌≡◌, ℕ, Bool, true, List, [], length, replicate, Option, Some, None, Result, Ok, Err, if◌then◌else◌}
+use Rattle.std.specs.Prelude.{◌≡◌, ◌&&◌, ℕ, Bool, true, nat_lt, List, [], length, replicate, Option, Some, None, Result, Ok, Err}
+use Rattle.std.specs.Prelude.{if◌then◌else◌}
 use Rattle.lb_rebuild.specs.Gate.{GateId}
 use Rattle.std.specs.BTreeMap.{insert_entry}
 use Rattle.std.specs.BTreeSet.{insert_key}
@@ -17,7 +18,11 @@ use Rattle.lb_history.specs.declared.answer.Answer.{Answer}
 use Rattle.lb_history.specs.declared.answer.Answer.TheVariants as answer
 use Rattle.lb_joined.specs.JoinedHistory.{History, group_events}
 use Rattle.lb_joined.specs.Stands.{JoinedValue, Stands}
-use Rattle.lb_world.specs.Views.{EntryValue, nothing}
+use Rattle.lb_world.specs.Views.{EntryValue, WorldValue, nothing}
+
+-- the registry and the gate of these numbers are there
+abbrev pub in_tables : {C : Type 0} → WorldValue C → ℕ → ℕ → Bool
+in_tables w r a = nat_lt r (length w.registries) && nat_lt a (length w.gates)
 
 abbrev pub number_of : Option (Option ℕ) → ℕ
 number_of None = 0

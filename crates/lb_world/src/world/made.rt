@@ -7,6 +7,7 @@ ghost use Rattle.lb_history.specs.History.{History};
 ghost use Rattle.lb_history.specs.Meanings.{meaning_of};
 ghost use Rattle.lb_history.specs.Shared.{key_by, started};
 ghost use Rattle.lb_history.specs.Steps as seen;
+ghost use Rattle.lb_world.specs.Calls.{in_tables};
 ghost use Rattle.lb_world.specs.Rules.{key_gives};
 ghost use Rattle.lb_registry.specs.Registry.{IsRegistryAfter};
 ghost use Rattle.lb_world.specs.Stands.{Stands};
@@ -52,14 +53,20 @@ impl<S: BackendSelection> World<S> {
         Answer::Gate(number)
     }
 
+    // Why no group can be made of these, apart from numbers and memory.
+    fn cause(&self, registry: u64, gate: u64, configs: &[S::Config]) -> Option<Refusal>
+        ensures { result ≡ earlier_of (no_such (in_tables self.now registry gate)) (least (map (S.refusal []) configs.now)) }
+    {
+        let is_there = registry < self.registries.len() as u64 && gate < self.gates.len() as u64;
+        earlier_cause(is_there, least_refusal::<S>(self.alloc, configs))
+    }
+
     pub(super) fn group(&mut self, registry: u64, gate: u64, configs: Vec<S::Config>) -> Answer
         ensures { (h : History S.Config) → Stands (meaning_of S.BackendSelection) self.old h
             → Stands (meaning_of S.BackendSelection) self.new
             ((seen.group registry gate configs.items, result) ∷ h) }
     {
-        let is_there = registry < self.registries.len() as u64 && gate < self.gates.len() as u64;
-        let cause = least_refusal::<S>(self.alloc, &configs);
-        if let Some(refusal) = earlier_cause(is_there, cause) {
+        if let Some(refusal) = self.cause(registry, gate, &configs) {
             return Answer::Refused(refusal);
         }
         let at = (registry as usize, gate as usize);

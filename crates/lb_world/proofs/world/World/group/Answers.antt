@@ -2,11 +2,10 @@
 use Rattle.std.proofs.Common.{◌≡◌, ◌∙◌, [], ◌∷◌, ◌++◌, List, length, map, refl, sym, ap, subst, arith}
 use Rattle.std.specs.Prelude.{slice_set}
 use Rattle.lb_select.specs.Backends.{Member}
-use Rattle.lb_select.specs.Refusals.{earlier, least}
 use Rattle.lb_select.specs.declared.refusal.Refusal.TheVariants as refusal
+use Rattle.lb_select.specs.Refusals.{least}
 use Rattle.lb_registry.specs.Registry.{IsRegistryAfter}
 use Rattle.lb_registry.specs.RegistryEvents.{Event}
-use Rattle.lb_history.specs.Answers.{no_such}
 use Rattle.lb_history.specs.declared.answer.Answer.TheVariants as answer
 use Rattle.lb_history.specs.Meanings.{meaning_of}
 use Rattle.lb_history.specs.Steps as seen
@@ -14,46 +13,25 @@ use Rattle.lb_world.specs.Founded.{world_value}
 use Rattle.lb_world.specs.Rules.{key_gives}
 use Rattle.lb_world.specs.Stands.{Stands}
 use Rattle.lb_world.specs.Views.{EntryValue}
-use Rattle.lb_world.proofs.GroupSteps.{first-test, second-test, in-tables, none-stands, not-full, group-caused, group-is-full}
+use Rattle.lb_world.proofs.GroupSteps.{none-stands, not-full, group-caused, group-is-full}
 use Rattle.lb_world.proofs.GroupSteps.{group-lacks, group-is-right}
 use Rattle.lb_world.proofs.Making.{group-made}
 use Rattle.lb_world.proofs.Next.{founded}
 use Rattle.lb_world.proofs.RegistrySteps.{refused-so}
 use Rattle.lb_world.proofs.TaskSteps.{at-place}
 use Rattle.lb_world.proofs.world.World.group.Goals as goal
-use Rattle.lb_world.proofs.world.World.group.Goals.{then-registry-len, else-registry-len}
 
 pub returns-in-Some : goal.returns-in-Some
 returns-in-Some g c =
-    let there : c.if-registry-len.is_there ≡ in-tables (world_value c.self.inside) c.args.registry c.args.gate =
-    elim c.if-registry-len.branch [
-      | then-registry-len w ↦
-          second-test _ c.args.registry _ c.len.result c.args.gate _ w.len-then-registry-len.result (omega arith)
-          (omega arith) w.if-registry-len.true w.is_there-is
-      | else-registry-len w ↦ first-test _ c.args.registry _ c.len.result c.args.gate _ (omega arith) w.if-registry-len.false w.is_there-is
-    ] in
-    let reason : c.least_refusal-cause.result ≡ least (map (g.S.BackendSelection.refusal []) c.args.configs.items) =
-    rw c.deref.ensures.value at c.least_refusal-cause.ensures in
-    rw (← c.self.view_is)
-    (λ h s.
-    group-caused (meaning_of g.S.BackendSelection)
-    (world_value c.self.inside) h c.args.registry c.args.gate c.args.configs.items c.if-registry-len.is_there
-    c.in-Some.refusal there (ap (earlier (no_such c.if-registry-len.is_there)) (sym reason) ∙ sym c.earlier_cause.ensures ∙ c.in-Some.is) s)
+    λ h s.
+    group-caused (meaning_of g.S.BackendSelection) c.args.self.now h c.args.registry c.args.gate c.args.configs.items c.in-Some.refusal
+    (rw c.deref.ensures.value at (sym c.cause.ensures ∙ c.in-Some.is)) s
 
 pub returns-then-is_full : goal.returns-then-is_full
 returns-then-is_full g c =
-    let there : c.if-registry-len.is_there ≡ in-tables (world_value c.self.inside) c.args.registry c.args.gate =
-    elim c.if-registry-len.branch [
-      | then-registry-len w ↦
-          second-test _ c.args.registry _ c.len.result c.args.gate _ w.len-then-registry-len.result (omega arith)
-          (omega arith) w.if-registry-len.true w.is_there-is
-      | else-registry-len w ↦ first-test _ c.args.registry _ c.len.result c.args.gate _ (omega arith) w.if-registry-len.false w.is_there-is
-    ] in
-    let reason : c.least_refusal-cause.result ≡ least (map (g.S.BackendSelection.refusal []) c.args.configs.items) =
-    rw c.deref.ensures.value at c.least_refusal-cause.ensures in
-    let free = none-stands (world_value c.self.inside) c.args.registry c.args.gate c.if-registry-len.is_there
-    (least (map (g.S.BackendSelection.refusal []) c.args.configs.items)) there
-    (ap (earlier (no_such c.if-registry-len.is_there)) (sym reason) ∙ sym c.earlier_cause.ensures ∙ c.in_default.is) in
+    let free = none-stands (world_value c.self.inside) c.args.registry c.args.gate
+    (least (map (g.S.BackendSelection.refusal []) c.args.configs.items))
+    (rw (← c.self.view_is, c.deref.ensures.value) at (sym c.cause.ensures ∙ c.in_default.is)) in
     let at = at-place c.self.inside.registries.items c.args.registry c.index_mut-registry.result.now free.0
     c.index_mut-registry.ensures.value in
     rw (← c.self.view_is)
@@ -64,18 +42,9 @@ returns-then-is_full g c =
 
 pub returns-in_default-reserve : goal.returns-in_default-reserve
 returns-in_default-reserve g c =
-    let there : c.if-registry-len.is_there ≡ in-tables (world_value c.self.inside) c.args.registry c.args.gate =
-    elim c.if-registry-len.branch [
-      | then-registry-len w ↦
-          second-test _ c.args.registry _ c.len.result c.args.gate _ w.len-then-registry-len.result (omega arith)
-          (omega arith) w.if-registry-len.true w.is_there-is
-      | else-registry-len w ↦ first-test _ c.args.registry _ c.len.result c.args.gate _ (omega arith) w.if-registry-len.false w.is_there-is
-    ] in
-    let reason : c.least_refusal-cause.result ≡ least (map (g.S.BackendSelection.refusal []) c.args.configs.items) =
-    rw c.deref.ensures.value at c.least_refusal-cause.ensures in
-    let free = none-stands (world_value c.self.inside) c.args.registry c.args.gate c.if-registry-len.is_there
-    (least (map (g.S.BackendSelection.refusal []) c.args.configs.items)) there
-    (ap (earlier (no_such c.if-registry-len.is_there)) (sym reason) ∙ sym c.earlier_cause.ensures ∙ c.in_default.is) in
+    let free = none-stands (world_value c.self.inside) c.args.registry c.args.gate
+    (least (map (g.S.BackendSelection.refusal []) c.args.configs.items))
+    (rw (← c.self.view_is, c.deref.ensures.value) at (sym c.cause.ensures ∙ c.in_default.is)) in
     let at = at-place c.self.inside.registries.items c.args.registry c.index_mut-registry.result.now free.0
     c.index_mut-registry.ensures.value in
     let left = λ (k : Member → Member) (es : List Event) (now : IsRegistryAfter key_gives k es c.index_mut-registry.result.now).
@@ -88,18 +57,9 @@ returns-in_default-reserve g c =
 
 pub invariant_of-self-in-Ok-new : goal.invariant_of-self-in-Ok-new
 invariant_of-self-in-Ok-new g c =
-    let there : c.if-registry-len.is_there ≡ in-tables (world_value c.self.inside) c.args.registry c.args.gate =
-    elim c.if-registry-len.branch [
-      | then-registry-len w ↦
-          second-test _ c.args.registry _ c.len.result c.args.gate _ w.len-then-registry-len.result (omega arith)
-          (omega arith) w.if-registry-len.true w.is_there-is
-      | else-registry-len w ↦ first-test _ c.args.registry _ c.len.result c.args.gate _ (omega arith) w.if-registry-len.false w.is_there-is
-    ] in
-    let reason : c.least_refusal-cause.result ≡ least (map (g.S.BackendSelection.refusal []) c.args.configs.items) =
-    rw c.deref.ensures.value at c.least_refusal-cause.ensures in
-    let free = none-stands (world_value c.self.inside) c.args.registry c.args.gate c.if-registry-len.is_there
-    (least (map (g.S.BackendSelection.refusal []) c.args.configs.items)) there
-    (ap (earlier (no_such c.if-registry-len.is_there)) (sym reason) ∙ sym c.earlier_cause.ensures ∙ c.in_default.is) in
+    let free = none-stands (world_value c.self.inside) c.args.registry c.args.gate
+    (least (map (g.S.BackendSelection.refusal []) c.args.configs.items))
+    (rw (← c.self.view_is, c.deref.ensures.value) at (sym c.cause.ensures ∙ c.in_default.is)) in
     let at = at-place c.self.inside.registries.items c.args.registry c.index_mut-registry.result.now free.0
     c.index_mut-registry.ensures.value in
     let left = λ (k : Member → Member) (es : List Event) (now : IsRegistryAfter key_gives k es c.index_mut-registry.result.now).
@@ -127,18 +87,9 @@ invariant_of-self-in-Ok-new g c =
 
 pub invariant_of-self-in-Err : goal.invariant_of-self-in-Err
 invariant_of-self-in-Err g c =
-    let there : c.if-registry-len.is_there ≡ in-tables (world_value c.self.inside) c.args.registry c.args.gate =
-    elim c.if-registry-len.branch [
-      | then-registry-len w ↦
-          second-test _ c.args.registry _ c.len.result c.args.gate _ w.len-then-registry-len.result (omega arith)
-          (omega arith) w.if-registry-len.true w.is_there-is
-      | else-registry-len w ↦ first-test _ c.args.registry _ c.len.result c.args.gate _ (omega arith) w.if-registry-len.false w.is_there-is
-    ] in
-    let reason : c.least_refusal-cause.result ≡ least (map (g.S.BackendSelection.refusal []) c.args.configs.items) =
-    rw c.deref.ensures.value at c.least_refusal-cause.ensures in
-    let free = none-stands (world_value c.self.inside) c.args.registry c.args.gate c.if-registry-len.is_there
-    (least (map (g.S.BackendSelection.refusal []) c.args.configs.items)) there
-    (ap (earlier (no_such c.if-registry-len.is_there)) (sym reason) ∙ sym c.earlier_cause.ensures ∙ c.in_default.is) in
+    let free = none-stands (world_value c.self.inside) c.args.registry c.args.gate
+    (least (map (g.S.BackendSelection.refusal []) c.args.configs.items))
+    (rw (← c.self.view_is, c.deref.ensures.value) at (sym c.cause.ensures ∙ c.in_default.is)) in
     let at = at-place c.self.inside.registries.items c.args.registry c.index_mut-registry.result.now free.0
     c.index_mut-registry.ensures.value in
     let left = λ (k : Member → Member) (es : List Event) (now : IsRegistryAfter key_gives k es c.index_mut-registry.result.now).
@@ -155,18 +106,9 @@ invariant_of-self-in-Err g c =
 
 pub returns-in-Ok-new : goal.returns-in-Ok-new
 returns-in-Ok-new g c =
-    let there : c.if-registry-len.is_there ≡ in-tables (world_value c.self.inside) c.args.registry c.args.gate =
-    elim c.if-registry-len.branch [
-      | then-registry-len w ↦
-          second-test _ c.args.registry _ c.len.result c.args.gate _ w.len-then-registry-len.result (omega arith)
-          (omega arith) w.if-registry-len.true w.is_there-is
-      | else-registry-len w ↦ first-test _ c.args.registry _ c.len.result c.args.gate _ (omega arith) w.if-registry-len.false w.is_there-is
-    ] in
-    let reason : c.least_refusal-cause.result ≡ least (map (g.S.BackendSelection.refusal []) c.args.configs.items) =
-    rw c.deref.ensures.value at c.least_refusal-cause.ensures in
-    let free = none-stands (world_value c.self.inside) c.args.registry c.args.gate c.if-registry-len.is_there
-    (least (map (g.S.BackendSelection.refusal []) c.args.configs.items)) there
-    (ap (earlier (no_such c.if-registry-len.is_there)) (sym reason) ∙ sym c.earlier_cause.ensures ∙ c.in_default.is) in
+    let free = none-stands (world_value c.self.inside) c.args.registry c.args.gate
+    (least (map (g.S.BackendSelection.refusal []) c.args.configs.items))
+    (rw (← c.self.view_is, c.deref.ensures.value) at (sym c.cause.ensures ∙ c.in_default.is)) in
     let at = at-place c.self.inside.registries.items c.args.registry c.index_mut-registry.result.now free.0
     c.index_mut-registry.ensures.value in
     let left = λ (k : Member → Member) (es : List Event) (now : IsRegistryAfter key_gives k es c.index_mut-registry.result.now).
@@ -193,18 +135,9 @@ returns-in-Ok-new g c =
 
 pub returns-in-Err : goal.returns-in-Err
 returns-in-Err g c =
-    let there : c.if-registry-len.is_there ≡ in-tables (world_value c.self.inside) c.args.registry c.args.gate =
-    elim c.if-registry-len.branch [
-      | then-registry-len w ↦
-          second-test _ c.args.registry _ c.len.result c.args.gate _ w.len-then-registry-len.result (omega arith)
-          (omega arith) w.if-registry-len.true w.is_there-is
-      | else-registry-len w ↦ first-test _ c.args.registry _ c.len.result c.args.gate _ (omega arith) w.if-registry-len.false w.is_there-is
-    ] in
-    let reason : c.least_refusal-cause.result ≡ least (map (g.S.BackendSelection.refusal []) c.args.configs.items) =
-    rw c.deref.ensures.value at c.least_refusal-cause.ensures in
-    let free = none-stands (world_value c.self.inside) c.args.registry c.args.gate c.if-registry-len.is_there
-    (least (map (g.S.BackendSelection.refusal []) c.args.configs.items)) there
-    (ap (earlier (no_such c.if-registry-len.is_there)) (sym reason) ∙ sym c.earlier_cause.ensures ∙ c.in_default.is) in
+    let free = none-stands (world_value c.self.inside) c.args.registry c.args.gate
+    (least (map (g.S.BackendSelection.refusal []) c.args.configs.items))
+    (rw (← c.self.view_is, c.deref.ensures.value) at (sym c.cause.ensures ∙ c.in_default.is)) in
     let at = at-place c.self.inside.registries.items c.args.registry c.index_mut-registry.result.now free.0
     c.index_mut-registry.ensures.value in
     let left = λ (k : Member → Member) (es : List Event) (now : IsRegistryAfter key_gives k es c.index_mut-registry.result.now).
