@@ -46,6 +46,11 @@ impl<R: KeyRule + Drop, C: HealthCheck + Drop> HealthRegistry<R, C> {
         }
     }
 
+    /// Whether a check is set. It takes no memory.
+    pub fn has_health_check(&self) -> bool {
+        self.check.get().is_some()
+    }
+
     /// How many targets there are, after the marks that wait are applied.
     ///
     /// # Errors

@@ -1,0 +1,2 @@
+mod Drives
+mod Lines

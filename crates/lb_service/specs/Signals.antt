@@ -1,0 +1,31 @@
+-- What a signal tells its watches.
+use Rattle.std.specs.Prelude.{◌≡◌, ◌⊎◌, ℕ, Bool, Option, Some, None, if◌then◌else◌, ◌==◌}
+use Rattle.atomic_table.specs.Seated.{TableId}
+use Rattle.lb_schedule.specs.declared.event.Event.{Event}
+use Rattle.lb_schedule.specs.declared.event.Event.TheVariants as on
+
+-- of which pair a signal is, and whether the latest that it sent is the end
+pub record SignalValue : Type 0 where
+  pub pair : TableId
+  pub latest : Bool
+
+abbrev pub signal : TableId → Bool → SignalValue
+signal pair latest = record { pair = pair; latest = latest }
+
+-- what a signal that isn't gone tells: the end where that is the latest that it sent, else nothing
+abbrev pub told : Bool → Option Event
+told latest = if latest then Some on.Shutdown else None
+
+-- nothing, the end, or that the signal is gone
+abbrev pub IsOfSignal : Option Event → Type 0
+IsOfSignal e = (e ≡ None) ⊎ (e ≡ Some on.Shutdown) ⊎ (e ≡ Some on.Closed)
+
+-- what the word of a line says
+abbrev pub event_of : ℕ → Option Event
+event_of word = if word == 0 then None else if word == 1 then Some on.Shutdown else Some on.Closed
+
+-- the word that says it
+abbrev pub word_of : Option Event → ℕ
+word_of (Some on.Shutdown) = 1
+word_of (Some on.Closed) = 2
+word_of e = 0
