@@ -6,6 +6,7 @@ use Rattle.std.proofs.lemmas.List.{append-nil}
 use Rattle.std.proofs.lemmas.List.Elements.{filter-append}
 use Rattle.std.proofs.lemmas.List.Folds.{list_any-append}
 use Rattle.std.proofs.lemmas.List.Sums.{fold-append}
+use Rattle.std.proofs.lemmas.Map.Steps.{list_any_congr}
 use Rattle.std.specs.BTreeMap.{insert_entry}
 use Rattle.std.specs.BTreeSet.{contains}
 use Rattle.std.specs.Cmp.{IsEquivalence, IsTotalOrder, eq_by_cmp_equiv}
@@ -44,31 +45,28 @@ taken-push cs c q =
     list_any-append (λ d. same_member q d.key) cs (c ∷ [])
     ∙ ap (λ b. list_any (λ d. same_member q d.key) cs || b) (or-false (same_member q c.key))
 
+known_by : (b t : Bool) → (t ≡ true → b ≡ true) → b ≡ (b || t)
+known_by true t h = refl
+known_by false false h = refl
+known_by false true h = h refl
+
+pub gathers-known :
+    (cs : List Candidate) (g : Gathered) (c : Candidate) → Gathers cs g → contains member_cmp g.taken c.key ≡ true → Gathers (cs ++ c ∷ []) g
+gathers-known cs g c before known =
+    record {
+      taken = λ q.
+          before.taken q
+          ∙ known_by (list_any (λ d. same_member q d.key) cs) (same_member q c.key)
+          (λ t. sym (before.taken q) ∙ list_any_congr member_laws q c.key g.taken.keys t ∙ known)
+          ∙ sym (taken-push cs c q);
+      order = before.order ∙ ap in_order (sym (distinct-known cs c (sym (before.taken c.key) ∙ known)));
+    }
+
 new_by : (t b : Bool) → cond t true b ≡ (b || t)
 new_by true true = refl
 new_by true false = refl
 new_by false true = refl
 new_by false false = refl
-
--- the keys that have their target, with one more
-taken-more :
-    (cs : List Candidate) (g h : Gathered) (c : Candidate) → Gathers cs g
-    → ((q : Member) → contains member_cmp h.taken q ≡ cond (same_member c.key q) true (contains member_cmp g.taken q)) → (q : Member)
-    → contains member_cmp h.taken q ≡ list_any (λ d. same_member q d.key) (cs ++ c ∷ [])
-taken-more cs g h c before taken q =
-    taken q ∙ ap (λ t. cond t true (contains member_cmp g.taken q)) (member_laws.symm c.key q)
-    ∙ new_by (same_member q c.key) (contains member_cmp g.taken q)
-    ∙ ap (λ b. b || same_member q c.key) (before.taken q) ∙ sym (taken-push cs c q)
-
-pub gathers-known :
-    (cs : List Candidate) (g h : Gathered) (c : Candidate) → Gathers cs g → contains member_cmp g.taken c.key ≡ true
-    → ((q : Member) → contains member_cmp h.taken q ≡ cond (same_member c.key q) true (contains member_cmp g.taken q))
-    → h.order.entries ≡ g.order.entries → Gathers (cs ++ c ∷ []) h
-gathers-known cs g h c before known taken order =
-    record {
-      taken = taken-more cs g h c before taken;
-      order = order ∙ before.order ∙ ap in_order (sym (distinct-known cs c (sym (before.taken c.key) ∙ known)));
-    }
 
 pub gathers-first :
     (cs : List Candidate) (g h : Gathered) (c : Candidate) → Gathers cs g → contains member_cmp g.taken c.key ≡ false
@@ -76,7 +74,10 @@ pub gathers-first :
     → h.order.entries ≡ insert_entry place_cmp g.order.entries c.place c.key → Gathers (cs ++ c ∷ []) h
 gathers-first cs g h c before new taken order =
     record {
-      taken = taken-more cs g h c before taken;
+      taken = λ q.
+          taken q ∙ ap (λ t. cond t true (contains member_cmp g.taken q)) (member_laws.symm c.key q)
+          ∙ new_by (same_member q c.key) (contains member_cmp g.taken q)
+          ∙ ap (λ b. b || same_member q c.key) (before.taken q) ∙ sym (taken-push cs c q);
       order =
           order ∙ ap (λ es. insert_entry place_cmp es c.place c.key) before.order
           ∙ sym (fold-append (λ sorted d. insert_entry place_cmp sorted d.place d.key) [] (distinct same_key cs) (c ∷ []))
@@ -85,24 +86,21 @@ gathers-first cs g h c before new taken order =
 
 -- one more member of a view, whose key has its target
 pub gathering-known :
-    (key_of : Member → Member) (id : ℕ) (rest more : List Member) (whole : List Candidate) (g h : Gathered) (b k l : Member)
-    → IsGathering key_of id rest whole g → rest ≡ b ∷ more → k ≡ key_of b → l ≡ k → contains member_cmp g.taken l ≡ true
-    → ((q : Member) → contains member_cmp h.taken q ≡ cond (same_member l q) true (contains member_cmp g.taken q))
-    → h.order.entries ≡ g.order.entries → IsGathering key_of id more whole h
-gathering-known key_of id rest more whole g h b k l so is key twin known taken order =
+    (key_of : Member → Member) (id : ℕ) (rest more : List Member) (whole : List Candidate) (g : Gathered) (b k : Member)
+    → IsGathering key_of id rest whole g → rest ≡ b ∷ more → k ≡ key_of b → contains member_cmp g.taken k ≡ true
+    → IsGathering key_of id more whole g
+gathering-known key_of id rest more whole g b k so is key known =
     let c : Candidate = record { place = record { backend = b; view = id }; key = key_of b } in
     record {
       passed = so.passed ++ c ∷ [];
-      gathers =
-          gathers-known so.passed g h c so.gathers (ap (contains member_cmp g.taken) (sym (twin ∙ key)) ∙ known)
-          (λ q. taken q ∙ ap (λ m. cond (same_member m q) true (contains member_cmp g.taken q)) (twin ∙ key)) order;
+      gathers = gathers-known so.passed g c so.gathers (ap (contains member_cmp g.taken) (sym key) ∙ known);
       left = append_assoc so.passed (c ∷ []) (candidates_of key_of id more) ∙ ap (λ ms. so.passed ++ candidates_of key_of id ms) (sym is) ∙ so.left;
     }
 
 -- one more member, which is the target of its key
 pub gathering-first :
     (key_of : Member → Member) (id : ℕ) (rest more : List Member) (whole : List Candidate) (g h : Gathered) (b c k l : Member)
-    → IsGathering key_of id rest whole g → rest ≡ b ∷ more → k ≡ key_of b → contains member_cmp g.taken l ≡ false → c ≡ b → l ≡ k
+    → IsGathering key_of id rest whole g → rest ≡ b ∷ more → k ≡ key_of b → contains member_cmp g.taken k ≡ false → c ≡ b → l ≡ k
     → ((q : Member) → contains member_cmp h.taken q ≡ cond (same_member l q) true (contains member_cmp g.taken q))
     → h.order.entries ≡ insert_entry place_cmp g.order.entries (record { backend = c; view = id }) k
     → IsGathering key_of id more whole h
@@ -111,7 +109,7 @@ gathering-first key_of id rest more whole g h b c k l so is key new copy twin ta
     record {
       passed = so.passed ++ d ∷ [];
       gathers =
-          gathers-first so.passed g h d so.gathers (ap (contains member_cmp g.taken) (sym (twin ∙ key)) ∙ new)
+          gathers-first so.passed g h d so.gathers (ap (contains member_cmp g.taken) (sym key) ∙ new)
           (λ q. taken q ∙ ap (λ m. cond (same_member m q) true (contains member_cmp g.taken q)) (twin ∙ key))
           (order ∙ ap (λ m. insert_entry place_cmp g.order.entries (record { backend = m; view = id }) k) copy
           ∙ ap (λ m. insert_entry place_cmp g.order.entries (record { backend = b; view = id }) m) key);
@@ -132,12 +130,3 @@ candidates-push key_of views v =
         → before ++ flat_map (λ (w : ViewValue). candidates_of key_of w.id w.members) (cond (not m) (v ∷ []) []) ≡ cond m before (before ++ candidates_of key_of v.id v.members)
     pushed before own true w = append-nil before
     pushed before own false w = ap (λ ys. before ++ ys) (append-nil (candidates_of key_of v.id v.members))
-
--- a test that was turned round
-pub not_false : (b : Bool) → not b ≡ false → b ≡ true
-not_false true e = refl
-not_false false e = sym e
-
-pub not_true : (b : Bool) → not b ≡ true → b ≡ false
-not_true true e = sym e
-not_true false e = refl

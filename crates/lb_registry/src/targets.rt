@@ -56,12 +56,12 @@ fn gather<R: KeyRule>(
 {
     for backend in members {
         let key = rule.key(alloc, backend)?;
-        let is_new = gathered.taken.insert(key.clone()?)?;
-        if is_new {
+        if !gathered.taken.contains(&key) {
             let place = Place {
                 backend: backend.clone()?,
                 view: id,
             };
+            gathered.taken.insert(key.clone()?)?;
             gathered.order.insert(place, key)?;
         }
     }

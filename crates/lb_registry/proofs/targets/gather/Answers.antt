@@ -1,8 +1,8 @@
-use Rattle.std.proofs.Common.{◌≡◌, [], ◌∷◌, ◌++◌, refl, sym, subst, ap, ◌∙◌, rules, List}
+use Rattle.std.proofs.Common.{◌≡◌, [], ◌∷◌, ◌++◌, sym, subst, ap, ◌∙◌, rules, List}
 use Rattle.std.proofs.lemmas.List.{append-nil}
 use Rattle.lb_registry.specs.Internal.Gathering.{Gathers}
 use Rattle.lb_registry.specs.Targets.{Candidate, candidates_of}
-use Rattle.lb_registry.proofs.TargetLemmas.{gathering-known, gathering-first, not_false, not_true}
+use Rattle.lb_registry.proofs.TargetLemmas.{gathering-known, gathering-first}
 use Rattle.lb_registry.proofs.targets.gather.Goals as goal
 
 pub returns-clause-ok : goal.returns-clause-ok
@@ -19,22 +19,21 @@ pub loop-backend-preserved : goal.loop-backend-preserved
 loop-backend-preserved g c =
     λ key_of before rule start.
     let step : c.loop-backend.backend-iterator ≡ c.in-Some.backend.now ∷ c.next.new.self = search rules in
-    gathering-known key_of c.args.id c.loop-backend.backend-iterator c.next.new.self _ c.loop-backend.gathered _ c.in-Some.backend.now c.in_ok-key.key c.in_ok-clone.field-0
-    (c.loop-backend.invariant key_of before rule start) step (rule _ _ c.in_ok-key.ensures.ok) c.in_ok-clone.ensures.cases
-    (not_false _ (sym c.in_ok-is_new.ensures.added ∙ c.if-is_new.false)) c.in_ok-is_new.ensures.updates.0 refl
-
-pub loop-backend-preserved-in_ok-insert : goal.loop-backend-preserved-in_ok-insert
-loop-backend-preserved-in_ok-insert g c =
-    λ key_of before rule start.
-    let step : c.loop-backend.backend-iterator ≡ c.in-Some.backend.now ∷ c.next.new.self = search rules in
-    gathering-first key_of c.args.id c.loop-backend.backend-iterator c.next.new.self _ c.loop-backend.gathered _ c.in-Some.backend.now c.in_ok-clone-2.field-0 c.in_ok-key.key c.in_ok-clone.field-0
-    (c.loop-backend.invariant key_of before rule start) step (rule _ _ c.in_ok-key.ensures.ok) (not_true _ (sym c.in_ok-is_new.ensures.added ∙ c.if-is_new.true))
-    c.in_ok-clone-2.ensures.cases c.in_ok-clone.ensures.cases c.in_ok-is_new.ensures.updates.0 c.in_ok-insert.ensures.entries
+    gathering-known key_of c.args.id c.loop-backend.backend-iterator c.next.new.self _ c.loop-backend.gathered c.in-Some.backend.now c.in_ok-key.key
+    (c.loop-backend.invariant key_of before rule start) step (rule _ _ c.in_ok-key.ensures.ok) (sym c.contains.ensures ∙ c.if-not-contains.false)
 
 pub loop-backend-preserved-in_ok-insert-2 : goal.loop-backend-preserved-in_ok-insert-2
 loop-backend-preserved-in_ok-insert-2 g c =
     λ key_of before rule start.
     let step : c.loop-backend.backend-iterator ≡ c.in-Some.backend.now ∷ c.next.new.self = search rules in
-    gathering-first key_of c.args.id c.loop-backend.backend-iterator c.next.new.self _ c.loop-backend.gathered _ c.in-Some.backend.now c.in_ok-clone-2.field-0 c.in_ok-key.key c.in_ok-clone.field-0
-    (c.loop-backend.invariant key_of before rule start) step (rule _ _ c.in_ok-key.ensures.ok) (not_true _ (sym c.in_ok-is_new.ensures.added ∙ c.if-is_new.true))
-    c.in_ok-clone-2.ensures.cases c.in_ok-clone.ensures.cases c.in_ok-is_new.ensures.updates.0 c.in_ok-insert.ensures.entries
+    gathering-first key_of c.args.id c.loop-backend.backend-iterator c.next.new.self _ c.loop-backend.gathered _ c.in-Some.backend.now c.in_ok-clone.field-0 c.in_ok-key.key c.in_ok-clone-2.field-0
+    (c.loop-backend.invariant key_of before rule start) step (rule _ _ c.in_ok-key.ensures.ok) (sym c.contains.ensures ∙ c.if-not-contains.true)
+    c.in_ok-clone.ensures.cases c.in_ok-clone-2.ensures.cases c.in_ok-insert.ensures.updates.0 c.in_ok-insert-2.ensures.entries
+
+pub loop-backend-preserved-in_ok-insert-2-2 : goal.loop-backend-preserved-in_ok-insert-2-2
+loop-backend-preserved-in_ok-insert-2-2 g c =
+    λ key_of before rule start.
+    let step : c.loop-backend.backend-iterator ≡ c.in-Some.backend.now ∷ c.next.new.self = search rules in
+    gathering-first key_of c.args.id c.loop-backend.backend-iterator c.next.new.self _ c.loop-backend.gathered _ c.in-Some.backend.now c.in_ok-clone.field-0 c.in_ok-key.key c.in_ok-clone-2.field-0
+    (c.loop-backend.invariant key_of before rule start) step (rule _ _ c.in_ok-key.ensures.ok) (sym c.contains.ensures ∙ c.if-not-contains.true)
+    c.in_ok-clone.ensures.cases c.in_ok-clone-2.ensures.cases c.in_ok-insert.ensures.updates.0 c.in_ok-insert-2.ensures.entries
