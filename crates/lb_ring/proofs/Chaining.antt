@@ -5,7 +5,7 @@ use Rattle.std.specs.List.{range_with_len}
 use Rattle.std.proofs.lemmas.List.Elements.{Contains-push_cases}
 use Rattle.lb_ring.specs.Crc.{crc, crc_fed, crc_last, crc_byte}
 use Rattle.lb_ring.specs.Chains.{text_chain, state_chain, point_after}
-use Rattle.lb_ring.specs.Placed.{chain_entries}
+use Rattle.lb_ring.specs.Chains.{chain_entries}
 use Rattle.lb_ring.proofs.Crcs.{crc_small}
 use Rattle.lb_ring.specs.Sorted.{HasSmallPoints}
 

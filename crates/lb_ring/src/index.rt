@@ -24,7 +24,7 @@ pub(crate) struct Index {
 }
 
 // How far a place is shifted to its bucket.
-fn shift_of(count: usize) -> u32
+pub(crate) fn shift_of(count: usize) -> u32
     ensures { result < 32 }
 {
     let mut shift = MOST_SHIFT;
