@@ -5,7 +5,6 @@ use Rattle.std.specs.List.{range_with_len}
 use Rattle.std.proofs.lemmas.List.Elements.{Contains-append_cases}
 use Rattle.std.proofs.lemmas.List.FromFn.{length-range_with_len}
 use Rattle.std.proofs.lemmas.List.{length-map}
-use Rattle.std.proofs.Math.Seq.{take-length}
 use Rattle.lb_select.specs.Backends.{Member}
 use Rattle.lb_ring.specs.Chains.{hashed_text, state_chain, chain_entries, entries_from, entries_of}
 use Rattle.lb_ring.specs.Choices.{is_internet, ring_weight, points_per_weight}
@@ -73,10 +72,3 @@ module _ (ms : List Member) (i : ℕ) (owners : List ℕ) (chains : List (ℕ ×
         paired = omega (arith, one, two, h.paired);
         many = omega (arith, len, c, up, heavy, h.many);
       }
-
--- all chains and all points are fewer than 32 bits count
-pub marked_few : (ms : List Member) (owners : List ℕ) (chains : List (ℕ × ℕ)) → IsMarked ms (length ms) owners chains → points_per_weight * ring_weight ms < 2 ^ 32
-    → (length (entries_of chains) < 2 ^ 32) × (length chains ≤ 2 ^ 32)
-marked_few ms owners chains h light =
-    let all : ring_weight (take (length ms) ms) ≡ ring_weight ms = ap ring_weight (take-length ms) in
-    (omega (arith, all, h.many, light), omega (arith, all, h.filled.few, h.paired, light))

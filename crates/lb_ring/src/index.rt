@@ -23,12 +23,12 @@ pub(crate) struct Index {
     shift: u32,
 }
 
-// How far a place is shifted to its bucket.
-pub(crate) fn shift_of(count: usize) -> u32
+// How far a place is shifted to its bucket, where there are so many points: so far at least.
+pub(crate) fn shift_of(count: usize, least: u32) -> u32
     ensures { result < 32 }
 {
     let mut shift = MOST_SHIFT;
-    while shift > LEAST_SHIFT && count >> (32 - shift) > MOST_IN_BUCKET {
+    while shift > least && count >> (32 - shift) > MOST_IN_BUCKET {
         shift -= 1;
     }
     shift
@@ -55,7 +55,7 @@ impl Index {
         requires { IsInOrder entries.now }
         ensures { IfOk result (λ r. IsIndexOf entries.now r.shift r.starts.items) }
     {
-        let shift = shift_of(entries.len());
+        let shift = shift_of(entries.len(), LEAST_SHIFT);
         let buckets = (u32::MAX >> shift) as usize + 1;
         let mut starts = Vec::with_capacity(alloc, buckets)?;
         let mut at = 0usize;
