@@ -5,7 +5,7 @@ use Rattle.std.specs.List.{range_with_len}
 use Rattle.std.proofs.lemmas.List.Elements.{Contains-push_cases}
 use Rattle.lb_ring.specs.Crc.{crc, crc_fed, crc_last, crc_byte}
 use Rattle.lb_ring.specs.Chains.{text_chain, state_chain, point_after}
-use Rattle.lb_ring.specs.Placed.{chain_entries}
+use Rattle.lb_ring.specs.Chains.{chain_entries}
 use Rattle.lb_ring.proofs.Crcs.{crc_small}
 use Rattle.lb_ring.specs.Sorted.{HasSmallPoints}
 
@@ -34,13 +34,6 @@ entries_more s k o =
     let f : ℕ → ℕ × ℕ = λ q. (state_chain s q, o) in
     ap (λ n. map f (range_with_len 0 n)) e ∙ ap (map f) (range_push 0 k) ∙ ap (λ n. map f (range_with_len 0 k ++ n ∷ [])) z ∙ map_push f (range_with_len 0 k) k
 
-pub small_push : (xs : List (ℕ × ℕ)) (p o : ℕ) → HasSmallPoints xs → p < 2 ^ 32 → HasSmallPoints (xs ++ (p, o) ∷ [])
-small_push xs p o h l = λ e m.
-    elim (Contains-push_cases xs (p, o) e m) [
-      | inl old ↦ h e old
-      | inr new ↦ (let P : (ℕ × ℕ) → Type 0 = λ z. z.0 < 2 ^ 32 in subst P new l)
-    ]
-
 fed_append : (s : ℕ) (xs ys : List ℕ) → crc_fed s (xs ++ ys) ≡ crc_fed (crc_fed s xs) ys
 fed_append s [] ys = refl
 fed_append s (x ∷ xs) ys = fed_append (crc_byte s x) xs ys
@@ -52,13 +45,6 @@ chain_of_state text zero = ap crc_last (sym (fed_append 0xFFFFFFFF text (to_le_b
 chain_of_state text (suc k) =
     ap (λ p. crc_last (crc_fed (crc_fed 0xFFFFFFFF text) (to_le_bytes w32 p))) (chain_of_state text k)
     ∙ ap crc_last (sym (fed_append 0xFFFFFFFF text (to_le_bytes w32 (text_chain text k))))
-
--- one more point in a list
-pub entries_step : (old mid new : List (ℕ × ℕ)) (s k o p : ℕ) → mid ≡ old ++ chain_entries s k o → p ≡ state_chain s k → new ≡ mid ++ (p, o) ∷ []
-    → new ≡ old ++ chain_entries s (k + 1) o
-entries_step old mid new s k o p a b c =
-    c ∙ ap (λ (z : List (ℕ × ℕ)). z ++ (p, o) ∷ []) a ∙ ap (λ (z : ℕ). (old ++ chain_entries s k o) ++ (z, o) ∷ []) b
-    ∙ append_assoc old (chain_entries s k o) ((state_chain s k, o) ∷ []) ∙ ap (λ (z : List (ℕ × ℕ)). old ++ z) (sym (entries_more s k o))
 
 -- the points of a chain have 32 bits
 pub chain_small : (text : List ℕ) (k : ℕ) → text_chain text k < 2 ^ 32

@@ -12,7 +12,8 @@ use Rattle.lb_select.specs.declared.backend.InetAddr.TheVariants.{V4, V6}
 use Rattle.lb_ring.specs.Chains.{hashed_text, crc_chain, state_chain}
 use Rattle.lb_ring.specs.Crc.{crc_fed}
 use Rattle.lb_ring.specs.Choices.{is_internet, ring_weight, points_per_weight}
-use Rattle.lb_ring.specs.Placed.{member_at, Bears, IsOfChain, IsFilled, chain_entries}
+use Rattle.lb_ring.specs.Placed.{member_at, Bears, IsOfChain, IsFilled}
+use Rattle.lb_ring.specs.Chains.{chain_entries}
 use Rattle.lb_ring.specs.Sorted.{none, more, HasSmallPoints}
 use Rattle.lb_ring.proofs.Chaining.{chain_of_state}
 use Rattle.lb_ring.proofs.Lists.{here, there, head_or_rest, nothing_in_none, rises_append, less_tells}
@@ -82,7 +83,7 @@ weight_more ms m =
     e ∙ ap (λ z. ring_weight ms + z) (zero-add (weight m))
 
 module _ (ms : List Member) (i : ℕ) (owners : List ℕ) (points : List (ℕ × ℕ)) (h : IsFilled ms i owners points) (m : Member) (at : slice_get ms i ≡ Some m) where
-  weight_up : ring_weight (take (i + 1) ms) ≡ ring_weight (take i ms) + cond (is_internet m.address) m.weight 0
+  pub weight_up : ring_weight (take (i + 1) ms) ≡ ring_weight (take i ms) + cond (is_internet m.address) m.weight 0
   weight_up = ap ring_weight (take_more ms i m at) ∙ weight_more (take i ms) m
 
   -- a backend that has no points, or not the most

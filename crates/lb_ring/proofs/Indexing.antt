@@ -1,15 +1,15 @@
 -- An index of points by buckets: how it is made from the lowest bucket on, and what a search knows by it.
-use Rattle.std.proofs.Common.{◌≡◌, ℕ, zero, suc, ◌+◌, ◌-◌, ◌/◌, ◌^◌, ◌<◌, ◌≤◌, ◌⊎◌, inl, inr, List, [], ◌∷◌, ◌++◌, length, get_or, arith, subst, sym, length-append, ap, ◌∙◌}
+use Rattle.std.proofs.Common.{◌≡◌, ℕ, zero, suc, ◌+◌, ◌-◌, ◌/◌, ◌^◌, ◌<◌, ◌≤◌, inl, inr, List, [], ◌∷◌, ◌++◌, length, get_or, arith, subst, sym, length-append, ap, ◌∙◌}
 use Rattle.std.proofs.Math.Pow.{shr_mono}
 use Rattle.std.proofs.lemmas.List.{get_or_default, get_or_push, get_or_append_left}
 use Rattle.std.specs.List.{AllWithin}
 use Rattle.lb_ring.specs.Buckets.{bucket_of, BeginsAt, IsIndexOf}
-use Rattle.lb_ring.specs.Sorted.{Rises, point_of, IsInOrder, IsLeft}
+use Rattle.lb_ring.specs.Sorted.{Rises, point_of, IsLeft}
 use Rattle.lb_ring.proofs.Arranging.{never_falls}
 use Rattle.lb_ring.proofs.Lists.{below_at, less_tells}
 
 -- a lower bucket has lower places
-lower_place : (shift p q : ℕ) → bucket_of shift p < bucket_of shift q → p < q
+pub lower_place : (shift p q : ℕ) → bucket_of shift p < bucket_of shift q → p < q
 lower_place shift p q h =
     elim (less_tells p q) [
       | inl t ↦ t.1

@@ -2,12 +2,16 @@ pub mod Arranging
 pub mod Chaining
 pub mod Counting
 pub mod Crcs
+pub mod Cutting
 pub mod Filling
 pub mod Removals
 pub mod Indexing
 pub mod Lists
+pub mod Marking
 pub mod Owners
 pub mod Placing
 pub mod Ranks
+pub mod InBuckets
+pub mod Spreading
 pub mod Standing
 pub mod Walking

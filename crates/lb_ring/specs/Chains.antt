@@ -1,5 +1,6 @@
 -- The chain of points of an address: each is the CRC of the address's text and of the point before it.
-use Rattle.std.specs.Prelude.{ℕ, zero, suc, List, [], ◌∷◌, ◌++◌, decimal}
+use Rattle.std.specs.Prelude.{ℕ, zero, suc, ◌+◌, List, [], ◌∷◌, ◌++◌, map, decimal}
+use Rattle.std.specs.List.{range_with_len}
 use Rattle.std.specs.Int.{w32, to_le_bytes}
 use Rattle.std.specs.Net.Addr.{segments_of}
 use Rattle.std.specs.Net.Text.{ipv4_text, ipv6_text}
@@ -33,3 +34,15 @@ point_after state p = crc_last (crc_fed state (to_le_bytes w32 p))
 unfoldable pub state_chain : ℕ → ℕ → ℕ
 state_chain state zero = point_after state 0
 state_chain state (suc k) = point_after state (state_chain state k)
+
+-- the first points of a chain, with their owner's number
+abbrev pub chain_entries : ℕ → ℕ → ℕ → List (ℕ × ℕ)
+chain_entries state count number = map (λ k. (state_chain state k, number)) (range_with_len 0 count)
+
+-- the points of several chains by states and lengths, each with its chain's number
+abbrev pub entries_from : ℕ → List (ℕ × ℕ) → List (ℕ × ℕ)
+entries_from number [] = []
+entries_from number (c ∷ cs) = chain_entries c.0 c.1 number ++ entries_from (number + 1) cs
+
+abbrev pub entries_of : List (ℕ × ℕ) → List (ℕ × ℕ)
+entries_of chains = entries_from 0 chains

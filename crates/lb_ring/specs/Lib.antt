@@ -9,3 +9,4 @@ pub mod RingLaws
 pub mod Removal
 pub mod Rings
 pub mod Sorted
+pub mod Spread

@@ -1,11 +1,11 @@
 -- A built selector: the backends of its set in order, the indexes of those that have points, and the points upwards, each with
 -- the number of its owner among these.
 use Rattle.std.specs.Prelude.{◌≡◌, ℕ, ◌+◌, ◌*◌, ◌<◌, ◌≤◌, nat_lt, Bool, true, ⊤, if◌then◌else◌}
-use Rattle.std.specs.Prelude.{List, [], ◌∷◌, length, take, map, slice_get, Option, Some, MatchOption, option_and_then}
-use Rattle.std.specs.List.{Contains, range_with_len}
+use Rattle.std.specs.Prelude.{List, [], ◌∷◌, length, take, slice_get, Option, Some, MatchOption, option_and_then}
+use Rattle.std.specs.List.{Contains}
 use Rattle.lb_select.specs.Backends.{Member}
 use Rattle.lb_select.specs.Draws.{Draw}
-use Rattle.lb_ring.specs.Chains.{crc_chain, state_chain}
+use Rattle.lb_ring.specs.Chains.{crc_chain, entries_of}
 use Rattle.lb_ring.specs.Choices.{is_internet, points_per_weight, ring_weight, HasPoint, StandsFor, IsRingWalk}
 use Rattle.lb_ring.specs.Circle.{IsPoint, IsOwner}
 use Rattle.lb_ring.specs.Sorted.{Rises, HasSmallPoints, IsInOrder}
@@ -54,9 +54,11 @@ pub record IsFilled (ms : List Member) (done : ℕ) (owners : List ℕ) (points 
   pub whole : (number : ℕ) (m : Member) (k : ℕ) → member_at ms owners number ≡ Some m → k < points_per_weight * m.weight
       → Contains points (crc_chain m.address k, number)
 
--- the first points of a chain, with their owner's number
-abbrev pub chain_entries : ℕ → ℕ → ℕ → List (ℕ × ℕ)
-chain_entries state count number = map (λ k. (state_chain state k, number)) (range_with_len 0 count)
+-- the same, where the points are given by chains, one for each owner
+pub record IsMarked (ms : List Member) (done : ℕ) (owners : List ℕ) (chains : List (ℕ × ℕ)) : Type 0 where
+  pub filled : IsFilled ms done owners (entries_of chains)
+  pub paired : length chains ≡ length owners
+  pub many : length (entries_of chains) ≤ points_per_weight * ring_weight (take done ms)
 
 -- an index, or the first one after the last
 abbrev pub index_here : Placed → ℕ → ℕ

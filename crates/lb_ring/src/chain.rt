@@ -1,11 +1,9 @@
 //! The chain of points of an internet address: each is the CRC of the address's text and of the point before it.
 //! The text is fed once, and its state is used for each point.
-ghost use Rattle.std.specs.Prelude.{◌≡◌, ◌++◌, IfOk};
+ghost use Rattle.std.specs.Prelude.{◌≡◌, IfOk};
 ghost use Rattle.lb_select.specs.Seen.{inet_seen};
 ghost use Rattle.lb_ring.specs.Chains.{hashed_text, point_after};
 ghost use Rattle.lb_ring.specs.Crc.{crc_fed};
-ghost use Rattle.lb_ring.specs.Placed.{chain_entries};
-ghost use Rattle.lb_ring.specs.Sorted.{HasSmallPoints};
 
 use crate::crc::{START, crc_of_state, state_after, state_after_word};
 use lb_select::backend::InetAddr;
@@ -30,26 +28,8 @@ pub(crate) fn text_state(alloc: Global, addr: &InetAddr) -> Result<u32, AllocErr
 }
 
 // The point after a point.
-fn point_after(state: u32, point: u32) -> u32
+pub(crate) fn point_after(state: u32, point: u32) -> u32
     ensures { result ≡ point_after state point }
 {
     crc_of_state(state_after_word(state, point))
-}
-
-// Adds the first points of a chain, each with the number of its owner.
-pub(crate) fn add_chain(
-    points: &mut Vec<(u32, u32)>,
-    state: u32,
-    count: usize,
-    owner: u32,
-) -> Result<(), AllocError>
-    ensures added { IfOk result (λ _. points.new.items ≡ points.old.items ++ chain_entries state count owner) }
-    ensures small { HasSmallPoints points.old.items → HasSmallPoints points.new.items }
-{
-    let mut point = 0u32;
-    for _k in 0..count {
-        point = point_after(state, point);
-        points.push((point, owner))?;
-    }
-    Ok(())
 }

@@ -4,25 +4,26 @@ ghost use Rattle.std.specs.Prelude.{◌≡◌, ◌+◌, ◌*◌, ◌^◌, ◌<�
 ghost use Rattle.std.specs.List.Sorted.{IsStrictlySortedBy};
 ghost use Rattle.lb_select.specs.Backends.{Member, member_cmp};
 ghost use Rattle.lb_ring.specs.Choices.{points_per_weight, ring_weight, StandsFor};
-ghost use Rattle.lb_ring.specs.Placed.{IsFilled};
+ghost use Rattle.lb_ring.specs.Placed.{IsMarked};
 
-use crate::chain::{add_chain, text_state};
+use crate::chain::text_state;
 use lb_select::backend::{Backend, SocketAddr};
 use std::alloc::{AllocError, Global};
 use std::cmp::Ordering;
 use std::collections::BTreeSet;
 
 // How many points a backend has for each unit of its weight.
-const POINTS_PER_WEIGHT: usize = 160;
+pub(crate) const POINTS_PER_WEIGHT: usize = 160;
 
 // The greatest weight that internet backends may have together: 160 times one more is above 4294967295.
 const MOST_WEIGHT: usize = 26_843_545;
 
-/// Indexes of backends that have points, upwards, and the points with the number of their owner among these indexes.
+/// Indexes of backends that have points, upwards, and the chain of points of each: the state of a CRC that was fed its address, and
+/// how many points it has.
 #[derive(Drop)]
 pub(crate) struct Marks {
     pub owners: Vec<usize>,
-    pub points: Vec<(u32, u32)>,
+    pub chains: Vec<(u32, usize)>,
 }
 
 // The weight of all internet backends, unless their points are more than 4294967295.
@@ -66,7 +67,7 @@ fn stands(list: &[Backend], index: usize) -> bool
     }
 }
 
-// Adds the points of one backend, if it has any.
+// Adds the chain of one backend, if it has points.
 fn add_backend(
     alloc: Global,
     list: &[Backend],
@@ -76,36 +77,31 @@ fn add_backend(
     requires ordered { IsStrictlySortedBy member_cmp list.now }
     requires light { points_per_weight * ring_weight list.now < 2 ^ 32 }
     requires inside { index < length list.now }
-    requires filled { IsFilled list.now index marks.old.owners.items marks.old.points.items }
-    ensures { IfOk result (λ _. IsFilled list.now (index + 1) marks.new.owners.items marks.new.points.items) }
+    requires marked { IsMarked list.now index marks.old.owners.items marks.old.chains.items }
+    ensures { IfOk result (λ _. IsMarked list.now (index + 1) marks.new.owners.items marks.new.chains.items) }
 {
     let backend = &list[index];
     if let SocketAddr::Inet(inet) = &backend.addr {
         if backend.weight > 0 && stands(list, index) {
             let state = text_state(alloc, inet)?;
-            let owner = marks.owners.len() as u32;
             marks.owners.push(index)?;
-            add_chain(
-                &mut marks.points,
-                state,
-                POINTS_PER_WEIGHT * backend.weight,
-                owner,
-            )?;
+            marks
+                .chains
+                .push((state, POINTS_PER_WEIGHT * backend.weight))?;
         }
     }
     Ok(())
 }
 
-// The points of all backends, not yet in order.
-pub(crate) fn marks_of(alloc: Global, list: &[Backend], weight: usize) -> Result<Marks, AllocError>
+// The chains of all backends.
+pub(crate) fn marks_of(alloc: Global, list: &[Backend]) -> Result<Marks, AllocError>
     requires ordered { IsStrictlySortedBy member_cmp list.now }
-    requires all { weight ≡ ring_weight list.now }
-    requires light { points_per_weight * weight < 2 ^ 32 }
-    ensures { IfOk result (λ r. IsFilled list.now (length list.now) r.owners.items r.points.items) }
+    requires light { points_per_weight * ring_weight list.now < 2 ^ 32 }
+    ensures { IfOk result (λ r. IsMarked list.now (length list.now) r.owners.items r.chains.items) }
 {
     let mut marks = Marks {
         owners: Vec::new(alloc),
-        points: Vec::with_capacity(alloc, POINTS_PER_WEIGHT * weight)?,
+        chains: Vec::new(alloc),
     };
     for index in 0..list.len() {
         add_backend(alloc, list, index, &mut marks)?;

@@ -8,13 +8,15 @@ ghost use Rattle.lb_ring.specs.Sorted.{Rises, point_of, HasSmallPoints, IsInOrde
 use crate::points::first_of_few;
 use std::alloc::{AllocError, Global};
 
-// The greatest and the least power of two that a bucket has places.
+// A bucket has no more places than two to this power.
 const MOST_SHIFT: u32 = 31;
 
+// In an index it has no fewer than two to this one.
 const LEAST_SHIFT: u32 = 4;
 
-// A bucket has half as many points at least, where the places are spread evenly.
-const MOST_IN_BUCKET: usize = 8;
+// In an index a bucket has up to so many points, and half as many at least, where they are spread evenly: a quarter to half a byte a
+// point.
+const MOST_IN_BUCKET: usize = 16;
 
 /// Where the points of each bucket begin. The bucket of a place is its upper bits.
 #[derive(Drop)]
@@ -23,12 +25,12 @@ pub(crate) struct Index {
     shift: u32,
 }
 
-// How far a place is shifted to its bucket.
-fn shift_of(count: usize) -> u32
+// How far a place is shifted to its bucket, so that of so many points few are in one; so far at least.
+pub(crate) fn shift_of(count: usize, in_bucket: usize, least: u32) -> u32
     ensures { result < 32 }
 {
     let mut shift = MOST_SHIFT;
-    while shift > LEAST_SHIFT && count >> (32 - shift) > MOST_IN_BUCKET {
+    while shift > least && count >> (32 - shift) > in_bucket {
         shift -= 1;
     }
     shift
@@ -55,7 +57,7 @@ impl Index {
         requires { IsInOrder entries.now }
         ensures { IfOk result (λ r. IsIndexOf entries.now r.shift r.starts.items) }
     {
-        let shift = shift_of(entries.len());
+        let shift = shift_of(entries.len(), MOST_IN_BUCKET, LEAST_SHIFT);
         let buckets = (u32::MAX >> shift) as usize + 1;
         let mut starts = Vec::with_capacity(alloc, buckets)?;
         let mut at = 0usize;

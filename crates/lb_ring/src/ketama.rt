@@ -10,9 +10,9 @@ ghost use Rattle.lb_ring.specs.Placed.{IsMove, IsStart, IsWalkFrom, index_here, 
 ghost use Rattle.lb_ring.specs.RingLaws.{walk_starts, walk_ends, walk_undrawn, walk_few_words};
 
 use crate::crc::crc32;
-use crate::fill::{Marks, marks_of, members_of, weight_on_ring};
+use crate::fill::{Marks, POINTS_PER_WEIGHT, marks_of, members_of, weight_on_ring};
 use crate::index::Index;
-use crate::points::arrange;
+use crate::spread::points_of;
 use lb_select::backend::Backend;
 use lb_select::refusal::Refusal;
 use lb_select::walk::{BackendIter, BackendSelection};
@@ -75,9 +75,8 @@ impl KetamaHashing {
     {
         let weight = weight_on_ring(backends).ok_or(Refusal::TooManyPoints)?;
         let backends = members_of(alloc, backends)?;
-        let Marks { owners, points } = marks_of(alloc, &backends, weight)?;
-        let mut points = points;
-        arrange(&mut points);
+        let Marks { owners, chains } = marks_of(alloc, &backends)?;
+        let points = points_of(alloc, &chains, POINTS_PER_WEIGHT * weight)?;
         let index = Index::of(alloc, &points)?;
         Ok(KetamaHashing {
             backends,

@@ -10,3 +10,4 @@ pub mod ketama;
 pub mod laws;
 mod points;
 pub mod ring;
+mod spread;

@@ -1,5 +1,5 @@
-use Rattle.lb_ring.specs.Placed.{IsFilled}
+use Rattle.lb_ring.specs.Placed.{IsMarked}
 use Rattle.lb_ring.proofs.fill.marks_of.Given as goal
 
 abbrev pub invariant-loop-index : goal.invariant-loop-index
-invariant-loop-index l = IsFilled l.list l.index l.marks.owners.items l.marks.points.items
+invariant-loop-index l = IsMarked l.list l.index l.marks.owners.items l.marks.chains.items

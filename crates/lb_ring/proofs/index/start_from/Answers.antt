@@ -1,4 +1,4 @@
-use Rattle.std.proofs.Common.{ℕ, ◌≤◌, get_or, sym, subst}
+use Rattle.std.proofs.Common.{ℕ, ◌≤◌, subst}
 use Rattle.std.proofs.lemmas.List.{get_or_default}
 use Rattle.lb_ring.specs.Buckets.{bucket_of}
 use Rattle.lb_ring.proofs.Indexing.{begins_there}

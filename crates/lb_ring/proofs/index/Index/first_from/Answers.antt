@@ -1,4 +1,4 @@
-use Rattle.std.proofs.Common.{◌≡◌, ◌+◌, ◌<◌, ◌^◌, length, get_or, sym, subst, arith, ◌∙◌}
+use Rattle.std.proofs.Common.{◌+◌, ◌<◌, length, arith}
 use Rattle.lb_ring.specs.Buckets.{bucket_of, BeginsAt}
 use Rattle.lb_ring.proofs.Indexing.{begins_read, left_inner, left_last}
 use Rattle.lb_ring.proofs.index.Index.first_from.Goals as goal
