@@ -15,7 +15,7 @@ ghost use Rattle.lb_health.specs.Joined.{registry_updated, settings_of};
 ghost use Rattle.lb_health.specs.ViewEvents.{ViewEvent, generation_after, membership_after};
 ghost use Rattle.lb_health.specs.Views.{IsViewAfter};
 ghost use Rattle.lb_joined.specs.JoinedCalls.{AcceptsBy, IsMakingRefusal};
-ghost use Rattle.lb_balance.specs.Balancer.{After, Drew, IsJudged, Judges, Set, Stands, Took, members_now, update_cause};
+ghost use Rattle.lb_balance.specs.Balancer.{After, Drew, History, IsJudged, Judges, Set, Stands, Took, members_now, update_cause};
 ghost use Rattle.lb_balance.specs.Balancer.{updated, view_cause, view_events};
 ghost use Rattle.lb_balance.specs.Timings.{Reads};
 
@@ -185,6 +185,13 @@ impl<S: BackendSelection, G: Rng + Drop> Served<S, G> {
         self.selector = selector;
         self.words.tickets = 0;
         Ok(Some(after.saturating_sub(before)))
+    }
+
+    /// Some history of what is served, for whoever knows none.
+    pub fn past(&self)
+        ensures { (e : History) × Stands e self.now }
+    {
+        let _view = &self.view;
     }
 
     /// The number of the view in its registry.

@@ -4,6 +4,8 @@
 #![tactic(auto)]
 
 #[cfg(test)]
+mod balancer_calls;
+#[cfg(test)]
 mod group_core;
 pub mod lent;
 #[cfg(test)]
