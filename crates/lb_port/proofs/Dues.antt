@@ -1,13 +1,12 @@
 -- A worker's turn at a slot that is due, at a free gate of the plain group: the job is built and served, or one more build failed.
 -- The calls are those of any port that are at least the plain group's own.
-use Rattle.std.specs.Prelude.{◌≡◌, ◌⊎◌, ◌+◌, ◌<◌, ◌≤◌, ◌||◌, ◌&&◌, ℕ, Bool, true, false, not, nat_lt, cond, MatchBool, List, [], ◌∷◌, ◌++◌, length, Option, Some, None, Result, Ok, Err, refl}
+use Rattle.std.specs.Prelude.{◌≡◌, ◌⊎◌, ◌<◌, ◌≤◌, ◌||◌, ℕ, Bool, true, false, not, nat_lt, cond, List, [], ◌∷◌, ◌++◌, length, Option, Some, None, Result, Ok, Err, refl}
 use Rattle.std.proofs.Common.{sym, ap, ◌∙◌, subst, arith, inl, inr}
 use Rattle.std.proofs.lemmas.Bool.{lt-ltb}
 use Rattle.lb_select.specs.Backends.{Member}
 use Rattle.lb_select.specs.declared.refusal.Refusal.{Refusal}
 use Rattle.lb_select.specs.declared.refusal.Refusal.TheVariants as refusal
 use Rattle.lb_rebuild.specs.Gate.{GateView}
-use Rattle.lb_group.specs.GroupCalls as group
 use Rattle.lb_group.specs.GroupCalls.{IsJob, taken_refusal, publish_answer, publish_events}
 use Rattle.lb_group.specs.GroupHistory as core
 use Rattle.lb_group.specs.GroupHistory.{Granted, past_of, newest, served, extra, waits, is_extra, is_cancelled, is_flight, all_failures, due_moment, ask_answer, AskAnswer, cancelled, building, up_to_date, not_due, busy, job, Extra, nothing}
@@ -24,7 +23,6 @@ use Rattle.lb_port.specs.Due.{IsDue, IsLate, EndsTurn}
 use Rattle.lb_port.specs.Plain.{IsTaken, IsAsked, IsPublished}
 use Rattle.lb_port.specs.Through.{Publishes, Fails, Answered, Asks, Clears, Turned, turn_of}
 use Rattle.lb_port.specs.declared.turn.Turn.{Turn}
-use Rattle.lb_port.specs.declared.turn.Turn.TheVariants as turn
 
 job-if : (ca fl w d o : Bool) (m : ℕ) → ca ≡ false → fl ≡ false → w ≡ true → d ≡ false → o ≡ false
     → cond ca cancelled (cond fl building (cond (not w) up_to_date (cond d (not_due m) (cond o busy job)))) ≡ job
@@ -48,10 +46,10 @@ module _ {S I C K P : Type 0} (refuses : List Member → C → Option Refusal) (
     (published : P → BuiltValue C → Told → P → Type 0) (failed : P → Task C → ℕ → P → Type 0)
     (taken_is : (p : P) (s : ℕ) (a : Result RetiredValue Refusal) (q : P) → taken p s a q → IsTaken (core_of p) s a (core_of q) × (gate_of q ≡ gate_of p))
     (asked_is : (p : P) (s now : ℕ) (a : Result (Ask S I C) Refusal) (q : P) → asked p s now a q
-        → IsAsked (core_of p) (gate_of p) s now a (core_of q) (gate_of q))
+    → IsAsked (core_of p) (gate_of p) s now a (core_of q) (gate_of q))
     (published_is : (p : P) (b : BuiltValue C) (u : Told) (q : P) → published p b u q → IsPublished (core_of p) b u (core_of q))
     (failed_is : (p : P) (j : Task C) (now : ℕ) (q : P) → failed p j now q
-        → Becomes (core_of p) (in_group (core.At j.slot (core.Failed now j.members) ∷ [])) (core_of q))
+    → Becomes (core_of p) (in_group (core.At j.slot (core.Failed now j.members) ∷ [])) (core_of q))
     (slot : ℕ) where
   module _ (made : Made C) (e : History) (due : IsDue made e slot) where
     abbrev Events : core.History
@@ -74,19 +72,19 @@ module _ {S I C K P : Type 0} (refuses : List Member → C → Option Refusal) (
         (subst (λ (x : ℕ). publish_answer slot x h ≡ told.Published (newest Events)) (sym is.generation) right) in
         let stands : Stands made (At j.slot (core.Published end j.members) ∷ At slot (Granted now) ∷ e) (core_of q) =
         subst (λ (x : Told). Stands made (in_group (publish_events (record { task = j; ended = end }) (Ok x)) ++ (At slot (Granted now) ∷ e)) (core_of q)) answer
-        (given.1 made (At slot (Granted now) ∷ e) s) in
-        (
+        (given.1 made (At slot (Granted now) ∷ e) s) in (
           At slot (core.Published end j.members) ∷ At slot (Granted now) ∷ e,
           subst (λ (x : ℕ). Stands made (At x (core.Published end j.members) ∷ At slot (Granted now) ∷ e) (core_of q)) is.place stands,
           refl,
-          inl (ap (λ (x : Turn). Ok x) (what ∙ ap turn_of answer),
-          rw (past-same slot (core.Published end j.members) h, past-same slot (Granted now) Events) (newest-past slot Events)),
+          inl (
+            ap (λ (x : Turn). Ok x) (what ∙ ap turn_of answer),
+            rw (past-same slot (core.Published end j.members) h, past-same slot (Granted now) Events) (newest-past slot Events),
+          ),
         )
     flown j now p q k l t is s (inr (end, m, out, what)) =
         let h : core.History = core.At slot (Granted now) ∷ Events in
         let stands : Stands made (At j.slot (core.Failed end j.members) ∷ At slot (Granted now) ∷ e) (core_of q) =
-        failed_is p j end q out made (At slot (Granted now) ∷ e) s in
-        (
+        failed_is p j end q out made (At slot (Granted now) ∷ e) s in (
           At slot (core.Failed end j.members) ∷ At slot (Granted now) ∷ e,
           subst (λ (x : ℕ). Stands made (At x (core.Failed end j.members) ∷ At slot (Granted now) ∷ e) (core_of q)) is.place stands,
           refl,

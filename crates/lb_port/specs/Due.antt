@@ -7,6 +7,7 @@ use Rattle.lb_joined.specs.JoinedHistory.{History, group_events}
 use Rattle.lb_joined.specs.Stands.{JoinedValue, Stands}
 use Rattle.lb_port.specs.declared.turn.Turn.{Turn}
 use Rattle.lb_port.specs.declared.turn.Turn.TheVariants as turn
+
 module _ {C : Type 0} where
   -- a slot that waits and is due, of a group that is not cancelled, with nothing beside what it serves
   pub record IsDue (made : Made C) (e : History) (slot : ℕ) : Type 0 where

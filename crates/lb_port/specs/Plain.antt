@@ -12,7 +12,7 @@ use Rattle.lb_rebuild.specs.Gate.{GateView, gate}
 use Rattle.lb_registry.specs.Registry.{RegistryValue, IsRegistryAfter}
 use Rattle.lb_registry.specs.RegistryEvents.{Event, Applied, Updated, cells_given, has_view, views_after}
 use Rattle.lb_group.specs.GroupCalls as group
-use Rattle.lb_group.specs.GroupCalls.{Asks, ask_events, gate_after, fail_events, gate_back, publish_events, done_at, ticket_events, is_awaited}
+use Rattle.lb_group.specs.GroupCalls.{Asks, ask_events, gate_after, publish_events, done_at, ticket_events, is_awaited}
 use Rattle.lb_group.specs.GroupCalls.{is_owed, is_read, is_change, schedule_refusal}
 use Rattle.lb_group.specs.GroupHistory as core
 use Rattle.lb_group.specs.Stands.{Made}
@@ -116,7 +116,8 @@ module _ {C R : Type 0} (gives : R → Member → Member → Type 0) where
       × OnOk r ((key_of : Member → Member) (events : List Event) → IsRegistryAfter gives key_of events x
       → After v (λ made e. IsRegistryAfter gives key_of (registry_updated key_of v.view.id members (views_of made e) events) y))
       × OnErr r (After v (λ made e. Stands made e w))
-      × OnErr r ((key_of : Member → Member) (events : List Event) → IsRegistryAfter gives key_of events x → IsRegistryAfter gives key_of events y)
+      × OnErr r ((key_of : Member → Member) (events : List Event) → IsRegistryAfter gives key_of events x
+      → IsRegistryAfter gives key_of events y)
       × (IsErrOf r refusal.NoSuch → (key_of : Member → Member) (events : List Event) → IsRegistryAfter gives key_of events x
       → has_view v.view.id (views_after events) ≡ false)
       × (IsErrOf r refusal.NumbersExhausted → (key_of : Member → Member) (events : List Event) → IsRegistryAfter gives key_of events x

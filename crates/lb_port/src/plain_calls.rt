@@ -27,9 +27,16 @@ use rand_core::Rng;
 use std::alloc::Global;
 use std::collections::BTreeSet;
 
-impl<'c, 'x, 'g, 'w, 'l, S: BackendSelection, R: KeyRule + Drop, G: Rng>
-    PlainPort<'c, 'x, 'g, 'w, 'l, S, R, G>
-{
+impl<'c, 'x, 'g, 'w, 'l, S: BackendSelection, R: KeyRule + Drop, G: Rng> PlainPort<
+    'c,
+    'x,
+    'g,
+    'w,
+    'l,
+    S,
+    R,
+    G,
+> {
     /// A worker's turn at a slot that waits and is due, of a group that is not cancelled, whose gate is free. It ends with the newest
     /// generation served, or with one failed build more.
     pub fn due_turn<K: MomentSource>(
