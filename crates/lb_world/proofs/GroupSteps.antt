@@ -1,8 +1,8 @@
 -- The step that makes a group, of a world: what it answers where it is refused.
-use Rattle.std.proofs.Common.{◌≡◌, ◌⊎◌, inl, inr, ◌<◌, ◌≤◌, ◌+◌, ◌^◌, ◌&&◌, ◌↔◌, ◌∙◌, ℕ, Bool, true, false, List, [], ◌∷◌, length, map}
+use Rattle.std.proofs.Common.{◌≡◌, ◌⊎◌, inl, inr, ◌<◌, ◌≤◌, ◌+◌, ◌^◌, ◌↔◌, ◌∙◌, ℕ, Bool, true, false, List, [], ◌∷◌, length, map}
 use Rattle.std.proofs.Common.{refl, sym, ap, subst, slice_get, arith}
 use Rattle.std.specs.Prelude.{Option, Some, None, IsTrue, nat_lt, slice_set}
-use Rattle.std.proofs.lemmas.Bool.{lt-ltb, le-ltb, ltb-true, and_parts, false≢true}
+use Rattle.std.proofs.lemmas.Bool.{lt-ltb, ltb-true, and_parts, false≢true}
 use Rattle.std.proofs.lemmas.Bool.Decides.{leb_tells}
 use Rattle.std.proofs.lemmas.Option.{none-some, slice_get_within}
 use Rattle.lb_select.specs.Refusals.{earlier, least}
@@ -26,15 +26,6 @@ use Rattle.lb_world.specs.Views.{WorldValue}
 use Rattle.lb_world.proofs.GroupCauses.{there, cells, group-right, group-missed, group-refused, group-full, no-cause, is-there}
 use Rattle.lb_world.proofs.Quiet.{refused-still, world-refused}
 use Rattle.lb_world.proofs.Registries.{AtRegistry, registry-next}
-
--- two numbers are in their tables: the second test is taken where the first one holds
-pub second-test :
-    (b : Bool) (r n m g k l : ℕ) → m ≡ n → l ≡ k → r < m → b ≡ nat_lt g l → b ≡ (nat_lt r n && nat_lt g k)
-second-test b r n m g k l same_n same_k within is = rw (← same_n, ← same_k, lt-ltb r m within) is
-
-pub first-test :
-    (b : Bool) (r n m g k : ℕ) → m ≡ n → m ≤ r → b ≡ nat_lt r m → b ≡ (nat_lt r n && nat_lt g k)
-first-test b r n m g k same_n past is = rw (← same_n, le-ltb r m past) (is ∙ le-ltb r m past)
 
 pub memory-only : {A : Type 0} (cause : Option Refusal) (e : Refusal) → cause ≡ None → (cause ≡ Some e)
     ⊎ (A × ((e ≡ refusal.OutOfMemory) ⊎ (e ≡ refusal.NumbersExhausted)))

@@ -1,14 +1,13 @@
 -- What stands for a history stands for every run that tells the same, so for it without its refused steps.
-use Rattle.std.proofs.Common.{◌≡◌, ◌∙◌, ℕ, List, length, sym, ap, subst}
+use Rattle.std.proofs.Common.{◌∙◌, ℕ, List, length, sym, ap, subst}
 use Rattle.std.specs.Prelude.{slice_get}
-use Rattle.lb_select.specs.Backends.{Member}
 use Rattle.lb_registry.specs.Registry.{RegistryValue, IsRegistryAfter}
 use Rattle.lb_registry.specs.RegistryEvents as registry
 use Rattle.lb_group.specs.GroupHistory as group
 use Rattle.lb_joined.specs.JoinedHistory as joined_history
 use Rattle.lb_joined.specs.Stands as joined
 use Rattle.lb_history.specs.Meanings.{Meaning}
-use Rattle.lb_history.specs.History.{History, RegistryMade, Work, past, registries}
+use Rattle.lb_history.specs.History.{History, RegistryMade, Work}
 use Rattle.lb_history.specs.Shared.{key_in, key_at, registry_events}
 use Rattle.lb_history.specs.Answers.{IsRun}
 use Rattle.lb_history.specs.Refused.{TellsAlike, unrefused}

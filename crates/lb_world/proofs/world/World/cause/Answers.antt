@@ -1,12 +1,22 @@
 -- The tests of the two numbers, taken one after the other, are that both are there.
-use Rattle.std.proofs.Common.{◌≡◌, ◌∙◌, Bool, ap, map, [], arith}
+use Rattle.std.proofs.Common.{◌≡◌, ◌<◌, ◌≤◌, ◌&&◌, ◌∙◌, ℕ, Bool, [], map, ap, arith}
+use Rattle.std.specs.Prelude.{nat_lt}
+use Rattle.std.proofs.lemmas.Bool.{lt-ltb, le-ltb}
 use Rattle.lb_select.specs.Refusals.{earlier, least}
 use Rattle.lb_history.specs.Answers.{no_such}
 use Rattle.lb_world.specs.Calls.{in_tables}
 use Rattle.lb_world.specs.Founded.{world_value}
-use Rattle.lb_world.proofs.GroupSteps.{first-test, second-test}
 use Rattle.lb_world.proofs.world.World.cause.Goals as goal
 use Rattle.lb_world.proofs.world.World.cause.Goals.{then-registry-len, else-registry-len}
+
+-- two numbers are in their tables: the second test is taken where the first one holds
+second-test :
+    (b : Bool) (r n m g k l : ℕ) → m ≡ n → l ≡ k → r < m → b ≡ nat_lt g l → b ≡ (nat_lt r n && nat_lt g k)
+second-test b r n m g k l same_n same_k within is = rw (← same_n, ← same_k, lt-ltb r m within) is
+
+first-test :
+    (b : Bool) (r n m g k : ℕ) → m ≡ n → m ≤ r → b ≡ nat_lt r m → b ≡ (nat_lt r n && nat_lt g k)
+first-test b r n m g k same_n past is = rw (← same_n, le-ltb r m past) (is ∙ le-ltb r m past)
 
 pub returns : goal.returns
 returns g c =
