@@ -7,8 +7,8 @@ use Rattle.lb_schedule.specs.declared.event.Action.{Action}
 use Rattle.lb_schedule.specs.declared.event.Action.TheVariants as to
 use Rattle.lb_schedule.specs.Turns.{is_ready, is_check, is_sleep, is_update}
 use Rattle.lb_schedule.specs.History.{Heard, last, begun}
-use Rattle.lb_schedule.specs.Services.{ServicePlan, ServiceValue, IsServiceRun, IsServiceAfter, service_answer, service_state, with_answer, opening}
-use Rattle.lb_schedule.specs.Services.{rest_until, is_waiting, is_hold}
+use Rattle.lb_schedule.specs.Services.{ServicePlan, ServiceValue, IsServiceRun, IsServiceAfter, service_answer, service_state}
+use Rattle.lb_schedule.specs.Services.{with_answer, opening, rest_until, is_waiting, is_hold}
 use Rattle.lb_schedule.proofs.LawLemmas.{falsehood}
 use Rattle.lb_service.specs.Driven.{is_asked}
 

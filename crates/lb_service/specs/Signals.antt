@@ -1,5 +1,5 @@
 -- What a signal tells its watches.
-use Rattle.std.specs.Prelude.{◌≡◌, ◌⊎◌, ℕ, Bool, Option, Some, None, if◌then◌else◌, ◌==◌}
+use Rattle.std.specs.Prelude.{◌≡◌, ◌≢◌, ◌≤◌, ◌⊎◌, ℕ, Bool, Option, Some, None, if◌then◌else◌, ◌==◌}
 use Rattle.atomic_table.specs.Seated.{TableId}
 use Rattle.lb_schedule.specs.declared.event.Event.{Event}
 use Rattle.lb_schedule.specs.declared.event.Event.TheVariants as on
@@ -29,3 +29,8 @@ abbrev pub word_of : Option Event → ℕ
 word_of (Some on.Shutdown) = 1
 word_of (Some on.Closed) = 2
 word_of e = 0
+
+-- why a wait ended: something else stands than was heard, or the clock's last reading had come to the moment
+abbrev pub EndsUntil : {K : Type 0} → (K → ℕ → K → Type 0) → ℕ → Option Event → K → Option Event → Type 0
+EndsUntil {K} reads moment heard after stands =
+    (word_of stands ≢ word_of heard) ⊎ ((before : K) × (now : ℕ) × reads before now after × (moment ≤ now))

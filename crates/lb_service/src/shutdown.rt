@@ -1,7 +1,7 @@
 //! How a service is told to end: a signal, and watches that tell what stands and sleep until it changes.
 //! What stands is one word that the signal alone stores, so that neither it nor a watch takes a lock.
 ghost use Rattle.std.specs.Prelude.{◌≡◌, ◌≤◌, false, IfErr, IfOk};
-ghost use Rattle.lb_service.specs.Signals.{event_of, signal, told, word_of, IsOfSignal};
+ghost use Rattle.lb_service.specs.Signals.{event_of, signal, told, word_of, EndsUntil, IsOfSignal};
 
 use crate::line_rule::{Finds, Mark, OneSender, Says};
 use atomic_table::{Seat, Table};
@@ -140,16 +140,16 @@ impl ShutdownWatch {
         moment: u128,
         heard: Option<Event>,
     ) -> Option<Event>
-        ensures { IsOfSignal result }
+        ensures event { IsOfSignal result }
+        ensures until { EndsUntil C.reads moment heard clock.new result }
     {
-        let heard = word_of(heard);
         for _ in rt.forever() {
-            let word = self.line.table.shared.peek(0);
+            let stands = self.event();
             let now = clock.now();
-            if word != heard || moment <= now {
-                return event_of(word);
+            if word_of(stands) != word_of(heard) || moment <= now {
+                return stands;
             }
-            self.sleep(rt, heard, moment - now);
+            self.sleep(rt, word_of(heard), moment - now);
         }
         unreachable!()
     }

@@ -2,6 +2,7 @@
 //! It passes on what the layers below prove, under the upstream crate's names.
 #![tactic(auto)]
 
+pub mod background;
 pub mod discovery;
 pub mod health;
 pub mod health_check;
@@ -13,6 +14,7 @@ pub mod script;
 pub mod selection;
 pub mod world;
 
+pub use background::HealthCheckService;
 pub use lb_balance::balancer_core::LoadBalancerCore;
 pub use lb_balance::group_core::LoadBalancerGroupCore;
 pub use lb_balance::lent::LentBackends;

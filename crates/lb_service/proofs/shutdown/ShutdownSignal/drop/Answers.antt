@@ -5,5 +5,8 @@ use Rattle.lb_service.proofs.shutdown.ShutdownSignal.drop.Goals as goal
 
 pub store-requires : goal.store-requires
 store-requires c =
-    let i = c.self.invariant in
-    (sym i.0 ∙ ap (λ l. l.table.shared.table_id) (sym c.deref.ensures), omega (arith, c.deref.result.now.one), stores_as _ _ _ _ _ i.1 i.2)
+    let i = c.self.invariant in (
+      sym i.0 ∙ ap (λ l. l.table.shared.table_id) (sym c.deref.ensures),
+      omega (arith, c.deref.result.now.one),
+      stores_as _ _ _ _ _ i.1 i.2,
+    )

@@ -1,0 +1,97 @@
+//! A clock, a check and a registry for the tests of services.
+ghost use Rattle.std.specs.Prelude.{◌≡◌};
+
+use lb_balance::moments::MomentSource;
+use lb_locked::registry::HealthRegistry;
+use lb_probe::error::CheckError;
+use lb_probe::health_check::HealthCheck;
+use lb_registry::keys::{ByNumber, Rule};
+use lb_registry::registry::RegistryCore;
+use lb_select::backend::Backend;
+use lb_select::refusal::Refusal;
+use lb_service::shutdown::ShutdownWatch;
+use std::alloc::Global;
+use std::collections::BTreeSet;
+use std::sync::Arc;
+use std::sync::atomic::AtomicU64;
+use std::sync::atomic::Ordering::SeqCst;
+use std::thread;
+use std::time::{Clock, Duration};
+
+/// A clock that goes on by so many nanoseconds at each reading.
+#[derive(Drop)]
+pub struct Ticks {
+    pub next: u128,
+    pub step: u128,
+}
+
+impl MomentSource for Ticks {
+    ghost reads = { λ s m _. m ≡ s.next };
+
+    fn now(&mut self) -> u128 {
+        let moment = self.next;
+        self.next = moment.saturating_add(self.step);
+        moment
+    }
+}
+
+/// A check that finds every backend down. It counts its checks; with a watch, each waits, for a thousand milliseconds at most, until
+/// that tells that services are to end.
+#[derive(Drop)]
+pub struct Down<R> {
+    pub rt: R,
+    pub checks: Arc<AtomicU64>,
+    pub until: Option<ShutdownWatch>,
+}
+
+impl<R: Clock> HealthCheck for Down<R> {
+    ghost threshold = { λ _ _. 1 };
+
+    fn check(&self, _alloc: Global, _target: &Backend) -> Result<(), CheckError> {
+        self.checks.fetch_add(1, SeqCst);
+        if let Some(watch) = &self.until {
+            for _ in 0..1000 {
+                if watch.is_shut() {
+                    break;
+                }
+                thread::sleep(&self.rt, Duration::from_millis(1));
+            }
+        }
+        Err(CheckError::Connect)
+    }
+
+    fn health_threshold(&self, _success: bool) -> usize {
+        1
+    }
+}
+
+/// A registry with a check of this type.
+pub type Checked<R> = HealthRegistry<Rule<ByNumber>, Down<R>>;
+
+/// A registry with a view, its first, of the backend 1.0.0.1:80/1 or of none.
+pub fn registry_of(alloc: Global, is_empty: bool) -> Result<RegistryCore, Refusal> {
+    let mut registry = RegistryCore::new(alloc);
+    let id = registry.register_view(alloc)?;
+    if !is_empty {
+        registry.update_view(alloc, id, one_backend(alloc)?)?;
+    }
+    Ok(registry)
+}
+
+/// The backend 1.0.0.1:80/1.
+pub fn one_backend(alloc: Global) -> Result<BTreeSet<Backend>, Refusal> {
+    let mut set = BTreeSet::new(alloc);
+    set.insert(Backend::new(alloc, "1.0.0.1:80")?)?;
+    Ok(set)
+}
+
+/// Waits, for a thousand milliseconds at most, until so many checks were counted; whether they were.
+pub fn counted<R: Clock>(rt: &R, checks: &AtomicU64, wanted: u64) -> bool {
+    for _ in 0..1000 {
+        if checks.load(SeqCst) >= wanted {
+            return true;
+        }
+        thread::sleep(rt, Duration::from_millis(1));
+    }
+    false
+}
