@@ -1,5 +1,6 @@
 //! A discovery with one selector, which an update builds: what is served is always the newest generation.
-ghost use Rattle.std.specs.Prelude.{◌≡◌, ◌↔◌, ◌≤◌, ◌+◌, ◌^◌, ◌∷◌, [], List, Ok, Err, None, Some, unwrap_or, IfOk, IfErr, IsErrOf, IsSome, OnOk, OnErr};
+ghost use Rattle.std.specs.Prelude.{◌≡◌, ◌↔◌, ◌≤◌, ◌+◌, ◌^◌, ◌∷◌, [], List, Ok, Err, None, Some, unwrap_or, IfOk};
+ghost use Rattle.std.specs.Prelude.{IfErr, IsErrOf, IsSome, OnOk, OnErr};
 ghost use Rattle.lb_select.specs.Backends.{Member, same_member};
 ghost use Rattle.lb_select.specs.Loads.{load_in};
 ghost use Rattle.lb_select.specs.Refusals.{memory_apart};

@@ -1,5 +1,6 @@
 -- What the calls on one slot answer and leave, as functions of what contracts see of it.
-use Rattle.std.specs.Prelude.{◌≡◌, ◌==◌, ◌&&◌, ◌||◌, ◌+◌, ◌-◌, ◌%◌, ◌^◌, ℕ, Bool, true, false, not, min, max, nat_lt, nat_le, MatchBool, List}
+use Rattle.std.specs.Prelude.{◌≡◌, ◌==◌, ◌&&◌, ◌||◌, ◌+◌, ◌-◌, ◌%◌, ◌^◌, ℕ, Bool, true, false, not, min, max}
+use Rattle.std.specs.Prelude.{nat_lt, nat_le, MatchBool, List}
 use Rattle.std.specs.Prelude.{length, Option, Some, None, is_none, Result, Ok, Err, if◌then◌else◌}
 use Rattle.lb_select.specs.Backends.{Member, same_member}
 use Rattle.lb_select.specs.Draws.{Draw}

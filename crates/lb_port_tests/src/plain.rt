@@ -68,7 +68,14 @@ fn select<'c, 'x, 'g, 'w, 'l>(
     port: &mut Port<'c, 'x, 'g, 'w, 'l>,
     slot: usize,
 ) -> Result<Option<Backend>, Refusal> {
-    select_through(alloc, port, slot, b"k", 1, &|_backend: &Backend, ready: bool| ready)
+    select_through(
+        alloc,
+        port,
+        slot,
+        b"k",
+        1,
+        &|_backend: &Backend, ready: bool| ready,
+    )
 }
 
 #[test]
