@@ -1,13 +1,11 @@
 -- The points of a chain, one after another.
-use Rattle.std.proofs.Common.{◌≡◌, ℕ, zero, suc, ◌+◌, ◌^◌, ◌<◌, List, [], ◌∷◌, ◌++◌, map, refl, sym, ap, subst, ◌∙◌, arith, add-one, append_assoc, inl, inr}
+use Rattle.std.proofs.Common.{◌≡◌, ℕ, zero, suc, ◌+◌, ◌^◌, ◌<◌, List, [], ◌∷◌, ◌++◌, map, refl, sym, ap, ◌∙◌, arith, add-one}
 use Rattle.std.specs.Int.{w32, to_le_bytes}
 use Rattle.std.specs.List.{range_with_len}
-use Rattle.std.proofs.lemmas.List.Elements.{Contains-push_cases}
 use Rattle.lb_ring.specs.Crc.{crc, crc_fed, crc_last, crc_byte}
 use Rattle.lb_ring.specs.Chains.{text_chain, state_chain, point_after}
 use Rattle.lb_ring.specs.Chains.{chain_entries}
 use Rattle.lb_ring.proofs.Crcs.{crc_small}
-use Rattle.lb_ring.specs.Sorted.{HasSmallPoints}
 
 pub chain_first : (s : ℕ) → point_after s 0 ≡ state_chain s 0
 unfolding state_chain
