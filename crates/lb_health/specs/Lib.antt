@@ -1,6 +1,7 @@
 pub mod Discoveries
 pub mod Founded
 pub mod Joined
+pub mod Kept
 pub mod Lookups
 pub mod Passes
 pub mod Snapshots

@@ -42,6 +42,8 @@ pub struct ViewCore {
     // Those that are held, the oldest first.
     earlier: Vec<ViewSnapshot>,
     flags: BTreeMap<Backend, bool>,
+    // Whether a flag may be disabled: while none was, no flag is looked up.
+    disabled: bool,
 }
 
 impl Model for ViewCore {
@@ -56,6 +58,10 @@ impl Model for ViewCore {
       snapshots = snapshot_of v.current ∷ map snapshot_of v.earlier.items;
       flags = v.flags.entries;
     } };
+
+    ghost use Rattle.lb_health.specs.Kept.{AreFlagsOf};
+
+    ghost invariant = { λ v. AreFlagsOf v.disabled v.flags.entries };
 }
 
 impl ViewCore {
@@ -75,6 +81,7 @@ impl ViewCore {
             },
             earlier: Vec::new(alloc),
             flags: BTreeMap::new(alloc),
+            disabled: false,
         })
     }
 
@@ -144,6 +151,9 @@ impl ViewCore {
         ensures { (views : List ViewEvent) → IsViewAfter views self.now → listed views backend.now ≡ true
             → result ≡ flag_after views backend.now }
     {
+        if !self.disabled {
+            return true;
+        }
         self.flags.get(backend).copied().unwrap_or(true)
     }
 
@@ -157,6 +167,7 @@ impl ViewCore {
         if lists(&self.current, self.earlier.as_slice(), backend) {
             if let Some(flag) = self.flags.get_mut(backend) {
                 *flag = enabled;
+                self.disabled = self.disabled | !enabled;
             }
         }
     }

@@ -6,7 +6,7 @@ use Rattle.std.proofs.lemmas.Map.Made.{filter_same_pairs}
 use Rattle.lb_select.specs.Backends.{Member}
 use Rattle.lb_health.specs.declared.snapshot.ViewSnapshot.{ViewSnapshot}
 use Rattle.lb_health.specs.Snapshots.{SnapshotValue, snapshot_of, lists_in}
-use Rattle.lb_health.proofs.ViewLemmas.{filter-seen}
+use Rattle.lb_health.proofs.ViewLemmas.{filter-seen, flag-kept}
 use Rattle.lb_health.proofs.view.ViewCore.prune.Goals as goal
 
 pub returns-clause-snapshots : goal.returns-clause-snapshots
@@ -19,3 +19,9 @@ pub returns-clause-flags : goal.returns-clause-flags
 returns-clause-flags c =
     let kept = filter_same_pairs _ (λ (e : Member × Bool). lists_in e.0 (snapshot_of c.self.inside.current ∷ map snapshot_of c.as_slice-earlier.result.now)) _ (λ k v b w f' t. search rules) _ _ c.retain-2.ensures.filtered in
     rw (← c.self.view_is) (rw c.as_slice-earlier.ensures.value at kept)
+
+pub invariant_of-self : goal.invariant_of-self
+invariant_of-self c = λ none b on o.
+    let ss = snapshot_of c.self.inside.current ∷ map snapshot_of c.as_slice-earlier.result.now in
+    let kept = filter_same_pairs _ (λ (e : Member × Bool). lists_in e.0 ss) _ (λ k v b w f' t. search rules) _ _ c.retain-2.ensures.filtered in
+    c.self.invariant none b on (flag-kept ss c.self.inside.flags.entries b on (rw kept at o)).1
