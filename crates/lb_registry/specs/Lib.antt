@@ -2,6 +2,7 @@ pub mod CellEvents
 pub mod Fresh
 pub mod Internal
 pub mod Keys
+pub mod OwnCells
 pub mod Registry
 pub mod RegistryEvents
 pub mod Starts

@@ -11,6 +11,7 @@ ghost use Rattle.lb_registry.specs.CellEvents.{CellEvent, Changed, given_after};
 ghost use Rattle.lb_registry.specs.Internal.Changing.{left_of};
 ghost use Rattle.lb_registry.specs.Internal.Replacing.{IsPrepared, IsReplaced};
 ghost use Rattle.lb_registry.specs.Keys.{IsRuleOf};
+ghost use Rattle.lb_registry.specs.OwnCells.{HasOwnCells};
 ghost use Rattle.lb_registry.specs.Registry.{IsStateAfter, IsGrowthRefusal};
 ghost use Rattle.lb_registry.specs.RegistryEvents.{Event, Applied, Updated, is_view, cells_by, cells_in, cells_given};
 ghost use Rattle.lb_registry.specs.Starts.{IsNumbered};
@@ -90,6 +91,7 @@ fn cells_of<R: KeyRule>(
     ensures ok { IfOk result (λ cells. (key_of : Member → Member) (all : List (List Member)) → IsRuleOf R.gives rule.now key_of
         → IsNumbered member_cmp all numbering.now.by_key.entries numbering.now.next
         → cells.entries ≡ cells_by key_of all members.now.keys) }
+    ensures own { IfOk result (λ cells. HasOwnCells members.now.keys cells.entries) }
     ensures refused { OnErr result (result ≡ Err Refusal.OutOfMemory) }
 {
     let mut cells = BTreeMap::new(alloc);
@@ -156,6 +158,9 @@ fn prepare<R: KeyRule>(
         → IsPrepared key_of events
         (Changed (target_keys key_of (live (map view_value views.now))) ∷ Changed (left_of marked.entry events) ∷ events)
         members given.0 given.1 (table_value table.new)) }
+    ensures own { IfOk result (λ given. (members : List Member)
+        → IsSomeAnd (slice_get views.now place) (λ v. v.members.keys ≡ members)
+        → HasOwnCells members given.1.by_backend.entries) }
     ensures err { OnErr result ((events : List (CellEvent Member)) → IsTableAfter member_cmp events (table_value table.old)
         → IsTableAfter member_cmp events (table_value table.new)) }
     ensures exhausted { (key_of : Member → Member) (events : List (CellEvent Member)) → IsRuleOf R.gives rule.now key_of
@@ -192,6 +197,7 @@ pub(crate) fn replace<R: KeyRule>(
         → IsStateAfter key_of events (map view_value views.old.items) (table_value table.old)
         → IsReplaced key_of (Updated id members.keys ∷ Applied ∷ events) members.keys shown
         (map view_value views.new.items) (table_value table.new)) }
+    ensures own { IfOk result (λ shown. HasOwnCells members.keys shown.by_backend.entries) }
     ensures err { OnErr result ((key_of : Member → Member) (events : List Event)
         → IsStateAfter key_of events (map view_value views.old.items) (table_value table.old)
         → IsStateAfter key_of events (map view_value views.new.items) (table_value table.new)) }

@@ -6,6 +6,7 @@ ghost use Rattle.std.specs.List.{filter_map};
 ghost use Rattle.lb_select.specs.Backends.{Member, member_cmp, same_member};
 ghost use Rattle.lb_registry.specs.Fresh.{has_key};
 ghost use Rattle.lb_registry.specs.Keys.{by_identity, by_address, IsRuleOf};
+ghost use Rattle.lb_registry.specs.OwnCells.{HasOwnCells};
 ghost use Rattle.lb_registry.specs.Registry.{IsRegistryAfter, target_at, targets_after, IsGrowthRefusal, IsUpdateRefusal};
 ghost use Rattle.lb_registry.specs.RegistryEvents.{Event, Registered, Applied, Updated, Marked, Observed, Released, Configured};
 ghost use Rattle.lb_registry.specs.RegistryEvents.{has_view, registered_after, views_after, after_update, after_show};
@@ -254,6 +255,7 @@ impl<R: KeyRule + Drop> Registry<R> {
         ensures cells { IfOk result (λ cells. (key_of : Member → Member) (events : List Event)
             → IsRegistryAfter R.gives key_of events self.old
             → cells.entries ≡ shown_cells key_of id members.keys events) }
+        ensures own { IfOk result (λ cells. HasOwnCells members.keys cells.entries) }
         ensures err { OnErr result ((key_of : Member → Member) (events : List Event) → IsRegistryAfter R.gives key_of events self.old
             → IsRegistryAfter R.gives key_of events self.new) }
         ensures unknown { (key_of : Member → Member) (events : List Event) → IsRegistryAfter R.gives key_of events self.old
