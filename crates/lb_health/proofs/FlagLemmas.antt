@@ -1,5 +1,5 @@
 -- Settings of flags.
-use Rattle.std.proofs.Common.{◌≡◌, Bool, true, false, cond, List, ◌∷◌, refl, sym, ◌∙◌, ap, Option, Some, None, not}
+use Rattle.std.proofs.Common.{◌≡◌, Bool, true, false, cond, List, ◌∷◌, refl, sym, ◌∙◌, ap, Option, Some, None, not, inl, inr}
 use Rattle.std.specs.Prelude.{IsSome, ◌&&◌, ◌||◌, if◌then◌else◌}
 use Rattle.std.specs.Option.{unwrap_or}
 use Rattle.std.proofs.lemmas.Bool.{false≢true}
@@ -7,7 +7,7 @@ use Rattle.lb_select.specs.Backends.{Member, same_member}
 use Rattle.lb_health.specs.Kept.{AreFlagsOf}
 use Rattle.lb_health.specs.Snapshots.{ViewValue, lists_in, value_at}
 use Rattle.lb_health.specs.ViewEvents.{ViewEvent, Set, listed, flag_after}
-use Rattle.lb_health.specs.Views.{IsViewAfter}
+use Rattle.lb_health.specs.Views.{IsViewAfter, Flags}
 
 -- what the snapshots that live list
 pub lists_is : (events : List ViewEvent) (v : ViewValue) (b : Member) → IsViewAfter events v
@@ -63,3 +63,10 @@ flags-set disabled enabled old new b before u none q on e =
       | true ↦ λ o. sym (ap (λ r. unwrap_or r on) o) ∙ not_false enabled (or_second disabled (not enabled) none)
       | false ↦ λ o. before (or_first disabled (not enabled) none) q on o
     ] (sym (u q) ∙ e)
+
+-- flags that enable beside those that are there
+pub flags-more : (disabled : Bool) (old new : List (Member × Bool)) → AreFlagsOf disabled old → ((q : Member) → Flags old new q) → AreFlagsOf disabled new
+flags-more disabled old new before more none b on o = elim (more b) [
+  | inl e ↦ before none b on (sym e ∙ o)
+  | inr n ↦ ap (λ r. unwrap_or r true) (sym o ∙ n.1)
+]

@@ -1,5 +1,6 @@
 pub mod FlagLemmas
 pub mod LookupLemmas
+pub mod OwnCellLemmas
 pub mod SnapshotLemmas
 pub mod ViewLemmas
 pub mod PassLemmas

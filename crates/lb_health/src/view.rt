@@ -15,6 +15,7 @@ ghost use Rattle.lb_health.specs.Views.{IsViewAfter, Flags, IsViewRefusal};
 ghost use Rattle.lb_health.specs.Joined.{lives, registry_released, settings_of, after_settings, with_membership, view_changed};
 ghost use Rattle.lb_health.specs.Joined.{registry_changed};
 ghost use Rattle.lb_health.specs.Joined.{view_updated, registry_updated, IsHealthyIn, IsReadyIn, IsReady};
+ghost use Rattle.lb_registry.specs.OwnCells.{HasOwnCells};
 ghost use Rattle.lb_registry.specs.Registry.{IsRegistryAfter, IsGrowthRefusal};
 ghost use Rattle.lb_registry.specs.RegistryEvents.{Event, Registered, Updated, Applied, registered_after, has_view, views_after};
 ghost use Rattle.lb_registry.specs.RegistryEvents.{cells_given};
@@ -59,9 +60,10 @@ impl Model for ViewCore {
       flags = v.flags.entries;
     } };
 
-    ghost use Rattle.lb_health.specs.Kept.{AreFlagsOf};
+    ghost use Rattle.lb_health.specs.Kept.{AreFlagsOf, HaveOwnCells};
 
-    ghost invariant = { λ v. AreFlagsOf v.disabled v.flags.entries };
+    ghost invariant = { λ v. AreFlagsOf v.disabled v.flags.entries
+        × HaveOwnCells (snapshot_of v.current ∷ map snapshot_of v.earlier.items) };
 }
 
 impl ViewCore {
@@ -284,16 +286,15 @@ impl ViewCore {
     ) -> bool
         ensures { (key_of : Member → Member) (views : List ViewEvent) (events : List Event) → IsViewAfter views self.now
             → IsRegistryAfter R.gives key_of events registry.now
+            → HasOwnCells (snapshot_of snapshot.now).members (snapshot_of snapshot.now).cells
             → (list_any (same_member backend.now) (snapshot_of snapshot.now).members ≡ true → listed views backend.now ≡ true)
             → (IsTrue result ↔ IsReadyIn key_of views events backend.now (snapshot_of snapshot.now)) }
     {
-        if !snapshot.members.contains(backend) {
+        // The cells are those of members alone, so one search tells both.
+        if !is_healthy(registry, snapshot, backend) {
             return false;
         }
-        if !self.is_enabled(backend) {
-            return false;
-        }
-        is_healthy(registry, snapshot, backend)
+        self.is_enabled(backend)
     }
 
     /// Takes what was discovered: a set whose identities differ from the newest membership becomes the next generation, and then

@@ -9,6 +9,10 @@ use Rattle.lb_health.specs.declared.snapshot.ViewSnapshot.{ViewSnapshot}
 use Rattle.lb_health.specs.Snapshots.{SnapshotValue, ViewValue, snapshot_of, living}
 use Rattle.lb_health.specs.ViewEvents.{ViewEvent, Shown, by_age, new_snapshot, snapshots_after, generation_after}
 use Rattle.lb_health.specs.Views.{IsViewAfter, Flags}
+use Rattle.lb_registry.specs.OwnCells.{HasOwnCells}
+use Rattle.lb_health.specs.Kept.{HaveOwnCells}
+use Rattle.lb_health.proofs.FlagLemmas.{flags-more}
+use Rattle.lb_health.proofs.OwnCellLemmas.{own-behind}
 use Rattle.lb_health.proofs.SnapshotLemmas.{shown_snapshots}
 use Rattle.lb_health.proofs.ViewLemmas.{roomier, shown, on_err}
 use Rattle.lb_health.proofs.view.ViewCore.change.Goals as goal
@@ -112,3 +116,19 @@ pub returns-clause-next : goal.returns-clause-next
 returns-clause-next g c =
     c.prune.ensures.generation ∙ ap (λ (s : ViewSnapshot). s.generation) c.replace.ensures.after ∙ c.in-Some.ensures.1
     ∙ ap (λ (v : ViewValue). v.generation + 1) c.self.view_is
+
+pub invariant_of-self-2 : goal.invariant_of-self-2
+invariant_of-self-2 g c =
+    let current : ViewSnapshot = c.self.inside.current in
+    let members : (arc_value c.in_ok-members.members).keys ≡ c.args.members.keys = ap (λ s. s.keys) c.in_ok-members.ensures.ok in
+    let items : c.push_reserved.new.self.items ≡ c.self.inside.earlier.items ++ current ∷ [] = c.push_reserved.ensures.items
+    ∙ ap (λ (s : ViewSnapshot). c.reserve.new.self.items ++ s ∷ []) c.replace.ensures.value
+    ∙ ap (λ (ss : List ViewSnapshot). ss ++ current ∷ []) c.reserve.ensures.items in (
+      flags-more c.self.inside.disabled c.self.inside.flags.entries _ c.self.invariant.0 c.flag_all.ensures.flags,
+      (
+        subst (λ (s : ViewSnapshot). HasOwnCells (snapshot_of s).members (snapshot_of s).cells) (sym c.replace.ensures.after)
+        (subst (λ (ms : List Member). HasOwnCells ms c.in_ok-cells.cells.entries) (c.in_ok-copy.ensures.ok ∙ sym members) c.in_ok-cells.ensures.own),
+        subst (λ (ss : List ViewSnapshot). HaveOwnCells (map snapshot_of ss)) (sym items)
+        (own-behind c.self.inside.earlier.items current c.self.invariant.1.1 c.self.invariant.1.0),
+      ),
+    )

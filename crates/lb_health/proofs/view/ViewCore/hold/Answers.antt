@@ -1,7 +1,9 @@
-use Rattle.std.proofs.Common.{◌≡◌, ◌<◌, ◌+◌, sym, ◌∙◌, refl, subst, arith, map}
+use Rattle.std.proofs.Common.{◌≡◌, ◌<◌, ◌+◌, sym, ◌∙◌, refl, subst, arith, map, ◌∷◌}
 use Rattle.std.specs.Prelude.{All, ◌^◌}
 use Rattle.lb_health.specs.Snapshots.{SnapshotValue, ViewValue, snapshot_of, held_more}
 use Rattle.lb_health.specs.Views.{IsViewAfter}
+use Rattle.lb_health.specs.Kept.{HaveOwnCells}
+use Rattle.lb_health.proofs.OwnCellLemmas.{own-at}
 use Rattle.lb_health.proofs.SnapshotLemmas.{at_current, at_found, at_none, count_at}
 use Rattle.lb_health.proofs.ViewLemmas.{held}
 use Rattle.lb_health.proofs.view.ViewCore.hold.Goals as goal
@@ -39,3 +41,10 @@ returns-in_default-clause-after c = λ views h.
     let place = sym c.place_of.ensures ∙ c.in_default.is in
     held views _ _ c.args.generation h refl
     (rw (← c.self.view_is) (at_none c.args.generation held_more (snapshot_of c.self.inside.current) c.self.inside.earlier.items c.if-self-generation.false (rw c.as_slice.ensures.value at place))) refl
+
+pub invariant_of-self-in-Some : goal.invariant_of-self-in-Some
+invariant_of-self-in-Some c =
+    let place = sym c.place_of.ensures ∙ c.in-Some.is in
+    let same = at_found c.args.generation held_more (snapshot_of c.self.inside.current) c.self.inside.earlier.items c.in-Some.place c.index_mut.result.now _ c.if-self-generation.false
+    (rw c.as_slice.ensures.value at place) c.index_mut.ensures.value refl in
+    (c.self.invariant.0, subst HaveOwnCells (sym same) (own-at c.args.generation held_more (λ s h. h) (snapshot_of c.self.inside.current ∷ map snapshot_of c.self.inside.earlier.items) c.self.invariant.1))

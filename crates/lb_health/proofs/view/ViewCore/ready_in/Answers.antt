@@ -1,6 +1,7 @@
 use Rattle.std.proofs.Common.{ap, sym, ◌∙◌, subst}
 use Rattle.lb_health.specs.Snapshots.{snapshot_of, snapshot_at, lists_in}
 use Rattle.lb_health.specs.Views.{IsViewAfter}
+use Rattle.lb_health.proofs.OwnCellLemmas.{own-found}
 use Rattle.lb_health.proofs.SnapshotLemmas.{find_found, find_none, lists_found}
 use Rattle.lb_health.proofs.view.ViewCore.ready_in.Goals as goal
 
@@ -11,6 +12,7 @@ returns-in-Some g c = λ key_of views events h r.
     let found = find_found c.args.generation (snapshot_of c.self.inside.current) c.self.inside.earlier.items c.in-Some.place c.index.result.now c.if-self-generation.false place c.index.ensures in
     let there = ap (λ ss. snapshot_at c.args.generation ss) (sym before.snapshots) ∙ found in
     rw there (c.is_ready-in-Some.ensures key_of views events h r
+    (own-found c.self.inside.earlier.items c.in-Some.place c.args.generation c.index.result.now c.self.invariant.1.1 place c.index.ensures)
     (λ l. ap (λ ss. lists_in c.args.backend.now ss) (sym before.snapshots)
     ∙ lists_found c.args.backend.now (snapshot_of c.self.inside.current) c.self.inside.earlier.items c.in-Some.place c.args.generation c.index.result.now place c.index.ensures l))
 
