@@ -127,8 +127,8 @@ invariant_of-self-2 g c =
       flags-more c.self.inside.disabled c.self.inside.flags.entries _ c.self.invariant.0 c.flag_all.ensures.flags,
       (
         subst (λ (s : ViewSnapshot). HasOwnCells (snapshot_of s).members (snapshot_of s).cells) (sym c.replace.ensures.after)
-        (subst (λ (ms : List Member). HasOwnCells ms c.in_ok-cells.cells.entries) (c.in_ok-copy.ensures.ok ∙ sym members) c.in_ok-cells.ensures.own),
+            (subst (λ (ms : List Member). HasOwnCells ms c.in_ok-cells.cells.entries) (c.in_ok-copy.ensures.ok ∙ sym members) c.in_ok-cells.ensures.own),
         subst (λ (ss : List ViewSnapshot). HaveOwnCells (map snapshot_of ss)) (sym items)
-        (own-behind c.self.inside.earlier.items current c.self.invariant.1.1 c.self.invariant.1.0),
+            (own-behind c.self.inside.earlier.items current c.self.invariant.1.1 c.self.invariant.1.0),
       ),
     )

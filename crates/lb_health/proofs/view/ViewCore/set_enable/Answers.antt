@@ -23,6 +23,6 @@ returns-else-lists-clause-after c = λ views h.
 pub invariant_of-self : goal.invariant_of-self
 invariant_of-self c = (
   flags-set c.self.inside.disabled c.args.enabled c.self.inside.flags.entries _ c.args.backend.now c.self.invariant.0
-  (λ q. ((c.get_mut.follows.holds c.args.enabled).3 (ap is_some (sym c.get_mut.ensures.value ∙ ap option_copied_mut c.in-Some.is))).0 q),
+      (λ q. ((c.get_mut.follows.holds c.args.enabled).3 (ap is_some (sym c.get_mut.ensures.value ∙ ap option_copied_mut c.in-Some.is))).0 q),
   c.self.invariant.1,
 )
