@@ -1,6 +1,6 @@
 //! A gate of selector rebuilds that threads share.
 //! Permits are granted and given back under its lock; who has it lent makes one call of a group with it.
-ghost use Rattle.std.specs.Prelude.{◌≡◌, IfErr, IfSome};
+ghost use Rattle.std.specs.Prelude.{◌≡◌, IfErr, IfOk, IfSome};
 
 use lb_lock::lock::{Held, KeyedLock};
 use lb_lock::rule::LockRule;
@@ -41,7 +41,18 @@ impl SelectorRebuildGate {
     pub fn new(alloc: Global) -> Result<SelectorRebuildGate, Refusal>
         ensures { IfErr result (λ e. e ≡ Refusal.OutOfMemory) }
     {
-        let gate = GateCore::new(alloc)?;
+        SelectorRebuildGate::of(alloc, GateCore::new(alloc)?)
+    }
+
+    /// This gate, for threads.
+    ///
+    /// # Errors
+    ///
+    /// `OutOfMemory` where memory is refused.
+    pub fn of(alloc: Global, gate: GateCore) -> Result<SelectorRebuildGate, Refusal>
+        ensures same { IfOk result (λ g. g.id ≡ gate.id) }
+        ensures refused { IfErr result (λ e. e ≡ Refusal.OutOfMemory) }
+    {
         let key = Snapshot::of(&gate);
         let lock = KeyedLock::new(alloc, gate, &key)?;
         Ok(SelectorRebuildGate { lock })

@@ -3,4 +3,5 @@
 #![tactic(auto)]
 
 pub mod gate;
+pub mod group;
 pub mod registry;
