@@ -2,6 +2,7 @@
 //! Permits are granted and given back under its lock; who has it lent makes one call of a group with it.
 ghost use Rattle.std.specs.Prelude.{◌≡◌, IfErr, IfOk, IfSome};
 
+use crate::wakes::Wakes;
 use lb_lock::lock::{Held, KeyedLock};
 use lb_lock::rule::LockRule;
 use lb_rebuild::gate::{GateCore, Permit};
@@ -22,6 +23,7 @@ impl LockRule<GateCore, Snapshot<GateCore>> for OfGate {
 #[derive(Drop)]
 pub struct SelectorRebuildGate {
     lock: KeyedLock<GateCore, Snapshot<GateCore>, OfGate>,
+    wakes: Wakes,
 }
 
 impl Model for SelectorRebuildGate {
@@ -55,7 +57,15 @@ impl SelectorRebuildGate {
     {
         let key = Snapshot::of(&gate);
         let lock = KeyedLock::new(alloc, gate, &key)?;
-        Ok(SelectorRebuildGate { lock })
+        Ok(SelectorRebuildGate {
+            lock,
+            wakes: Wakes::new(),
+        })
+    }
+
+    /// What wakes the workers of all the gate's groups.
+    pub fn wakes(&self) -> &Wakes {
+        &self.wakes
     }
 
     /// The gate itself, for one call of a group; `put` ends it. The thread sleeps while another one has it.

@@ -8,6 +8,8 @@ ghost use Rattle.lb_locked.specs.Group.{OwnsJob};
 
 use crate::gate::SelectorRebuildGate;
 use crate::registry::HealthRegistry;
+use crate::wakes::Wakes;
+use lb_balance::moments::MomentSource;
 use lb_group::answers::{Ask, Told};
 use lb_group::job::{Built, Job};
 use lb_group::retired::{OwedPermit, Reader, Retired};
@@ -17,6 +19,8 @@ use lb_joined::group::GroupCore;
 use lb_lock::lock::KeyedLock;
 use lb_lock::rule::LockRule;
 use lb_port::port::{GroupPort, TakesBack};
+use lb_port::source::BackendSource;
+use lb_port::update::update_through;
 use lb_probe::health_check::HealthCheck;
 use lb_registry::keys::KeyRule;
 use lb_select::backend::Backend;
@@ -29,6 +33,8 @@ use std::alloc::Global;
 use std::collections::BTreeSet;
 use std::marker::Model;
 use std::snapshot::Snapshot;
+use std::sync::atomic::AtomicBool;
+use std::sync::atomic::Ordering::SeqCst;
 use std::sync::{Arc, Mutex, Wait};
 
 /// The group under the lock is the one that the lock was made with: its identity, its gate and its configurations stay.
@@ -47,6 +53,12 @@ pub struct SharedGroup<S: BackendSelection, R, C> {
     gate: Arc<SelectorRebuildGate>,
     generator: Mutex<Pcg64>,
     loads: Mutex<Loads>,
+    // Held by an update from its discovery to its membership.
+    updates: Mutex<()>,
+    // Whether a slot has a worker, for each slot.
+    workers: Vec<AtomicBool>,
+    // Whether nobody but workers uses the group any more.
+    let_go: AtomicBool,
 }
 
 impl<S: BackendSelection, R, C> Model for SharedGroup<S, R, C> {
@@ -78,6 +90,7 @@ impl<S: BackendSelection, R: KeyRule + Drop, C: HealthCheck + Drop> SharedGroup<
         ensures { IfErr result (λ e. e ≡ Refusal.OutOfMemory) }
     {
         let key = Snapshot::of(&core);
+        let workers = without_workers(alloc, &core)?;
         let lock = KeyedLock::new(alloc, core, &key)?;
         Ok(SharedGroup {
             lock,
@@ -85,6 +98,9 @@ impl<S: BackendSelection, R: KeyRule + Drop, C: HealthCheck + Drop> SharedGroup<
             gate,
             generator: Mutex::new(generator),
             loads: Mutex::new(Loads::new()),
+            updates: Mutex::new(()),
+            workers,
+            let_go: AtomicBool::new(false),
         })
     }
 
@@ -96,6 +112,62 @@ impl<S: BackendSelection, R: KeyRule + Drop, C: HealthCheck + Drop> SharedGroup<
         held.value.cancel(&mut *registry);
         drop(registry);
         self.lock.put(held);
+        self.gate.wakes().wake();
+    }
+
+    /// Has workers cancel the group at their next turn. It takes no lock and no memory.
+    pub fn let_go(&self) {
+        self.let_go.store(true, SeqCst);
+        self.gate.wakes().wake();
+    }
+
+    /// Whether the group was let go.
+    pub fn is_let_go(&self) -> bool {
+        self.let_go.load(SeqCst)
+    }
+
+    /// What wakes the workers of the group.
+    pub fn wakes(&self) -> &Wakes {
+        (*self.gate).wakes()
+    }
+
+    /// How many slots may have a worker.
+    pub fn slot_count(&self) -> usize {
+        self.workers.len()
+    }
+
+    /// Takes a slot for a worker. Whether it had none.
+    pub(crate) fn claim_slot(&self, slot: usize) -> bool {
+        match self.workers.get(slot) {
+            Some(taken) => !taken.swap(true, SeqCst),
+            None => false,
+        }
+    }
+
+    /// Ends what `claim_slot` began.
+    pub(crate) fn leave_slot(&self, slot: usize) {
+        if let Some(taken) = self.workers.get(slot) {
+            taken.store(false, SeqCst);
+        }
+    }
+
+    /// Discovers, and makes what was discovered the newest membership; one update at a time. The discovery runs under no other lock.
+    ///
+    /// # Errors
+    ///
+    /// As `update_through`.
+    pub fn update<W: Wait, D: BackendSource, K: MomentSource>(
+        &self,
+        rt: &W,
+        alloc: Global,
+        discovery: &D,
+        clock: &mut K,
+    ) -> Result<u64, Refusal> {
+        let turn = self.updates.lock(rt);
+        let mut port = LockedPort { group: self, rt };
+        let told = update_on(alloc, &mut port, discovery, clock);
+        drop(turn);
+        told
     }
 
     /// Sets the load of a backend's identity, for all slots. Refused `OutOfMemory` where memory is refused; nothing is set then.
@@ -111,6 +183,41 @@ impl<S: BackendSelection, R: KeyRule + Drop, C: HealthCheck + Drop> SharedGroup<
         let _gate = &self.gate;
         self.loads.lock(rt).set(alloc, backend, load)
     }
+}
+
+// A flag for each slot of the group: none has a worker.
+fn without_workers<S: BackendSelection>(
+    alloc: Global,
+    core: &GroupCore<S>,
+) -> Result<Vec<AtomicBool>, Refusal>
+    ensures { IfErr result (λ e. e ≡ Refusal.OutOfMemory) }
+{
+    let mut workers = Vec::new(alloc);
+    for slot in 0..usize::MAX {
+        if core.served(slot).is_none() {
+            return Ok(workers);
+        }
+        workers.push(AtomicBool::new(false))?;
+    }
+    Ok(workers)
+}
+
+fn update_on<
+    'g,
+    'r,
+    S: BackendSelection,
+    R: KeyRule + Drop,
+    C: HealthCheck + Drop,
+    W: Wait,
+    D: BackendSource,
+    K: MomentSource,
+>(
+    alloc: Global,
+    port: &mut LockedPort<'g, 'r, S, R, C, W>,
+    discovery: &D,
+    clock: &mut K,
+) -> Result<u64, Refusal> {
+    update_through(alloc, port, discovery, clock)
 }
 
 /// One thread's way to a group that threads share.
@@ -147,6 +254,7 @@ impl<'g, 'r, S: BackendSelection, R: KeyRule + Drop, C: HealthCheck + Drop, W: W
         gates.put(gate);
         drop(registry);
         group.lock.put(held);
+        gates.wakes().wake();
         match told {
             Ok(()) => {}
             Err(job) => job.close(),
@@ -217,6 +325,7 @@ impl<'g, 'r, S: BackendSelection, R: KeyRule + Drop, C: HealthCheck + Drop, W: W
             .schedule(alloc, &mut *registry, discovered, settings, now);
         drop(registry);
         group.lock.put(held);
+        group.wakes().wake();
         told
     }
 
@@ -291,6 +400,7 @@ impl<'g, 'r, S: BackendSelection, R: KeyRule + Drop, C: HealthCheck + Drop, W: W
         gates.put(gate);
         drop(registry);
         group.lock.put(held);
+        gates.wakes().wake();
         match told {
             Ok(()) => {}
             Err(permit) => permit.spend(),

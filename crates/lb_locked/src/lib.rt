@@ -2,6 +2,10 @@
 //! A thread that waits for a lock sleeps; a lock is held for one call of the plain state.
 #![tactic(auto)]
 
+pub mod clock;
 pub mod gate;
 pub mod group;
 pub mod registry;
+pub mod start;
+pub mod wakes;
+pub mod workers;
