@@ -136,6 +136,26 @@ impl<S: BackendSelection, R: KeyRule + Drop, C: HealthCheck + Drop> SharedGroup<
         self.workers.len()
     }
 
+    /// How many slots have a worker now.
+    pub fn worker_count(&self) -> usize {
+        let mut count: usize = 0;
+        for taken in self.workers.as_slice() {
+            if taken.load(SeqCst) {
+                count = count.saturating_add(1);
+            }
+        }
+        count
+    }
+
+    /// The generation that a slot serves; `None` where no such slot is there.
+    pub fn selector_generation<W: Wait>(&self, rt: &W, slot: usize) -> Option<u64> {
+        let _gate = &self.gate;
+        let held = self.lock.take(rt);
+        let served = held.value.served(slot);
+        self.lock.put(held);
+        served
+    }
+
     /// Takes a slot for a worker. Whether it had none.
     pub(crate) fn claim_slot(&self, slot: usize) -> bool {
         match self.workers.get(slot) {

@@ -23,7 +23,7 @@ use std::collections::BTreeSet;
 use std::sync::{Arc, Wait};
 use std::test::Fail;
 
-type Group = SharedGroup<RoundRobin, Rule<ByNumber>, BoxedCheck>;
+pub(crate) type Group = SharedGroup<RoundRobin, Rule<ByNumber>, BoxedCheck>;
 
 type Port<'g, 'r, W> = LockedPort<'g, 'r, RoundRobin, Rule<ByNumber>, BoxedCheck, W>;
 
@@ -43,14 +43,14 @@ impl MomentSource for Ticks {
 }
 
 // The backend of weight 1 at 1.0.0.1:80, always.
-fn one_backend(alloc: Global) -> Result<DiscoverySource<Static>, Refusal> {
+pub(crate) fn one_backend(alloc: Global) -> Result<DiscoverySource<Static>, Refusal> {
     let mut backends = BTreeSet::new(alloc);
     backends.insert(Backend::new(alloc, "1.0.0.1:80")?)?;
     Ok(DiscoverySource::Static(Static::new(backends)))
 }
 
 // Two groups of one slot each, of one registry and one gate.
-fn two_groups(alloc: Global) -> Result<(Group, Group), Refusal> {
+pub(crate) fn two_groups(alloc: Global) -> Result<(Group, Group), Refusal> {
     let mut registry = RegistryCore::new(alloc);
     let gate = GateCore::new(alloc)?;
     let first = one_slot(alloc, &mut registry, &gate)?;

@@ -9,3 +9,5 @@ mod groups;
 mod locks;
 #[cfg(test)]
 mod passes;
+#[cfg(test)]
+mod workers;
