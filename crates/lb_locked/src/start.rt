@@ -18,12 +18,7 @@ pub fn start_workers<
     C: HealthCheck + Drop + Send + Sync + 'static,
     W: Threads + Wait + Copy + Send + 'static,
     K: MomentSource + Copy + Send + Drop + 'static,
->(
-    rt: &W,
-    alloc: Global,
-    group: &Arc<SharedGroup<S, R, C>>,
-    clock: K,
-) -> usize
+>(rt: &W, alloc: Global, group: &Arc<SharedGroup<S, R, C>>, clock: K) -> usize
 where
     S::Iter: Send + Sync + 'static,
     S::Config: Send + Sync + 'static,
@@ -45,13 +40,7 @@ fn starts_worker<
     C: HealthCheck + Drop + Send + Sync + 'static,
     W: Threads + Wait + Copy + Send + 'static,
     K: MomentSource + Copy + Send + Drop + 'static,
->(
-    rt: &W,
-    alloc: Global,
-    group: &Arc<SharedGroup<S, R, C>>,
-    slot: usize,
-    clock: K,
-) -> bool
+>(rt: &W, alloc: Global, group: &Arc<SharedGroup<S, R, C>>, slot: usize, clock: K) -> bool
 where
     S::Iter: Send + Sync + 'static,
     S::Config: Send + Sync + 'static,

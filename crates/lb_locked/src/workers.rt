@@ -24,13 +24,13 @@ enum Next {
 
 /// Takes turns at one slot until the group is cancelled and what the slot retired is destroyed and reported.
 /// Between turns with nothing to do the thread sleeps.
-pub fn work<S: BackendSelection, R: KeyRule + Drop, C: HealthCheck + Drop, W: Wait, K: MomentSource>(
-    rt: &W,
-    alloc: Global,
-    group: &SharedGroup<S, R, C>,
-    slot: usize,
-    clock: &mut K,
-) {
+pub fn work<
+    S: BackendSelection,
+    R: KeyRule + Drop,
+    C: HealthCheck + Drop,
+    W: Wait,
+    K: MomentSource,
+>(rt: &W, alloc: Global, group: &SharedGroup<S, R, C>, slot: usize, clock: &mut K) {
     for _ in rt.forever() {
         // What wakes from here on ends the sleep below.
         let seen = group.wakes().seen();
@@ -65,12 +65,7 @@ fn turn_on<
     C: HealthCheck + Drop,
     W: Wait,
     K: MomentSource,
->(
-    alloc: Global,
-    port: &mut LockedPort<'g, 'r, S, R, C, W>,
-    slot: usize,
-    clock: &mut K,
-) -> Next {
+>(alloc: Global, port: &mut LockedPort<'g, 'r, S, R, C, W>, slot: usize, clock: &mut K) -> Next {
     match worker_turn(alloc, port, slot, clock) {
         Ok(Turn::Published(_) | Turn::Abandoned(_) | Turn::Failed) => Next::Turn,
         Ok(Turn::NotDue(moment)) => Next::Sleep(moment.saturating_sub(clock.now())),
@@ -82,14 +77,7 @@ fn turn_on<
 }
 
 // In a cancelled group a worker stays until what its slot retired is no longer read, destroys that and reports it.
-fn last_turn<
-    'g,
-    'r,
-    S: BackendSelection,
-    R: KeyRule + Drop,
-    C: HealthCheck + Drop,
-    W: Wait,
->(
+fn last_turn<'g, 'r, S: BackendSelection, R: KeyRule + Drop, C: HealthCheck + Drop, W: Wait>(
     port: &mut LockedPort<'g, 'r, S, R, C, W>,
     slot: usize,
 ) -> Next {

@@ -159,11 +159,7 @@ fn four_turns<'g, 'r, W: Wait>(
 fn one_gate_for_two_groups(rt: HostRuntime) -> Result<(), Fail> {
     let alloc = rt.alloc();
     let (first, second) = two_groups(alloc)?;
-    let turns = four_turns(
-        alloc,
-        &mut port_to(&first, &rt),
-        &mut port_to(&second, &rt),
-    )?;
+    let turns = four_turns(alloc, &mut port_to(&first, &rt), &mut port_to(&second, &rt))?;
     assert_eq!(rt; turns[0], Turn::Published(1));
     assert_eq!(rt; turns[1], Turn::Busy);
     assert_eq!(rt; turns[2], Turn::Nothing);
