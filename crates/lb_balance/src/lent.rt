@@ -122,14 +122,14 @@ pub struct LentGroupBackends<'a, 'x, S: BackendSelection, D, R, C> {
     pub(crate) health: &'x mut HealthRegistry<R, C>,
 }
 
-impl<
+impl<'a, 'x, S: BackendSelection, D, R: KeyRule + Drop, C: HealthCheck + Drop> LentGroupBackends<
     'a,
     'x,
-    S: BackendSelection,
+    S,
     D,
-    R: KeyRule + Drop,
-    C: HealthCheck + Drop,
-> LentGroupBackends<'a, 'x, S, D, R, C> {
+    R,
+    C,
+> {
     /// The newest generation; 0 before the first membership.
     pub fn generation(&self) -> u64
         ensures { group.After self.now.balancer.now.group (λ made e. result ≡ newest (group_events e)) }
