@@ -52,7 +52,7 @@ impl<S: BackendSelection> RefusedJob<S> {
     }
 }
 
-/// Builds the selector of a job. It runs outside all locks, and may take long.
+/// Builds the selector of a job. It runs outside all locks, and may take long. When it ended `Built::ended_at` is to say.
 ///
 /// # Errors
 ///
