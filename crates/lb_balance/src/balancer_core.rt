@@ -1,14 +1,14 @@
 //! A discovery with one selector, which an update builds: what is served is always the newest generation.
 ghost use Rattle.std.specs.Prelude.{◌≡◌, ◌↔◌, ◌≤◌, ◌+◌, ◌^◌, ◌∷◌, [], List, Ok, Err, None, Some, unwrap_or, IfOk};
 ghost use Rattle.std.specs.Prelude.{IfErr, IsErrOf, IsSome, OnOk, OnErr};
-ghost use Rattle.lb_select.specs.Backends.{Member, same_member};
+ghost use Rattle.lb_select.specs.Backends.{Member};
 ghost use Rattle.lb_select.specs.Loads.{load_in};
 ghost use Rattle.lb_select.specs.Refusals.{memory_apart};
-ghost use Rattle.lb_select.specs.Selections.{Selects};
 ghost use Rattle.lb_registry.specs.Registry.{IsRegistryAfter};
 ghost use Rattle.lb_registry.specs.RegistryEvents.{Event, Applied, Registered, registered_after};
 ghost use Rattle.lb_joined.specs.JoinedCalls.{AcceptsBy, IsMakingRefusal};
-ghost use Rattle.lb_balance.specs.Balancer.{After, Drew, Judges, Stands, members_now};
+ghost use Rattle.lb_balance.specs.Choices.{Chooses};
+ghost use Rattle.lb_balance.specs.Balancer.{After, Drew, Judges, Stands};
 ghost use Rattle.lb_balance.specs.BalancerUpdates.{IsUpdated, IsRefusal};
 
 use crate::moments::MomentSource;
@@ -153,10 +153,8 @@ impl<S: BackendSelection, G: Rng + Drop, D: ServiceDiscovery + Drop> LoadBalance
         key: &[u8],
         max_iterations: usize,
     ) -> Result<Option<Backend>, Refusal>
-        ensures answers { (key_of : Member → Member) (events : List Event) → IsRegistryAfter R.gives key_of events registry.now
-            → After self.old.served (λ e. Selects same_member (Judges key_of events e) max_iterations
-            ⟦<CoreWords<G> as WordSource>⟧.gives (S.walks (members_now e) self.old.served.config key.now) self.old.served.words result
-            self.new.served.words) }
+        ensures answers { Chooses R.gives ⟦<CoreWords<G> as WordSource>⟧.gives S.walks
+            Judges registry.now self.old.served key.now max_iterations result self.new.served }
         ensures stands { After self.old.served (λ e. Stands (Drew self.new.served.words.tickets ∷ e) self.new.served) }
         ensures kept { self.new ≡ record self.old { served = record self.old.served { words = self.new.served.words } } }
     {
@@ -173,10 +171,9 @@ impl<S: BackendSelection, G: Rng + Drop, D: ServiceDiscovery + Drop> LoadBalance
         accept: &F,
     ) -> Result<Option<Backend>, Refusal>
         requires { F.IsAlwaysCallable accept.now }
-        ensures answers { (key_of : Member → Member) (events : List Event) → IsRegistryAfter R.gives key_of events registry.now
-            → After self.old.served (λ e. Selects same_member (AcceptsBy F.Fn accept.now (Judges key_of events e)) max_iterations
-            ⟦<CoreWords<G> as WordSource>⟧.gives (S.walks (members_now e) self.old.served.config key.now) self.old.served.words result
-            self.new.served.words) }
+        ensures answers { Chooses R.gives ⟦<CoreWords<G> as WordSource>⟧.gives S.walks
+            (λ key_of events e. AcceptsBy F.Fn accept.now (Judges key_of events e))
+            registry.now self.old.served key.now max_iterations result self.new.served }
         ensures stands { After self.old.served (λ e. Stands (Drew self.new.served.words.tickets ∷ e) self.new.served) }
         ensures kept { self.new ≡ record self.old { served = record self.old.served { words = self.new.served.words } } }
     {

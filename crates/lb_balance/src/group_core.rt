@@ -14,6 +14,7 @@ ghost use Rattle.lb_joined.specs.Stands.{After, SameSite, Stands};
 ghost use Rattle.lb_balance.specs.GroupUpdates.{IsGroupUpdated, IsGroupRefusal};
 ghost use Rattle.lb_balance.specs.Timings.{selector_timings};
 
+use crate::lent::LentGroupBackends;
 use crate::moments::MomentSource;
 use crate::timings::{SelectorUpdateTimings, UpdateTimings};
 use lb_group::answers::Selection;
@@ -249,6 +250,21 @@ impl<S: BackendSelection, D: ServiceDiscovery + Drop> LoadBalancerGroupCore<S, D
         ensures refused { IsSome registry.old.check → (result ≡ Err Refusal.HealthCheckSet) × (registry.new ≡ registry.old) }
     {
         registry.set_health_check(check)
+    }
+
+    /// The backends, lent with the registry: what is read of them, their flags and the checks.
+    pub fn backends<'a, 'x, R: KeyRule + Drop, C: HealthCheck + Drop>(
+        &'a mut self,
+        registry: &'x mut HealthRegistry<R, C>,
+    ) -> LentGroupBackends<'a, 'x, S, D, R, C>
+        ensures same_references { (result.balancer.ghost_name ≡ self.entry.ghost_name)
+            × (result.health.ghost_name ≡ registry.entry.ghost_name) }
+        ensures same { (result.balancer.now ≡ self.old) × (result.health.now ≡ registry.old) }
+    {
+        LentGroupBackends {
+            balancer: self,
+            health: registry,
+        }
     }
 
     /// How long the last accepted update took; `None` before the first.

@@ -3,17 +3,17 @@
 ghost use Rattle.std.specs.Prelude.{◌≡◌, ◌∷◌, [], ℕ, List, Ok, Err, None, Some, false, unwrap_or, IfOk, IfErr, IsSome, OnOk, OnErr};
 ghost use Rattle.std.specs.Borrow.{Bor};
 ghost use Rattle.std.specs.Iterator.{Drains, IsFinite};
-ghost use Rattle.lb_select.specs.Backends.{Member, same_member};
+ghost use Rattle.lb_select.specs.Backends.{Member};
 ghost use Rattle.lb_select.specs.Loads.{SetsLoad, load_in};
 ghost use Rattle.lb_select.specs.Refusals.{Refuses};
-ghost use Rattle.lb_select.specs.Selections.{Selects};
 ghost use Rattle.lb_registry.specs.Keys.{rule_gives};
 ghost use Rattle.lb_registry.specs.Registry.{IsRegistryAfter};
 ghost use Rattle.lb_registry.specs.RegistryEvents.{Event};
 ghost use Rattle.lb_health.specs.ViewEvents.{ViewEvent, membership_after};
 ghost use Rattle.lb_health.specs.Views.{IsViewAfter};
 ghost use Rattle.lb_joined.specs.JoinedCalls.{AcceptsBy};
-ghost use Rattle.lb_balance.specs.Balancer.{After, Drew, Judges, Stands, Took, members_now};
+ghost use Rattle.lb_balance.specs.Choices.{Chooses};
+ghost use Rattle.lb_balance.specs.Balancer.{After, Drew, Judges, Stands, Took};
 ghost use Rattle.lb_balance.specs.BalancerUpdates.{IsUpdated, IsRefusal};
 ghost use Rattle.lb_balance.specs.Texts.{IsOfTexts, IsTextsRefusal};
 
@@ -193,11 +193,8 @@ impl<
         key: &[u8],
         max_iterations: usize,
     ) -> Result<Option<Backend>, Refusal>
-        ensures answers { (key_of : Member → Member) (events : List Event)
-            → IsRegistryAfter R.gives key_of events self.old.registry.registry
-            → After self.old.core.served (λ e. Selects same_member (Judges key_of events e) max_iterations
-            ⟦<CoreWords<Pcg64> as WordSource>⟧.gives (S.walks (members_now e) self.old.core.served.config key.now)
-            self.old.core.served.words result self.new.core.served.words) }
+        ensures answers { Chooses R.gives ⟦<CoreWords<Pcg64> as WordSource>⟧.gives S.walks
+            Judges self.old.registry.registry self.old.core.served key.now max_iterations result self.new.core.served }
         ensures stands { After self.old.core.served (λ e. Stands (Drew self.new.core.served.words.tickets ∷ e) self.new.core.served) }
         ensures kept { self.new ≡ record self.old {
           core = record self.old.core {
@@ -220,11 +217,9 @@ impl<
         accept: &F,
     ) -> Result<Option<Backend>, Refusal>
         requires { F.IsAlwaysCallable accept.now }
-        ensures answers { (key_of : Member → Member) (events : List Event)
-            → IsRegistryAfter R.gives key_of events self.old.registry.registry
-            → After self.old.core.served (λ e. Selects same_member (AcceptsBy F.Fn accept.now (Judges key_of events e)) max_iterations
-            ⟦<CoreWords<Pcg64> as WordSource>⟧.gives (S.walks (members_now e) self.old.core.served.config key.now)
-            self.old.core.served.words result self.new.core.served.words) }
+        ensures answers { Chooses R.gives ⟦<CoreWords<Pcg64> as WordSource>⟧.gives S.walks
+            (λ key_of events e. AcceptsBy F.Fn accept.now (Judges key_of events e))
+            self.old.registry.registry self.old.core.served key.now max_iterations result self.new.core.served }
         ensures stands { After self.old.core.served (λ e. Stands (Drew self.new.core.served.words.tickets ∷ e) self.new.core.served) }
         ensures kept { self.new ≡ record self.old {
           core = record self.old.core {

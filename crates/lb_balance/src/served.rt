@@ -3,10 +3,9 @@ ghost use Rattle.std.specs.Prelude.{◌≡◌, ◌↔◌, ◌≤◌, ◌+◌, �
 ghost use Rattle.std.specs.Prelude.{IfOk, IfErr, IsErrOf, OnOk, OnErr};
 ghost use Rattle.std.specs.Arc.{arc_value};
 ghost use Rattle.std.specs.Option.{option_or};
-ghost use Rattle.lb_select.specs.Backends.{Member, same_member};
+ghost use Rattle.lb_select.specs.Backends.{Member};
 ghost use Rattle.lb_select.specs.Refusals.{Refuses, memory_apart};
 ghost use Rattle.lb_select.specs.Loads.{SetsLoad, load_in};
-ghost use Rattle.lb_select.specs.Selections.{Selects};
 ghost use Rattle.lb_select.specs.Memberships.{same_members};
 ghost use Rattle.lb_registry.specs.Registry.{IsRegistryAfter};
 ghost use Rattle.lb_registry.specs.RegistryEvents.{Event, Applied, Registered, registered_after};
@@ -15,6 +14,7 @@ ghost use Rattle.lb_health.specs.Joined.{registry_updated, settings_of};
 ghost use Rattle.lb_health.specs.ViewEvents.{ViewEvent, generation_after, membership_after};
 ghost use Rattle.lb_health.specs.Views.{IsViewAfter};
 ghost use Rattle.lb_joined.specs.JoinedCalls.{AcceptsBy, IsMakingRefusal};
+ghost use Rattle.lb_balance.specs.Choices.{Chooses};
 ghost use Rattle.lb_balance.specs.Balancer.{After, Drew, History, IsJudged, Judges, Set, Stands, Took, members_now, update_cause};
 ghost use Rattle.lb_balance.specs.Balancer.{updated, view_cause, view_events};
 ghost use Rattle.lb_balance.specs.Timings.{Reads};
@@ -266,9 +266,9 @@ impl<S: BackendSelection, G: Rng + Drop> Served<S, G> {
         accept: &F,
     ) -> Result<Option<Backend>, Refusal>
         requires { F.IsAlwaysCallable accept.now }
-        ensures answers { (key_of : Member → Member) (events : List Event) → IsRegistryAfter R.gives key_of events registry.now
-            → After self.old (λ e. Selects same_member (AcceptsBy F.Fn accept.now (Judges key_of events e)) max_iterations
-            ⟦<CoreWords<G> as WordSource>⟧.gives (S.walks (members_now e) self.old.config key.now) self.old.words result self.new.words) }
+        ensures answers { Chooses R.gives ⟦<CoreWords<G> as WordSource>⟧.gives S.walks
+            (λ key_of events e. AcceptsBy F.Fn accept.now (Judges key_of events e))
+            registry.now self.old key.now max_iterations result self.new }
         ensures stands { After self.old (λ e. Stands (Drew self.new.words.tickets ∷ e) self.new) }
         ensures kept { self.new ≡ record self.old { words = self.new.words } }
     {
@@ -295,9 +295,8 @@ impl<S: BackendSelection, G: Rng + Drop> Served<S, G> {
         key: &[u8],
         max_iterations: usize,
     ) -> Result<Option<Backend>, Refusal>
-        ensures answers { (key_of : Member → Member) (events : List Event) → IsRegistryAfter R.gives key_of events registry.now
-            → After self.old (λ e. Selects same_member (Judges key_of events e) max_iterations
-            ⟦<CoreWords<G> as WordSource>⟧.gives (S.walks (members_now e) self.old.config key.now) self.old.words result self.new.words) }
+        ensures answers { Chooses R.gives ⟦<CoreWords<G> as WordSource>⟧.gives S.walks
+            Judges registry.now self.old key.now max_iterations result self.new }
         ensures stands { After self.old (λ e. Stands (Drew self.new.words.tickets ∷ e) self.new) }
         ensures kept { self.new ≡ record self.old { words = self.new.words } }
     {

@@ -474,6 +474,16 @@ impl<S: BackendSelection> GroupCore<S> {
             .select_with(alloc, slot, key, limit, random, loads, &judged)
     }
 
+    /// Whether a backend is ready in the newest membership. It takes no memory.
+    pub fn newest_ready<R: KeyRule + Drop>(&self, registry: &Registry<R>, backend: &Backend) -> bool
+        ensures { (key_of : Member → Member) (events : List Event) → IsRegistryAfter R.gives key_of events registry.now
+            → After self.now (λ made e. IsTrue result
+            ↔ IsReady key_of (views_of made e) events (newest_after (group_events e)) backend.now) }
+    {
+        let newest = self.group.newest();
+        self.view.ready_in(registry, newest, backend)
+    }
+
     /// Enables or disables a backend that a living snapshot lists, by identity; another is left alone. It takes no memory.
     pub fn set_enable(&mut self, backend: &Backend, enabled: bool)
         ensures stands { Becomes self.old (Set backend.now enabled ∷ []) self.new }

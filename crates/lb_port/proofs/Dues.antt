@@ -19,6 +19,7 @@ use Rattle.lb_group.specs.declared.answers.Told.TheVariants as told
 use Rattle.lb_group.proofs.Pasts.{past-same, newest-past, cancelled-past, lt-false}
 use Rattle.lb_joined.specs.JoinedHistory.{History, At, group_events, in_group}
 use Rattle.lb_joined.specs.Stands.{JoinedValue, Stands, After, Becomes}
+use Rattle.lb_port.specs.Builds.{RefusedValue}
 use Rattle.lb_port.specs.Due.{IsDue, IsLate, EndsTurn}
 use Rattle.lb_port.specs.Plain.{IsTaken, IsAsked, IsPublished}
 use Rattle.lb_port.specs.Through.{Publishes, Fails, Answered, Asks, Clears, Turned, turn_of}
@@ -43,13 +44,13 @@ module _ {S I C K P : Type 0} (refuses : List Member → C → Option Refusal) (
     (core_of : P → JoinedValue C) (gate_of : P → GateView)
     (taken : P → ℕ → Result RetiredValue Refusal → P → Type 0) (reported : P → ℕ → PermitValue → P → Type 0)
     (asked : P → ℕ → ℕ → Result (Ask S I C) Refusal → P → Type 0)
-    (published : P → BuiltValue C → Told → P → Type 0) (failed : P → Task C → ℕ → P → Type 0)
+    (published : P → BuiltValue C → Told → P → Type 0) (failed : P → RefusedValue C → ℕ → P → Type 0)
     (taken_is : (p : P) (s : ℕ) (a : Result RetiredValue Refusal) (q : P) → taken p s a q → IsTaken (core_of p) s a (core_of q) × (gate_of q ≡ gate_of p))
     (asked_is : (p : P) (s now : ℕ) (a : Result (Ask S I C) Refusal) (q : P) → asked p s now a q
     → IsAsked (core_of p) (gate_of p) s now a (core_of q) (gate_of q))
     (published_is : (p : P) (b : BuiltValue C) (u : Told) (q : P) → published p b u q → IsPublished (core_of p) b u (core_of q))
-    (failed_is : (p : P) (j : Task C) (now : ℕ) (q : P) → failed p j now q
-    → Becomes (core_of p) (in_group (core.At j.slot (core.Failed now j.members) ∷ [])) (core_of q))
+    (failed_is : (p : P) (r : RefusedValue C) (now : ℕ) (q : P) → failed p r now q
+    → Becomes (core_of p) (in_group (core.At r.task.slot (core.Failed now r.task.members) ∷ [])) (core_of q))
     (slot : ℕ) where
   module _ (made : Made C) (e : History) (due : IsDue made e slot) where
     abbrev Events : core.History
@@ -81,10 +82,11 @@ module _ {S I C K P : Type 0} (refuses : List Member → C → Option Refusal) (
             rw (past-same slot (core.Published end j.members) h, past-same slot (Granted now) Events) (newest-past slot Events),
           ),
         )
-    flown j now p q k l t is s (inr (end, m, out, what)) =
+    flown j now p q k l t is s (inr (end, m, r, out, same, cause, what)) =
         let h : core.History = core.At slot (Granted now) ∷ Events in
         let stands : Stands made (At j.slot (core.Failed end j.members) ∷ At slot (Granted now) ∷ e) (core_of q) =
-        failed_is p j end q out made (At slot (Granted now) ∷ e) s in (
+        subst (λ (x : Task C). Stands made (At x.slot (core.Failed end x.members) ∷ At slot (Granted now) ∷ e) (core_of q)) same
+        (failed_is p r end q out made (At slot (Granted now) ∷ e) s) in (
           At slot (core.Failed end j.members) ∷ At slot (Granted now) ∷ e,
           subst (λ (x : ℕ). Stands made (At x (core.Failed end j.members) ∷ At slot (Granted now) ∷ e) (core_of q)) is.place stands,
           refl,

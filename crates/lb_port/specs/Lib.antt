@@ -1,3 +1,4 @@
+pub mod Builds
 pub mod Calls
 pub mod Due
 pub mod Found

@@ -10,6 +10,7 @@ use Rattle.lb_group.specs.declared.answers.Ask.TheVariants as asks
 use Rattle.lb_group.specs.declared.answers.Told.{Told}
 use Rattle.lb_group.specs.declared.answers.Told.TheVariants as told
 use Rattle.lb_group.specs.declared.schedule.Scheduled.{Scheduled}
+use Rattle.lb_port.specs.Builds.{RefusedValue, IsCauseOf}
 use Rattle.lb_port.specs.Calls.{owed_of}
 use Rattle.lb_port.specs.declared.turn.Turn.{Turn}
 use Rattle.lb_port.specs.declared.turn.Turn.TheVariants as turn
@@ -62,16 +63,18 @@ turn_of (told.Abandoned n) = turn.Abandoned n
 module _ {S I C K P : Type 0} (refuses : List Member → C → Option Refusal) (reads : K → ℕ → K → Type 0)
     (taken : P → ℕ → Result RetiredValue Refusal → P → Type 0) (reported : P → ℕ → PermitValue → P → Type 0)
     (asked : P → ℕ → ℕ → Result (Ask S I C) Refusal → P → Type 0)
-    (published : P → BuiltValue C → Told → P → Type 0) (failed : P → Task C → ℕ → P → Type 0) (slot : ℕ) where
+    (published : P → BuiltValue C → Told → P → Type 0) (failed : P → RefusedValue C → ℕ → P → Type 0) (slot : ℕ) where
   -- the job was built, which ended at the next reading, and was published
   abbrev pub Publishes : Task C → P → K → Turn → P → K → Type 0
   Publishes j p k t q l =
       (refuses j.members j.config ≡ None) × (end : ℕ) × reads k end l
       × (u : Told) × published p (record { task = j; ended = end }) u q × (t ≡ turn_of u)
 
-  -- the job failed at the next reading
+  -- its build was refused, and the job failed at the next reading
   abbrev pub Fails : Task C → P → K → Turn → P → K → Type 0
-  Fails j p k t q l = (end : ℕ) × reads k end l × failed p j end q × (t ≡ turn.Failed)
+  Fails j p k t q l =
+      (end : ℕ) × reads k end l × (r : RefusedValue C) × failed p r end q
+      × (r.task ≡ j) × IsCauseOf refuses j r.refusal × (t ≡ turn.Failed)
 
   -- the turn ends as it stood
   abbrev pub Ends : Result Turn Refusal → P → K → Result Turn Refusal → P → K → Type 0

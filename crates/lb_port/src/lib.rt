@@ -2,6 +2,7 @@
 //! The plain group with its registry and its gate is one; threads and locks come above.
 #![tactic(auto)]
 
+pub mod build;
 pub mod plain;
 mod plain_calls;
 pub mod port;

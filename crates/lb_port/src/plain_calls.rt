@@ -10,12 +10,13 @@ ghost use Rattle.lb_joined.specs.Stands.{After};
 ghost use Rattle.lb_port.specs.Due.{EndsTurn, IsDue, IsLate};
 ghost use Rattle.lb_port.specs.PlainLaws.{drawn_keeps};
 
+use crate::build::RefusedJob;
 use crate::plain::PlainPort;
 use crate::port::{GroupPort, TakesBack};
 use crate::turn::{Turn, worker_turn};
 use lb_balance::moments::MomentSource;
 use lb_group::answers::{Ask, Told};
-use lb_group::job::{Built, Job};
+use lb_group::job::Built;
 use lb_group::retired::{OwedPermit, Reader, Retired};
 use lb_group::schedule::Scheduled;
 use lb_health::view::Settings;
@@ -54,17 +55,17 @@ impl<'c, 'x, 'g, 'w, 'l, S: BackendSelection, R: KeyRule + Drop, G: Rng> PlainPo
 }
 
 impl<'c, 'x, 'g, 'w, 'l, S: BackendSelection, R: KeyRule + Drop, G: Rng> TakesBack<
-    Job<S>,
+    RefusedJob<S>,
     Built<S>,
     Reader<S>,
 > for PlainPort<'c, 'x, 'g, 'w, 'l, S, R, G> {
-    ghost owns_job = { λ p t. OwnsJob p.core.now t };
+    ghost owns_refused = { λ p r. OwnsJob p.core.now r.task };
 
     ghost owns_built = { λ p b. OwnsJob p.core.now b.task };
 
     ghost owns_reader = { λ p r. OwnsReader p.core.now r };
 
-    ghost failed = { λ p j now q. IsFailed R.gives p.core.now p.registry.now p.gate.now j now q.core.now q.registry.now q.gate.now
+    ghost failed = { λ p r now q. IsFailed R.gives p.core.now p.registry.now p.gate.now r.task now q.core.now q.registry.now q.gate.now
         × (q.generator.now ≡ p.generator.now) × SameLent p q };
 
     ghost published = { λ p b t q. IsPublished p.core.now b t q.core.now
@@ -75,8 +76,11 @@ impl<'c, 'x, 'g, 'w, 'l, S: BackendSelection, R: KeyRule + Drop, G: Rng> TakesBa
         × (q.registry.now ≡ p.registry.now) × (q.gate.now ≡ p.gate.now)
         × (q.generator.now ≡ p.generator.now) × SameLent p q };
 
-    fn fail(&mut self, job: Job<S>, now: u128) {
-        match self.core.fail(job, self.registry, self.gate, now) {
+    fn fail(&mut self, refused: RefusedJob<S>, now: u128) {
+        match self
+            .core
+            .fail(refused.into_job(), self.registry, self.gate, now)
+        {
             Ok(()) => {}
             Err(_job) => unreachable!(),
         }
@@ -99,6 +103,8 @@ impl<'c, 'x, 'g, 'w, 'l, S: BackendSelection, R: KeyRule + Drop, G: Rng> TakesBa
 
 impl<'c, 'x, 'g, 'w, 'l, S: BackendSelection, R: KeyRule + Drop, G: Rng> GroupPort<S>
     for PlainPort<'c, 'x, 'g, 'w, 'l, S, R, G> {
+    ghost owns_job = { λ p t. OwnsJob p.core.now t };
+
     ghost scheduled = { λ p ms settings now r q. IsScheduled R.gives p.core.now p.registry.now ms settings now r q.core.now q.registry.now
         × (q.gate.now ≡ p.gate.now)
         × (q.generator.now ≡ p.generator.now) × SameLent p q };
@@ -182,4 +188,6 @@ impl<'c, 'x, 'g, 'w, 'l, S: BackendSelection, R: KeyRule + Drop, G: Rng> GroupPo
     ghost readies_keep = { λ p r b a q told own. subst (λ v. OwnsReader v r) (sym told.1) own };
 
     ghost built_of = { λ p t ended own. own };
+
+    ghost refused_of = { λ p t e own. own };
 }

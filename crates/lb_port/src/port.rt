@@ -9,10 +9,12 @@ ghost use Rattle.lb_group.specs.Values.{Task, BuiltValue, RetiredValue, PermitVa
 ghost use Rattle.lb_group.specs.declared.answers.Ask.{Ask};
 ghost use Rattle.lb_group.specs.declared.answers.Told.{Told};
 ghost use Rattle.lb_group.specs.declared.schedule.Scheduled.{Scheduled};
+ghost use Rattle.lb_port.specs.Builds.{refused_build};
 ghost use Rattle.lb_port.specs.Calls.{IfJob, owed_of, ticket_drawn, random_drawn, load_drawn};
 
+use crate::build::RefusedJob;
 use lb_group::answers::{Ask, Told};
-use lb_group::job::{Built, Job};
+use lb_group::job::Built;
 use lb_group::retired::{OwedPermit, Reader, Retired};
 use lb_group::schedule::Scheduled;
 use lb_health::view::Settings;
@@ -22,10 +24,10 @@ use lb_select::walk::BackendSelection;
 use std::alloc::Global;
 use std::collections::BTreeSet;
 
-/// What takes jobs, built selectors and readers back, each of which it gave out itself.
+/// What takes refused jobs, built selectors and readers back, each of which it gave out itself.
 pub trait TakesBack<J, B, R> {
     // Which of them are its own.
-    ghost owns_job: { Self → J → Type 0 };
+    ghost owns_refused: { Self → J → Type 0 };
 
     ghost owns_built: { Self → B → Type 0 };
 
@@ -38,10 +40,10 @@ pub trait TakesBack<J, B, R> {
 
     ghost left: { Self → R → Self → Type 0 };
 
-    /// Takes back a job that failed at the moment `now`.
-    fn fail(&mut self, job: J, now: u128)
-        requires { owns_job self.old job }
-        ensures { failed self.old job now self.new };
+    /// Takes back a job whose build was refused, at the moment `now`.
+    fn fail(&mut self, refused: J, now: u128)
+        requires { owns_refused self.old refused }
+        ensures { failed self.old refused now self.new };
 
     /// Takes a selector that was built, to be served where it is still wanted.
     fn publish(&mut self, built: B) -> Told
@@ -55,7 +57,10 @@ pub trait TakesBack<J, B, R> {
 }
 
 /// The calls of a group with its registry and its gate. No lock is held between two of them.
-pub trait GroupPort<S: BackendSelection>: TakesBack<Job<S>, Built<S>, Reader<S>> {
+pub trait GroupPort<S: BackendSelection>: TakesBack<RefusedJob<S>, Built<S>, Reader<S>> {
+    // Which jobs are its own.
+    ghost owns_job: { Self → Task S.Config → Type 0 };
+
     // Port before, members, settings, moment, answer, port after; and so on for each call.
     ghost scheduled: { Self → List Member → List (Member × Bool) → ℕ → Result Scheduled Refusal → Self → Type 0 };
 
@@ -87,7 +92,7 @@ pub trait GroupPort<S: BackendSelection>: TakesBack<Job<S>, Built<S>, Reader<S>>
     /// Asks for the build that a slot needs next.
     fn ask(&mut self, slot: usize, now: u128) -> Result<Ask<S>, Refusal>
         ensures answer { asked self.old slot now result self.new }
-        ensures own { IfJob result (λ j. Self.owns_job self.new j) };
+        ensures own { IfJob result (λ j. owns_job self.new j) };
 
     /// Enters the selector that a slot serves.
     fn enter(&mut self, slot: usize) -> Result<Reader<S>, Refusal>
@@ -129,6 +134,9 @@ pub trait GroupPort<S: BackendSelection>: TakesBack<Job<S>, Built<S>, Reader<S>>
         → Self.owns_reader p r → Self.owns_reader q r };
 
     // What is built of a job of its own is its own too, whenever the build ended.
-    ghost built_of: { (p : Self) (t : Task S.Config) (ended : ℕ) → Self.owns_job p t
+    ghost built_of: { (p : Self) (t : Task S.Config) (ended : ℕ) → owns_job p t
         → Self.owns_built p (record { task = t; ended = ended }) };
+
+    // And so is a job whose build was refused.
+    ghost refused_of: { (p : Self) (t : Task S.Config) (e : Refusal) → owns_job p t → Self.owns_refused p (refused_build t e) };
 }

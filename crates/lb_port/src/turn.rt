@@ -1,10 +1,10 @@
 //! A worker's turn at one slot: a retired selector is destroyed, and the build that is due runs, outside all locks.
 ghost use Rattle.lb_port.specs.Through.{Turned};
 
+use crate::build::build;
 use crate::port::GroupPort;
 use lb_balance::moments::MomentSource;
 use lb_group::answers::{Ask, Told};
-use lb_group::job::FailedBuild;
 use lb_select::refusal::Refusal;
 use lb_select::walk::BackendSelection;
 use std::alloc::Global;
@@ -31,7 +31,8 @@ pub enum Turn {
 }
 
 /// Destroys and reports the slot's retired selector where it could be taken, asks for the next build, and publishes what was
-/// built, or fails its job at the moment after. The clock is read once before the ask, and once after a build.
+/// built, or fails its job at the moment after where that build was refused. The clock is read once before the ask, and once after a
+/// build.
 ///
 /// # Errors
 ///
@@ -60,7 +61,7 @@ pub fn worker_turn<S: BackendSelection, P: GroupPort<S>, K: MomentSource>(
         Ask::Nothing => Ok(Turn::Nothing),
         Ask::NotDue(moment) => Ok(Turn::NotDue(moment)),
         Ask::Busy => Ok(Turn::Busy),
-        Ask::Job(job) => match job.build(alloc, || 0) {
+        Ask::Job(job) => match build(alloc, job) {
             Ok(built) => {
                 let end = clock.now();
                 match port.publish(built.ended_at(end)) {
@@ -68,9 +69,9 @@ pub fn worker_turn<S: BackendSelection, P: GroupPort<S>, K: MomentSource>(
                     Told::Abandoned(generation) => Ok(Turn::Abandoned(generation)),
                 }
             }
-            Err(FailedBuild { job, refusal: _ }) => {
+            Err(refused) => {
                 let end = clock.now();
-                port.fail(job, end);
+                port.fail(refused, end);
                 Ok(Turn::Failed)
             }
         },

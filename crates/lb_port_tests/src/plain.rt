@@ -1,4 +1,6 @@
 //! A plain group of one slot that takes its backends in turn, driven through its port. The clock goes on by five at each reading.
+//! What the port is lent has its owner in the test, and the row is a function that it is lent to: an owner drops it after each call that
+//! may be refused, which is slow to prove.
 ghost use Rattle.std.specs.Prelude.{◌≡◌};
 
 use lb_balance::moments::MomentSource;
@@ -18,7 +20,7 @@ use lb_weighted::selection::RoundRobin;
 use rand_pcg::Pcg64;
 use std::alloc::Global;
 use std::collections::BTreeSet;
-use std::test::Fail;
+use std::process::Abort;
 
 type Port<'c, 'x, 'g, 'w, 'l> = PlainPort<'c, 'x, 'g, 'w, 'l, RoundRobin, Rule<ByNumber>, Pcg64>;
 
@@ -44,13 +46,15 @@ fn one_backend(alloc: Global, address: &str) -> Result<DiscoverySource<Static>, 
     Ok(DiscoverySource::Static(Static::new(backends)))
 }
 
-fn update<'c, 'x, 'g, 'w, 'l>(
+// The newest generation after an update by a discovery of the backend at that address.
+fn updated<'c, 'x, 'g, 'w, 'l>(
     alloc: Global,
     port: &mut Port<'c, 'x, 'g, 'w, 'l>,
-    discovery: &DiscoverySource<Static>,
+    address: &str,
     clock: &mut Ticks,
 ) -> Result<u64, Refusal> {
-    update_through(alloc, port, discovery, clock)
+    let discovery = one_backend(alloc, address)?;
+    update_through(alloc, port, &discovery, clock)
 }
 
 fn turn<'c, 'x, 'g, 'w, 'l>(
@@ -62,8 +66,8 @@ fn turn<'c, 'x, 'g, 'w, 'l>(
     worker_turn(alloc, port, slot, clock)
 }
 
-// Selects the first ready one of a slot.
-fn select<'c, 'x, 'g, 'w, 'l>(
+// The first ready one of a slot.
+fn selected<'c, 'x, 'g, 'w, 'l>(
     alloc: Global,
     port: &mut Port<'c, 'x, 'g, 'w, 'l>,
     slot: usize,
@@ -78,9 +82,74 @@ fn select<'c, 'x, 'g, 'w, 'l>(
     )
 }
 
-#[test]
-fn turns_of_a_plain_group(rt: HostRuntime) -> Result<(), Fail> {
-    let alloc = rt.alloc();
+// Whether it is the backend at that address.
+fn selects<'c, 'x, 'g, 'w, 'l>(
+    alloc: Global,
+    port: &mut Port<'c, 'x, 'g, 'w, 'l>,
+    slot: usize,
+    address: &str,
+) -> Result<bool, Refusal> {
+    let selected = selected(alloc, port, slot)?;
+    Ok(selected == Some(Backend::new(alloc, address)?))
+}
+
+fn selects_none<'c, 'x, 'g, 'w, 'l>(
+    alloc: Global,
+    port: &mut Port<'c, 'x, 'g, 'w, 'l>,
+    slot: usize,
+) -> bool {
+    matches!(selected(alloc, port, slot), Ok(None))
+}
+
+fn turns<'c, 'x, 'g, 'w, 'l>(
+    alloc: Global,
+    port: &mut Port<'c, 'x, 'g, 'w, 'l>,
+    clock: &mut Ticks,
+    rt: &impl Abort,
+) -> Result<(), Refusal> {
+    assert!(rt; selects_none(alloc, port, 0));
+    assert_eq!(rt; updated(alloc, port, "1.0.0.1:80", clock)?, 1);
+    assert_eq!(rt; turn(alloc, port, 0, clock)?, Turn::Published(1));
+    assert_eq!(rt; turn(alloc, port, 0, clock)?, Turn::Nothing);
+    assert!(rt; selects(alloc, port, 0, "1.0.0.1:80")?);
+    assert!(rt; selects_none(alloc, port, 1));
+    assert_eq!(rt; turn(alloc, port, 1, clock), Err(Refusal::NoSuch));
+    assert_eq!(rt; updated(alloc, port, "1.0.0.1:80", clock)?, 1);
+    assert_eq!(rt; updated(alloc, port, "1.0.0.2:80", clock)?, 2);
+    assert_eq!(rt; turn(alloc, port, 0, clock)?, Turn::Published(2));
+    Ok(())
+}
+
+// Backends whose weights sum to more than a selector takes.
+fn too_heavy(alloc: Global) -> Result<DiscoverySource<Static>, Refusal> {
+    let mut backends = BTreeSet::new(alloc);
+    backends.insert(Backend::new_with_weight(alloc, "1.0.0.1:80", usize::MAX)?)?;
+    backends.insert(Backend::new(alloc, "1.0.0.2:80")?)?;
+    Ok(DiscoverySource::Static(Static::new(backends)))
+}
+
+fn refused_turns<'c, 'x, 'g, 'w, 'l>(
+    alloc: Global,
+    port: &mut Port<'c, 'x, 'g, 'w, 'l>,
+    clock: &mut Ticks,
+    rt: &impl Abort,
+) -> Result<(), Refusal> {
+    let heavy = too_heavy(alloc)?;
+    assert_eq!(rt; update_through(alloc, port, &heavy, clock)?, 1);
+    assert_eq!(rt; turn(alloc, port, 0, clock)?, Turn::Failed);
+    assert_eq!(rt; turn(alloc, port, 0, clock)?, Turn::NotDue(10_000_025));
+    Ok(())
+}
+
+// The rows, each as the test of its name tells it.
+#[derive(Drop)]
+enum Row {
+    Turns,
+    RefusedTurns,
+}
+
+// Plays a row on a new group of one slot.
+fn played(alloc: Global, rt: &impl Abort, row: Row) -> Result<(), Refusal> {
     let mut registry = RegistryCore::new(alloc);
     let mut gate = GateCore::new(alloc)?;
     let mut configs = Vec::new(alloc);
@@ -96,20 +165,19 @@ fn turns_of_a_plain_group(rt: HostRuntime) -> Result<(), Fail> {
         generator: &mut generator,
         loads: &loads,
     };
-    let first = one_backend(alloc, "1.0.0.1:80")?;
-    assert!(rt; matches!(select(alloc, &mut port, 0), Ok(None)));
-    assert_eq!(rt; update(alloc, &mut port, &first, &mut clock)?, 1);
-    assert_eq!(rt; turn(alloc, &mut port, 0, &mut clock)?, Turn::Published(1));
-    assert_eq!(rt; turn(alloc, &mut port, 0, &mut clock)?, Turn::Nothing);
-    assert_eq!(rt;
-        select(alloc, &mut port, 0)?,
-        Some(Backend::new(alloc, "1.0.0.1:80")?)
-    );
-    assert!(rt; matches!(select(alloc, &mut port, 1), Ok(None)));
-    assert!(rt; matches!(turn(alloc, &mut port, 1, &mut clock), Err(Refusal::NoSuch)));
-    assert_eq!(rt; update(alloc, &mut port, &first, &mut clock)?, 1);
-    let second = one_backend(alloc, "1.0.0.2:80")?;
-    assert_eq!(rt; update(alloc, &mut port, &second, &mut clock)?, 2);
-    assert_eq!(rt; turn(alloc, &mut port, 0, &mut clock)?, Turn::Published(2));
-    Ok(())
+    match row {
+        Row::Turns => turns(alloc, &mut port, &mut clock, rt),
+        Row::RefusedTurns => refused_turns(alloc, &mut port, &mut clock, rt),
+    }
+}
+
+#[test]
+fn turns_of_a_plain_group(rt: HostRuntime) {
+    assert_eq!(rt; played(rt.alloc(), &rt, Row::Turns), Ok(()));
+}
+
+// A build that is refused fails its job, and the next one is due ten milliseconds later.
+#[test]
+fn turns_of_refused_builds(rt: HostRuntime) {
+    assert_eq!(rt; played(rt.alloc(), &rt, Row::RefusedTurns), Ok(()));
 }

@@ -17,7 +17,7 @@ pub mod world;
 pub use background::HealthCheckService;
 pub use lb_balance::balancer_core::LoadBalancerCore;
 pub use lb_balance::group_core::LoadBalancerGroupCore;
-pub use lb_balance::lent::LentBackends;
+pub use lb_balance::lent::{LentBackends, LentGroupBackends};
 pub use lb_balance::load_balancer::LoadBalancer;
 pub use lb_balance::moments::MomentSource;
 pub use lb_balance::served::Served;

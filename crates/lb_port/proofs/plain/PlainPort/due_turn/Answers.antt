@@ -16,7 +16,7 @@ returns g c =
     × (q.generator.now ≡ p.generator.now) × SameLent p q)
     (λ p b t q. IsPublished p.core.now b t q.core.now × (q.registry.now ≡ p.registry.now) × (q.gate.now ≡ p.gate.now)
     × (q.generator.now ≡ p.generator.now) × SameLent p q)
-    (λ p j now q. IsFailed gives p.core.now p.registry.now p.gate.now j now q.core.now q.registry.now q.gate.now
+    (λ p r now q. IsFailed gives p.core.now p.registry.now p.gate.now r.task now q.core.now q.registry.now q.gate.now
     × (q.generator.now ≡ p.generator.now) × SameLent p q)
-    (λ p x a q is. (is.0, is.2)) (λ p x now a q is. is.0) (λ p b u q is. is.0) (λ p j now q is. is.0.0)
+    (λ p x a q is. (is.0, is.2)) (λ p x now a q is. is.0) (λ p b u q is. is.0) (λ p r now q is. is.0.0)
     c.args.slot c.args.self.now c.worker_turn.new.port c.args.clock.now c.worker_turn.new.clock c.worker_turn.result c.requires.due c.requires.free c.worker_turn.ensures
