@@ -11,10 +11,10 @@ ghost use Rattle.lb_group.specs.GroupHistory.{served as served_after, is_cancell
 ghost use Rattle.lb_group.specs.GroupHistory.{waits as waits_after, readers as readers_after};
 ghost use Rattle.lb_group.specs.Flights.{flight_after};
 ghost use Rattle.lb_group.specs.Values.{configs_of};
-ghost use Rattle.lb_group.specs.Stands.{Made, After as AfterGroup, counts_after};
+ghost use Rattle.lb_group.specs.Stands.{Made, StandsFor, After as AfterGroup, counts_after};
 ghost use Rattle.lb_group.specs.GroupCalls.{IsOwnJob, Asks, ask_events, gate_after, Fails, fail_events, gate_back, Publishes};
 ghost use Rattle.lb_group.specs.GroupCalls.{publish_events, Abandons, abandon_events, Unless, lose_refusal, done_at, Enters, Leaves};
-ghost use Rattle.lb_group.specs.GroupCalls.{is_change, schedule_refusal, Prepares, FitsIfThere};
+ghost use Rattle.lb_group.specs.GroupCalls.{is_change, schedule_events, schedule_refusal, Prepares, FitsIfThere};
 ghost use Rattle.lb_group.specs.GroupCalls.{Takes, Reports, at_slot, SelectsIn, select_events, IsTicket, ticket_events};
 ghost use Rattle.lb_health.specs.Joined.{IsReady, settings_of, registry_updated};
 ghost use Rattle.lb_health.specs.ViewEvents.{Held};
@@ -154,6 +154,8 @@ impl<S: BackendSelection> GroupCore<S> {
         ensures stands { OnOk result ((key_of : Member → Member) (events : List Event) → IsRegistryAfter R.gives key_of events registry.old
             → After self.old (λ made e. Stands made
             (after_schedule key_of self.old.view.id discovered.keys (settings_of settings.entries) now events e) self.new)) }
+        ensures group { IfOk result (λ s. After self.old (λ made e. StandsFor made
+            (schedule_events discovered.keys now (Ok s) ++ group_events e) self.new.group)) }
         ensures registry { OnOk result ((key_of : Member → Member) (events : List Event)
             → IsRegistryAfter R.gives key_of events registry.old
             → After self.old (λ made e. IsRegistryAfter R.gives key_of

@@ -1,5 +1,5 @@
 -- A membership reaches group and view, or neither.
-use Rattle.std.proofs.Common.{◌≡◌, ◌≤◌, ◌+◌, ◌^◌, ◌&&◌, ◌==◌, ◌∙◌, ◌∷◌, refl, ap, sym, subst, Bool, true, false, not, List, length, Option, Some, None, rules, arith, Result, Ok, Err, if◌then◌else◌}
+use Rattle.std.proofs.Common.{◌≡◌, ◌≤◌, ◌+◌, ◌^◌, ◌&&◌, ◌==◌, ◌∙◌, [], ◌∷◌, ◌++◌, refl, ap, sym, subst, Bool, true, false, not, List, length, Option, Some, None, rules, arith, Result, Ok, Err, if◌then◌else◌}
 use Rattle.std.proofs.lemmas.Bool.{false≢true, eq-eqb}
 use Rattle.std.specs.Prelude.{◌≢◌}
 use Rattle.lb_select.specs.Backends.{Member}
@@ -87,6 +87,18 @@ returns-in-Some-clause-stands g c key_of events r made e s =
     (c.in_ok-update.ensures.view key_of (views_of made e) events seen r) in
     schedules made e c.args.discovered.keys (shown_cells key_of c.args.self.now.view.id c.args.discovered.keys events) (settings_of c.args.settings.entries) c.args.now true c.commit.new.self c.update.new.self s.few change.0
     after now
+
+pub returns-in-None-clause-group : goal.returns-in-None-clause-group
+returns-in-None-clause-group g c made e s = group-part made e _ _ _ c.self.view_is s
+
+pub returns-in-Some-clause-group : goal.returns-in-Some-clause-group
+returns-in-Some-clause-group g c made e s =
+    let own = group-part made e _ _ _ c.self.view_is s in
+    let change = some-change made (group_events e) c.args.discovered.keys c.in_ok-prepared.prepared c.in-Some.prepared c.in-Some.is (c.in_ok-prepared.ensures.answers made (group_events e) own) in
+    let after : StandsFor made (Scheduled c.args.discovered.keys c.args.now ∷ group_events e) c.commit.new.self =
+    subst (λ ms. StandsFor made (Scheduled ms c.args.now ∷ group_events e) c.commit.new.self) change.1 (c.commit.ensures.stands made (group_events e) own) in
+    subst (λ (b : Bool). StandsFor made ((if b then Scheduled c.args.discovered.keys c.args.now ∷ [] else []) ++ group_events e) c.commit.new.self)
+    (sym c.commit.ensures.answers.1) after
 
 pub returns-in-None-clause-registry : goal.returns-in-None-clause-registry
 returns-in-None-clause-registry g c key_of events r made e s =

@@ -1,0 +1,2 @@
+pub mod BoardRule
+pub mod Pass
