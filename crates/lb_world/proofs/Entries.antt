@@ -233,7 +233,8 @@ module _ {C : Type 0} {M : Meaning C} {h : History C} {g : ℕ} {e : EntryValue 
       elim (get_set e.works s r old new k was ks) [
         | inl p ↦
             p.1 ∙ placed c (ap (slice_get (configs_of e.core.group)) (sym p.0) ∙ cs)
-            ∙ ap2 (λ (q : group.History) (t : Bool). held_of (origin e.core) s c (past_of s q) (cond t (worked st a (work g s h)) (work g s h)))
+            ∙ ap2 (λ (q : group.History) (t : Bool). held_of (origin e.core) s c (past_of s q)
+            (cond t (worked st a (work g s h)) (work g s h)))
             (sym events) (sym (moves s ∙ here g s))
             ∙ ap (λ (i : ℕ). now i c) (sym p.0)
         | inr p ↦

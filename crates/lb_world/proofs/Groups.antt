@@ -152,89 +152,91 @@ module _ {C : Type 0} {M : Meaning C} {w : WorldValue C} {h : History C} (s : St
       (ap (earlier (no_such (in_tables w r a))) (least-apart (map (M.refusal []) cs)) ∙ is)))))
 
   -- registry and gate are there, and each selector can be built
-  module _ {u : RegistryValue WorldRule} (in_ : slice_get w.registries r ≡ Some u) (at : a < length w.gates) (none : least-cause ≡ None) where
-    told-then : (o : Option Refusal) → earlier (no_number given) (no_number cells) ≡ o
-        → answer_after M h (step.group r a cs) ≡ unless_refused o (answer.Group (length (made h)))
-    told-then o is =
-        told-so o
-        (ap2 (λ (b : Bool) (x : Option Refusal). earlier (no_such b) (earlier (memory_apart x) (earlier (no_number given) (no_number cells))))
-        (ap2 ◌&&◌ (lt-ltb r (length w.registries) (slice_get_within w.registries r u in_)) (lt-ltb a (length w.gates) at)) none ∙ is)
+  module _ {u : RegistryValue WorldRule} (in_ : slice_get w.registries r ≡ Some u) (at : a < length w.gates) (none : least-cause ≡ None)
+    where
+      told-then : (o : Option Refusal) → earlier (no_number given) (no_number cells) ≡ o
+          → answer_after M h (step.group r a cs) ≡ unless_refused o (answer.Group (length (made h)))
+      told-then o is =
+          told-so o
+          (ap2 (λ (b : Bool) (x : Option Refusal). earlier (no_such b) (earlier (memory_apart x)
+          (earlier (no_number given) (no_number cells))))
+          (ap2 ◌&&◌ (lt-ltb r (length w.registries) (slice_get_within w.registries r u in_)) (lt-ltb a (length w.gates) at)) none ∙ is)
 
-    -- a number of a cell is left, since marks that are applied start no cell
-    cells-fit : cells < 2 ^ 64
-    cells-fit =
-        let now = s.kept r u in_ in
-        omega (arith, marks_start_none (key_at r h) (registry.Registered ∷ registry_events r h) now.state.sets, now.state.fits)
+      -- a number of a cell is left, since marks that are applied start no cell
+      cells-fit : cells < 2 ^ 64
+      cells-fit =
+          let now = s.kept r u in_ in
+          omega (arith, marks_start_none (key_at r h) (registry.Registered ∷ registry_events r h) now.state.sets, now.state.fits)
 
-    pub group-is-full : ((key_of : Member → Member) (events : List Event) → IsRegistryAfter key_gives key_of events u
-        → 2 ^ 64 ≤ registry.registered_after events + 1)
-        → Stands M (record w { registries = slice_set w.registries r u }) ((step.group r a cs, answer.Refused refusal.NumbersExhausted) ∷ h)
-    group-is-full many =
-        let now = s.kept r u in_ in
-        let refused =
-        world-refused s (step.group r a cs) refusal.NumbersExhausted
-        (inl (sym (told-then (Some refusal.NumbersExhausted)
-        (ap (λ (b : Bool). earlier (where_ b refusal.NumbersExhausted) (no_number cells)) (le-leb (2 ^ 64) given (many _ _ now))
-        ∙ lacks-first (nat_le (2 ^ 64) cells))))) in
-        registry-lent refused r u u in_ (refused.kept r u in_)
-
-    module _ (left : (key_of : Member → Member) (events : List Event) → IsRegistryAfter key_gives key_of events u
-        → registry.registered_after events + 1 < 2 ^ 64) where
-      fits : answer_after M h (step.group r a cs) ≡ answer.Group (length (made h))
-      fits =
-          told-then None
-          (ap2 earlier (number-left given (left _ _ (s.kept r u in_))) (number-left cells cells-fit))
-
-      pub group-lacks : (e : Refusal) (v : RegistryValue WorldRule)
-          → ((key_of : Member → Member) (events : List Event) → IsRegistryAfter key_gives key_of events u → e ≡ refusal.OutOfMemory)
-          → ((key_of : Member → Member) (events : List Event) → IsRegistryAfter key_gives key_of events u
-          → IsRegistryAfter key_gives key_of events v)
-          → Stands M (record w { registries = slice_set w.registries r v }) ((step.group r a cs, answer.Refused e) ∷ h)
-      group-lacks e v memory after =
+      pub group-is-full : ((key_of : Member → Member) (events : List Event) → IsRegistryAfter key_gives key_of events u
+          → 2 ^ 64 ≤ registry.registered_after events + 1)
+          → Stands M (record w { registries = slice_set w.registries r u }) ((step.group r a cs, answer.Refused refusal.NumbersExhausted) ∷ h)
+      group-is-full many =
+          let now = s.kept r u in_ in
           let refused =
-          world-refused s (step.group r a cs) e
-          (inr (ap answer.Refused (memory _ _ (s.kept r u in_)) ∙ sym (ap (without_memory {C = C} (step.group r a cs)) fits))) in
-          registry-lent refused r u v in_ (after _ _ (refused.kept r u in_))
+          world-refused s (step.group r a cs) refusal.NumbersExhausted
+          (inl (sym (told-then (Some refusal.NumbersExhausted)
+          (ap (λ (b : Bool). earlier (where_ b refusal.NumbersExhausted) (no_number cells)) (le-leb (2 ^ 64) given (many _ _ now))
+          ∙ lacks-first (nat_le (2 ^ 64) cells))))) in
+          registry-lent refused r u u in_ (refused.kept r u in_)
 
-      pub group-made : (n : ℕ) (z : GateView) (v : RegistryValue WorldRule) (e : EntryValue C) → n ≡ length w.groups
-          → slice_get w.gates a ≡ Some z
-          → IsNewEntry r a z.id cs given e
-          → IsRegistryAfter key_gives (key_at r h) (registry.Applied ∷ registry.Registered ∷ registry_events r h) v
-          → Stands M (record w { registries = slice_set w.registries r v; groups = w.groups ++ e ∷ [] })
-          ((step.group r a cs, answer.Group n) ∷ h)
-      group-made n z v e number gate-there new now =
-          let k : History C = (step.group r a cs, answer.Group n) ∷ h in
-          let within : r < length (registries h) = omega (arith, slice_get_within w.registries r u in_, s.registries_are) in
-          let more : length (slice_set w.registries r v) ≡ length w.registries = length-set w.registries r v in
-          record {
-            run = (s.run, inl (ap answer.Group (number ∙ s.groups_are) ∙ sym fits));
-            registries_are = more ∙ s.registries_are;
-            gates_are = s.gates_are;
-            groups_are = length_push w.groups e ∙ ap (λ (i : ℕ). i + 1) s.groups_are ∙ sym (length_push (made h) _);
-            readers_are = s.readers_are;
-            kept =
-                each-set w.registries r u v in_ (rw (eq-eqb r r refl) now)
-                (λ i x off was. rw (ne_eqb r i (λ q. off (sym q))) (s.kept i x was));
-            outs = s.outs;
-            each =
-                each-push w.groups e (rw s.groups_are (entry-made M h r a z.id cs n e s.run within new))
-                (λ g x low was.
-                let is = s.each g x was in
-                entry-moves h k g x (get_kept (made h) g _ (made_of x) is.made_is) refl refl (λ i. refl) (λ b. refl) is);
-            on_site =
-                each-push w.groups e
-                (record {
-                  view = z;
-                  gate = ap (slice_get w.gates) new.gate_is ∙ gate-there;
-                  id = sym new.id_is;
-                  registry = omega (arith, new.registry_is, within, more, s.registries_are);
-                })
-                (λ g x low was.
-                let on = s.on_site g x was in
-                record { view = on.view; gate = on.gate; id = on.id; registry = omega (arith, more, on.registry) });
-            own = λ t q held x in_now.
-                elim (get_push w.groups q.group e x in_now) [
-                  | inl p ↦ absurd (omega (arith, p.0, group-there s t q held))
-                  | inr p ↦ s.own t q held x p.1
-                ];
-          }
+      module _ (left : (key_of : Member → Member) (events : List Event) → IsRegistryAfter key_gives key_of events u
+          → registry.registered_after events + 1 < 2 ^ 64) where
+        fits : answer_after M h (step.group r a cs) ≡ answer.Group (length (made h))
+        fits =
+            told-then None
+            (ap2 earlier (number-left given (left _ _ (s.kept r u in_))) (number-left cells cells-fit))
+
+        pub group-lacks : (e : Refusal) (v : RegistryValue WorldRule)
+            → ((key_of : Member → Member) (events : List Event) → IsRegistryAfter key_gives key_of events u → e ≡ refusal.OutOfMemory)
+            → ((key_of : Member → Member) (events : List Event) → IsRegistryAfter key_gives key_of events u
+            → IsRegistryAfter key_gives key_of events v)
+            → Stands M (record w { registries = slice_set w.registries r v }) ((step.group r a cs, answer.Refused e) ∷ h)
+        group-lacks e v memory after =
+            let refused =
+            world-refused s (step.group r a cs) e
+            (inr (ap answer.Refused (memory _ _ (s.kept r u in_)) ∙ sym (ap (without_memory {C = C} (step.group r a cs)) fits))) in
+            registry-lent refused r u v in_ (after _ _ (refused.kept r u in_))
+
+        pub group-made : (n : ℕ) (z : GateView) (v : RegistryValue WorldRule) (e : EntryValue C) → n ≡ length w.groups
+            → slice_get w.gates a ≡ Some z
+            → IsNewEntry r a z.id cs given e
+            → IsRegistryAfter key_gives (key_at r h) (registry.Applied ∷ registry.Registered ∷ registry_events r h) v
+            → Stands M (record w { registries = slice_set w.registries r v; groups = w.groups ++ e ∷ [] })
+            ((step.group r a cs, answer.Group n) ∷ h)
+        group-made n z v e number gate-there new now =
+            let k : History C = (step.group r a cs, answer.Group n) ∷ h in
+            let within : r < length (registries h) = omega (arith, slice_get_within w.registries r u in_, s.registries_are) in
+            let more : length (slice_set w.registries r v) ≡ length w.registries = length-set w.registries r v in
+            record {
+              run = (s.run, inl (ap answer.Group (number ∙ s.groups_are) ∙ sym fits));
+              registries_are = more ∙ s.registries_are;
+              gates_are = s.gates_are;
+              groups_are = length_push w.groups e ∙ ap (λ (i : ℕ). i + 1) s.groups_are ∙ sym (length_push (made h) _);
+              readers_are = s.readers_are;
+              kept =
+                  each-set w.registries r u v in_ (rw (eq-eqb r r refl) now)
+                  (λ i x off was. rw (ne_eqb r i (λ q. off (sym q))) (s.kept i x was));
+              outs = s.outs;
+              each =
+                  each-push w.groups e (rw s.groups_are (entry-made M h r a z.id cs n e s.run within new))
+                  (λ g x low was.
+                  let is = s.each g x was in
+                  entry-moves h k g x (get_kept (made h) g _ (made_of x) is.made_is) refl refl (λ i. refl) (λ b. refl) is);
+              on_site =
+                  each-push w.groups e
+                  (record {
+                    view = z;
+                    gate = ap (slice_get w.gates) new.gate_is ∙ gate-there;
+                    id = sym new.id_is;
+                    registry = omega (arith, new.registry_is, within, more, s.registries_are);
+                  })
+                  (λ g x low was.
+                  let on = s.on_site g x was in
+                  record { view = on.view; gate = on.gate; id = on.id; registry = omega (arith, more, on.registry) });
+              own = λ t q held x in_now.
+                  elim (get_push w.groups q.group e x in_now) [
+                    | inl p ↦ absurd (omega (arith, p.0, group-there s t q held))
+                    | inr p ↦ s.own t q held x p.1
+                  ];
+            }

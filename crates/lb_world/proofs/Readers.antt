@@ -50,7 +50,8 @@ module _ {C : Type 0} (M : Meaning C) where
 
 full-told : (x n a : ℕ) → (n ≡ 18446744073709551615) ⊎ (x ≡ 18446744073709551615) → enter_answer x n a ≡ refuse refusal.NumbersExhausted
 full-told x n a (inl is) = rw is (by-other (x == 18446744073709551615)) where
-  by-other : (b : Bool) → cond (b || true) (refuse refusal.NumbersExhausted) (answer.Reader 18446744073709551615 a) ≡ refuse refusal.NumbersExhausted
+  by-other : (b : Bool)
+      → cond (b || true) (refuse refusal.NumbersExhausted) (answer.Reader 18446744073709551615 a) ≡ refuse refusal.NumbersExhausted
   by-other true = refl
   by-other false = refl
 full-told x n a (inr is) = rw is refl
@@ -73,90 +74,94 @@ module _ {C : Type 0} {M : Meaning C} {w : WorldValue C} {h : History C} (s : St
 
   module _ (g : ℕ) (e : EntryValue C) (there_ : slice_get w.groups g ≡ Some e) (slot : ℕ) (r : Option ℕ)
       (to : r ≡ at_slot (site e.core) slot
-      (group.readers (served (past_of slot (joined.group_events (joined_events g h)))) (past_of slot (joined.group_events (joined_events g h)))))
-      where
-    -- what is answered, by the number of readers that was read
-    enter-told : answer_after M h (step.enter g slot) ≡ at_one r (λ n. enter_answer n (length w.readers) (served (past g slot h)))
-    enter-told =
-        ap (λ (m : ℕ). at_one (config g slot h)
-        (λ c. enter_answer (group.readers (served (past g slot h)) (past g slot h)) m (served (past g slot h)))) entries-count
-        ∙ reading-told (s.each g e there_) slot (λ p. group.readers (served p) p)
-        (λ n. enter_answer n (length w.readers) (served (past g slot h))) r to
+      (group.readers (served (past_of slot (joined.group_events (joined_events g h))))
+      (past_of slot (joined.group_events (joined_events g h)))))
+    where
+      -- what is answered, by the number of readers that was read
+      enter-told : answer_after M h (step.enter g slot) ≡ at_one r (λ n. enter_answer n (length w.readers) (served (past g slot h)))
+      enter-told =
+          ap (λ (m : ℕ). at_one (config g slot h)
+          (λ c. enter_answer (group.readers (served (past g slot h)) (past g slot h)) m (served (past g slot h)))) entries-count
+          ∙ reading-told (s.each g e there_) slot (λ p. group.readers (served p) p)
+          (λ n. enter_answer n (length w.readers) (served (past g slot h))) r to
 
-    -- a refusal of a world whose group was lent and stays as it was
-    enter-refused : (f : Refusal) → Answers M h (step.enter g slot) (answer.Refused f)
-        → Stands M (record w { groups = slice_set w.groups g e }) ((step.enter g slot, answer.Refused f) ∷ h)
-    enter-refused f right = rw (set-same w.groups g e there_) (world-refused s (step.enter g slot) f right)
+      -- a refusal of a world whose group was lent and stays as it was
+      enter-refused : (f : Refusal) → Answers M h (step.enter g slot) (answer.Refused f)
+          → Stands M (record w { groups = slice_set w.groups g e }) ((step.enter g slot, answer.Refused f) ∷ h)
+      enter-refused f right = rw (set-same w.groups g e there_) (world-refused s (step.enter g slot) f right)
 
-    pub enter-absent : r ≡ None
-        → Stands M (record w { groups = slice_set w.groups g e }) ((step.enter g slot, answer.Refused refusal.NoSuch) ∷ h)
-    enter-absent none = enter-refused refusal.NoSuch (inl (sym (enter-told ∙ rw none refl)))
+      pub enter-absent : r ≡ None
+          → Stands M (record w { groups = slice_set w.groups g e }) ((step.enter g slot, answer.Refused refusal.NoSuch) ∷ h)
+      enter-absent none = enter-refused refusal.NoSuch (inl (sym (enter-told ∙ rw none refl)))
 
-    -- no number is left for a reader
-    pub enter-full : (x : ℕ) → r ≡ Some x → (length w.readers ≡ 18446744073709551615) ⊎ (x ≡ 18446744073709551615)
-        → Stands M (record w { groups = slice_set w.groups g e }) ((step.enter g slot, answer.Refused refusal.NumbersExhausted) ∷ h)
-    enter-full x some many =
-        enter-refused refusal.NumbersExhausted
-        (inl (sym (enter-told ∙ rw some (full-told x (length w.readers) (served (past g slot h)) many))))
+      -- no number is left for a reader
+      pub enter-full : (x : ℕ) → r ≡ Some x → (length w.readers ≡ 18446744073709551615) ⊎ (x ≡ 18446744073709551615)
+          → Stands M (record w { groups = slice_set w.groups g e }) ((step.enter g slot, answer.Refused refusal.NumbersExhausted) ∷ h)
+      enter-full x some many =
+          enter-refused refusal.NumbersExhausted
+          (inl (sym (enter-told ∙ rw some (full-told x (length w.readers) (served (past g slot h)) many))))
 
-    module _ (x : ℕ) (some : r ≡ Some x) (few : ¬ (length w.readers ≡ 18446744073709551615)) (left : ¬ (x ≡ 18446744073709551615)) where
-      enters-as : answer_after M h (step.enter g slot) ≡ answer.Reader (length w.readers) (served (past g slot h))
-      enters-as = enter-told ∙ rw some (free-told x (length w.readers) (served (past g slot h)) few left)
+      module _ (x : ℕ) (some : r ≡ Some x) (few : ¬ (length w.readers ≡ 18446744073709551615)) (left : ¬ (x ≡ 18446744073709551615)) where
+        enters-as : answer_after M h (step.enter g slot) ≡ answer.Reader (length w.readers) (served (past g slot h))
+        enters-as = enter-told ∙ rw some (free-told x (length w.readers) (served (past g slot h)) few left)
 
-      memory-right : Answers M h (step.enter g slot) (answer.Refused refusal.OutOfMemory)
-      memory-right = inr (sym (ap (without_memory {C = C} (step.enter g slot)) enters-as))
+        memory-right : Answers M h (step.enter g slot) (answer.Refused refusal.OutOfMemory)
+        memory-right = inr (sym (ap (without_memory {C = C} (step.enter g slot)) enters-as))
 
-      pub enter-memory : Stands M (record w { groups = slice_set w.groups g e }) ((step.enter g slot, answer.Refused refusal.OutOfMemory) ∷ h)
-      enter-memory = enter-refused refusal.OutOfMemory memory-right
+        pub enter-memory : Stands M (record w { groups = slice_set w.groups g e })
+            ((step.enter g slot, answer.Refused refusal.OutOfMemory) ∷ h)
+        enter-memory = enter-refused refusal.OutOfMemory memory-right
 
-      -- a reader enters, with the group and the list of readers that the calls left
-      pub entered-now : (t : ℕ) (d : EntryValue C) (rs : List (Option (HeldValue C))) (q : ReaderValue C) → d ≡ with_core d.core e
-          → rs ≡ w.readers ++ Some (record { group = g; reader = q }) ∷ [] → t ≡ length w.readers → stands.SameSite e.core d.core
-          → stands.Stands (site e.core) (joined.At slot group.Entered ∷ joined_events g h) d.core
-          → Enters (site e.core) (joined.group_events (joined_events g h)) slot (Ok q) → IsOwnReader d.core q
-          → Stands M (record w { groups = slice_set w.groups g d; readers = rs }) ((step.enter g slot, answer.Reader t q.generation) ∷ h)
-      entered-now t d rs q rest grown number same stays answers own =
-          let st : Step C = step.enter g slot in
-          let a = answer.Reader t q.generation in
-          let is : q.generation ≡ served (past g slot h) = answers.2 ∙ ap (λ (p : group.History). served (past_of slot p)) (group-of g h) in
-          let right : Answers M h st a = inl (ap2 answer.Reader number is ∙ sym enters-as) in
-          group-moves s g st a e d rs refl
-          (ap (map (option_map entered_of)) grown ∙ map-append (option_map entered_of) w.readers (Some (record { group = g; reader = q }) ∷ [])
-          ∙ ap2 (λ (es : List (Option Entered)) (i : ℕ). es ++ Some (record { group = g; slot = i; generation = q.generation }) ∷ [])
-          s.readers_are answers.1)
-          (λ i y held z in_.
-          elim (get_push w.readers i (Some (record { group = g; reader = q })) (Some y) (rw grown at held)) [
-            | inl p ↦
-                let mine : y ≡ record { group = g; reader = q } = same_Some _ _ p.1 in
-                let here_ : slice_get (slice_set w.groups g d) g ≡ Some z =
-                ap (λ (v : HeldValue C). slice_get (slice_set w.groups g d) v.group) (sym mine) ∙ in_ in
-                ap (λ (v : HeldValue C). v.reader.group) mine ∙ own
-                ∙ ap (λ (v : EntryValue C). v.core.group.id) (same_Some d z (sym (get_same w.groups g e d there_) ∙ here_))
-            | inr p ↦ own-kept s g e d there_ same.group.id i y p.1 z in_
-          ])
-          there_
-          (λ z u b.
-          subst (λ (y : EntryValue C). EntryNext M h g st a e z y z u) (sym rest)
-          (next-core b st a refl right same stays refl (λ i. refl) (λ m. refl) refl (unshared b st a refl refl)))
+        -- a reader enters, with the group and the list of readers that the calls left
+        pub entered-now : (t : ℕ) (d : EntryValue C) (rs : List (Option (HeldValue C))) (q : ReaderValue C) → d ≡ with_core d.core e
+            → rs ≡ w.readers ++ Some (record { group = g; reader = q }) ∷ [] → t ≡ length w.readers → stands.SameSite e.core d.core
+            → stands.Stands (site e.core) (joined.At slot group.Entered ∷ joined_events g h) d.core
+            → Enters (site e.core) (joined.group_events (joined_events g h)) slot (Ok q) → IsOwnReader d.core q
+            → Stands M (record w { groups = slice_set w.groups g d; readers = rs }) ((step.enter g slot, answer.Reader t q.generation) ∷ h)
+        entered-now t d rs q rest grown number same stays answers own =
+            let st : Step C = step.enter g slot in
+            let a = answer.Reader t q.generation in
+            let is : q.generation ≡ served (past g slot h) = answers.2 ∙ ap (λ (p : group.History). served (past_of slot p)) (group-of g h)
+            in
+            let right : Answers M h st a = inl (ap2 answer.Reader number is ∙ sym enters-as) in
+            group-moves s g st a e d rs refl
+            (ap (map (option_map entered_of)) grown ∙ map-append (option_map entered_of) w.readers
+            (Some (record { group = g; reader = q }) ∷ [])
+            ∙ ap2 (λ (es : List (Option Entered)) (i : ℕ). es ++ Some (record { group = g; slot = i; generation = q.generation }) ∷ [])
+            s.readers_are answers.1)
+            (λ i y held z in_.
+            elim (get_push w.readers i (Some (record { group = g; reader = q })) (Some y) (rw grown at held)) [
+              | inl p ↦
+                  let mine : y ≡ record { group = g; reader = q } = same_Some _ _ p.1 in
+                  let here_ : slice_get (slice_set w.groups g d) g ≡ Some z =
+                  ap (λ (v : HeldValue C). slice_get (slice_set w.groups g d) v.group) (sym mine) ∙ in_ in
+                  ap (λ (v : HeldValue C). v.reader.group) mine ∙ own
+                  ∙ ap (λ (v : EntryValue C). v.core.group.id) (same_Some d z (sym (get_same w.groups g e d there_) ∙ here_))
+              | inr p ↦ own-kept s g e d there_ same.group.id i y p.1 z in_
+            ])
+            there_
+            (λ z u b.
+            subst (λ (y : EntryValue C). EntryNext M h g st a e z y z u) (sym rest)
+            (next-core b st a refl right same stays refl (λ i. refl) (λ m. refl) refl (unshared b st a refl refl)))
 
-      -- the core refused it for memory
-      pub refused-now : (f : Refusal) (d : EntryValue C) (rs : List (Option (HeldValue C))) → d ≡ with_core d.core e → rs ≡ w.readers
-          → stands.SameSite e.core d.core → stands.Stands (site e.core) (joined_events g h) d.core
-          → Enters (site e.core) (joined.group_events (joined_events g h)) slot (Err f)
-          → Stands M (record w { groups = slice_set w.groups g d; readers = rs }) ((step.enter g slot, answer.Refused f) ∷ h)
-      refused-now f d rs rest kept same stays refused =
-          let st : Step C = step.enter g slot in
-          let within = cond_some (nat_lt slot (length (configs_of e.core.group))) _ x (sym to ∙ some) in
-          let none : enter_refusal (site e.core) slot (joined.group_events (joined_events g h)) ≡ None =
-          rw (within.0, ne_eqb _ 18446744073709551615 (λ is. left (sym within.1 ∙ is))) refl in
-          let memory : f ≡ refusal.OutOfMemory = elim refused [ inl is ↦ absurd (none-some f (sym none ∙ is)) | inr p ↦ p.1 ] in
-          let right : Answers M h st (answer.Refused f) = rw memory memory-right in
-          group-moves s g st (answer.Refused f) e d rs refl (ap (map (option_map entered_of)) kept ∙ s.readers_are)
-          (λ i y held z in_. own-kept s g e d there_ same.group.id i y (rw kept at held) z in_) there_
-          (λ z u b.
-          subst (λ (y : EntryValue C). EntryNext M h g st (answer.Refused f) e z y z u) (sym rest)
-          (next-core b st (answer.Refused f) refl right same stays refl (λ i. refl) (λ m. refl) refl
-          (unshared b st (answer.Refused f) refl refl)))
+        -- the core refused it for memory
+        pub refused-now : (f : Refusal) (d : EntryValue C) (rs : List (Option (HeldValue C))) → d ≡ with_core d.core e → rs ≡ w.readers
+            → stands.SameSite e.core d.core → stands.Stands (site e.core) (joined_events g h) d.core
+            → Enters (site e.core) (joined.group_events (joined_events g h)) slot (Err f)
+            → Stands M (record w { groups = slice_set w.groups g d; readers = rs }) ((step.enter g slot, answer.Refused f) ∷ h)
+        refused-now f d rs rest kept same stays refused =
+            let st : Step C = step.enter g slot in
+            let within = cond_some (nat_lt slot (length (configs_of e.core.group))) _ x (sym to ∙ some) in
+            let none : enter_refusal (site e.core) slot (joined.group_events (joined_events g h)) ≡ None =
+            rw (within.0, ne_eqb _ 18446744073709551615 (λ is. left (sym within.1 ∙ is))) refl in
+            let memory : f ≡ refusal.OutOfMemory = elim refused [ inl is ↦ absurd (none-some f (sym none ∙ is)) | inr p ↦ p.1 ] in
+            let right : Answers M h st (answer.Refused f) = rw memory memory-right in
+            group-moves s g st (answer.Refused f) e d rs refl (ap (map (option_map entered_of)) kept ∙ s.readers_are)
+            (λ i y held z in_. own-kept s g e d there_ same.group.id i y (rw kept at held) z in_) there_
+            (λ z u b.
+            subst (λ (y : EntryValue C). EntryNext M h g st (answer.Refused f) e z y z u) (sym rest)
+            (next-core b st (answer.Refused f) refl right same stays refl (λ i. refl) (λ m. refl) refl
+            (unshared b st (answer.Refused f) refl refl)))
 
   -- nobody leaves
   pub leave-nowhere : (t : ℕ) → length w.readers ≤ t → Stands M w ((step.leave t, answer.Refused refusal.NoSuchReader) ∷ h)
@@ -187,7 +192,8 @@ module _ {C : Type 0} {M : Meaning C} {w : WorldValue C} {h : History C} (s : St
         events = joined_events r.group h;
         stands = is.core_is;
         read =
-            ap2 ◌&&◌ (lt-ltb r.reader.slot (length (configs_of e.core.group)) (slice_get_within (configs_of e.core.group) r.reader.slot c.0 config-is))
+            ap2 ◌&&◌ (lt-ltb r.reader.slot (length (configs_of e.core.group))
+            (slice_get_within (configs_of e.core.group) r.reader.slot c.0 config-is))
             (lt-ltb 0 _ (rw (← group-of r.group h) at (reading M h s.run t r.reader.generation (entered_of r) at refl)));
       }
 

@@ -24,7 +24,8 @@ all_alike p q alike (x ∷ xs) = ap2 ◌&&◌ (alike x) (all_alike p q alike xs)
 all-not : (p : Member → Bool) (xs : List Member) → list_all p xs ≡ not (list_any (λ x. not (p x)) xs)
 all-not p [] = refl
 all-not p (x ∷ xs) = by-test (p x) (all-not p xs) where
-  by-test : (b : Bool) → list_all p xs ≡ not (list_any (λ x. not (p x)) xs) → (b && list_all p xs) ≡ not (not b || list_any (λ x. not (p x)) xs)
+  by-test : (b : Bool) → list_all p xs ≡ not (list_any (λ x. not (p x)) xs)
+      → (b && list_all p xs) ≡ not (not b || list_any (λ x. not (p x)) xs)
   by-test true rest = rest
   by-test false rest = refl
 
@@ -60,6 +61,7 @@ same_set xs ys =
     λ y a b same. same_equivalence.symm y a ∙ same_equivalence.congr a b y same ∙ same_equivalence.symm b y in
     let known = λ (x : Member). list_any (same_member x) ys in
     ap2 ◌&&◌
-    (all-not known (set_of xs) ∙ ap not (any_folded (λ x. not (known x)) (λ a b same. ap not (in_ys a b same)) [] xs) ∙ sym (all-not known xs))
+    (all-not known (set_of xs) ∙ ap not (any_folded (λ x. not (known x)) (λ a b same. ap not (in_ys a b same)) [] xs) ∙ sym
+    (all-not known xs))
     (all_alike (λ y. list_any (same_member y) (set_of xs)) (λ y. list_any (same_member y) xs)
     (λ y. any_folded (same_member y) (alike y) [] xs) ys)

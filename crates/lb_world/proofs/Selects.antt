@@ -127,7 +127,8 @@ module _ {C : Type 0} {M : Meaning C} {h : History C} {g : ℕ} {e : EntryValue 
       (views-are b.is M b.run)
       (subst (λ (o : Option ℕ). IsTrue ready ↔ IsReady (key_of g h) (views_of (site e.core) (joined_events g h)) (events_in o h)
       (served (past g s h)) m) (sym (registry-here b.is))
-      (subst (λ (n : ℕ). IsTrue ready ↔ IsReady (key_of g h) (views_of (site e.core) (joined_events g h)) (registry_events e.registry h) n m)
+      (subst (λ (n : ℕ). IsTrue ready ↔ IsReady (key_of g h) (views_of (site e.core) (joined_events g h)) (registry_events e.registry h) n
+      m)
       (ap (λ (k : group.History). served (past_of s k)) (group-of g h)) was))
 
   placed : (c : Option C) (a : Answer) → slice_get (configs_of e.core.group) s ≡ c
@@ -139,7 +140,8 @@ module _ {C : Type 0} {M : Meaning C} {h : History C} {g : ℕ} {e : EntryValue 
 
   -- the selection of a slot that is there
   from-slot : (c : C) → slice_get (configs_of e.core.group) s ≡ Some c
-      → SelectsFrom M.random M.walks Was (load_in e.loads) key limit words (served_members (past g s h)) c (drawn (past g s h)) sel → Selected
+      → SelectsFrom M.random M.walks Was (load_in e.loads) key limit words (served_members (past g s h)) c (drawn (past g s h)) sel
+      → Selected
   from-slot c at from =
       by-words
       (rw (((promised M h b.run).members_kept g s).serving, members-past (served (past g s h)) s (group_events g h)) at from)
@@ -153,7 +155,8 @@ module _ {C : Type 0} {M : Meaning C} {h : History C} {g : ℕ} {e : EntryValue 
 
       by-words : SelectsFrom M.random M.walks Was (load_in e.loads) key limit words (members_of (served (past g s h)) (group_events g h)) c
           (drawn (past g s h)) sel
-          → (few : Bool) → (M.random (members_of (served (past g s h)) (group_events g h)) c && nat_le (length words) limit) ≡ few → Selected
+          → (few : Bool) → (M.random (members_of (served (past g s h)) (group_events g h)) c && nat_le (length words) limit) ≡ few
+          → Selected
       by-words from true few =
           let short = rw few at from in
           refused c at short.0 short.2 (placed (Some c) (answer.Refused refusal.NotEnoughWords) at (rw few refl))
@@ -186,7 +189,8 @@ module _ {C : Type 0} {M : Meaning C} {h : History C} {g : ℕ} {e : EntryValue 
   module _ {core : JoinedValue C} (same : stands.SameSite e.core core)
       (moved : stands.Stands (site e.core) (calls.after_select (site e.core) s sel (joined_events g h)) core) where
     drew-next : (a : Answer) → happened h (group_events g h) st a ≡ drew (config g s h) s sel.tickets
-        → joined_after h (group_events g h) (joined_events g h) st a ≡ joined.in_group (drew (config g s h) s sel.tickets) ++ joined_events g h
+        → joined_after h (group_events g h) (joined_events g h) st a ≡ joined.in_group (drew (config g s h) s sel.tickets) ++ joined_events
+        g h
         → ((x : Work) → worked st a x ≡ x) → permit_after st a z.out ≡ z.out
         → changed h ((st, a) ∷ h) st a (registry_events e.registry h) ≡ registry_events e.registry h → Right a
         → EntryNext M h g st a e z (with_core core e) z v

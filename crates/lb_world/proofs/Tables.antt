@@ -146,7 +146,8 @@ module _ {C : Type 0} {M : Meaning C} {w : WorldValue C} {h : History C} (s : St
               view = y;
               gate = ap (slice_get (slice_set w.gates e.gate y)) p ∙ get_same w.gates e.gate z y there;
               id = same
-                  ∙ ap (λ (t : GateView). t.id) (same_Some z on.view (sym there ∙ ap (slice_get w.gates) (sym p ∙ a) ∙ on.gate)) ∙ on.id ∙ sym i;
+                  ∙ ap (λ (t : GateView). t.id) (same_Some z on.view (sym there ∙ ap (slice_get w.gates) (sym p ∙ a) ∙ on.gate)) ∙ on.id ∙
+                  sym i;
               registry = inside;
             }
         | inr off ↦
@@ -199,10 +200,12 @@ module _ {C : Type 0} {M : Meaning C} {w : WorldValue C} {h : History C} (s : St
         kept = λ r x found_.
             subst (λ (ms : List RegistryMade). IsRegistryAfter key_gives (key_in (slice_get ms r)) (registry_events r ((st, a) ∷ h)) x)
             (sym now.registries_are)
-            (each-set {Q = λ (i : ℕ) (t : RegistryValue WorldRule). IsRegistryAfter key_gives (key_at i h) (registry_events i ((st, a) ∷ h)) t}
+            (each-set {Q = λ (i : ℕ) (t : RegistryValue WorldRule). IsRegistryAfter key_gives (key_at i h)
+            (registry_events i ((st, a) ∷ h)) t}
             w.registries e.registry u v registry-there (rw (key-here is) at next.kept)
             (λ i t off was.
-            rw ((others-stay h st a).registries i (ap (is_at i) registry-at ∙ ne_eqb e.registry i (λ q. off (sym q)))) (s.kept i t was)) r x found_);
+            rw ((others-stay h st a).registries i (ap (is_at i) registry-at ∙ ne_eqb e.registry i (λ q. off (sym q)))) (s.kept i t was)) r
+            x found_);
         outs =
             each-set w.gates e.gate z y gate-there
             (ap (λ (t : GateView). t.out) next.out ∙ ap (permit_after st a) (s.outs e.gate z gate-there)
@@ -214,7 +217,8 @@ module _ {C : Type 0} {M : Meaning C} {w : WorldValue C} {h : History C} (s : St
         each = each-set w.groups g e d there next.is (λ i x off was. entry-else h st a g i x at off (s.each i x was));
         on_site =
             each-set w.groups g e d there
-            (placed (slice_set w.groups g d) rs e e d z y v gate-there same-id next.registry_is next.gate_is (ap (λ (o : Origin). o.gate) next.origin_is) (s.on_site g e there))
+            (placed (slice_set w.groups g d) rs e e d z y v gate-there same-id next.registry_is next.gate_is
+            (ap (λ (o : Origin). o.gate) next.origin_is) (s.on_site g e there))
             (λ i x off was. placed (slice_set w.groups g d) rs e x x z y v gate-there same-id refl refl refl (s.on_site i x was));
         own = owns;
       }
@@ -236,7 +240,8 @@ module _ {C : Type 0} {M : Meaning C} {w : WorldValue C} {h : History C} (s : St
       (set-same w.registries e.registry u.0 u.1)
       (subst
       (λ (zs : List GateView). Stands M
-      (record { registries = slice_set w.registries e.registry u.0; gates = zs; groups = slice_set w.groups g d; readers = rs }) ((st, a) ∷ h))
+      (record { registries = slice_set w.registries e.registry u.0; gates = zs; groups = slice_set w.groups g d; readers = rs })
+      ((st, a) ∷ h))
       (set-same w.gates e.gate on.view on.gate)
       (world-moves g st a e d on.view on.view u.0 u.0 rs at reads owns there on.gate u.1
       (next on.view u.0 (before g e on.view u.0 there on.gate u.1))))
@@ -273,4 +278,5 @@ module _ {C : Type 0} {M : Meaning C} {w : WorldValue C} {h : History C} (s : St
   pub registry-lent : (r : ℕ) (u v : RegistryValue WorldRule) → slice_get w.registries r ≡ Some u
       → IsRegistryAfter key_gives (key_at r h) (registry_events r h) v → Stands M (record w { registries = slice_set w.registries r v }) h
   registry-lent r u v there now =
-      registry-set h r u v s.run refl refl refl refl (λ i off. refl) (λ g. refl) (λ g. refl) (λ g i. refl) (λ g b. refl) (λ x. refl) there now
+      registry-set h r u v s.run refl refl refl refl (λ i off. refl) (λ g. refl) (λ g. refl) (λ g i. refl) (λ g b. refl) (λ x. refl) there
+      now

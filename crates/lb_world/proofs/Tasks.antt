@@ -134,7 +134,8 @@ module _ {C : Type 0} {h : History C} {g : ℕ} {e : EntryValue C} (is : EntryIs
     told-work f = ap2 (λ (o : Option C) (u : Work). at_one o (λ c. f c u)) (config-here is s ∙ has.there) has.work_is
 
     -- it is the group's own, and awaited
-    pub own-task : (t.group ≡ e.core.group.id) × (t.permit ≡ e.core.group.gate) × (slice_get (configs_of e.core.group) t.slot ≡ Some t.config)
+    pub own-task : (t.group ≡ e.core.group.id) × (t.permit ≡ e.core.group.gate) ×
+        (slice_get (configs_of e.core.group) t.slot ≡ Some t.config)
     own-task = (ap (λ (x : Task C). x.group) has.is, ap (λ (x : Task C). x.permit) has.is, rw has.is has.there)
 
     pub unawaited : (M : Meaning C) → IsRun M h → is_held w ≡ true
@@ -161,7 +162,8 @@ module _ {C : Type 0} {M : Meaning C} {h : History C} {g : ℕ} {e : EntryValue 
       → IsRegistryAfter key_gives (key_of g h) es u
   released s n es u of new kept =
       subst (λ (x : List registry.Event). IsRegistryAfter key_gives (key_of g h) x u)
-      (ap2 (λ (m : ℕ) (vs : List ViewEvent). registry_released e.core.view.id m vs (registry_events e.registry h)) of (views-are b.is M b.run)
+      (ap2 (λ (m : ℕ) (vs : List ViewEvent). registry_released e.core.view.id m vs (registry_events e.registry h)) of
+      (views-are b.is M b.run)
       ∙ sym new) kept
 
   -- another answer than a job changes nothing
@@ -173,7 +175,8 @@ module _ {C : Type 0} {M : Meaning C} {h : History C} {g : ℕ} {e : EntryValue 
       let tell = λ (out : Bool) (k : group.History). asked n (ask_answer (past_of s k) out now) in
       inl
       (sym
-      (ap (λ (o : Option (Made C)). at_one o (λ m. at_one (slice_get m.configs s) (λ x. tell (is_out m.gate h) (group_events g h)))) b.is.made_is
+      (ap (λ (o : Option (Made C)). at_one o (λ m. at_one (slice_get m.configs s) (λ x. tell (is_out m.gate h) (group_events g h))))
+      b.is.made_is
       ∙ ap (λ (o : Option C). at_one o (λ x. tell (is_out e.gate h) (group_events g h))) (found (configs_of e.core.group) s within).1
       ∙ ap2 tell (sym b.out) (sym (group-of g h)) ∙ ap (asked n) (sym to)))
 
@@ -191,8 +194,8 @@ module _ {C : Type 0} {M : Meaning C} {h : History C} {g : ℕ} {e : EntryValue 
       (ask-right s now t answers.0 (sym told ∙ answers.1)) same events refl (λ r. refl) (λ m. refl) gate-is
       (unshared b (step.ask g s now) (asked (group.newest (group_events g h)) t) refl refl)
 
-
-  pub next-unasked : (s now : ℕ) (r : Refusal) {core : JoinedValue C} {y : GateView} → r ≡ refusal.NoSuch → length (configs_of e.core.group) ≤ s
+  pub next-unasked : (s now : ℕ) (r : Refusal) {core : JoinedValue C} {y : GateView} → r ≡ refusal.NoSuch
+      → length (configs_of e.core.group) ≤ s
       → stands.SameSite e.core core → stands.Stands (site e.core) (joined_events g h) core → y ≡ z
       → EntryNext M h g (step.ask g s now) (answer.Refused r) e z (with_core core e) y v
   next-unasked s now r no_such past same stays back =
@@ -201,8 +204,10 @@ module _ {C : Type 0} {M : Meaning C} {h : History C} {g : ℕ} {e : EntryValue 
       (inl
       (ap answer.Refused no_such
       ∙ sym
-      (ap (λ (o : Option (Made C)). at_one o (λ m. at_one (slice_get m.configs s) (λ x. tell (group_events g h) (is_out m.gate h)))) b.is.made_is
-      ∙ ap (λ (o : Option C). at_one o (λ x. tell (group_events g h) (is_out e.gate h))) (slice_get_past (configs_of e.core.group) s past))))
+      (ap (λ (o : Option (Made C)). at_one o (λ m. at_one (slice_get m.configs s) (λ x. tell (group_events g h) (is_out m.gate h))))
+      b.is.made_is
+      ∙ ap (λ (o : Option C). at_one o (λ x. tell (group_events g h) (is_out e.gate h)))
+      (slice_get_past (configs_of e.core.group) s past))))
       same stays refl (λ r. refl) (λ m. refl) back (unshared b (step.ask g s now) (answer.Refused r) refl refl)
 
   pub does-grant : {S I : Type 0} (s now : ℕ) (a : Ask S I C) (j : Task C) {core : JoinedValue C} {old : WorkValue C} {y : GateView}
@@ -218,7 +223,8 @@ module _ {C : Type 0} {M : Meaning C} {h : History C} {g : ℕ} {e : EntryValue 
       let gate-is = rw told at back in
       let newest : j.generation ≡ group.newest (group_events g h) = own.generation ∙ ap group.newest (group-of g h) in
       next-work b s (step.ask g s now) (answer.Build j.generation) (view.building j) refl
-      (subst (λ (n : ℕ). Answers M h (step.ask g s now) (answer.Build n)) (sym newest) (ask-right s now job answers.0 (sym told ∙ answers.1)))
+      (subst (λ (n : ℕ). Answers M h (step.ask g s now) (answer.Build n)) (sym newest)
+      (ask-right s now job answers.0 (sym told ∙ answers.1)))
       was same events (λ r off. past-other r s (group.Granted now) (group_events g h) (λ p. off (sym p))) (λ r. refl)
       (λ c there.
       ap view.building
@@ -251,7 +257,8 @@ module _ {C : Type 0} {M : Meaning C} {h : History C} {g : ℕ} {e : EntryValue 
         elim cause [
           | inl q ↦ inl (sym (build-told now (Some r) q))
           | inr q ↦
-              inr (ap (answer.BuildFailed j.generation) q.1 ∙ sym (ap (without_memory {C = C} (step.build g s now)) (build-told now None q.0)))
+              inr (ap (answer.BuildFailed j.generation) q.1 ∙ sym (ap (without_memory {C = C} (step.build g s now))
+              (build-told now None q.0)))
         ]
 
     -- a build that is done, and held from then on
@@ -263,7 +270,8 @@ module _ {C : Type 0} {M : Meaning C} {h : History C} {g : ℕ} {e : EntryValue 
         (itself e.core) b.is.core_is (λ r off. refl) (λ r. refl)
         (λ c there.
         ap2 (λ (t : Task C) (n : ℕ). view.ready (record { task = t; ended = n }))
-        (task_is ∙ has.is ∙ ap (λ (d : C). last_job (origin e.core) s d (past g s h)) (same_Some has.config c (sym has.there ∙ there))) ended_is)
+        (task_is ∙ has.is ∙ ap (λ (d : C). last_job (origin e.core) s d (past g s h)) (same_Some has.config c (sym has.there ∙ there)))
+        ended_is)
         (λ m. refl) refl (unshared b (step.build g s now) (answer.Built j.generation) refl refl)
 
     -- a build that failed: its permit comes back, and its snapshot is let go
@@ -306,7 +314,8 @@ module _ {C : Type 0} {M : Meaning C} {h : History C} {g : ℕ} {e : EntryValue 
         let st : Step C = step.failbuild g s now in
         let a = answer.Failed j.generation in
         let right : Answers M h st a =
-        inl (ap (λ (x : Task C). answer.Failed x.generation) has.is ∙ sym (told-work b.is has (λ c w. of_job w (answer.Failed (granted (past g s h)))))) in
+        inl (ap (λ (x : Task C). answer.Failed x.generation) has.is ∙ sym
+        (told-work b.is has (λ c w. of_job w (answer.Failed (granted (past g s h)))))) in
         next-work b s st a view.nothing refl right held same (failed-is now failed.0)
         (λ i off. past-other i s _ (group_events g h) (λ p. off (sym p))) (λ i. refl) (λ c there. refl) (λ m. refl) failed.1
         (released s j.generation (registry_events e.registry ((st, a) ∷ h)) u extra-is
@@ -329,7 +338,8 @@ module _ {C : Type 0} {M : Meaning C} {h : History C} {g : ℕ} {e : EntryValue 
         → EntryNext M h g (step.abandon g s) (answer.Abandoned x.task.generation) e z
         (record e { core = core; works = slice_set e.works s view.nothing }) z v
     does-abandon held same stays =
-        next-work b s (step.abandon g s) (answer.Abandoned x.task.generation) view.nothing refl (inl (sym (built-told answer.Abandoned))) held
+        next-work b s (step.abandon g s) (answer.Abandoned x.task.generation) view.nothing refl (inl (sym (built-told answer.Abandoned)))
+        held
         same (retired-is stays) (λ i off. past-other i s _ (group_events g h) (λ p. off (sym p))) (λ i. refl) (λ c there. refl) (λ m. refl)
         refl (unshared b (step.abandon g s) (answer.Abandoned x.task.generation) refl refl)
 
@@ -365,7 +375,8 @@ module _ {C : Type 0} {M : Meaning C} {h : History C} {g : ℕ} {e : EntryValue 
         to
         ∙ ap2 (λ (i : ℕ) (k : group.History). publish_answer i x.task.generation k) (ap (λ (y : Task C). y.slot) has.is) (group-of g h) in
         subst
-        (λ (q : Told). EntryNext M h g (step.publish g s) (told_as q) e z (record e { core = core; works = slice_set e.works s view.nothing }) z v)
+        (λ (q : Told). EntryNext M h g (step.publish g s) (told_as q) e z
+        (record e { core = core; works = slice_set e.works s view.nothing }) z v)
         (sym is) (tells (is_served s (group_events g h)) refl held same (rw is at stays))
 
   -- a retired selector: taken out, destroyed and reported at once
@@ -386,7 +397,8 @@ module _ {C : Type 0} {M : Meaning C} {h : History C} {g : ℕ} {e : EntryValue 
       → taken_refusal (site e.core) s (joined.group_events (joined_events g h)) ≡ Some r
       → EntryNext M h g (step.destroy g s) (answer.Refused r) e z (with_core core e) z v
   does-refuse-destruction s r same stays is =
-      next-core b (step.destroy g s) (answer.Refused r) refl (inl (sym (destroy-told s (Some r) is))) same stays refl (λ i. refl) (λ m. refl)
+      next-core b (step.destroy g s) (answer.Refused r) refl (inl (sym (destroy-told s (Some r) is))) same stays refl (λ i. refl)
+      (λ m. refl)
       refl (unshared b (step.destroy g s) (answer.Refused r) refl refl)
 
   pub does-destroy : (s n : ℕ) {core : JoinedValue C} {y : GateView} {u : RegistryValue WorldRule} → stands.SameSite e.core core
@@ -408,7 +420,8 @@ module _ {C : Type 0} {M : Meaning C} {h : History C} {g : ℕ} {e : EntryValue 
 pub owed-now : {C : Type 0} (made : group-made.Made C) (s : ℕ) (k : group.History) → taken_refusal made s k ≡ None
     → is_owed made s (group.At s group.TakenOut ∷ k) ≡ true
 owed-now made s k none =
-    ap (λ (t : Bool). t && is_taken_out (extra (past_of s (group.At s group.TakenOut ∷ k)))) (there-if (nat_lt s (length made.configs)) _ none)
+    ap (λ (t : Bool). t && is_taken_out (extra (past_of s (group.At s group.TakenOut ∷ k))))
+    (there-if (nat_lt s (length made.configs)) _ none)
     ∙ ap (λ (p : group.History). is_taken_out (extra p)) (past-same s group.TakenOut k)
   where
     there-if : (there : Bool) (x : Option Refusal) → cond there x (Some refusal.NoSuch) ≡ None → there ≡ true

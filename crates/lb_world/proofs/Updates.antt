@@ -182,7 +182,8 @@ module _ {C : Type 0} {M : Meaning C} {h : History C} {g : ℕ} {e : EntryValue 
       → IsRegistryAfter key_gives (key_of g h) (registry_events e.registry h) u
       → EntryNext M h g st (answer.Refused r) e z (with_core core e) z u
   does-refuse r why unknown numbers lacking same was kept =
-      next-core b st (answer.Refused r) refl right same was refl (λ s. refl) (λ m. refl) refl (shared b st (answer.Refused r) refl refl kept)
+      next-core b st (answer.Refused r) refl right same was refl (λ s. refl) (λ m. refl) refl
+      (shared b st (answer.Refused r) refl refl kept)
     where
       right : Answers M h st (answer.Refused r)
       right =
@@ -208,7 +209,8 @@ module _ {C : Type 0} {M : Meaning C} {h : History C} {g : ℕ} {e : EntryValue 
   pub does-update : (s : Scheduled) {core : JoinedValue C} {u : RegistryValue WorldRule}
       → Schedules (site e.core) (joined_events g h) (members_in ls) (Ok s) → Lacking (Ok s) → stands.SameSite e.core core
       → stands.Stands (site e.core)
-      (after_schedule (key_of g h) e.core.view.id (members_in ls) (settings_in ls) now (registry_events e.registry h) (joined_events g h)) core
+      (after_schedule (key_of g h) e.core.view.id (members_in ls) (settings_in ls) now (registry_events e.registry h) (joined_events g h))
+      core
       → IsRegistryAfter key_gives (key_of g h)
       (registry_updated (key_of g h) e.core.view.id (members_in ls) (views_of (site e.core) (joined_events g h))
       (registry_events e.registry h)) u

@@ -56,7 +56,8 @@ pub returns-in-Ok-NotDue : goal.returns-in-Ok-NotDue
 returns-in-Ok-NotDue g c =
     rw (← c.self.view_is)
     (λ v h n b.
-    next-asked b c.args.slot c.args.now c.in-Ok-NotDue.field-0 (not_due c.in-Ok-NotDue.moment) (ap ask_told c.in-Ok-NotDue.field-0-is) (λ e. cc)
+    next-asked b c.args.slot c.args.now c.in-Ok-NotDue.field-0 (not_due c.in-Ok-NotDue.moment) (ap ask_told c.in-Ok-NotDue.field-0-is)
+    (λ e. cc)
     (c.in-Ok-NotDue.ensures.answers _ _ b.is.core_is) c.ask.ensures.site (c.in-Ok-NotDue.ensures.stands _ _ b.is.core_is)
     c.in-Ok-NotDue.ensures.gate)
 
@@ -76,6 +77,7 @@ returns-in-Ok-Job g c =
     let inside : c.args.slot < length (configs_of c.self.inside.core.group) = a.0 in
     let within : c.args.slot < length c.self.inside.works.items = omega (arith, b.is.works_in, inside) in
     rw (c.generation-generation.ensures, c.hold.ensures)
-    (does-grant b c.args.slot c.args.now c.in-Ok-Job.field-0 c.in-Ok-Job.job (ap ask_told c.in-Ok-Job.field-0-is) a (rw c.in-Ok-Job.field-0-is at a).2
+    (does-grant b c.args.slot c.args.now c.in-Ok-Job.field-0 c.in-Ok-Job.job (ap ask_told c.in-Ok-Job.field-0-is) a
+    (rw c.in-Ok-Job.field-0-is at a).2
     c.ask.ensures.site (c.in-Ok-Job.ensures.stands _ _ b.is.core_is)
     (at-place c.self.inside.works.items c.args.slot _ within c.index_mut-place.ensures.value) c.in-Ok-Job.ensures.gate))

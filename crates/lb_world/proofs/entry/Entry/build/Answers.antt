@@ -14,7 +14,8 @@ returns-then-slot-len g c =
     rw (← c.self.view_is)
     (λ h n b.
     let past : length c.self.inside.works.items ≤ c.args.slot = omega arith in
-    next-core b (seen.build n c.args.slot c.args.now) (answer.Refused refusal.NoSuch) refl (inl (beyond b.is c.args.slot _ past)) (itself _) b.is.core_is refl
+    next-core b (seen.build n c.args.slot c.args.now) (answer.Refused refusal.NoSuch) refl (inl (beyond b.is c.args.slot _ past))
+    (itself _) b.is.core_is refl
     (λ s. refl) (λ m. refl) refl (unshared b (seen.build n c.args.slot c.args.now) (answer.Refused refusal.NoSuch) refl refl))
 
 pub returns-in_default : goal.returns-in_default
@@ -24,8 +25,10 @@ returns-in_default g c =
     let within : c.args.slot < length c.self.inside.works.items = omega arith in
     let at = at-place c.self.inside.works.items c.args.slot _ within c.index_mut-place.ensures.value in
     next-same b c.args.slot at c.in_default.ensures.1
-    (next-core b (seen.build n c.args.slot c.args.now) (answer.Refused refusal.NothingInFlight) refl (inl (unstarted b.is c.args.slot _ _ at c.in_default.ensures.0)) (itself _)
-    b.is.core_is refl (λ s. refl) (λ m. refl) refl (unshared b (seen.build n c.args.slot c.args.now) (answer.Refused refusal.NothingInFlight) refl refl)))
+    (next-core b (seen.build n c.args.slot c.args.now) (answer.Refused refusal.NothingInFlight) refl
+    (inl (unstarted b.is c.args.slot _ _ at c.in_default.ensures.0)) (itself _)
+    b.is.core_is refl (λ s. refl) (λ m. refl) refl (unshared b (seen.build n c.args.slot c.args.now)
+    (answer.Refused refusal.NothingInFlight) refl refl)))
 
 pub fail-requires-clause-own : goal.fail-requires-clause-own
 fail-requires-clause-own g c =
@@ -73,6 +76,8 @@ returns-in-Ok-fail g c =
     let within : c.args.slot < length c.self.inside.works.items = omega arith in
     let at = at-place c.self.inside.works.items c.args.slot _ within c.index_mut-place.ensures.value ∙ ap Some c.in-Some.ensures.0 in
     rw (c.generation-generation.ensures, c.in-Some.ensures.1)
-    (does-fall b (holds b.is c.in-Some.job works.building at refl) c.args.now _ at c.fail.ensures.site
-    (rw c.in-Err.ensures.failed.0 at (c.in-Ok-fail.ensures.stands _ _ b.is.core_is), c.in-Ok-fail.ensures.gate,
-    rw c.in-Err.ensures.failed.0 at (c.in-Ok-fail.ensures.registry _ _ b.kept _ _ b.is.core_is)) c.in-Err.ensures.failed.1))
+    (does-fall b (holds b.is c.in-Some.job works.building at refl) c.args.now _ at c.fail.ensures.site (
+      rw c.in-Err.ensures.failed.0 at (c.in-Ok-fail.ensures.stands _ _ b.is.core_is),
+      c.in-Ok-fail.ensures.gate,
+      rw c.in-Err.ensures.failed.0 at (c.in-Ok-fail.ensures.registry _ _ b.kept _ _ b.is.core_is),
+    ) c.in-Err.ensures.failed.1))

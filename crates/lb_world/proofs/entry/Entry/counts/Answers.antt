@@ -53,7 +53,14 @@ returns-in-Some-Some-Some-Some g c =
     rw (← c.self.view_is)
     (λ z v h n b.
     let w = c.in-Some-Some-Some-Some in
-    let a = answer.Numbers (record { newest = c.newest.result; served = w.served; flight = w.flight; waiting = w.waiting; counts = w.counts }) in
+    let a = answer.Numbers (record {
+      newest = c.newest.result;
+      served = w.served;
+      flight = w.flight;
+      waiting = w.waiting;
+      counts =
+          w.counts;
+    }) in
     next-core b (seen.counts n c.args.slot) a refl
     (inl (sym (counts-right b c.args.slot _ _ _ _ _ (c.newest.ensures _ _ b.is.core_is) (sym w.is-0 ∙ c.served.ensures _ _ b.is.core_is)
     (sym w.is-1 ∙ c.flight.ensures _ _ b.is.core_is) (sym w.is-2 ∙ c.is_waiting.ensures _ _ b.is.core_is)
@@ -74,4 +81,5 @@ returns-in_default g c =
           absent b c.args.slot _ c.flight.result (c.flight.ensures _ _ b.is.core_is) w.in_default.is-1
       | in_default-via-in_default w ↦ absent b c.args.slot _ c.served.result (c.served.ensures _ _ b.is.core_is) w.in_default.is-0
     ])
-    (itself _) b.is.core_is refl (λ s. refl) (λ m. refl) refl (unshared b (seen.counts n c.args.slot) (answer.Refused refusal.NoSuch) refl refl))
+    (itself _) b.is.core_is refl (λ s. refl) (λ m. refl) refl (unshared b (seen.counts n c.args.slot) (answer.Refused refusal.NoSuch) refl
+    refl))

@@ -14,7 +14,8 @@ returns-then-slot-len g c =
     rw (← c.self.view_is)
     (λ z v h n b.
     let past : length c.self.inside.works.items ≤ c.args.slot = omega arith in
-    next-core b (seen.publish n c.args.slot) (answer.Refused refusal.NoSuch) refl (inl (beyond b.is c.args.slot _ past)) (itself _) b.is.core_is refl
+    next-core b (seen.publish n c.args.slot) (answer.Refused refusal.NoSuch) refl (inl (beyond b.is c.args.slot _ past)) (itself _)
+    b.is.core_is refl
     (λ s. refl) (λ m. refl) refl (unshared b (seen.publish n c.args.slot) (answer.Refused refusal.NoSuch) refl refl))
 
 pub returns-in_default : goal.returns-in_default
@@ -24,8 +25,10 @@ returns-in_default g c =
     let within : c.args.slot < length c.self.inside.works.items = omega arith in
     let at = at-place c.self.inside.works.items c.args.slot _ within c.index_mut-place.ensures.value in
     next-same b c.args.slot at c.in_default.ensures.1
-    (next-core b (seen.publish n c.args.slot) (answer.Refused refusal.NothingBuilt) refl (inl (unbuilt b.is c.args.slot _ _ at c.in_default.ensures.0)) (itself _)
-    b.is.core_is refl (λ s. refl) (λ m. refl) refl (unshared b (seen.publish n c.args.slot) (answer.Refused refusal.NothingBuilt) refl refl)))
+    (next-core b (seen.publish n c.args.slot) (answer.Refused refusal.NothingBuilt) refl
+    (inl (unbuilt b.is c.args.slot _ _ at c.in_default.ensures.0)) (itself _)
+    b.is.core_is refl (λ s. refl) (λ m. refl) refl (unshared b (seen.publish n c.args.slot) (answer.Refused refusal.NothingBuilt) refl
+    refl)))
 
 pub publish-requires-clause-own : goal.publish-requires-clause-own
 publish-requires-clause-own g c =
@@ -53,7 +56,8 @@ unreachable-requires g c =
     let own = rw (← c.self.view_is) at c.requires.stands.is in
     let within : c.args.slot < length c.self.inside.works.items = omega arith in
     let at = at-place c.self.inside.works.items c.args.slot _ within c.index_mut-place.ensures.value ∙ ap Some c.in-Some.ensures.0 in
-    unawaited own (holds own c.in-Some.built.task (works.built c.in-Some.built.ended) at refl) (meaning_of g.S.BackendSelection) c.requires.stands.run refl
+    unawaited own (holds own c.in-Some.built.task (works.built c.in-Some.built.ended) at refl) (meaning_of g.S.BackendSelection)
+    c.requires.stands.run refl
     (c.in-Err.ensures.answers _ _ own.core_is).0
 
 pub returns : goal.returns

@@ -14,10 +14,12 @@ module _ {C : Type 0} {M : Meaning C} {h : History C} {g : ℕ} {e : EntryValue 
       → stands.Stands (site e.core) (joined.Set m on ∷ joined_events g h) core
       → EntryNext M h g (cond on (seen.enable g (Some m)) (seen.disable g (Some m))) answer.Done e z (with_core core e) z v
   does-set m true same stays =
-      next-core b (seen.enable g (Some m)) answer.Done refl (inl (sym (group-told b.is answer.Done))) same stays refl (λ s. refl) (λ m. refl)
+      next-core b (seen.enable g (Some m)) answer.Done refl (inl (sym (group-told b.is answer.Done))) same stays refl (λ s. refl)
+      (λ m. refl)
       refl (unshared b (seen.enable g (Some m)) answer.Done refl refl)
   does-set m false same stays =
-      next-core b (seen.disable g (Some m)) answer.Done refl (inl (sym (group-told b.is answer.Done))) same stays refl (λ s. refl) (λ m. refl)
+      next-core b (seen.disable g (Some m)) answer.Done refl (inl (sym (group-told b.is answer.Done))) same stays refl (λ s. refl)
+      (λ m. refl)
       refl (unshared b (seen.disable g (Some m)) answer.Done refl refl)
 
 pub returns : goal.returns

@@ -23,11 +23,13 @@ returns-in-Some g c =
     rw (← c.self.view_is)
     (λ z v h n b.
     next-core b (seen.timing n c.args.slot) _ refl (timed b c.args.slot _ _ _ (c.timing.ensures _ _ b.is.core_is) c.in-Some.is refl)
-    (itself _) b.is.core_is refl (λ s. refl) (λ m. refl) refl (unshared b (seen.timing n c.args.slot) (answer.Timed c.in-Some.timing) refl refl))
+    (itself _) b.is.core_is refl (λ s. refl) (λ m. refl) refl (unshared b (seen.timing n c.args.slot) (answer.Timed c.in-Some.timing) refl
+    refl))
 
 pub returns-in-None : goal.returns-in-None
 returns-in-None g c =
     rw (← c.self.view_is)
     (λ z v h n b.
     next-core b (seen.timing n c.args.slot) _ refl (timed b c.args.slot _ _ _ (c.timing.ensures _ _ b.is.core_is) c.in-None.is refl)
-    (itself _) b.is.core_is refl (λ s. refl) (λ m. refl) refl (unshared b (seen.timing n c.args.slot) (answer.Refused refusal.NoSuch) refl refl))
+    (itself _) b.is.core_is refl (λ s. refl) (λ m. refl) refl (unshared b (seen.timing n c.args.slot) (answer.Refused refusal.NoSuch) refl
+    refl))

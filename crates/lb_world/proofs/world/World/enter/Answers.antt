@@ -50,10 +50,12 @@ returns-then-number g c =
     elim c.then-number.branch [
       | then-number-via-then-number w ↦
           let many : length c.self.inside.readers.items ≡ 18446744073709551615 = omega (arith, c.len-number.ensures, w.if-number.true) in
-          rw w.self-inside-is (enter-full s c.args.group _ at c.args.slot _ (c.readers.ensures _ _ (s.each _ _ at).core_is) _ c.in-Some.is (inl many))
+          rw w.self-inside-is (enter-full s c.args.group _ at c.args.slot _ (c.readers.ensures _ _ (s.each _ _ at).core_is) _ c.in-Some.is
+          (inl many))
       | then-number-via-else-number+then-readers w ↦
           let many : c.in-Some.readers ≡ 18446744073709551615 = omega (arith, w.if-readers.true) in
-          rw w.self-inside-is (enter-full s c.args.group _ at c.args.slot _ (c.readers.ensures _ _ (s.each _ _ at).core_is) _ c.in-Some.is (inr many))
+          rw w.self-inside-is (enter-full s c.args.group _ at c.args.slot _ (c.readers.ensures _ _ (s.each _ _ at).core_is) _ c.in-Some.is
+          (inr many))
     ])
 
 pub returns-in_default-reserve : goal.returns-in_default-reserve
@@ -80,7 +82,8 @@ invariant_of-self-in-Ok-enter g c =
     let last : c.len-number.result ≡ length c.self.inside.readers.items = omega arith in
     founded (seen.enter c.args.group c.args.slot) (answer.Reader c.len-number.result c.in-Ok-enter.reader.generation) c.self.invariant
     (λ h s.
-    entered-now s c.args.group _ at c.args.slot _ (c.readers.ensures _ _ (s.each _ _ at).core_is) _ c.in-Some.is few left _ c.enter.new.self _
+    entered-now s c.args.group _ at c.args.slot _ (c.readers.ensures _ _ (s.each _ _ at).core_is) _ c.in-Some.is few left _
+    c.enter.new.self _
     c.in-Ok-enter.reader c.enter.ensures.rest grown last c.enter.ensures.site (c.in-Ok-enter.ensures.stands _ _ (s.each _ _ at).core_is)
     (c.in-Ok-enter.ensures.answers _ _ (s.each _ _ at).core_is) c.in-Ok-enter.ensures.own)
 
@@ -93,7 +96,8 @@ invariant_of-self-in-Err g c =
     let left : ¬ (c.in-Some.readers ≡ 18446744073709551615) = λ is. omega (arith, is, c.if-readers.false) in
     founded (seen.enter c.args.group c.args.slot) (answer.Refused c.in-Err.refusal) c.self.invariant
     (λ h s.
-    refused-now s c.args.group _ at c.args.slot _ (c.readers.ensures _ _ (s.each _ _ at).core_is) _ c.in-Some.is few left c.in-Err.refusal c.enter.new.self _
+    refused-now s c.args.group _ at c.args.slot _ (c.readers.ensures _ _ (s.each _ _ at).core_is) _ c.in-Some.is few left c.in-Err.refusal
+    c.enter.new.self _
     c.enter.ensures.rest c.reserve.ensures.items c.enter.ensures.site (c.in-Err.ensures.stands _ _ (s.each _ _ at).core_is)
     (c.in-Err.ensures.answers _ _ (s.each _ _ at).core_is))
 
@@ -111,7 +115,8 @@ returns-in-Ok-enter g c =
     let last : c.len-number.result ≡ length c.self.inside.readers.items = omega arith in
     rw (← c.self.view_is, c.generation-generation.ensures)
     (λ h s.
-    entered-now s c.args.group _ at c.args.slot _ (c.readers.ensures _ _ (s.each _ _ at).core_is) _ c.in-Some.is few left _ c.enter.new.self _
+    entered-now s c.args.group _ at c.args.slot _ (c.readers.ensures _ _ (s.each _ _ at).core_is) _ c.in-Some.is few left _
+    c.enter.new.self _
     c.in-Ok-enter.reader c.enter.ensures.rest grown last c.enter.ensures.site (c.in-Ok-enter.ensures.stands _ _ (s.each _ _ at).core_is)
     (c.in-Ok-enter.ensures.answers _ _ (s.each _ _ at).core_is) c.in-Ok-enter.ensures.own)
 
@@ -124,6 +129,7 @@ returns-in-Err g c =
     let left : ¬ (c.in-Some.readers ≡ 18446744073709551615) = λ is. omega (arith, is, c.if-readers.false) in
     rw (← c.self.view_is)
     (λ h s.
-    refused-now s c.args.group _ at c.args.slot _ (c.readers.ensures _ _ (s.each _ _ at).core_is) _ c.in-Some.is few left c.in-Err.refusal c.enter.new.self _
+    refused-now s c.args.group _ at c.args.slot _ (c.readers.ensures _ _ (s.each _ _ at).core_is) _ c.in-Some.is few left c.in-Err.refusal
+    c.enter.new.self _
     c.enter.ensures.rest c.reserve.ensures.items c.enter.ensures.site (c.in-Err.ensures.stands _ _ (s.each _ _ at).core_is)
     (c.in-Err.ensures.answers _ _ (s.each _ _ at).core_is))

@@ -17,7 +17,8 @@ not-full b n told is = elim (leb_tells (2 ^ 64) n) [ inl t ↦ absurd (false≢t
 
 pub returns-in-Some : goal.returns-in-Some
 returns-in-Some g c =
-    λ h s. group-caused s c.args.registry c.args.gate c.args.configs.items c.in-Some.refusal (rw c.deref.ensures.value at (sym c.cause.ensures ∙ c.in-Some.is))
+    λ h s. group-caused s c.args.registry c.args.gate c.args.configs.items c.in-Some.refusal
+    (rw c.deref.ensures.value at (sym c.cause.ensures ∙ c.in-Some.is))
 
 pub returns-then-is_full : goal.returns-then-is_full
 returns-then-is_full g c =
@@ -26,7 +27,8 @@ returns-then-is_full g c =
     (rw (← c.self.view_is, c.deref.ensures.value) at (sym c.cause.ensures ∙ c.in_default.is)) in
     let at = at-place c.self.inside.registries.items c.args.registry _ free.0 c.index_mut-registry.ensures.value in
     rw (← c.self.view_is)
-    (λ h s. group-is-full s c.args.registry c.args.gate c.args.configs.items at free.1 free.2 (λ k es now. (c.is_full.ensures k es now).0 c.if-is_full.true))
+    (λ h s. group-is-full s c.args.registry c.args.gate c.args.configs.items at free.1 free.2
+    (λ k es now. (c.is_full.ensures k es now).0 c.if-is_full.true))
 
 pub returns-in_default-reserve : goal.returns-in_default-reserve
 returns-in_default-reserve g c =
@@ -37,7 +39,8 @@ returns-in_default-reserve g c =
     let left = λ (k : Member → Member) (es : List Event) (now : IsRegistryAfter key_gives k es c.index_mut-registry.result.now).
     not-full _ _ (c.is_full.ensures k es now) c.if-is_full.false in
     rw (← c.self.view_is, c.reserve.ensures.items)
-    (λ h s. group-lacks s c.args.registry c.args.gate c.args.configs.items at free.1 free.2 left refusal.OutOfMemory _ (λ k es now. refl) (λ k es now. now))
+    (λ h s. group-lacks s c.args.registry c.args.gate c.args.configs.items at free.1 free.2 left refusal.OutOfMemory _ (λ k es now. refl)
+    (λ k es now. now))
 
 pub invariant_of-self-in-Ok-new : goal.invariant_of-self-in-Ok-new
 invariant_of-self-in-Ok-new g c =

@@ -65,4 +65,5 @@ returns g c =
     let at_registry =
     rw c.registry.ensures at (at-place c.self.inside.registries.items c.registry.result _ in_registries c.index-registry.ensures) in
     rw (← c.self.view_is, c.in-Some.is)
-    (λ h s. ready-next s c.args.reader c.in-Some.backend c.ready.result _ _ _ reader in_ at_registry (rw c.reader.ensures at c.ready.ensures))
+    (λ h s. ready-next s c.args.reader c.in-Some.backend c.ready.result _ _ _ reader in_ at_registry
+    (rw c.reader.ensures at c.ready.ensures))

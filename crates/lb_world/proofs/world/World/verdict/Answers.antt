@@ -25,7 +25,8 @@ invariant_of-self g c =
     elim c.match-observe.branch [
       | in-Ok w ↦
           founded st (answer.Flipped w.in-Ok.flipped) c.self.invariant
-          (λ h s. verdict-next s _ _ _ _ _ _ _ at w.in-Ok.ensures.after w.in-Ok.ensures.flipped (λ k es now. (w.in-Ok.ensures.kept k es now).0 refl))
+          (λ h s. verdict-next s _ _ _ _ _ _ _ at w.in-Ok.ensures.after w.in-Ok.ensures.flipped
+          (λ k es now. (w.in-Ok.ensures.kept k es now).0 refl))
       | in-Err w ↦
           founded st (answer.Refused refusal.NoSuch) c.self.invariant
           (λ h s.
@@ -42,7 +43,8 @@ returns g c =
     elim c.match-observe.branch [
       | in-Ok w ↦
           rw w.result-is
-          (verdict-next s _ _ _ _ _ _ _ at w.in-Ok.ensures.after w.in-Ok.ensures.flipped (λ k es now. (w.in-Ok.ensures.kept k es now).0 refl))
+          (verdict-next s _ _ _ _ _ _ _ at w.in-Ok.ensures.after w.in-Ok.ensures.flipped
+          (λ k es now. (w.in-Ok.ensures.kept k es now).0 refl))
       | in-Err w ↦
           rw (w.result-is, refused-so w.in-Err.ensures.refused.0)
           (verdict-refused s _ _ _ _ _ _ at w.in-Err.ensures.refused.1
