@@ -1,37 +1,32 @@
 -- How many cells an update starts: the set of the listed backends starts one for each key that they have and no view has.
-use Rattle.std.proofs.Common.{◌≡◌, ◌≤◌, ◌+◌, ◌&&◌, ◌||◌, ◌∙◌, ℕ, Bool, true, false, cond, not, List, [], ◌∷◌, ◌++◌, length, map, filter}
-use Rattle.std.proofs.Common.{refl, sym, ap, arith, true≢false, if◌then◌else◌}
-use Rattle.std.specs.Prelude.{Option, Some, None, fold}
-use Rattle.std.specs.List.{list_any, cons_option, IsDistinct, AllByRecursion as Each}
-use Rattle.std.specs.List.Sorted.{IsStrictlySortedBy}
-use Rattle.std.specs.Set.{distinct_count, is_member, unique_keys}
-use Rattle.std.specs.BTreeSet.{insert_key}
-use Rattle.std.specs.Cmp.{IsEquivalence}
-use Rattle.std.specs.Ordering.{is_eq, match_ordering, nat_cmp, ordering_reverse, ordering_then}
-use Rattle.std.proofs.Common.{Ordering, Less, Equal, Greater}
-use Rattle.std.proofs.Math.Bool.{and-true}
-use Rattle.std.proofs.lemmas.List.{length-map}
-use Rattle.std.proofs.lemmas.List.Folds.{list_any-append}
-use Rattle.std.proofs.lemmas.Map.Made.{is_member-filter, length-from_keys}
-use Rattle.lb_select.specs.Backends.{Member, address_cmp, member_cmp, same_member}
-use Rattle.lb_select.specs.Unique.{firsts, distinct}
-use Rattle.lb_world.specs.Listings.{some_and}
-use Rattle.lb_registry.specs.Fresh.{has_key, fresh}
-use Rattle.lb_registry.specs.Keys.{IsRuleOf, by_identity, by_address}
-use Rattle.lb_registry.specs.Registry.{RegistryValue, IsRegistryAfter}
-use Rattle.lb_registry.specs.RegistryEvents.{Event, Applied, Updated, cells_given, has_view, views_after}
-use Rattle.lb_registry.specs.Targets.{ViewValue, Candidate, same_key, candidates_of, candidates, live}
-use Rattle.lb_registry.specs.declared.keys.Rule.TheVariants.{Identity, Address, Equivalence}
 use Rattle.lb_registry.proofs.ChangeLemmas.{any-map}
 use Rattle.lb_registry.proofs.FreshLemmas.{updated_given}
 use Rattle.lb_registry.proofs.PlaceLemmas.{any-distinct, each-impl, key_laws}
 use Rattle.lb_registry.proofs.TargetLemmas.{member_laws, member_total}
-use Rattle.lb_history.specs.declared.step.Listing.{Listing}
-use Rattle.lb_history.specs.History.{members_in}
-use Rattle.lb_world.specs.Cells.{lists_key, starts_cell, new_keys}
-use Rattle.lb_world.specs.Rules.{WorldRule, key_gives}
-use Rattle.lb_world.proofs.Listed.{one_there, present}
+use Rattle.lb_registry.specs.Fresh.{fresh, has_key}
+use Rattle.lb_registry.specs.Keys.{IsRuleOf, by_address}
+use Rattle.lb_registry.specs.RegistryEvents.{Applied, Updated, cells_given, has_view}
+use Rattle.lb_registry.specs.Targets.{Candidate, ViewValue, candidates, candidates_of, same_key}
+use Rattle.lb_registry.specs.declared.keys.Rule.TheVariants.{Address, Equivalence, Identity}
+use Rattle.lb_select.specs.Backends.{address_cmp}
+use Rattle.lb_select.specs.Unique.{distinct, firsts}
+use Rattle.lb_world.specs.Cells.{lists_key, new_keys, starts_cell}
+use Rattle.lb_world.specs.Listings.{some_and}
+use Rattle.std.proofs.Common.{filter, true≢false}
+use Rattle.std.proofs.Math.Bool.{and-true}
+use Rattle.std.proofs.lemmas.List.Folds.{list_any-append}
+use Rattle.std.proofs.lemmas.Map.Made.{is_member-filter, length-from_keys}
+use Rattle.std.specs.Cmp.{IsEquivalence}
+use Rattle.std.specs.List.{AllByRecursion as Each, IsDistinct, cons_option}
+use Rattle.std.specs.List.Sorted.{IsStrictlySortedBy}
+use Rattle.std.specs.Ordering.{is_eq, nat_cmp, ordering_reverse, ordering_then}
+use Rattle.std.specs.Set.{distinct_count, is_member, unique_keys}
+use Rattle.lb_world.proofs.Words.{if◌then◌else◌, ◌&&◌, ◌++◌, ◌+◌, ◌||◌, ◌∙◌, ◌∷◌, ◌≡◌, ◌≤◌, [], ap, arith, Bool, by_identity, cond, Equal}
+use Rattle.lb_world.proofs.Words.{Event, false, fold, Greater, insert_key, IsRegistryAfter, key_gives, key_of, length, length-map, Less}
+use Rattle.lb_world.proofs.Words.{List, list_any, Listing, live, map, match_ordering, Member, member_cmp, members_in, None, not, Option}
+use Rattle.lb_world.proofs.Words.{Ordering, refl, RegistryValue, same_member, Some, sym, true, views_after, WorldRule, ℕ}
 use Rattle.lb_world.proofs.SameSets.{any_folded}
+use Rattle.lb_world.proofs.Listed.{one_there, present}
 
 -- the first occurrences are apart
 module _ {B : Type 0} {same : B → B → Bool} (laws : IsEquivalence same) where

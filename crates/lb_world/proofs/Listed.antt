@@ -1,23 +1,20 @@
 -- What the listings of an update list: the members that are there, and the settings that the marks set.
-use Rattle.std.specs.Prelude.{◌≡◌, ℕ, Bool, ◌&&◌, ◌||◌, List, [], ◌∷◌, ◌++◌, Option, Some, None, filter_map, fold, refl}
-use Rattle.std.proofs.Common.{ap, sym, ◌∙◌, Ordering, Less, Equal, Greater}
-use Rattle.std.specs.List.{list_all, list_any, cons_option}
-use Rattle.std.specs.BTreeMap.{insert_entry}
-use Rattle.std.specs.BTreeSet.{insert_key}
-use Rattle.std.specs.Ordering.{match_ordering}
-use Rattle.std.proofs.lemmas.List.Elements.{filter_map-append}
-use Rattle.std.proofs.lemmas.List.Sums.{fold-append}
+use Rattle.lb_health.specs.Joined.{settings_of}
+use Rattle.lb_history.specs.Shared.{marked}
 use Rattle.lb_select.specs.AddressText.{bare_member}
-use Rattle.lb_select.specs.Backends.{Member, member_cmp, same_member}
-use Rattle.lb_select.specs.Memberships.{same_members, set_of}
+use Rattle.lb_select.specs.Memberships.{set_of}
 use Rattle.lb_select.specs.Seen.{address_seen}
 use Rattle.lb_select.specs.declared.backend.SocketAddr.{SocketAddr}
-use Rattle.lb_world.specs.Listings.{none_or, some_and}
-use Rattle.lb_health.specs.Joined.{settings_of}
-use Rattle.lb_history.specs.declared.step.Listing.{Listing}
-use Rattle.lb_history.specs.History.{members_in}
-use Rattle.lb_history.specs.Shared.{marked, settings_in}
 use Rattle.lb_world.specs.Calls.{set_marked, with_key}
+use Rattle.lb_world.specs.Listings.{none_or, some_and}
+use Rattle.std.proofs.lemmas.List.Elements.{filter_map-append}
+use Rattle.std.proofs.lemmas.List.Sums.{fold-append}
+use Rattle.std.specs.BTreeMap.{insert_entry}
+use Rattle.std.specs.List.{cons_option}
+use Rattle.std.specs.Prelude.{filter_map}
+use Rattle.lb_world.proofs.Words.{◌&&◌, ◌++◌, ◌||◌, ◌∙◌, ◌∷◌, ◌≡◌, [], ap, Bool, entries, Equal, fold, Greater, insert_key, Less, List}
+use Rattle.lb_world.proofs.Words.{list_all, list_any, Listing, match_ordering, Member, member_cmp, members_in, None, Option, Ordering, refl}
+use Rattle.lb_world.proofs.Words.{same_member, same_members, settings_in, Some, sym, ℕ}
 use Rattle.lb_world.proofs.SameSets.{same_set}
 
 abbrev pub present : List Listing → List Member

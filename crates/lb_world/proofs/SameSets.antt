@@ -1,64 +1,33 @@
 -- The set of listed backends is the same membership as the list.
-use Rattle.std.specs.Prelude.{◌≡◌, Bool, true, false, ◌&&◌, ◌||◌, List, [], ◌∷◌, fold, refl}
-use Rattle.std.proofs.Common.{ap, ◌∙◌, rules}
-use Rattle.std.specs.List.{list_all, list_any}
-use Rattle.std.specs.BTreeSet.{insert_key}
-use Rattle.std.proofs.Common.{Ordering, Less, Equal, Greater}
-use Rattle.std.specs.Ordering.{is_eq, match_ordering}
+use Rattle.lb_select.specs.Memberships.{set_of}
+use Rattle.std.proofs.Common.{rules}
+use Rattle.std.proofs.Math.Bool.{or_assoc, or_comm}
 use Rattle.std.specs.Cmp.{IsEquivalence}
 use Rattle.std.specs.Cmp.Rules.{comparing}
-use Rattle.lb_select.specs.Backends.{Member, member_cmp, same_member}
-use Rattle.lb_select.specs.Memberships.{set_of, same_members}
+use Rattle.std.specs.Ordering.{is_eq}
+use Rattle.lb_world.proofs.Words.{◌&&◌, ◌||◌, ◌∙◌, ◌∷◌, ◌≡◌, [], ap, ap2, Bool, Equal, false, fold, Greater, insert_key, Less, List}
+use Rattle.lb_world.proofs.Words.{list_all, list_any, match_ordering, Member, member_cmp, not, Ordering, refl, same_member, same_members}
+use Rattle.lb_world.proofs.Words.{sym, true}
 
 same_equivalence : IsEquivalence same_member
 same_equivalence = search (comparing, rules) depth 9
 
-or_swap : (a b : Bool) → (a || b) ≡ (b || a)
-or_swap true true = refl
-or_swap true false = refl
-or_swap false true = refl
-or_swap false false = refl
-
-or_again : (a b : Bool) → (a || b) ≡ ((a || b) || a)
-or_again true b = refl
-or_again false true = refl
-or_again false false = refl
-
-or_in : (a b c : Bool) → (a || (b || c)) ≡ ((a || b) || c)
-or_in true b c = refl
-or_in false b c = refl
-
-or_out : (a b c : Bool) → ((a || b) || c) ≡ (a || (b || c))
-or_out true b c = refl
-or_out false b c = refl
-
-and_swap : (a b : Bool) → (a && b) ≡ (b && a)
-and_swap true true = refl
-and_swap true false = refl
-and_swap false true = refl
-and_swap false false = refl
-
-and_again : (a b : Bool) → (a && b) ≡ ((a && b) && a)
-and_again true true = refl
-and_again true false = refl
-and_again false b = refl
-
-and_in : (a b c : Bool) → (a && (b && c)) ≡ ((a && b) && c)
-and_in true b c = refl
-and_in false b c = refl
-
-and_out : (a b c : Bool) → ((a && b) && c) ≡ (a && (b && c))
-and_out true b c = refl
-and_out false b c = refl
-
--- tests that answer alike
+-- tests that answer alike, and a test of all as one of any
 any_alike : (p q : Member → Bool) → ((x : Member) → p x ≡ q x) → (xs : List Member) → list_any p xs ≡ list_any q xs
 any_alike p q alike [] = refl
-any_alike p q alike (x ∷ xs) = ap (λ v. v || list_any p xs) (alike x) ∙ ap (λ v. q x || v) (any_alike p q alike xs)
+any_alike p q alike (x ∷ xs) = ap2 ◌||◌ (alike x) (any_alike p q alike xs)
 
 all_alike : (p q : Member → Bool) → ((x : Member) → p x ≡ q x) → (xs : List Member) → list_all p xs ≡ list_all q xs
 all_alike p q alike [] = refl
-all_alike p q alike (x ∷ xs) = ap (λ v. v && list_all p xs) (alike x) ∙ ap (λ v. q x && v) (all_alike p q alike xs)
+all_alike p q alike (x ∷ xs) = ap2 ◌&&◌ (alike x) (all_alike p q alike xs)
+
+all-not : (p : Member → Bool) (xs : List Member) → list_all p xs ≡ not (list_any (λ x. not (p x)) xs)
+all-not p [] = refl
+all-not p (x ∷ xs) = by-test (p x) (all-not p xs) where
+  by-test : (b : Bool) → list_all p xs ≡ not (list_any (λ x. not (p x)) xs)
+      → (b && list_all p xs) ≡ not (not b || list_any (λ x. not (p x)) xs)
+  by-test true rest = rest
+  by-test false rest = refl
 
 -- a test that doesn't tell backends of one identity apart
 module _ (p : Member → Bool) (respects : (a b : Member) → same_member a b ≡ true → p a ≡ p b) where
@@ -66,37 +35,23 @@ module _ (p : Member → Bool) (respects : (a b : Member) → same_member a b �
       (x k : Member) (ks : List Member) (o : Ordering) → (is_eq o ≡ true → p k ≡ p x)
       → list_any p (insert_key member_cmp ks k) ≡ (list_any p ks || p k)
       → list_any p (match_ordering o (k ∷ x ∷ ks) (x ∷ ks) (x ∷ insert_key member_cmp ks k)) ≡ ((p x || list_any p ks) || p k)
-  any_step x k ks Less same rest = or_swap (p k) (p x || list_any p ks)
-  any_step x k ks Equal same rest = rw (same refl) (or_again (p x) (list_any p ks))
-  any_step x k ks Greater same rest = ap (λ v. p x || v) rest ∙ or_in (p x) (list_any p ks) (p k)
+  any_step x k ks Less same rest = or_comm (p k) (p x || list_any p ks)
+  any_step x k ks Equal same rest = rw (same refl) (again (p x) (list_any p ks)) where
+    again : (a b : Bool) → (a || b) ≡ ((a || b) || a)
+    again true b = refl
+    again false true = refl
+    again false false = refl
+  any_step x k ks Greater same rest = ap (λ v. p x || v) rest ∙ sym (or_assoc (p x) (list_any p ks) (p k))
 
   any_inserted : (ks : List Member) (k : Member) → list_any p (insert_key member_cmp ks k) ≡ (list_any p ks || p k)
-  any_inserted [] k = or_swap (p k) false
+  any_inserted [] k = or_comm (p k) false
   any_inserted (x ∷ ks) k = any_step x k ks (member_cmp k x) (respects k x) (any_inserted ks k)
 
   pub any_folded : (acc xs : List Member) → list_any p (fold (insert_key member_cmp) acc xs) ≡ (list_any p acc || list_any p xs)
-  any_folded acc [] = or_swap false (list_any p acc)
+  any_folded acc [] = or_comm false (list_any p acc)
   any_folded acc (x ∷ xs) =
       any_folded (insert_key member_cmp acc x) xs ∙ ap (λ v. v || list_any p xs) (any_inserted acc x)
-      ∙ or_out (list_any p acc) (p x) (list_any p xs)
-
-  all_step :
-      (x k : Member) (ks : List Member) (o : Ordering) → (is_eq o ≡ true → p k ≡ p x)
-      → list_all p (insert_key member_cmp ks k) ≡ (list_all p ks && p k)
-      → list_all p (match_ordering o (k ∷ x ∷ ks) (x ∷ ks) (x ∷ insert_key member_cmp ks k)) ≡ ((p x && list_all p ks) && p k)
-  all_step x k ks Less same rest = and_swap (p k) (p x && list_all p ks)
-  all_step x k ks Equal same rest = rw (same refl) (and_again (p x) (list_all p ks))
-  all_step x k ks Greater same rest = ap (λ v. p x && v) rest ∙ and_in (p x) (list_all p ks) (p k)
-
-  all_inserted : (ks : List Member) (k : Member) → list_all p (insert_key member_cmp ks k) ≡ (list_all p ks && p k)
-  all_inserted [] k = and_swap (p k) true
-  all_inserted (x ∷ ks) k = all_step x k ks (member_cmp k x) (respects k x) (all_inserted ks k)
-
-  all_folded : (acc xs : List Member) → list_all p (fold (insert_key member_cmp) acc xs) ≡ (list_all p acc && list_all p xs)
-  all_folded acc [] = and_swap true (list_all p acc)
-  all_folded acc (x ∷ xs) =
-      all_folded (insert_key member_cmp acc x) xs ∙ ap (λ v. v && list_all p xs) (all_inserted acc x)
-      ∙ and_out (list_all p acc) (p x) (list_all p xs)
+      ∙ or_assoc (list_any p acc) (p x) (list_any p xs)
 
 pub same_set : (xs ys : List Member) → same_members (set_of xs) ys ≡ same_members xs ys
 same_set xs ys =
@@ -104,7 +59,9 @@ same_set xs ys =
     λ a b same. any_alike (same_member a) (same_member b) (λ z. same_equivalence.congr a b z same) ys in
     let alike : (y a b : Member) → same_member a b ≡ true → same_member y a ≡ same_member y b =
     λ y a b same. same_equivalence.symm y a ∙ same_equivalence.congr a b y same ∙ same_equivalence.symm b y in
-    ap (λ v. v && list_all (λ y. list_any (same_member y) (set_of xs)) ys) (all_folded (λ x. list_any (same_member x) ys) in_ys [] xs)
-    ∙ ap (λ v. list_all (λ x. list_any (same_member x) ys) xs && v)
+    let known = λ (x : Member). list_any (same_member x) ys in
+    ap2 ◌&&◌
+    (all-not known (set_of xs) ∙ ap not (any_folded (λ x. not (known x)) (λ a b same. ap not (in_ys a b same)) [] xs) ∙ sym
+    (all-not known xs))
     (all_alike (λ y. list_any (same_member y) (set_of xs)) (λ y. list_any (same_member y) xs)
     (λ y. any_folded (same_member y) (alike y) [] xs) ys)

@@ -1,5 +1,5 @@
 -- A world stands for a history: the answers are a run, and each table is what the history tells.
-use Rattle.std.specs.Prelude.{◌≡◌, ◌<◌, ℕ, Bool, true, false, ◌||◌, ◌∷◌, Some, length, map, slice_get, if◌then◌else◌}
+use Rattle.std.specs.Prelude.{◌≡◌, ◌<◌, ℕ, Bool, true, false, ◌||◌, List, ◌∷◌, Some, length, map, slice_get, if◌then◌else◌}
 use Rattle.std.specs.Option.{option_map}
 use Rattle.lb_select.specs.Backends.{Member}
 use Rattle.lb_select.specs.Loads.{load_in}
@@ -35,13 +35,18 @@ module _ {C : Type 0} where
   abbrev pub made_of : EntryValue C → Made C
   made_of e = record { registry = e.registry; gate = e.gate; view = e.core.view.id; configs = configs_of e.core.group }
 
+  -- what is held for each slot of the group is what the history tells
+  abbrev pub AreHeld : History C → ℕ → EntryValue C → List (WorkValue C) → Type 0
+  AreHeld h g e held =
+      (s : ℕ) (c : C) (k : WorkValue C) → slice_get (configs_of e.core.group) s ≡ Some c → slice_get held s ≡ Some k
+      → k ≡ held_of (origin e.core) s c (past g s h) (work g s h)
+
   -- the entry is what the history tells of the group
   pub record EntryIs (h : History C) (g : ℕ) (e : EntryValue C) : Type 0 where
     pub made_is : made_at g h ≡ Some (made_of e)
     pub core_is : joined.Stands (site e.core) (joined_events g h) e.core
     pub works_in : length e.works ≡ length (configs_of e.core.group)
-    pub works_are : (s : ℕ) (c : C) (k : WorkValue C) → slice_get (configs_of e.core.group) s ≡ Some c → slice_get e.works s ≡ Some k
-        → k ≡ held_of (origin e.core) s c (past g s h) (work g s h)
+    pub works_are : AreHeld h g e e.works
     pub loads_are : (b : Member) → load_in e.loads b ≡ load_of g b h
 
 module _ {C : Type 0} (M : Meaning C) where
@@ -64,6 +69,13 @@ module _ {C : Type 0} (M : Meaning C) where
     pub history : History C
     pub stands : Stands w history
 
+  -- a group with its gate and its registry, before a step
+  pub record Before (h : History C) (g : ℕ) (e : EntryValue C) (z : GateView) (v : RegistryValue WorldRule) : Type 0 where
+    pub run : IsRun M h
+    pub is : EntryIs h g e
+    pub out : z.out ≡ is_out e.gate h
+    pub kept : IsRegistryAfter key_gives (key_of g h) (registry_events e.registry h) v
+
   -- a right step at a group: the group, its gate and its registry after it
   pub record EntryNext (h : History C) (g : ℕ) (st : Step C) (a : Answer) (e : EntryValue C) (z : GateView) (e2 : EntryValue C)
       (z2 : GateView) (v2 : RegistryValue WorldRule)
@@ -79,10 +91,7 @@ module _ {C : Type 0} (M : Meaning C) where
   -- what a call at an entry does, after each history and as each number
   abbrev pub Does : (ℕ → Step C) → EntryValue C → GateView → RegistryValue WorldRule → Answer → EntryValue C → GateView
       → RegistryValue WorldRule → Type 0
-  Does st e z v a e2 z2 v2 =
-      (h : History C) (g : ℕ) → IsRun M h → EntryIs h g e → z.out ≡ is_out e.gate h
-      → IsRegistryAfter key_gives (key_of g h) (registry_events e.registry h) v
-      → EntryNext h g (st g) a e z e2 z2 v2
+  Does st e z v a e2 z2 v2 = (h : History C) (g : ℕ) → Before h g e z v → EntryNext h g (st g) a e z e2 z2 v2
 
   -- the same, where the gate or the registry is not at hand and stays as it is
   abbrev pub DoesAtGate : (ℕ → Step C) → EntryValue C → GateView → Answer → EntryValue C → GateView → Type 0

@@ -1,46 +1,85 @@
 -- The numbers that the core reads are the history's.
-use Rattle.std.proofs.Common.{◌∙◌, refl, sym}
-use Rattle.lb_select.specs.declared.refusal.Refusal.TheVariants as refusal
-use Rattle.lb_history.specs.Meanings.{meaning_of}
+use Rattle.lb_group.proofs.Pasts.{newest-past}
+use Rattle.lb_group.specs.Flights.{flight_after}
+use Rattle.lb_group.specs.Stands.{counts_after}
+use Rattle.lb_group.specs.declared.answers.Counts.{Counts}
+use Rattle.lb_history.specs.Answers.{numbers_of}
+use Rattle.std.proofs.lemmas.Option.{cond_some}
 use Rattle.lb_history.specs.Steps as seen
-use Rattle.lb_world.proofs.CoreSteps.{counts-right, counts-absent}
-use Rattle.lb_world.proofs.Holding.{next-still}
-use Rattle.lb_world.proofs.Quiet.{still, refused-still}
+use Rattle.lb_group.specs.GroupHistory as group
+use Rattle.lb_joined.specs.JoinedHistory as joined
+use Rattle.lb_history.specs.declared.answer.Answer.TheVariants as answer
+use Rattle.lb_select.specs.declared.refusal.Refusal.TheVariants as refusal
+use Rattle.lb_world.proofs.Words.{◌∙◌, ◌≡◌, answer_after, Answers, ap, at_slot, Before, Bool, configs_of, EntryValue, GateView, group-of}
+use Rattle.lb_world.proofs.Words.{History, inl, joined_events, length, Meaning, nat_lt, newest, None, Option, past, past_of, refl}
+use Rattle.lb_world.proofs.Words.{RegistryValue, served, site, Some, sym, WorldRule, ℕ}
+use Rattle.lb_world.proofs.Entries.{itself, next-core, same-flight, told-of, unshared}
 use Rattle.lb_world.proofs.entry.Entry.counts.Goals as goal
 use Rattle.lb_world.proofs.entry.Entry.counts.Goals.{in_default-via-in-Some+in-Some+in-Some+in_default}
 use Rattle.lb_world.proofs.entry.Entry.counts.Goals.{in_default-via-in-Some+in-Some+in_default, in_default-via-in-Some+in_default}
 use Rattle.lb_world.proofs.entry.Entry.counts.Goals.{in_default-via-in_default}
 
+module _ {C : Type 0} {M : Meaning C} {h : History C} {g : ℕ} {e : EntryValue C} {z : GateView} {v : RegistryValue WorldRule}
+    (b : Before M h g e z v) where
+  counts-right : (s newest served : ℕ) (flight : Option ℕ) (waiting : Bool) (counts : Counts)
+      → newest ≡ group.newest (joined.group_events (joined_events g h))
+      → Some served ≡ at_slot (site e.core) s (group.served (past_of s (joined.group_events (joined_events g h))))
+      → Some flight ≡ at_slot (site e.core) s (flight_after (past_of s (joined.group_events (joined_events g h))))
+      → Some waiting ≡ at_slot (site e.core) s (group.waits (past_of s (joined.group_events (joined_events g h))))
+      → Some counts ≡ at_slot (site e.core) s (counts_after (past_of s (joined.group_events (joined_events g h))))
+      → answer_after M h (seen.counts g s) ≡ answer.Numbers
+      (record { newest = newest; served = served; flight = flight; waiting = waiting; counts = counts })
+  counts-right s newest served flight waiting counts n a x y d =
+      let k = joined.group_events (joined_events g h) in
+      let p = past_of s k in
+      let within = nat_lt s (length (configs_of e.core.group)) in
+      told-of b.is s (group.served p) (Some served) (λ i. answer.Numbers (numbers_of (past g s h))) a
+      ∙ ap (λ (q : group.History). answer.Numbers (numbers_of (past_of s q))) (sym (group-of g h))
+      ∙ same-numbers _ _ _ _ _ _ _ _ _ _ (newest-past s k ∙ sym n) (cond_some within _ _ (sym a)).1
+      (same-flight (group.extra p) ∙ (cond_some within _ _ (sym x)).1) (cond_some within _ _ (sym y)).1 (cond_some within _ _ (sym d)).1
+    where
+      same-numbers : (n m s t : ℕ) (f i : Option ℕ) (w x : Bool) (c d : Counts) → n ≡ m → s ≡ t → f ≡ i → w ≡ x → c ≡ d
+          → answer.Numbers (record { newest = n; served = s; flight = f; waiting = w; counts = c }) ≡ answer.Numbers
+          (record { newest = m; served = t; flight = i; waiting = x; counts = d })
+      same-numbers n m s t f i w x c d a b e u v = cc
+
+  absent : {A : Type 0} (s : ℕ) (x : A) (r : Option A) → r ≡ at_slot (site e.core) s x → r ≡ None
+      → Answers M h (seen.counts g s) (answer.Refused refusal.NoSuch)
+  absent s x r to none =
+      inl (sym (told-of b.is s x None (λ i. answer.Numbers (numbers_of (past g s h))) (sym none ∙ to)))
+
 pub returns-in-Some-Some-Some-Some : goal.returns-in-Some-Some-Some-Some
 returns-in-Some-Some-Some-Some g c =
     rw (← c.self.view_is)
-    (λ z v h n run is out kept.
-    next-still (meaning_of g.S.BackendSelection) h n (seen.counts n c.args.slot) _ _ z v is kept
-    (counts-right (meaning_of g.S.BackendSelection) h n c.args.slot _ _ _ _ _ _ is (c.newest.ensures _ _ is.core_is)
-    (sym (c.served.ensures _ _ is.core_is) ∙ c.in-Some-Some-Some-Some.is-0)
-    (sym (c.flight.ensures _ _ is.core_is) ∙ c.in-Some-Some-Some-Some.is-1)
-    (sym (c.is_waiting.ensures _ _ is.core_is) ∙ c.in-Some-Some-Some-Some.is-2)
-    (sym (c.counts.ensures _ _ is.core_is) ∙ c.in-Some-Some-Some-Some.is-3))
-    (still h (seen.counts n c.args.slot) _ refl refl refl refl (λ k. refl) (λ k e. refl) (λ es. refl) refl refl (λ w. refl) (λ i b. refl))
-    refl)
+    (λ z v h n b.
+    let w = c.in-Some-Some-Some-Some in
+    let a = answer.Numbers (record {
+      newest = c.newest.result;
+      served = w.served;
+      flight = w.flight;
+      waiting = w.waiting;
+      counts =
+          w.counts;
+    }) in
+    next-core b (seen.counts n c.args.slot) a refl
+    (inl (sym (counts-right b c.args.slot _ _ _ _ _ (c.newest.ensures _ _ b.is.core_is) (sym w.is-0 ∙ c.served.ensures _ _ b.is.core_is)
+    (sym w.is-1 ∙ c.flight.ensures _ _ b.is.core_is) (sym w.is-2 ∙ c.is_waiting.ensures _ _ b.is.core_is)
+    (sym w.is-3 ∙ c.counts.ensures _ _ b.is.core_is))))
+    (itself _) b.is.core_is refl (λ s. refl) (λ m. refl) refl (unshared b (seen.counts n c.args.slot) a refl refl))
 
 pub returns-in_default : goal.returns-in_default
 returns-in_default g c =
     rw (← c.self.view_is)
-    (λ z v h n run is out kept.
-    next-still (meaning_of g.S.BackendSelection) h n (seen.counts n c.args.slot) _ _ z v is kept
+    (λ z v h n b.
+    next-core b (seen.counts n c.args.slot) (answer.Refused refusal.NoSuch) refl
     (elim c.in_default.branch [
       | in_default-via-in-Some+in-Some+in-Some+in_default w ↦
-          counts-absent (meaning_of g.S.BackendSelection) h n c.args.slot _ _ c.counts.result is
-          (c.counts.ensures _ _ is.core_is) w.in_default.is-3
+          absent b c.args.slot _ c.counts.result (c.counts.ensures _ _ b.is.core_is) w.in_default.is-3
       | in_default-via-in-Some+in-Some+in_default w ↦
-          counts-absent (meaning_of g.S.BackendSelection) h n c.args.slot _ _ c.is_waiting.result is
-          (c.is_waiting.ensures _ _ is.core_is) w.in_default.is-2
+          absent b c.args.slot _ c.is_waiting.result (c.is_waiting.ensures _ _ b.is.core_is) w.in_default.is-2
       | in_default-via-in-Some+in_default w ↦
-          counts-absent (meaning_of g.S.BackendSelection) h n c.args.slot _ _ c.flight.result is
-          (c.flight.ensures _ _ is.core_is) w.in_default.is-1
-      | in_default-via-in_default w ↦
-          counts-absent (meaning_of g.S.BackendSelection) h n c.args.slot _ _ c.served.result is
-          (c.served.ensures _ _ is.core_is) w.in_default.is-0
+          absent b c.args.slot _ c.flight.result (c.flight.ensures _ _ b.is.core_is) w.in_default.is-1
+      | in_default-via-in_default w ↦ absent b c.args.slot _ c.served.result (c.served.ensures _ _ b.is.core_is) w.in_default.is-0
     ])
-    (refused-still h (seen.counts n c.args.slot) refusal.NoSuch) refl)
+    (itself _) b.is.core_is refl (λ s. refl) (λ m. refl) refl (unshared b (seen.counts n c.args.slot) (answer.Refused refusal.NoSuch) refl
+    refl))

@@ -1,28 +1,58 @@
 -- The flight that the core lost is the one that was read.
-use Rattle.std.proofs.Common.{refl}
-use Rattle.lb_history.specs.Meanings.{meaning_of}
+use Rattle.lb_group.specs.Flights.{flight_after}
+use Rattle.lb_group.specs.GroupCalls.{lose_refusal}
+use Rattle.lb_history.specs.Answers.{lost_answer}
+use Rattle.lb_world.specs.Calls.{number_of}
 use Rattle.lb_history.specs.Steps as seen
-use Rattle.lb_world.proofs.CoreSteps.{does-lost, lost-right, next-told}
-use Rattle.lb_world.proofs.Quiet.{refused-still}
+use Rattle.lb_group.specs.GroupHistory as group
+use Rattle.lb_joined.specs.JoinedHistory as joined
+use Rattle.lb_history.specs.declared.answer.Answer.TheVariants as answer
+use Rattle.lb_select.specs.declared.refusal.Refusal.TheVariants as refusal
+use Rattle.lb_world.proofs.Words.{◌∙◌, ◌≡◌, answer_after, ap, at_one, at_slot, Before, Bool, cond, config, configs_of, EntryValue, false}
+use Rattle.lb_world.proofs.Words.{GateView, History, inl, joined_events, length, Meaning, nat_lt, None, Option, past, past_of, refl}
+use Rattle.lb_world.proofs.Words.{Refusal, RegistryValue, site, Some, sym, true, unless_refused, WorldRule, ℕ}
+use Rattle.lb_world.proofs.Places.{there}
+use Rattle.lb_world.proofs.Entries.{next-core, reading-told, same-flight, unshared}
 use Rattle.lb_world.proofs.entry.Entry.lost.Goals as goal
 use Rattle.lb_world.proofs.entry.Entry.lost.Goals.{in-Ok, in-Err}
+
+-- where there is a flight, what was read of it is its generation
+told-flight : (there flies : Bool) (n : ℕ) (f : Option (Option ℕ)) (r : Option Refusal)
+    → f ≡ cond there (Some (cond flies (Some n) None)) None
+    → cond there (cond flies None (Some refusal.NothingInFlight)) (Some refusal.NoSuch) ≡ r
+    → at_one f lost_answer ≡ unless_refused r (answer.Lost (number_of f))
+told-flight true true n f r is e = rw (← e, is) refl
+told-flight true false n f r is e = rw (← e, is) refl
+told-flight false flies n f r is e = rw (← e, is) refl
+
+module _ {C : Type 0} {M : Meaning C} {h : History C} {g : ℕ} {e : EntryValue C} {z : GateView} {v : RegistryValue WorldRule}
+    (b : Before M h g e z v) where
+  told-lost : (s : ℕ) (f : Option (Option ℕ)) (r : Option Refusal)
+      → f ≡ at_slot (site e.core) s (flight_after (past_of s (joined.group_events (joined_events g h))))
+      → lose_refusal (site e.core) s (joined.group_events (joined_events g h)) ≡ r
+      → answer_after M h (seen.lost g s) ≡ unless_refused r (answer.Lost (number_of f))
+  told-lost s f r to is =
+      let x = group.extra (past_of s (joined.group_events (joined_events g h))) in
+      ap (λ (o : Option ℕ). at_one (config g s h) (λ c. lost_answer o)) (same-flight (group.extra (past g s h)))
+      ∙ reading-told b.is s flight_after lost_answer f to
+      ∙ told-flight (nat_lt s (length (configs_of e.core.group))) (group.is_flight x) (group.flight_number x) f r to is
 
 pub returns : goal.returns
 returns g c =
     rw (← c.self.view_is)
-    (λ z v h n run is out kept.
+    (λ z v h n b.
     elim c.match-worker_lost.branch [
       | in-Ok w ↦
           rw (w.result-is, w.number_in.ensures)
-          (does-lost (meaning_of g.S.BackendSelection) h n c.args.slot _ _ c.flight-flight.result z v is c.worker_lost.ensures.site
-          (w.in-Ok.ensures.stands _ _ is.core_is) (c.flight-flight.ensures _ _ is.core_is) (w.in-Ok.ensures.answers _ _ is.core_is) kept)
+          (next-core b (seen.lost n c.args.slot) (answer.Lost (number_of c.flight-flight.result)) refl
+          (inl (sym (told-lost b c.args.slot _ None (c.flight-flight.ensures _ _ b.is.core_is) (w.in-Ok.ensures.answers _ _ b.is.core_is))))
+          c.worker_lost.ensures.site (w.in-Ok.ensures.stands _ _ b.is.core_is) refl (λ s. refl) (λ m. refl) refl
+          (unshared b (seen.lost n c.args.slot) (answer.Lost (number_of c.flight-flight.result)) refl refl))
       | in-Err w ↦
           rw w.result-is
-          (next-told (meaning_of g.S.BackendSelection) h (seen.lost n c.args.slot) _ n _ _ z v
-          (refused-still h (seen.lost n c.args.slot) _) is
-          c.worker_lost.ensures.site (w.in-Err.ensures.stands _ _ is.core_is)
-          (lost-right (meaning_of g.S.BackendSelection) h n c.args.slot _ c.flight-flight.result _ is
-          (c.flight-flight.ensures _ _ is.core_is)
-          (w.in-Err.ensures.answers _ _ is.core_is))
-          refl kept)
+          (next-core b (seen.lost n c.args.slot) (answer.Refused w.in-Err.refusal) refl
+          (inl (sym (told-lost b c.args.slot _ (Some w.in-Err.refusal) (c.flight-flight.ensures _ _ b.is.core_is)
+          (w.in-Err.ensures.answers _ _ b.is.core_is))))
+          c.worker_lost.ensures.site (w.in-Err.ensures.stands _ _ b.is.core_is) refl (λ s. refl) (λ m. refl) refl
+          (unshared b (seen.lost n c.args.slot) (answer.Refused w.in-Err.refusal) refl refl))
     ])

@@ -1,11 +1,28 @@
 -- The core's flag.
-use Rattle.lb_history.specs.Meanings.{meaning_of}
-use Rattle.lb_world.proofs.CoreSteps.{does-set}
+use Rattle.lb_joined.specs.Stands as stands
+use Rattle.lb_history.specs.Steps as seen
+use Rattle.lb_joined.specs.JoinedHistory as joined
+use Rattle.lb_history.specs.declared.answer.Answer.TheVariants as answer
+use Rattle.lb_world.proofs.Words.{◌∷◌, Before, Bool, cond, EntryNext, EntryValue, false, GateView, History, inl, joined_events, JoinedValue}
+use Rattle.lb_world.proofs.Words.{Meaning, Member, refl, RegistryValue, site, Some, sym, true, with_core, WorldRule, ℕ}
+use Rattle.lb_world.proofs.Entries.{group-told, next-core, unshared}
 use Rattle.lb_world.proofs.entry.Entry.set_enable.Goals as goal
+
+module _ {C : Type 0} {M : Meaning C} {h : History C} {g : ℕ} {e : EntryValue C} {z : GateView} {v : RegistryValue WorldRule}
+    (b : Before M h g e z v) where
+  does-set : {core : JoinedValue C} (m : Member) (on : Bool) → stands.SameSite e.core core
+      → stands.Stands (site e.core) (joined.Set m on ∷ joined_events g h) core
+      → EntryNext M h g (cond on (seen.enable g (Some m)) (seen.disable g (Some m))) answer.Done e z (with_core core e) z v
+  does-set m true same stays =
+      next-core b (seen.enable g (Some m)) answer.Done refl (inl (sym (group-told b.is answer.Done))) same stays refl (λ s. refl)
+      (λ m. refl)
+      refl (unshared b (seen.enable g (Some m)) answer.Done refl refl)
+  does-set m false same stays =
+      next-core b (seen.disable g (Some m)) answer.Done refl (inl (sym (group-told b.is answer.Done))) same stays refl (λ s. refl)
+      (λ m. refl)
+      refl (unshared b (seen.disable g (Some m)) answer.Done refl refl)
 
 pub returns : goal.returns
 returns g c =
     rw (← c.self.view_is)
-    (λ z v h n run is out kept.
-    does-set (meaning_of g.S.BackendSelection) h n _ _ z v _ c.args.enabled is c.set_enable.ensures.site
-    (c.set_enable.ensures.stands _ _ is.core_is) kept)
+    (λ z v h n b. does-set b _ c.args.enabled c.set_enable.ensures.site (c.set_enable.ensures.stands _ _ b.is.core_is))

@@ -1,6 +1,5 @@
 -- The set of the backends that are there has their members.
-use Rattle.std.proofs.Common.{◌∙◌, ap}
-use Rattle.std.specs.Prelude.{not}
+use Rattle.lb_world.proofs.Words.{◌∙◌, ap, not}
 use Rattle.lb_world.proofs.Listed.{listed_members}
 use Rattle.lb_world.proofs.entry.listed.differs.Goals as goal
 

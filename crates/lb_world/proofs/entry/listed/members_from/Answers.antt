@@ -1,15 +1,12 @@
 -- The backends that are there, one after the other.
-use Rattle.std.proofs.Common.{◌≡◌, ◌∙◌, ◌∷◌, [], List, map, refl, sym, ap}
+use Rattle.lb_world.specs.Calls.{with_key}
 use Rattle.std.proofs.lemmas.Iterator.Adapters.{YieldsList-from_vec}
 use Rattle.std.proofs.lemmas.Iterator.Consumers.{YieldsList-end}
-use Rattle.lb_history.specs.History.{members_in}
-use Rattle.lb_world.specs.Calls.{with_key}
+use Rattle.std.proofs.lemmas.List.{map-id}
+use Rattle.lb_world.proofs.Words.{◌∙◌, ap, members_in, sym}
+use Rattle.lb_world.proofs.Entries.{taken}
 use Rattle.lb_world.proofs.Listed.{member-more}
 use Rattle.lb_world.proofs.entry.listed.members_from.Goals as goal
-
-map_same : {X : Type 0} (xs : List X) → map (λ x. x) xs ≡ xs
-map_same [] = refl
-map_same {X} (x ∷ xs) = ap (λ (ys : List X). x ∷ ys) (map_same xs)
 
 pub loop-listing-init : goal.loop-listing-init
 loop-listing-init c = record { gathered = c.new-members.ensures.empty }
@@ -29,5 +26,5 @@ returns-clause-set c =
     YieldsList-end
     (YieldsList-from_vec c.args.listings.items gives.0 (gives.1 ∙ c.args.listings.ok.0)) c.loop-listing.yielded
     c.loop-listing.listing-iterator c.loop-listing.yielded_by c.next.result c.next.new.self c.in-None.is c.next.ensures.steps in
-    let taken = sym (map_same c.loop-listing.yielded) ∙ all.0 in
+    let taken = sym (map-id c.loop-listing.yielded) ∙ all.0 in
     c.loop-listing.invariant.gathered ∙ ap members_in taken

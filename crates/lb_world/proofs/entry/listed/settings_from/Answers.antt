@@ -1,9 +1,9 @@
 -- The marks, one after the other.
-use Rattle.std.proofs.Common.{◌∙◌, ◌++◌, ◌∷◌, [], take, sym, ap}
-use Rattle.std.proofs.lemmas.List.{take_more}
-use Rattle.lb_history.specs.declared.step.Listing.{Listing}
-use Rattle.lb_history.specs.Shared.{marked, settings_in}
+use Rattle.lb_history.specs.Shared.{marked}
 use Rattle.lb_world.specs.Calls.{set_marked}
+use Rattle.std.proofs.Common.{take}
+use Rattle.std.proofs.lemmas.List.{take_more}
+use Rattle.lb_world.proofs.Words.{◌++◌, ◌∙◌, ◌∷◌, [], ap, Listing, settings_in, sym}
 use Rattle.lb_world.proofs.Listed.{setting-more}
 use Rattle.lb_world.proofs.entry.listed.settings_from.Goals as goal
 

@@ -1,6 +1,6 @@
 -- The empty history stands behind it.
-use Rattle.std.proofs.Common.{[]}
-use Rattle.lb_world.proofs.EmptyWorld.{empty}
+use Rattle.lb_world.proofs.Words.{[]}
+use Rattle.lb_world.proofs.Tables.{empty}
 use Rattle.lb_world.proofs.world.World.new.Goals as goal
 
 pub invariant_of-result : goal.invariant_of-result

@@ -1,31 +1,30 @@
 -- A loop over the steps, in which the world stands for the history so far; the promises are laws of every run.
-use Rattle.std.proofs.Common.{◌∙◌, ℕ, length, map, sym, ap, arith}
-use Rattle.std.proofs.lemmas.Iterator.Adapters.{YieldsList-from_vec}
-use Rattle.std.proofs.lemmas.Iterator.Consumers.{YieldsList-end}
-use Rattle.std.proofs.lemmas.List.{length_push}
-use Rattle.lb_history.specs.History.{History, after}
-use Rattle.lb_history.specs.Meanings.{Meaning, meaning_of}
-use Rattle.lb_history.specs.Promises.{Promised, ViewFollows, LivesExactly, NeverFalls, Raises, DestroysExactly}
-use Rattle.lb_history.specs.Refused.{RefusedStays}
+use Rattle.lb_history.proofs.Drawing.{refused-stays}
+use Rattle.lb_history.proofs.Joining.{judged-by, view-follows}
+use Rattle.lb_history.proofs.Living.{lives-exactly}
+use Rattle.lb_history.proofs.Promised.{never-falls}
+use Rattle.lb_history.proofs.Selecting.{first-accepted}
+use Rattle.lb_history.proofs.Steps.{destroys, raises}
+use Rattle.lb_history.specs.Promises.{DestroysExactly, LivesExactly, NeverFalls, Promised, Raises, ViewFollows}
+use Rattle.lb_history.specs.Refused.{RefusedStays, unrefused}
 use Rattle.lb_history.specs.Selected.{FirstAccepted}
 use Rattle.lb_history.specs.Steps.{step_seen}
-use Rattle.lb_history.proofs.Drawing.{refused-stays}
-use Rattle.lb_history.proofs.Joining.{view-follows, judged-by}
-use Rattle.lb_history.proofs.Living.{lives-exactly}
-use Rattle.lb_history.proofs.Promised.{promised, never-falls}
-use Rattle.lb_history.proofs.Selecting.{first-accepted}
-use Rattle.lb_history.proofs.Steps.{raises, destroys}
 use Rattle.lb_world.specs.Ever.{JudgedByOwn}
-use Rattle.lb_world.specs.Stands.{Stands}
-use Rattle.lb_world.proofs.Runs.{after-push, map-push, map-length, map-same, each-step, always}
-use Rattle.lb_world.proofs.Unrefused.{stands-unrefused}
+use Rattle.std.proofs.lemmas.Iterator.Adapters.{YieldsList-from_vec}
+use Rattle.std.proofs.lemmas.Iterator.Consumers.{YieldsList-end}
+use Rattle.std.proofs.lemmas.List.{map-append, map-id}
+use Rattle.lb_world.proofs.Words.{◌∙◌, ◌∷◌, [], after, ap, arith, History, length, length-map, length_push, map, Meaning, meaning_of}
+use Rattle.lb_world.proofs.Words.{promised, Stands, sym, ℕ}
+use Rattle.lb_world.proofs.Entries.{taken}
+use Rattle.lb_world.proofs.Tables.{stands-unrefused}
+use Rattle.lb_world.proofs.Runs.{after-push, always, each-step}
 use Rattle.lb_world.proofs.world.World.run.Goals as goal
 
 pub loop-step-preserved : goal.loop-step-preserved
 loop-step-preserved g c =
     let longer = ap length c.push_reserved.ensures.items ∙ length_push c.loop-step.answers.items c.step.result in
     let further = length_push c.loop-step.yielded c.in-Some.step in
-    let lengths = map-length step_seen c.loop-step.yielded ∙ sym c.loop-step.invariant.answered in
+    let lengths = length-map c.loop-step.yielded step_seen ∙ sym c.loop-step.invariant.answered in
     record {
       answered = omega (arith, longer, further, c.loop-step.invariant.answered);
       room = c.push_reserved.ensures.capacity ∙ c.loop-step.invariant.room;
@@ -33,7 +32,7 @@ loop-step-preserved g c =
           λ h stands.
           rw (
             c.push_reserved.ensures.items,
-            map-push step_seen c.loop-step.yielded c.in-Some.step,
+            map-append step_seen c.loop-step.yielded (c.in-Some.step ∷ []),
             after-push h (map step_seen c.loop-step.yielded) c.loop-step.answers.items (step_seen c.in-Some.step) c.step.result lengths,
           )
           (c.step.ensures _ (c.loop-step.invariant.stood h stands));
@@ -46,7 +45,7 @@ returns g c =
     YieldsList-end
     (YieldsList-from_vec c.args.steps.items gives.0 (gives.1 ∙ c.args.steps.ok.0)) c.loop-step.yielded c.loop-step.step-iterator
     c.loop-step.yielded_by c.next.result c.next.new.self c.in-None.is c.next.ensures.steps in
-    let taken = sym (map-same c.loop-step.yielded) ∙ all.0 in
+    let taken = sym (map-id c.loop-step.yielded) ∙ all.0 in
     let m : Meaning g.row.S-Config.Denot = meaning_of g.S.BackendSelection in
     let stood : (h : History g.row.S-Config.Denot) → Stands m c.args.self.now h
     → Stands m c.loop-step.self (after h (map step_seen c.args.steps.items) c.loop-step.answers.items) =

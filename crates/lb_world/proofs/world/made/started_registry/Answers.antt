@@ -1,6 +1,6 @@
 -- Cells that start unhealthy are the registry's first event.
-use Rattle.std.proofs.Common.{[]}
 use Rattle.lb_history.specs.Shared.{key_by}
+use Rattle.lb_world.proofs.Words.{[]}
 use Rattle.lb_world.proofs.world.made.started_registry.Goals as goal
 
 pub returns : goal.returns

@@ -1,10 +1,9 @@
 -- One listing more is counted, or left out.
-use Rattle.std.proofs.Common.{◌≡◌, ◌∙◌, ◌+◌, ◌-◌, ℕ, true, false, List, ◌∷◌, cond, drop, length, sym, take, ap, arith}
-use Rattle.std.proofs.lemmas.List.{at_drop_more, take_all, length-drop}
-use Rattle.lb_registry.specs.RegistryEvents.{views_after}
-use Rattle.lb_registry.specs.Targets.{live}
-use Rattle.lb_history.specs.declared.step.Listing.{Listing}
 use Rattle.lb_world.specs.Cells.{new_keys, starts_cell}
+use Rattle.std.proofs.Common.{drop, take, ◌-◌}
+use Rattle.std.proofs.lemmas.List.{at_drop_more, length-drop, take_all}
+use Rattle.lb_world.proofs.Words.{if◌then◌else◌, ◌+◌, ◌∙◌, ◌∷◌, ◌≡◌, ap, arith, cond, false, key_of, length, List, Listing, live, sym, true}
+use Rattle.lb_world.proofs.Words.{views_after, ℕ}
 use Rattle.lb_world.proofs.CellCounts.{keys-more}
 use Rattle.lb_world.proofs.entry.membership.cells.starting_count.Goals as goal
 use Rattle.lb_world.proofs.entry.membership.cells.starting_count.Goals.{then-starts, else-starts}

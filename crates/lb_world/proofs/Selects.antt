@@ -1,0 +1,231 @@
+-- The steps that select: what is told of the core's selection is what the history tells, and the counter of tickets is where it left it.
+use Rattle.lb_group.proofs.Pasts.{members-past, past-other, past-same}
+use Rattle.lb_group.proofs.Selecting.{handed-selects}
+use Rattle.lb_group.proofs.SlotSteps.{drew-step}
+use Rattle.lb_group.specs.Drawn.{DrawnGives, DrawnValue}
+use Rattle.lb_group.specs.GroupCalls.{SelectsIn}
+use Rattle.lb_group.specs.GroupHistory.{At, Drew, IsPast, drawn, served_members}
+use Rattle.lb_group.specs.SlotCalls.{SelectsFrom, drawn_slot}
+use Rattle.lb_group.specs.Stands.{group_after, slot_after, slots_after}
+use Rattle.lb_group.specs.Values.{SlotValue}
+use Rattle.lb_group.specs.declared.answers.Selection.{Selection}
+use Rattle.lb_health.specs.Joined.{IsReady}
+use Rattle.lb_history.proofs.Runs.{slots}
+use Rattle.lb_history.specs.Answers.{Judges, SelectAnswers, selected}
+use Rattle.lb_history.specs.History.{drew, registry_of}
+use Rattle.lb_history.specs.Shared.{events_in}
+use Rattle.lb_select.proofs.SelectionsSeen.{selects-more}
+use Rattle.lb_select.specs.Draws.{Draw, LoadedGives}
+use Rattle.lb_select.specs.Selections.{Selects}
+use Rattle.lb_world.specs.Calls.{selected_as, selection_as}
+use Rattle.std.specs.Prelude.{MatchOption}
+use Rattle.lb_group.specs.Stands as group-made
+use Rattle.lb_joined.specs.Stands as stands
+use Rattle.lb_history.specs.Steps as step
+use Rattle.lb_group.specs.GroupHistory as group
+use Rattle.lb_joined.specs.JoinedHistory as joined
+use Rattle.lb_history.specs.declared.answer.Answer.TheVariants as answer
+use Rattle.lb_select.specs.declared.refusal.Refusal.TheVariants as refusal
+use Rattle.lb_joined.specs.JoinedCalls as calls
+use Rattle.lb_history.specs.Answers as answers
+use Rattle.lb_world.proofs.Words.{◌&&◌, ◌++◌, ◌+◌, ◌==◌, ◌↔◌, ◌∙◌, ◌∷◌, ◌≡◌, [], Answer, ap, ap2, Before, Bool, cases_eq, changed, cond}
+use Rattle.lb_world.proofs.Words.{config, configs_of, EntryNext, EntryValue, Err, false, gate, GateId, GateView, group-of, group_events}
+use Rattle.lb_world.proofs.Words.{happened, History, inl, inr, IsTrue, joined_after, joined_events, JoinedValue, key_of, length, List}
+use Rattle.lb_world.proofs.Words.{list_all, load_in, load_of, lt-ltb, made, Made, Meaning, Member, members_of, nat_le, nat_lt, None, Ok}
+use Rattle.lb_world.proofs.Words.{Option, past, past_of, permit_after, promised, refl, Refusal, registry_events, RegistryValue, Result}
+use Rattle.lb_world.proofs.Words.{same_member, served, shares, site, slice_get, slice_get_within, Some, Step, subst, sym, true, ViewEvent}
+use Rattle.lb_world.proofs.Words.{views_of, with_core, Work, worked, WorldRule, ℕ}
+use Rattle.lb_world.proofs.Places.{there}
+use Rattle.lb_world.proofs.Entries.{config-here, next-core, no_grant, registry-here, slot-or, unshared, views-are}
+
+-- A counter that is left where it stands changes nothing.
+undrawn-slot : {C : Type 0} (id : GateId) (i s t : ℕ) (c : C) (k : group.History) → t ≡ drawn (past_of s k)
+    → slot_after id c (past_of i (At s (Drew t) ∷ k)) ≡ slot_after id c (past_of i k)
+undrawn-slot {C = C} id i s t c k is =
+    elim (cases_eq s i) [
+      | inl same ↦
+          ap (λ (j : ℕ). slot_after id c (past_of j (At s (Drew t) ∷ k))) (sym same)
+          ∙ ap (slot_after id c) (past-same s (Drew t) k)
+          ∙ sym (drew-step id c s t (past_of s k))
+          ∙ ap (λ (n : ℕ). drawn_slot n (slot_after id c (past_of s k))) is
+          ∙ ap (λ (j : ℕ). slot_after id c (past_of j k)) same
+      | inr off ↦ ap (slot_after id c) (past-other i s (Drew t) k off)
+    ]
+
+undrawn-slots : {C : Type 0} (id : GateId) (i s t : ℕ) (cs : List C) (k : group.History) → t ≡ drawn (past_of s k)
+    → slots_after id i cs (At s (Drew t) ∷ k) ≡ slots_after id i cs k
+undrawn-slots id i s t [] k is = refl
+undrawn-slots {C = C} id i s t (c ∷ cs) k is =
+    ap2 ◌∷◌ (undrawn-slot id i s t c k is) (undrawn-slots id (i + 1) s t cs k is)
+
+undrawn-group : {C : Type 0} (made : group-made.Made C) (s t : ℕ) (k : group.History) → t ≡ drawn (past_of s k)
+    → group_after made (At s (Drew t) ∷ k) ≡ group_after made k
+undrawn-group {C = C} made s t k is =
+    ap (λ (xs : List (SlotValue C)). record (group_after made k) { slots = xs }) (undrawn-slots made.gate 0 s t made.configs k is)
+
+less-past : (b : Bool) (s t : ℕ) (p : group.History) → IsPast (cond b (At s (Drew t) ∷ p) p) → IsPast p
+less-past true s t p may = may.0
+less-past false s t p may = may
+
+undrawn : {C : Type 0} (made : group-made.Made C) (s t : ℕ) (e : joined.History) (v : JoinedValue C)
+    → t ≡ drawn (past_of s (joined.group_events e))
+    → stands.Stands made (joined.At s (Drew t) ∷ e) v → stands.Stands made e v
+undrawn made s t e v is was =
+    record {
+      few = was.few;
+      group =
+          record {
+            possible = λ i. less-past (s == i) s t (past_of i (joined.group_events e)) (was.group.possible i);
+            bounded = was.group.bounded;
+            shows = was.group.shows ∙ undrawn-group made s t (joined.group_events e) is;
+          };
+      view = was.view;
+    }
+
+-- the answer of a selection that was refused for memory alone, as a history has it
+told-selected : (r : Result (Option Member) Refusal) (t : ℕ) → ((e : Refusal) → r ≡ Err e → e ≡ refusal.OutOfMemory)
+    → selected_as r t ≡ selected t r
+told-selected (Ok None) t alone = refl
+told-selected (Ok (Some b)) t alone = refl
+told-selected (Err e) t alone = rw (alone e refl) refl
+
+alone-by : {S : Type 0} (accepts : Member → Bool → Type 0) (limit : ℕ) (gives : S → Draw → S → Type 0)
+    (walks : List Draw → List Member → Bool → Type 0) (s t : S)
+    (r : Result (Option Member) Refusal) → Selects same_member accepts limit gives walks s r t → (e : Refusal) → r ≡ Err e
+    → e ≡ refusal.OutOfMemory
+alone-by accepts limit gives walks s t (Ok o) is e to = absurd (cc)
+alone-by accepts limit gives walks s t (Err x) is e to = let same : x ≡ e = cc in sym same ∙ is.0
+
+no-draws : {C : Type 0} (o : Option C) (s t : ℕ) → list_all no_grant (drew o s t) ≡ true
+no-draws None s t = refl
+no-draws (Some c) s t = refl
+
+module _ {C : Type 0} {M : Meaning C} {h : History C} {g : ℕ} {e : EntryValue C} {z : GateView} {v : RegistryValue WorldRule}
+    (b : Before M h g e z v) (s : ℕ) (key : List ℕ) (limit : ℕ) (words : List ℕ) (sel : Selection) where
+  abbrev st : Step C
+  st = step.select g s key limit words
+
+  abbrev Right : Answer → Type 0
+  Right a = SelectAnswers M h g s key limit words a
+
+  -- what the core judged by, and what it told
+  abbrev Was : Member → Bool → Type 0
+  Was = calls.Judges (key_of g h) (registry_events e.registry h) (site e.core) (joined_events g h) (calls.served_at s (joined_events g h))
+
+  abbrev pub Told : group.History → Type 0
+  Told k = SelectsIn M.random M.walks Was (load_in e.loads) (site e.core) k s key limit words sel
+
+  -- by where the slot is there, and enough words were handed in
+  data Selected : Type 0 where
+    refused : (c : C) → slice_get (configs_of e.core.group) s ≡ Some c → sel.answer ≡ Err refusal.NotEnoughWords
+        → sel.tickets ≡ drawn (past g s h) → Right (answer.Refused refusal.NotEnoughWords) → Selected
+    told : selected_as sel.answer sel.tickets ≡ selected sel.tickets sel.answer → Right (selected sel.tickets sel.answer) → Selected
+
+  judged-alike : (m : Member) (is : Bool) → Was m is → Judges h g (served (past g s h)) m is
+  judged-alike m ready was =
+      subst (λ (vs : List ViewEvent). IsTrue ready ↔ IsReady (key_of g h) vs (events_in (registry_of g h) h) (served (past g s h)) m)
+      (views-are b.is M b.run)
+      (subst (λ (o : Option ℕ). IsTrue ready ↔ IsReady (key_of g h) (views_of (site e.core) (joined_events g h)) (events_in o h)
+      (served (past g s h)) m) (sym (registry-here b.is))
+      (subst (λ (n : ℕ). IsTrue ready ↔ IsReady (key_of g h) (views_of (site e.core) (joined_events g h)) (registry_events e.registry h) n
+      m)
+      (ap (λ (k : group.History). served (past_of s k)) (group-of g h)) was))
+
+  placed : (c : Option C) (a : Answer) → slice_get (configs_of e.core.group) s ≡ c
+      → MatchOption c (a ≡ answer.NoBackend 0) (λ x. answers.SelectsIn M h g s (served (past g s h)) x key limit words a) → Right a
+  placed c a at right =
+      subst (λ (o : Option (Made C)). MatchOption o (a ≡ answer.Refused refusal.NoSuch)
+      (λ m. MatchOption (slice_get m.configs s) (a ≡ answer.NoBackend 0)
+      (λ x. answers.SelectsIn M h g s (served (past g s h)) x key limit words a))) (sym b.is.made_is) (rw at right)
+
+  -- the selection of a slot that is there
+  from-slot : (c : C) → slice_get (configs_of e.core.group) s ≡ Some c
+      → SelectsFrom M.random M.walks Was (load_in e.loads) key limit words (served_members (past g s h)) c (drawn (past g s h)) sel
+      → Selected
+  from-slot c at from =
+      by-words
+      (rw (((promised M h b.run).members_kept g s).serving, members-past (served (past g s h)) s (group_events g h)) at from)
+      (M.random (members_of (served (past g s h)) (group_events g h)) c && nat_le (length words) limit) refl
+    where
+      walks : List Draw → List Member → Bool → Type 0
+      walks = M.walks (members_of (served (past g s h)) (group_events g h)) c key
+
+      source : DrawnValue
+      source = record { words = record { tickets = drawn (past g s h); words = words }; drawn = 0 }
+
+      by-words : SelectsFrom M.random M.walks Was (load_in e.loads) key limit words (members_of (served (past g s h)) (group_events g h)) c
+          (drawn (past g s h)) sel
+          → (few : Bool) → (M.random (members_of (served (past g s h)) (group_events g h)) c && nat_le (length words) limit) ≡ few
+          → Selected
+      by-words from true few =
+          let short = rw few at from in
+          refused c at short.0 short.2 (placed (Some c) (answer.Refused refusal.NotEnoughWords) at (rw few refl))
+      by-words from false enough =
+          let long = rw enough at from in
+          let t : DrawnValue = long.0 in
+          let all = alone-by Was limit (DrawnGives (load_in e.loads)) walks source t sel.answer long.1 in
+          let walked =
+          selects-more same_member Was (Judges h g (served (past g s h))) judged-alike limit (LoadedGives (λ m. load_of g m h))
+          walks source.words t.words sel.answer
+          (handed-selects (load_in e.loads) (λ m. load_of g m h) b.is.loads_are Was limit walks source t sel.answer long.1) in
+          told (told-selected sel.answer sel.tickets all)
+          (placed (Some c) (selected sel.tickets sel.answer) at
+          (rw enough (sel.answer, t.words, walked, ap (λ (n : ℕ). selected n sel.answer) long.3)))
+
+  selects : Told (group_events g h) → Selected
+  selects all =
+      elim (there (configs_of e.core.group) s) [
+        | inl none ↦
+            let none-told = rw none.0 at all in
+            told (told-selected sel.answer sel.tickets (λ x to. absurd (ok-err none-told.0 to)))
+            (placed None (selected sel.tickets sel.answer) none.0
+            (ap (selected sel.tickets) none-told.0 ∙ ap (λ (n : ℕ). answer.NoBackend n) none-told.2))
+        | inr at ↦ from-slot at.0 at.1 (rw at.1 at all)
+      ]
+    where
+      ok-err : {r : Result (Option Member) Refusal} {o : Option Member} {x : Refusal} → r ≡ Ok o → r ≡ Err x → ⊥
+      ok-err a b = absurd (let clash = sym a ∙ b in cc)
+
+  module _ {core : JoinedValue C} (same : stands.SameSite e.core core)
+      (moved : stands.Stands (site e.core) (calls.after_select (site e.core) s sel (joined_events g h)) core) where
+    drew-next : (a : Answer) → happened h (group_events g h) st a ≡ drew (config g s h) s sel.tickets
+        → joined_after h (group_events g h) (joined_events g h) st a ≡ joined.in_group (drew (config g s h) s sel.tickets) ++ joined_events
+        g h
+        → ((x : Work) → worked st a x ≡ x) → permit_after st a z.out ≡ z.out
+        → changed h ((st, a) ∷ h) st a (registry_events e.registry h) ≡ registry_events e.registry h → Right a
+        → EntryNext M h g st a e z (with_core core e) z v
+    drew-next a events joins works out shares right =
+        let told-drawn : drew (config g s h) s sel.tickets
+        ≡ cond (nat_lt s (length (configs_of e.core.group))) (At s (Drew sel.tickets) ∷ []) [] =
+        ap (λ (o : Option C). drew o s sel.tickets) (config-here b.is s)
+        ∙ elim (slot-or (configs_of e.core.group) s) [ inl p ↦ rw (p.0, p.1) refl | inr p ↦ rw (p.1, p.2) refl ] in
+        next-core b st a refl right same
+        (subst (λ (x : joined.History). stands.Stands (site e.core) x core)
+        (sym (joins ∙ ap (λ (es : group.History). joined.in_group es ++ joined_events g h) told-drawn)) moved)
+        (ap (list_all no_grant) events ∙ no-draws (config g s h) s sel.tickets) works (λ m. refl) (ap (gate z.id) (sym out))
+        (unshared b st a refl shares)
+
+    to-told : (r : Result (Option Member) Refusal) → Right (selected sel.tickets r)
+        → EntryNext M h g st (selected sel.tickets r) e z (with_core core e) z v
+    to-told (Ok None) right = drew-next (answer.NoBackend sel.tickets) refl refl (λ q. refl) refl refl right
+    to-told (Ok (Some m)) right = drew-next (answer.Backend m sel.tickets) refl refl (λ q. refl) refl refl right
+    to-told (Err y) right = drew-next (answer.NotSelected sel.tickets) refl refl (λ q. refl) refl refl right
+
+    by-selected : Selected → EntryNext M h g st (selection_as sel) e z (with_core core e) z v
+    by-selected (told same-answer right) =
+        subst (λ (a : Answer). EntryNext M h g st a e z (with_core core e) z v) (sym same-answer) (to-told sel.answer right)
+    by-selected (refused c there_ short left right) =
+        let within = lt-ltb s (length (configs_of e.core.group)) (slice_get_within (configs_of e.core.group) s c there_) in
+        let back : stands.Stands (site e.core) (joined_events g h) core =
+        undrawn (site e.core) s sel.tickets (joined_events g h) core
+        (left ∙ ap (λ (k : group.History). drawn (past_of s k)) (sym (group-of g h))) (rw within at moved) in
+        subst (λ (a : Answer). EntryNext M h g st a e z (with_core core e) z v)
+        (sym (ap (λ (r : Result (Option Member) Refusal). selected_as r sel.tickets) short))
+        (next-core b st (answer.Refused refusal.NotEnoughWords) refl right same back refl (λ q. refl) (λ m. refl) refl
+        (unshared b st (answer.Refused refusal.NotEnoughWords) refl refl))
+
+  -- a selection, by what the core answered
+  pub does-select : {core : JoinedValue C} → stands.SameSite e.core core → Told (joined.group_events (joined_events g h))
+      → stands.Stands (site e.core) (calls.after_select (site e.core) s sel (joined_events g h)) core
+      → EntryNext M h g st (selection_as sel) e z (with_core core e) z v
+  does-select same all moved = by-selected same moved (selects (subst Told (group-of g h) all))

@@ -1,0 +1,264 @@
+-- Updates of a group: why one is refused, and what a new membership and its settings do to the group and the registry.
+use Rattle.lb_group.specs.GroupCalls.{is_change, schedule_refusal}
+use Rattle.lb_group.specs.GroupHistory.{is_cancelled}
+use Rattle.lb_group.specs.declared.schedule.Scheduled.{Scheduled}
+use Rattle.lb_health.specs.Joined.{registry_updated}
+use Rattle.lb_health.specs.ViewEvents.{membership_after}
+use Rattle.lb_history.proofs.Absent.{absent}
+use Rattle.lb_history.proofs.Joining.{follows}
+use Rattle.lb_history.proofs.Numbering.{numbered}
+use Rattle.lb_history.proofs.Registered.{is-registered}
+use Rattle.lb_history.proofs.Together.{schedules-alike}
+use Rattle.lb_history.specs.Answers.{has_refused, update_answer}
+use Rattle.lb_history.specs.Joined.{Updated}
+use Rattle.lb_history.specs.Shared.{events_in, view_in}
+use Rattle.lb_joined.specs.JoinedCalls.{IsRefusedFor, Schedules, after_schedule}
+use Rattle.lb_world.specs.Calls.{scheduled_as}
+use Rattle.std.proofs.Common.{true≢false}
+use Rattle.std.proofs.lemmas.Bool.{le-leb, not-false}
+use Rattle.std.proofs.lemmas.Bool.Decides.{leb_tells}
+use Rattle.lb_joined.specs.Stands as stands
+use Rattle.lb_history.specs.Steps as step
+use Rattle.lb_group.specs.GroupHistory as group
+use Rattle.lb_joined.specs.JoinedHistory as joined
+use Rattle.lb_registry.specs.RegistryEvents as registry
+use Rattle.lb_history.specs.declared.answer.Answer.TheVariants as answer
+use Rattle.lb_select.specs.declared.refusal.Refusal.TheVariants as refusal
+use Rattle.lb_world.proofs.Words.{◌&&◌, ◌+◌, ◌==◌, ◌^◌, ◌↔◌, ◌∙◌, ◌∷◌, ◌≡◌, ◌≤◌, Answer, answer_after, Answers, ap, ap2, at_one, Before}
+use Rattle.lb_world.proofs.Words.{Bool, changed, cond, earlier, EntryNext, EntryValue, Err, false, GateView, group-of, group_events}
+use Rattle.lb_world.proofs.Words.{History, inl, inr, IsRegistryAfter, IsTrue, joined_after, joined_events, JoinedValue, key_gives, key_of}
+use Rattle.lb_world.proofs.Words.{List, Listing, Made, made_at, made_of, Meaning, members_in, members_of, nat_le, newest, no_number, None}
+use Rattle.lb_world.proofs.Words.{Ok, Option, refl, Refusal, refuse, registry_events, RegistryValue, Result, same_members, settings_in}
+use Rattle.lb_world.proofs.Words.{shares, site, Some, Step, subst, sym, true, unless_refused, view_events, ViewEvent, views_of, where_}
+use Rattle.lb_world.proofs.Words.{with_core, without_memory, WorldRule, ℕ}
+use Rattle.lb_world.proofs.Entries.{joined-here, next-core, registry-here, shared, views-are}
+use Rattle.lb_world.proofs.Selects.{Told}
+
+-- A cause of the group's goes before one of the registry's.
+abbrev cause : Bool → Bool → Option Refusal
+cause a b = cond a (Some refusal.GenerationsExhausted) (cond b (Some refusal.GroupCancelled) None)
+
+first-cause : (a b c d : Bool) (r : Refusal) → cause a b ≡ Some r
+    → earlier (cause a b) (cond c (where_ d refusal.NumbersExhausted) None) ≡ Some r
+first-cause true b true true r is = is
+first-cause true b true false r is = is
+first-cause true b false d r is = is
+first-cause false true true true r is = is
+first-cause false true true false r is = is
+first-cause false true false d r is = is
+first-cause false false c d r is = absurd (cc)
+
+left-false : (a b : ℕ) → (a ≤ b → ⊥) → nat_le a b ≡ false
+left-false a b off = elim (leb_tells a b) [ inl t ↦ absurd (off t.1) | inr t ↦ t.0 ]
+
+uncancelled : (a b : Bool) → cause a b ≡ None → b ≡ false
+uncancelled false false is = refl
+uncancelled a b is = absurd (cc)
+
+unlacked : (c d : Bool) → (c ≡ true → d ≡ false) → cond c (where_ d refusal.NumbersExhausted) None ≡ None
+unlacked true d is = rw (is refl) refl
+unlacked false d is = refl
+
+same-events : (es fs : List registry.Event) (t : Bool) → t ≡ true → cond t es fs ≡ es
+same-events es fs t is = rw is refl
+
+memory-told : {C : Type 0} (st : Step C) (n : ℕ) (c : Bool) → without_memory st (update_answer n c) ≡ answer.Refused refusal.OutOfMemory
+memory-told st n true = refl
+memory-told st n false = refl
+
+scheduled-told : (c : Bool) (n : ℕ) (s : Scheduled) → s.changed ≡ c → s.generation ≡ cond c (n + 1) n → scheduled_as s ≡ update_answer n c
+scheduled-told true n s changed number = rw (changed, number) refl
+scheduled-told false n s changed number = rw (changed, number) refl
+
+module _ {C : Type 0} {M : Meaning C} {h : History C} {g : ℕ} {e : EntryValue C} {z : GateView} {v : RegistryValue WorldRule}
+    (b : Before M h g e z v) (now : ℕ) (ls : List Listing) (whole : has_refused ls ≡ false) where
+  -- how many cells the registry has given once the membership is shown
+  abbrev cells : ℕ
+  cells =
+      registry.cells_given (key_of g h) (registry.Updated e.core.view.id (members_in ls) ∷ registry.Applied ∷ registry_events e.registry h)
+
+  abbrev st : Step C
+  st = step.update g now ls
+
+  abbrev change : Bool
+  change = is_change (members_in ls) (group_events g h)
+
+  abbrev causes : Option Refusal
+  causes = schedule_refusal (members_in ls) (group_events g h)
+
+  -- the group's cause, as its core knows it
+  caused : (r : Option Refusal) → schedule_refusal (members_in ls) (joined.group_events (joined_events g h)) ≡ r → causes ≡ r
+  caused r is = ap (schedule_refusal (members_in ls)) (sym (group-of g h)) ∙ is
+
+  told-so : (o : Option Refusal) → earlier causes (cond change (no_number cells) None) ≡ o
+      → answer_after M h st ≡ unless_refused o (update_answer (newest (group_events g h)) change)
+  told-so o is =
+      let Told : Made C → Answer = λ m.
+      unless_refused
+      (earlier causes
+      (cond change
+      (no_number (registry.cells_given (key_of g h)
+      (registry.Updated m.view (members_in ls) ∷ registry.Applied ∷ registry_events m.registry h))) None))
+      (update_answer (newest (group_events g h)) change) in
+      ap (λ (t : Bool). cond t (refuse refusal.InvalidAddress) (at_one (made_at g h) Told)) whole
+      ∙ ap (λ (o : Option (Made C)). at_one o Told) b.is.made_is
+      ∙ ap (λ (o : Option Refusal). unless_refused o (update_answer (newest (group_events g h)) change)) is
+
+  -- where the group has no cause and a number is left
+  fits : causes ≡ None → (change ≡ true → nat_le (2 ^ 64) cells ≡ false)
+      → answer_after M h st ≡ update_answer (newest (group_events g h)) change
+  fits none enough =
+      told-so None
+      (ap (λ (o : Option Refusal). earlier o (cond change (no_number cells) None)) none ∙ unlacked change (nat_le (2 ^ 64) cells) enough)
+
+  -- refused for a cause of the group's, for numbers, and for memory
+  pub cause-right : (r : Refusal) → schedule_refusal (members_in ls) (joined.group_events (joined_events g h)) ≡ Some r
+      → Answers M h st (answer.Refused r)
+  cause-right r some =
+      inl
+      (sym
+      (told-so (Some r)
+      (first-cause (change && newest (group_events g h) == 18446744073709551615) (is_cancelled (group_events g h)) change
+      (nat_le (2 ^ 64) cells) r (caused (Some r) some))))
+
+  numbers-right : causes ≡ None → change ≡ true → 2 ^ 64 ≤ cells → Answers M h st (answer.Refused refusal.NumbersExhausted)
+  numbers-right none is more =
+      inl
+      (sym
+      (told-so (Some refusal.NumbersExhausted)
+      (ap (λ (o : Option Refusal). earlier o (cond change (no_number cells) None)) none
+      ∙ ap2 (λ (c d : Bool). cond c (where_ d refusal.NumbersExhausted) None) is (le-leb (2 ^ 64) cells more))))
+
+  memory-right : causes ≡ None → (change ≡ true → nat_le (2 ^ 64) cells ≡ false) → Answers M h st (answer.Refused refusal.OutOfMemory)
+  memory-right none enough =
+      inr (sym (ap (without_memory {C = C} st) (fits none enough) ∙ memory-told {C = C} st (newest (group_events g h)) change))
+
+  -- the view of a group that has no cause is there
+  view-there : causes ≡ None → registry.has_view e.core.view.id (registry.views_after (registry_events e.registry h)) ≡ true
+  view-there none =
+      is-registered M h b.run g (made_of e) b.is.made_is
+      (uncancelled (change && newest (group_events g h) == 18446744073709551615) (is_cancelled (group_events g h)) none)
+
+  -- what the count of numbers told of the listings, before memory is taken
+  abbrev pub Counted : Bool → Type 0
+  Counted lacking =
+      registry.has_view e.core.view.id (registry.views_after (registry_events e.registry h)) ≡ true
+      → (IsTrue lacking ↔ ((is_change (members_in ls) (joined.group_events (joined_events g h)) ≡ true) × (2 ^ 64 ≤ cells)))
+
+  counted : (lacking : Bool) → causes ≡ None → Counted lacking → (IsTrue lacking ↔ ((change ≡ true) × (2 ^ 64 ≤ cells)))
+  counted lacking none told = rw (group-of g h) at (told (view-there none))
+
+  pub counted-right : (lacking : Bool) → schedule_refusal (members_in ls) (joined.group_events (joined_events g h)) ≡ None
+      → Counted lacking → lacking ≡ true → Answers M h st (answer.Refused refusal.NumbersExhausted)
+  counted-right lacking own told is =
+      let none = caused None own in let both = (counted lacking none told).0 is in numbers-right none both.0 both.1
+
+  pub uncounted-right : (lacking : Bool) → schedule_refusal (members_in ls) (joined.group_events (joined_events g h)) ≡ None
+      → Counted lacking → lacking ≡ false → Answers M h st (answer.Refused refusal.OutOfMemory)
+  uncounted-right lacking own told is =
+      let none = caused None own in
+      memory-right none
+      (λ c. left-false (2 ^ 64) cells (λ more. true≢false (sym ((counted lacking none told).1 (c, more)) ∙ is)))
+
+  -- what the core tells of a change for which no number is left
+  abbrev pub Lacking : Result Scheduled Refusal → Type 0
+  Lacking r =
+      schedule_refusal (members_in ls) (joined.group_events (joined_events g h)) ≡ None
+      → is_change (members_in ls) (joined.group_events (joined_events g h)) ≡ true
+      → registry.has_view e.core.view.id (registry.views_after (registry_events e.registry h)) ≡ true → 2 ^ 64 ≤ cells
+      → r ≡ Err refusal.NumbersExhausted
+
+  lacks : (r : Result Scheduled Refusal) → Lacking r → causes ≡ None → change ≡ true → 2 ^ 64 ≤ cells → r ≡ Err refusal.NumbersExhausted
+  lacks r lacking none c more =
+      lacking (ap (schedule_refusal (members_in ls)) (group-of g h) ∙ none) (ap (is_change (members_in ls)) (group-of g h) ∙ c)
+      (view-there none) more
+
+  -- a refusal of the core's
+  pub does-refuse : (r : Refusal) {core : JoinedValue C} {u : RegistryValue WorldRule}
+      → IsRefusedFor (joined.group_events (joined_events g h)) (members_in ls) r
+      → (r ≡ refusal.NoSuch → registry.has_view e.core.view.id (registry.views_after (registry_events e.registry h)) ≡ false)
+      → (r ≡ refusal.NumbersExhausted → 2 ^ 64 ≤ cells) → Lacking (Err r) → stands.SameSite e.core core
+      → stands.Stands (site e.core) (joined_events g h) core
+      → IsRegistryAfter key_gives (key_of g h) (registry_events e.registry h) u
+      → EntryNext M h g st (answer.Refused r) e z (with_core core e) z u
+  does-refuse r why unknown numbers lacking same was kept =
+      next-core b st (answer.Refused r) refl right same was refl (λ s. refl) (λ m. refl) refl
+      (shared b st (answer.Refused r) refl refl kept)
+    where
+      right : Answers M h st (answer.Refused r)
+      right =
+          elim why [
+            | inl own ↦ cause-right r own
+            | inr shared_ ↦
+                let none = caused None shared_.0 in
+                let c : change ≡ true = ap (is_change (members_in ls)) (sym (group-of g h)) ∙ shared_.1 in
+                elim shared_.2 [
+                  | inl memory ↦
+                      rw memory
+                      (memory-right none
+                      (λ t. left-false (2 ^ 64) cells (λ more. absurd (let clash = lacks (Err r) lacking none c more in cc))))
+                  | inr rest ↦
+                      elim rest [
+                        | inl numbered ↦ rw numbered (numbers-right none c (numbers numbered))
+                        | inr absent ↦ absurd (true≢false (sym (view-there none) ∙ unknown absent))
+                      ]
+                ]
+          ]
+
+  -- the core made it the newest, or left the newest
+  pub does-update : (s : Scheduled) {core : JoinedValue C} {u : RegistryValue WorldRule}
+      → Schedules (site e.core) (joined_events g h) (members_in ls) (Ok s) → Lacking (Ok s) → stands.SameSite e.core core
+      → stands.Stands (site e.core)
+      (after_schedule (key_of g h) e.core.view.id (members_in ls) (settings_in ls) now (registry_events e.registry h) (joined_events g h))
+      core
+      → IsRegistryAfter key_gives (key_of g h)
+      (registry_updated (key_of g h) e.core.view.id (members_in ls) (views_of (site e.core) (joined_events g h))
+      (registry_events e.registry h)) u
+      → EntryNext M h g st (scheduled_as s) e z (with_core core e) z u
+  does-update s {core} {u} own lacking same was kept =
+      subst (λ (a : Answer). EntryNext M h g st a e z (with_core core e) z u)
+      (sym
+      (scheduled-told change (newest (group_events g h)) s (own.1 ∙ ap (is_change (members_in ls)) (group-of g h))
+      (own.2 ∙ ap (λ (p : group.History). cond (is_change (members_in ls) p) (newest p + 1) (newest p)) (group-of g h))))
+      (by-change change refl)
+    where
+      N : ℕ
+      N = newest (group_events g h)
+
+      told : answer_after M h st ≡ update_answer N change
+      told =
+          fits (caused None own.0)
+          (λ c. left-false (2 ^ 64) cells (λ more. absurd (let clash = lacks (Ok s) lacking (caused None own.0) c more in cc)))
+
+      -- what the core stands for is what the step did to the group, and the registry's events are those of the view
+      stays : (a : Answer) → Updated h g now ls a
+          → stands.Stands (site e.core) (joined_after h (group_events g h) (joined_events g h) st a) core
+      stays a alike =
+          subst (λ (es : joined.History). stands.Stands (site e.core) es core)
+          (ap2 (λ (i : ℕ) (es : List registry.Event). after_schedule (key_of g h) i (members_in ls) (settings_in ls) now es
+          (joined_events g h)) (sym (ap view_in b.is.made_is)) (sym (ap (λ (o : Option ℕ). events_in o h) (registry-here b.is)))
+          ∙ sym alike ∙ joined-here h st a g refl) was
+
+      kept-as : (es : List registry.Event)
+          → registry_updated (key_of g h) e.core.view.id (members_in ls) (view_events g h) (registry_events e.registry h) ≡ es
+          → IsRegistryAfter key_gives (key_of g h) es u
+      kept-as es is =
+          subst (λ (es : List registry.Event). IsRegistryAfter key_gives (key_of g h) es u)
+          (ap (λ (vs : List ViewEvent). registry_updated (key_of g h) e.core.view.id (members_in ls) vs (registry_events e.registry h))
+          (views-are b.is M b.run) ∙ is) kept
+
+      by-change : (c : Bool) → change ≡ c → EntryNext M h g st (update_answer N c) e z (with_core core e) z u
+      by-change true is =
+          let a = answer.Generation (N + 1) in
+          let right : Answers M h st a = inl (sym (told ∙ ap (update_answer N) is)) in
+          next-core b st a refl right same (stays a (schedules-alike M h st a (b.run, right))) refl (λ s. refl) (λ m. refl) refl
+          (kept-as (registry_events e.registry ((st, a) ∷ h)) (sym (shares M h st a (b.run, right) (made_of e) b.is.made_is)))
+      by-change false is =
+          let a = answer.Same N in
+          let right : Answers M h st a = inl (sym (told ∙ ap (update_answer N) is)) in
+          next-core b st a refl right same (stays a (schedules-alike M h st a (b.run, right))) refl (λ s. refl) (λ m. refl) refl
+          (shared b st a refl refl
+          (kept-as (registry_events e.registry h)
+          (same-events (registry_events e.registry h) _ (same_members (members_in ls) (membership_after (view_events g h)))
+          (ap (same_members (members_in ls)) (follows M h b.run g).membership
+          ∙ not-false (same_members (members_in ls) (members_of N (group_events g h))) is))))
