@@ -1,7 +1,8 @@
 //! A gate of selector rebuilds that threads share.
 //! Permits are granted and given back under its lock; who has it lent makes one call of a group with it.
-ghost use Rattle.std.specs.Prelude.{◌≡◌, IfErr, IfSome};
+ghost use Rattle.std.specs.Prelude.{◌≡◌, IfErr, IfOk, IfSome};
 
+use crate::wakes::Wakes;
 use lb_lock::lock::{Held, KeyedLock};
 use lb_lock::rule::LockRule;
 use lb_rebuild::gate::{GateCore, Permit};
@@ -22,6 +23,7 @@ impl LockRule<GateCore, Snapshot<GateCore>> for OfGate {
 #[derive(Drop)]
 pub struct SelectorRebuildGate {
     lock: KeyedLock<GateCore, Snapshot<GateCore>, OfGate>,
+    wakes: Wakes,
 }
 
 impl Model for SelectorRebuildGate {
@@ -41,10 +43,29 @@ impl SelectorRebuildGate {
     pub fn new(alloc: Global) -> Result<SelectorRebuildGate, Refusal>
         ensures { IfErr result (λ e. e ≡ Refusal.OutOfMemory) }
     {
-        let gate = GateCore::new(alloc)?;
+        SelectorRebuildGate::of(alloc, GateCore::new(alloc)?)
+    }
+
+    /// This gate, for threads.
+    ///
+    /// # Errors
+    ///
+    /// `OutOfMemory` where memory is refused.
+    pub fn of(alloc: Global, gate: GateCore) -> Result<SelectorRebuildGate, Refusal>
+        ensures same { IfOk result (λ g. g.id ≡ gate.id) }
+        ensures refused { IfErr result (λ e. e ≡ Refusal.OutOfMemory) }
+    {
         let key = Snapshot::of(&gate);
         let lock = KeyedLock::new(alloc, gate, &key)?;
-        Ok(SelectorRebuildGate { lock })
+        Ok(SelectorRebuildGate {
+            lock,
+            wakes: Wakes::new(),
+        })
+    }
+
+    /// What wakes the workers of all the gate's groups.
+    pub fn wakes(&self) -> &Wakes {
+        &self.wakes
     }
 
     /// The gate itself, for one call of a group; `put` ends it. The thread sleeps while another one has it.

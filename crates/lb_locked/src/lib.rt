@@ -1,6 +1,13 @@
-//! What threads share: the plain states of the crates below, each behind a lock that keeps which one it is.
+//! What threads share: the plain states of the crates below, each behind a lock that keeps which one it is, and the workers of a group.
 //! A thread that waits for a lock sleeps; a lock is held for one call of the plain state.
 #![tactic(auto)]
 
+pub mod clock;
 pub mod gate;
+pub mod group;
+pub mod port;
+mod reading;
 pub mod registry;
+mod selecting;
+pub mod wakes;
+pub mod workers;

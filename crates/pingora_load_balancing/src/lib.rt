@@ -12,6 +12,7 @@ pub mod rebuild;
 pub mod schedule;
 pub mod script;
 pub mod selection;
+pub mod threads;
 pub mod world;
 
 pub use background::HealthCheckService;
@@ -24,6 +25,7 @@ pub use lb_balance::served::Served;
 pub use lb_balance::timings::{SelectorUpdateTimings, UpdateTimings};
 pub use lb_health::backends::{BackendView, Backends, BackendsParts};
 pub use lb_health::registry::HealthRegistry;
+pub use lb_locked::gate::SelectorRebuildGate;
 pub use lb_select::backend::{Backend, Ext, InetAddr, SocketAddr};
 pub use lb_select::loads::Loads;
 pub use lb_select::refusal::Refusal;

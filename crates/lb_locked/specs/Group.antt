@@ -1,0 +1,124 @@
+-- What is known of a group that threads share: which one it is, its gate and its configurations stay; between two calls of a thread
+-- others may have changed the rest. So a call is one of the plain group at some state of this group, the one that its lock gave.
+use Rattle.std.specs.Prelude.{◌≡◌, ℕ, Bool, List, Option, Some, Result, Ok, Err, slice_get}
+use Rattle.lb_select.specs.Backends.{Member}
+use Rattle.lb_select.specs.Draws.{Draw}
+use Rattle.lb_select.specs.declared.refusal.Refusal.{Refusal}
+use Rattle.lb_rebuild.specs.Gate.{GateView}
+use Rattle.lb_registry.specs.Registry.{RegistryValue, IsRegistryAfter}
+use Rattle.lb_registry.specs.RegistryEvents.{Event}
+use Rattle.lb_group.specs.GroupCalls.{Fails, fail_events, Publishes, publish_events, Leaves, Reports, done_at, gate_back}
+use Rattle.lb_group.specs.GroupHistory.{Left, Destroyed}
+use Rattle.lb_group.specs.Values.{Task, BuiltValue, RetiredValue, PermitValue, ReaderValue, configs_of}
+use Rattle.lb_group.specs.declared.answers.Ask.{Ask}
+use Rattle.lb_group.specs.declared.answers.Told.{Told}
+use Rattle.lb_group.specs.declared.answers.Told.TheVariants as told
+use Rattle.lb_group.specs.declared.schedule.Scheduled.{Scheduled}
+use Rattle.lb_joined.specs.JoinedCalls.{released_where, generation_at}
+use Rattle.lb_joined.specs.JoinedHistory.{History, group_events, in_group}
+use Rattle.lb_group.specs.Stands.{Made}
+use Rattle.lb_joined.specs.Stands.{JoinedValue, After, Becomes, SameSite, views_of}
+use Rattle.lb_port.specs.Looks.{SelectedThrough}
+use Rattle.lb_port.specs.Through.{UpdatedThrough}
+use Rattle.lb_port.specs.Plain.{IsAsked, IsEntered, IsTaken, IsScheduled, IsReadyFor}
+
+module _ {C : Type 0} where
+  -- a job of this group and gate, with its slot's configuration
+  abbrev pub OwnsJob : JoinedValue C → Task C → Type 0
+  OwnsJob v t =
+      (t.group ≡ v.group.id) × (t.permit ≡ v.group.gate) × (slice_get (configs_of v.group) t.slot ≡ Some t.config)
+
+  -- the permit of a selector of that slot
+  abbrev pub OwnsPermit : JoinedValue C → ℕ → PermitValue → Type 0
+  OwnsPermit v slot p = (p.group ≡ v.group.id) × (p.slot ≡ slot) × (p.gate ≡ v.group.gate)
+
+  -- what was read at some state of this group
+  abbrev pub Seen : JoinedValue C → (JoinedValue C → Type 0) → Type 0
+  Seen site Told = (v : JoinedValue C) × (SameSite site v × Told v)
+
+  -- a call that was made at some state of this group
+  abbrev pub Under : JoinedValue C → (JoinedValue C → JoinedValue C → Type 0) → Type 0
+  Under site Call = (v : JoinedValue C) × ((w : JoinedValue C) × (SameSite site v × Call v w))
+
+  -- the same with the group's gate
+  abbrev pub UnderGate : JoinedValue C → (JoinedValue C → GateView → JoinedValue C → GateView → Type 0) → Type 0
+  UnderGate site Call =
+      (g : GateView) × ((k : GateView) × ((g.id ≡ site.group.gate) × Under site (λ v w. Call v g w k)))
+
+  abbrev pub EnteredUnder : JoinedValue C → ℕ → Result (ReaderValue C) Refusal → Type 0
+  EnteredUnder site slot r = Under site (λ v w. IsEntered v slot r w)
+
+  abbrev pub TakenUnder : JoinedValue C → ℕ → Result RetiredValue Refusal → Type 0
+  TakenUnder site slot r = Under site (λ v w. IsTaken v slot r w)
+
+  -- the reader is given back where its slot counts it, and nothing changes where not
+  abbrev pub LeftUnder : JoinedValue C → ReaderValue C → Type 0
+  LeftUnder site r =
+      (a : Result (Unit {0}) (ReaderValue C))
+      × Under site (λ v w. After v (λ made e. Leaves made (group_events e) r a)
+      × Becomes v (in_group (done_at r.slot (Left r.generation) a)) w × SameSite v w)
+
+  -- what was built of a job that is awaited no longer counts as abandoned
+  abbrev pub told_of : BuiltValue C → Result Told (BuiltValue C) → Told
+  told_of b (Ok t) = t
+  told_of b (Err c) = told.Abandoned b.task.generation
+
+  abbrev pub PublishedUnder : JoinedValue C → BuiltValue C → Told → Type 0
+  PublishedUnder site b t =
+      (a : Result Told (BuiltValue C))
+      × ((t ≡ told_of b a) × Under site (λ v w. After v (λ made e. Publishes (group_events e) b a)
+      × Becomes v (in_group (publish_events b a)) w × SameSite v w))
+
+module _ {S I C : Type 0} where
+  abbrev pub AskedUnder : JoinedValue C → ℕ → ℕ → Result (Ask S I C) Refusal → Type 0
+  AskedUnder site slot now r = UnderGate site (λ v g w k. IsAsked v g slot now r w k)
+
+module _ {C R : Type 0} (gives : R → Member → Member → Type 0) where
+  -- the snapshot of that generation is let go where something was taken back
+  abbrev pub IsReleasedWhere :
+      {A B : Type 0} → Result A B → JoinedValue C → (Made C → History → ℕ) → RegistryValue R → RegistryValue R → Type 0
+  IsReleasedWhere a v generation x y =
+      (key_of : Member → Member) (events : List Event) → IsRegistryAfter gives key_of events x
+      → After v (λ made e. IsRegistryAfter gives key_of
+      (released_where a v.view.id (generation made e) (views_of made e) events) y)
+
+  -- a job whose flight is over, or nothing where none is awaited
+  abbrev pub FailedUnder : JoinedValue C → Task C → ℕ → Type 0
+  FailedUnder site j now =
+      (a : Result (Unit {0}) (Task C))
+      × ((x : RegistryValue R) × ((y : RegistryValue R)
+      × UnderGate site (λ v g w k. After v (λ made e. Fails (group_events e) j a)
+      × Becomes v (in_group (fail_events j now a)) w × SameSite v w × (k ≡ gate_back a g)
+      × IsReleasedWhere a v (λ made e. j.generation) x y)))
+
+  abbrev pub ReportedUnder : JoinedValue C → ℕ → PermitValue → Type 0
+  ReportedUnder site slot p =
+      (a : Result (Unit {0}) PermitValue)
+      × ((x : RegistryValue R) × ((y : RegistryValue R)
+      × UnderGate site (λ v g w k. After v (λ made e. Reports made (group_events e) slot p a)
+      × Becomes v (in_group (done_at slot Destroyed a)) w × SameSite v w × (k ≡ gate_back a g)
+      × IsReleasedWhere a v (λ made e. generation_at slot e) x y)))
+
+  abbrev pub ReadyUnder : JoinedValue C → ReaderValue C → Member → Bool → Type 0
+  ReadyUnder site r b a =
+      (v : JoinedValue C) × ((x : RegistryValue R) × (SameSite site v × IsReadyFor gives v x r b a))
+
+  abbrev pub ScheduledUnder : JoinedValue C → List Member → List (Member × Bool) → ℕ → Result Scheduled Refusal → Type 0
+  ScheduledUnder site members settings now r =
+      (x : RegistryValue R) × ((y : RegistryValue R)
+      × Under site (λ v w. IsScheduled gives v x members settings now r w y))
+
+  -- an update whose membership was scheduled at some state of the group
+  abbrev pub UpdatedUnder :
+      {K D : Type 0} → (K → ℕ → K → Type 0) → (D → Result (List Member × List (Member × Bool)) Refusal → Type 0)
+      → D → K → JoinedValue C → Result ℕ Refusal → K → Type 0
+  UpdatedUnder reads finds d k site r l =
+      UpdatedThrough reads finds (λ v members settings now a w. ScheduledUnder v members settings now a × (w ≡ v)) d k site r l site
+
+  -- a selection: the reader entered, what readiness was told, and the reader left, each at some state of the group
+  abbrev pub SelectedUnder :
+      (Member → Bool → Bool → Type 0) → ℕ → (List Member → C → List ℕ → List Draw → List Member → Bool → Type 0)
+      → List ℕ → JoinedValue C → ℕ → Result (Option Member) Refusal → Type 0
+  SelectedUnder accepts limit walks key site slot r =
+      SelectedThrough accepts limit (λ v r d w. w ≡ v) (λ v r b a w. ReadyUnder v r b a × (w ≡ v))
+      (λ v slot a w. EnteredUnder v slot a × (w ≡ v)) (λ v r w. LeftUnder v r × (w ≡ v)) walks key site slot r site
