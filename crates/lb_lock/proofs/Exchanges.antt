@@ -1,5 +1,5 @@
 -- Taking the value out of a lock and putting it back keep the lock's rule.
-use Rattle.std.proofs.Common.{◌≡◌, ◌∙◌, ℕ, List, [], ◌∷◌, length, Option, Some, refl, sym, ap, subst, set, arith}
+use Rattle.std.proofs.Common.{◌≡◌, ◌<◌, ◌∙◌, ℕ, List, [], ◌∷◌, length, Option, Some, refl, sym, ap, subst, set, arith}
 use Rattle.std.specs.List.{slice_index}
 use mathlib.Core.Option as maybe
 use mathlib.Core.Logic.{dite}
@@ -8,7 +8,7 @@ use lib.ListN.{get_elem?}
 use Rattle.atomic_table.specs.Table.{Me, Allows, Arrives, keeps, takes, gives, rest, put_back}
 use Rattle.lb_lock.specs.Keyed.{FreeIsHome, Took}
 
-never : (n : ℕ) → n ≡ 1 → n ≡ 0 → ⊥
+never : (n : ℕ) → 0 < n → n ≡ 0 → ⊥
 never n e z = omega (arith, e, z)
 
 set_one : (n : ℕ) (ws : List ℕ) → ws ≡ slice_index ws 0 ∷ [] → set ws 0 n ≡ n ∷ []
@@ -33,19 +33,19 @@ put_home {T} homes held value one has =
 
 module _ {T K : Type 0} (holds : T → Type 0) where
   -- a swap by a new seat takes the value, where it finds the lock free
-  pub comes : (key : K) (slots : ℕ)
-      → Arrives {S = Option T} {V = K} (λ s. FreeIsHome holds s.words s.homes) slots 0 (λ _. 1) (λ n w. Took {K = K} holds n w)
-  comes key slots s keeps_rule _ _ =
+  pub comes : (key : K) (slots word : ℕ) → 0 < word
+      → Arrives {S = Option T} {V = K} (λ s. FreeIsHome holds s.words s.homes) slots 0 (λ _. word) (λ n w. Took {K = K} holds n w)
+  comes key slots word some s keeps_rule _ _ =
       dite (ℕ_discrete (slice_index s.words 0) 0)
       (λ e.
       let f = keeps_rule.free e in (
         key,
         takes 0 (Some f.0),
         subst (λ (h : List (maybe.Option (Option T))). get_elem? h 0 ≡ maybe.some (maybe.some (Some f.0))) (sym f.1) refl,
-        stored holds 1 s.words _ keeps_rule.one (λ z. absurd (never 1 refl z)),
+        stored holds word s.words _ keeps_rule.one (λ z. absurd (never word some z)),
         λ _. (f.0, refl, f.2),
       ))
-      (λ n. (key, keeps, tt, stored holds 1 s.words s.homes keeps_rule.one (λ z. absurd (never 1 refl z)), λ e. absurd (n e)))
+      (λ n. (key, keeps, tt, stored holds word s.words s.homes keeps_rule.one (λ z. absurd (never word some z)), λ e. absurd (n e)))
 
   -- whoever has the value puts it back by storing 0
   pub goes : (slots id : ℕ) (me : Me (Option T) K) (value : T) → slots ≡ 1 → me.1 ≡ (0, Some value) ∷ [] → holds value

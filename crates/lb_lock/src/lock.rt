@@ -1,11 +1,23 @@
 //! The lock with a key, and what a thread has while it holds the lock.
 //! A value that was taken cannot be forgotten: it has to be put back.
-ghost use Rattle.std.specs.Prelude.{◌≡◌, [], ◌∷◌, IfOk, None};
+ghost use Rattle.std.specs.Prelude.{◌≡◌, ◌<◌, [], ◌∷◌, IfOk, IfSome, None};
 
 use crate::rule::{Gives, LockRule, Locked, Takes};
 use atomic_table::{Seat, Table};
 use std::alloc::{AllocError, Global};
+use std::hint::spin_loop;
 use std::sync::Wait;
+
+// What the lock's word says: the value is at home; it is out; it is out, and a thread may sleep until it is back. Whoever has slept
+// takes it with the last, since others may sleep on.
+const FREE: u64 = 0;
+
+const TAKEN: u64 = 1;
+
+const AWAITED: u64 = 2;
+
+// How often a thread looks at the word before it sleeps.
+const LOOKS: u32 = 100;
 
 /// A value that one thread at a time has, and a key that stays. Contracts name the key as `table.shared.key`, and the lock as
 /// `table.shared.table_id`, which no other lock has.
@@ -45,17 +57,43 @@ impl<T: Drop, K, I: LockRule<T, K>> KeyedLock<T, K, I> {
         ensures here { result.seat.table_id ≡ self.now.table.shared.table_id }
         ensures fact { I.holds self.now.table.shared.key result.value }
     {
+        if let Some(held) = self.try_take(TAKEN) {
+            return held;
+        }
         for _ in rt.forever() {
-            let (found, mut seat) = self.table.shared.swap_new_seat::<Takes<I>>(0, 1);
-            if found == 0 {
-                let Some(value) = self.table.shared.exchange(&mut seat, 0, None) else {
-                    unreachable!()
-                };
-                return Held { value, seat };
+            self.look();
+            if let Some(held) = self.try_take(AWAITED) {
+                return held;
             }
-            self.table.shared.park(rt, 0, 1);
+            self.table.shared.park(rt, 0, AWAITED as u32);
         }
         unreachable!()
+    }
+
+    // Takes the value where no other thread has it, and leaves this word.
+    fn try_take(&self, word: u64) -> Option<Held<T, K>>
+        requires { 0 < word }
+        ensures here { IfSome result (λ h. h.seat.table_id ≡ self.now.table.shared.table_id) }
+        ensures fact { IfSome result (λ h. I.holds self.now.table.shared.key h.value) }
+    {
+        let (found, mut seat) = self.table.shared.swap_new_seat::<Takes<I>>(0, word);
+        if found != FREE {
+            return None;
+        }
+        let Some(value) = self.table.shared.exchange(&mut seat, 0, None) else {
+            unreachable!()
+        };
+        Some(Held { value, seat })
+    }
+
+    // Looks for a short while whether the value comes back.
+    fn look(&self) {
+        for _ in 0..LOOKS {
+            if self.table.shared.peek(0) == FREE {
+                return;
+            }
+            spin_loop();
+        }
     }
 
     /// Puts the lock's own value back, changed or not, and wakes one thread that waits for it.
@@ -65,7 +103,9 @@ impl<T: Drop, K, I: LockRule<T, K>> KeyedLock<T, K, I> {
     {
         let Held { value, mut seat } = held;
         self.table.shared.exchange(&mut seat, 0, Some(value));
-        self.table.shared.store::<Gives>(&mut seat, 0, 0);
-        self.table.shared.wake_one(0);
+        let word = self.table.shared.swap::<Gives>(&mut seat, 0, FREE);
+        if word != TAKEN {
+            self.table.shared.wake_one(0);
+        }
     }
 }

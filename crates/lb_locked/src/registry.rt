@@ -11,6 +11,8 @@ use lb_registry::targets::Target;
 use lb_select::refusal::Refusal;
 use log::Log;
 use std::alloc::Global;
+use std::sync::atomic::AtomicU64;
+use std::sync::atomic::Ordering::SeqCst;
 use std::sync::{Mutex, MutexGuard, OnceLock, Wait};
 use std::thread;
 use std::thread::Threads;
@@ -20,6 +22,8 @@ use std::thread::Threads;
 pub struct HealthRegistry<R, C> {
     registry: Mutex<Registry<R>>,
     check: OnceLock<C>,
+    // Counts the cells that flipped.
+    changes: AtomicU64,
 }
 
 impl<R: KeyRule + Drop, C: HealthCheck + Drop> HealthRegistry<R, C> {
@@ -28,10 +32,12 @@ impl<R: KeyRule + Drop, C: HealthCheck + Drop> HealthRegistry<R, C> {
         HealthRegistry {
             registry: Mutex::new(registry),
             check: OnceLock::new(),
+            changes: AtomicU64::new(0),
         }
     }
 
     /// The registry itself, for one call of a view or a group, until the guard is dropped. The thread sleeps while another one has it.
+    /// A verdict goes through `observe`, which counts it where it flips a cell.
     pub fn lock<'a, W: Wait>(&'a self, rt: &W) -> MutexGuard<'a, Registry<R>> {
         self.registry.lock(rt)
     }
@@ -83,7 +89,16 @@ impl<R: KeyRule + Drop, C: HealthCheck + Drop> HealthRegistry<R, C> {
     ) -> Result<bool, Refusal>
         ensures { OnErr result (result ≡ Err Refusal.NoSuch) }
     {
-        self.registry.lock(rt).observe(cell, verdict, threshold)
+        let answer = self.registry.lock(rt).observe(cell, verdict, threshold);
+        if let Ok(true) = answer {
+            self.changes.fetch_add(1, SeqCst);
+        }
+        answer
+    }
+
+    /// How many verdicts flipped a cell: another number tells that what is ready may be other than before. It takes no lock.
+    pub fn changes(&self) -> u64 {
+        self.changes.load(SeqCst)
     }
 
     /// Whether a cell is kept and healthy. It takes no memory.

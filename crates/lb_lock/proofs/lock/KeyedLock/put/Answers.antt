@@ -1,10 +1,10 @@
--- The seat has the lock's one slot, and stores 0.
+-- The seat has the lock's one slot, and swaps in 0.
 use Rattle.std.proofs.Common.{◌∙◌, None, Some, arith}
 use Rattle.lb_lock.proofs.Exchanges.{goes, exchanged}
 use Rattle.lb_lock.proofs.lock.KeyedLock.put.Goals as goal
 
-pub store-requires : goal.store-requires
-store-requires g c =
+pub swap-word-requires : goal.swap-word-requires
+swap-word-requires g c =
     let e = c.exchange.ensures in
     let one = c.args.self.now.one in (
       e.0 ∙ c.requires.here,
