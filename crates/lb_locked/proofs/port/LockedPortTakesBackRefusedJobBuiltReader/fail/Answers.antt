@@ -5,7 +5,7 @@ use Rattle.lb_locked.proofs.port.LockedPortTakesBackRefusedJobBuiltReader.fail.G
 pub returns-in-Ok : goal.returns-in-Ok
 returns-in-Ok g c =
     let is = c.in-Ok.ensures in
-    rw (sym c.into_job.ensures) (
+    rw (sym c.into_job-job.ensures) (
       (
         Ok tt,
         (
@@ -31,7 +31,7 @@ returns-in-Ok g c =
 pub returns-in-Err : goal.returns-in-Err
 returns-in-Err g c =
     let is = c.in-Err.ensures in
-    rw (sym c.into_job.ensures) (
+    rw (sym c.into_job-job.ensures) (
       (
         Err c.in-Err.job,
         (
