@@ -31,6 +31,7 @@ impl SeenBackends {
     }
 
     /// Whether a backend of this identity came already.
+    #[inline]
     pub fn contains(&self, backend: &Backend) -> bool
         ensures { result ≡ has_backend self.now backend.now }
     {
@@ -38,6 +39,9 @@ impl SeenBackends {
             if backend == last {
                 return true;
             }
+        }
+        if self.identities.is_empty() {
+            return false;
         }
         self.identities.contains(backend)
     }
