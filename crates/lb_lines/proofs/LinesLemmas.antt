@@ -6,7 +6,7 @@ use Rattle.std.proofs.lemmas.List.{take_all}
 use Rattle.memchr.specs.Find.{IsFirstByte, is_byte}
 use Rattle.std.specs.Io.KnownBytes.{prepend_known, IsAtEnd}
 use Rattle.lb_counted.specs.Stream.{OnBytes}
-use Rattle.lb_lines.specs.Lines.{lines_of, whole_lines, first_line, HasNoFeed, IsLine}
+use Rattle.lb_lines.specs.Lines.{lines_of, whole_lines, first_line, HasNoFeed, IsLine, BeginsWith}
 
 -- what the bytes of an unfinished line are: whatever follows them, they stand at the front of the first line
 pub record IsFront (line : List ℕ) : Type 0 where
@@ -98,6 +98,20 @@ first_line_grows (x ∷ xs) rest = by_first (λ bytes. length (first_line bytes)
     (λ h. rw (first_line-feed x xs h) (omega arith))
     (λ h. let more : length (first_line xs) ≤ length (first_line (xs ++ rest)) = first_line_grows xs rest in
     rw (first_line-more x xs h, first_line-more x (xs ++ rest) h) (omega arith))
+
+-- a line that ends within some bytes
+pub begins : (bytes : List ℕ) (count : ℕ) → count ≡ length (first_line bytes) → count < length bytes → length bytes ≤ 8192
+    → BeginsWith (take count bytes) bytes
+begins bytes count place within few =
+    let line : take count bytes ≡ first_line bytes = ap (λ n. take n bytes) place ∙ first_line_is bytes in
+    subst (λ l. BeginsWith l bytes) (sym line) (record {
+      is_line = record { no_feed = first_line-twice bytes; short = omega arith };
+      is = ended_at_feed bytes (omega arith);
+    })
+
+-- some bytes without a line feed
+pub feedless : (bytes : List ℕ) → length bytes ≤ length (first_line bytes) → HasNoFeed bytes
+feedless bytes all = front_clear bytes (open_front bytes all)
 
 -- what a search within the bytes that are held tells of the line; `line` is the part of it that came before them,
 -- `whole` what was left when the line began, and `known` what is left after the bytes that are held

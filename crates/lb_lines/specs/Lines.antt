@@ -1,5 +1,5 @@
 -- The lines of a text: each ends with a line feed, which is no part of it, and a last line that isn't empty may lack it.
-use Rattle.std.specs.Prelude.{◌≡◌, ◌≢◌, ℕ, ◌<◌, ◌≤◌, List, [], ◌∷◌, ◌++◌, ◌==◌, if◌then◌else◌, length, ⊤}
+use Rattle.std.specs.Prelude.{◌≡◌, ◌≢◌, ℕ, ◌+◌, ◌<◌, ◌≤◌, List, [], ◌∷◌, ◌++◌, ◌==◌, if◌then◌else◌, length, drop, ⊤}
 use Rattle.lb_lines.specs.declared.lines.LineRead.{LineRead}
 use Rattle.lb_lines.specs.declared.lines.LineRead.TheVariants.{Line, LastLine, End, TooLong, ReadFailed, WriteFailed, NoMemory}
 
@@ -36,6 +36,11 @@ HasNoFeed bytes = first_line bytes ≡ bytes
 pub record IsLine (line : List ℕ) : Type 0 where
   pub no_feed : HasNoFeed line
   pub short : length line ≤ 16777216
+
+-- some bytes begin with this line and its line feed
+pub record BeginsWith (line bytes : List ℕ) : Type 0 where
+  pub is_line : IsLine line
+  pub is : bytes ≡ line ++ 10 ∷ drop (length line + 1) bytes
 
 -- what a call that asks for a line did to the stream, by what it found. Memory ran out only where the line has a byte. Where a
 -- read failed, the bytes of the line that were read before are no whole line. Where a write failed, nothing is said of the stream.

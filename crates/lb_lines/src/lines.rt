@@ -1,9 +1,9 @@
 //! One line of a stream, up to its line feed and within a limit.
 //! What came instead of a line is told apart: the end, a line too long, a stream that failed, no memory.
-ghost use Rattle.std.specs.Prelude.{◌≡◌, ◌≢◌, ◌≤◌, true, [], length};
+ghost use Rattle.std.specs.Prelude.{◌≡◌, ◌≢◌, ◌≤◌, true, [], length, MatchOption};
 ghost use Rattle.std.specs.Io.KnownBytes.{Keeps, prepend_known};
 ghost use Rattle.lb_counted.specs.Counted.{inner_of, has_failed};
-ghost use Rattle.lb_lines.specs.Lines.{Finds, first_line};
+ghost use Rattle.lb_lines.specs.Lines.{Finds, first_line, HasNoFeed, BeginsWith};
 ghost use Rattle.lb_counted.specs.Stream.{OnBytes};
 
 use crate::read_ahead::{ReadAhead, StreamError};
@@ -77,6 +77,18 @@ pub fn read_line<R: Read, W: Write>(
         }
         ahead.consume(count);
     }
+}
+
+/// The next line, without its line feed, where all of it was read ahead.
+pub fn whole_line(ahead: &ReadAhead) -> Option<&[u8]>
+    ensures { MatchOption result (HasNoFeed ahead.now) (λ line. BeginsWith line.now ahead.now) }
+{
+    let bytes = ahead.bytes();
+    let count = feed_place(bytes);
+    if count < bytes.len() {
+        return Some(&bytes[..count]);
+    }
+    None
 }
 
 // How many bytes stand before the first line feed.

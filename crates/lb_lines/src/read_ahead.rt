@@ -51,7 +51,8 @@ impl ReadAhead {
 
     /// The bytes.
     pub fn bytes(&self) -> &[u8]
-        ensures { result.now ≡ self.now }
+        ensures bytes { result.now ≡ self.now }
+        ensures few { length self.now ≤ 8192 }
     {
         &self.bytes[self.start..self.end]
     }

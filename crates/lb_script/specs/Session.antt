@@ -58,3 +58,8 @@ module _ (M : Meaning Kind) where
   TakesTurn h w text (Failed Read) stream rest = (part : List ℕ) × HasNoFeed part × (stream ≡ part ++ rest)
   TakesTurn h w text (Failed OutOfMemory) stream rest = stream ≢ []
   TakesTurn h w text WriteFailed stream rest = ⊤
+
+-- the turn of a line with its line feed, by what answering it did
+abbrev pub turn_after : Result (Unit {0}) ScriptError → Turn
+turn_after (Ok u) = Answered
+turn_after (Err e) = Failed e

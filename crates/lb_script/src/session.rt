@@ -8,12 +8,12 @@ ghost use Rattle.lb_world.specs.Stands.{Stands};
 ghost use Rattle.lb_step_text.specs.LineSteps.{line_step_seen};
 ghost use Rattle.lb_counted.specs.Counted.{inner_of, has_failed};
 ghost use Rattle.lb_counted.specs.Stream.{OnBytes};
-ghost use Rattle.lb_script.specs.Session.{AnswersLine, TakesTurn};
+ghost use Rattle.lb_script.specs.Session.{AnswersLine, TakesTurn, turn_after};
 
 use lb_counted::counted::Counted;
 use lb_history::answer::Answer;
 use lb_kinds::kinds::Kind;
-use lb_lines::lines::{LineRead, read_line};
+use lb_lines::lines::{LineRead, read_line, whole_line};
 use lb_lines::read_ahead::ReadAhead;
 use lb_select::walk::BackendSelection;
 use lb_step_text::error::ScriptError;
@@ -80,12 +80,16 @@ impl<S: BackendSelection<Config = Kind>> Session<S> {
         ensures writer_failed { result ≡ Turn.WriteFailed → has_failed writer.new ≡ true }
         ensures writer_kept { result ≢ Turn.WriteFailed → has_failed writer.new ≡ has_failed writer.old }
     {
+        // Most lines lie whole in what was read ahead, and are answered there.
+        if let Some(line) = whole_line(&self.ahead) {
+            let answered = answer(alloc, &mut self.world, &mut self.text, line);
+            let count = line.len() + 1;
+            self.ahead.consume(count);
+            return turn_of(answered);
+        }
         match read_line(reader, writer, &mut self.ahead, &mut self.line) {
-            LineRead::Line => match self.answer(alloc) {
-                Ok(()) => Turn::Answered,
-                Err(error) => Turn::Failed(error),
-            },
-            LineRead::LastLine => match self.answer(alloc) {
+            LineRead::Line => turn_of(self.answer_read(alloc)),
+            LineRead::LastLine => match self.answer_read(alloc) {
                 Ok(()) => Turn::LastAnswered,
                 Err(error) => Turn::Failed(error),
             },
@@ -97,21 +101,45 @@ impl<S: BackendSelection<Config = Kind>> Session<S> {
         }
     }
 
-    // Takes the step that the line asks for, and makes the text that of its answer and a line feed.
-    fn answer(&mut self, alloc: Global) -> Result<(), ScriptError>
+    // Answers the line that was read.
+    fn answer_read(&mut self, alloc: Global) -> Result<(), ScriptError>
         ensures line { let M = meaning_of S.BackendSelection in
             (h : History Kind) → Stands M self.old.world h
             → AnswersLine M h self.old.line.items self.new.world (self.new.text.items) result }
         ensures own { result ≢ Err ScriptError.Read }
         ensures ahead { self.new.ahead ≡ self.old.ahead }
     {
-        let step = parse(alloc, &self.line)?;
-        let answer = take_step(&mut self.world, step);
-        self.text.clear();
-        push_answer(alloc, &mut self.text, &answer)?;
-        self.text.push(b'\n')?;
-        Ok(())
+        answer(alloc, &mut self.world, &mut self.text, &self.line)
     }
+}
+
+// What comes of a turn whose line was answered, or has no answer.
+fn turn_of(answered: Result<(), ScriptError>) -> Turn
+    ensures { result ≡ turn_after answered }
+{
+    match answered {
+        Ok(()) => Turn::Answered,
+        Err(error) => Turn::Failed(error),
+    }
+}
+
+// Takes the step that the line asks for, and makes the text that of its answer and a line feed.
+fn answer<S: BackendSelection<Config = Kind>>(
+    alloc: Global,
+    world: &mut World<S>,
+    text: &mut Vec<u8>,
+    line: &[u8],
+) -> Result<(), ScriptError>
+    ensures line { (h : History Kind) → Stands (meaning_of S.BackendSelection) world.old h
+        → AnswersLine (meaning_of S.BackendSelection) h line.now world.new text.new.items result }
+    ensures own { result ≢ Err ScriptError.Read }
+{
+    let step = parse(alloc, line)?;
+    let answer = take_step(world, step);
+    text.clear();
+    push_answer(alloc, text, &answer)?;
+    text.push(b'\n')?;
+    Ok(())
 }
 
 // Takes the step of a line.
