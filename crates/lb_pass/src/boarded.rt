@@ -1,6 +1,6 @@
 //! A group that threads share, with the readings, updates and entries of passes.
 //! Readings load a word and take no lock. Under the lock one call of the group is made, and an entry loads its slot's word there.
-ghost use Rattle.std.specs.Prelude.{◌≡◌, ◌≤◌, ◌<◌, ◌+◌, Some, IfOk, IfErr, IfSome, IfNone, MatchBool, slice_get};
+ghost use Rattle.std.specs.Prelude.{◌≡◌, ◌≤◌, ◌<◌, ◌+◌, ◌⊎◌, Some, IfOk, IfErr, IfSome, IfNone, MatchBool, slice_get};
 ghost use Rattle.std.specs.Arc.{arc_value};
 ghost use Rattle.std.specs.Fn.{FnReturnsAt};
 ghost use Rattle.lb_select.specs.Backends.{same_member};
@@ -8,7 +8,7 @@ ghost use Rattle.lb_select.specs.Selections.{Selects};
 ghost use Rattle.lb_group.specs.GroupCalls.{IsOwnJob};
 ghost use Rattle.lb_group.specs.Values.{configs_of};
 ghost use Rattle.lb_board.specs.Pass.{IsLoad, IsLater, AreServed, HasSeenBelow, HasMet, newest_of, served_of};
-ghost use Rattle.lb_pass.specs.Boarded.{IsSame};
+ghost use Rattle.lb_pass.specs.Boarded.{IsSame, IsEntryRefusal};
 
 use lb_board::board::{Board, GroupPass};
 use lb_group::answers::{Ask, Told};
@@ -173,7 +173,8 @@ impl<S: BackendSelection, R: KeyRule + Drop> BoardedGroup<S, R> {
     ///
     /// # Errors
     ///
-    /// As `lb_joined::group::GroupCore::enter`.
+    /// `NoSuch` exactly where no such slot is there; `NumbersExhausted` where its readers are at 18446744073709551615; `OutOfMemory`
+    /// where memory is refused. Nobody has entered then.
     pub fn enter_as<W: Wait>(
         &self,
         rt: &W,
@@ -181,14 +182,19 @@ impl<S: BackendSelection, R: KeyRule + Drop> BoardedGroup<S, R> {
         pass: &mut GroupPass,
     ) -> Result<Reader<S>, Refusal>
         requires { pass.old.board ≡ self.now.board }
-        ensures reader { IfOk result (λ r. r.generation ≡ served_of pass.new slot) }
+        ensures reader { IfOk result (λ r. (slot + 1 < self.now.board.words) × (r.slot ≡ slot)
+            × (r.generation ≡ served_of pass.new slot)) }
         ensures own { IfOk result (λ r. r.group ≡ self.now.core.group.id) }
+        ensures refused { IfErr result (IsEntryRefusal self.now.board slot) }
         ensures later { IsLater pass.old pass.new }
     {
         let _board = &self.board;
         for _ in rt.forever() {
             let mut held = self.lock.take(rt);
-            let found = self.board.selector_generation_as(slot, pass);
+            let Some(found) = self.board.selector_generation_as(slot, pass) else {
+                self.lock.put(held);
+                return Err(Refusal::NoSuch);
+            };
             let entered = enter_at(&mut held.value, slot, found);
             self.lock.put(held);
             match entered {
@@ -337,13 +343,20 @@ impl<S: BackendSelection, R: KeyRule + Drop> BoardedGroup<S, R> {
 fn enter_at<S: BackendSelection>(
     watched: &mut Watched<S>,
     slot: usize,
-    found: Option<u64>,
+    found: u64,
 ) -> Result<Option<Reader<S>>, Refusal>
-    ensures found { IfOk result (λ o. IfSome o (λ r. (Some r.generation ≡ found) × (r.group ≡ watched.old.core.group.id))) }
+    ensures found { IfOk result (λ o. IfSome o (λ r. (r.slot ≡ slot) × (r.generation ≡ found)
+        × (r.group ≡ watched.old.core.group.id))) }
+    ensures refused { IfErr result (λ e. (e ≡ Refusal.NumbersExhausted) ⊎ (e ≡ Refusal.OutOfMemory)) }
     ensures same { IsSame watched.old watched.new }
 {
-    if watched.core().served(slot) != found {
+    watched.core().past();
+    let Some(served) = watched.core().served(slot) else {
+        return Ok(None);
+    };
+    if served != found {
         return Ok(None);
     }
-    Ok(Some(watched.enter(slot)?))
+    let reader = watched.enter(slot)?;
+    Ok(Some(reader))
 }
