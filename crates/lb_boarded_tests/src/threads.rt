@@ -53,15 +53,16 @@ fn four_readers_beside_updates(rt: HostRuntime) -> Result<(), Fail> {
     let gate = GateCore::new(alloc)?;
     let group = fresh(alloc, &gate)?;
     let shared = &group;
+    let host = &rt;
     let (one, two, three, four) = (group.pass(), group.pass(), group.pass(), group.pass());
     let (newest, (left, right)) = join(
-        &rt,
-        move || requires { gate.id ≡ shared.now.core.group.gate } { updates(&rt, alloc, shared, gate, UPDATES) },
+        host,
+        move || requires { gate.id ≡ shared.now.core.group.gate } { updates(host, alloc, shared, gate, UPDATES) },
         || {
             join(
-                &rt,
-                move || requires { (one.board ≡ shared.now.board) × (two.board ≡ shared.now.board) } { two_read(&rt, shared, one, two) },
-                move || requires { (three.board ≡ shared.now.board) × (four.board ≡ shared.now.board) } { two_read(&rt, shared, three, four) },
+                host,
+                move || requires { (one.board ≡ shared.now.board) × (two.board ≡ shared.now.board) } { two_read(host, shared, one, two) },
+                move || requires { (three.board ≡ shared.now.board) × (four.board ≡ shared.now.board) } { two_read(host, shared, three, four) },
             )
         },
     );
