@@ -15,7 +15,7 @@ pub struct Readings {
 }
 
 /// The three readings, by a function that may not wait.
-pub fn readings(board: &Board, slot: usize, generation: u64, pass: &mut GroupPass) -> Readings
+pub fn all_readings(board: &Board, slot: usize, generation: u64, pass: &mut GroupPass) -> Readings
     requires { pass.old.board ≡ board.now }
     ensures { pass.new.board ≡ board.now }
 {
@@ -37,7 +37,7 @@ pub fn never_falls(board: &Board, pass: GroupPass, times: u64) -> bool
     let mut newest = 0;
     let mut served = 0;
     for _ in 0..times {
-        let found = readings(board, 0, newest, &mut pass);
+        let found = all_readings(board, 0, newest, &mut pass);
         let now = found.served.unwrap_or(0);
         if found.newest < newest || now < served {
             return false;

@@ -1,7 +1,7 @@
 //! Four threads that read beside one that writes, and passes that meet.
 ghost use Rattle.std.specs.Prelude.{◌≡◌};
 
-use crate::readings::{Readings, never_falls, readings};
+use crate::readings::{Readings, all_readings, never_falls};
 use lb_board::board::{Board, GroupPass, WritingPass};
 use std::test::Fail;
 use std::thread::{Threads, join};
@@ -36,15 +36,16 @@ fn two_read<R: Threads + Sync>(rt: &R, board: &Board, one: GroupPass, two: Group
 fn four_readers_never_fall(rt: HostRuntime) -> Result<(), Fail> {
     let (board, writer) = Board::new(rt.alloc(), 1)?;
     let shared = &board;
+    let host = &rt;
     let (one, two, three, four) = (board.pass(), board.pass(), board.pass(), board.pass());
     let ((), (left, right)) = join(
-        &rt,
+        host,
         move || requires { writer.board ≡ shared.now } { raises(shared, writer, TIMES) },
         || {
             join(
-                &rt,
-                move || requires { (one.board ≡ shared.now) × (two.board ≡ shared.now) } { two_read(&rt, shared, one, two) },
-                move || requires { (three.board ≡ shared.now) × (four.board ≡ shared.now) } { two_read(&rt, shared, three, four) },
+                host,
+                move || requires { (one.board ≡ shared.now) × (two.board ≡ shared.now) } { two_read(host, shared, one, two) },
+                move || requires { (three.board ≡ shared.now) × (four.board ≡ shared.now) } { two_read(host, shared, three, four) },
             )
         },
     );
@@ -59,9 +60,9 @@ fn readings_tell_the_words(rt: HostRuntime) -> Result<(), Fail> {
     let mut pass = board.pass();
     board.raise(&mut writer, 0, 3);
     board.raise(&mut writer, 1, 2);
-    let two = readings(&board, 0, 2, &mut pass);
+    let two = all_readings(&board, 0, 2, &mut pass);
     assert_eq!(rt; two, Readings { newest: 3, served: Some(2), is_ready: true });
-    let three = readings(&board, 7, 3, &mut pass);
+    let three = all_readings(&board, 7, 3, &mut pass);
     assert_eq!(rt; three, Readings { newest: 3, served: None, is_ready: false });
     Ok(())
 }
