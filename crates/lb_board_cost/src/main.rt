@@ -5,13 +5,12 @@
 ghost use Rattle.std.specs.Prelude.{◌≡◌};
 
 use lb_board::board::{Board, GroupPass, WritingPass};
-use std::env;
 use std::rt::Clock;
 use std::sync::atomic::AtomicBool;
 use std::sync::atomic::Ordering::SeqCst;
-use std::thread;
 use std::thread::{Threads, join};
 use std::time::{Duration, Instant};
+use std::{env, thread};
 
 /// Reads so many times; the last generation that was found.
 fn read_often(board: &Board, pass: GroupPass, times: u64) -> u64
@@ -83,7 +82,9 @@ fn main(rt: HostRuntime) -> Result<(), anyhow::Error> {
             done.store(true, SeqCst);
             spent
         },
-        move || requires { writer.board ≡ shared.now } { update_until(&rt, shared, writer, done) },
+        move ||
+            requires { writer.board ≡ shared.now }
+        { update_until(&rt, shared, writer, done) },
     );
     println!(rt; "{count} threads, {times} readings each")?;
     if timed {

@@ -25,8 +25,12 @@ fn two_read<R: Threads + Sync>(rt: &R, board: &Board, one: GroupPass, two: Group
 {
     let (first, second) = join(
         rt,
-        move || requires { one.board ≡ board.now } { never_falls(board, one, TIMES) },
-        move || requires { two.board ≡ board.now } { never_falls(board, two, TIMES) },
+        move ||
+            requires { one.board ≡ board.now }
+        { never_falls(board, one, TIMES) },
+        move ||
+            requires { two.board ≡ board.now }
+        { never_falls(board, two, TIMES) },
     );
     first && second
 }
@@ -40,12 +44,18 @@ fn four_readers_never_fall(rt: HostRuntime) -> Result<(), Fail> {
     let (one, two, three, four) = (board.pass(), board.pass(), board.pass(), board.pass());
     let ((), (left, right)) = join(
         host,
-        move || requires { writer.board ≡ shared.now } { raises(shared, writer, TIMES) },
+        move ||
+            requires { writer.board ≡ shared.now }
+        { raises(shared, writer, TIMES) },
         || {
             join(
                 host,
-                move || requires { (one.board ≡ shared.now) × (two.board ≡ shared.now) } { two_read(host, shared, one, two) },
-                move || requires { (three.board ≡ shared.now) × (four.board ≡ shared.now) } { two_read(host, shared, three, four) },
+                move ||
+                    requires { (one.board ≡ shared.now) × (two.board ≡ shared.now) }
+                { two_read(host, shared, one, two) },
+                move ||
+                    requires { (three.board ≡ shared.now) × (four.board ≡ shared.now) }
+                { two_read(host, shared, three, four) },
             )
         },
     );
@@ -61,9 +71,23 @@ fn readings_tell_the_words(rt: HostRuntime) -> Result<(), Fail> {
     board.raise(&mut writer, 0, 3);
     board.raise(&mut writer, 1, 2);
     let two = all_readings(&board, 0, 2, &mut pass);
-    assert_eq!(rt; two, Readings { newest: 3, served: Some(2), is_ready: true });
+    assert_eq!(rt;
+        two,
+        Readings {
+            newest: 3,
+            served: Some(2),
+            is_ready: true
+        }
+    );
     let three = all_readings(&board, 7, 3, &mut pass);
-    assert_eq!(rt; three, Readings { newest: 3, served: None, is_ready: false });
+    assert_eq!(rt;
+        three,
+        Readings {
+            newest: 3,
+            served: None,
+            is_ready: false
+        }
+    );
     Ok(())
 }
 

@@ -129,7 +129,14 @@ pub(crate) fn selected<R: Wait>(
     let reader = group.enter_as(rt, 0, pass)?;
     let generation = reader.generation();
     let mut words = HandedWords::new(0, &[]);
-    let answer = group.select_in(alloc, &reader, b"k", &mut words, 1, &|_backend: &Backend| true);
+    let answer = group.select_in(
+        alloc,
+        &reader,
+        b"k",
+        &mut words,
+        1,
+        &|_backend: &Backend| true,
+    );
     if let Err(reader) = group.leave(rt, reader) {
         reader.close();
     }

@@ -11,6 +11,7 @@ use std::test::Fail;
 use std::thread::{Threads, join};
 
 const UPDATES: u64 = 200;
+
 const READINGS: u64 = 20_000;
 
 // Updates the group to another backend so many times, and publishes each; the newest generation then.
@@ -26,7 +27,11 @@ fn updates<R: Wait>(
     let mut gate = gate;
     let mut pass = group.pass();
     for turn in 0..times {
-        let address = if turn % 2 == 0 { "1.0.0.1:80" } else { "1.0.0.2:80" };
+        let address = if turn % 2 == 0 {
+            "1.0.0.1:80"
+        } else {
+            "1.0.0.2:80"
+        };
         updated(rt, alloc, group, address, &mut pass)?;
         rebuilt(rt, alloc, group, &mut gate)?;
         destroyed(rt, group, &mut gate)?;
@@ -40,8 +45,12 @@ fn two_read<R: Threads + Sync>(rt: &R, group: &Group, one: GroupPass, two: Group
 {
     let (first, second) = join(
         rt,
-        move || requires { one.board ≡ group.now.board } { never_falls(group, one, READINGS) },
-        move || requires { two.board ≡ group.now.board } { never_falls(group, two, READINGS) },
+        move ||
+            requires { one.board ≡ group.now.board }
+        { never_falls(group, one, READINGS) },
+        move ||
+            requires { two.board ≡ group.now.board }
+        { never_falls(group, two, READINGS) },
     );
     first && second
 }
@@ -57,12 +66,18 @@ fn four_readers_beside_updates(rt: HostRuntime) -> Result<(), Fail> {
     let (one, two, three, four) = (group.pass(), group.pass(), group.pass(), group.pass());
     let (newest, (left, right)) = join(
         host,
-        move || requires { gate.id ≡ shared.now.core.group.gate } { updates(host, alloc, shared, gate, UPDATES) },
+        move ||
+            requires { gate.id ≡ shared.now.core.group.gate }
+        { updates(host, alloc, shared, gate, UPDATES) },
         || {
             join(
                 host,
-                move || requires { (one.board ≡ shared.now.board) × (two.board ≡ shared.now.board) } { two_read(host, shared, one, two) },
-                move || requires { (three.board ≡ shared.now.board) × (four.board ≡ shared.now.board) } { two_read(host, shared, three, four) },
+                move ||
+                    requires { (one.board ≡ shared.now.board) × (two.board ≡ shared.now.board) }
+                { two_read(host, shared, one, two) },
+                move ||
+                    requires { (three.board ≡ shared.now.board) × (four.board ≡ shared.now.board) }
+                { two_read(host, shared, three, four) },
             )
         },
     );
