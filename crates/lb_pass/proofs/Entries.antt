@@ -28,6 +28,13 @@ memory_or e known (inl is) = inl (known is)
 memory_or e known (inr is) = inr is.1
 
 module _ {C : Type 0} where
+  -- the group that was lent is the same one
+  pub founded_as : {u v : JoinedValue C} → u ≡ v → IsFounded u → IsFounded v
+  founded_as same p = subst (λ (x : JoinedValue C). IsFounded x) same p
+
+  pub told_as : {u v : JoinedValue C} {P : Made C → History → Type 0} → u ≡ v → After u P → After v P
+  told_as {u} {v} {P} same tells = subst (λ (x : JoinedValue C). After x P) same tells
+
   pub entered_ok : {v : JoinedValue C} {o : Option ℕ} {slot g : ℕ} (r : ReaderValue C) → IsFounded v
       → After v (λ made e. o ≡ at_slot made slot (served (past_of slot (group_events e)))) → o ≡ Some g
       → (let a : Result (ReaderValue C) Refusal = Ok r in After v (λ made e. Enters made (group_events e) slot a))

@@ -350,8 +350,9 @@ fn enter_at<S: BackendSelection>(
     ensures refused { IfErr result (λ e. (e ≡ Refusal.NumbersExhausted) ⊎ (e ≡ Refusal.OutOfMemory)) }
     ensures same { IsSame watched.old watched.new }
 {
-    watched.core().past();
-    let Some(served) = watched.core().served(slot) else {
+    let core = watched.core();
+    core.past();
+    let Some(served) = core.served(slot) else {
         return Ok(None);
     };
     if served != found {
