@@ -1,2 +1,3 @@
+mod Clocks
 mod Drives
 mod Lines

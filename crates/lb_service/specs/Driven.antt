@@ -50,10 +50,7 @@ module _ {P : Type 0} (moments counts : P → ℕ → P → Type 0) (looks : P �
   abbrev pub Served : ServicePlan → P → P → Type 0
   Served plan p q = (h : List Heard) × IsServiceRun plan h × (last h ≡ to.Return) × Driven p h q
 
--- how the waits of a service end
-abbrev pub EndsSleep : Event → Type 0
-EndsSleep e = (e ≡ on.Woke) ⊎ (e ≡ on.ViewRemoved) ⊎ (e ≡ on.Shutdown)
-
+-- how the waits of a service for targets and for its end are over
 abbrev pub EndsWait : Event → Type 0
 EndsWait e = (e ≡ on.Targets) ⊎ (e ≡ on.Shutdown)
 

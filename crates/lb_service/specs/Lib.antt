@@ -1,3 +1,4 @@
+pub mod Clocks
 pub mod Driven
 pub mod Lines
 pub mod Signals

@@ -1,9 +1,17 @@
-//! What the word of a line and the views of its seats keep true between any two steps.
+//! A line: a table of one word. What the word and the views of its seats keep true between any two steps stands here.
 //! One seat at most is the sender's, and the word says what the sender stored last.
 ghost use Rattle.std.specs.Prelude.{◌≡◌, []};
 ghost use Rattle.lb_service.specs.Lines.{SaysWord, sender};
 
-use atomic_table::{Play, TableRule};
+use atomic_table::{Play, Table, TableRule};
+use std::alloc::Global;
+
+/// What the two ends of a line share.
+#[derive(Drop)]
+pub(crate) struct Line {
+    pub(crate) table: Table<(), Mark, (), OneSender, Global>,
+    ghost one: { table.shared.table_id.words ≡ 1 },
+}
 
 /// What a seat of a line knows: whether it is the sender's, and what the word says.
 /// No value of this type is ever made; it is the type of the seats' views.

@@ -1,6 +1,8 @@
 //! The service that checks the targets of a registry in the background, under the registry's own lock and beside other threads.
-ghost use Rattle.std.specs.Prelude.{◌≡◌, None, false, []};
+ghost use Rattle.std.specs.Prelude.{◌≡◌, Bool, None, false, [], is_some};
+ghost use Rattle.lb_schedule.specs.Runs.{service_plan};
 ghost use Rattle.lb_schedule.specs.Services.{IsServiceAfter};
+ghost use Rattle.lb_service.specs.Clocks.{ServedBy};
 
 use crate::drive::drive;
 use crate::port::ServicePort;
@@ -56,7 +58,10 @@ impl<R: KeyRule + Drop + Send, C: HealthCheck + Drop + Send + Sync> HealthCheckS
         clock: &mut K,
         watch: &ShutdownWatch,
         notifier: Option<ServiceReadyNotifier>,
-    ) {
+    )
+        ensures { (has_check : Bool) × ServedBy K.reads
+            (service_plan self.now.health_check_frequency has_check (is_some notifier)) clock.old clock.new }
+    {
         let has_check = self.registry.has_health_check();
         if !has_check {
             error!(rt; "HealthCheckService requires a configured HealthRegistry health check");
@@ -85,6 +90,7 @@ fn run_over<F: Fn(), R: KeyRule + Drop, C: HealthCheck + Drop, W: Wait, K: Momen
 )
     requires fresh { IsServiceAfter run [] }
     requires passes { (pass : F) → F.IsAlwaysCallable pass }
+    ensures { ServedBy K.reads run.plan clock.old clock.new }
 {
     let mut port = LockedService {
         registry,
@@ -124,25 +130,25 @@ impl<
     K: MomentSource,
 > ServicePort for LockedService<'g, 'p, 'r, 'c, 'w, F, R, C, W, K> {
     ghost use Rattle.std.specs.Prelude.{◌≡◌, None};
-    ghost use Rattle.lb_service.specs.Driven.{EndsHold, EndsSleep, EndsWait};
+    ghost use Rattle.lb_service.specs.Clocks.{Awaits, Holds, Sleeps};
 
-    ghost moments = { λ p moment q. K.reads p.clock.now moment q.clock.now };
+    ghost moments = { λ p moment q. K.reads p.clock.now moment q.clock.now × (q.clock.ghost_name ≡ p.clock.ghost_name) };
 
-    ghost counts = { λ p _ q. q.clock.now ≡ p.clock.now };
+    ghost counts = { λ p _ q. (q.clock.now ≡ p.clock.now) × (q.clock.ghost_name ≡ p.clock.ghost_name) };
 
-    ghost looks = { λ p _ q. q.clock.now ≡ p.clock.now };
+    ghost looks = { λ p _ q. (q.clock.now ≡ p.clock.now) × (q.clock.ghost_name ≡ p.clock.ghost_name) };
 
     ghost can_check = { (pass : F) → F.IsAlwaysCallable pass };
 
-    ghost checks = { λ p q. q.clock.now ≡ p.clock.now };
+    ghost checks = { λ p q. (q.clock.now ≡ p.clock.now) × (q.clock.ghost_name ≡ p.clock.ghost_name) };
 
-    ghost tells = { λ p q. (q.clock.now ≡ p.clock.now) × (q.notifier ≡ None) };
+    ghost tells = { λ p q. (q.clock.now ≡ p.clock.now) × (q.clock.ghost_name ≡ p.clock.ghost_name) × (q.notifier ≡ None) };
 
-    ghost sleeps = { λ _ _ e _. EndsSleep e };
+    ghost sleeps = { λ p moment e q. Sleeps K.reads p.clock.now moment e q.clock.now × (q.clock.ghost_name ≡ p.clock.ghost_name) };
 
-    ghost awaits = { λ _ e _. EndsWait e };
+    ghost awaits = { λ p e q. Awaits K.reads p.clock.now e q.clock.now × (q.clock.ghost_name ≡ p.clock.ghost_name) };
 
-    ghost holds = { λ _ e _. EndsHold e };
+    ghost holds = { λ p e q. Holds K.reads p.clock.now e q.clock.now × (q.clock.ghost_name ≡ p.clock.ghost_name) };
 
     fn now(&mut self) -> u128 {
         self.clock.now()
@@ -170,6 +176,7 @@ impl<
         }
     }
 
+    #[tactic(auto, using(crate::proofs::Clocks::read_once, crate::proofs::Clocks::read_on, crate::proofs::Clocks::unread))]
     fn sleep_until(&mut self, moment: u128) -> Event {
         for _ in self.rt.forever() {
             let heard = self.watch.event();
@@ -189,6 +196,7 @@ impl<
         unreachable!()
     }
 
+    #[tactic(auto, using(crate::proofs::Clocks::read_once, crate::proofs::Clocks::read_on, crate::proofs::Clocks::unread))]
     fn await_targets(&mut self) -> Event {
         for _ in self.rt.forever() {
             let heard = self.watch.event();
@@ -204,6 +212,7 @@ impl<
         unreachable!()
     }
 
+    #[tactic(auto, using(crate::proofs::Clocks::read_once, crate::proofs::Clocks::read_on, crate::proofs::Clocks::unread))]
     fn hold(&mut self) -> Event {
         for _ in self.rt.forever() {
             if let Some(event) = self.watch.event() {

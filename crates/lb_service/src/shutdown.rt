@@ -1,9 +1,10 @@
 //! How a service is told to end: a signal, and watches that tell what stands and sleep until it changes.
 //! What stands is one word that the signal alone stores, so that neither it nor a watch takes a lock.
 ghost use Rattle.std.specs.Prelude.{◌≡◌, ◌≤◌, false, IfErr, IfOk};
+ghost use Rattle.lb_service.specs.Clocks.{IsRead};
 ghost use Rattle.lb_service.specs.Signals.{event_of, signal, told, word_of, EndsUntil, IsOfSignal};
 
-use crate::line_rule::{Finds, Mark, OneSender, Says};
+use crate::line_rule::{Finds, Line, Mark, Says};
 use atomic_table::{Seat, Table};
 use lb_balance::moments::MomentSource;
 use lb_schedule::event::Event;
@@ -22,13 +23,6 @@ const CLOSED: u64 = 2;
 
 // How long a watch sleeps at most before it reads the clock again.
 const SECOND: u128 = 1_000_000_000;
-
-// What a signal and its watches share.
-#[derive(Drop)]
-struct Line {
-    table: Table<(), Mark, (), OneSender, Global>,
-    ghost one: { table.shared.table_id.words ≡ 1 },
-}
 
 /// What tells services to end. Contracts see of which pair it is, and whether the latest that it sent is the end.
 pub struct ShutdownSignal {
@@ -133,6 +127,7 @@ impl ShutdownWatch {
 
     /// Waits until something else stands than `heard`, or until the moment has come, and answers what stands then.
     /// It reads the clock once a second at least. It takes no memory.
+    #[tactic(auto, using(crate::proofs::Clocks::read_once, crate::proofs::Clocks::unread))]
     pub fn wait_until<R: Wait, C: MomentSource>(
         &self,
         rt: &R,
@@ -142,6 +137,7 @@ impl ShutdownWatch {
     ) -> Option<Event>
         ensures event { IsOfSignal result }
         ensures until { EndsUntil C.reads moment heard clock.new result }
+        ensures read { IsRead C.reads clock.old clock.new }
     {
         for _ in rt.forever() {
             let stands = self.event();

@@ -4,7 +4,7 @@ use lb_locked::registry::HealthRegistry;
 use lb_select::refusal::Refusal;
 use lb_service::ready::ready_pair;
 use lb_service::service::HealthCheckService;
-use lb_service::shutdown::{ShutdownSignal, shutdown_pair};
+use lb_service::shutdown::{ShutdownSignal, ShutdownWatch, shutdown_pair};
 use log::sink::Locked;
 use log::{Level, Logged};
 use std::alloc::Global;
@@ -28,23 +28,35 @@ fn end_after<R: Clock>(
     came
 }
 
-// Without a frequency the one target is checked once, the notifier is told, and the service is done.
-#[test]
-fn targets_are_checked_once(rt: HostRuntime) -> Result<(), Fail> {
-    let alloc = rt.alloc();
-    let checks = Arc::new(alloc, AtomicU64::new(0))?;
-    let registry: Arc<Checked<HostRuntime>> = Arc::new(
+// A registry of the one target, or of none, whose check counts, and with a watch waits for the end.
+fn checked<R: Clock + Wait + Copy + Drop>(
+    rt: R,
+    alloc: Global,
+    is_empty: bool,
+    checks: &Arc<AtomicU64>,
+    until: Option<ShutdownWatch>,
+) -> Result<Arc<Checked<R>>, Refusal> {
+    let registry: Arc<Checked<R>> = Arc::new(
         alloc,
-        HealthRegistry::new(registry_of(alloc, false)?),
+        HealthRegistry::new(registry_of(alloc, is_empty)?),
     )?;
     registry.set_health_check(
         &rt,
         Down {
             rt,
-            checks: Arc::try_clone(&checks)?,
-            until: None,
+            checks: Arc::try_clone(checks)?,
+            until,
         },
     )?;
+    Ok(registry)
+}
+
+// Without a frequency the one target is checked once, the notifier is told, and the service is done.
+#[test]
+fn targets_are_checked_once(rt: HostRuntime) -> Result<(), Fail> {
+    let alloc = rt.alloc();
+    let checks = Arc::new(alloc, AtomicU64::new(0))?;
+    let registry = checked(rt, alloc, false, &checks, None)?;
     let service = HealthCheckService::new(Arc::try_clone(&registry)?);
     let (_signal, watch) = shutdown_pair(alloc)?;
     let (notifier, ready) = ready_pair(alloc)?;
@@ -61,18 +73,7 @@ fn targets_are_checked_once(rt: HostRuntime) -> Result<(), Fail> {
 fn targets_are_checked_again(rt: HostRuntime) -> Result<(), Fail> {
     let alloc = rt.alloc();
     let checks = Arc::new(alloc, AtomicU64::new(0))?;
-    let registry: Arc<Checked<HostRuntime>> = Arc::new(
-        alloc,
-        HealthRegistry::new(registry_of(alloc, false)?),
-    )?;
-    registry.set_health_check(
-        &rt,
-        Down {
-            rt,
-            checks: Arc::try_clone(&checks)?,
-            until: None,
-        },
-    )?;
+    let registry = checked(rt, alloc, false, &checks, None)?;
     let mut service = HealthCheckService::new(registry);
     service.health_check_frequency = Some(10);
     service.parallel_health_check = true;
@@ -94,19 +95,8 @@ fn targets_are_checked_again(rt: HostRuntime) -> Result<(), Fail> {
 fn check_is_let_end(rt: HostRuntime) -> Result<(), Fail> {
     let alloc = rt.alloc();
     let checks = Arc::new(alloc, AtomicU64::new(0))?;
-    let registry: Arc<Checked<HostRuntime>> = Arc::new(
-        alloc,
-        HealthRegistry::new(registry_of(alloc, false)?),
-    )?;
     let (mut signal, watch) = shutdown_pair(alloc)?;
-    registry.set_health_check(
-        &rt,
-        Down {
-            rt,
-            checks: Arc::try_clone(&checks)?,
-            until: Some(watch.try_clone()?),
-        },
-    )?;
+    let registry = checked(rt, alloc, false, &checks, Some(watch.try_clone()?))?;
     let mut service = HealthCheckService::new(Arc::try_clone(&registry)?);
     service.health_check_frequency = Some(10);
     let (notifier, ready) = ready_pair(alloc)?;
@@ -140,18 +130,7 @@ fn publish_later<R: Wait + Clock + Drop>(
 fn first_target_wakes_a_service(rt: HostRuntime) -> Result<(), Fail> {
     let alloc = rt.alloc();
     let checks = Arc::new(alloc, AtomicU64::new(0))?;
-    let registry: Arc<Checked<HostRuntime>> = Arc::new(
-        alloc,
-        HealthRegistry::new(registry_of(alloc, true)?),
-    )?;
-    registry.set_health_check(
-        &rt,
-        Down {
-            rt,
-            checks: Arc::try_clone(&checks)?,
-            until: None,
-        },
-    )?;
+    let registry = checked(rt, alloc, true, &checks, None)?;
     let service = HealthCheckService::new(Arc::try_clone(&registry)?);
     let (signal, watch) = shutdown_pair(alloc)?;
     drop(signal);
@@ -201,18 +180,7 @@ fn service_wants_a_check(rt: HostRuntime) -> Result<(), Fail> {
 fn ended_service_checks_nothing(rt: HostRuntime) -> Result<(), Fail> {
     let alloc = rt.alloc();
     let checks = Arc::new(alloc, AtomicU64::new(0))?;
-    let registry: Arc<Checked<HostRuntime>> = Arc::new(
-        alloc,
-        HealthRegistry::new(registry_of(alloc, false)?),
-    )?;
-    registry.set_health_check(
-        &rt,
-        Down {
-            rt,
-            checks: Arc::try_clone(&checks)?,
-            until: None,
-        },
-    )?;
+    let registry = checked(rt, alloc, false, &checks, None)?;
     let service = HealthCheckService::new(registry);
     let (mut signal, watch) = shutdown_pair(alloc)?;
     signal.send(true);

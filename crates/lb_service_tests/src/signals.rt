@@ -91,10 +91,13 @@ fn signal_wakes_a_watch(rt: HostRuntime) -> Result<(), Fail> {
 
 #[test]
 fn notifier_tells_once(rt: HostRuntime) -> Result<(), Fail> {
-    let (notifier, watch) = ready_pair(rt.alloc())?;
+    let (mut notifier, watch) = ready_pair(rt.alloc())?;
     assert!(rt; !watch.is_ready());
-    notifier.notify_ready();
+    assert!(rt; !watch.is_ready_beside(&mut notifier));
+    let mut notified = notifier.notify_ready();
     assert!(rt; watch.is_ready());
+    assert!(rt; watch.is_ready_after(&mut notified));
+    drop(notified);
     assert!(rt; watch.is_ready());
     Ok(())
 }

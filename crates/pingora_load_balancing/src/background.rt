@@ -3,6 +3,6 @@
 pub use lb_locked::registry::HealthRegistry;
 pub use lb_service::drive::drive;
 pub use lb_service::port::ServicePort;
-pub use lb_service::ready::{ReadyWatch, ServiceReadyNotifier, ready_pair};
+pub use lb_service::ready::{Notified, ReadyWatch, ServiceReadyNotifier, ready_pair};
 pub use lb_service::service::HealthCheckService;
 pub use lb_service::shutdown::{ShutdownSignal, ShutdownWatch, shutdown_pair};
