@@ -2,6 +2,7 @@
 ghost use Rattle.std.specs.Prelude.{⊤};
 
 use lb_balance::balancer_core::LoadBalancerCore;
+use lb_balance::group_core::LoadBalancerGroupCore;
 use lb_balance::load_balancer::LoadBalancer;
 use lb_balance::moments::MomentSource;
 use lb_health::backends::Backends;
@@ -9,6 +10,7 @@ use lb_health::discovery::{BoxedDiscovery, DiscoverySource, Static};
 use lb_health::registry::HealthRegistry;
 use lb_probe::error::CheckError;
 use lb_probe::health_check::HealthCheck;
+use lb_rebuild::gate::GateCore;
 use lb_registry::keys::{ByNumber, Rule};
 use lb_select::backend::Backend;
 use lb_select::refusal::Refusal;
@@ -118,5 +120,36 @@ fn a_core_is_lent_its_registry(rt: HostRuntime) -> Result<(), Fail> {
     health.run_health_check(&rt, alloc)?;
     assert!(rt; !core.served.ready(&health.registry, &first));
     assert!(rt; core.select(alloc, &health.registry, b"k", 1)?.is_none());
+    Ok(())
+}
+
+#[test]
+fn a_group_lends_its_backends(rt: HostRuntime) -> Result<(), Fail> {
+    let alloc = rt.alloc();
+    let mut health: Registry = HealthRegistry::new(alloc);
+    let gate = GateCore::new(alloc)?;
+    let mut configs = Vec::new(alloc);
+    configs.push(())?;
+    let source: DiscoverySource = DiscoverySource::Static(one_backend(alloc)?);
+    let mut group: LoadBalancerGroupCore<RoundRobin, BoxedDiscovery> =
+        LoadBalancerGroupCore::from_backends_with_configs(
+            alloc,
+            &mut health.registry,
+            &gate,
+            source,
+            configs,
+        )?;
+    group.update(alloc, &mut health.registry, &mut Noon)?;
+    assert_eq!(rt; group.set_health_check(&mut health, Down), Ok(()));
+    let first = Backend::new(alloc, "1.0.0.1:80")?;
+    let mut lent = group.backends(&mut health);
+    assert_eq!(rt; lent.generation(), 1);
+    assert!(rt; lent.get_backend()?.contains(&first));
+    assert!(rt; lent.ready(&first));
+    lent.set_enable(&first, false);
+    assert!(rt; !lent.ready(&first));
+    lent.set_enable(&first, true);
+    lent.run_health_check(&rt, alloc)?;
+    assert!(rt; !lent.ready(&first));
     Ok(())
 }

@@ -1,5 +1,5 @@
 //! A group of one slot whose discovery always answers one backend. The clock goes on by five at each reading.
-ghost use Rattle.std.specs.Prelude.{◌≡◌};
+ghost use Rattle.std.specs.Prelude.{◌≡◌, IfOk};
 
 use lb_balance::group_core::LoadBalancerGroupCore;
 use lb_balance::moments::MomentSource;
@@ -41,6 +41,21 @@ fn one_backend(alloc: Global) -> Result<DiscoverySource<Static>, Refusal> {
     Ok(DiscoverySource::Static(Static::new(backends)))
 }
 
+// A balancer of one slot over that backend.
+fn of_one_slot<S: BackendSelection>(
+    alloc: Global,
+    registry: &mut RegistryCore,
+    gate: &GateCore,
+    config: S::Config,
+) -> Result<Balancer<S>, Refusal>
+    ensures { IfOk result (λ b. b.group.group.gate ≡ gate.now.id) }
+{
+    let discovery = one_backend(alloc)?;
+    let mut configs = Vec::new(alloc);
+    configs.push(config)?;
+    LoadBalancerGroupCore::from_backends_with_configs(alloc, registry, gate, discovery, configs)
+}
+
 // Asks for the slot's job, builds it and publishes what was built.
 fn rebuilt<S: BackendSelection>(
     alloc: Global,
@@ -76,16 +91,7 @@ fn discovered_backends_are_served(rt: HostRuntime) -> Result<(), Fail> {
     let alloc = rt.alloc();
     let mut registry = RegistryCore::new(alloc);
     let mut gate = GateCore::new(alloc)?;
-    let mut configs = Vec::new(alloc);
-    configs.push(())?;
-    let discovery = one_backend(alloc)?;
-    let mut balancer: Balancer<RoundRobin> = LoadBalancerGroupCore::from_backends_with_configs(
-        alloc,
-        &mut registry,
-        &gate,
-        discovery,
-        configs,
-    )?;
+    let mut balancer: Balancer<RoundRobin> = of_one_slot(alloc, &mut registry, &gate, ())?;
     let mut clock = Ticks { next: 10 };
     let scheduled = balancer.update(alloc, &mut registry, &mut clock)?;
     assert_eq!(rt; scheduled.generation, 1);
@@ -114,16 +120,7 @@ fn random_words_are_handed_in(rt: HostRuntime) -> Result<(), Fail> {
     let alloc = rt.alloc();
     let mut registry = RegistryCore::new(alloc);
     let mut gate = GateCore::new(alloc)?;
-    let mut configs = Vec::new(alloc);
-    configs.push(())?;
-    let discovery = one_backend(alloc)?;
-    let mut balancer: Balancer<Random> = LoadBalancerGroupCore::from_backends_with_configs(
-        alloc,
-        &mut registry,
-        &gate,
-        discovery,
-        configs,
-    )?;
+    let mut balancer: Balancer<Random> = of_one_slot(alloc, &mut registry, &gate, ())?;
     let mut clock = Ticks { next: 10 };
     balancer.update(alloc, &mut registry, &mut clock)?;
     assert_eq!(rt;
