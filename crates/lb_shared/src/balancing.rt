@@ -1,6 +1,7 @@
 //! A balancer that threads share: an update discovers and builds under a lock of its own, and then what is served is exchanged.
 //! Locks are taken in the order update, served, registry, shown; the last is held for a copy of a pointer.
-ghost use Rattle.std.specs.Prelude.{◌≡◌, ◌⊎◌, ◌∷◌, [], ℕ, List, IfOk, IfErr, OnOk, OnErr, Ok, Err, Some, None, unwrap_or, false, IfSome, MatchOption};
+ghost use Rattle.std.specs.Prelude.{◌≡◌, ◌⊎◌, ◌∷◌, [], ℕ, List, IfOk, IfErr, OnOk, OnErr, Ok, Err};
+ghost use Rattle.std.specs.Prelude.{Some, None, unwrap_or, false, IfSome, MatchOption};
 ghost use Rattle.std.specs.Arc.{arc_value};
 ghost use Rattle.lb_select.specs.Backends.{Member, same_member};
 ghost use Rattle.lb_select.specs.Refusals.{Refuses, memory_apart};
