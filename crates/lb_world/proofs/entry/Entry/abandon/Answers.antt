@@ -30,26 +30,13 @@ returns-in_default g c =
     b.is.core_is refl (λ s. refl) (λ m. refl) refl (unshared b (seen.abandon n c.args.slot) (answer.Refused refusal.NothingBuilt) refl
     refl)))
 
-pub abandon-requires-clause-own : goal.abandon-requires-clause-own
-abandon-requires-clause-own g c =
+pub abandon-requires : goal.abandon-requires
+abandon-requires g c =
     let own = rw (← c.self.view_is) at c.requires.stands.is in
     let within : c.args.slot < length c.self.inside.works.items = omega arith in
     let at = at-place c.self.inside.works.items c.args.slot _ within c.index_mut-place.ensures.value ∙ ap Some c.in-Some.ensures.0 in
-    (own-task own (holds own c.in-Some.built.task (works.built c.in-Some.built.ended) at refl)).0
-
-pub abandon-requires-clause-permit : goal.abandon-requires-clause-permit
-abandon-requires-clause-permit g c =
-    let own = rw (← c.self.view_is) at c.requires.stands.is in
-    let within : c.args.slot < length c.self.inside.works.items = omega arith in
-    let at = at-place c.self.inside.works.items c.args.slot _ within c.index_mut-place.ensures.value ∙ ap Some c.in-Some.ensures.0 in
-    (own-task own (holds own c.in-Some.built.task (works.built c.in-Some.built.ended) at refl)).1
-
-pub abandon-requires-clause-config : goal.abandon-requires-clause-config
-abandon-requires-clause-config g c =
-    let own = rw (← c.self.view_is) at c.requires.stands.is in
-    let within : c.args.slot < length c.self.inside.works.items = omega arith in
-    let at = at-place c.self.inside.works.items c.args.slot _ within c.index_mut-place.ensures.value ∙ ap Some c.in-Some.ensures.0 in
-    (own-task own (holds own c.in-Some.built.task (works.built c.in-Some.built.ended) at refl)).2
+    let its = own-task own (holds own c.in-Some.built.task (works.built c.in-Some.built.ended) at refl) in
+    record { own = its.0; permit = its.1; config = its.2 }
 
 pub unreachable-requires : goal.unreachable-requires
 unreachable-requires g c =

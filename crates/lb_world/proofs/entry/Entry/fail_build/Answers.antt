@@ -30,26 +30,13 @@ returns-in_default g c =
     b.is.core_is refl (λ s. refl) (λ m. refl) refl (unshared b (seen.failbuild n c.args.slot c.args.now)
     (answer.Refused refusal.NothingInFlight) refl refl)))
 
-pub fail-requires-clause-own : goal.fail-requires-clause-own
-fail-requires-clause-own g c =
+pub fail-requires : goal.fail-requires
+fail-requires g c =
     let own = rw (← c.self.view_is) at c.requires.stands.is in
     let within : c.args.slot < length c.self.inside.works.items = omega arith in
     let at = at-place c.self.inside.works.items c.args.slot _ within c.index_mut-place.ensures.value ∙ ap Some c.in-Some.ensures.0 in
-    (own-task own (holds own c.in-Some.job works.building at refl)).0
-
-pub fail-requires-clause-permit : goal.fail-requires-clause-permit
-fail-requires-clause-permit g c =
-    let own = rw (← c.self.view_is) at c.requires.stands.is in
-    let within : c.args.slot < length c.self.inside.works.items = omega arith in
-    let at = at-place c.self.inside.works.items c.args.slot _ within c.index_mut-place.ensures.value ∙ ap Some c.in-Some.ensures.0 in
-    (own-task own (holds own c.in-Some.job works.building at refl)).1
-
-pub fail-requires-clause-config : goal.fail-requires-clause-config
-fail-requires-clause-config g c =
-    let own = rw (← c.self.view_is) at c.requires.stands.is in
-    let within : c.args.slot < length c.self.inside.works.items = omega arith in
-    let at = at-place c.self.inside.works.items c.args.slot _ within c.index_mut-place.ensures.value ∙ ap Some c.in-Some.ensures.0 in
-    (own-task own (holds own c.in-Some.job works.building at refl)).2
+    let its = own-task own (holds own c.in-Some.job works.building at refl) in
+    record { own = its.0; permit = its.1; config = its.2; gate = rw (← c.self.view_is) at c.requires.gate }
 
 pub unreachable-requires : goal.unreachable-requires
 unreachable-requires g c =
