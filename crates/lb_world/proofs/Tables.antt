@@ -107,9 +107,13 @@ empty M =
     }
 
 -- some history stands behind the world after a step, too
-pub founded : {C : Type 0} {M : Meaning C} {w x : WorldValue C} (st : Step C) (a : Answer) → IsFounded M w
+pub founded-by : {C : Type 0} {M : Meaning C} {v w x : WorldValue C} {st : Step C} {a : Answer} → v ≡ w → IsFounded M v
     → ((h : History C) → Stands M w h → Stands M x ((st, a) ∷ h)) → IsFounded M x
-founded st a was then_ = record { history = (st, a) ∷ was.history; stands = then_ was.history was.stands }
+founded-by {C = C} {M = M} {st = st} {a = a} same was then_ =
+    record {
+      history = (st, a) ∷ was.history;
+      stands = then_ was.history (subst (λ (u : WorldValue C). Stands M u was.history) same was.stands);
+    }
 
 module _ {C : Type 0} {M : Meaning C} {w : WorldValue C} {h : History C} (s : Stands M w h) where
   -- a right refusal, of a world that stays as it is

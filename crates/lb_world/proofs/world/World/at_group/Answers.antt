@@ -9,7 +9,7 @@ use Rattle.lb_world.proofs.Words.{◌<◌, ◌∙◌, ◌∷◌, ◌≡◌, ◌�
 use Rattle.lb_world.proofs.Words.{History, inl, length, made_at, Meaning, meaning_of, None, Origin, past, refl, registries, RegistryValue}
 use Rattle.lb_world.proofs.Words.{same_Some, slice_get, slice_get_within, slice_set, Some, Stands, sym, WorldRule, WorldValue, ℕ}
 use Rattle.lb_world.proofs.Places.{at-place}
-use Rattle.lb_world.proofs.Tables.{before, founded, no-group, own-kept, world-moves, world-refused}
+use Rattle.lb_world.proofs.Tables.{before, founded-by, no-group, own-kept, world-moves, world-refused}
 use Rattle.lb_world.proofs.world.World.at_group.Goals as goal
 
 -- no such group
@@ -82,22 +82,6 @@ take-requires-clause-stands g c =
     let was = c.self.invariant in
     record { history = was.history; number = c.args.group; run = was.stands.run; is = was.stands.each c.args.group _ at }
 
-pub invariant_of-self : goal.invariant_of-self
-invariant_of-self g c =
-    let within : c.args.group < length c.self.inside.groups.items = omega arith in
-    let at = at-place c.self.inside.groups.items c.args.group _ within c.index_mut-entry.ensures.value in
-    let on = c.self.invariant.stands.on_site _ _ at in
-    let in_gates : c.gate.result < length c.self.inside.gates.items =
-    omega (arith, c.gate.ensures, slice_get_within c.self.inside.gates.items _ _ on.gate) in
-    let at_gate = rw c.gate.ensures at (at-place c.self.inside.gates.items c.gate.result _ in_gates c.index_mut-gate.ensures.value) in
-    let in_registries : c.registry.result < length c.self.inside.registries.items = omega (arith, c.registry.ensures, on.registry) in
-    let at_registry =
-    rw c.registry.ensures
-    at (at-place c.self.inside.registries.items c.registry.result _ in_registries c.index_mut-registry.ensures.value) in
-    rw (c.gate.ensures, c.registry.ensures)
-    (founded (local_seen c.args.group c.args.local) c.take.result c.self.invariant
-    (λ h s. does s c.args.group c.args.local c.take.result _ _ _ _ _ _ at at_gate at_registry c.take.ensures))
-
 pub returns : goal.returns
 returns g c =
     let within : c.args.group < length c.self.inside.groups.items = omega arith in
@@ -112,3 +96,6 @@ returns g c =
     at (at-place c.self.inside.registries.items c.registry.result _ in_registries c.index_mut-registry.ensures.value) in
     rw (← c.self.view_is, c.gate.ensures, c.registry.ensures)
     (λ h s. does s c.args.group c.args.local c.take.result _ _ _ _ _ _ at at_gate at_registry c.take.ensures)
+
+pub invariant_of-self : goal.invariant_of-self
+invariant_of-self g c = founded-by c.self.view_is c.self.invariant (returns g c)
