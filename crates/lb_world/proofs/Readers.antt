@@ -25,7 +25,7 @@ use Rattle.lb_world.proofs.Words.{None, none-some, Ok, Option, option_map, past,
 use Rattle.lb_world.proofs.Words.{RegistryValue, same_Some, served, site, slice_get, slice_get_past, slice_get_within, slice_set, Some}
 use Rattle.lb_world.proofs.Words.{Stands, Step, subst, sym, true, views_of, with_core, without_memory, WorldRule, WorldValue, ℕ}
 use Rattle.lb_world.proofs.Places.{get_kept, get_push, get_same, set-same, still-there}
-use Rattle.lb_world.proofs.Entries.{config-here, key-here, next-core, reading-told, registry-here, shared, unshared, views-are}
+use Rattle.lb_world.proofs.Entries.{config-here, key-here, next-core, next-refused, reading-told, registry-here, shared, unshared, views-are}
 use Rattle.lb_world.proofs.Tables.{group-moves, own-kept, stands-alike, world-refused}
 
 module _ {C : Type 0} (M : Meaning C) where
@@ -160,8 +160,7 @@ module _ {C : Type 0} {M : Meaning C} {w : WorldValue C} {h : History C} (s : St
             (λ i y held z in_. own-kept s g e d there_ same.group.id i y (rw kept at held) z in_) there_
             (λ z u b.
             subst (λ (y : EntryValue C). EntryNext M h g st (answer.Refused f) e z y z u) (sym rest)
-            (next-core b st (answer.Refused f) refl right same stays refl (λ i. refl) (λ m. refl) refl
-            (unshared b st (answer.Refused f) refl refl)))
+            (next-refused b st f refl right same stays))
 
   -- nobody leaves
   pub leave-nowhere : (t : ℕ) → length w.readers ≤ t → Stands M w ((step.leave t, answer.Refused refusal.NoSuchReader) ∷ h)

@@ -36,7 +36,7 @@ use Rattle.lb_world.proofs.Words.{Option, past, past_of, permit_after, promised,
 use Rattle.lb_world.proofs.Words.{same_member, served, shares, site, slice_get, slice_get_within, Some, Step, subst, sym, true, ViewEvent}
 use Rattle.lb_world.proofs.Words.{views_of, with_core, Work, worked, WorldRule, ℕ}
 use Rattle.lb_world.proofs.Places.{there}
-use Rattle.lb_world.proofs.Entries.{config-here, next-core, no_grant, registry-here, slot-or, unshared, views-are}
+use Rattle.lb_world.proofs.Entries.{config-here, next-core, next-refused, no_grant, registry-here, slot-or, unshared, views-are}
 
 -- A counter that is left where it stands changes nothing.
 undrawn-slot : {C : Type 0} (id : GateId) (i s t : ℕ) (c : C) (k : group.History) → t ≡ drawn (past_of s k)
@@ -221,8 +221,7 @@ module _ {C : Type 0} {M : Meaning C} {h : History C} {g : ℕ} {e : EntryValue 
         (left ∙ ap (λ (k : group.History). drawn (past_of s k)) (sym (group-of g h))) (rw within at moved) in
         subst (λ (a : Answer). EntryNext M h g st a e z (with_core core e) z v)
         (sym (ap (λ (r : Result (Option Member) Refusal). selected_as r sel.tickets) short))
-        (next-core b st (answer.Refused refusal.NotEnoughWords) refl right same back refl (λ q. refl) (λ m. refl) refl
-        (unshared b st (answer.Refused refusal.NotEnoughWords) refl refl))
+        (next-refused b st refusal.NotEnoughWords refl right same back)
 
   -- a selection, by what the core answered
   pub does-select : {core : JoinedValue C} → stands.SameSite e.core core → Told (joined.group_events (joined_events g h))

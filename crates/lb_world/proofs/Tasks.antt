@@ -38,7 +38,7 @@ use Rattle.lb_world.proofs.Words.{refl, Refusal, registry_events, RegistryValue,
 use Rattle.lb_world.proofs.Words.{slice_get_within, slice_set, Some, Step, subst, sym, true, unless_refused, view_events, ViewEvent}
 use Rattle.lb_world.proofs.Words.{views_of, with_core, without_memory, Work, work, WorkValue, WorldRule, ℕ}
 use Rattle.lb_world.proofs.Places.{found, set-same, there}
-use Rattle.lb_world.proofs.Entries.{config-here, itself, next, next-core, next-work, reading-told, taken, unshared, views-are}
+use Rattle.lb_world.proofs.Entries.{config-here, itself, next, next-core, next-refused, next-work, reading-told, taken, unshared, views-are}
 
 -- what is held of a job, as its task and what has become of it
 abbrev pub shown : {C : Type 0} → WorkValue C → Option (Task C × Work)
@@ -194,13 +194,12 @@ module _ {C : Type 0} {M : Meaning C} {h : History C} {g : ℕ} {e : EntryValue 
       (ask-right s now t answers.0 (sym told ∙ answers.1)) same events refl (λ r. refl) (λ m. refl) gate-is
       (unshared b (step.ask g s now) (asked (group.newest (group_events g h)) t) refl refl)
 
-  pub next-unasked : (s now : ℕ) (r : Refusal) {core : JoinedValue C} {y : GateView} → r ≡ refusal.NoSuch
-      → length (configs_of e.core.group) ≤ s
-      → stands.SameSite e.core core → stands.Stands (site e.core) (joined_events g h) core → y ≡ z
-      → EntryNext M h g (step.ask g s now) (answer.Refused r) e z (with_core core e) y v
-  next-unasked s now r no_such past same stays back =
+  pub next-unasked : (s now : ℕ) (r : Refusal) {core : JoinedValue C} → r ≡ refusal.NoSuch → length (configs_of e.core.group) ≤ s
+      → stands.SameSite e.core core → stands.Stands (site e.core) (joined_events g h) core
+      → EntryNext M h g (step.ask g s now) (answer.Refused r) e z (with_core core e) z v
+  next-unasked s now r no_such past same stays =
       let tell = λ (k : group.History) (out : Bool). asked (group.newest k) (ask_answer (past_of s k) out now) in
-      next-core b (step.ask g s now) (answer.Refused r) refl
+      next-refused b (step.ask g s now) r refl
       (inl
       (ap answer.Refused no_such
       ∙ sym
@@ -208,7 +207,7 @@ module _ {C : Type 0} {M : Meaning C} {h : History C} {g : ℕ} {e : EntryValue 
       b.is.made_is
       ∙ ap (λ (o : Option C). at_one o (λ x. tell (group_events g h) (is_out e.gate h)))
       (slice_get_past (configs_of e.core.group) s past))))
-      same stays refl (λ r. refl) (λ m. refl) back (unshared b (step.ask g s now) (answer.Refused r) refl refl)
+      same stays
 
   pub does-grant : {S I : Type 0} (s now : ℕ) (a : Ask S I C) (j : Task C) {core : JoinedValue C} {old : WorkValue C} {y : GateView}
       → ask_told a ≡ job
@@ -397,9 +396,7 @@ module _ {C : Type 0} {M : Meaning C} {h : History C} {g : ℕ} {e : EntryValue 
       → taken_refusal (site e.core) s (joined.group_events (joined_events g h)) ≡ Some r
       → EntryNext M h g (step.destroy g s) (answer.Refused r) e z (with_core core e) z v
   does-refuse-destruction s r same stays is =
-      next-core b (step.destroy g s) (answer.Refused r) refl (inl (sym (destroy-told s (Some r) is))) same stays refl (λ i. refl)
-      (λ m. refl)
-      refl (unshared b (step.destroy g s) (answer.Refused r) refl refl)
+      next-refused b (step.destroy g s) r refl (inl (sym (destroy-told s (Some r) is))) same stays
 
   pub does-destroy : (s n : ℕ) {core : JoinedValue C} {y : GateView} {u : RegistryValue WorldRule} → stands.SameSite e.core core
       → stands.Stands (site e.core) (joined.At s group.Destroyed ∷ joined.At s group.TakenOut ∷ joined_events g h) core

@@ -31,7 +31,7 @@ use Rattle.lb_world.proofs.Words.{List, Listing, Made, made_at, made_of, Meaning
 use Rattle.lb_world.proofs.Words.{Ok, Option, refl, Refusal, refuse, registry_events, RegistryValue, Result, same_members, settings_in}
 use Rattle.lb_world.proofs.Words.{shares, site, Some, Step, subst, sym, true, unless_refused, view_events, ViewEvent, views_of, where_}
 use Rattle.lb_world.proofs.Words.{with_core, without_memory, WorldRule, ℕ}
-use Rattle.lb_world.proofs.Entries.{joined-here, next-core, registry-here, shared, views-are}
+use Rattle.lb_world.proofs.Entries.{joined-here, next-core, next-refused, registry-here, shared, views-are}
 use Rattle.lb_world.proofs.Selects.{Told}
 
 -- A cause of the group's goes before one of the registry's.
@@ -182,8 +182,7 @@ module _ {C : Type 0} {M : Meaning C} {h : History C} {g : ℕ} {e : EntryValue 
       → IsRegistryAfter key_gives (key_of g h) (registry_events e.registry h) u
       → EntryNext M h g st (answer.Refused r) e z (with_core core e) z u
   does-refuse r why unknown numbers lacking same was kept =
-      next-core b st (answer.Refused r) refl right same was refl (λ s. refl) (λ m. refl) refl
-      (shared b st (answer.Refused r) refl refl kept)
+      next-refused (record { run = b.run; is = b.is; out = b.out; kept = kept }) st r refl right same was
     where
       right : Answers M h st (answer.Refused r)
       right =

@@ -26,7 +26,8 @@ returns-in-Err g c =
     rw (← c.self.view_is)
     (λ v h n b.
     let a = c.in-Err.ensures.answers _ _ b.is.core_is in
-    next-unasked b c.args.slot c.args.now _ a.0 a.1 c.ask.ensures.site (c.in-Err.ensures.stands _ _ b.is.core_is) c.in-Err.ensures.gate)
+    rw c.in-Err.ensures.gate
+    (next-unasked b c.args.slot c.args.now _ a.0 a.1 c.ask.ensures.site (c.in-Err.ensures.stands _ _ b.is.core_is)))
 
 pub returns-in-Ok-Cancelled : goal.returns-in-Ok-Cancelled
 returns-in-Ok-Cancelled g c =

@@ -1,11 +1,10 @@
 -- The job that is held is the last one, so it is awaited; its snapshot is let go.
 use Rattle.lb_history.specs.Steps as seen
-use Rattle.lb_history.specs.declared.answer.Answer.TheVariants as answer
 use Rattle.lb_select.specs.declared.refusal.Refusal.TheVariants as refusal
 use Rattle.lb_history.specs.History as works
 use Rattle.lb_world.proofs.Words.{◌<◌, ◌∙◌, ◌≤◌, ap, arith, inl, length, meaning_of, past, refl, Some}
 use Rattle.lb_world.proofs.Places.{at-place}
-use Rattle.lb_world.proofs.Entries.{itself, next-core, unshared}
+use Rattle.lb_world.proofs.Entries.{itself, next-refused}
 use Rattle.lb_world.proofs.Tasks.{beyond, does-build, does-fall, holds, next-same, own-task, unawaited, unstarted}
 use Rattle.lb_world.proofs.entry.Entry.build.Goals as goal
 
@@ -14,9 +13,7 @@ returns-then-slot-len g c =
     rw (← c.self.view_is)
     (λ h n b.
     let past : length c.self.inside.works.items ≤ c.args.slot = omega arith in
-    next-core b (seen.build n c.args.slot c.args.now) (answer.Refused refusal.NoSuch) refl (inl (beyond b.is c.args.slot _ past))
-    (itself _) b.is.core_is refl
-    (λ s. refl) (λ m. refl) refl (unshared b (seen.build n c.args.slot c.args.now) (answer.Refused refusal.NoSuch) refl refl))
+    next-refused b (seen.build n c.args.slot c.args.now) refusal.NoSuch refl (inl (beyond b.is c.args.slot _ past)) (itself _) b.is.core_is)
 
 pub returns-in_default : goal.returns-in_default
 returns-in_default g c =
@@ -25,10 +22,8 @@ returns-in_default g c =
     let within : c.args.slot < length c.self.inside.works.items = omega arith in
     let at = at-place c.self.inside.works.items c.args.slot _ within c.index_mut-place.ensures.value in
     next-same b c.args.slot at c.in_default.ensures.1
-    (next-core b (seen.build n c.args.slot c.args.now) (answer.Refused refusal.NothingInFlight) refl
-    (inl (unstarted b.is c.args.slot _ _ at c.in_default.ensures.0)) (itself _)
-    b.is.core_is refl (λ s. refl) (λ m. refl) refl (unshared b (seen.build n c.args.slot c.args.now)
-    (answer.Refused refusal.NothingInFlight) refl refl)))
+    (next-refused b (seen.build n c.args.slot c.args.now) refusal.NothingInFlight refl
+    (inl (unstarted b.is c.args.slot _ _ at c.in_default.ensures.0)) (itself _) b.is.core_is))
 
 pub fail-requires : goal.fail-requires
 fail-requires g c =

@@ -13,7 +13,7 @@ use Rattle.lb_select.specs.declared.refusal.Refusal.TheVariants as refusal
 use Rattle.lb_world.proofs.Words.{◌∙◌, ◌≡◌, answer_after, Answers, ap, at_slot, Before, Bool, configs_of, EntryValue, GateView, group-of}
 use Rattle.lb_world.proofs.Words.{History, inl, joined_events, length, Meaning, nat_lt, newest, None, Option, past, past_of, refl}
 use Rattle.lb_world.proofs.Words.{RegistryValue, served, site, Some, sym, WorldRule, ℕ}
-use Rattle.lb_world.proofs.Entries.{itself, next-core, same-flight, told-of, unshared}
+use Rattle.lb_world.proofs.Entries.{itself, next-core, next-refused, same-flight, told-of, unshared}
 use Rattle.lb_world.proofs.entry.Entry.counts.Goals as goal
 use Rattle.lb_world.proofs.entry.Entry.counts.Goals.{in_default-via-in-Some+in-Some+in-Some+in_default}
 use Rattle.lb_world.proofs.entry.Entry.counts.Goals.{in_default-via-in-Some+in-Some+in_default, in_default-via-in-Some+in_default}
@@ -71,7 +71,7 @@ pub returns-in_default : goal.returns-in_default
 returns-in_default g c =
     rw (← c.self.view_is)
     (λ z v h n b.
-    next-core b (seen.counts n c.args.slot) (answer.Refused refusal.NoSuch) refl
+    next-refused b (seen.counts n c.args.slot) refusal.NoSuch refl
     (elim c.in_default.branch [
       | in_default-via-in-Some+in-Some+in-Some+in_default w ↦
           absent b c.args.slot _ c.counts.result (c.counts.ensures _ _ b.is.core_is) w.in_default.is-3
@@ -81,5 +81,4 @@ returns-in_default g c =
           absent b c.args.slot _ c.flight.result (c.flight.ensures _ _ b.is.core_is) w.in_default.is-1
       | in_default-via-in_default w ↦ absent b c.args.slot _ c.served.result (c.served.ensures _ _ b.is.core_is) w.in_default.is-0
     ])
-    (itself _) b.is.core_is refl (λ s. refl) (λ m. refl) refl (unshared b (seen.counts n c.args.slot) (answer.Refused refusal.NoSuch) refl
-    refl))
+    (itself _) b.is.core_is)

@@ -12,7 +12,7 @@ use Rattle.lb_world.proofs.Words.{◌∙◌, ◌≡◌, answer_after, ap, at_one
 use Rattle.lb_world.proofs.Words.{GateView, History, inl, joined_events, length, Meaning, nat_lt, None, Option, past, past_of, refl}
 use Rattle.lb_world.proofs.Words.{Refusal, RegistryValue, site, Some, sym, true, unless_refused, WorldRule, ℕ}
 use Rattle.lb_world.proofs.Places.{there}
-use Rattle.lb_world.proofs.Entries.{next-core, reading-told, same-flight, unshared}
+use Rattle.lb_world.proofs.Entries.{next-core, next-refused, reading-told, same-flight, unshared}
 use Rattle.lb_world.proofs.entry.Entry.lost.Goals as goal
 use Rattle.lb_world.proofs.entry.Entry.lost.Goals.{in-Ok, in-Err}
 
@@ -50,9 +50,8 @@ returns g c =
           (unshared b (seen.lost n c.args.slot) (answer.Lost (number_of c.flight-flight.result)) refl refl))
       | in-Err w ↦
           rw w.result-is
-          (next-core b (seen.lost n c.args.slot) (answer.Refused w.in-Err.refusal) refl
+          (next-refused b (seen.lost n c.args.slot) w.in-Err.refusal refl
           (inl (sym (told-lost b c.args.slot _ (Some w.in-Err.refusal) (c.flight-flight.ensures _ _ b.is.core_is)
           (w.in-Err.ensures.answers _ _ b.is.core_is))))
-          c.worker_lost.ensures.site (w.in-Err.ensures.stands _ _ b.is.core_is) refl (λ s. refl) (λ m. refl) refl
-          (unshared b (seen.lost n c.args.slot) (answer.Refused w.in-Err.refusal) refl refl))
+          c.worker_lost.ensures.site (w.in-Err.ensures.stands _ _ b.is.core_is))
     ])

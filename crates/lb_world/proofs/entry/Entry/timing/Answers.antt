@@ -7,7 +7,7 @@ use Rattle.lb_history.specs.declared.answer.Answer.TheVariants as answer
 use Rattle.lb_select.specs.declared.refusal.Refusal.TheVariants as refusal
 use Rattle.lb_world.proofs.Words.{◌∙◌, ◌≡◌, Answer, Answers, ap, at_one, at_slot, Before, EntryValue, GateView, History, inl, joined_events}
 use Rattle.lb_world.proofs.Words.{Meaning, Option, past_of, refl, RegistryValue, site, sym, WorldRule, ℕ}
-use Rattle.lb_world.proofs.Entries.{itself, next-core, reading-told, unshared}
+use Rattle.lb_world.proofs.Entries.{itself, next-core, next-refused, reading-told, unshared}
 use Rattle.lb_world.proofs.entry.Entry.timing.Goals as goal
 
 module _ {C : Type 0} {M : Meaning C} {h : History C} {g : ℕ} {e : EntryValue C} {z : GateView} {v : RegistryValue WorldRule}
@@ -30,6 +30,5 @@ pub returns-in-None : goal.returns-in-None
 returns-in-None g c =
     rw (← c.self.view_is)
     (λ z v h n b.
-    next-core b (seen.timing n c.args.slot) _ refl (timed b c.args.slot _ _ _ (c.timing.ensures _ _ b.is.core_is) c.in-None.is refl)
-    (itself _) b.is.core_is refl (λ s. refl) (λ m. refl) refl (unshared b (seen.timing n c.args.slot) (answer.Refused refusal.NoSuch) refl
-    refl))
+    next-refused b (seen.timing n c.args.slot) refusal.NoSuch refl
+    (timed b c.args.slot _ _ _ (c.timing.ensures _ _ b.is.core_is) c.in-None.is refl) (itself _) b.is.core_is)

@@ -1,6 +1,5 @@
 -- The group's core lets the reader enter; the reader's number is that of its place.
 use Rattle.lb_history.specs.Steps as seen
-use Rattle.lb_history.specs.declared.answer.Answer.TheVariants as answer
 use Rattle.lb_select.specs.declared.refusal.Refusal.TheVariants as refusal
 use Rattle.lb_world.proofs.Words.{if◌then◌else◌, ◌++◌, ◌<◌, ◌∙◌, ◌∷◌, ◌≡◌, ◌≤◌, [], ap, arith, HeldValue, inl, inr, length, List, Option}
 use Rattle.lb_world.proofs.Words.{past, refl, Some}

@@ -1,6 +1,5 @@
 -- A gate that is new is not out; the others stay as they were.
 use Rattle.lb_history.specs.Steps as seen
-use Rattle.lb_history.specs.declared.answer.Answer.TheVariants as answer
 use Rattle.lb_select.specs.declared.refusal.Refusal.TheVariants as refusal
 use Rattle.lb_world.proofs.Words.{◌≡◌, arith, inr, length, refl}
 use Rattle.lb_world.proofs.Tables.{founded-by, world-refused}

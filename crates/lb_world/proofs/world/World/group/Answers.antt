@@ -1,7 +1,5 @@
 -- Where no cause stands, the entry that is new joins the groups, over its registry and its gate.
 use Rattle.std.proofs.lemmas.Bool.Decides.{leb_tells}
-use Rattle.lb_history.specs.Steps as seen
-use Rattle.lb_history.specs.declared.answer.Answer.TheVariants as answer
 use Rattle.lb_select.specs.declared.refusal.Refusal.TheVariants as refusal
 use Rattle.lb_world.proofs.Words.{◌<◌, ◌^◌, ◌↔◌, ◌∙◌, ◌≡◌, ◌≤◌, ap, arith, Bool, Event, false, false≢true, inl, inr, IsRegistryAfter}
 use Rattle.lb_world.proofs.Words.{IsTrue, key_gives, length, List, Member, refl, sym, ℕ}

@@ -1,6 +1,5 @@
 -- A registry that is new has the events with which it starts; the others stay as they were.
 use Rattle.lb_history.specs.Steps as seen
-use Rattle.lb_history.specs.declared.answer.Answer.TheVariants as answer
 use Rattle.lb_select.specs.declared.refusal.Refusal.TheVariants as refusal
 use Rattle.lb_world.proofs.Words.{◌≡◌, arith, inr, length, refl}
 use Rattle.lb_world.proofs.Tables.{founded-by, world-refused}

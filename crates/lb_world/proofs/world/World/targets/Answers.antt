@@ -1,6 +1,5 @@
 -- The registry's own targets, at the registry that the step names.
 use Rattle.lb_history.specs.Steps as seen
-use Rattle.lb_history.specs.declared.answer.Answer.TheVariants as answer
 use Rattle.lb_select.specs.declared.refusal.Refusal.TheVariants as refusal
 use Rattle.lb_world.proofs.Words.{◌<◌, ◌≤◌, ap, arith, Err, inl, length, past, refl}
 use Rattle.lb_world.proofs.Places.{at-place}
