@@ -4,27 +4,26 @@ use Rattle.lb_registry.proofs.FreshLemmas.{updated_given}
 use Rattle.lb_registry.proofs.PlaceLemmas.{any-distinct, each-impl, key_laws}
 use Rattle.lb_registry.proofs.TargetLemmas.{member_laws, member_total}
 use Rattle.lb_registry.specs.Fresh.{fresh, has_key}
-use Rattle.lb_registry.specs.Keys.{IsRuleOf, by_address}
-use Rattle.lb_registry.specs.RegistryEvents.{Applied, Updated, cells_given, has_view}
+use Rattle.lb_registry.specs.Keys.{IsRuleOf}
+use Rattle.lb_registry.specs.RegistryEvents.{Updated, has_view}
 use Rattle.lb_registry.specs.Targets.{Candidate, ViewValue, candidates, candidates_of, same_key}
 use Rattle.lb_registry.specs.declared.keys.Rule.TheVariants.{Address, Equivalence, Identity}
 use Rattle.lb_select.specs.Backends.{address_cmp}
 use Rattle.lb_select.specs.Unique.{distinct, firsts}
-use Rattle.lb_world.specs.Cells.{lists_key, new_keys, starts_cell}
-use Rattle.lb_world.specs.Listings.{some_and}
-use Rattle.std.proofs.Common.{filter, true≢false}
+use Rattle.std.proofs.Common.{filter}
 use Rattle.std.proofs.Math.Bool.{and-true}
 use Rattle.std.proofs.lemmas.List.Folds.{list_any-append}
 use Rattle.std.proofs.lemmas.Map.Made.{is_member-filter, length-from_keys}
-use Rattle.std.specs.Cmp.{IsEquivalence}
-use Rattle.std.specs.List.{AllByRecursion as Each, IsDistinct, cons_option}
+use Rattle.std.specs.List.{AllByRecursion as Each, IsDistinct}
 use Rattle.std.specs.List.Sorted.{IsStrictlySortedBy}
-use Rattle.std.specs.Ordering.{is_eq, nat_cmp, ordering_reverse, ordering_then}
+use Rattle.std.specs.Ordering.{ordering_reverse}
 use Rattle.std.specs.Set.{distinct_count, is_member, unique_keys}
-use Rattle.lb_world.proofs.Words.{if◌then◌else◌, ◌&&◌, ◌++◌, ◌+◌, ◌||◌, ◌∙◌, ◌∷◌, ◌≡◌, ◌≤◌, [], ap, arith, Bool, by_identity, cond, Equal}
-use Rattle.lb_world.proofs.Words.{Event, false, fold, Greater, insert_key, IsRegistryAfter, key_gives, key_of, length, length-map, Less}
-use Rattle.lb_world.proofs.Words.{List, list_any, Listing, live, map, match_ordering, Member, member_cmp, members_in, None, not, Option}
-use Rattle.lb_world.proofs.Words.{Ordering, refl, RegistryValue, same_member, Some, sym, true, views_after, WorldRule, ℕ}
+use Rattle.lb_world.proofs.Words.{if◌then◌else◌, ◌&&◌, ◌≡◌, ◌+◌, ◌≤◌, ◌∷◌, ◌∙◌, ◌||◌, ◌++◌, [], ap, Applied, arith, Bool, by_address}
+use Rattle.lb_world.proofs.Words.{by_identity, cells_given, cond, cons_option, Equal, Event, false, fold, Greater, insert_key, is_eq}
+use Rattle.lb_world.proofs.Words.{IsEquivalence, IsRegistryAfter, key_gives, key_of, length, length-map, Less, List, list_any, Listing}
+use Rattle.lb_world.proofs.Words.{lists_key, live, map, match_ordering, Member, member_cmp, members_in, nat_cmp, new_keys, None, not}
+use Rattle.lb_world.proofs.Words.{Option, Ordering, ordering_then, refl, RegistryValue, same_member, Some, some_and, starts_cell, sym, true}
+use Rattle.lb_world.proofs.Words.{true≢false, views_after, WorldRule, ℕ}
 use Rattle.lb_world.proofs.SameSets.{any_folded}
 use Rattle.lb_world.proofs.Listed.{one_there, present}
 

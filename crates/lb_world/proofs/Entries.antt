@@ -1,32 +1,28 @@
 -- A step at a group, by what it leaves of the group's entry: once for all kinds.
 use Rattle.lb_group.proofs.Pasts.{lt-false}
-use Rattle.lb_group.specs.GroupHistory.{At, granted, granted_members}
-use Rattle.lb_group.specs.Values.{Task}
 use Rattle.lb_history.proofs.Placing.{here, same-either}
-use Rattle.lb_history.proofs.Refusing.{refused-alike}
 use Rattle.lb_history.proofs.Together.{joins-alike}
 use Rattle.lb_history.specs.Answers.{flight_of}
-use Rattle.lb_history.specs.History.{config_in, ended, gate_of, is_at, registry_of, works_at}
-use Rattle.lb_history.specs.Shared.{registry_at, registry_in, registry_made}
-use Rattle.lb_rebuild.specs.Identity.{GroupId}
+use Rattle.lb_history.specs.History.{gate_of}
+use Rattle.lb_history.specs.Shared.{registry_in, registry_made}
 use Rattle.lb_world.specs.Stands.{AreHeld}
-use Rattle.std.proofs.lemmas.Bool.{and_parts}
 use Rattle.lb_joined.specs.Stands as stands
-use Rattle.lb_history.specs.Steps as step
 use Rattle.lb_group.specs.GroupHistory as group
 use Rattle.lb_joined.specs.JoinedHistory as joined
 use Rattle.lb_registry.specs.RegistryEvents as registry
 use Rattle.lb_history.specs.History as works
 use Rattle.lb_history.specs.declared.answer.Answer.TheVariants as answer
 use Rattle.lb_world.specs.Views as view
-use Rattle.lb_world.proofs.Words.{◌&&◌, ◌++◌, ◌==◌, ◌∙◌, ◌∷◌, ◌≡◌, ◌⊎◌, [], Answer, Answers, ap, ap2, at_one, at_slot, Before, Bool}
-use Rattle.lb_world.proofs.Words.{changed, cond, config, configs_of, EntryIs, EntryNext, EntryValue, eq-eqb, false, gate, GateId, gates}
-use Rattle.lb_world.proofs.Words.{GateView, group-of, group_at, group_events, happened, held_of, History, inl, inr, IsRegistryAfter, IsRun}
-use Rattle.lb_world.proofs.Words.{joined_after, joined_events, JoinedValue, key_at, key_gives, key_in, key_of, length, length-set, List}
-use Rattle.lb_world.proofs.Words.{list_all, load_in, load_of, lt-ltb, made, Made, made_at, made_of, Meaning, Member, nat_lt, ne_eqb, None}
-use Rattle.lb_world.proofs.Words.{none-some, Option, option_map, Origin, origin, past, past_of, permit_after, refl, Refusal}
-use Rattle.lb_world.proofs.Words.{registries, registry_events, RegistryValue, site, slice_get, slice_get_within, slice_set, Some, Step, subst, sym}
-use Rattle.lb_world.proofs.Words.{true, view_events, views_of, with_core, Work, work, worked, WorkValue, WorldRule, ℕ}
+use Rattle.lb_world.proofs.Words.{◌&&◌, ◌==◌, ◌∙◌, ◌++◌, ◌∷◌, ◌⊎◌, ◌≡◌, [], and_parts, Answer, Answers, ap, ap2, At, at_one, at_slot}
+use Rattle.lb_world.proofs.Words.{Before, Bool, changed, cond, config, config_in, configs_of, ended, EntryIs, EntryNext, EntryValue, eq-eqb}
+use Rattle.lb_world.proofs.Words.{false, gate, GateId, gates, GateView, granted, granted_members, group-of, group_at, group_events, GroupId}
+use Rattle.lb_world.proofs.Words.{happened, held_of, History, inl, inr, is_at, IsRegistryAfter, IsRun, joined_after, joined_events}
+use Rattle.lb_world.proofs.Words.{JoinedValue, key_at, key_gives, key_in, key_of, length, length-set, List, list_all, load_in, load_of}
+use Rattle.lb_world.proofs.Words.{lt-ltb, Made, made, made_at, made_of, Meaning, Member, nat_lt, ne_eqb, None, none-some, Option}
+use Rattle.lb_world.proofs.Words.{option_map, Origin, origin, past, past_of, permit_after, refl, Refusal, refused-alike, registries}
+use Rattle.lb_world.proofs.Words.{registry_at, registry_events, registry_of, RegistryValue, site, slice_get, slice_get_within, slice_set}
+use Rattle.lb_world.proofs.Words.{Some, Step, subst, sym, Task, true, view_events, views_of, with_core, Work, work, worked, works_at}
+use Rattle.lb_world.proofs.Words.{WorkValue, WorldRule, ℕ}
 use Rattle.lb_world.proofs.Places.{get_set, there}
 
 -- an event that is no grant leaves the last job
@@ -81,7 +77,7 @@ in-list cs s x tells = elim (slot-or cs s) [ inl p ↦ rw (p.0, p.1) refl | inr 
 
 -- a refusal leaves the permit where it is
 unmoved : {C : Type 0} (st : Step C) (r : Refusal) (out : Bool) → permit_after st (answer.Refused r) out ≡ out
-unmoved (step.ask g s now) r out = refl
+unmoved (Step.ask g s now) r out = refl
 unmoved st r out = refl
 
 -- no call changes whose a group's jobs are
@@ -105,11 +101,11 @@ module _ {C : Type 0} where
     pub registries_are : registries ((st, a) ∷ h) ≡ registries h
 
   pub at-group : (h : History C) (st : Step C) (a : Answer) (g : ℕ) → group_at h st ≡ Some g → AtGroup h st a g
-  at-group h (step.registry rule healthy) a g at = absurd (none-some g at)
-  at-group h step.gate a g at = absurd (none-some g at)
-  at-group h (step.group r b cs) a g at = absurd (none-some g at)
-  at-group h (step.targets r) a g at = absurd (none-some g at)
-  at-group h (step.verdict r c ok threshold) a g at = absurd (none-some g at)
+  at-group h (Step.registry rule healthy) a g at = absurd (none-some g at)
+  at-group h Step.gate a g at = absurd (none-some g at)
+  at-group h (Step.group r b cs) a g at = absurd (none-some g at)
+  at-group h (Step.targets r) a g at = absurd (none-some g at)
+  at-group h (Step.verdict r c ok threshold) a g at = absurd (none-some g at)
   at-group h st a g at =
       record { group_is = at; registry_is = ap (registry_in h) at; made_are = refl; gates_are = refl; registries_are = refl }
 

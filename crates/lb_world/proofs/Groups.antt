@@ -1,26 +1,23 @@
 -- The step that makes a group: why it can't be made, and that to a new one nothing has happened, and the others stay as they were.
 use Rattle.lb_group.proofs.GroupSteps.{configs-after}
 use Rattle.lb_group.specs.Values.{GroupValue}
-use Rattle.lb_history.proofs.Absent.{absent, found as found-of, get-front}
-use Rattle.lb_history.proofs.Numbering.{numbered}
+use Rattle.lb_history.proofs.Absent.{found as found-of, get-front}
 use Rattle.lb_history.proofs.Together.{nothing-joined}
 use Rattle.lb_history.specs.History.{over}
-use Rattle.lb_registry.proofs.FreshLemmas.{marks_start_none}
-use Rattle.lb_select.specs.Refusals.{least, memory_apart, refusal_number}
-use Rattle.lb_world.specs.Calls.{IsNewEntry, in_tables}
+use Rattle.lb_select.specs.Refusals.{memory_apart, refusal_number}
+use Rattle.lb_world.specs.Calls.{IsNewEntry}
 use Rattle.lb_world.specs.Views.{nothing}
-use Rattle.std.proofs.lemmas.Bool.{and_parts, le-leb, ltb-true}
 use Rattle.std.proofs.lemmas.List.{length-replicate}
-use Rattle.lb_history.specs.Steps as step
 use Rattle.lb_registry.specs.RegistryEvents as registry
 use Rattle.lb_history.specs.declared.answer.Answer.TheVariants as answer
 use Rattle.lb_select.specs.declared.refusal.Refusal.TheVariants as refusal
-use Rattle.lb_world.proofs.Words.{◌&&◌, ◌++◌, ◌+◌, ◌<◌, ◌^◌, ◌∙◌, ◌∷◌, ◌≡◌, ◌≤◌, [], after, answer_after, ap, ap2, arith, Bool, cond}
-use Rattle.lb_world.proofs.Words.{configs_of, earlier, EntryIs, EntryValue, eq-eqb, Event, false, gate, GateId, GateView, held_of, History}
-use Rattle.lb_world.proofs.Words.{inl, inr, IsRegistryAfter, IsRun, key_at, key_gives, key_of, length, length-set, length_push, List}
-use Rattle.lb_world.proofs.Words.{load_of, lt-ltb, made, made_at, made_of, map, Meaning, Member, nat_le, nat_lt, ne_eqb, no_number, no_such}
-use Rattle.lb_world.proofs.Words.{None, none-some, Option, origin, past, refl, Refusal, registries, registry_events, RegistryValue}
-use Rattle.lb_world.proofs.Words.{slice_get, slice_get_past, slice_get_within, slice_set, Some, Stands, sym, true, unless_refused, where_}
+use Rattle.lb_world.proofs.Words.{◌^◌, ◌&&◌, ◌∙◌, ◌++◌, ◌+◌, ◌≤◌, ◌∷◌, ◌<◌, ◌≡◌, [], absent, after, and_parts, answer_after, ap, ap2, arith}
+use Rattle.lb_world.proofs.Words.{Bool, cond, configs_of, earlier, EntryIs, EntryValue, eq-eqb, Event, false, gate, GateId, GateView}
+use Rattle.lb_world.proofs.Words.{held_of, History, in_tables, inl, inr, IsRegistryAfter, IsRun, key_at, key_gives, key_of, le-leb, least}
+use Rattle.lb_world.proofs.Words.{length, length-set, length_push, List, load_of, lt-ltb, ltb-true, made, made_at, made_of, map}
+use Rattle.lb_world.proofs.Words.{marks_start_none, Meaning, Member, nat_le, nat_lt, ne_eqb, no_number, no_such, None, none-some, numbered}
+use Rattle.lb_world.proofs.Words.{Option, origin, past, refl, Refusal, registries, registry_events, RegistryValue, slice_get}
+use Rattle.lb_world.proofs.Words.{slice_get_past, slice_get_within, slice_set, Some, Stands, Step, sym, true, unless_refused, where_}
 use Rattle.lb_world.proofs.Words.{without_memory, WorkValue, WorldRule, WorldValue, ℕ}
 use Rattle.lb_world.proofs.Places.{each-push, each-set, get_kept, get_last, get_push, get_replicate}
 use Rattle.lb_world.proofs.Tables.{entry-moves, registry-lent, world-refused}
@@ -87,16 +84,16 @@ module _ {C : Type 0} (M : Meaning C) where
   -- no load was set at a group that isn't there
   nothing-loaded : (h : History C) → IsRun M h → (g : ℕ) → made_at g h ≡ None → (b : Member) → load_of g b h ≡ 0
   nothing-loaded [] run g none b = refl
-  nothing-loaded ((step.group r a cs, answer.Group n) ∷ h) run g none b = nothing-loaded h run.0 g (get-front (made h) _ g none) b
-  nothing-loaded ((step.load i (Some c) l, answer.Done) ∷ h) run g none b =
-      let m = found-of {C = C} (step.load i (Some c) l) (made_at i h) _ answer.Done refl run.1 in
+  nothing-loaded ((Step.group r a cs, answer.Group n) ∷ h) run g none b = nothing-loaded h run.0 g (get-front (made h) _ g none) b
+  nothing-loaded ((Step.load i (Some c) l, answer.Done) ∷ h) run g none b =
+      let m = found-of {C = C} (Step.load i (Some c) l) (made_at i h) _ answer.Done refl run.1 in
       rw (ne_eqb i g (λ e. none-some m.0 (sym none ∙ sym (ap (λ (j : ℕ). made_at j h) e) ∙ m.1))) (nothing-loaded h run.0 g none b)
   nothing-loaded ((st, a) ∷ h) run g none b = nothing-loaded h run.0 g none b
 
   -- the entry of the new group
   entry-made : (h : History C) (r a : ℕ) (id : GateId) (cs : List C) (n : ℕ) (e : EntryValue C) → IsRun M h → r < length (registries h)
       → IsNewEntry r a id cs (registry.registered_after (registry_events r h) + 1) e
-      → EntryIs ((step.group r a cs, answer.Group n) ∷ h) (length (made h)) e
+      → EntryIs ((Step.group r a cs, answer.Group n) ∷ h) (length (made h)) e
   entry-made h r a id cs n e run within new =
       let none : made_at (length (made h)) h ≡ None = slice_get_past (made h) (length (made h)) (omega arith) in
       let was = absent M h run (length (made h)) none in
@@ -129,7 +126,7 @@ module _ {C : Type 0} {M : Meaning C} {w : WorldValue C} {h : History C} (s : St
 
   told-so : (o : Option Refusal)
       → earlier (no_such (in_tables w r a)) (earlier (memory_apart least-cause) (earlier (no_number given) (no_number cells))) ≡ o
-      → answer_after M h (step.group r a cs) ≡ unless_refused o (answer.Group (length (made h)))
+      → answer_after M h (Step.group r a cs) ≡ unless_refused o (answer.Group (length (made h)))
   told-so o is =
       ap (λ (x : Option Refusal). unless_refused x (answer.Group (length (made h))))
       (ap2 (λ (n m : ℕ). earlier (no_such (nat_lt r n && nat_lt a m))
@@ -144,9 +141,9 @@ module _ {C : Type 0} {M : Meaning C} {w : WorldValue C} {h : History C} (s : St
       (ltb-true r (length w.registries) parts.0, ltb-true a (length w.gates) parts.1, both.1)
 
   pub group-caused : (e : Refusal) → earlier (no_such (in_tables w r a)) least-cause ≡ Some e
-      → Stands M w ((step.group r a cs, answer.Refused e) ∷ h)
+      → Stands M w ((Step.group r a cs, answer.Refused e) ∷ h)
   group-caused e is =
-      world-refused s (step.group r a cs) e
+      world-refused s (Step.group r a cs) e
       (inl (sym (told-so (Some e)
       (first-cause (no_such (in_tables w r a)) (memory_apart least-cause) (nat_le (2 ^ 64) given) (nat_le (2 ^ 64) cells) e
       (ap (earlier (no_such (in_tables w r a))) (least-apart (map (M.refusal []) cs)) ∙ is)))))
@@ -155,7 +152,7 @@ module _ {C : Type 0} {M : Meaning C} {w : WorldValue C} {h : History C} (s : St
   module _ {u : RegistryValue WorldRule} (in_ : slice_get w.registries r ≡ Some u) (at : a < length w.gates) (none : least-cause ≡ None)
     where
       told-then : (o : Option Refusal) → earlier (no_number given) (no_number cells) ≡ o
-          → answer_after M h (step.group r a cs) ≡ unless_refused o (answer.Group (length (made h)))
+          → answer_after M h (Step.group r a cs) ≡ unless_refused o (answer.Group (length (made h)))
       told-then o is =
           told-so o
           (ap2 (λ (b : Bool) (x : Option Refusal). earlier (no_such b) (earlier (memory_apart x)
@@ -170,11 +167,11 @@ module _ {C : Type 0} {M : Meaning C} {w : WorldValue C} {h : History C} (s : St
 
       pub group-is-full : ((key_of : Member → Member) (events : List Event) → IsRegistryAfter key_gives key_of events u
           → 2 ^ 64 ≤ registry.registered_after events + 1)
-          → Stands M (record w { registries = slice_set w.registries r u }) ((step.group r a cs, answer.Refused refusal.NumbersExhausted) ∷ h)
+          → Stands M (record w { registries = slice_set w.registries r u }) ((Step.group r a cs, answer.Refused refusal.NumbersExhausted) ∷ h)
       group-is-full many =
           let now = s.kept r u in_ in
           let refused =
-          world-refused s (step.group r a cs) refusal.NumbersExhausted
+          world-refused s (Step.group r a cs) refusal.NumbersExhausted
           (inl (sym (told-then (Some refusal.NumbersExhausted)
           (ap (λ (b : Bool). earlier (where_ b refusal.NumbersExhausted) (no_number cells)) (le-leb (2 ^ 64) given (many _ _ now))
           ∙ lacks-first (nat_le (2 ^ 64) cells))))) in
@@ -182,7 +179,7 @@ module _ {C : Type 0} {M : Meaning C} {w : WorldValue C} {h : History C} (s : St
 
       module _ (left : (key_of : Member → Member) (events : List Event) → IsRegistryAfter key_gives key_of events u
           → registry.registered_after events + 1 < 2 ^ 64) where
-        fits : answer_after M h (step.group r a cs) ≡ answer.Group (length (made h))
+        fits : answer_after M h (Step.group r a cs) ≡ answer.Group (length (made h))
         fits =
             told-then None
             (ap2 earlier (number-left given (left _ _ (s.kept r u in_))) (number-left cells cells-fit))
@@ -191,11 +188,11 @@ module _ {C : Type 0} {M : Meaning C} {w : WorldValue C} {h : History C} (s : St
             → ((key_of : Member → Member) (events : List Event) → IsRegistryAfter key_gives key_of events u → e ≡ refusal.OutOfMemory)
             → ((key_of : Member → Member) (events : List Event) → IsRegistryAfter key_gives key_of events u
             → IsRegistryAfter key_gives key_of events v)
-            → Stands M (record w { registries = slice_set w.registries r v }) ((step.group r a cs, answer.Refused e) ∷ h)
+            → Stands M (record w { registries = slice_set w.registries r v }) ((Step.group r a cs, answer.Refused e) ∷ h)
         group-lacks e v memory after =
             let refused =
-            world-refused s (step.group r a cs) e
-            (inr (ap answer.Refused (memory _ _ (s.kept r u in_)) ∙ sym (ap (without_memory {C = C} (step.group r a cs)) fits))) in
+            world-refused s (Step.group r a cs) e
+            (inr (ap answer.Refused (memory _ _ (s.kept r u in_)) ∙ sym (ap (without_memory {C = C} (Step.group r a cs)) fits))) in
             registry-lent refused r u v in_ (after _ _ (refused.kept r u in_))
 
         pub group-made : (n : ℕ) (z : GateView) (v : RegistryValue WorldRule) (e : EntryValue C) → n ≡ length w.groups
@@ -203,9 +200,9 @@ module _ {C : Type 0} {M : Meaning C} {w : WorldValue C} {h : History C} (s : St
             → IsNewEntry r a z.id cs given e
             → IsRegistryAfter key_gives (key_at r h) (registry.Applied ∷ registry.Registered ∷ registry_events r h) v
             → Stands M (record w { registries = slice_set w.registries r v; groups = w.groups ++ e ∷ [] })
-            ((step.group r a cs, answer.Group n) ∷ h)
+            ((Step.group r a cs, answer.Group n) ∷ h)
         group-made n z v e number gate-there new now =
-            let k : History C = (step.group r a cs, answer.Group n) ∷ h in
+            let k : History C = (Step.group r a cs, answer.Group n) ∷ h in
             let within : r < length (registries h) = omega (arith, slice_get_within w.registries r u in_, s.registries_are) in
             let more : length (slice_set w.registries r v) ≡ length w.registries = length-set w.registries r v in
             record {

@@ -1,20 +1,14 @@
 -- What the listings of an update list: the members that are there, and the settings that the marks set.
-use Rattle.lb_health.specs.Joined.{settings_of}
-use Rattle.lb_history.specs.Shared.{marked}
-use Rattle.lb_select.specs.AddressText.{bare_member}
-use Rattle.lb_select.specs.Memberships.{set_of}
 use Rattle.lb_select.specs.Seen.{address_seen}
 use Rattle.lb_select.specs.declared.backend.SocketAddr.{SocketAddr}
-use Rattle.lb_world.specs.Calls.{set_marked, with_key}
-use Rattle.lb_world.specs.Listings.{none_or, some_and}
+use Rattle.lb_world.specs.Listings.{none_or}
 use Rattle.std.proofs.lemmas.List.Elements.{filter_map-append}
 use Rattle.std.proofs.lemmas.List.Sums.{fold-append}
-use Rattle.std.specs.BTreeMap.{insert_entry}
-use Rattle.std.specs.List.{cons_option}
 use Rattle.std.specs.Prelude.{filter_map}
-use Rattle.lb_world.proofs.Words.{◌&&◌, ◌++◌, ◌||◌, ◌∙◌, ◌∷◌, ◌≡◌, [], ap, Bool, entries, Equal, fold, Greater, insert_key, Less, List}
-use Rattle.lb_world.proofs.Words.{list_all, list_any, Listing, match_ordering, Member, member_cmp, members_in, None, Option, Ordering, refl}
-use Rattle.lb_world.proofs.Words.{same_member, same_members, settings_in, Some, sym, ℕ}
+use Rattle.lb_world.proofs.Words.{◌&&◌, ◌≡◌, ◌∷◌, ◌∙◌, ◌||◌, ◌++◌, [], ap, bare_member, Bool, cons_option, entries, Equal, fold, Greater}
+use Rattle.lb_world.proofs.Words.{insert_entry, insert_key, Less, List, list_all, list_any, Listing, marked, match_ordering, Member}
+use Rattle.lb_world.proofs.Words.{member_cmp, members_in, None, Option, Ordering, refl, same_member, same_members, set_marked, set_of}
+use Rattle.lb_world.proofs.Words.{settings_in, settings_of, Some, some_and, sym, with_key, ℕ}
 use Rattle.lb_world.proofs.SameSets.{same_set}
 
 abbrev pub present : List Listing → List Member

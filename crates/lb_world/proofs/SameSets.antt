@@ -1,13 +1,10 @@
 -- The set of listed backends is the same membership as the list.
-use Rattle.lb_select.specs.Memberships.{set_of}
 use Rattle.std.proofs.Common.{rules}
 use Rattle.std.proofs.Math.Bool.{or_assoc, or_comm}
-use Rattle.std.specs.Cmp.{IsEquivalence}
 use Rattle.std.specs.Cmp.Rules.{comparing}
-use Rattle.std.specs.Ordering.{is_eq}
-use Rattle.lb_world.proofs.Words.{◌&&◌, ◌||◌, ◌∙◌, ◌∷◌, ◌≡◌, [], ap, ap2, Bool, Equal, false, fold, Greater, insert_key, Less, List}
-use Rattle.lb_world.proofs.Words.{list_all, list_any, match_ordering, Member, member_cmp, not, Ordering, refl, same_member, same_members}
-use Rattle.lb_world.proofs.Words.{sym, true}
+use Rattle.lb_world.proofs.Words.{◌&&◌, ◌≡◌, ◌∷◌, ◌∙◌, ◌||◌, [], ap, ap2, Bool, Equal, false, fold, Greater, insert_key, is_eq}
+use Rattle.lb_world.proofs.Words.{IsEquivalence, Less, List, list_all, list_any, match_ordering, Member, member_cmp, not, Ordering, refl}
+use Rattle.lb_world.proofs.Words.{same_member, same_members, set_of, sym, true}
 
 same_equivalence : IsEquivalence same_member
 same_equivalence = search (comparing, rules) depth 9

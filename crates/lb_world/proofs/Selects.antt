@@ -1,39 +1,34 @@
 -- The steps that select: what is told of the core's selection is what the history tells, and the counter of tickets is where it left it.
-use Rattle.lb_group.proofs.Pasts.{members-past, past-other, past-same}
 use Rattle.lb_group.proofs.Selecting.{handed-selects}
 use Rattle.lb_group.proofs.SlotSteps.{drew-step}
 use Rattle.lb_group.specs.Drawn.{DrawnGives, DrawnValue}
 use Rattle.lb_group.specs.GroupCalls.{SelectsIn}
-use Rattle.lb_group.specs.GroupHistory.{At, Drew, IsPast, drawn, served_members}
+use Rattle.lb_group.specs.GroupHistory.{Drew, IsPast, drawn, served_members}
 use Rattle.lb_group.specs.SlotCalls.{SelectsFrom, drawn_slot}
 use Rattle.lb_group.specs.Stands.{group_after, slot_after, slots_after}
 use Rattle.lb_group.specs.Values.{SlotValue}
 use Rattle.lb_group.specs.declared.answers.Selection.{Selection}
-use Rattle.lb_health.specs.Joined.{IsReady}
-use Rattle.lb_history.proofs.Runs.{slots}
-use Rattle.lb_history.specs.Answers.{Judges, SelectAnswers, selected}
-use Rattle.lb_history.specs.History.{drew, registry_of}
-use Rattle.lb_history.specs.Shared.{events_in}
+use Rattle.lb_history.specs.Answers.{SelectAnswers, selected}
+use Rattle.lb_history.specs.History.{drew}
 use Rattle.lb_select.proofs.SelectionsSeen.{selects-more}
 use Rattle.lb_select.specs.Draws.{Draw, LoadedGives}
 use Rattle.lb_select.specs.Selections.{Selects}
 use Rattle.lb_world.specs.Calls.{selected_as, selection_as}
-use Rattle.std.specs.Prelude.{MatchOption}
 use Rattle.lb_group.specs.Stands as group-made
 use Rattle.lb_joined.specs.Stands as stands
-use Rattle.lb_history.specs.Steps as step
 use Rattle.lb_group.specs.GroupHistory as group
 use Rattle.lb_joined.specs.JoinedHistory as joined
 use Rattle.lb_history.specs.declared.answer.Answer.TheVariants as answer
 use Rattle.lb_select.specs.declared.refusal.Refusal.TheVariants as refusal
 use Rattle.lb_joined.specs.JoinedCalls as calls
 use Rattle.lb_history.specs.Answers as answers
-use Rattle.lb_world.proofs.Words.{◌&&◌, ◌++◌, ◌+◌, ◌==◌, ◌↔◌, ◌∙◌, ◌∷◌, ◌≡◌, [], Answer, ap, ap2, Before, Bool, cases_eq, changed, cond}
-use Rattle.lb_world.proofs.Words.{config, configs_of, EntryNext, EntryValue, Err, false, gate, GateId, GateView, group-of, group_events}
-use Rattle.lb_world.proofs.Words.{happened, History, inl, inr, IsTrue, joined_after, joined_events, JoinedValue, key_of, length, List}
-use Rattle.lb_world.proofs.Words.{list_all, load_in, load_of, lt-ltb, made, Made, Meaning, Member, members_of, nat_le, nat_lt, None, Ok}
-use Rattle.lb_world.proofs.Words.{Option, past, past_of, permit_after, promised, refl, Refusal, registry_events, RegistryValue, Result}
-use Rattle.lb_world.proofs.Words.{same_member, served, shares, site, slice_get, slice_get_within, Some, Step, subst, sym, true, ViewEvent}
+use Rattle.lb_world.proofs.Words.{◌&&◌, ◌==◌, ◌∙◌, ◌++◌, ◌+◌, ◌∷◌, ◌≡◌, ◌↔◌, [], Answer, ap, ap2, At, Before, Bool, cases_eq, changed, cond}
+use Rattle.lb_world.proofs.Words.{config, configs_of, EntryNext, EntryValue, Err, events_in, false, gate, GateId, GateView, group-of}
+use Rattle.lb_world.proofs.Words.{group_events, happened, History, inl, inr, IsReady, IsTrue, joined_after, joined_events, JoinedValue}
+use Rattle.lb_world.proofs.Words.{Judges, key_of, length, List, list_all, load_in, load_of, lt-ltb, Made, made, MatchOption, Meaning}
+use Rattle.lb_world.proofs.Words.{Member, members-past, members_of, nat_le, nat_lt, None, Ok, Option, past, past-other, past-same, past_of}
+use Rattle.lb_world.proofs.Words.{permit_after, promised, refl, Refusal, registry_events, registry_of, RegistryValue, Result, same_member}
+use Rattle.lb_world.proofs.Words.{served, shares, site, slice_get, slice_get_within, slots, Some, Step, subst, sym, true, ViewEvent}
 use Rattle.lb_world.proofs.Words.{views_of, with_core, Work, worked, WorldRule, ℕ}
 use Rattle.lb_world.proofs.Places.{there}
 use Rattle.lb_world.proofs.Entries.{config-here, next-core, next-refused, no_grant, registry-here, slot-or, unshared, views-are}
@@ -103,7 +98,7 @@ no-draws (Some c) s t = refl
 module _ {C : Type 0} {M : Meaning C} {h : History C} {g : ℕ} {e : EntryValue C} {z : GateView} {v : RegistryValue WorldRule}
     (b : Before M h g e z v) (s : ℕ) (key : List ℕ) (limit : ℕ) (words : List ℕ) (sel : Selection) where
   abbrev st : Step C
-  st = step.select g s key limit words
+  st = Step.select g s key limit words
 
   abbrev Right : Answer → Type 0
   Right a = SelectAnswers M h g s key limit words a

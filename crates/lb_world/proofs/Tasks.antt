@@ -1,19 +1,17 @@
 -- Steps of a slot's job: it is granted, built or fails, and comes back. What is held of it is the last job.
-use Rattle.lb_group.proofs.Pasts.{members-past, newest-past, past-other, past-same}
 use Rattle.lb_group.specs.GroupCalls.{Asks, IsJob, asked_events, is_awaited, is_owed, is_served, publish_answer, publish_events}
 use Rattle.lb_group.specs.GroupCalls.{taken_refusal}
-use Rattle.lb_group.specs.GroupHistory.{AskAnswer, ask_answer, extra, generation_of, granted, granted_members, is_aloft, is_taken_out, job}
-use Rattle.lb_group.specs.SlotCalls.{ask_told, asked_gate}
-use Rattle.lb_group.specs.Values.{BuiltValue, Task}
+use Rattle.lb_group.specs.GroupHistory.{AskAnswer, ask_answer, extra, generation_of, is_aloft, is_taken_out, job}
+use Rattle.lb_group.specs.SlotCalls.{asked_gate}
+use Rattle.lb_group.specs.Values.{BuiltValue}
 use Rattle.lb_group.specs.declared.answers.Ask.{Ask}
 use Rattle.lb_group.specs.declared.answers.Told.{Told}
 use Rattle.lb_health.specs.Joined.{registry_released}
 use Rattle.lb_history.proofs.Accepted.{job-may}
-use Rattle.lb_history.proofs.Runs.{aloft, slots}
+use Rattle.lb_history.proofs.Runs.{aloft}
 use Rattle.lb_history.specs.Answers.{asked, built_or_failed, destroy_refusal, of_built, of_job}
-use Rattle.lb_history.specs.History.{ended, is_held}
+use Rattle.lb_history.specs.History.{is_held}
 use Rattle.lb_history.specs.Shared.{extra_at}
-use Rattle.lb_rebuild.specs.Identity.{GroupId}
 use Rattle.lb_world.specs.Calls.{told_as}
 use Rattle.lb_world.specs.Views.{NotBuilding, NotReady}
 use Rattle.lb_world.specs.Works.{last_job}
@@ -21,7 +19,6 @@ use Rattle.std.proofs.lemmas.Bool.{eqb-true}
 use Rattle.lb_group.specs.declared.answers.Told.TheVariants as becomes
 use Rattle.lb_group.specs.Stands as group-made
 use Rattle.lb_joined.specs.Stands as stands
-use Rattle.lb_history.specs.Steps as step
 use Rattle.lb_group.specs.GroupHistory as group
 use Rattle.lb_joined.specs.JoinedHistory as joined
 use Rattle.lb_registry.specs.RegistryEvents as registry
@@ -29,14 +26,15 @@ use Rattle.lb_history.specs.declared.answer.Answer.TheVariants as answer
 use Rattle.lb_select.specs.declared.refusal.Refusal.TheVariants as refusal
 use Rattle.lb_history.specs.History as works
 use Rattle.lb_world.specs.Views as view
-use Rattle.lb_world.proofs.Words.{◌&&◌, ◌++◌, ◌<◌, ◌∙◌, ◌∷◌, ◌≡◌, ◌≤◌, ◌⊎◌, Answer, answer_after, Answers, ap, ap2, arith, at_one, at_slot}
-use Rattle.lb_world.proofs.Words.{Before, Bool, cond, config, configs_of, EntryIs, EntryNext, EntryValue, false, false≢true, gate, GateId}
-use Rattle.lb_world.proofs.Words.{GateView, group-of, group_events, held_of, History, inl, inr, is_out, IsRegistryAfter, IsRun}
-use Rattle.lb_world.proofs.Words.{joined_events, JoinedValue, key_gives, key_of, length, List, made, Made, made_of, Meaning, Member}
-use Rattle.lb_world.proofs.Words.{members_of, nat_lt, newest, no_such, None, none-some, Ok, Option, Origin, origin, past, past_of, promised}
-use Rattle.lb_world.proofs.Words.{refl, Refusal, registry_events, RegistryValue, same_Some, served, shares, site, slice_get, slice_get_past}
-use Rattle.lb_world.proofs.Words.{slice_get_within, slice_set, Some, Step, subst, sym, true, unless_refused, view_events, ViewEvent}
-use Rattle.lb_world.proofs.Words.{views_of, with_core, without_memory, Work, work, WorkValue, WorldRule, ℕ}
+use Rattle.lb_world.proofs.Words.{◌&&◌, ◌∙◌, ◌++◌, ◌≤◌, ◌∷◌, ◌<◌, ◌⊎◌, ◌≡◌, Answer, answer_after, Answers, ap, ap2, arith, ask_told, at_one}
+use Rattle.lb_world.proofs.Words.{at_slot, Before, Bool, cond, config, configs_of, ended, EntryIs, EntryNext, EntryValue, false, false≢true}
+use Rattle.lb_world.proofs.Words.{gate, GateId, GateView, granted, granted_members, group-of, group_events, GroupId, held_of, History, inl}
+use Rattle.lb_world.proofs.Words.{inr, is_out, IsRegistryAfter, IsRun, joined_events, JoinedValue, key_gives, key_of, length, List, Made}
+use Rattle.lb_world.proofs.Words.{made, made_of, Meaning, Member, members-past, members_of, nat_lt, newest, newest-past, no_such, None}
+use Rattle.lb_world.proofs.Words.{none-some, Ok, Option, Origin, origin, past, past-other, past-same, past_of, promised, refl, Refusal}
+use Rattle.lb_world.proofs.Words.{registry_events, RegistryValue, same_Some, served, shares, site, slice_get, slice_get_past}
+use Rattle.lb_world.proofs.Words.{slice_get_within, slice_set, slots, Some, Step, subst, sym, Task, true, unless_refused, view_events}
+use Rattle.lb_world.proofs.Words.{ViewEvent, views_of, with_core, without_memory, Work, work, WorkValue, WorldRule, ℕ}
 use Rattle.lb_world.proofs.Places.{found, set-same, there}
 use Rattle.lb_world.proofs.Entries.{config-here, itself, next, next-core, next-refused, next-work, reading-told, taken, unshared, views-are}
 
@@ -169,7 +167,7 @@ module _ {C : Type 0} {M : Meaning C} {h : History C} {g : ℕ} {e : EntryValue 
   -- another answer than a job changes nothing
   ask-right : (s now : ℕ) (t : AskAnswer) → s < length (configs_of e.core.group)
       → t ≡ ask_answer (past_of s (joined.group_events (joined_events g h))) z.out now
-      → Answers M h (step.ask g s now) (asked (group.newest (group_events g h)) t)
+      → Answers M h (Step.ask g s now) (asked (group.newest (group_events g h)) t)
   ask-right s now t within to =
       let n = group.newest (group_events g h) in
       let tell = λ (out : Bool) (k : group.History). asked n (ask_answer (past_of s k) out now) in
@@ -185,21 +183,21 @@ module _ {C : Type 0} {M : Meaning C} {h : History C} {g : ℕ} {e : EntryValue 
       → Asks (site e.core) (joined.group_events (joined_events g h)) s z.out now (Ok a) → stands.SameSite e.core core
       → stands.Stands (site e.core) (joined.in_group (asked_events s now (ask_told a)) ++ joined_events g h) core
       → y ≡ asked_gate (ask_told a) z
-      → EntryNext M h g (step.ask g s now) (asked (group.newest (group_events g h)) t) e z (with_core core e) y v
+      → EntryNext M h g (Step.ask g s now) (asked (group.newest (group_events g h)) t) e z (with_core core e) y v
   next-asked s now a job told off answers same stays back = absurd (off refl)
   next-asked s now a t told off answers same stays back =
       let events = rw told at stays in
       let gate-is = rw told at back in
-      next-core b (step.ask g s now) (asked (group.newest (group_events g h)) t) refl
+      next-core b (Step.ask g s now) (asked (group.newest (group_events g h)) t) refl
       (ask-right s now t answers.0 (sym told ∙ answers.1)) same events refl (λ r. refl) (λ m. refl) gate-is
-      (unshared b (step.ask g s now) (asked (group.newest (group_events g h)) t) refl refl)
+      (unshared b (Step.ask g s now) (asked (group.newest (group_events g h)) t) refl refl)
 
   pub next-unasked : (s now : ℕ) (r : Refusal) {core : JoinedValue C} → r ≡ refusal.NoSuch → length (configs_of e.core.group) ≤ s
       → stands.SameSite e.core core → stands.Stands (site e.core) (joined_events g h) core
-      → EntryNext M h g (step.ask g s now) (answer.Refused r) e z (with_core core e) z v
+      → EntryNext M h g (Step.ask g s now) (answer.Refused r) e z (with_core core e) z v
   next-unasked s now r no_such past same stays =
       let tell = λ (k : group.History) (out : Bool). asked (group.newest k) (ask_answer (past_of s k) out now) in
-      next-refused b (step.ask g s now) r refl
+      next-refused b (Step.ask g s now) r refl
       (inl
       (ap answer.Refused no_such
       ∙ sym
@@ -215,14 +213,14 @@ module _ {C : Type 0} {M : Meaning C} {h : History C} {g : ℕ} {e : EntryValue 
       → IsJob (site e.core) (joined.group_events (joined_events g h)) s j → stands.SameSite e.core core
       → stands.Stands (site e.core) (joined.in_group (asked_events s now (ask_told a)) ++ joined_events g h) core
       → slice_get e.works s ≡ Some old → y ≡ asked_gate (ask_told a) z
-      → EntryNext M h g (step.ask g s now) (answer.Build j.generation) e z
+      → EntryNext M h g (Step.ask g s now) (answer.Build j.generation) e z
       (record e { core = core; works = slice_set e.works s (view.building j) }) y v
   does-grant s now a j told answers own same stays was back =
       let events = rw told at stays in
       let gate-is = rw told at back in
       let newest : j.generation ≡ group.newest (group_events g h) = own.generation ∙ ap group.newest (group-of g h) in
-      next-work b s (step.ask g s now) (answer.Build j.generation) (view.building j) refl
-      (subst (λ (n : ℕ). Answers M h (step.ask g s now) (answer.Build n)) (sym newest)
+      next-work b s (Step.ask g s now) (answer.Build j.generation) (view.building j) refl
+      (subst (λ (n : ℕ). Answers M h (Step.ask g s now) (answer.Build n)) (sym newest)
       (ask-right s now job answers.0 (sym told ∙ answers.1)))
       was same events (λ r off. past-other r s (group.Granted now) (group_events g h) (λ p. off (sym p))) (λ r. refl)
       (λ c there.
@@ -231,7 +229,7 @@ module _ {C : Type 0} {M : Meaning C} {h : History C} {g : ℕ} {e : EntryValue 
       (own.members ∙ ap (λ (k : group.History). group.order_members (past_of s k)) (group-of g h))
       (same_Some j.config c (sym own.config ∙ there)) own.permit)
       ∙ sym (ap (λ (q : group.History). held_of (origin e.core) s c q works.building) (past-same s (group.Granted now) (group_events g h))))
-      (λ m. refl) gate-is (unshared b (step.ask g s now) (answer.Build j.generation) refl refl)
+      (λ m. refl) gate-is (unshared b (Step.ask g s now) (answer.Build j.generation) refl refl)
 
   module _ {s : ℕ} {j : Task C} (has : Holds h g s e j works.building) where
     -- what its refusal is told by
@@ -242,7 +240,7 @@ module _ {C : Type 0} {M : Meaning C} {h : History C} {g : ℕ} {e : EntryValue 
         ∙ sym (ap (λ (x : Task C). x.members) has.is)) (sym (ap (λ (x : Task C). x.config) has.is))
 
     build-told : (now : ℕ) (r : Option Refusal) → M.refusal j.members j.config ≡ r
-        → answer_after M h (step.build g s now) ≡ built_or_failed j.generation r
+        → answer_after M h (Step.build g s now) ≡ built_or_failed j.generation r
     build-told now r is =
         told-work b.is has
         (λ c w. of_job w (built_or_failed (granted (past g s h)) (M.refusal (members_of (granted (past g s h)) (group_events g h)) c)))
@@ -251,27 +249,27 @@ module _ {C : Type 0} {M : Meaning C} {h : History C} {g : ℕ} {e : EntryValue 
     -- a build that was refused, for its cause or for memory
     pub fallen-right : (now : ℕ) (r : Refusal)
         → (M.refusal j.members j.config ≡ Some r) ⊎ ((M.refusal j.members j.config ≡ None) × (r ≡ refusal.OutOfMemory))
-        → Answers M h (step.build g s now) (answer.BuildFailed j.generation r)
+        → Answers M h (Step.build g s now) (answer.BuildFailed j.generation r)
     fallen-right now r cause =
         elim cause [
           | inl q ↦ inl (sym (build-told now (Some r) q))
           | inr q ↦
-              inr (ap (answer.BuildFailed j.generation) q.1 ∙ sym (ap (without_memory {C = C} (step.build g s now))
+              inr (ap (answer.BuildFailed j.generation) q.1 ∙ sym (ap (without_memory {C = C} (Step.build g s now))
               (build-told now None q.0)))
         ]
 
     -- a build that is done, and held from then on
     pub does-build : (now : ℕ) (x : BuiltValue C) → slice_get e.works s ≡ Some (view.building j) → M.refusal j.members j.config ≡ None
         → x.task ≡ j → x.ended ≡ now
-        → EntryNext M h g (step.build g s now) (answer.Built j.generation) e z (record e { works = slice_set e.works s (view.ready x) }) z v
+        → EntryNext M h g (Step.build g s now) (answer.Built j.generation) e z (record e { works = slice_set e.works s (view.ready x) }) z v
     does-build now x held none task_is ended_is =
-        next-work b s (step.build g s now) (answer.Built j.generation) (view.ready x) refl (inl (sym (build-told now None none))) held
+        next-work b s (Step.build g s now) (answer.Built j.generation) (view.ready x) refl (inl (sym (build-told now None none))) held
         (itself e.core) b.is.core_is (λ r off. refl) (λ r. refl)
         (λ c there.
         ap2 (λ (t : Task C) (n : ℕ). view.ready (record { task = t; ended = n }))
         (task_is ∙ has.is ∙ ap (λ (d : C). last_job (origin e.core) s d (past g s h)) (same_Some has.config c (sym has.there ∙ there)))
         ended_is)
-        (λ m. refl) refl (unshared b (step.build g s now) (answer.Built j.generation) refl refl)
+        (λ m. refl) refl (unshared b (Step.build g s now) (answer.Built j.generation) refl refl)
 
     -- a build that failed: its permit comes back, and its snapshot is let go
     abbrev pub Failed : ℕ → JoinedValue C → GateView → RegistryValue WorldRule → Type 0
@@ -294,10 +292,10 @@ module _ {C : Type 0} {M : Meaning C} {h : History C} {g : ℕ} {e : EntryValue 
     pub does-fall : (now : ℕ) (r : Refusal) {core : JoinedValue C} {y : GateView} {u : RegistryValue WorldRule}
         → slice_get e.works s ≡ Some (view.building j) → stands.SameSite e.core core → Failed now core y u
         → (M.refusal j.members j.config ≡ Some r) ⊎ ((M.refusal j.members j.config ≡ None) × (r ≡ refusal.OutOfMemory))
-        → EntryNext M h g (step.build g s now) (answer.BuildFailed j.generation r) e z
+        → EntryNext M h g (Step.build g s now) (answer.BuildFailed j.generation r) e z
         (record e { core = core; works = slice_set e.works s view.nothing }) y u
     does-fall now r {u = u} held same failed cause =
-        let st : Step C = step.build g s now in
+        let st : Step C = Step.build g s now in
         let a = answer.BuildFailed j.generation r in
         let right = fallen-right now r cause in
         next-work b s st a view.nothing refl right held same (failed-is now failed.0)
@@ -307,10 +305,10 @@ module _ {C : Type 0} {M : Meaning C} {h : History C} {g : ℕ} {e : EntryValue 
 
     pub does-fail : (now : ℕ) {core : JoinedValue C} {y : GateView} {u : RegistryValue WorldRule}
         → slice_get e.works s ≡ Some (view.building j) → stands.SameSite e.core core → Failed now core y u
-        → EntryNext M h g (step.failbuild g s now) (answer.Failed j.generation) e z
+        → EntryNext M h g (Step.failbuild g s now) (answer.Failed j.generation) e z
         (record e { core = core; works = slice_set e.works s view.nothing }) y u
     does-fail now {u = u} held same failed =
-        let st : Step C = step.failbuild g s now in
+        let st : Step C = Step.failbuild g s now in
         let a = answer.Failed j.generation in
         let right : Answers M h st a =
         inl (ap (λ (x : Task C). answer.Failed x.generation) has.is ∙ sym
@@ -334,53 +332,53 @@ module _ {C : Type 0} {M : Meaning C} {h : History C} {g : ℕ} {e : EntryValue 
 
     pub does-abandon : {core : JoinedValue C} → slice_get e.works s ≡ Some (view.ready x) → stands.SameSite e.core core
         → stands.Stands (site e.core) (joined.At x.task.slot (group.Abandoned x.task.members) ∷ joined_events g h) core
-        → EntryNext M h g (step.abandon g s) (answer.Abandoned x.task.generation) e z
+        → EntryNext M h g (Step.abandon g s) (answer.Abandoned x.task.generation) e z
         (record e { core = core; works = slice_set e.works s view.nothing }) z v
     does-abandon held same stays =
-        next-work b s (step.abandon g s) (answer.Abandoned x.task.generation) view.nothing refl (inl (sym (built-told answer.Abandoned)))
+        next-work b s (Step.abandon g s) (answer.Abandoned x.task.generation) view.nothing refl (inl (sym (built-told answer.Abandoned)))
         held
         same (retired-is stays) (λ i off. past-other i s _ (group_events g h) (λ p. off (sym p))) (λ i. refl) (λ c there. refl) (λ m. refl)
-        refl (unshared b (step.abandon g s) (answer.Abandoned x.task.generation) refl refl)
+        refl (unshared b (Step.abandon g s) (answer.Abandoned x.task.generation) refl refl)
 
     tells : (served : Bool) {core : JoinedValue C} → is_served s (group_events g h) ≡ served
         → slice_get e.works s ≡ Some (view.ready x) → stands.SameSite e.core core
         → (let t = cond served (becomes.Published x.task.generation) (becomes.Abandoned x.task.generation) in
         stands.Stands (site e.core) (joined.in_group (publish_events x (Ok t)) ++ joined_events g h) core
-        → EntryNext M h g (step.publish g s) (told_as t) e z (record e { core = core; works = slice_set e.works s view.nothing }) z v)
+        → EntryNext M h g (Step.publish g s) (told_as t) e z (record e { core = core; works = slice_set e.works s view.nothing }) z v)
     tells true {core} is held same stays =
         let a = answer.Published x.task.generation in
-        next-work b s (step.publish g s) a view.nothing refl
+        next-work b s (Step.publish g s) a view.nothing refl
         (inl (sym (built-told (λ n. cond (is_served s (group_events g h)) (answer.Published n) (answer.Abandoned n))
         ∙ ap (λ (q : Bool). cond q a (answer.Abandoned x.task.generation)) is))) held same
         (rw has.work_is
         (subst (λ (t : Task C). stands.Stands (site e.core) (joined.At t.slot (group.Published x.ended t.members) ∷ joined_events g h) core)
         has.is stays))
         (λ i off. past-other i s _ (group_events g h) (λ p. off (sym p))) (λ i. refl) (λ c there. refl) (λ m. refl)
-        refl (unshared b (step.publish g s) a refl refl)
+        refl (unshared b (Step.publish g s) a refl refl)
     tells false is held same stays =
         let a = answer.Abandoned x.task.generation in
-        next-work b s (step.publish g s) a view.nothing refl
+        next-work b s (Step.publish g s) a view.nothing refl
         (inl (sym (built-told (λ n. cond (is_served s (group_events g h)) (answer.Published n) (answer.Abandoned n))
         ∙ ap (λ (q : Bool). cond q (answer.Published x.task.generation) a) is))) held same
         (retired-is stays) (λ i off. past-other i s _ (group_events g h) (λ p. off (sym p))) (λ i. refl) (λ c there. refl) (λ m. refl)
-        refl (unshared b (step.publish g s) a refl refl)
+        refl (unshared b (Step.publish g s) a refl refl)
 
     pub does-publish : (t : Told) {core : JoinedValue C} → slice_get e.works s ≡ Some (view.ready x) → stands.SameSite e.core core
         → stands.Stands (site e.core) (joined.in_group (publish_events x (Ok t)) ++ joined_events g h) core
         → t ≡ publish_answer x.task.slot x.task.generation (joined.group_events (joined_events g h))
-        → EntryNext M h g (step.publish g s) (told_as t) e z (record e { core = core; works = slice_set e.works s view.nothing }) z v
+        → EntryNext M h g (Step.publish g s) (told_as t) e z (record e { core = core; works = slice_set e.works s view.nothing }) z v
     does-publish t {core} held same stays to =
         let is : t ≡ cond (is_served s (group_events g h)) (becomes.Published x.task.generation) (becomes.Abandoned x.task.generation) =
         to
         ∙ ap2 (λ (i : ℕ) (k : group.History). publish_answer i x.task.generation k) (ap (λ (y : Task C). y.slot) has.is) (group-of g h) in
         subst
-        (λ (q : Told). EntryNext M h g (step.publish g s) (told_as q) e z
+        (λ (q : Told). EntryNext M h g (Step.publish g s) (told_as q) e z
         (record e { core = core; works = slice_set e.works s view.nothing }) z v)
         (sym is) (tells (is_served s (group_events g h)) refl held same (rw is at stays))
 
   -- a retired selector: taken out, destroyed and reported at once
   destroy-told : (s : ℕ) (r : Option Refusal) → taken_refusal (site e.core) s (joined.group_events (joined_events g h)) ≡ r
-      → answer_after M h (step.destroy g s) ≡ unless_refused r answer.Destroyed
+      → answer_after M h (Step.destroy g s) ≡ unless_refused r answer.Destroyed
   destroy-told s r is =
       reading-told b.is s destroy_refusal (λ q. unless_refused q answer.Destroyed)
       (at_slot (site e.core) s (destroy_refusal (past_of s (joined.group_events (joined_events g h))))) refl
@@ -394,9 +392,9 @@ module _ {C : Type 0} {M : Meaning C} {h : History C} {g : ℕ} {e : EntryValue 
   pub does-refuse-destruction : (s : ℕ) (r : Refusal) {core : JoinedValue C} → stands.SameSite e.core core
       → stands.Stands (site e.core) (joined_events g h) core
       → taken_refusal (site e.core) s (joined.group_events (joined_events g h)) ≡ Some r
-      → EntryNext M h g (step.destroy g s) (answer.Refused r) e z (with_core core e) z v
+      → EntryNext M h g (Step.destroy g s) (answer.Refused r) e z (with_core core e) z v
   does-refuse-destruction s r same stays is =
-      next-refused b (step.destroy g s) r refl (inl (sym (destroy-told s (Some r) is))) same stays
+      next-refused b (Step.destroy g s) r refl (inl (sym (destroy-told s (Some r) is))) same stays
 
   pub does-destroy : (s n : ℕ) {core : JoinedValue C} {y : GateView} {u : RegistryValue WorldRule} → stands.SameSite e.core core
       → stands.Stands (site e.core) (joined.At s group.Destroyed ∷ joined.At s group.TakenOut ∷ joined_events g h) core
@@ -404,14 +402,14 @@ module _ {C : Type 0} {M : Meaning C} {h : History C} {g : ℕ} {e : EntryValue 
       → n ≡ generation_of (extra (past_of s (group.At s group.TakenOut ∷ joined.group_events (joined_events g h)))) → y ≡ gate z.id false
       → IsRegistryAfter key_gives (key_of g h)
       (registry_released e.core.view.id n (views_of (site e.core) (joined_events g h)) (registry_events e.registry h)) u
-      → EntryNext M h g (step.destroy g s) answer.Destroyed e z (with_core core e) y u
+      → EntryNext M h g (Step.destroy g s) answer.Destroyed e z (with_core core e) y u
   does-destroy s n {u = u} same stays taken of back kept =
-      let right : Answers M h (step.destroy g s) answer.Destroyed = inl (sym (destroy-told s None taken)) in
-      next-core b (step.destroy g s) answer.Destroyed refl right same stays refl (λ i. refl) (λ m. refl) back
-      (released s n (registry_events e.registry ((step.destroy g s, answer.Destroyed) ∷ h)) u
+      let right : Answers M h (Step.destroy g s) answer.Destroyed = inl (sym (destroy-told s None taken)) in
+      next-core b (Step.destroy g s) answer.Destroyed refl right same stays refl (λ i. refl) (λ m. refl) back
+      (released s n (registry_events e.registry ((Step.destroy g s, answer.Destroyed) ∷ h)) u
       (of ∙ ap (λ (p : group.History). generation_of (extra p)) (past-same s group.TakenOut (joined.group_events (joined_events g h)))
       ∙ ap (λ (k : group.History). generation_of (extra (past_of s k))) (group-of g h))
-      (shares M h (step.destroy g s) answer.Destroyed (b.run, right) (made_of e) b.is.made_is) kept)
+      (shares M h (Step.destroy g s) answer.Destroyed (b.run, right) (made_of e) b.is.made_is) kept)
 
 -- what was taken out is owed a report
 pub owed-now : {C : Type 0} (made : group-made.Made C) (s : ℕ) (k : group.History) → taken_refusal made s k ≡ None

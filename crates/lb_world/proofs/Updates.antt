@@ -4,33 +4,28 @@ use Rattle.lb_group.specs.GroupHistory.{is_cancelled}
 use Rattle.lb_group.specs.declared.schedule.Scheduled.{Scheduled}
 use Rattle.lb_health.specs.Joined.{registry_updated}
 use Rattle.lb_health.specs.ViewEvents.{membership_after}
-use Rattle.lb_history.proofs.Absent.{absent}
 use Rattle.lb_history.proofs.Joining.{follows}
-use Rattle.lb_history.proofs.Numbering.{numbered}
 use Rattle.lb_history.proofs.Registered.{is-registered}
 use Rattle.lb_history.proofs.Together.{schedules-alike}
-use Rattle.lb_history.specs.Answers.{has_refused, update_answer}
+use Rattle.lb_history.specs.Answers.{update_answer}
 use Rattle.lb_history.specs.Joined.{Updated}
-use Rattle.lb_history.specs.Shared.{events_in, view_in}
 use Rattle.lb_joined.specs.JoinedCalls.{IsRefusedFor, Schedules, after_schedule}
 use Rattle.lb_world.specs.Calls.{scheduled_as}
-use Rattle.std.proofs.Common.{true≢false}
-use Rattle.std.proofs.lemmas.Bool.{le-leb, not-false}
-use Rattle.std.proofs.lemmas.Bool.Decides.{leb_tells}
+use Rattle.std.proofs.lemmas.Bool.{not-false}
 use Rattle.lb_joined.specs.Stands as stands
-use Rattle.lb_history.specs.Steps as step
 use Rattle.lb_group.specs.GroupHistory as group
 use Rattle.lb_joined.specs.JoinedHistory as joined
 use Rattle.lb_registry.specs.RegistryEvents as registry
 use Rattle.lb_history.specs.declared.answer.Answer.TheVariants as answer
 use Rattle.lb_select.specs.declared.refusal.Refusal.TheVariants as refusal
-use Rattle.lb_world.proofs.Words.{◌&&◌, ◌+◌, ◌==◌, ◌^◌, ◌↔◌, ◌∙◌, ◌∷◌, ◌≡◌, ◌≤◌, Answer, answer_after, Answers, ap, ap2, at_one, Before}
-use Rattle.lb_world.proofs.Words.{Bool, changed, cond, earlier, EntryNext, EntryValue, Err, false, GateView, group-of, group_events}
-use Rattle.lb_world.proofs.Words.{History, inl, inr, IsRegistryAfter, IsTrue, joined_after, joined_events, JoinedValue, key_gives, key_of}
-use Rattle.lb_world.proofs.Words.{List, Listing, Made, made_at, made_of, Meaning, members_in, members_of, nat_le, newest, no_number, None}
-use Rattle.lb_world.proofs.Words.{Ok, Option, refl, Refusal, refuse, registry_events, RegistryValue, Result, same_members, settings_in}
-use Rattle.lb_world.proofs.Words.{shares, site, Some, Step, subst, sym, true, unless_refused, view_events, ViewEvent, views_of, where_}
-use Rattle.lb_world.proofs.Words.{with_core, without_memory, WorldRule, ℕ}
+use Rattle.lb_world.proofs.Words.{◌^◌, ◌&&◌, ◌==◌, ◌∙◌, ◌+◌, ◌≤◌, ◌∷◌, ◌≡◌, ◌↔◌, absent, Answer, answer_after, Answers, ap, ap2, at_one}
+use Rattle.lb_world.proofs.Words.{Before, Bool, changed, cond, earlier, EntryNext, EntryValue, Err, events_in, false, GateView, group-of}
+use Rattle.lb_world.proofs.Words.{group_events, has_refused, History, inl, inr, IsRegistryAfter, IsTrue, joined_after, joined_events}
+use Rattle.lb_world.proofs.Words.{JoinedValue, key_gives, key_of, le-leb, leb_tells, List, Listing, Made, made_at, made_of, Meaning}
+use Rattle.lb_world.proofs.Words.{members_in, members_of, nat_le, newest, no_number, None, numbered, Ok, Option, refl, Refusal, refuse}
+use Rattle.lb_world.proofs.Words.{registry_events, RegistryValue, Result, same_members, settings_in, shares, site, Some, Step, subst, sym}
+use Rattle.lb_world.proofs.Words.{true, true≢false, unless_refused, view_events, view_in, ViewEvent, views_of, where_, with_core}
+use Rattle.lb_world.proofs.Words.{without_memory, WorldRule, ℕ}
 use Rattle.lb_world.proofs.Entries.{joined-here, next-core, next-refused, registry-here, shared, views-are}
 use Rattle.lb_world.proofs.Selects.{Told}
 
@@ -78,7 +73,7 @@ module _ {C : Type 0} {M : Meaning C} {h : History C} {g : ℕ} {e : EntryValue 
       registry.cells_given (key_of g h) (registry.Updated e.core.view.id (members_in ls) ∷ registry.Applied ∷ registry_events e.registry h)
 
   abbrev st : Step C
-  st = step.update g now ls
+  st = Step.update g now ls
 
   abbrev change : Bool
   change = is_change (members_in ls) (group_events g h)

@@ -1,18 +1,15 @@
 -- The numbers that the core reads are the history's.
-use Rattle.lb_group.proofs.Pasts.{newest-past}
-use Rattle.lb_group.specs.Flights.{flight_after}
 use Rattle.lb_group.specs.Stands.{counts_after}
 use Rattle.lb_group.specs.declared.answers.Counts.{Counts}
 use Rattle.lb_history.specs.Answers.{numbers_of}
-use Rattle.std.proofs.lemmas.Option.{cond_some}
-use Rattle.lb_history.specs.Steps as seen
 use Rattle.lb_group.specs.GroupHistory as group
 use Rattle.lb_joined.specs.JoinedHistory as joined
 use Rattle.lb_history.specs.declared.answer.Answer.TheVariants as answer
 use Rattle.lb_select.specs.declared.refusal.Refusal.TheVariants as refusal
-use Rattle.lb_world.proofs.Words.{◌∙◌, ◌≡◌, answer_after, Answers, ap, at_slot, Before, Bool, configs_of, EntryValue, GateView, group-of}
-use Rattle.lb_world.proofs.Words.{History, inl, joined_events, length, Meaning, nat_lt, newest, None, Option, past, past_of, refl}
-use Rattle.lb_world.proofs.Words.{RegistryValue, served, site, Some, sym, WorldRule, ℕ}
+use Rattle.lb_world.proofs.Words.{◌≡◌, ◌∙◌, answer_after, Answers, ap, at_slot, Before, Bool, cond_some, configs_of, EntryValue}
+use Rattle.lb_world.proofs.Words.{flight_after, GateView, group-of, History, inl, joined_events, length, Meaning, nat_lt, newest}
+use Rattle.lb_world.proofs.Words.{newest-past, None, Option, past, past_of, refl, RegistryValue, served, site, Some, Step, sym, WorldRule}
+use Rattle.lb_world.proofs.Words.{ℕ}
 use Rattle.lb_world.proofs.Entries.{itself, next-core, next-refused, same-flight, told-of, unshared}
 use Rattle.lb_world.proofs.entry.Entry.counts.Goals as goal
 use Rattle.lb_world.proofs.entry.Entry.counts.Goals.{in_default-via-in-Some+in-Some+in-Some+in_default}
@@ -27,7 +24,7 @@ module _ {C : Type 0} {M : Meaning C} {h : History C} {g : ℕ} {e : EntryValue 
       → Some flight ≡ at_slot (site e.core) s (flight_after (past_of s (joined.group_events (joined_events g h))))
       → Some waiting ≡ at_slot (site e.core) s (group.waits (past_of s (joined.group_events (joined_events g h))))
       → Some counts ≡ at_slot (site e.core) s (counts_after (past_of s (joined.group_events (joined_events g h))))
-      → answer_after M h (seen.counts g s) ≡ answer.Numbers
+      → answer_after M h (Step.counts g s) ≡ answer.Numbers
       (record { newest = newest; served = served; flight = flight; waiting = waiting; counts = counts })
   counts-right s newest served flight waiting counts n a x y d =
       let k = joined.group_events (joined_events g h) in
@@ -44,7 +41,7 @@ module _ {C : Type 0} {M : Meaning C} {h : History C} {g : ℕ} {e : EntryValue 
       same-numbers n m s t f i w x c d a b e u v = cc
 
   absent : {A : Type 0} (s : ℕ) (x : A) (r : Option A) → r ≡ at_slot (site e.core) s x → r ≡ None
-      → Answers M h (seen.counts g s) (answer.Refused refusal.NoSuch)
+      → Answers M h (Step.counts g s) (answer.Refused refusal.NoSuch)
   absent s x r to none =
       inl (sym (told-of b.is s x None (λ i. answer.Numbers (numbers_of (past g s h))) (sym none ∙ to)))
 
@@ -61,17 +58,17 @@ returns-in-Some-Some-Some-Some g c =
       counts =
           w.counts;
     }) in
-    next-core b (seen.counts n c.args.slot) a refl
+    next-core b (Step.counts n c.args.slot) a refl
     (inl (sym (counts-right b c.args.slot _ _ _ _ _ (c.newest.ensures _ _ b.is.core_is) (sym w.is-0 ∙ c.served.ensures _ _ b.is.core_is)
     (sym w.is-1 ∙ c.flight.ensures _ _ b.is.core_is) (sym w.is-2 ∙ c.is_waiting.ensures _ _ b.is.core_is)
     (sym w.is-3 ∙ c.counts.ensures _ _ b.is.core_is))))
-    (itself _) b.is.core_is refl (λ s. refl) (λ m. refl) refl (unshared b (seen.counts n c.args.slot) a refl refl))
+    (itself _) b.is.core_is refl (λ s. refl) (λ m. refl) refl (unshared b (Step.counts n c.args.slot) a refl refl))
 
 pub returns-in_default : goal.returns-in_default
 returns-in_default g c =
     rw (← c.self.view_is)
     (λ z v h n b.
-    next-refused b (seen.counts n c.args.slot) refusal.NoSuch refl
+    next-refused b (Step.counts n c.args.slot) refusal.NoSuch refl
     (elim c.in_default.branch [
       | in_default-via-in-Some+in-Some+in-Some+in_default w ↦
           absent b c.args.slot _ c.counts.result (c.counts.ensures _ _ b.is.core_is) w.in_default.is-3

@@ -1,8 +1,7 @@
 -- The job that is held is the last one, so it is awaited; its snapshot is let go.
-use Rattle.lb_history.specs.Steps as seen
 use Rattle.lb_select.specs.declared.refusal.Refusal.TheVariants as refusal
 use Rattle.lb_history.specs.History as works
-use Rattle.lb_world.proofs.Words.{◌<◌, ◌∙◌, ◌≤◌, ap, arith, inl, length, meaning_of, past, refl, Some}
+use Rattle.lb_world.proofs.Words.{◌∙◌, ◌<◌, ◌≤◌, ap, arith, inl, length, meaning_of, past, refl, Some, Step}
 use Rattle.lb_world.proofs.Places.{at-place}
 use Rattle.lb_world.proofs.Entries.{itself, next-refused}
 use Rattle.lb_world.proofs.Tasks.{beyond, does-fail, holds, next-same, own-task, unawaited, unstarted}
@@ -13,7 +12,7 @@ returns-then-slot-len g c =
     rw (← c.self.view_is)
     (λ h n b.
     let past : length c.self.inside.works.items ≤ c.args.slot = omega arith in
-    next-refused b (seen.failbuild n c.args.slot c.args.now) refusal.NoSuch refl (inl (beyond b.is c.args.slot _ past)) (itself _)
+    next-refused b (Step.failbuild n c.args.slot c.args.now) refusal.NoSuch refl (inl (beyond b.is c.args.slot _ past)) (itself _)
     b.is.core_is)
 
 pub returns-in_default : goal.returns-in_default
@@ -23,7 +22,7 @@ returns-in_default g c =
     let within : c.args.slot < length c.self.inside.works.items = omega arith in
     let at = at-place c.self.inside.works.items c.args.slot _ within c.index_mut-place.ensures.value in
     next-same b c.args.slot at c.in_default.ensures.1
-    (next-refused b (seen.failbuild n c.args.slot c.args.now) refusal.NothingInFlight refl
+    (next-refused b (Step.failbuild n c.args.slot c.args.now) refusal.NothingInFlight refl
     (inl (unstarted b.is c.args.slot _ _ at c.in_default.ensures.0)) (itself _) b.is.core_is))
 
 pub fail-requires : goal.fail-requires

@@ -1,8 +1,7 @@
 -- What is held built is the last job, so it is awaited.
-use Rattle.lb_history.specs.Steps as seen
 use Rattle.lb_select.specs.declared.refusal.Refusal.TheVariants as refusal
 use Rattle.lb_history.specs.History as works
-use Rattle.lb_world.proofs.Words.{◌<◌, ◌∙◌, ◌≤◌, ap, arith, inl, length, meaning_of, past, refl, Some}
+use Rattle.lb_world.proofs.Words.{◌∙◌, ◌<◌, ◌≤◌, ap, arith, inl, length, meaning_of, past, refl, Some, Step}
 use Rattle.lb_world.proofs.Places.{at-place}
 use Rattle.lb_world.proofs.Entries.{itself, next-refused}
 use Rattle.lb_world.proofs.Tasks.{beyond, does-publish, holds, next-same, own-task, unawaited, unbuilt}
@@ -13,7 +12,7 @@ returns-then-slot-len g c =
     rw (← c.self.view_is)
     (λ z v h n b.
     let past : length c.self.inside.works.items ≤ c.args.slot = omega arith in
-    next-refused b (seen.publish n c.args.slot) refusal.NoSuch refl (inl (beyond b.is c.args.slot _ past)) (itself _) b.is.core_is)
+    next-refused b (Step.publish n c.args.slot) refusal.NoSuch refl (inl (beyond b.is c.args.slot _ past)) (itself _) b.is.core_is)
 
 pub returns-in_default : goal.returns-in_default
 returns-in_default g c =
@@ -22,7 +21,7 @@ returns-in_default g c =
     let within : c.args.slot < length c.self.inside.works.items = omega arith in
     let at = at-place c.self.inside.works.items c.args.slot _ within c.index_mut-place.ensures.value in
     next-same b c.args.slot at c.in_default.ensures.1
-    (next-refused b (seen.publish n c.args.slot) refusal.NothingBuilt refl
+    (next-refused b (Step.publish n c.args.slot) refusal.NothingBuilt refl
     (inl (unbuilt b.is c.args.slot _ _ at c.in_default.ensures.0)) (itself _) b.is.core_is))
 
 pub publish-requires : goal.publish-requires

@@ -1,7 +1,6 @@
 -- Why it is refused, and what the core's call does, as the history tells it.
-use Rattle.lb_history.specs.Steps as seen
 use Rattle.lb_select.specs.declared.refusal.Refusal.TheVariants as refusal
-use Rattle.lb_world.proofs.Words.{◌∙◌, ap, Err, refl, settings_in, sym}
+use Rattle.lb_world.proofs.Words.{◌∙◌, ap, Err, refl, settings_in, Step, sym}
 use Rattle.lb_world.proofs.Places.{there}
 use Rattle.lb_world.proofs.Entries.{itself, next-refused}
 use Rattle.lb_world.proofs.Updates.{cause-right, counted-right, does-refuse, does-update, uncounted-right}
@@ -12,7 +11,7 @@ pub returns-in-Some : goal.returns-in-Some
 returns-in-Some g c =
     rw (← c.self.view_is)
     (λ z h n b.
-    let st = seen.update n c.args.now c.args.listings.items in
+    let st = Step.update n c.args.now c.args.listings.items in
     next-refused b st c.in-Some.refusal refl
     (cause-right b c.args.now c.args.listings.items c.requires.whole _
     (sym (sym c.in-Some.is ∙ rw c.deref.ensures.value at ((rw (← c.self.view_is) at c.refusal.ensures) _ _ b.is.core_is))))
@@ -44,7 +43,7 @@ pub returns-then-lacks_numbers : goal.returns-then-lacks_numbers
 returns-then-lacks_numbers g c =
     rw (← c.self.view_is)
     (λ z h n b.
-    let st = seen.update n c.args.now c.args.listings.items in
+    let st = Step.update n c.args.now c.args.listings.items in
     next-refused b st refusal.NumbersExhausted refl
     (counted-right b c.args.now c.args.listings.items c.requires.whole _
     (sym (rw c.deref.ensures.value at ((rw (← c.self.view_is) at c.refusal.ensures) _ _ b.is.core_is)) ∙ c.in_default.is)
@@ -55,7 +54,7 @@ pub returns-in_default-settings_from : goal.returns-in_default-settings_from
 returns-in_default-settings_from g c =
     rw (← c.self.view_is)
     (λ z h n b.
-    let st = seen.update n c.args.now c.args.listings.items in
+    let st = Step.update n c.args.now c.args.listings.items in
     next-refused b st refusal.OutOfMemory refl
     (uncounted-right b c.args.now c.args.listings.items c.requires.whole _
     (sym (rw c.deref.ensures.value at ((rw (← c.self.view_is) at c.refusal.ensures) _ _ b.is.core_is)) ∙ c.in_default.is)
@@ -66,7 +65,7 @@ pub returns-in_default-members_from : goal.returns-in_default-members_from
 returns-in_default-members_from g c =
     rw (← c.self.view_is)
     (λ z h n b.
-    let st = seen.update n c.args.now c.args.listings.items in
+    let st = Step.update n c.args.now c.args.listings.items in
     next-refused b st refusal.OutOfMemory refl
     (uncounted-right b c.args.now c.args.listings.items c.requires.whole _
     (sym (rw c.deref.ensures.value at ((rw (← c.self.view_is) at c.refusal.ensures) _ _ b.is.core_is)) ∙ c.in_default.is)

@@ -5,7 +5,7 @@ use Rattle.lb_world.specs.declared.local.Local.{Local}
 use Rattle.lb_history.specs.declared.answer.Answer.TheVariants as answer
 use Rattle.lb_select.specs.declared.refusal.Refusal.TheVariants as refusal
 use Rattle.lb_world.specs.declared.local.Local.TheVariants as is
-use Rattle.lb_world.proofs.Words.{◌<◌, ◌∙◌, ◌∷◌, ◌≡◌, ◌≤◌, Answer, Answers, ap, arith, entries, EntryValue, gates, GateView, group_at}
+use Rattle.lb_world.proofs.Words.{◌≡◌, ◌≤◌, ◌∷◌, ◌∙◌, ◌<◌, Answer, Answers, ap, arith, entries, EntryValue, gates, GateView, group_at}
 use Rattle.lb_world.proofs.Words.{History, inl, length, made_at, Meaning, meaning_of, None, Origin, past, refl, registries, RegistryValue}
 use Rattle.lb_world.proofs.Words.{same_Some, slice_get, slice_get_within, slice_set, Some, Stands, sym, WorldRule, WorldValue, ℕ}
 use Rattle.lb_world.proofs.Places.{at-place}

@@ -1,8 +1,7 @@
 -- Where no cause stands, the entry that is new joins the groups, over its registry and its gate.
-use Rattle.std.proofs.lemmas.Bool.Decides.{leb_tells}
 use Rattle.lb_select.specs.declared.refusal.Refusal.TheVariants as refusal
-use Rattle.lb_world.proofs.Words.{◌<◌, ◌^◌, ◌↔◌, ◌∙◌, ◌≡◌, ◌≤◌, ap, arith, Bool, Event, false, false≢true, inl, inr, IsRegistryAfter}
-use Rattle.lb_world.proofs.Words.{IsTrue, key_gives, length, List, Member, refl, sym, ℕ}
+use Rattle.lb_world.proofs.Words.{◌^◌, ◌≡◌, ◌↔◌, ◌≤◌, ◌∙◌, ◌<◌, ap, arith, Bool, Event, false, false≢true, inl, inr, IsRegistryAfter}
+use Rattle.lb_world.proofs.Words.{IsTrue, key_gives, leb_tells, length, List, Member, refl, sym, ℕ}
 use Rattle.lb_world.proofs.Places.{at-place}
 use Rattle.lb_world.proofs.Tables.{founded-by}
 use Rattle.lb_world.proofs.Registries.{refused-so}
