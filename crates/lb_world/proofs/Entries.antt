@@ -10,10 +10,7 @@ use Rattle.lb_joined.specs.Stands as stands
 use Rattle.lb_group.specs.GroupHistory as group
 use Rattle.lb_joined.specs.JoinedHistory as joined
 use Rattle.lb_registry.specs.RegistryEvents as registry
-use Rattle.lb_history.specs.History as works
-use Rattle.lb_history.specs.declared.answer.Answer.TheVariants as answer
-use Rattle.lb_world.specs.Views as view
-use Rattle.lb_world.proofs.Words.{◌&&◌, ◌==◌, ◌∙◌, ◌++◌, ◌∷◌, ◌⊎◌, ◌≡◌, [], and_parts, Answer, Answers, ap, ap2, At, at_one, at_slot}
+use Rattle.lb_world.proofs.Words.{◌≡◌, ◌&&◌, ◌∙◌, ◌==◌, ◌⊎◌, ◌∷◌, ◌++◌, [], and_parts, Answer, Answers, ap, ap2, At, at_one, at_slot}
 use Rattle.lb_world.proofs.Words.{Before, Bool, changed, cond, config, config_in, configs_of, ended, EntryIs, EntryNext, EntryValue, eq-eqb}
 use Rattle.lb_world.proofs.Words.{false, gate, GateId, gates, GateView, granted, granted_members, group-of, group_at, group_events, GroupId}
 use Rattle.lb_world.proofs.Words.{happened, held_of, History, inl, inr, is_at, IsRegistryAfter, IsRun, joined_after, joined_events}
@@ -21,7 +18,7 @@ use Rattle.lb_world.proofs.Words.{JoinedValue, key_at, key_gives, key_in, key_of
 use Rattle.lb_world.proofs.Words.{lt-ltb, Made, made, made_at, made_of, Meaning, Member, nat_lt, ne_eqb, None, none-some, Option}
 use Rattle.lb_world.proofs.Words.{option_map, Origin, origin, past, past_of, permit_after, refl, Refusal, refused-alike, registries}
 use Rattle.lb_world.proofs.Words.{registry_at, registry_events, registry_of, RegistryValue, site, slice_get, slice_get_within, slice_set}
-use Rattle.lb_world.proofs.Words.{Some, Step, subst, sym, Task, true, view_events, views_of, with_core, Work, work, worked, works_at}
+use Rattle.lb_world.proofs.Words.{Some, Step, subst, sym, Task, true, view_events, views_of, with_core, work, Work, worked, works_at}
 use Rattle.lb_world.proofs.Words.{WorkValue, WorldRule, ℕ}
 use Rattle.lb_world.proofs.Places.{get_set, there}
 
@@ -52,9 +49,9 @@ job-of o s c j = record { group = o.id; slot = s; generation = j.0; members = j.
 
 held-by : {C : Type 0} (o : Origin) (s : ℕ) (c : C) (p q : group.History) (w : Work) → last p ≡ last q
     → held_of o s c p w ≡ held_of o s c q w
-held-by o s c p q works.idle e = refl
-held-by o s c p q works.building e = ap (λ (j : ℕ × List Member). view.building (job-of o s c j)) e
-held-by o s c p q (works.built now) e = ap (λ (j : ℕ × List Member). view.ready (record { task = job-of o s c j; ended = now })) e
+held-by o s c p q Work.idle e = refl
+held-by o s c p q Work.building e = ap (λ (j : ℕ × List Member). WorkValue.building (job-of o s c j)) e
+held-by o s c p q (Work.built now) e = ap (λ (j : ℕ × List Member). WorkValue.ready (record { task = job-of o s c j; ended = now })) e
 
 pub taken : {A : Type 0} (x y : A) (g : ℕ) (o : Option ℕ) → o ≡ Some g → cond (is_at g o) x y ≡ x
 taken x y g o at = ap (λ (b : Bool). cond b x y) (ap (is_at g) at ∙ eq-eqb g g refl)
@@ -76,7 +73,7 @@ in-list : {A C : Type 0} (cs : List C) (s : ℕ) (x : A) (tells : A → Answer)
 in-list cs s x tells = elim (slot-or cs s) [ inl p ↦ rw (p.0, p.1) refl | inr p ↦ rw (p.1, p.2) refl ]
 
 -- a refusal leaves the permit where it is
-unmoved : {C : Type 0} (st : Step C) (r : Refusal) (out : Bool) → permit_after st (answer.Refused r) out ≡ out
+unmoved : {C : Type 0} (st : Step C) (r : Refusal) (out : Bool) → permit_after st (Answer.Refused r) out ≡ out
 unmoved (Step.ask g s now) r out = refl
 unmoved st r out = refl
 
@@ -218,14 +215,14 @@ module _ {C : Type 0} {M : Meaning C} {h : History C} {g : ℕ} {e : EntryValue 
       (λ m. b.is.loads_are m ∙ sym (loads m)) out kept
 
   -- a refusal after which the core stands for the same events leaves all else
-  pub next-refused : (st : Step C) (r : Refusal) {core : JoinedValue C} → group_at h st ≡ Some g → Answers M h st (answer.Refused r)
+  pub next-refused : (st : Step C) (r : Refusal) {core : JoinedValue C} → group_at h st ≡ Some g → Answers M h st (Answer.Refused r)
       → stands.SameSite e.core core → stands.Stands (site e.core) (joined_events g h) core
-      → EntryNext M h g st (answer.Refused r) e z (with_core core e) z v
+      → EntryNext M h g st (Answer.Refused r) e z (with_core core e) z v
   next-refused st r {core = core} at right same was =
       let told = refused-alike h st r in
-      next st (answer.Refused r) core e.works e.loads at right same
+      next st (Answer.Refused r) core e.works e.loads at right same
       (subst (λ (es : joined.History). stands.Stands (site e.core) es core)
-      (sym (told.joined g) ∙ joined-here h st (answer.Refused r) g at) was)
+      (sym (told.joined g) ∙ joined-here h st (Answer.Refused r) g at) was)
       refl
       (λ s c k cs ks.
       b.is.works_are s c k cs ks

@@ -6,8 +6,7 @@ use Rattle.lb_history.specs.Refused.{TellsAlike}
 use Rattle.lb_world.specs.Stands.{IsFounded, OnSite}
 use Rattle.lb_joined.specs.Stands as stands
 use Rattle.lb_joined.specs.JoinedHistory as joined
-use Rattle.lb_history.specs.declared.answer.Answer.TheVariants as answer
-use Rattle.lb_world.proofs.Words.{◌&&◌, ◌==◌, ◌∙◌, ◌≤◌, ◌∷◌, ◌<◌, ◌≡◌, [], Answer, Answers, ap, ap2, arith, Before, Bool, cases_eq, cond}
+use Rattle.lb_world.proofs.Words.{◌≡◌, ◌&&◌, ◌∙◌, ◌==◌, ◌<◌, ◌≤◌, ◌∷◌, [], Answer, Answers, ap, ap2, arith, Before, Bool, cases_eq, cond}
 use Rattle.lb_world.proofs.Words.{entered_of, entries, EntryIs, EntryNext, EntryValue, false, gate, gates, GateView, group_at, group_events}
 use Rattle.lb_world.proofs.Words.{held_of, HeldValue, History, inl, inr, is_at, is_out, IsOwnReader, IsRegistryAfter, IsRun, joined_events}
 use Rattle.lb_world.proofs.Words.{key_at, key_gives, key_in, length, length-set, List, load_of, Made, made, made_at, made_of, map, Meaning}
@@ -47,7 +46,7 @@ module _ {C : Type 0} where
 
   loads-else : (h : History C) (st : Step C) (a : Answer) (g i : ℕ) (b : Member) → group_at h st ≡ Some g → ¬ (i ≡ g)
       → load_of i b ((st, a) ∷ h) ≡ load_of i b h
-  loads-else h (Step.load x (Some c) l) answer.Done g i b at off =
+  loads-else h (Step.load x (Some c) l) Answer.Done g i b at off =
       ap (λ (t : Bool). cond t l (load_of i b h)) (beside x i (same_member c b) (λ p. off (p ∙ same_Some x g at)))
   loads-else h (Step.load x (Some c) l) a g i b at off = refl
   loads-else h (Step.load x None l) a g i b at off = refl
@@ -114,9 +113,9 @@ founded-by {C = C} {M = M} {st = st} {a = a} same was then_ =
 
 module _ {C : Type 0} {M : Meaning C} {w : WorldValue C} {h : History C} (s : Stands M w h) where
   -- a right refusal, of a world that stays as it is
-  pub world-refused : (st : Step C) (r : Refusal) → Answers M h st (answer.Refused r) → Stands M w ((st, answer.Refused r) ∷ h)
+  pub world-refused : (st : Step C) (r : Refusal) → Answers M h st (Answer.Refused r) → Stands M w ((st, Answer.Refused r) ∷ h)
   world-refused st r right =
-      stands-alike h ((st, answer.Refused r) ∷ h) (alike-sym ((st, answer.Refused r) ∷ h) h (refused-alike h st r)) M w (s.run, right) s
+      stands-alike h ((st, Answer.Refused r) ∷ h) (alike-sym ((st, Answer.Refused r) ∷ h) h (refused-alike h st r)) M w (s.run, right) s
 
   -- a table that isn't so long
   pub no-registry : (r : ℕ) → length w.registries ≤ r → slice_get (registries h) r ≡ None

@@ -1,7 +1,5 @@
 -- What is held built is the last job, so it is awaited.
-use Rattle.lb_select.specs.declared.refusal.Refusal.TheVariants as refusal
-use Rattle.lb_history.specs.History as works
-use Rattle.lb_world.proofs.Words.{◌∙◌, ◌<◌, ◌≤◌, ap, arith, inl, length, meaning_of, past, refl, Some, Step}
+use Rattle.lb_world.proofs.Words.{◌∙◌, ◌≤◌, ◌<◌, ap, arith, inl, length, meaning_of, past, refl, Refusal, Some, Step, Work}
 use Rattle.lb_world.proofs.Places.{at-place}
 use Rattle.lb_world.proofs.Entries.{itself, next-refused}
 use Rattle.lb_world.proofs.Tasks.{beyond, does-publish, holds, next-same, own-task, unawaited, unbuilt}
@@ -12,7 +10,7 @@ returns-then-slot-len g c =
     rw (← c.self.view_is)
     (λ z v h n b.
     let past : length c.self.inside.works.items ≤ c.args.slot = omega arith in
-    next-refused b (Step.publish n c.args.slot) refusal.NoSuch refl (inl (beyond b.is c.args.slot _ past)) (itself _) b.is.core_is)
+    next-refused b (Step.publish n c.args.slot) Refusal.NoSuch refl (inl (beyond b.is c.args.slot _ past)) (itself _) b.is.core_is)
 
 pub returns-in_default : goal.returns-in_default
 returns-in_default g c =
@@ -21,7 +19,7 @@ returns-in_default g c =
     let within : c.args.slot < length c.self.inside.works.items = omega arith in
     let at = at-place c.self.inside.works.items c.args.slot _ within c.index_mut-place.ensures.value in
     next-same b c.args.slot at c.in_default.ensures.1
-    (next-refused b (Step.publish n c.args.slot) refusal.NothingBuilt refl
+    (next-refused b (Step.publish n c.args.slot) Refusal.NothingBuilt refl
     (inl (unbuilt b.is c.args.slot _ _ at c.in_default.ensures.0)) (itself _) b.is.core_is))
 
 pub publish-requires : goal.publish-requires
@@ -29,7 +27,7 @@ publish-requires g c =
     let own = rw (← c.self.view_is) at c.requires.stands.is in
     let within : c.args.slot < length c.self.inside.works.items = omega arith in
     let at = at-place c.self.inside.works.items c.args.slot _ within c.index_mut-place.ensures.value ∙ ap Some c.in-Some.ensures.0 in
-    let its = own-task own (holds own c.in-Some.built.task (works.built c.in-Some.built.ended) at refl) in
+    let its = own-task own (holds own c.in-Some.built.task (Work.built c.in-Some.built.ended) at refl) in
     record { own = its.0; permit = its.1; config = its.2 }
 
 pub unreachable-requires : goal.unreachable-requires
@@ -37,7 +35,7 @@ unreachable-requires g c =
     let own = rw (← c.self.view_is) at c.requires.stands.is in
     let within : c.args.slot < length c.self.inside.works.items = omega arith in
     let at = at-place c.self.inside.works.items c.args.slot _ within c.index_mut-place.ensures.value ∙ ap Some c.in-Some.ensures.0 in
-    unawaited own (holds own c.in-Some.built.task (works.built c.in-Some.built.ended) at refl) (meaning_of g.S.BackendSelection)
+    unawaited own (holds own c.in-Some.built.task (Work.built c.in-Some.built.ended) at refl) (meaning_of g.S.BackendSelection)
     c.requires.stands.run refl
     (c.in-Err.ensures.answers _ _ own.core_is).0
 
@@ -48,5 +46,5 @@ returns g c =
     let within : c.args.slot < length c.self.inside.works.items = omega arith in
     let at = at-place c.self.inside.works.items c.args.slot _ within c.index_mut-place.ensures.value ∙ ap Some c.in-Some.ensures.0 in
     rw (c.answer_to.ensures, c.in-Some.ensures.1)
-    (does-publish b (holds b.is c.in-Some.built.task (works.built c.in-Some.built.ended) at refl) c.in-Ok.told at c.publish.ensures.site
+    (does-publish b (holds b.is c.in-Some.built.task (Work.built c.in-Some.built.ended) at refl) c.in-Ok.told at c.publish.ensures.site
     (c.in-Ok.ensures.stands _ _ b.is.core_is) (c.in-Ok.ensures.answers _ _ b.is.core_is).1))

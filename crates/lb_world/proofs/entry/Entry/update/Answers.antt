@@ -1,6 +1,5 @@
 -- Why it is refused, and what the core's call does, as the history tells it.
-use Rattle.lb_select.specs.declared.refusal.Refusal.TheVariants as refusal
-use Rattle.lb_world.proofs.Words.{◌∙◌, ap, Err, refl, settings_in, Step, sym}
+use Rattle.lb_world.proofs.Words.{◌∙◌, ap, Err, refl, Refusal, settings_in, Step, sym}
 use Rattle.lb_world.proofs.Places.{there}
 use Rattle.lb_world.proofs.Entries.{itself, next-refused}
 use Rattle.lb_world.proofs.Updates.{cause-right, counted-right, does-refuse, does-update, uncounted-right}
@@ -44,7 +43,7 @@ returns-then-lacks_numbers g c =
     rw (← c.self.view_is)
     (λ z h n b.
     let st = Step.update n c.args.now c.args.listings.items in
-    next-refused b st refusal.NumbersExhausted refl
+    next-refused b st Refusal.NumbersExhausted refl
     (counted-right b c.args.now c.args.listings.items c.requires.whole _
     (sym (rw c.deref.ensures.value at ((rw (← c.self.view_is) at c.refusal.ensures) _ _ b.is.core_is)) ∙ c.in_default.is)
     (λ there. rw c.deref-2.ensures.value at ((rw (← c.self.view_is) at c.lacks_numbers.ensures) _ _ b.kept there _ _ b.is.core_is))
@@ -55,7 +54,7 @@ returns-in_default-settings_from g c =
     rw (← c.self.view_is)
     (λ z h n b.
     let st = Step.update n c.args.now c.args.listings.items in
-    next-refused b st refusal.OutOfMemory refl
+    next-refused b st Refusal.OutOfMemory refl
     (uncounted-right b c.args.now c.args.listings.items c.requires.whole _
     (sym (rw c.deref.ensures.value at ((rw (← c.self.view_is) at c.refusal.ensures) _ _ b.is.core_is)) ∙ c.in_default.is)
     (λ there. rw c.deref-2.ensures.value at ((rw (← c.self.view_is) at c.lacks_numbers.ensures) _ _ b.kept there _ _ b.is.core_is))
@@ -66,7 +65,7 @@ returns-in_default-members_from g c =
     rw (← c.self.view_is)
     (λ z h n b.
     let st = Step.update n c.args.now c.args.listings.items in
-    next-refused b st refusal.OutOfMemory refl
+    next-refused b st Refusal.OutOfMemory refl
     (uncounted-right b c.args.now c.args.listings.items c.requires.whole _
     (sym (rw c.deref.ensures.value at ((rw (← c.self.view_is) at c.refusal.ensures) _ _ b.is.core_is)) ∙ c.in_default.is)
     (λ there. rw c.deref-2.ensures.value at ((rw (← c.self.view_is) at c.lacks_numbers.ensures) _ _ b.kept there _ _ b.is.core_is))

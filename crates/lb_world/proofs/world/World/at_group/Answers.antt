@@ -2,19 +2,18 @@
 use Rattle.lb_world.specs.Locals.{IsWhole, local_seen}
 use Rattle.lb_world.specs.Stands.{Does}
 use Rattle.lb_world.specs.declared.local.Local.{Local}
-use Rattle.lb_history.specs.declared.answer.Answer.TheVariants as answer
-use Rattle.lb_select.specs.declared.refusal.Refusal.TheVariants as refusal
 use Rattle.lb_world.specs.declared.local.Local.TheVariants as is
-use Rattle.lb_world.proofs.Words.{◌≡◌, ◌≤◌, ◌∷◌, ◌∙◌, ◌<◌, Answer, Answers, ap, arith, entries, EntryValue, gates, GateView, group_at}
-use Rattle.lb_world.proofs.Words.{History, inl, length, made_at, Meaning, meaning_of, None, Origin, past, refl, registries, RegistryValue}
-use Rattle.lb_world.proofs.Words.{same_Some, slice_get, slice_get_within, slice_set, Some, Stands, sym, WorldRule, WorldValue, ℕ}
+use Rattle.lb_world.proofs.Words.{◌∷◌, ◌∙◌, ◌<◌, ◌≤◌, ◌≡◌, Answer, Answers, ap, arith, entries, EntryValue, gates, GateView, group_at}
+use Rattle.lb_world.proofs.Words.{History, inl, length, made_at, Meaning, meaning_of, None, Origin, past, refl, Refusal, registries}
+use Rattle.lb_world.proofs.Words.{RegistryValue, same_Some, slice_get, slice_get_within, slice_set, Some, Stands, sym, WorldRule}
+use Rattle.lb_world.proofs.Words.{WorldValue, ℕ}
 use Rattle.lb_world.proofs.Places.{at-place}
 use Rattle.lb_world.proofs.Tables.{before, founded-by, no-group, own-kept, world-moves, world-refused}
 use Rattle.lb_world.proofs.world.World.at_group.Goals as goal
 
 -- no such group
 absent-right : {C : Type 0} (M : Meaning C) (h : History C) (g : ℕ) (l : Local) → made_at g h ≡ None → IsWhole l
-    → Answers M h (local_seen g l) (answer.Refused refusal.NoSuch)
+    → Answers M h (local_seen g l) (Answer.Refused Refusal.NoSuch)
 absent-right M h g (is.Update now listings) none whole = inl (rw (whole, none) refl)
 absent-right M h g (is.Select s key limit words) none whole = rw none refl
 absent-right M h g l none whole = inl (rw none refl)
@@ -48,7 +47,7 @@ returns-then-group-len g c =
     rw (← c.self.view_is)
     (λ h s.
     let past : length c.self.inside.groups.items ≤ c.args.group = omega arith in
-    world-refused s (local_seen c.args.group c.args.local) refusal.NoSuch
+    world-refused s (local_seen c.args.group c.args.local) Refusal.NoSuch
     (absent-right (meaning_of g.S.BackendSelection) h c.args.group c.args.local (no-group s c.args.group past) c.requires))
 
 pub index_mut-gate-requires : goal.index_mut-gate-requires

@@ -1,7 +1,6 @@
 -- The group's core lets the reader enter; the reader's number is that of its place.
-use Rattle.lb_select.specs.declared.refusal.Refusal.TheVariants as refusal
-use Rattle.lb_world.proofs.Words.{if◌then◌else◌, ◌≡◌, ◌≤◌, ◌∷◌, ◌∙◌, ◌<◌, ◌++◌, [], ap, arith, HeldValue, inl, inr, length, List, Option}
-use Rattle.lb_world.proofs.Words.{past, refl, Some, Step}
+use Rattle.lb_world.proofs.Words.{if◌then◌else◌, ◌∷◌, ◌∙◌, ◌<◌, ◌≤◌, ◌++◌, ◌≡◌, [], ap, arith, HeldValue, inl, inr, length, List, Option}
+use Rattle.lb_world.proofs.Words.{past, refl, Refusal, Some, Step}
 use Rattle.lb_world.proofs.Places.{at-place}
 use Rattle.lb_world.proofs.Tables.{founded-by, no-group, world-refused}
 use Rattle.lb_world.proofs.Readers.{enter-absent, enter-full, enter-memory, entered-now, refused-now}
@@ -13,7 +12,7 @@ returns-then-group-len g c =
     rw (← c.self.view_is)
     (λ h s.
     let past : length c.self.inside.groups.items ≤ c.args.group = omega arith in
-    world-refused s (Step.enter c.args.group c.args.slot) refusal.NoSuch (inl (rw (no-group s c.args.group past) refl)))
+    world-refused s (Step.enter c.args.group c.args.slot) Refusal.NoSuch (inl (rw (no-group s c.args.group past) refl)))
 
 pub returns-in_default : goal.returns-in_default
 returns-in_default g c =

@@ -1,7 +1,6 @@
 -- Where no cause stands, the entry that is new joins the groups, over its registry and its gate.
-use Rattle.lb_select.specs.declared.refusal.Refusal.TheVariants as refusal
-use Rattle.lb_world.proofs.Words.{◌^◌, ◌≡◌, ◌↔◌, ◌≤◌, ◌∙◌, ◌<◌, ap, arith, Bool, Event, false, false≢true, inl, inr, IsRegistryAfter}
-use Rattle.lb_world.proofs.Words.{IsTrue, key_gives, leb_tells, length, List, Member, refl, sym, ℕ}
+use Rattle.lb_world.proofs.Words.{◌↔◌, ◌∙◌, ◌<◌, ◌≤◌, ◌≡◌, ◌^◌, ap, arith, Bool, Event, false, false≢true, inl, inr, IsRegistryAfter}
+use Rattle.lb_world.proofs.Words.{IsTrue, key_gives, leb_tells, length, List, Member, refl, Refusal, sym, ℕ}
 use Rattle.lb_world.proofs.Places.{at-place}
 use Rattle.lb_world.proofs.Tables.{founded-by}
 use Rattle.lb_world.proofs.Registries.{refused-so}
@@ -36,7 +35,7 @@ returns-in_default-reserve g c =
     let left = λ (k : Member → Member) (es : List Event) (now : IsRegistryAfter key_gives k es c.index_mut-registry.result.now).
     not-full _ _ (c.is_full.ensures k es now) c.if-is_full.false in
     rw (← c.self.view_is, c.reserve.ensures.items)
-    (λ h s. group-lacks s c.args.registry c.args.gate c.args.configs.items at free.1 free.2 left refusal.OutOfMemory _ (λ k es now. refl)
+    (λ h s. group-lacks s c.args.registry c.args.gate c.args.configs.items at free.1 free.2 left Refusal.OutOfMemory _ (λ k es now. refl)
     (λ k es now. now))
 
 pub returns-in-Ok-new : goal.returns-in-Ok-new

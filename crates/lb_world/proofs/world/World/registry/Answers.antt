@@ -1,6 +1,5 @@
 -- A registry that is new has the events with which it starts; the others stay as they were.
-use Rattle.lb_select.specs.declared.refusal.Refusal.TheVariants as refusal
-use Rattle.lb_world.proofs.Words.{◌≡◌, arith, inr, length, refl, Step}
+use Rattle.lb_world.proofs.Words.{◌≡◌, arith, inr, length, refl, Refusal, Step}
 use Rattle.lb_world.proofs.Tables.{founded-by, world-refused}
 use Rattle.lb_world.proofs.Registries.{registry-made}
 use Rattle.lb_world.proofs.world.World.registry.Goals as goal
@@ -8,7 +7,7 @@ use Rattle.lb_world.proofs.world.World.registry.Goals as goal
 pub returns-in_default : goal.returns-in_default
 returns-in_default g c =
     rw (← c.self.view_is, c.in_default.ensures.items)
-    (λ h s. world-refused s (Step.registry c.args.rule c.args.healthy) refusal.OutOfMemory (inr refl))
+    (λ h s. world-refused s (Step.registry c.args.rule c.args.healthy) Refusal.OutOfMemory (inr refl))
 
 pub returns : goal.returns
 returns g c =

@@ -1,6 +1,5 @@
 -- The registry's own targets, at the registry that the step names.
-use Rattle.lb_select.specs.declared.refusal.Refusal.TheVariants as refusal
-use Rattle.lb_world.proofs.Words.{◌<◌, ◌≤◌, ap, arith, Err, inl, length, past, refl, Step}
+use Rattle.lb_world.proofs.Words.{◌≤◌, ◌<◌, ap, arith, Err, inl, length, past, refl, Refusal, Step}
 use Rattle.lb_world.proofs.Places.{at-place}
 use Rattle.lb_world.proofs.Tables.{founded-by, no-registry, world-refused}
 use Rattle.lb_world.proofs.Registries.{growth-told, targets-next, targets-refused}
@@ -12,7 +11,7 @@ returns-then-registry-len g c =
     rw (← c.self.view_is)
     (λ h s.
     let past : length c.self.inside.registries.items ≤ c.args.registry = omega arith in
-    world-refused s (Step.targets c.args.registry) refusal.NoSuch (inl (rw (no-registry s c.args.registry past) refl)))
+    world-refused s (Step.targets c.args.registry) Refusal.NoSuch (inl (rw (no-registry s c.args.registry past) refl)))
 
 pub returns : goal.returns
 returns g c =

@@ -1,6 +1,5 @@
 -- The registry's own verdict, at the registry that the step names.
-use Rattle.lb_select.specs.declared.refusal.Refusal.TheVariants as refusal
-use Rattle.lb_world.proofs.Words.{◌<◌, ◌≤◌, arith, false≢true, length, past, refl, Step}
+use Rattle.lb_world.proofs.Words.{◌≤◌, ◌<◌, arith, false≢true, length, past, refl, Refusal, Step}
 use Rattle.lb_world.proofs.Places.{at-place}
 use Rattle.lb_world.proofs.Tables.{founded-by, no-registry, world-refused}
 use Rattle.lb_world.proofs.Registries.{refused-so, verdict-next, verdict-refused}
@@ -12,7 +11,7 @@ returns-then-registry-len g c =
     rw (← c.self.view_is)
     (λ h s.
     let past : length c.self.inside.registries.items ≤ c.args.registry = omega arith in
-    world-refused s (Step.verdict c.args.registry c.args.cell c.args.ok c.args.threshold) refusal.NoSuch
+    world-refused s (Step.verdict c.args.registry c.args.cell c.args.ok c.args.threshold) Refusal.NoSuch
     (rw (no-registry s c.args.registry past) refl))
 
 pub returns : goal.returns
