@@ -7,17 +7,18 @@ use Rattle.lb_history.specs.History.{over}
 use Rattle.lb_select.specs.Refusals.{memory_apart, refusal_number}
 use Rattle.lb_world.specs.Calls.{IsNewEntry}
 use Rattle.lb_world.specs.Views.{nothing}
+use Rattle.std.proofs.Common.{get_or}
 use Rattle.std.proofs.lemmas.List.{length-replicate}
 use Rattle.lb_registry.specs.RegistryEvents as registry
-use Rattle.lb_world.proofs.Words.{◌≡◌, ◌&&◌, ◌∙◌, ◌^◌, ◌<◌, ◌≤◌, ◌∷◌, ◌++◌, ◌+◌, [], absent, after, and_parts, Answer, answer_after, ap}
-use Rattle.lb_world.proofs.Words.{ap2, arith, Bool, cond, configs_of, earlier, EntryIs, EntryValue, eq-eqb, Event, false, gate, GateId}
-use Rattle.lb_world.proofs.Words.{GateView, held_of, History, in_tables, inl, inr, IsRegistryAfter, IsRun, key_at, key_gives, key_of}
-use Rattle.lb_world.proofs.Words.{le-leb, least, length, length-set, length_push, List, load_of, lt-ltb, ltb-true, made, made_at, made_of}
-use Rattle.lb_world.proofs.Words.{map, marks_start_none, Meaning, Member, nat_le, nat_lt, ne_eqb, no_number, no_such, None, none-some}
-use Rattle.lb_world.proofs.Words.{numbered, Option, origin, past, refl, Refusal, registries, registry_events, RegistryValue, slice_get}
-use Rattle.lb_world.proofs.Words.{slice_get_past, slice_get_within, slice_set, Some, Stands, Step, sym, true, unless_refused, where_}
-use Rattle.lb_world.proofs.Words.{without_memory, WorkValue, WorldRule, WorldValue, ℕ}
-use Rattle.lb_world.proofs.Places.{each-push, each-set, get_kept, get_last, get_push, get_replicate}
+use Rattle.lb_world.proofs.Words.{◌+◌, ◌∙◌, ◌++◌, ◌^◌, ◌<◌, ◌∷◌, ◌&&◌, ◌≤◌, ◌↔◌, ◌≡◌, [], absent, after, and_parts, Answer, answer_after}
+use Rattle.lb_world.proofs.Words.{ap, ap2, arith, Bool, cond, configs_of, earlier, EntryIs, EntryValue, eq-eqb, Event, false, false≢true}
+use Rattle.lb_world.proofs.Words.{gate, GateId, GateView, held_of, History, in_tables, inl, inr, IsRegistryAfter, IsRun, IsTrue, key_at}
+use Rattle.lb_world.proofs.Words.{key_gives, key_of, le-leb, least, leb_tells, length, length-set, length_push, List, load_of, lt-ltb}
+use Rattle.lb_world.proofs.Words.{ltb-true, made, made_at, made_of, map, marks_start_none, Meaning, Member, nat_le, nat_lt, ne_eqb}
+use Rattle.lb_world.proofs.Words.{no_number, no_such, None, none-some, numbered, Option, origin, past, refl, Refusal, registries}
+use Rattle.lb_world.proofs.Words.{registry_events, RegistryValue, slice_get, slice_get_past, slice_get_within, slice_set, Some, Stands}
+use Rattle.lb_world.proofs.Words.{Step, sym, true, unless_refused, where_, without_memory, WorkValue, WorldRule, WorldValue, ℕ}
+use Rattle.lb_world.proofs.Places.{at-place, each-push, each-set, get_kept, get_last, get_push, get_replicate}
 use Rattle.lb_world.proofs.Tables.{entry-moves, registry-lent, world-refused}
 use Rattle.lb_world.proofs.Registries.{number-left}
 use Rattle.lb_world.proofs.Readers.{group-there}
@@ -26,6 +27,10 @@ use Rattle.lb_world.proofs.Readers.{group-there}
 last-of : (e : Refusal) → nat_lt 17 (refusal_number e) ≡ false
 last-of Refusal.InvalidAddress = refl
 last-of e = refl
+
+-- a registry that is not full has a number left
+not-full : (b : Bool) (n : ℕ) → (IsTrue b ↔ (2 ^ 64 ≤ n)) → b ≡ false → n < 2 ^ 64
+not-full b n told is = elim (leb_tells (2 ^ 64) n) [ inl t ↦ absurd (false≢true (sym is ∙ told.1 t.1)) | inr t ↦ t.1 ]
 
 -- so another cause goes before it
 stays : (e : Refusal) (b c : Bool)
@@ -131,7 +136,7 @@ module _ {C : Type 0} {M : Meaning C} {w : WorldValue C} {h : History C} (s : St
       (earlier (memory_apart least-cause) (earlier (no_number given) (no_number cells)))) (sym s.registries_are) (sym s.gates_are) ∙ is)
 
   -- no cause stands: registry and gate are there
-  pub none-stands : earlier (no_such (in_tables w r a)) least-cause ≡ None
+  none-stands : earlier (no_such (in_tables w r a)) least-cause ≡ None
       → (r < length w.registries) × (a < length w.gates) × (least-cause ≡ None)
   none-stands none =
       let both = no-cause (no_such (in_tables w r a)) least-cause none in
@@ -146,16 +151,21 @@ module _ {C : Type 0} {M : Meaning C} {w : WorldValue C} {h : History C} (s : St
       (first-cause (no_such (in_tables w r a)) (memory_apart least-cause) (nat_le (2 ^ 64) given) (nat_le (2 ^ 64) cells) e
       (ap (earlier (no_such (in_tables w r a))) (least-apart (map (M.refusal []) cs)) ∙ is)))))
 
-  -- registry and gate are there, and each selector can be built
-  module _ {u : RegistryValue WorldRule} (in_ : slice_get w.registries r ≡ Some u) (at : a < length w.gates) (none : least-cause ≡ None)
+  -- no cause stands, and the registry was read
+  module _ {u : RegistryValue WorldRule} (none : earlier (no_such (in_tables w r a)) least-cause ≡ None)
+      (read : u ≡ get_or w.registries r u)
     where
+      in_ : slice_get w.registries r ≡ Some u
+      in_ = at-place w.registries r u (none-stands none).0 read
+
       told-then : (o : Option Refusal) → earlier (no_number given) (no_number cells) ≡ o
           → answer_after M h (Step.group r a cs) ≡ unless_refused o (Answer.Group (length (made h)))
       told-then o is =
           told-so o
           (ap2 (λ (b : Bool) (x : Option Refusal). earlier (no_such b) (earlier (memory_apart x)
           (earlier (no_number given) (no_number cells))))
-          (ap2 ◌&&◌ (lt-ltb r (length w.registries) (slice_get_within w.registries r u in_)) (lt-ltb a (length w.gates) at)) none ∙ is)
+          (ap2 ◌&&◌ (lt-ltb r (length w.registries) (none-stands none).0) (lt-ltb a (length w.gates) (none-stands none).1))
+          (none-stands none).2 ∙ is)
 
       -- a number of a cell is left, since marks that are applied start no cell
       cells-fit : cells < 2 ^ 64
@@ -176,31 +186,41 @@ module _ {C : Type 0} {M : Meaning C} {w : WorldValue C} {h : History C} (s : St
           ∙ lacks-first (nat_le (2 ^ 64) cells))))) in
           registry-lent refused r u u in_ (refused.kept r u in_)
 
-      module _ (left : (key_of : Member → Member) (events : List Event) → IsRegistryAfter key_gives key_of events u
-          → registry.registered_after events + 1 < 2 ^ 64) where
+      -- it was told not to be full
+      module _ {full : Bool} (tells : (key_of : Member → Member) (events : List Event) → IsRegistryAfter key_gives key_of events u
+          → (IsTrue full ↔ (2 ^ 64 ≤ registry.registered_after events + 1))) (room : full ≡ false) where
+        left : (key_of : Member → Member) (events : List Event) → IsRegistryAfter key_gives key_of events u
+            → registry.registered_after events + 1 < 2 ^ 64
+        left key_of events now = not-full full _ (tells key_of events now) room
+
         fits : answer_after M h (Step.group r a cs) ≡ Answer.Group (length (made h))
         fits =
             told-then None
             (ap2 earlier (number-left given (left _ _ (s.kept r u in_))) (number-left cells cells-fit))
 
         pub group-lacks : (e : Refusal) (v : RegistryValue WorldRule)
-            → ((key_of : Member → Member) (events : List Event) → IsRegistryAfter key_gives key_of events u → e ≡ Refusal.OutOfMemory)
+            → ((key_of : Member → Member) (events : List Event) → IsRegistryAfter key_gives key_of events u
+            → registry.registered_after events + 1 < 2 ^ 64 → e ≡ Refusal.OutOfMemory)
             → ((key_of : Member → Member) (events : List Event) → IsRegistryAfter key_gives key_of events u
             → IsRegistryAfter key_gives key_of events v)
             → Stands M (record w { registries = slice_set w.registries r v }) ((Step.group r a cs, Answer.Refused e) ∷ h)
         group-lacks e v memory after =
+            let now = s.kept r u in_ in
             let refused =
             world-refused s (Step.group r a cs) e
-            (inr (ap Answer.Refused (memory _ _ (s.kept r u in_)) ∙ sym (ap (without_memory {C = C} (Step.group r a cs)) fits))) in
+            (inr (ap Answer.Refused (memory _ _ now (left _ _ now)) ∙ sym (ap (without_memory {C = C} (Step.group r a cs)) fits))) in
             registry-lent refused r u v in_ (after _ _ (refused.kept r u in_))
 
         pub group-made : (n : ℕ) (z : GateView) (v : RegistryValue WorldRule) (e : EntryValue C) → n ≡ length w.groups
-            → slice_get w.gates a ≡ Some z
-            → IsNewEntry r a z.id cs given e
-            → IsRegistryAfter key_gives (key_at r h) (registry.Applied ∷ registry.Registered ∷ registry_events r h) v
+            → z ≡ get_or w.gates a z
+            → ((key_of : Member → Member) (events : List Event) → IsRegistryAfter key_gives key_of events u
+            → IsNewEntry r a z.id cs (registry.registered_after events + 1) e
+            × IsRegistryAfter key_gives key_of (registry.Applied ∷ registry.Registered ∷ events) v)
             → Stands M (record w { registries = slice_set w.registries r v; groups = w.groups ++ e ∷ [] })
             ((Step.group r a cs, Answer.Group n) ∷ h)
-        group-made n z v e number gate-there new now =
+        group-made n z v e number gate-read makes =
+            let new = (makes _ _ (s.kept r u in_)).0 in
+            let now = (makes _ _ (s.kept r u in_)).1 in
             let k : History C = (Step.group r a cs, Answer.Group n) ∷ h in
             let within : r < length (registries h) = omega (arith, slice_get_within w.registries r u in_, s.registries_are) in
             let more : length (slice_set w.registries r v) ≡ length w.registries = length-set w.registries r v in
@@ -223,7 +243,7 @@ module _ {C : Type 0} {M : Meaning C} {w : WorldValue C} {h : History C} (s : St
                   each-push w.groups e
                   (record {
                     view = z;
-                    gate = ap (slice_get w.gates) new.gate_is ∙ gate-there;
+                    gate = ap (slice_get w.gates) new.gate_is ∙ at-place w.gates a z (none-stands none).1 gate-read;
                     id = sym new.id_is;
                     registry = omega (arith, new.registry_is, within, more, s.registries_are);
                   })

@@ -12,7 +12,7 @@ use Rattle.std.proofs.lemmas.Option.{slice_get-map}
 use Rattle.lb_joined.specs.Stands as stands
 use Rattle.lb_group.specs.GroupHistory as group
 use Rattle.lb_joined.specs.JoinedHistory as joined
-use Rattle.lb_world.proofs.Words.{◌↔◌, ◌≡◌, ◌&&◌, ◌∙◌, ◌==◌, ◌⊎◌, ◌<◌, ◌≤◌, ◌∷◌, ◌||◌, ◌++◌, [], Answer, answer_after, Answers, ap, ap2}
+use Rattle.lb_world.proofs.Words.{◌∙◌, ◌++◌, ◌||◌, ◌==◌, ◌<◌, ◌∷◌, ◌&&◌, ◌≤◌, ◌↔◌, ◌⊎◌, ◌≡◌, [], Answer, answer_after, Answers, ap, ap2}
 use Rattle.lb_world.proofs.Words.{arith, at_one, at_slot, Bool, cond, cond_some, config, config_in, configs_of, entered_of, entries}
 use Rattle.lb_world.proofs.Words.{EntryNext, EntryValue, Err, Event, false, group-of, group_at, HeldValue, History, inl, inr, IsOwnReader}
 use Rattle.lb_world.proofs.Words.{IsReady, IsRegistryAfter, IsRun, IsTrue, joined_events, Judges, key_at, key_gives, key_of, length}

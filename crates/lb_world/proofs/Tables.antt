@@ -6,7 +6,7 @@ use Rattle.lb_history.specs.Refused.{TellsAlike}
 use Rattle.lb_world.specs.Stands.{IsFounded, OnSite}
 use Rattle.lb_joined.specs.Stands as stands
 use Rattle.lb_joined.specs.JoinedHistory as joined
-use Rattle.lb_world.proofs.Words.{◌≡◌, ◌&&◌, ◌∙◌, ◌==◌, ◌<◌, ◌≤◌, ◌∷◌, [], Answer, Answers, ap, ap2, arith, Before, Bool, cases_eq, cond}
+use Rattle.lb_world.proofs.Words.{◌∙◌, ◌==◌, ◌<◌, ◌∷◌, ◌&&◌, ◌≤◌, ◌≡◌, [], Answer, Answers, ap, ap2, arith, Before, Bool, cases_eq, cond}
 use Rattle.lb_world.proofs.Words.{entered_of, entries, EntryIs, EntryNext, EntryValue, false, gate, gates, GateView, group_at, group_events}
 use Rattle.lb_world.proofs.Words.{held_of, HeldValue, History, inl, inr, is_at, is_out, IsOwnReader, IsRegistryAfter, IsRun, joined_events}
 use Rattle.lb_world.proofs.Words.{key_at, key_gives, key_in, length, length-set, List, load_of, Made, made, made_at, made_of, map, Meaning}

@@ -16,7 +16,7 @@ use Rattle.lb_joined.specs.Stands as stands
 use Rattle.lb_group.specs.GroupHistory as group
 use Rattle.lb_joined.specs.JoinedHistory as joined
 use Rattle.lb_registry.specs.RegistryEvents as registry
-use Rattle.lb_world.proofs.Words.{◌↔◌, ◌≡◌, ◌&&◌, ◌∙◌, ◌==◌, ◌^◌, ◌≤◌, ◌∷◌, ◌+◌, absent, Answer, answer_after, Answers, ap, ap2, at_one}
+use Rattle.lb_world.proofs.Words.{◌+◌, ◌∙◌, ◌^◌, ◌==◌, ◌∷◌, ◌&&◌, ◌≤◌, ◌↔◌, ◌≡◌, absent, Answer, answer_after, Answers, ap, ap2, at_one}
 use Rattle.lb_world.proofs.Words.{Before, Bool, changed, cond, earlier, EntryNext, EntryValue, Err, events_in, false, GateView, group-of}
 use Rattle.lb_world.proofs.Words.{group_events, has_refused, History, inl, inr, IsRegistryAfter, IsTrue, joined_after, joined_events}
 use Rattle.lb_world.proofs.Words.{JoinedValue, key_gives, key_of, le-leb, leb_tells, List, Listing, Made, made_at, made_of, Meaning}
@@ -174,8 +174,9 @@ module _ {C : Type 0} {M : Meaning C} {h : History C} {g : ℕ} {e : EntryValue 
       → stands.Stands (site e.core) (joined_events g h) core
       → IsRegistryAfter key_gives (key_of g h) (registry_events e.registry h) u
       → EntryNext M h g st (Answer.Refused r) e z (with_core core e) z u
-  does-refuse r why unknown numbers lacking same was kept =
-      next-refused (record { run = b.run; is = b.is; out = b.out; kept = kept }) st r refl right same was
+  does-refuse r {u = u} why unknown numbers lacking same was kept =
+      let lent : Before M h g e z u = record { run = b.run; is = b.is; out = b.out; kept = kept } in
+      next-refused lent st r refl right same was
     where
       right : Answers M h st (Answer.Refused r)
       right =

@@ -1,5 +1,5 @@
 -- What is held built is the last job, so it is awaited.
-use Rattle.lb_world.proofs.Words.{◌∙◌, ◌≤◌, ◌<◌, ap, arith, inl, length, meaning_of, past, refl, Refusal, Some, Step, Work}
+use Rattle.lb_world.proofs.Words.{◌<◌, ◌∙◌, ◌≤◌, ap, arith, inl, length, meaning_of, past, refl, Refusal, Some, Step, Work}
 use Rattle.lb_world.proofs.Places.{at-place}
 use Rattle.lb_world.proofs.Entries.{itself, next-refused}
 use Rattle.lb_world.proofs.Tasks.{beyond, does-abandon, holds, next-same, own-task, unawaited, unbuilt}

@@ -3,7 +3,7 @@ use Rattle.lb_world.specs.Locals.{IsWhole, local_seen}
 use Rattle.lb_world.specs.Stands.{Does}
 use Rattle.lb_world.specs.declared.local.Local.{Local}
 use Rattle.lb_world.specs.declared.local.Local.TheVariants as is
-use Rattle.lb_world.proofs.Words.{◌∷◌, ◌∙◌, ◌<◌, ◌≤◌, ◌≡◌, Answer, Answers, ap, arith, entries, EntryValue, gates, GateView, group_at}
+use Rattle.lb_world.proofs.Words.{◌≤◌, ◌≡◌, ◌<◌, ◌∷◌, ◌∙◌, Answer, Answers, ap, arith, entries, EntryValue, gates, GateView, group_at}
 use Rattle.lb_world.proofs.Words.{History, inl, length, made_at, Meaning, meaning_of, None, Origin, past, refl, Refusal, registries}
 use Rattle.lb_world.proofs.Words.{RegistryValue, same_Some, slice_get, slice_get_within, slice_set, Some, Stands, sym, WorldRule}
 use Rattle.lb_world.proofs.Words.{WorldValue, ℕ}

@@ -1,5 +1,5 @@
 -- The group's core lets the reader enter; the reader's number is that of its place.
-use Rattle.lb_world.proofs.Words.{if◌then◌else◌, ◌∷◌, ◌∙◌, ◌<◌, ◌≤◌, ◌++◌, ◌≡◌, [], ap, arith, HeldValue, inl, inr, length, List, Option}
+use Rattle.lb_world.proofs.Words.{if◌then◌else◌, ◌≤◌, ◌≡◌, ◌<◌, ◌∷◌, ◌∙◌, ◌++◌, [], ap, arith, HeldValue, inl, inr, length, List, Option}
 use Rattle.lb_world.proofs.Words.{past, refl, Refusal, Some, Step}
 use Rattle.lb_world.proofs.Places.{at-place}
 use Rattle.lb_world.proofs.Tables.{founded-by, no-group, world-refused}

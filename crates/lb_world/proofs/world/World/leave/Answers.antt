@@ -1,5 +1,5 @@
 -- A reader comes back to the group that it entered, whose slot counts it.
-use Rattle.lb_world.proofs.Words.{◌∙◌, ◌≤◌, ◌<◌, ap, arith, length, past, Some, sym}
+use Rattle.lb_world.proofs.Words.{◌<◌, ◌∙◌, ◌≤◌, ap, arith, length, past, Some, sym}
 use Rattle.lb_world.proofs.Places.{at-place}
 use Rattle.lb_world.proofs.Tables.{founded-by}
 use Rattle.lb_world.proofs.Readers.{counted, group-there, leave-gone, leave-nowhere, left-now}
@@ -24,23 +24,15 @@ index_mut-entry-requires g c =
     let reader = at ∙ ap Some (sym (rw c.in-Some.is at c.replace-2.view_is ∙ c.replace.ensures.value)) in
     omega (arith, group-there c.self.invariant.stands c.args.reader _ reader)
 
-pub leave-requires-clause-own : goal.leave-requires-clause-own
-leave-requires-clause-own g c =
+pub leave-requires : goal.leave-requires
+leave-requires g c =
     let within : c.args.reader < length c.self.inside.readers.items = omega arith in
     let at = at-place c.self.inside.readers.items c.args.reader _ within c.index_mut-place.ensures.value in
     let reader = at ∙ ap Some (sym (rw c.in-Some.is at c.replace-2.view_is ∙ c.replace.ensures.value)) in
     let low = group-there c.self.invariant.stands c.args.reader _ reader in
     let in_ = at-place c.self.inside.groups.items _ c.index_mut-entry.result.now low c.index_mut-entry.ensures.value in
-    c.self.invariant.stands.own c.args.reader _ reader _ in_
-
-pub leave-requires-clause-counted : goal.leave-requires-clause-counted
-leave-requires-clause-counted g c =
-    let within : c.args.reader < length c.self.inside.readers.items = omega arith in
-    let at = at-place c.self.inside.readers.items c.args.reader _ within c.index_mut-place.ensures.value in
-    let reader = at ∙ ap Some (sym (rw c.in-Some.is at c.replace-2.view_is ∙ c.replace.ensures.value)) in
-    let low = group-there c.self.invariant.stands c.args.reader _ reader in
-    let in_ = at-place c.self.inside.groups.items _ c.index_mut-entry.result.now low c.index_mut-entry.ensures.value in
-    counted c.self.invariant.stands c.args.reader _ _ reader in_
+    let was = c.self.invariant.stands in
+    record { own = was.own c.args.reader _ reader _ in_; counted = counted was c.args.reader _ _ reader in_ }
 
 pub returns : goal.returns
 returns g c =
