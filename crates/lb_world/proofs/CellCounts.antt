@@ -18,7 +18,7 @@ use Rattle.std.specs.List.{AllByRecursion as Each, IsDistinct}
 use Rattle.std.specs.List.Sorted.{IsStrictlySortedBy}
 use Rattle.std.specs.Ordering.{ordering_reverse}
 use Rattle.std.specs.Set.{distinct_count, is_member, unique_keys}
-use Rattle.lb_world.proofs.Words.{if◌then◌else◌, ◌&&◌, ◌≤◌, ◌+◌, ◌||◌, ◌≡◌, ◌∷◌, ◌∙◌, ◌++◌, [], ap, Applied, arith, Bool, by_address}
+use Rattle.lb_world.proofs.Words.{if◌then◌else◌, ◌∷◌, ◌+◌, ◌∙◌, ◌≡◌, ◌++◌, ◌||◌, ◌≤◌, ◌&&◌, [], ap, Applied, arith, Bool, by_address}
 use Rattle.lb_world.proofs.Words.{by_identity, cells_given, cond, cons_option, Equal, Event, false, fold, Greater, insert_key, is_eq}
 use Rattle.lb_world.proofs.Words.{IsEquivalence, IsRegistryAfter, key_gives, key_of, length, length-map, Less, List, list_any, Listing}
 use Rattle.lb_world.proofs.Words.{lists_key, live, map, match_ordering, Member, member_cmp, members_in, nat_cmp, new_keys, None, not}

@@ -10,7 +10,7 @@ use Rattle.lb_world.specs.Views.{nothing}
 use Rattle.std.proofs.Common.{get_or}
 use Rattle.std.proofs.lemmas.List.{length-replicate}
 use Rattle.lb_registry.specs.RegistryEvents as registry
-use Rattle.lb_world.proofs.Words.{◌+◌, ◌∙◌, ◌++◌, ◌^◌, ◌<◌, ◌∷◌, ◌&&◌, ◌≤◌, ◌↔◌, ◌≡◌, [], absent, after, and_parts, Answer, answer_after}
+use Rattle.lb_world.proofs.Words.{◌+◌, ◌∙◌, ◌↔◌, ◌^◌, ◌++◌, ◌≡◌, ◌&&◌, ◌∷◌, ◌<◌, ◌≤◌, [], absent, after, and_parts, Answer, answer_after}
 use Rattle.lb_world.proofs.Words.{ap, ap2, arith, Bool, cond, configs_of, earlier, EntryIs, EntryValue, eq-eqb, Event, false, false≢true}
 use Rattle.lb_world.proofs.Words.{gate, GateId, GateView, held_of, History, in_tables, inl, inr, IsRegistryAfter, IsRun, IsTrue, key_at}
 use Rattle.lb_world.proofs.Words.{key_gives, key_of, le-leb, least, leb_tells, length, length-set, length_push, List, load_of, lt-ltb}

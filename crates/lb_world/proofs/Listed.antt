@@ -5,7 +5,7 @@ use Rattle.lb_world.specs.Listings.{none_or}
 use Rattle.std.proofs.lemmas.List.Elements.{filter_map-append}
 use Rattle.std.proofs.lemmas.List.Sums.{fold-append}
 use Rattle.std.specs.Prelude.{filter_map}
-use Rattle.lb_world.proofs.Words.{◌&&◌, ◌||◌, ◌≡◌, ◌∷◌, ◌∙◌, ◌++◌, [], ap, bare_member, Bool, cons_option, entries, Equal, fold, Greater}
+use Rattle.lb_world.proofs.Words.{◌∷◌, ◌∙◌, ◌≡◌, ◌++◌, ◌||◌, ◌&&◌, [], ap, bare_member, Bool, cons_option, entries, Equal, fold, Greater}
 use Rattle.lb_world.proofs.Words.{insert_entry, insert_key, Less, List, list_all, list_any, Listing, marked, match_ordering, Member}
 use Rattle.lb_world.proofs.Words.{member_cmp, members_in, None, Option, Ordering, refl, same_member, same_members, set_marked, set_of}
 use Rattle.lb_world.proofs.Words.{settings_in, settings_of, Some, some_and, sym, with_key, ℕ}

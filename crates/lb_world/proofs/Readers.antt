@@ -12,7 +12,7 @@ use Rattle.std.proofs.lemmas.Option.{slice_get-map}
 use Rattle.lb_joined.specs.Stands as stands
 use Rattle.lb_group.specs.GroupHistory as group
 use Rattle.lb_joined.specs.JoinedHistory as joined
-use Rattle.lb_world.proofs.Words.{◌∙◌, ◌++◌, ◌||◌, ◌==◌, ◌<◌, ◌∷◌, ◌&&◌, ◌≤◌, ◌↔◌, ◌⊎◌, ◌≡◌, [], Answer, answer_after, Answers, ap, ap2}
+use Rattle.lb_world.proofs.Words.{◌∙◌, ◌↔◌, ◌||◌, ◌⊎◌, ◌++◌, ◌≡◌, ◌&&◌, ◌∷◌, ◌<◌, ◌==◌, ◌≤◌, [], Answer, answer_after, Answers, ap, ap2}
 use Rattle.lb_world.proofs.Words.{arith, at_one, at_slot, Bool, cond, cond_some, config, config_in, configs_of, entered_of, entries}
 use Rattle.lb_world.proofs.Words.{EntryNext, EntryValue, Err, Event, false, group-of, group_at, HeldValue, History, inl, inr, IsOwnReader}
 use Rattle.lb_world.proofs.Words.{IsReady, IsRegistryAfter, IsRun, IsTrue, joined_events, Judges, key_at, key_gives, key_of, length}
@@ -69,10 +69,14 @@ module _ {C : Type 0} {M : Meaning C} {w : WorldValue C} {h : History C} (s : St
   entered-past t few = slice_get_past (entries h) t (omega (arith, few, entries-count))
 
   module _ (g : ℕ) (e : EntryValue C) (there_ : slice_get w.groups g ≡ Some e) (slot : ℕ) (r : Option ℕ)
-      (to : r ≡ at_slot (site e.core) slot
-      (group.readers (served (past_of slot (joined.group_events (joined_events g h))))
-      (past_of slot (joined.group_events (joined_events g h)))))
+      (told : stands.After e.core (λ made es. r ≡ at_slot made slot
+      (group.readers (served (past_of slot (joined.group_events es))) (past_of slot (joined.group_events es)))))
     where
+      to : r ≡ at_slot (site e.core) slot
+          (group.readers (served (past_of slot (joined.group_events (joined_events g h))))
+          (past_of slot (joined.group_events (joined_events g h))))
+      to = told (site e.core) (joined_events g h) (s.each g e there_).core_is
+
       -- what is answered, by the number of readers that was read
       enter-told : answer_after M h (Step.enter g slot) ≡ at_one r (λ n. enter_answer n (length w.readers) (served (past g slot h)))
       enter-told =

@@ -2,7 +2,7 @@
 use Rattle.std.proofs.Common.{rules}
 use Rattle.std.proofs.Math.Bool.{or_assoc, or_comm}
 use Rattle.std.specs.Cmp.Rules.{comparing}
-use Rattle.lb_world.proofs.Words.{◌&&◌, ◌||◌, ◌≡◌, ◌∷◌, ◌∙◌, [], ap, ap2, Bool, Equal, false, fold, Greater, insert_key, is_eq}
+use Rattle.lb_world.proofs.Words.{◌∷◌, ◌∙◌, ◌≡◌, ◌||◌, ◌&&◌, [], ap, ap2, Bool, Equal, false, fold, Greater, insert_key, is_eq}
 use Rattle.lb_world.proofs.Words.{IsEquivalence, Less, List, list_all, list_any, match_ordering, Member, member_cmp, not, Ordering, refl}
 use Rattle.lb_world.proofs.Words.{same_member, same_members, set_of, sym, true}
 

@@ -20,10 +20,10 @@ use Rattle.lb_group.specs.GroupHistory as group
 use Rattle.lb_joined.specs.JoinedHistory as joined
 use Rattle.lb_joined.specs.JoinedCalls as calls
 use Rattle.lb_history.specs.Answers as answers
-use Rattle.lb_world.proofs.Words.{◌+◌, ◌∙◌, ◌++◌, ◌==◌, ◌∷◌, ◌&&◌, ◌↔◌, ◌≡◌, [], Answer, ap, ap2, At, Before, Bool, cases_eq, changed, cond}
+use Rattle.lb_world.proofs.Words.{◌+◌, ◌∙◌, ◌↔◌, ◌++◌, ◌≡◌, ◌&&◌, ◌∷◌, ◌==◌, [], Answer, ap, ap2, At, Before, Bool, cases_eq, changed, cond}
 use Rattle.lb_world.proofs.Words.{config, configs_of, EntryNext, EntryValue, Err, events_in, false, gate, GateId, GateView, group-of}
 use Rattle.lb_world.proofs.Words.{group_events, happened, History, inl, inr, IsReady, IsTrue, joined_after, joined_events, JoinedValue}
-use Rattle.lb_world.proofs.Words.{Judges, key_of, length, List, list_all, load_in, load_of, lt-ltb, Made, made, MatchOption, Meaning}
+use Rattle.lb_world.proofs.Words.{Judges, key_of, length, List, list_all, load_in, load_of, lt-ltb, made, Made, MatchOption, Meaning}
 use Rattle.lb_world.proofs.Words.{Member, members-past, members_of, nat_le, nat_lt, None, Ok, Option, past, past-other, past-same, past_of}
 use Rattle.lb_world.proofs.Words.{permit_after, promised, refl, Refusal, registry_events, registry_of, RegistryValue, Result, same_member}
 use Rattle.lb_world.proofs.Words.{served, shares, site, slice_get, slice_get_within, slots, Some, Step, subst, sym, true, ViewEvent}

@@ -6,11 +6,11 @@ use Rattle.lb_history.specs.Refused.{TellsAlike}
 use Rattle.lb_world.specs.Stands.{IsFounded, OnSite}
 use Rattle.lb_joined.specs.Stands as stands
 use Rattle.lb_joined.specs.JoinedHistory as joined
-use Rattle.lb_world.proofs.Words.{◌∙◌, ◌==◌, ◌<◌, ◌∷◌, ◌&&◌, ◌≤◌, ◌≡◌, [], Answer, Answers, ap, ap2, arith, Before, Bool, cases_eq, cond}
+use Rattle.lb_world.proofs.Words.{◌∙◌, ◌≡◌, ◌&&◌, ◌∷◌, ◌<◌, ◌==◌, ◌≤◌, [], Answer, Answers, ap, ap2, arith, Before, Bool, cases_eq, cond}
 use Rattle.lb_world.proofs.Words.{entered_of, entries, EntryIs, EntryNext, EntryValue, false, gate, gates, GateView, group_at, group_events}
 use Rattle.lb_world.proofs.Words.{held_of, HeldValue, History, inl, inr, is_at, is_out, IsOwnReader, IsRegistryAfter, IsRun, joined_events}
-use Rattle.lb_world.proofs.Words.{key_at, key_gives, key_in, length, length-set, List, load_of, Made, made, made_at, made_of, map, Meaning}
-use Rattle.lb_world.proofs.Words.{Member, ne_eqb, None, none-some, Option, option_map, Origin, origin, others-stay, past_of, permit_after}
+use Rattle.lb_world.proofs.Words.{key_at, key_gives, key_in, length, length-set, List, load_of, made, Made, made_at, made_of, map, Meaning}
+use Rattle.lb_world.proofs.Words.{Member, ne_eqb, None, none-some, Option, option_map, origin, Origin, others-stay, past_of, permit_after}
 use Rattle.lb_world.proofs.Words.{refl, Refusal, refused-alike, registries, registry_at, registry_events, RegistryMade, RegistryValue}
 use Rattle.lb_world.proofs.Words.{same_member, same_Some, site, slice_get, slice_get_past, slice_set, Some, Stands, Step, subst, sym}
 use Rattle.lb_world.proofs.Words.{unrefused, work, worked, works_at, WorldRule, WorldValue, ℕ}

@@ -22,12 +22,12 @@ use Rattle.lb_joined.specs.Stands as stands
 use Rattle.lb_group.specs.GroupHistory as group
 use Rattle.lb_joined.specs.JoinedHistory as joined
 use Rattle.lb_registry.specs.RegistryEvents as registry
-use Rattle.lb_world.proofs.Words.{◌∙◌, ◌++◌, ◌<◌, ◌∷◌, ◌&&◌, ◌≤◌, ◌⊎◌, ◌≡◌, Answer, answer_after, Answers, ap, ap2, arith, ask_told, at_one}
+use Rattle.lb_world.proofs.Words.{◌∙◌, ◌⊎◌, ◌++◌, ◌≡◌, ◌&&◌, ◌∷◌, ◌<◌, ◌≤◌, Answer, answer_after, Answers, ap, ap2, arith, ask_told, at_one}
 use Rattle.lb_world.proofs.Words.{at_slot, Before, Bool, cond, config, configs_of, ended, EntryIs, EntryNext, EntryValue, false, false≢true}
 use Rattle.lb_world.proofs.Words.{gate, GateId, GateView, granted, granted_members, group-of, group_events, GroupId, held_of, History, inl}
-use Rattle.lb_world.proofs.Words.{inr, is_out, IsRegistryAfter, IsRun, joined_events, JoinedValue, key_gives, key_of, length, List, Made}
-use Rattle.lb_world.proofs.Words.{made, made_of, Meaning, Member, members-past, members_of, nat_lt, newest, newest-past, no_such, None}
-use Rattle.lb_world.proofs.Words.{none-some, Ok, Option, Origin, origin, past, past-other, past-same, past_of, promised, refl, Refusal}
+use Rattle.lb_world.proofs.Words.{inr, is_out, IsRegistryAfter, IsRun, joined_events, JoinedValue, key_gives, key_of, length, List, made}
+use Rattle.lb_world.proofs.Words.{Made, made_of, Meaning, Member, members-past, members_of, nat_lt, newest, newest-past, no_such, None}
+use Rattle.lb_world.proofs.Words.{none-some, Ok, Option, origin, Origin, past, past-other, past-same, past_of, promised, refl, Refusal}
 use Rattle.lb_world.proofs.Words.{registry_events, RegistryValue, same_Some, served, shares, site, slice_get, slice_get_past}
 use Rattle.lb_world.proofs.Words.{slice_get_within, slice_set, slots, Some, Step, subst, sym, Task, true, unless_refused, view_events}
 use Rattle.lb_world.proofs.Words.{ViewEvent, views_of, with_core, without_memory, Work, work, WorkValue, WorldRule, ℕ}

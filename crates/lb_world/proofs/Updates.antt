@@ -16,7 +16,7 @@ use Rattle.lb_joined.specs.Stands as stands
 use Rattle.lb_group.specs.GroupHistory as group
 use Rattle.lb_joined.specs.JoinedHistory as joined
 use Rattle.lb_registry.specs.RegistryEvents as registry
-use Rattle.lb_world.proofs.Words.{◌+◌, ◌∙◌, ◌^◌, ◌==◌, ◌∷◌, ◌&&◌, ◌≤◌, ◌↔◌, ◌≡◌, absent, Answer, answer_after, Answers, ap, ap2, at_one}
+use Rattle.lb_world.proofs.Words.{◌+◌, ◌∙◌, ◌↔◌, ◌^◌, ◌≡◌, ◌&&◌, ◌∷◌, ◌==◌, ◌≤◌, absent, Answer, answer_after, Answers, ap, ap2, at_one}
 use Rattle.lb_world.proofs.Words.{Before, Bool, changed, cond, earlier, EntryNext, EntryValue, Err, events_in, false, GateView, group-of}
 use Rattle.lb_world.proofs.Words.{group_events, has_refused, History, inl, inr, IsRegistryAfter, IsTrue, joined_after, joined_events}
 use Rattle.lb_world.proofs.Words.{JoinedValue, key_gives, key_of, le-leb, leb_tells, List, Listing, Made, made_at, made_of, Meaning}

@@ -4,7 +4,7 @@ use Rattle.lb_group.specs.declared.answers.Counts.{Counts}
 use Rattle.lb_history.specs.Answers.{numbers_of}
 use Rattle.lb_group.specs.GroupHistory as group
 use Rattle.lb_joined.specs.JoinedHistory as joined
-use Rattle.lb_world.proofs.Words.{◌≡◌, ◌∙◌, Answer, answer_after, Answers, ap, at_slot, Before, Bool, cond_some, configs_of, EntryValue}
+use Rattle.lb_world.proofs.Words.{◌∙◌, ◌≡◌, Answer, answer_after, Answers, ap, at_slot, Before, Bool, cond_some, configs_of, EntryValue}
 use Rattle.lb_world.proofs.Words.{flight_after, GateView, group-of, History, inl, joined_events, length, Meaning, nat_lt, newest}
 use Rattle.lb_world.proofs.Words.{newest-past, None, Option, past, past_of, refl, Refusal, RegistryValue, served, site, Some, Step, sym}
 use Rattle.lb_world.proofs.Words.{WorldRule, ℕ}

@@ -1,7 +1,7 @@
 -- The load that was set is the one that the history tells; where memory was refused, nothing is set.
 use Rattle.lb_select.specs.Loads.{SetsLoad}
 use Rattle.lb_group.specs.GroupHistory as group
-use Rattle.lb_world.proofs.Words.{◌&&◌, ◌≡◌, ◌∷◌, ◌∙◌, ◌++◌, [], Answer, Answers, ap, Before, Bool, cond, EntryNext, EntryValue, eq-eqb}
+use Rattle.lb_world.proofs.Words.{◌∷◌, ◌∙◌, ◌≡◌, ◌++◌, ◌&&◌, [], Answer, Answers, ap, Before, Bool, cond, EntryNext, EntryValue, eq-eqb}
 use Rattle.lb_world.proofs.Words.{gate, GateView, group_events, happened, held_of, History, inl, inr, joined_after, joined_events, List}
 use Rattle.lb_world.proofs.Words.{load_in, load_of, Meaning, Member, origin, past_of, permit_after, refl, Refusal, RegistryValue}
 use Rattle.lb_world.proofs.Words.{same_member, Some, Step, sym, without_memory, work, WorldRule, ℕ}

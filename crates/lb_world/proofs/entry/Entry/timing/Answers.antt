@@ -2,7 +2,7 @@
 use Rattle.lb_group.specs.declared.answers.Timing.{Timing}
 use Rattle.lb_group.specs.GroupHistory as group
 use Rattle.lb_joined.specs.JoinedHistory as joined
-use Rattle.lb_world.proofs.Words.{◌≡◌, ◌∙◌, Answer, Answers, ap, at_one, at_slot, Before, EntryValue, GateView, History, inl, joined_events}
+use Rattle.lb_world.proofs.Words.{◌∙◌, ◌≡◌, Answer, Answers, ap, at_one, at_slot, Before, EntryValue, GateView, History, inl, joined_events}
 use Rattle.lb_world.proofs.Words.{Meaning, Option, past_of, refl, Refusal, RegistryValue, site, Step, sym, WorldRule, ℕ}
 use Rattle.lb_world.proofs.Entries.{itself, next-core, next-refused, reading-told, unshared}
 use Rattle.lb_world.proofs.entry.Entry.timing.Goals as goal

@@ -3,7 +3,7 @@ use Rattle.lb_world.specs.Locals.{IsWhole, local_seen}
 use Rattle.lb_world.specs.Stands.{Does}
 use Rattle.lb_world.specs.declared.local.Local.{Local}
 use Rattle.lb_world.specs.declared.local.Local.TheVariants as is
-use Rattle.lb_world.proofs.Words.{◌≤◌, ◌≡◌, ◌<◌, ◌∷◌, ◌∙◌, Answer, Answers, ap, arith, entries, EntryValue, gates, GateView, group_at}
+use Rattle.lb_world.proofs.Words.{◌∷◌, ◌<◌, ◌∙◌, ◌≡◌, ◌≤◌, Answer, Answers, ap, arith, entries, EntryValue, gates, GateView, group_at}
 use Rattle.lb_world.proofs.Words.{History, inl, length, made_at, Meaning, meaning_of, None, Origin, past, refl, Refusal, registries}
 use Rattle.lb_world.proofs.Words.{RegistryValue, same_Some, slice_get, slice_get_within, slice_set, Some, Stands, sym, WorldRule}
 use Rattle.lb_world.proofs.Words.{WorldValue, ℕ}
@@ -64,22 +64,20 @@ index_mut-registry-requires g c =
     let on = c.self.invariant.stands.on_site _ _ at in
     omega (arith, c.registry.ensures, on.registry)
 
-pub take-requires-clause-gate : goal.take-requires-clause-gate
-take-requires-clause-gate g c =
+pub take-requires : goal.take-requires
+take-requires g c =
     let within : c.args.group < length c.self.inside.groups.items = omega arith in
     let at = at-place c.self.inside.groups.items c.args.group _ within c.index_mut-entry.ensures.value in
     let on = c.self.invariant.stands.on_site _ _ at in
     let in_gates : c.gate.result < length c.self.inside.gates.items =
     omega (arith, c.gate.ensures, slice_get_within c.self.inside.gates.items _ _ on.gate) in
     let at_gate = rw c.gate.ensures at (at-place c.self.inside.gates.items c.gate.result _ in_gates c.index_mut-gate.ensures.value) in
-    ap (λ (z : GateView). z.id) (same_Some c.index_mut-gate.result.now on.view (sym at_gate ∙ on.gate)) ∙ on.id
-
-pub take-requires-clause-stands : goal.take-requires-clause-stands
-take-requires-clause-stands g c =
-    let within : c.args.group < length c.self.inside.groups.items = omega arith in
-    let at = at-place c.self.inside.groups.items c.args.group _ within c.index_mut-entry.ensures.value in
     let was = c.self.invariant in
-    record { history = was.history; number = c.args.group; run = was.stands.run; is = was.stands.each c.args.group _ at }
+    record {
+      gate = ap (λ (z : GateView). z.id) (same_Some c.index_mut-gate.result.now on.view (sym at_gate ∙ on.gate)) ∙ on.id;
+      whole = c.requires;
+      stands = record { history = was.history; number = c.args.group; run = was.stands.run; is = was.stands.each c.args.group _ at };
+    }
 
 pub returns : goal.returns
 returns g c =

@@ -1,5 +1,5 @@
 -- The group's core lets the reader enter; the reader's number is that of its place.
-use Rattle.lb_world.proofs.Words.{if◌then◌else◌, ◌≤◌, ◌≡◌, ◌<◌, ◌∷◌, ◌∙◌, ◌++◌, [], ap, arith, HeldValue, inl, inr, length, List, Option}
+use Rattle.lb_world.proofs.Words.{if◌then◌else◌, ◌∷◌, ◌<◌, ◌∙◌, ◌≡◌, ◌++◌, ◌≤◌, [], ap, arith, HeldValue, inl, inr, length, List, Option}
 use Rattle.lb_world.proofs.Words.{past, refl, Refusal, Some, Step}
 use Rattle.lb_world.proofs.Places.{at-place}
 use Rattle.lb_world.proofs.Tables.{founded-by, no-group, world-refused}
@@ -19,7 +19,7 @@ returns-in_default g c =
     let within : c.args.group < length c.self.inside.groups.items = omega arith in
     let at = at-place c.self.inside.groups.items c.args.group _ within c.index_mut-entry.ensures.value in
     rw (← c.self.view_is)
-    (λ h s. enter-absent s c.args.group _ at c.args.slot _ (c.readers.ensures _ _ (s.each _ _ at).core_is) c.in_default.is)
+    (λ h s. enter-absent s c.args.group _ at c.args.slot _ c.readers.ensures c.in_default.is)
 
 pub returns-then-number : goal.returns-then-number
 returns-then-number g c =
@@ -30,12 +30,10 @@ returns-then-number g c =
     elim c.then-number.branch [
       | then-number-via-then-number w ↦
           let many : length c.self.inside.readers.items ≡ 18446744073709551615 = omega (arith, c.len-number.ensures, w.if-number.true) in
-          rw w.self-inside-is (enter-full s c.args.group _ at c.args.slot _ (c.readers.ensures _ _ (s.each _ _ at).core_is) _ c.in-Some.is
-          (inl many))
+          rw w.self-inside-is (enter-full s c.args.group _ at c.args.slot _ c.readers.ensures _ c.in-Some.is (inl many))
       | then-number-via-else-number+then-readers w ↦
           let many : c.in-Some.readers ≡ 18446744073709551615 = omega (arith, w.if-readers.true) in
-          rw w.self-inside-is (enter-full s c.args.group _ at c.args.slot _ (c.readers.ensures _ _ (s.each _ _ at).core_is) _ c.in-Some.is
-          (inr many))
+          rw w.self-inside-is (enter-full s c.args.group _ at c.args.slot _ c.readers.ensures _ c.in-Some.is (inr many))
     ])
 
 pub invariant_of-self-then-number : goal.invariant_of-self-then-number
@@ -49,7 +47,7 @@ returns-in_default-reserve g c =
     λ is. omega (arith, is, c.len-number.ensures, c.if-number.false) in
     let left : ¬ (c.in-Some.readers ≡ 18446744073709551615) = λ is. omega (arith, is, c.if-readers.false) in
     rw (← c.self.view_is, c.reserve.ensures.items)
-    (λ h s. enter-memory s c.args.group _ at c.args.slot _ (c.readers.ensures _ _ (s.each _ _ at).core_is) _ c.in-Some.is few left)
+    (λ h s. enter-memory s c.args.group _ at c.args.slot _ c.readers.ensures _ c.in-Some.is few left)
 
 pub returns-in-Ok-enter : goal.returns-in-Ok-enter
 returns-in-Ok-enter g c =
@@ -65,8 +63,7 @@ returns-in-Ok-enter g c =
     let last : c.len-number.result ≡ length c.self.inside.readers.items = omega arith in
     rw (← c.self.view_is, c.generation-generation.ensures)
     (λ h s.
-    entered-now s c.args.group _ at c.args.slot _ (c.readers.ensures _ _ (s.each _ _ at).core_is) _ c.in-Some.is few left _
-    c.enter.new.self _
+    entered-now s c.args.group _ at c.args.slot _ c.readers.ensures _ c.in-Some.is few left _ c.enter.new.self _
     c.in-Ok-enter.reader c.enter.ensures.rest grown last c.enter.ensures.site (c.in-Ok-enter.ensures.stands _ _ (s.each _ _ at).core_is)
     (c.in-Ok-enter.ensures.answers _ _ (s.each _ _ at).core_is) c.in-Ok-enter.ensures.own)
 
@@ -82,8 +79,7 @@ returns-in-Err g c =
     let left : ¬ (c.in-Some.readers ≡ 18446744073709551615) = λ is. omega (arith, is, c.if-readers.false) in
     rw (← c.self.view_is)
     (λ h s.
-    refused-now s c.args.group _ at c.args.slot _ (c.readers.ensures _ _ (s.each _ _ at).core_is) _ c.in-Some.is few left c.in-Err.refusal
-    c.enter.new.self _
+    refused-now s c.args.group _ at c.args.slot _ c.readers.ensures _ c.in-Some.is few left c.in-Err.refusal c.enter.new.self _
     c.enter.ensures.rest c.reserve.ensures.items c.enter.ensures.site (c.in-Err.ensures.stands _ _ (s.each _ _ at).core_is)
     (c.in-Err.ensures.answers _ _ (s.each _ _ at).core_is))
 

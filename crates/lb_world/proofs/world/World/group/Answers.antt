@@ -1,5 +1,5 @@
 -- Where no cause stands, the entry that is new joins the groups, over its registry and its gate.
-use Rattle.lb_world.proofs.Words.{◌≡◌, ◌∙◌, ap, arith, length, refl, Refusal, sym}
+use Rattle.lb_world.proofs.Words.{◌∙◌, ◌≡◌, ap, arith, length, refl, Refusal, sym}
 use Rattle.lb_world.proofs.Tables.{founded-by}
 use Rattle.lb_world.proofs.Registries.{refused-so}
 use Rattle.lb_world.proofs.Groups.{group-caused, group-is-full, group-lacks, group-made}

@@ -1,7 +1,7 @@
 -- One listing more is counted, or left out.
 use Rattle.std.proofs.Common.{◌-◌}
 use Rattle.std.proofs.lemmas.List.{length-drop, take_all}
-use Rattle.lb_world.proofs.Words.{if◌then◌else◌, ◌+◌, ◌≡◌, ◌∷◌, ◌∙◌, ap, arith, at_drop_more, cond, drop, false, key_of, length, List}
+use Rattle.lb_world.proofs.Words.{if◌then◌else◌, ◌∷◌, ◌+◌, ◌∙◌, ◌≡◌, ap, arith, at_drop_more, cond, drop, false, key_of, length, List}
 use Rattle.lb_world.proofs.Words.{Listing, live, new_keys, starts_cell, sym, take, true, views_after, ℕ}
 use Rattle.lb_world.proofs.CellCounts.{keys-more}
 use Rattle.lb_world.proofs.entry.membership.cells.starting_count.Goals as goal
