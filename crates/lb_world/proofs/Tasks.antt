@@ -16,7 +16,6 @@ use Rattle.lb_world.specs.Calls.{told_as}
 use Rattle.lb_world.specs.Views.{NotBuilding, NotReady}
 use Rattle.lb_world.specs.Works.{last_job}
 use Rattle.std.proofs.lemmas.Bool.{eqb-true}
-use Rattle.lb_group.specs.declared.answers.Told.TheVariants as becomes
 use Rattle.lb_group.specs.Stands as group-made
 use Rattle.lb_joined.specs.Stands as stands
 use Rattle.lb_group.specs.GroupHistory as group
@@ -340,7 +339,7 @@ module _ {C : Type 0} {M : Meaning C} {h : History C} {g : ℕ} {e : EntryValue 
 
     tells : (served : Bool) {core : JoinedValue C} → is_served s (group_events g h) ≡ served
         → slice_get e.works s ≡ Some (WorkValue.ready x) → stands.SameSite e.core core
-        → (let t = cond served (becomes.Published x.task.generation) (becomes.Abandoned x.task.generation) in
+        → (let t = cond served (Told.Published x.task.generation) (Told.Abandoned x.task.generation) in
         stands.Stands (site e.core) (joined.in_group (publish_events x (Ok t)) ++ joined_events g h) core
         → EntryNext M h g (Step.publish g s) (told_as t) e z (record e { core = core; works = slice_set e.works s WorkValue.nothing }) z v)
     tells true {core} is held same stays =
@@ -366,7 +365,7 @@ module _ {C : Type 0} {M : Meaning C} {h : History C} {g : ℕ} {e : EntryValue 
         → t ≡ publish_answer x.task.slot x.task.generation (joined.group_events (joined_events g h))
         → EntryNext M h g (Step.publish g s) (told_as t) e z (record e { core = core; works = slice_set e.works s WorkValue.nothing }) z v
     does-publish t {core} held same stays to =
-        let is : t ≡ cond (is_served s (group_events g h)) (becomes.Published x.task.generation) (becomes.Abandoned x.task.generation) =
+        let is : t ≡ cond (is_served s (group_events g h)) (Told.Published x.task.generation) (Told.Abandoned x.task.generation) =
         to
         ∙ ap2 (λ (i : ℕ) (k : group.History). publish_answer i x.task.generation k) (ap (λ (y : Task C). y.slot) has.is) (group-of g h) in
         subst

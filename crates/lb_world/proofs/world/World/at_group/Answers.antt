@@ -2,7 +2,6 @@
 use Rattle.lb_world.specs.Locals.{IsWhole, local_seen}
 use Rattle.lb_world.specs.Stands.{Does}
 use Rattle.lb_world.specs.declared.local.Local.{Local}
-use Rattle.lb_world.specs.declared.local.Local.TheVariants as is
 use Rattle.lb_world.proofs.Words.{◌∷◌, ◌<◌, ◌∙◌, ◌≡◌, ◌≤◌, Answer, Answers, ap, arith, entries, EntryValue, gates, GateView, group_at}
 use Rattle.lb_world.proofs.Words.{History, inl, length, made_at, Meaning, meaning_of, None, Origin, past, refl, Refusal, registries}
 use Rattle.lb_world.proofs.Words.{RegistryValue, same_Some, slice_get, slice_get_within, slice_set, Some, Stands, sym, WorldRule}
@@ -14,16 +13,16 @@ use Rattle.lb_world.proofs.world.World.at_group.Goals as goal
 -- no such group
 absent-right : {C : Type 0} (M : Meaning C) (h : History C) (g : ℕ) (l : Local) → made_at g h ≡ None → IsWhole l
     → Answers M h (local_seen g l) (Answer.Refused Refusal.NoSuch)
-absent-right M h g (is.Update now listings) none whole = inl (rw (whole, none) refl)
-absent-right M h g (is.Select s key limit words) none whole = rw none refl
+absent-right M h g (Local.Update now listings) none whole = inl (rw (whole, none) refl)
+absent-right M h g (Local.Select s key limit words) none whole = rw none refl
 absent-right M h g l none whole = inl (rw none refl)
 
 local-at : {C : Type 0} (h : History C) (g : ℕ) (l : Local) → group_at h (local_seen g l) ≡ Some g
-local-at h g is.Cancel = refl
+local-at h g Local.Cancel = refl
 local-at h g l = refl
 
 local-entries : {C : Type 0} (h : History C) (g : ℕ) (l : Local) (a : Answer) → entries ((local_seen g l, a) ∷ h) ≡ entries h
-local-entries h g is.Cancel a = refl
+local-entries h g Local.Cancel a = refl
 local-entries h g l a = refl
 
 module _ {C : Type 0} {M : Meaning C} {w : WorldValue C} {h : History C} (s : Stands M w h) where
