@@ -9,5 +9,6 @@ pub mod port;
 mod reading;
 pub mod registry;
 mod selecting;
+pub mod start;
 pub mod wakes;
 pub mod workers;

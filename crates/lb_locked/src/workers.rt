@@ -41,7 +41,7 @@ pub fn work<
     true
 }
 
-fn take_turns<
+pub(crate) fn take_turns<
     S: BackendSelection,
     R: KeyRule + Drop,
     C: HealthCheck + Drop,
