@@ -9,6 +9,5 @@ pub mod port;
 mod reading;
 pub mod registry;
 mod selecting;
-pub mod start;
 pub mod wakes;
 pub mod workers;

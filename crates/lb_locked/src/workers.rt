@@ -41,7 +41,8 @@ pub fn work<
     true
 }
 
-pub(crate) fn take_turns<
+/// What `work` does once the slot is taken: turns until the worker has to end.
+pub fn take_turns<
     S: BackendSelection,
     R: KeyRule + Drop,
     C: HealthCheck + Drop,

@@ -4,9 +4,9 @@
 
 use lb_locked::clock::RuntimeClock;
 use lb_locked::gate::SelectorRebuildGate;
-use lb_locked::start::start_workers;
 use lb_locked_tests::crowd::{Crowd, crowd_in, ends};
 use lb_select::refusal::Refusal;
+use lb_workers::start::start_workers;
 use std::alloc::Global;
 use std::env;
 use std::process::ExitCode;

@@ -1,8 +1,8 @@
 //! Starting the workers of a group that threads share.
 
-use crate::group::SharedGroup;
-use crate::workers::take_turns;
 use lb_balance::moments::MomentSource;
+use lb_locked::group::SharedGroup;
+use lb_locked::workers::take_turns;
 use lb_probe::health_check::HealthCheck;
 use lb_registry::keys::KeyRule;
 use lb_select::walk::BackendSelection;
