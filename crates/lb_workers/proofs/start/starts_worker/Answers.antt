@@ -12,6 +12,7 @@ use Rattle.lb_workers.proofs.Crossings.{sent, shared_send, shared_sync}
 use Rattle.lb_workers.proofs.start.starts_worker.Goals as goal
 
 -- what the closure captures, in the order of its use: the clock, the group, the runtime, the allocator and the slot
+pub spawn-started-requires-send-F : goal.spawn-started-requires-send-F
 spawn-started-requires-send-F g c κs within =
     let T = param 0 g.row.S in let R = param 1 g.row.R in let H = param 2 g.row.C in let I = param 5 g.row.S-Iter in let C = param 6 g.row.S-Config in
     let b = c.type_bounds in
