@@ -26,7 +26,7 @@ ghost use Rattle.lb_joined.specs.JoinedCalls.{IsSharedRefusal, IsRefusedFor};
 ghost use Rattle.lb_joined.specs.JoinedCalls.{IsMakingRefusal, Schedules, after_schedule, released_where, generation_at, after_select};
 ghost use Rattle.lb_joined.specs.JoinedCalls.{served_at, Judges, IsJudged, AcceptsBy};
 ghost use Rattle.lb_joined.specs.JoinedHistory.{History, Set, group_events, in_group, members_now};
-ghost use Rattle.lb_joined.specs.Stands.{Stands, After, Becomes, SameSite, views_of};
+ghost use Rattle.lb_joined.specs.Stands.{Stands, IsFounded, After, Becomes, SameSite, views_of};
 
 use lb_group::answers::{Ask, Counts, Selection, Timing, Told};
 use lb_group::group;
@@ -474,6 +474,13 @@ impl<S: BackendSelection> GroupCore<S> {
         { accept(backend, view.ready_in(registry, served, backend)) };
         self.group
             .select_with(alloc, slot, key, limit, random, loads, &judged)
+    }
+
+    /// Some history stands behind this group, so that what holds after each of its histories holds after one. It does nothing.
+    pub fn founded(&self)
+        ensures { IsFounded self.now }
+    {
+        let _ = &self.group;
     }
 
     /// Whether a backend is ready in the newest membership. It takes no memory.

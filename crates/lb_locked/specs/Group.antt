@@ -17,7 +17,7 @@ use Rattle.lb_group.specs.declared.schedule.Scheduled.{Scheduled}
 use Rattle.lb_joined.specs.JoinedCalls.{released_where, generation_at}
 use Rattle.lb_joined.specs.JoinedHistory.{History, group_events, in_group}
 use Rattle.lb_group.specs.Stands.{Made}
-use Rattle.lb_joined.specs.Stands.{JoinedValue, After, Becomes, SameSite, views_of}
+use Rattle.lb_joined.specs.Stands.{JoinedValue, After, Becomes, IsFounded, SameSite, views_of}
 use Rattle.lb_port.specs.Looks.{SelectedThrough}
 use Rattle.lb_port.specs.Through.{UpdatedThrough}
 use Rattle.lb_port.specs.Plain.{IsAsked, IsEntered, IsTaken, IsScheduled, IsReadyFor}
@@ -32,13 +32,17 @@ module _ {C : Type 0} where
   abbrev pub OwnsPermit : JoinedValue C → ℕ → PermitValue → Type 0
   OwnsPermit v slot p = (p.group ≡ v.group.id) × (p.slot ≡ slot) × (p.gate ≡ v.group.gate)
 
+  -- a state that this group may have: a history stands behind it, and it has the group's identity, gate and configurations
+  abbrev pub IsState : JoinedValue C → JoinedValue C → Type 0
+  IsState site v = SameSite site v × IsFounded v
+
   -- what was read at some state of this group
   abbrev pub Seen : JoinedValue C → (JoinedValue C → Type 0) → Type 0
-  Seen site Told = (v : JoinedValue C) × (SameSite site v × Told v)
+  Seen site Told = (v : JoinedValue C) × (IsState site v × Told v)
 
   -- a call that was made at some state of this group
   abbrev pub Under : JoinedValue C → (JoinedValue C → JoinedValue C → Type 0) → Type 0
-  Under site Call = (v : JoinedValue C) × ((w : JoinedValue C) × (SameSite site v × Call v w))
+  Under site Call = (v : JoinedValue C) × ((w : JoinedValue C) × (IsState site v × Call v w))
 
   -- the same with the group's gate
   abbrev pub UnderGate : JoinedValue C → (JoinedValue C → GateView → JoinedValue C → GateView → Type 0) → Type 0
@@ -101,7 +105,7 @@ module _ {C R : Type 0} (gives : R → Member → Member → Type 0) where
 
   abbrev pub ReadyUnder : JoinedValue C → ReaderValue C → Member → Bool → Type 0
   ReadyUnder site r b a =
-      (v : JoinedValue C) × ((x : RegistryValue R) × (SameSite site v × IsReadyFor gives v x r b a))
+      (v : JoinedValue C) × ((x : RegistryValue R) × (IsState site v × IsReadyFor gives v x r b a))
 
   abbrev pub ScheduledUnder : JoinedValue C → List Member → List (Member × Bool) → ℕ → Result Scheduled Refusal → Type 0
   ScheduledUnder site members settings now r =

@@ -53,6 +53,7 @@ impl<'g, 'r, S: BackendSelection, R: KeyRule + Drop, C: HealthCheck + Drop, W: W
         let job = refused.into_job();
         let gates: &SelectorRebuildGate = &*group.gate;
         let mut held = group.lock.take(self.rt);
+        held.value.founded();
         let mut registry = group.registry.lock(self.rt);
         let mut gate = gates.take(self.rt);
         let told = held.value.fail(job, &mut *registry, &mut gate.value, now);
@@ -71,6 +72,7 @@ impl<'g, 'r, S: BackendSelection, R: KeyRule + Drop, C: HealthCheck + Drop, W: W
         let _gate = &group.gate;
         let generation = built.generation();
         let mut held = group.lock.take(self.rt);
+        held.value.founded();
         let told = held.value.publish(built);
         group.lock.put(held);
         match told {
@@ -86,6 +88,7 @@ impl<'g, 'r, S: BackendSelection, R: KeyRule + Drop, C: HealthCheck + Drop, W: W
         let group = self.group;
         let _gate = &group.gate;
         let mut held = group.lock.take(self.rt);
+        held.value.founded();
         let told = held.value.leave(reader);
         group.lock.put(held);
         match told {
@@ -126,6 +129,7 @@ impl<'g, 'r, S: BackendSelection, R: KeyRule + Drop, C: HealthCheck + Drop, W: W
         let group = self.group;
         let _gate = &group.gate;
         let mut held = group.lock.take(self.rt);
+        held.value.founded();
         let mut registry = group.registry.lock(self.rt);
         let told = held
             .value
@@ -140,6 +144,7 @@ impl<'g, 'r, S: BackendSelection, R: KeyRule + Drop, C: HealthCheck + Drop, W: W
         let group = self.group;
         let gates: &SelectorRebuildGate = &*group.gate;
         let mut held = group.lock.take(self.rt);
+        held.value.founded();
         let mut gate = gates.take(self.rt);
         let told = held.value.ask(slot, &mut gate.value, now);
         gates.put(gate);
@@ -151,6 +156,7 @@ impl<'g, 'r, S: BackendSelection, R: KeyRule + Drop, C: HealthCheck + Drop, W: W
         let group = self.group;
         let _gate = &group.gate;
         let mut held = group.lock.take(self.rt);
+        held.value.founded();
         let told = held.value.enter(slot);
         group.lock.put(held);
         told
@@ -160,6 +166,7 @@ impl<'g, 'r, S: BackendSelection, R: KeyRule + Drop, C: HealthCheck + Drop, W: W
         let group = self.group;
         let _gate = &group.gate;
         let held = group.lock.take(self.rt);
+        held.value.founded();
         let registry = group.registry.lock(self.rt);
         let told = held.value.ready(reader, &*registry, backend);
         drop(registry);
@@ -186,6 +193,7 @@ impl<'g, 'r, S: BackendSelection, R: KeyRule + Drop, C: HealthCheck + Drop, W: W
         let group = self.group;
         let _gate = &group.gate;
         let mut held = group.lock.take(self.rt);
+        held.value.founded();
         let told = held.value.take_retired(slot);
         group.lock.put(held);
         told
@@ -195,6 +203,7 @@ impl<'g, 'r, S: BackendSelection, R: KeyRule + Drop, C: HealthCheck + Drop, W: W
         let group = self.group;
         let gates: &SelectorRebuildGate = &*group.gate;
         let mut held = group.lock.take(self.rt);
+        held.value.founded();
         let mut registry = group.registry.lock(self.rt);
         let mut gate = gates.take(self.rt);
         let told = held

@@ -21,6 +21,7 @@ impl<S: BackendSelection, R: KeyRule + Drop, C: HealthCheck + Drop> SharedGroup<
     {
         let _gate = &self.gate;
         let held = self.lock.take(rt);
+        held.value.founded();
         let generation = held.value.newest();
         self.lock.put(held);
         generation
@@ -32,6 +33,7 @@ impl<S: BackendSelection, R: KeyRule + Drop, C: HealthCheck + Drop> SharedGroup<
     {
         let _gate = &self.gate;
         let held = self.lock.take(rt);
+        held.value.founded();
         let told = held.value.is_cancelled();
         self.lock.put(held);
         told
@@ -43,6 +45,7 @@ impl<S: BackendSelection, R: KeyRule + Drop, C: HealthCheck + Drop> SharedGroup<
     {
         let _gate = &self.gate;
         let held = self.lock.take(rt);
+        held.value.founded();
         let generation = held.value.served(slot);
         self.lock.put(held);
         generation
@@ -54,6 +57,7 @@ impl<S: BackendSelection, R: KeyRule + Drop, C: HealthCheck + Drop> SharedGroup<
     {
         let _gate = &self.gate;
         let held = self.lock.take(rt);
+        held.value.founded();
         let counts = held.value.counts(slot);
         self.lock.put(held);
         counts
@@ -65,6 +69,7 @@ impl<S: BackendSelection, R: KeyRule + Drop, C: HealthCheck + Drop> SharedGroup<
     {
         let _gate = &self.gate;
         let held = self.lock.take(rt);
+        held.value.founded();
         let timing = held.value.timing(slot);
         self.lock.put(held);
         timing

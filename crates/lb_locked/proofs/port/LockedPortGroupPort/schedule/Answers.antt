@@ -14,7 +14,7 @@ returns g c =
             (
               c.schedule-told.new.self,
               (
-                search rules,
+                (search rules, c.founded.ensures),
                 (is.answers, is.stands, is.registry, is.err, is.registry_err, is.unknown, is.numbers, is.missing, is.lacking, is.site),
               ),
             ),
