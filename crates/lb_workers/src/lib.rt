@@ -1,0 +1,4 @@
+//! A group of slots with its workers.
+#![tactic(auto)]
+
+pub mod start;
