@@ -155,16 +155,16 @@ impl<S: BackendSelection, R: KeyRule + Drop, C: HealthCheck + Drop> SharedGroup<
         }
     }
 
-    // Takes a slot for a worker. Whether it had none.
-    pub(crate) fn claim_slot(&self, slot: usize) -> bool {
+    /// Takes a slot for a worker; whether it had none. `leave_slot` ends it. It takes no lock and no memory.
+    pub fn claim_slot(&self, slot: usize) -> bool {
         match self.lines.get(slot) {
             Some(line) => !line.has_worker.swap(true, SeqCst),
             None => false,
         }
     }
 
-    // Ends what `claim_slot` began.
-    pub(crate) fn leave_slot(&self, slot: usize) {
+    /// Ends what `claim_slot` began.
+    pub fn leave_slot(&self, slot: usize) {
         if let Some(line) = self.lines.get(slot) {
             line.has_worker.store(false, SeqCst);
         }

@@ -41,7 +41,8 @@ pub fn work<
     true
 }
 
-fn take_turns<
+/// What `work` does between `claim_slot` and `leave_slot`, for whoever calls these himself.
+pub fn take_turns<
     S: BackendSelection,
     R: KeyRule + Drop,
     C: HealthCheck + Drop,

@@ -1,0 +1,65 @@
+//! What a group is made of beside the configurations of its slots.
+ghost use Rattle.std.specs.Prelude.{◌≡◌, IfErr, IfOk, true, false};
+
+use lb_health::discovery::DiscoverySource;
+use lb_locked::gate::SelectorRebuildGate;
+use lb_locked::registry::HealthRegistry;
+use lb_probe::health_check::HealthCheck;
+use lb_registry::keys::{KeyRule, Rule};
+use lb_registry::registry::Registry;
+use lb_select::refusal::Refusal;
+use std::alloc::Global;
+use std::sync::Arc;
+
+/// A discovery, the registry of health that a group is to have a view of, and the gate that its rebuilds go through.
+#[derive(Drop)]
+pub struct GroupParts<D, R, C> {
+    /// Where the backends come from.
+    pub discovery: DiscoverySource<D>,
+    /// The registry of health, which other groups may share.
+    pub registry: Arc<HealthRegistry<R, C>>,
+    /// Whether the group runs the checks of the registry.
+    pub owns_checks: bool,
+    /// The gate of rebuilds, which other groups may share.
+    pub gate: Arc<SelectorRebuildGate>,
+}
+
+impl<D: Drop, N: KeyRule + Drop, C: HealthCheck + Drop> GroupParts<D, Rule<N>, C> {
+    /// With a gate and a registry of its own, keyed by identity, whose checks are the group's to run. Refused `OutOfMemory` where
+    /// memory is.
+    pub fn new(
+        alloc: Global,
+        discovery: DiscoverySource<D>,
+    ) -> Result<GroupParts<D, Rule<N>, C>, Refusal>
+        ensures parts { IfOk result (λ p. (p.discovery ≡ discovery) × (p.owns_checks ≡ true)) }
+        ensures refused { IfErr result (λ e. e ≡ Refusal.OutOfMemory) }
+    {
+        let registry = HealthRegistry::new(Registry::with_rule(alloc, Rule::Identity));
+        let registry = Arc::new(alloc, registry)?;
+        let gate = Arc::new(alloc, SelectorRebuildGate::new(alloc)?)?;
+        Ok(GroupParts {
+            discovery,
+            registry,
+            owns_checks: true,
+            gate,
+        })
+    }
+}
+
+impl<D: Drop, R: KeyRule + Drop, C: HealthCheck + Drop> GroupParts<D, R, C> {
+    /// With a registry and a gate that others share; somebody else runs the registry's checks.
+    pub fn shared(
+        discovery: DiscoverySource<D>,
+        registry: Arc<HealthRegistry<R, C>>,
+        gate: Arc<SelectorRebuildGate>,
+    ) -> GroupParts<D, R, C>
+        ensures { (result.discovery ≡ discovery) × (result.gate ≡ gate) × (result.owns_checks ≡ false) }
+    {
+        GroupParts {
+            discovery,
+            registry,
+            owns_checks: false,
+            gate,
+        }
+    }
+}

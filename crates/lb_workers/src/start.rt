@@ -1,0 +1,59 @@
+//! Starting the workers of a group that threads share.
+
+use lb_balance::moments::MomentSource;
+use lb_locked::group::SharedGroup;
+use lb_locked::workers::take_turns;
+use lb_probe::health_check::HealthCheck;
+use lb_registry::keys::KeyRule;
+use lb_select::walk::BackendSelection;
+use std::alloc::Global;
+use std::sync::{Arc, Wait};
+use std::thread;
+use std::thread::Threads;
+
+/// Starts a worker for each slot that has none, and answers how many couldn't be started. Each reads a copy of the clock.
+pub fn start_workers<
+    S: BackendSelection + Send + Sync + 'static,
+    R: KeyRule + Drop + Send + Sync + 'static,
+    C: HealthCheck + Drop + Send + Sync + 'static,
+    W: Threads + Wait + Copy + Send + 'static,
+    K: MomentSource + Copy + Send + 'static,
+>(rt: &W, alloc: Global, group: &Arc<SharedGroup<S, R, C>>, clock: K) -> usize
+where
+    S::Iter: Send + Sync + 'static,
+    S::Config: Send + Sync + 'static,
+{
+    let mut missing: usize = 0;
+    for slot in 0..group.slot_count() {
+        if group.claim_slot(slot) && !starts_worker(rt, alloc, group, slot, clock) {
+            group.leave_slot(slot);
+            missing = missing.saturating_add(1);
+        }
+    }
+    missing
+}
+
+// Whether a worker of that slot could be started.
+fn starts_worker<
+    S: BackendSelection + Send + Sync + 'static,
+    R: KeyRule + Drop + Send + Sync + 'static,
+    C: HealthCheck + Drop + Send + Sync + 'static,
+    W: Threads + Wait + Copy + Send + 'static,
+    K: MomentSource + Copy + Send + 'static,
+>(rt: &W, alloc: Global, group: &Arc<SharedGroup<S, R, C>>, slot: usize, clock: K) -> bool
+where
+    S::Iter: Send + Sync + 'static,
+    S::Config: Send + Sync + 'static,
+{
+    let Ok(shared) = Arc::try_clone(group) else {
+        return false;
+    };
+    let own = *rt;
+    let started = thread::spawn(rt, move || {
+        let mut clock = clock;
+        let group: &SharedGroup<S, R, C> = &*shared;
+        take_turns(&own, alloc, group, slot, &mut clock);
+        group.leave_slot(slot);
+    });
+    started.is_ok()
+}
