@@ -5,16 +5,23 @@ use std::sync::atomic::{AtomicBool, AtomicU64};
 use std::thread;
 use std::time::{Duration, Instant};
 
-/// How often a load was above the one before.
+/// One load: 1 if it is above the one before, which is then this one.
+fn rise(word: &AtomicU64, last: &mut u64) -> u64 {
+    let found = word.load(SeqCst);
+    let is_above = found > *last;
+    *last = found;
+    u64::from(is_above)
+}
+
+/// How often a load was above the one before, four loads in each turn of the loop, so that it is not the loop that is measured.
 fn read_often(word: &AtomicU64, times: u64) -> u64 {
     let mut last = 0;
     let mut rises: u64 = 0;
-    for _ in 0..times {
-        let found = word.load(SeqCst);
-        if found > last {
-            rises = rises.wrapping_add(1);
-        }
-        last = found;
+    for _ in 0..times / 4 {
+        rises = rises.wrapping_add(rise(word, &mut last));
+        rises = rises.wrapping_add(rise(word, &mut last));
+        rises = rises.wrapping_add(rise(word, &mut last));
+        rises = rises.wrapping_add(rise(word, &mut last));
     }
     rises
 }
