@@ -1,4 +1,4 @@
-//! Calls that the tests make again and again: updates, rebuilds of slot 0, selections and readings.
+//! Calls that the tests make again and again: updates, rebuilds of slot 0 and selections.
 //! A job or a selector that isn't awaited is closed.
 ghost use Rattle.std.specs.Prelude.{◌≡◌, Some, IfOk, IfSome, slice_get};
 ghost use Rattle.lb_group.specs.Values.{configs_of};
@@ -141,40 +141,4 @@ pub(crate) fn selected<R: Wait>(
         reader.close();
     }
     Ok((generation, answer?))
-}
-
-/// Reads the newest generation and what slot 0 serves so many times, and may not wait; whether no reading was below an earlier one.
-pub(crate) fn never_falls(group: &Group, pass: GroupPass, times: u64) -> bool
-    requires { pass.board ≡ group.now.board }
-{
-    let mut pass = pass;
-    let mut newest = 0;
-    let mut served = 0;
-    for _ in 0..times {
-        let newest_now = group.backend_generation_as(&mut pass);
-        let served_now = group.selector_generation_as(0, &mut pass).unwrap_or(0);
-        let _ready = group.selectors_ready_for_as(newest_now, &mut pass);
-        if newest_now < newest || served_now < served {
-            return false;
-        }
-        newest = newest_now;
-        served = served_now;
-    }
-    true
-}
-
-/// Has two passes meet so many times, the one after a reading; whether no reading of the other then was below that one.
-pub(crate) fn never_below_a_met_pass<R: Wait>(rt: &R, group: &Group, times: u64) -> bool {
-    let mut pass = group.pass();
-    let mut other = group.pass();
-    for _ in 0..times {
-        let newest = group.backend_generation_as(&mut pass);
-        let served = group.selector_generation_as(0, &mut pass).unwrap_or(0);
-        group.meet(rt, &mut pass, &mut other);
-        let served_now = group.selector_generation_as(0, &mut other).unwrap_or(0);
-        if group.backend_generation_as(&mut other) < newest || served_now < served {
-            return false;
-        }
-    }
-    true
 }
