@@ -1,0 +1,22 @@
+-- What contracts see of a group behind a lock whose generations are read on its board.
+use Rattle.std.specs.Prelude.{◌≡◌, ◌⊎◌, ◌≤◌, ◌+◌, ℕ}
+use Rattle.lb_board.specs.Pass.{BoardId}
+use Rattle.lb_joined.specs.Stands.{JoinedValue, SameSite}
+use Rattle.lb_select.specs.declared.refusal.Refusal.{Refusal}
+use Rattle.lb_select.specs.declared.refusal.Refusal.TheVariants as refusal
+use Rattle.lb_watched.specs.Watched.{WatchedValue}
+
+-- the board, and the group as it was when it came under the lock: which one it is, its gate and its configurations stay
+pub record BoardedValue (C : Type 0) : Type 0 where
+  pub board : BoardId
+  pub core : JoinedValue C
+
+-- what lies under the lock is the group that it was made with, on the same board
+pub record IsSame {C : Type 0} (v w : WatchedValue C) : Type 0 where
+  pub board : w.board ≡ v.board
+  pub site : SameSite v.core w.core
+
+-- why an entry is refused: no such slot is there, its readers are at their most, or memory was refused
+abbrev pub IsEntryRefusal : BoardId → ℕ → Refusal → Type 0
+IsEntryRefusal board slot e =
+    ((e ≡ refusal.NoSuch) × (board.words ≤ slot + 1)) ⊎ ((e ≡ refusal.NumbersExhausted) ⊎ (e ≡ refusal.OutOfMemory))
