@@ -1,30 +1,25 @@
 -- A step at a group, by what it leaves of the group's entry: once for all kinds.
 use Rattle.lb_group.proofs.Pasts.{lt-false}
-use Rattle.lb_group.specs.GroupHistory.{At, granted, granted_members}
-use Rattle.lb_group.specs.Values.{Task}
 use Rattle.lb_history.proofs.Placing.{here, same-either}
 use Rattle.lb_history.proofs.Together.{joins-alike}
 use Rattle.lb_history.specs.Answers.{flight_of}
-use Rattle.lb_history.specs.History.{config_in, ended, gate_of, is_at, registry_of, works_at}
-use Rattle.lb_history.specs.Shared.{registry_at, registry_in, registry_made}
-use Rattle.lb_rebuild.specs.Identity.{GroupId}
+use Rattle.lb_history.specs.History.{gate_of}
+use Rattle.lb_history.specs.Shared.{registry_in, registry_made}
 use Rattle.lb_world.specs.Stands.{AreHeld}
-use Rattle.std.proofs.lemmas.Bool.{and_parts}
 use Rattle.lb_joined.specs.Stands as stands
-use Rattle.lb_history.specs.Steps as step
 use Rattle.lb_group.specs.GroupHistory as group
 use Rattle.lb_joined.specs.JoinedHistory as joined
 use Rattle.lb_registry.specs.RegistryEvents as registry
-use Rattle.lb_history.specs.History as works
-use Rattle.lb_world.specs.Views as view
-use Rattle.lb_world.proofs.Words.{◌&&◌, ◌++◌, ◌==◌, ◌∙◌, ◌∷◌, ◌≡◌, ◌⊎◌, [], Answer, Answers, ap, ap2, at_one, at_slot, Before, Bool}
-use Rattle.lb_world.proofs.Words.{changed, cond, config, configs_of, EntryIs, EntryNext, EntryValue, eq-eqb, false, gate, GateId, gates}
-use Rattle.lb_world.proofs.Words.{GateView, group-of, group_at, group_events, happened, held_of, History, inl, inr, IsRegistryAfter, IsRun}
-use Rattle.lb_world.proofs.Words.{joined_after, joined_events, JoinedValue, key_at, key_gives, key_in, key_of, length, length-set, List}
-use Rattle.lb_world.proofs.Words.{list_all, load_in, load_of, lt-ltb, made, Made, made_at, made_of, Meaning, Member, nat_lt, ne_eqb, None}
-use Rattle.lb_world.proofs.Words.{none-some, Option, option_map, Origin, origin, past, past_of, permit_after, refl, registries}
-use Rattle.lb_world.proofs.Words.{registry_events, RegistryValue, site, slice_get, slice_get_within, slice_set, Some, Step, subst, sym}
-use Rattle.lb_world.proofs.Words.{true, view_events, views_of, with_core, Work, work, worked, WorkValue, WorldRule, ℕ}
+use Rattle.lb_world.proofs.Words.{◌∙◌, ◌⊎◌, ◌++◌, ◌≡◌, ◌&&◌, ◌∷◌, ◌==◌, [], and_parts, Answer, Answers, ap, ap2, At, at_one, at_slot}
+use Rattle.lb_world.proofs.Words.{Before, Bool, changed, cond, config, config_in, configs_of, EntryIs, EntryNext, EntryValue, eq-eqb}
+use Rattle.lb_world.proofs.Words.{false, gate, GateId, gates, GateView, granted, granted_members, group-of, group_at, group_events, GroupId}
+use Rattle.lb_world.proofs.Words.{happened, held_of, History, inl, inr, is_at, IsRegistryAfter, IsRun, joined_after, joined_events}
+use Rattle.lb_world.proofs.Words.{JoinedValue, key_at, key_gives, key_in, key_of, length, length-set, List, list_all, load_in, load_of}
+use Rattle.lb_world.proofs.Words.{lt-ltb, made, Made, made_at, made_of, Meaning, Member, nat_lt, ne_eqb, None, none-some, Option}
+use Rattle.lb_world.proofs.Words.{option_map, origin, Origin, past, past_of, permit_after, refl, Refusal, refused-alike, registries}
+use Rattle.lb_world.proofs.Words.{registry_at, registry_events, registry_of, RegistryValue, site, slice_get, slice_get_within, slice_set}
+use Rattle.lb_world.proofs.Words.{Some, Step, subst, sym, Task, true, view_events, views_of, with_core, Work, work, worked, works_at}
+use Rattle.lb_world.proofs.Words.{WorkValue, WorldRule, ℕ}
 use Rattle.lb_world.proofs.Places.{get_set, there}
 
 -- an event that is no grant leaves the last job
@@ -54,9 +49,9 @@ job-of o s c j = record { group = o.id; slot = s; generation = j.0; members = j.
 
 held-by : {C : Type 0} (o : Origin) (s : ℕ) (c : C) (p q : group.History) (w : Work) → last p ≡ last q
     → held_of o s c p w ≡ held_of o s c q w
-held-by o s c p q works.idle e = refl
-held-by o s c p q works.building e = ap (λ (j : ℕ × List Member). view.building (job-of o s c j)) e
-held-by o s c p q (works.built now) e = ap (λ (j : ℕ × List Member). view.ready (record { task = job-of o s c j; ended = now })) e
+held-by o s c p q Work.idle e = refl
+held-by o s c p q Work.building e = ap (λ (j : ℕ × List Member). WorkValue.building (job-of o s c j)) e
+held-by o s c p q (Work.built now) e = ap (λ (j : ℕ × List Member). WorkValue.ready (record { task = job-of o s c j; ended = now })) e
 
 pub taken : {A : Type 0} (x y : A) (g : ℕ) (o : Option ℕ) → o ≡ Some g → cond (is_at g o) x y ≡ x
 taken x y g o at = ap (λ (b : Bool). cond b x y) (ap (is_at g) at ∙ eq-eqb g g refl)
@@ -76,6 +71,11 @@ slot-or cs s =
 in-list : {A C : Type 0} (cs : List C) (s : ℕ) (x : A) (tells : A → Answer)
     → at_one (slice_get cs s) (λ c. tells x) ≡ at_one (cond (nat_lt s (length cs)) (Some x) None) tells
 in-list cs s x tells = elim (slot-or cs s) [ inl p ↦ rw (p.0, p.1) refl | inr p ↦ rw (p.1, p.2) refl ]
+
+-- a refusal leaves the permit where it is
+unmoved : {C : Type 0} (st : Step C) (r : Refusal) (out : Bool) → permit_after st (Answer.Refused r) out ≡ out
+unmoved (Step.ask g s now) r out = refl
+unmoved st r out = refl
 
 -- no call changes whose a group's jobs are
 pub same-origin : {C : Type 0} (v w : JoinedValue C) → stands.SameSite v w → origin w ≡ origin v
@@ -98,11 +98,11 @@ module _ {C : Type 0} where
     pub registries_are : registries ((st, a) ∷ h) ≡ registries h
 
   pub at-group : (h : History C) (st : Step C) (a : Answer) (g : ℕ) → group_at h st ≡ Some g → AtGroup h st a g
-  at-group h (step.registry rule healthy) a g at = absurd (none-some g at)
-  at-group h step.gate a g at = absurd (none-some g at)
-  at-group h (step.group r b cs) a g at = absurd (none-some g at)
-  at-group h (step.targets r) a g at = absurd (none-some g at)
-  at-group h (step.verdict r c ok threshold) a g at = absurd (none-some g at)
+  at-group h (Step.registry rule healthy) a g at = absurd (none-some g at)
+  at-group h Step.gate a g at = absurd (none-some g at)
+  at-group h (Step.group r b cs) a g at = absurd (none-some g at)
+  at-group h (Step.targets r) a g at = absurd (none-some g at)
+  at-group h (Step.verdict r c ok threshold) a g at = absurd (none-some g at)
   at-group h st a g at =
       record { group_is = at; registry_is = ap (registry_in h) at; made_are = refl; gates_are = refl; registries_are = refl }
 
@@ -213,6 +213,22 @@ module _ {C : Type 0} {M : Meaning C} {h : History C} {g : ℕ} {e : EntryValue 
       ∙ ap2 (held_of (origin e.core) s c) (ap (past_of s) (sym (events-here h st a g at)))
       (sym (ap (λ (x : Work). cond (works_at g s st) x (work g s h)) (stay (work g s h)) ∙ same-either (works_at g s st) (work g s h))))
       (λ m. b.is.loads_are m ∙ sym (loads m)) out kept
+
+  -- a refusal after which the core stands for the same events leaves all else
+  pub next-refused : (st : Step C) (r : Refusal) {core : JoinedValue C} → group_at h st ≡ Some g → Answers M h st (Answer.Refused r)
+      → stands.SameSite e.core core → stands.Stands (site e.core) (joined_events g h) core
+      → EntryNext M h g st (Answer.Refused r) e z (with_core core e) z v
+  next-refused st r {core = core} at right same was =
+      let told = refused-alike h st r in
+      next st (Answer.Refused r) core e.works e.loads at right same
+      (subst (λ (es : joined.History). stands.Stands (site e.core) es core)
+      (sym (told.joined g) ∙ joined-here h st (Answer.Refused r) g at) was)
+      refl
+      (λ s c k cs ks.
+      b.is.works_are s c k cs ks
+      ∙ ap2 (held_of (origin e.core) s c) (ap (past_of s) (sym (told.groups g))) (sym (told.rest.works g s)))
+      (λ m. b.is.loads_are m ∙ sym (told.rest.loads g m)) (ap (gate z.id) (sym (unmoved st r z.out)))
+      (subst (λ (es : List registry.Event). IsRegistryAfter key_gives (key_of g h) es v) (sym (told.rest.shared e.registry)) b.kept)
 
   -- one that writes the place of one slot
   pub next-work : (s : ℕ) (st : Step C) (a : Answer) {core : JoinedValue C} {old : WorkValue C} (new : WorkValue C) {y : GateView}

@@ -1,47 +1,47 @@
 -- The step that makes a group: why it can't be made, and that to a new one nothing has happened, and the others stay as they were.
 use Rattle.lb_group.proofs.GroupSteps.{configs-after}
 use Rattle.lb_group.specs.Values.{GroupValue}
-use Rattle.lb_history.proofs.Absent.{absent, found as found-of, get-front}
-use Rattle.lb_history.proofs.Numbering.{numbered}
+use Rattle.lb_history.proofs.Absent.{found as found-of, get-front}
 use Rattle.lb_history.proofs.Together.{nothing-joined}
 use Rattle.lb_history.specs.History.{over}
-use Rattle.lb_registry.proofs.FreshLemmas.{marks_start_none}
-use Rattle.lb_select.specs.Refusals.{least, memory_apart, refusal_number}
-use Rattle.lb_world.specs.Calls.{IsNewEntry, in_tables}
+use Rattle.lb_select.specs.Refusals.{memory_apart, refusal_number}
+use Rattle.lb_world.specs.Calls.{IsNewEntry}
 use Rattle.lb_world.specs.Views.{nothing}
-use Rattle.std.proofs.lemmas.Bool.{and_parts, le-leb, ltb-true}
+use Rattle.std.proofs.Common.{get_or}
 use Rattle.std.proofs.lemmas.List.{length-replicate}
-use Rattle.lb_history.specs.Steps as step
 use Rattle.lb_registry.specs.RegistryEvents as registry
-use Rattle.lb_history.specs.declared.answer.Answer.TheVariants as answer
-use Rattle.lb_select.specs.declared.refusal.Refusal.TheVariants as refusal
-use Rattle.lb_world.proofs.Words.{◌&&◌, ◌++◌, ◌+◌, ◌<◌, ◌^◌, ◌∙◌, ◌∷◌, ◌≡◌, ◌≤◌, [], after, answer_after, ap, ap2, arith, Bool, cond}
-use Rattle.lb_world.proofs.Words.{configs_of, earlier, EntryIs, EntryValue, eq-eqb, Event, false, gate, GateId, GateView, held_of, History}
-use Rattle.lb_world.proofs.Words.{inl, inr, IsRegistryAfter, IsRun, key_at, key_gives, key_of, length, length-set, length_push, List}
-use Rattle.lb_world.proofs.Words.{load_of, lt-ltb, made, made_at, made_of, map, Meaning, Member, nat_le, nat_lt, ne_eqb, no_number, no_such}
-use Rattle.lb_world.proofs.Words.{None, none-some, Option, origin, past, refl, Refusal, registries, registry_events, RegistryValue}
-use Rattle.lb_world.proofs.Words.{slice_get, slice_get_past, slice_get_within, slice_set, Some, Stands, sym, true, unless_refused, where_}
-use Rattle.lb_world.proofs.Words.{without_memory, WorkValue, WorldRule, WorldValue, ℕ}
-use Rattle.lb_world.proofs.Places.{each-push, each-set, get_kept, get_last, get_push, get_replicate}
+use Rattle.lb_world.proofs.Words.{◌+◌, ◌∙◌, ◌↔◌, ◌^◌, ◌++◌, ◌≡◌, ◌&&◌, ◌∷◌, ◌<◌, ◌≤◌, [], absent, after, and_parts, Answer, answer_after}
+use Rattle.lb_world.proofs.Words.{ap, ap2, arith, Bool, cond, configs_of, earlier, EntryIs, EntryValue, eq-eqb, Event, false, false≢true}
+use Rattle.lb_world.proofs.Words.{GateId, GateView, held_of, History, in_tables, inl, inr, IsRegistryAfter, IsRun, IsTrue, key_at}
+use Rattle.lb_world.proofs.Words.{key_gives, key_of, le-leb, least, leb_tells, length, length-set, length_push, List, load_of, lt-ltb}
+use Rattle.lb_world.proofs.Words.{ltb-true, made, made_at, made_of, map, marks_start_none, Meaning, Member, nat_le, nat_lt, ne_eqb}
+use Rattle.lb_world.proofs.Words.{no_number, no_such, None, none-some, numbered, Option, origin, past, refl, Refusal, registries}
+use Rattle.lb_world.proofs.Words.{registry_events, RegistryValue, slice_get, slice_get_past, slice_get_within, slice_set, Some, Stands}
+use Rattle.lb_world.proofs.Words.{Step, sym, true, unless_refused, where_, without_memory, WorkValue, WorldRule, WorldValue, ℕ}
+use Rattle.lb_world.proofs.Places.{at-place, each-push, each-set, get_kept, get_last, get_push, get_replicate}
 use Rattle.lb_world.proofs.Tables.{entry-moves, registry-lent, world-refused}
 use Rattle.lb_world.proofs.Registries.{number-left}
 use Rattle.lb_world.proofs.Readers.{group-there}
 
 -- no refusal has a greater number than the want of numbers
 last-of : (e : Refusal) → nat_lt 17 (refusal_number e) ≡ false
-last-of refusal.InvalidAddress = refl
+last-of Refusal.InvalidAddress = refl
 last-of e = refl
+
+-- a registry that is not full has a number left
+not-full : (b : Bool) (n : ℕ) → (IsTrue b ↔ (2 ^ 64 ≤ n)) → b ≡ false → n < 2 ^ 64
+not-full b n told is = elim (leb_tells (2 ^ 64) n) [ inl t ↦ absurd (false≢true (sym is ∙ told.1 t.1)) | inr t ↦ t.1 ]
 
 -- so another cause goes before it
 stays : (e : Refusal) (b c : Bool)
-    → earlier (Some e) (earlier (where_ b refusal.NumbersExhausted) (where_ c refusal.NumbersExhausted)) ≡ Some e
-stays e true true = ap (λ (t : Bool). cond t (Some refusal.NumbersExhausted) (Some e)) (last-of e)
-stays e true false = ap (λ (t : Bool). cond t (Some refusal.NumbersExhausted) (Some e)) (last-of e)
-stays e false true = ap (λ (t : Bool). cond t (Some refusal.NumbersExhausted) (Some e)) (last-of e)
+    → earlier (Some e) (earlier (where_ b Refusal.NumbersExhausted) (where_ c Refusal.NumbersExhausted)) ≡ Some e
+stays e true true = ap (λ (t : Bool). cond t (Some Refusal.NumbersExhausted) (Some e)) (last-of e)
+stays e true false = ap (λ (t : Bool). cond t (Some Refusal.NumbersExhausted) (Some e)) (last-of e)
+stays e false true = ap (λ (t : Bool). cond t (Some Refusal.NumbersExhausted) (Some e)) (last-of e)
 stays e false false = refl
 
 first-cause : (p q : Option Refusal) (b c : Bool) (e : Refusal) → earlier p q ≡ Some e
-    → earlier p (earlier q (earlier (where_ b refusal.NumbersExhausted) (where_ c refusal.NumbersExhausted))) ≡ Some e
+    → earlier p (earlier q (earlier (where_ b Refusal.NumbersExhausted) (where_ c Refusal.NumbersExhausted))) ≡ Some e
 first-cause None None b c e is = absurd (none-some e is)
 first-cause None (Some k) b c e is = stays k b c ∙ is
 first-cause (Some f) None b c e is = stays f b c ∙ is
@@ -59,7 +59,7 @@ no-cause (Some e) (Some f) is = absurd (some-of (nat_lt (refusal_number f) (refu
 
 is-there : (b : Bool) → no_such b ≡ None → b ≡ true
 is-there true is = refl
-is-there false is = absurd (none-some refusal.NoSuch (sym is))
+is-there false is = absurd (none-some Refusal.NoSuch (sym is))
 
 -- the least cause is never the want of memory
 apart-earlier : (p q : Option Refusal) → memory_apart p ≡ p → memory_apart q ≡ q → memory_apart (earlier p q) ≡ earlier p q
@@ -72,14 +72,14 @@ apart-earlier (Some e) (Some f) a b = by-test (nat_lt (refusal_number f) (refusa
 
 apart-twice : (c : Option Refusal) → memory_apart (memory_apart c) ≡ memory_apart c
 apart-twice None = refl
-apart-twice (Some refusal.OutOfMemory) = refl
+apart-twice (Some Refusal.OutOfMemory) = refl
 apart-twice (Some e) = refl
 
 least-apart : (cs : List (Option Refusal)) → memory_apart (least cs) ≡ least cs
 least-apart [] = refl
 least-apart (c ∷ cs) = apart-earlier (memory_apart c) (least cs) (apart-twice c) (least-apart cs)
 
-lacks-first : (c : Bool) → earlier (Some refusal.NumbersExhausted) (where_ c refusal.NumbersExhausted) ≡ Some refusal.NumbersExhausted
+lacks-first : (c : Bool) → earlier (Some Refusal.NumbersExhausted) (where_ c Refusal.NumbersExhausted) ≡ Some Refusal.NumbersExhausted
 lacks-first true = refl
 lacks-first false = refl
 
@@ -87,16 +87,16 @@ module _ {C : Type 0} (M : Meaning C) where
   -- no load was set at a group that isn't there
   nothing-loaded : (h : History C) → IsRun M h → (g : ℕ) → made_at g h ≡ None → (b : Member) → load_of g b h ≡ 0
   nothing-loaded [] run g none b = refl
-  nothing-loaded ((step.group r a cs, answer.Group n) ∷ h) run g none b = nothing-loaded h run.0 g (get-front (made h) _ g none) b
-  nothing-loaded ((step.load i (Some c) l, answer.Done) ∷ h) run g none b =
-      let m = found-of {C = C} (step.load i (Some c) l) (made_at i h) _ answer.Done refl run.1 in
+  nothing-loaded ((Step.group r a cs, Answer.Group n) ∷ h) run g none b = nothing-loaded h run.0 g (get-front (made h) _ g none) b
+  nothing-loaded ((Step.load i (Some c) l, Answer.Done) ∷ h) run g none b =
+      let m = found-of {C = C} (Step.load i (Some c) l) (made_at i h) _ Answer.Done refl run.1 in
       rw (ne_eqb i g (λ e. none-some m.0 (sym none ∙ sym (ap (λ (j : ℕ). made_at j h) e) ∙ m.1))) (nothing-loaded h run.0 g none b)
   nothing-loaded ((st, a) ∷ h) run g none b = nothing-loaded h run.0 g none b
 
   -- the entry of the new group
   entry-made : (h : History C) (r a : ℕ) (id : GateId) (cs : List C) (n : ℕ) (e : EntryValue C) → IsRun M h → r < length (registries h)
       → IsNewEntry r a id cs (registry.registered_after (registry_events r h) + 1) e
-      → EntryIs ((step.group r a cs, answer.Group n) ∷ h) (length (made h)) e
+      → EntryIs ((Step.group r a cs, Answer.Group n) ∷ h) (length (made h)) e
   entry-made h r a id cs n e run within new =
       let none : made_at (length (made h)) h ≡ None = slice_get_past (made h) (length (made h)) (omega arith) in
       let was = absent M h run (length (made h)) none in
@@ -129,14 +129,14 @@ module _ {C : Type 0} {M : Meaning C} {w : WorldValue C} {h : History C} (s : St
 
   told-so : (o : Option Refusal)
       → earlier (no_such (in_tables w r a)) (earlier (memory_apart least-cause) (earlier (no_number given) (no_number cells))) ≡ o
-      → answer_after M h (step.group r a cs) ≡ unless_refused o (answer.Group (length (made h)))
+      → answer_after M h (Step.group r a cs) ≡ unless_refused o (Answer.Group (length (made h)))
   told-so o is =
-      ap (λ (x : Option Refusal). unless_refused x (answer.Group (length (made h))))
+      ap (λ (x : Option Refusal). unless_refused x (Answer.Group (length (made h))))
       (ap2 (λ (n m : ℕ). earlier (no_such (nat_lt r n && nat_lt a m))
       (earlier (memory_apart least-cause) (earlier (no_number given) (no_number cells)))) (sym s.registries_are) (sym s.gates_are) ∙ is)
 
   -- no cause stands: registry and gate are there
-  pub none-stands : earlier (no_such (in_tables w r a)) least-cause ≡ None
+  none-stands : earlier (no_such (in_tables w r a)) least-cause ≡ None
       → (r < length w.registries) × (a < length w.gates) × (least-cause ≡ None)
   none-stands none =
       let both = no-cause (no_such (in_tables w r a)) least-cause none in
@@ -144,23 +144,28 @@ module _ {C : Type 0} {M : Meaning C} {w : WorldValue C} {h : History C} (s : St
       (ltb-true r (length w.registries) parts.0, ltb-true a (length w.gates) parts.1, both.1)
 
   pub group-caused : (e : Refusal) → earlier (no_such (in_tables w r a)) least-cause ≡ Some e
-      → Stands M w ((step.group r a cs, answer.Refused e) ∷ h)
+      → Stands M w ((Step.group r a cs, Answer.Refused e) ∷ h)
   group-caused e is =
-      world-refused s (step.group r a cs) e
+      world-refused s (Step.group r a cs) e
       (inl (sym (told-so (Some e)
       (first-cause (no_such (in_tables w r a)) (memory_apart least-cause) (nat_le (2 ^ 64) given) (nat_le (2 ^ 64) cells) e
       (ap (earlier (no_such (in_tables w r a))) (least-apart (map (M.refusal []) cs)) ∙ is)))))
 
-  -- registry and gate are there, and each selector can be built
-  module _ {u : RegistryValue WorldRule} (in_ : slice_get w.registries r ≡ Some u) (at : a < length w.gates) (none : least-cause ≡ None)
+  -- no cause stands, and the registry was read
+  module _ {u : RegistryValue WorldRule} (none : earlier (no_such (in_tables w r a)) least-cause ≡ None)
+      (read : u ≡ get_or w.registries r u)
     where
+      in_ : slice_get w.registries r ≡ Some u
+      in_ = at-place w.registries r u (none-stands none).0 read
+
       told-then : (o : Option Refusal) → earlier (no_number given) (no_number cells) ≡ o
-          → answer_after M h (step.group r a cs) ≡ unless_refused o (answer.Group (length (made h)))
+          → answer_after M h (Step.group r a cs) ≡ unless_refused o (Answer.Group (length (made h)))
       told-then o is =
           told-so o
           (ap2 (λ (b : Bool) (x : Option Refusal). earlier (no_such b) (earlier (memory_apart x)
           (earlier (no_number given) (no_number cells))))
-          (ap2 ◌&&◌ (lt-ltb r (length w.registries) (slice_get_within w.registries r u in_)) (lt-ltb a (length w.gates) at)) none ∙ is)
+          (ap2 ◌&&◌ (lt-ltb r (length w.registries) (none-stands none).0) (lt-ltb a (length w.gates) (none-stands none).1))
+          (none-stands none).2 ∙ is)
 
       -- a number of a cell is left, since marks that are applied start no cell
       cells-fit : cells < 2 ^ 64
@@ -170,46 +175,57 @@ module _ {C : Type 0} {M : Meaning C} {w : WorldValue C} {h : History C} (s : St
 
       pub group-is-full : ((key_of : Member → Member) (events : List Event) → IsRegistryAfter key_gives key_of events u
           → 2 ^ 64 ≤ registry.registered_after events + 1)
-          → Stands M (record w { registries = slice_set w.registries r u }) ((step.group r a cs, answer.Refused refusal.NumbersExhausted) ∷ h)
+          → Stands M (record w { registries = slice_set w.registries r u })
+          ((Step.group r a cs, Answer.Refused Refusal.NumbersExhausted) ∷ h)
       group-is-full many =
           let now = s.kept r u in_ in
           let refused =
-          world-refused s (step.group r a cs) refusal.NumbersExhausted
-          (inl (sym (told-then (Some refusal.NumbersExhausted)
-          (ap (λ (b : Bool). earlier (where_ b refusal.NumbersExhausted) (no_number cells)) (le-leb (2 ^ 64) given (many _ _ now))
+          world-refused s (Step.group r a cs) Refusal.NumbersExhausted
+          (inl (sym (told-then (Some Refusal.NumbersExhausted)
+          (ap (λ (b : Bool). earlier (where_ b Refusal.NumbersExhausted) (no_number cells)) (le-leb (2 ^ 64) given (many _ _ now))
           ∙ lacks-first (nat_le (2 ^ 64) cells))))) in
           registry-lent refused r u u in_ (refused.kept r u in_)
 
-      module _ (left : (key_of : Member → Member) (events : List Event) → IsRegistryAfter key_gives key_of events u
-          → registry.registered_after events + 1 < 2 ^ 64) where
-        fits : answer_after M h (step.group r a cs) ≡ answer.Group (length (made h))
+      -- it was told not to be full
+      module _ {full : Bool} (tells : (key_of : Member → Member) (events : List Event) → IsRegistryAfter key_gives key_of events u
+          → (IsTrue full ↔ (2 ^ 64 ≤ registry.registered_after events + 1))) (room : full ≡ false) where
+        left : (key_of : Member → Member) (events : List Event) → IsRegistryAfter key_gives key_of events u
+            → registry.registered_after events + 1 < 2 ^ 64
+        left key_of events now = not-full full _ (tells key_of events now) room
+
+        fits : answer_after M h (Step.group r a cs) ≡ Answer.Group (length (made h))
         fits =
             told-then None
             (ap2 earlier (number-left given (left _ _ (s.kept r u in_))) (number-left cells cells-fit))
 
         pub group-lacks : (e : Refusal) (v : RegistryValue WorldRule)
-            → ((key_of : Member → Member) (events : List Event) → IsRegistryAfter key_gives key_of events u → e ≡ refusal.OutOfMemory)
+            → ((key_of : Member → Member) (events : List Event) → IsRegistryAfter key_gives key_of events u
+            → registry.registered_after events + 1 < 2 ^ 64 → e ≡ Refusal.OutOfMemory)
             → ((key_of : Member → Member) (events : List Event) → IsRegistryAfter key_gives key_of events u
             → IsRegistryAfter key_gives key_of events v)
-            → Stands M (record w { registries = slice_set w.registries r v }) ((step.group r a cs, answer.Refused e) ∷ h)
+            → Stands M (record w { registries = slice_set w.registries r v }) ((Step.group r a cs, Answer.Refused e) ∷ h)
         group-lacks e v memory after =
+            let now = s.kept r u in_ in
             let refused =
-            world-refused s (step.group r a cs) e
-            (inr (ap answer.Refused (memory _ _ (s.kept r u in_)) ∙ sym (ap (without_memory {C = C} (step.group r a cs)) fits))) in
+            world-refused s (Step.group r a cs) e
+            (inr (ap Answer.Refused (memory _ _ now (left _ _ now)) ∙ sym (ap (without_memory {C = C} (Step.group r a cs)) fits))) in
             registry-lent refused r u v in_ (after _ _ (refused.kept r u in_))
 
         pub group-made : (n : ℕ) (z : GateView) (v : RegistryValue WorldRule) (e : EntryValue C) → n ≡ length w.groups
-            → slice_get w.gates a ≡ Some z
-            → IsNewEntry r a z.id cs given e
-            → IsRegistryAfter key_gives (key_at r h) (registry.Applied ∷ registry.Registered ∷ registry_events r h) v
+            → z ≡ get_or w.gates a z
+            → ((key_of : Member → Member) (events : List Event) → IsRegistryAfter key_gives key_of events u
+            → IsNewEntry r a z.id cs (registry.registered_after events + 1) e
+            × IsRegistryAfter key_gives key_of (registry.Applied ∷ registry.Registered ∷ events) v)
             → Stands M (record w { registries = slice_set w.registries r v; groups = w.groups ++ e ∷ [] })
-            ((step.group r a cs, answer.Group n) ∷ h)
-        group-made n z v e number gate-there new now =
-            let k : History C = (step.group r a cs, answer.Group n) ∷ h in
+            ((Step.group r a cs, Answer.Group n) ∷ h)
+        group-made n z v e number gate-read makes =
+            let new = (makes _ _ (s.kept r u in_)).0 in
+            let now = (makes _ _ (s.kept r u in_)).1 in
+            let k : History C = (Step.group r a cs, Answer.Group n) ∷ h in
             let within : r < length (registries h) = omega (arith, slice_get_within w.registries r u in_, s.registries_are) in
             let more : length (slice_set w.registries r v) ≡ length w.registries = length-set w.registries r v in
             record {
-              run = (s.run, inl (ap answer.Group (number ∙ s.groups_are) ∙ sym fits));
+              run = (s.run, inl (ap Answer.Group (number ∙ s.groups_are) ∙ sym fits));
               registries_are = more ∙ s.registries_are;
               gates_are = s.gates_are;
               groups_are = length_push w.groups e ∙ ap (λ (i : ℕ). i + 1) s.groups_are ∙ sym (length_push (made h) _);
@@ -227,7 +243,7 @@ module _ {C : Type 0} {M : Meaning C} {w : WorldValue C} {h : History C} (s : St
                   each-push w.groups e
                   (record {
                     view = z;
-                    gate = ap (slice_get w.gates) new.gate_is ∙ gate-there;
+                    gate = ap (slice_get w.gates) new.gate_is ∙ at-place w.gates a z (none-stands none).1 gate-read;
                     id = sym new.id_is;
                     registry = omega (arith, new.registry_is, within, more, s.registries_are);
                   })

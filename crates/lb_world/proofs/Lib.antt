@@ -3,7 +3,6 @@ pub mod Places
 pub mod Entries
 pub mod Tasks
 pub mod Selects
-pub mod SameSets
 pub mod Listed
 pub mod CellCounts
 pub mod Updates

@@ -1,6 +1,6 @@
 -- A history after more steps, and what holds of each of its steps where it is a run.
 use Rattle.lb_world.specs.Ever.{Always, EachStep}
-use Rattle.lb_world.proofs.Words.{◌++◌, ◌∷◌, ◌≡◌, [], after, Answer, arith, History, IsRun, length, List, Meaning, refl, Step}
+use Rattle.lb_world.proofs.Words.{◌∷◌, ◌≡◌, ◌++◌, [], after, Answer, arith, History, IsRun, length, List, Meaning, refl, Step}
 
 -- one step more, with its answer
 pub after-push :

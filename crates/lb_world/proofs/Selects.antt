@@ -1,42 +1,35 @@
 -- The steps that select: what is told of the core's selection is what the history tells, and the counter of tickets is where it left it.
-use Rattle.lb_group.proofs.Pasts.{members-past, past-other, past-same}
 use Rattle.lb_group.proofs.Selecting.{handed-selects}
 use Rattle.lb_group.proofs.SlotSteps.{drew-step}
 use Rattle.lb_group.specs.Drawn.{DrawnGives, DrawnValue}
 use Rattle.lb_group.specs.GroupCalls.{SelectsIn}
-use Rattle.lb_group.specs.GroupHistory.{At, Drew, IsPast, drawn, served_members}
+use Rattle.lb_group.specs.GroupHistory.{Drew, IsPast, drawn, served_members}
 use Rattle.lb_group.specs.SlotCalls.{SelectsFrom, drawn_slot}
 use Rattle.lb_group.specs.Stands.{group_after, slot_after, slots_after}
 use Rattle.lb_group.specs.Values.{SlotValue}
 use Rattle.lb_group.specs.declared.answers.Selection.{Selection}
-use Rattle.lb_health.specs.Joined.{IsReady}
-use Rattle.lb_history.proofs.Runs.{slots}
-use Rattle.lb_history.specs.Answers.{Judges, SelectAnswers, selected}
-use Rattle.lb_history.specs.History.{drew, registry_of}
-use Rattle.lb_history.specs.Shared.{events_in}
+use Rattle.lb_history.specs.Answers.{SelectAnswers, selected}
+use Rattle.lb_history.specs.History.{drew}
 use Rattle.lb_select.proofs.SelectionsSeen.{selects-more}
 use Rattle.lb_select.specs.Draws.{Draw, LoadedGives}
 use Rattle.lb_select.specs.Selections.{Selects}
 use Rattle.lb_world.specs.Calls.{selected_as, selection_as}
-use Rattle.std.specs.Prelude.{MatchOption}
 use Rattle.lb_group.specs.Stands as group-made
 use Rattle.lb_joined.specs.Stands as stands
-use Rattle.lb_history.specs.Steps as step
 use Rattle.lb_group.specs.GroupHistory as group
 use Rattle.lb_joined.specs.JoinedHistory as joined
-use Rattle.lb_history.specs.declared.answer.Answer.TheVariants as answer
-use Rattle.lb_select.specs.declared.refusal.Refusal.TheVariants as refusal
 use Rattle.lb_joined.specs.JoinedCalls as calls
 use Rattle.lb_history.specs.Answers as answers
-use Rattle.lb_world.proofs.Words.{◌&&◌, ◌++◌, ◌+◌, ◌==◌, ◌↔◌, ◌∙◌, ◌∷◌, ◌≡◌, [], Answer, ap, ap2, Before, Bool, cases_eq, changed, cond}
-use Rattle.lb_world.proofs.Words.{config, configs_of, EntryNext, EntryValue, Err, false, gate, GateId, GateView, group-of, group_events}
-use Rattle.lb_world.proofs.Words.{happened, History, inl, inr, IsTrue, joined_after, joined_events, JoinedValue, key_of, length, List}
-use Rattle.lb_world.proofs.Words.{list_all, load_in, load_of, lt-ltb, made, Made, Meaning, Member, members_of, nat_le, nat_lt, None, Ok}
-use Rattle.lb_world.proofs.Words.{Option, past, past_of, permit_after, promised, refl, Refusal, registry_events, RegistryValue, Result}
-use Rattle.lb_world.proofs.Words.{same_member, served, shares, site, slice_get, slice_get_within, Some, Step, subst, sym, true, ViewEvent}
+use Rattle.lb_world.proofs.Words.{◌+◌, ◌∙◌, ◌↔◌, ◌++◌, ◌≡◌, ◌&&◌, ◌∷◌, ◌==◌, [], Answer, ap, ap2, At, Before, Bool, cases_eq, changed, cond}
+use Rattle.lb_world.proofs.Words.{config, configs_of, EntryNext, EntryValue, Err, events_in, false, gate, GateId, GateView, group-of}
+use Rattle.lb_world.proofs.Words.{group_events, happened, History, inl, inr, IsReady, IsTrue, joined_after, joined_events, JoinedValue}
+use Rattle.lb_world.proofs.Words.{Judges, key_of, length, List, list_all, load_in, load_of, lt-ltb, made, Made, MatchOption, Meaning}
+use Rattle.lb_world.proofs.Words.{Member, members-past, members_of, nat_le, nat_lt, None, Ok, Option, past, past-other, past-same, past_of}
+use Rattle.lb_world.proofs.Words.{permit_after, promised, refl, Refusal, registry_events, registry_of, RegistryValue, Result, same_member}
+use Rattle.lb_world.proofs.Words.{served, shares, site, slice_get, slice_get_within, Some, Step, subst, sym, true, ViewEvent}
 use Rattle.lb_world.proofs.Words.{views_of, with_core, Work, worked, WorldRule, ℕ}
 use Rattle.lb_world.proofs.Places.{there}
-use Rattle.lb_world.proofs.Entries.{config-here, next-core, no_grant, registry-here, slot-or, unshared, views-are}
+use Rattle.lb_world.proofs.Entries.{config-here, next-core, next-refused, no_grant, registry-here, slot-or, unshared, views-are}
 
 -- A counter that is left where it stands changes nothing.
 undrawn-slot : {C : Type 0} (id : GateId) (i s t : ℕ) (c : C) (k : group.History) → t ≡ drawn (past_of s k)
@@ -83,7 +76,7 @@ undrawn made s t e v is was =
     }
 
 -- the answer of a selection that was refused for memory alone, as a history has it
-told-selected : (r : Result (Option Member) Refusal) (t : ℕ) → ((e : Refusal) → r ≡ Err e → e ≡ refusal.OutOfMemory)
+told-selected : (r : Result (Option Member) Refusal) (t : ℕ) → ((e : Refusal) → r ≡ Err e → e ≡ Refusal.OutOfMemory)
     → selected_as r t ≡ selected t r
 told-selected (Ok None) t alone = refl
 told-selected (Ok (Some b)) t alone = refl
@@ -92,7 +85,7 @@ told-selected (Err e) t alone = rw (alone e refl) refl
 alone-by : {S : Type 0} (accepts : Member → Bool → Type 0) (limit : ℕ) (gives : S → Draw → S → Type 0)
     (walks : List Draw → List Member → Bool → Type 0) (s t : S)
     (r : Result (Option Member) Refusal) → Selects same_member accepts limit gives walks s r t → (e : Refusal) → r ≡ Err e
-    → e ≡ refusal.OutOfMemory
+    → e ≡ Refusal.OutOfMemory
 alone-by accepts limit gives walks s t (Ok o) is e to = absurd (cc)
 alone-by accepts limit gives walks s t (Err x) is e to = let same : x ≡ e = cc in sym same ∙ is.0
 
@@ -103,7 +96,7 @@ no-draws (Some c) s t = refl
 module _ {C : Type 0} {M : Meaning C} {h : History C} {g : ℕ} {e : EntryValue C} {z : GateView} {v : RegistryValue WorldRule}
     (b : Before M h g e z v) (s : ℕ) (key : List ℕ) (limit : ℕ) (words : List ℕ) (sel : Selection) where
   abbrev st : Step C
-  st = step.select g s key limit words
+  st = Step.select g s key limit words
 
   abbrev Right : Answer → Type 0
   Right a = SelectAnswers M h g s key limit words a
@@ -117,8 +110,8 @@ module _ {C : Type 0} {M : Meaning C} {h : History C} {g : ℕ} {e : EntryValue 
 
   -- by where the slot is there, and enough words were handed in
   data Selected : Type 0 where
-    refused : (c : C) → slice_get (configs_of e.core.group) s ≡ Some c → sel.answer ≡ Err refusal.NotEnoughWords
-        → sel.tickets ≡ drawn (past g s h) → Right (answer.Refused refusal.NotEnoughWords) → Selected
+    refused : (c : C) → slice_get (configs_of e.core.group) s ≡ Some c → sel.answer ≡ Err Refusal.NotEnoughWords
+        → sel.tickets ≡ drawn (past g s h) → Right (Answer.Refused Refusal.NotEnoughWords) → Selected
     told : selected_as sel.answer sel.tickets ≡ selected sel.tickets sel.answer → Right (selected sel.tickets sel.answer) → Selected
 
   judged-alike : (m : Member) (is : Bool) → Was m is → Judges h g (served (past g s h)) m is
@@ -132,10 +125,10 @@ module _ {C : Type 0} {M : Meaning C} {h : History C} {g : ℕ} {e : EntryValue 
       (ap (λ (k : group.History). served (past_of s k)) (group-of g h)) was))
 
   placed : (c : Option C) (a : Answer) → slice_get (configs_of e.core.group) s ≡ c
-      → MatchOption c (a ≡ answer.NoBackend 0) (λ x. answers.SelectsIn M h g s (served (past g s h)) x key limit words a) → Right a
+      → MatchOption c (a ≡ Answer.NoBackend 0) (λ x. answers.SelectsIn M h g s (served (past g s h)) x key limit words a) → Right a
   placed c a at right =
-      subst (λ (o : Option (Made C)). MatchOption o (a ≡ answer.Refused refusal.NoSuch)
-      (λ m. MatchOption (slice_get m.configs s) (a ≡ answer.NoBackend 0)
+      subst (λ (o : Option (Made C)). MatchOption o (a ≡ Answer.Refused Refusal.NoSuch)
+      (λ m. MatchOption (slice_get m.configs s) (a ≡ Answer.NoBackend 0)
       (λ x. answers.SelectsIn M h g s (served (past g s h)) x key limit words a))) (sym b.is.made_is) (rw at right)
 
   -- the selection of a slot that is there
@@ -159,7 +152,7 @@ module _ {C : Type 0} {M : Meaning C} {h : History C} {g : ℕ} {e : EntryValue 
           → Selected
       by-words from true few =
           let short = rw few at from in
-          refused c at short.0 short.2 (placed (Some c) (answer.Refused refusal.NotEnoughWords) at (rw few refl))
+          refused c at short.0 short.2 (placed (Some c) (Answer.Refused Refusal.NotEnoughWords) at (rw few refl))
       by-words from false enough =
           let long = rw enough at from in
           let t : DrawnValue = long.0 in
@@ -179,7 +172,7 @@ module _ {C : Type 0} {M : Meaning C} {h : History C} {g : ℕ} {e : EntryValue 
             let none-told = rw none.0 at all in
             told (told-selected sel.answer sel.tickets (λ x to. absurd (ok-err none-told.0 to)))
             (placed None (selected sel.tickets sel.answer) none.0
-            (ap (selected sel.tickets) none-told.0 ∙ ap (λ (n : ℕ). answer.NoBackend n) none-told.2))
+            (ap (selected sel.tickets) none-told.0 ∙ ap (λ (n : ℕ). Answer.NoBackend n) none-told.2))
         | inr at ↦ from-slot at.0 at.1 (rw at.1 at all)
       ]
     where
@@ -207,9 +200,9 @@ module _ {C : Type 0} {M : Meaning C} {h : History C} {g : ℕ} {e : EntryValue 
 
     to-told : (r : Result (Option Member) Refusal) → Right (selected sel.tickets r)
         → EntryNext M h g st (selected sel.tickets r) e z (with_core core e) z v
-    to-told (Ok None) right = drew-next (answer.NoBackend sel.tickets) refl refl (λ q. refl) refl refl right
-    to-told (Ok (Some m)) right = drew-next (answer.Backend m sel.tickets) refl refl (λ q. refl) refl refl right
-    to-told (Err y) right = drew-next (answer.NotSelected sel.tickets) refl refl (λ q. refl) refl refl right
+    to-told (Ok None) right = drew-next (Answer.NoBackend sel.tickets) refl refl (λ q. refl) refl refl right
+    to-told (Ok (Some m)) right = drew-next (Answer.Backend m sel.tickets) refl refl (λ q. refl) refl refl right
+    to-told (Err y) right = drew-next (Answer.NotSelected sel.tickets) refl refl (λ q. refl) refl refl right
 
     by-selected : Selected → EntryNext M h g st (selection_as sel) e z (with_core core e) z v
     by-selected (told same-answer right) =
@@ -221,8 +214,7 @@ module _ {C : Type 0} {M : Meaning C} {h : History C} {g : ℕ} {e : EntryValue 
         (left ∙ ap (λ (k : group.History). drawn (past_of s k)) (sym (group-of g h))) (rw within at moved) in
         subst (λ (a : Answer). EntryNext M h g st a e z (with_core core e) z v)
         (sym (ap (λ (r : Result (Option Member) Refusal). selected_as r sel.tickets) short))
-        (next-core b st (answer.Refused refusal.NotEnoughWords) refl right same back refl (λ q. refl) (λ m. refl) refl
-        (unshared b st (answer.Refused refusal.NotEnoughWords) refl refl))
+        (next-refused b st Refusal.NotEnoughWords refl right same back)
 
   -- a selection, by what the core answered
   pub does-select : {core : JoinedValue C} → stands.SameSite e.core core → Told (joined.group_events (joined_events g h))

@@ -4,42 +4,34 @@ use Rattle.lb_group.specs.GroupHistory.{is_cancelled}
 use Rattle.lb_group.specs.declared.schedule.Scheduled.{Scheduled}
 use Rattle.lb_health.specs.Joined.{registry_updated}
 use Rattle.lb_health.specs.ViewEvents.{membership_after}
-use Rattle.lb_history.proofs.Absent.{absent}
 use Rattle.lb_history.proofs.Joining.{follows}
-use Rattle.lb_history.proofs.Numbering.{numbered}
 use Rattle.lb_history.proofs.Registered.{is-registered}
 use Rattle.lb_history.proofs.Together.{schedules-alike}
-use Rattle.lb_history.specs.Answers.{has_refused, update_answer}
+use Rattle.lb_history.specs.Answers.{update_answer}
 use Rattle.lb_history.specs.Joined.{Updated}
-use Rattle.lb_history.specs.Shared.{events_in, view_in}
 use Rattle.lb_joined.specs.JoinedCalls.{IsRefusedFor, Schedules, after_schedule}
 use Rattle.lb_world.specs.Calls.{scheduled_as}
-use Rattle.std.proofs.Common.{true≢false}
-use Rattle.std.proofs.lemmas.Bool.{le-leb, not-false}
-use Rattle.std.proofs.lemmas.Bool.Decides.{leb_tells}
+use Rattle.std.proofs.lemmas.Bool.{not-false}
 use Rattle.lb_joined.specs.Stands as stands
-use Rattle.lb_history.specs.Steps as step
 use Rattle.lb_group.specs.GroupHistory as group
 use Rattle.lb_joined.specs.JoinedHistory as joined
 use Rattle.lb_registry.specs.RegistryEvents as registry
-use Rattle.lb_history.specs.declared.answer.Answer.TheVariants as answer
-use Rattle.lb_select.specs.declared.refusal.Refusal.TheVariants as refusal
-use Rattle.lb_world.proofs.Words.{◌&&◌, ◌+◌, ◌==◌, ◌^◌, ◌↔◌, ◌∙◌, ◌∷◌, ◌≡◌, ◌≤◌, Answer, answer_after, Answers, ap, ap2, at_one, Before}
-use Rattle.lb_world.proofs.Words.{Bool, changed, cond, earlier, EntryNext, EntryValue, Err, false, GateView, group-of, group_events}
-use Rattle.lb_world.proofs.Words.{History, inl, inr, IsRegistryAfter, IsTrue, joined_after, joined_events, JoinedValue, key_gives, key_of}
-use Rattle.lb_world.proofs.Words.{List, Listing, Made, made_at, made_of, Meaning, members_in, members_of, nat_le, newest, no_number, None}
-use Rattle.lb_world.proofs.Words.{Ok, Option, refl, Refusal, refuse, registry_events, RegistryValue, Result, same_members, settings_in}
-use Rattle.lb_world.proofs.Words.{shares, site, Some, Step, subst, sym, true, unless_refused, view_events, ViewEvent, views_of, where_}
-use Rattle.lb_world.proofs.Words.{with_core, without_memory, WorldRule, ℕ}
-use Rattle.lb_world.proofs.Entries.{joined-here, next-core, registry-here, shared, views-are}
-use Rattle.lb_world.proofs.Selects.{Told}
+use Rattle.lb_world.proofs.Words.{◌+◌, ◌∙◌, ◌↔◌, ◌^◌, ◌≡◌, ◌&&◌, ◌∷◌, ◌==◌, ◌≤◌, absent, Answer, answer_after, Answers, ap, ap2, at_one}
+use Rattle.lb_world.proofs.Words.{Before, Bool, changed, cond, earlier, EntryNext, EntryValue, Err, events_in, false, GateView, group-of}
+use Rattle.lb_world.proofs.Words.{group_events, has_refused, History, inl, inr, IsRegistryAfter, IsTrue, joined_after, joined_events}
+use Rattle.lb_world.proofs.Words.{JoinedValue, key_gives, key_of, le-leb, leb_tells, List, Listing, Made, made_at, made_of, Meaning}
+use Rattle.lb_world.proofs.Words.{members_in, members_of, nat_le, newest, no_number, None, numbered, Ok, Option, refl, Refusal, refuse}
+use Rattle.lb_world.proofs.Words.{registry_events, RegistryValue, Result, same_members, settings_in, shares, site, Some, Step, subst, sym}
+use Rattle.lb_world.proofs.Words.{true, true≢false, unless_refused, view_events, view_in, ViewEvent, views_of, where_, with_core}
+use Rattle.lb_world.proofs.Words.{without_memory, WorldRule, ℕ}
+use Rattle.lb_world.proofs.Entries.{joined-here, next-core, next-refused, registry-here, shared, views-are}
 
 -- A cause of the group's goes before one of the registry's.
 abbrev cause : Bool → Bool → Option Refusal
-cause a b = cond a (Some refusal.GenerationsExhausted) (cond b (Some refusal.GroupCancelled) None)
+cause a b = cond a (Some Refusal.GenerationsExhausted) (cond b (Some Refusal.GroupCancelled) None)
 
 first-cause : (a b c d : Bool) (r : Refusal) → cause a b ≡ Some r
-    → earlier (cause a b) (cond c (where_ d refusal.NumbersExhausted) None) ≡ Some r
+    → earlier (cause a b) (cond c (where_ d Refusal.NumbersExhausted) None) ≡ Some r
 first-cause true b true true r is = is
 first-cause true b true false r is = is
 first-cause true b false d r is = is
@@ -55,14 +47,14 @@ uncancelled : (a b : Bool) → cause a b ≡ None → b ≡ false
 uncancelled false false is = refl
 uncancelled a b is = absurd (cc)
 
-unlacked : (c d : Bool) → (c ≡ true → d ≡ false) → cond c (where_ d refusal.NumbersExhausted) None ≡ None
+unlacked : (c d : Bool) → (c ≡ true → d ≡ false) → cond c (where_ d Refusal.NumbersExhausted) None ≡ None
 unlacked true d is = rw (is refl) refl
 unlacked false d is = refl
 
 same-events : (es fs : List registry.Event) (t : Bool) → t ≡ true → cond t es fs ≡ es
 same-events es fs t is = rw is refl
 
-memory-told : {C : Type 0} (st : Step C) (n : ℕ) (c : Bool) → without_memory st (update_answer n c) ≡ answer.Refused refusal.OutOfMemory
+memory-told : {C : Type 0} (st : Step C) (n : ℕ) (c : Bool) → without_memory st (update_answer n c) ≡ Answer.Refused Refusal.OutOfMemory
 memory-told st n true = refl
 memory-told st n false = refl
 
@@ -78,7 +70,7 @@ module _ {C : Type 0} {M : Meaning C} {h : History C} {g : ℕ} {e : EntryValue 
       registry.cells_given (key_of g h) (registry.Updated e.core.view.id (members_in ls) ∷ registry.Applied ∷ registry_events e.registry h)
 
   abbrev st : Step C
-  st = step.update g now ls
+  st = Step.update g now ls
 
   abbrev change : Bool
   change = is_change (members_in ls) (group_events g h)
@@ -100,7 +92,7 @@ module _ {C : Type 0} {M : Meaning C} {h : History C} {g : ℕ} {e : EntryValue 
       (no_number (registry.cells_given (key_of g h)
       (registry.Updated m.view (members_in ls) ∷ registry.Applied ∷ registry_events m.registry h))) None))
       (update_answer (newest (group_events g h)) change) in
-      ap (λ (t : Bool). cond t (refuse refusal.InvalidAddress) (at_one (made_at g h) Told)) whole
+      ap (λ (t : Bool). cond t (refuse Refusal.InvalidAddress) (at_one (made_at g h) Told)) whole
       ∙ ap (λ (o : Option (Made C)). at_one o Told) b.is.made_is
       ∙ ap (λ (o : Option Refusal). unless_refused o (update_answer (newest (group_events g h)) change)) is
 
@@ -113,7 +105,7 @@ module _ {C : Type 0} {M : Meaning C} {h : History C} {g : ℕ} {e : EntryValue 
 
   -- refused for a cause of the group's, for numbers, and for memory
   pub cause-right : (r : Refusal) → schedule_refusal (members_in ls) (joined.group_events (joined_events g h)) ≡ Some r
-      → Answers M h st (answer.Refused r)
+      → Answers M h st (Answer.Refused r)
   cause-right r some =
       inl
       (sym
@@ -121,15 +113,15 @@ module _ {C : Type 0} {M : Meaning C} {h : History C} {g : ℕ} {e : EntryValue 
       (first-cause (change && newest (group_events g h) == 18446744073709551615) (is_cancelled (group_events g h)) change
       (nat_le (2 ^ 64) cells) r (caused (Some r) some))))
 
-  numbers-right : causes ≡ None → change ≡ true → 2 ^ 64 ≤ cells → Answers M h st (answer.Refused refusal.NumbersExhausted)
+  numbers-right : causes ≡ None → change ≡ true → 2 ^ 64 ≤ cells → Answers M h st (Answer.Refused Refusal.NumbersExhausted)
   numbers-right none is more =
       inl
       (sym
-      (told-so (Some refusal.NumbersExhausted)
+      (told-so (Some Refusal.NumbersExhausted)
       (ap (λ (o : Option Refusal). earlier o (cond change (no_number cells) None)) none
-      ∙ ap2 (λ (c d : Bool). cond c (where_ d refusal.NumbersExhausted) None) is (le-leb (2 ^ 64) cells more))))
+      ∙ ap2 (λ (c d : Bool). cond c (where_ d Refusal.NumbersExhausted) None) is (le-leb (2 ^ 64) cells more))))
 
-  memory-right : causes ≡ None → (change ≡ true → nat_le (2 ^ 64) cells ≡ false) → Answers M h st (answer.Refused refusal.OutOfMemory)
+  memory-right : causes ≡ None → (change ≡ true → nat_le (2 ^ 64) cells ≡ false) → Answers M h st (Answer.Refused Refusal.OutOfMemory)
   memory-right none enough =
       inr (sym (ap (without_memory {C = C} st) (fits none enough) ∙ memory-told {C = C} st (newest (group_events g h)) change))
 
@@ -149,12 +141,12 @@ module _ {C : Type 0} {M : Meaning C} {h : History C} {g : ℕ} {e : EntryValue 
   counted lacking none told = rw (group-of g h) at (told (view-there none))
 
   pub counted-right : (lacking : Bool) → schedule_refusal (members_in ls) (joined.group_events (joined_events g h)) ≡ None
-      → Counted lacking → lacking ≡ true → Answers M h st (answer.Refused refusal.NumbersExhausted)
+      → Counted lacking → lacking ≡ true → Answers M h st (Answer.Refused Refusal.NumbersExhausted)
   counted-right lacking own told is =
       let none = caused None own in let both = (counted lacking none told).0 is in numbers-right none both.0 both.1
 
   pub uncounted-right : (lacking : Bool) → schedule_refusal (members_in ls) (joined.group_events (joined_events g h)) ≡ None
-      → Counted lacking → lacking ≡ false → Answers M h st (answer.Refused refusal.OutOfMemory)
+      → Counted lacking → lacking ≡ false → Answers M h st (Answer.Refused Refusal.OutOfMemory)
   uncounted-right lacking own told is =
       let none = caused None own in
       memory-right none
@@ -166,9 +158,9 @@ module _ {C : Type 0} {M : Meaning C} {h : History C} {g : ℕ} {e : EntryValue 
       schedule_refusal (members_in ls) (joined.group_events (joined_events g h)) ≡ None
       → is_change (members_in ls) (joined.group_events (joined_events g h)) ≡ true
       → registry.has_view e.core.view.id (registry.views_after (registry_events e.registry h)) ≡ true → 2 ^ 64 ≤ cells
-      → r ≡ Err refusal.NumbersExhausted
+      → r ≡ Err Refusal.NumbersExhausted
 
-  lacks : (r : Result Scheduled Refusal) → Lacking r → causes ≡ None → change ≡ true → 2 ^ 64 ≤ cells → r ≡ Err refusal.NumbersExhausted
+  lacks : (r : Result Scheduled Refusal) → Lacking r → causes ≡ None → change ≡ true → 2 ^ 64 ≤ cells → r ≡ Err Refusal.NumbersExhausted
   lacks r lacking none c more =
       lacking (ap (schedule_refusal (members_in ls)) (group-of g h) ∙ none) (ap (is_change (members_in ls)) (group-of g h) ∙ c)
       (view-there none) more
@@ -176,16 +168,16 @@ module _ {C : Type 0} {M : Meaning C} {h : History C} {g : ℕ} {e : EntryValue 
   -- a refusal of the core's
   pub does-refuse : (r : Refusal) {core : JoinedValue C} {u : RegistryValue WorldRule}
       → IsRefusedFor (joined.group_events (joined_events g h)) (members_in ls) r
-      → (r ≡ refusal.NoSuch → registry.has_view e.core.view.id (registry.views_after (registry_events e.registry h)) ≡ false)
-      → (r ≡ refusal.NumbersExhausted → 2 ^ 64 ≤ cells) → Lacking (Err r) → stands.SameSite e.core core
+      → (r ≡ Refusal.NoSuch → registry.has_view e.core.view.id (registry.views_after (registry_events e.registry h)) ≡ false)
+      → (r ≡ Refusal.NumbersExhausted → 2 ^ 64 ≤ cells) → Lacking (Err r) → stands.SameSite e.core core
       → stands.Stands (site e.core) (joined_events g h) core
       → IsRegistryAfter key_gives (key_of g h) (registry_events e.registry h) u
-      → EntryNext M h g st (answer.Refused r) e z (with_core core e) z u
-  does-refuse r why unknown numbers lacking same was kept =
-      next-core b st (answer.Refused r) refl right same was refl (λ s. refl) (λ m. refl) refl
-      (shared b st (answer.Refused r) refl refl kept)
+      → EntryNext M h g st (Answer.Refused r) e z (with_core core e) z u
+  does-refuse r {u = u} why unknown numbers lacking same was kept =
+      let lent : Before M h g e z u = record { run = b.run; is = b.is; out = b.out; kept = kept } in
+      next-refused lent st r refl right same was
     where
-      right : Answers M h st (answer.Refused r)
+      right : Answers M h st (Answer.Refused r)
       right =
           elim why [
             | inl own ↦ cause-right r own
@@ -249,12 +241,12 @@ module _ {C : Type 0} {M : Meaning C} {h : History C} {g : ℕ} {e : EntryValue 
 
       by-change : (c : Bool) → change ≡ c → EntryNext M h g st (update_answer N c) e z (with_core core e) z u
       by-change true is =
-          let a = answer.Generation (N + 1) in
+          let a = Answer.Generation (N + 1) in
           let right : Answers M h st a = inl (sym (told ∙ ap (update_answer N) is)) in
           next-core b st a refl right same (stays a (schedules-alike M h st a (b.run, right))) refl (λ s. refl) (λ m. refl) refl
           (kept-as (registry_events e.registry ((st, a) ∷ h)) (sym (shares M h st a (b.run, right) (made_of e) b.is.made_is)))
       by-change false is =
-          let a = answer.Same N in
+          let a = Answer.Same N in
           let right : Answers M h st a = inl (sym (told ∙ ap (update_answer N) is)) in
           next-core b st a refl right same (stays a (schedules-alike M h st a (b.run, right))) refl (λ s. refl) (λ m. refl) refl
           (shared b st a refl refl

@@ -1,7 +1,6 @@
 -- What the slot answers, and the job that goes to its place.
 use Rattle.lb_group.specs.GroupHistory.{building, busy, cancelled, not_due, up_to_date}
-use Rattle.lb_group.specs.SlotCalls.{ask_told}
-use Rattle.lb_world.proofs.Words.{◌<◌, ap, arith, configs_of, length, meaning_of}
+use Rattle.lb_world.proofs.Words.{◌<◌, ap, arith, ask_told, configs_of, length, meaning_of}
 use Rattle.lb_world.proofs.Places.{at-place}
 use Rattle.lb_world.proofs.Tasks.{does-grant, free-place, next-asked, next-unasked}
 use Rattle.lb_world.proofs.entry.Entry.ask.Goals as goal
@@ -26,7 +25,8 @@ returns-in-Err g c =
     rw (← c.self.view_is)
     (λ v h n b.
     let a = c.in-Err.ensures.answers _ _ b.is.core_is in
-    next-unasked b c.args.slot c.args.now _ a.0 a.1 c.ask.ensures.site (c.in-Err.ensures.stands _ _ b.is.core_is) c.in-Err.ensures.gate)
+    rw c.in-Err.ensures.gate
+    (next-unasked b c.args.slot c.args.now _ a.0 a.1 c.ask.ensures.site (c.in-Err.ensures.stands _ _ b.is.core_is)))
 
 pub returns-in-Ok-Cancelled : goal.returns-in-Ok-Cancelled
 returns-in-Ok-Cancelled g c =

@@ -1,5 +1,5 @@
 -- The core takes the selector out, and its report is owed then.
-use Rattle.lb_world.proofs.Words.{◌∙◌, after, false≢true, gate, refl, site, sym}
+use Rattle.lb_world.proofs.Words.{◌∙◌, false≢true, refl, site, sym}
 use Rattle.lb_world.proofs.Tasks.{does-destroy, does-refuse-destruction, owed-now}
 use Rattle.lb_world.proofs.entry.Entry.destroy.Goals as goal
 

@@ -1,10 +1,8 @@
 -- The core's flag.
 use Rattle.lb_joined.specs.Stands as stands
-use Rattle.lb_history.specs.Steps as seen
 use Rattle.lb_joined.specs.JoinedHistory as joined
-use Rattle.lb_history.specs.declared.answer.Answer.TheVariants as answer
-use Rattle.lb_world.proofs.Words.{◌∷◌, Before, Bool, cond, EntryNext, EntryValue, false, GateView, History, inl, joined_events, JoinedValue}
-use Rattle.lb_world.proofs.Words.{Meaning, Member, refl, RegistryValue, site, Some, sym, true, with_core, WorldRule, ℕ}
+use Rattle.lb_world.proofs.Words.{◌∷◌, Answer, Before, Bool, cond, EntryNext, EntryValue, false, GateView, History, inl, joined_events}
+use Rattle.lb_world.proofs.Words.{JoinedValue, Meaning, Member, refl, RegistryValue, site, Some, Step, sym, true, with_core, WorldRule, ℕ}
 use Rattle.lb_world.proofs.Entries.{group-told, next-core, unshared}
 use Rattle.lb_world.proofs.entry.Entry.set_enable.Goals as goal
 
@@ -12,15 +10,15 @@ module _ {C : Type 0} {M : Meaning C} {h : History C} {g : ℕ} {e : EntryValue 
     (b : Before M h g e z v) where
   does-set : {core : JoinedValue C} (m : Member) (on : Bool) → stands.SameSite e.core core
       → stands.Stands (site e.core) (joined.Set m on ∷ joined_events g h) core
-      → EntryNext M h g (cond on (seen.enable g (Some m)) (seen.disable g (Some m))) answer.Done e z (with_core core e) z v
+      → EntryNext M h g (cond on (Step.enable g (Some m)) (Step.disable g (Some m))) Answer.Done e z (with_core core e) z v
   does-set m true same stays =
-      next-core b (seen.enable g (Some m)) answer.Done refl (inl (sym (group-told b.is answer.Done))) same stays refl (λ s. refl)
+      next-core b (Step.enable g (Some m)) Answer.Done refl (inl (sym (group-told b.is Answer.Done))) same stays refl (λ s. refl)
       (λ m. refl)
-      refl (unshared b (seen.enable g (Some m)) answer.Done refl refl)
+      refl (unshared b (Step.enable g (Some m)) Answer.Done refl refl)
   does-set m false same stays =
-      next-core b (seen.disable g (Some m)) answer.Done refl (inl (sym (group-told b.is answer.Done))) same stays refl (λ s. refl)
+      next-core b (Step.disable g (Some m)) Answer.Done refl (inl (sym (group-told b.is Answer.Done))) same stays refl (λ s. refl)
       (λ m. refl)
-      refl (unshared b (seen.disable g (Some m)) answer.Done refl refl)
+      refl (unshared b (Step.disable g (Some m)) Answer.Done refl refl)
 
 pub returns : goal.returns
 returns g c =

@@ -1,10 +1,6 @@
 -- Why it is refused, and what the core's call does, as the history tells it.
-use Rattle.lb_history.specs.Steps as seen
-use Rattle.lb_history.specs.declared.answer.Answer.TheVariants as answer
-use Rattle.lb_select.specs.declared.refusal.Refusal.TheVariants as refusal
-use Rattle.lb_world.proofs.Words.{◌∙◌, ap, Err, refl, settings_in, sym}
-use Rattle.lb_world.proofs.Places.{there}
-use Rattle.lb_world.proofs.Entries.{itself, next-core, unshared}
+use Rattle.lb_world.proofs.Words.{◌∙◌, ap, Err, refl, Refusal, settings_in, Step, sym}
+use Rattle.lb_world.proofs.Entries.{itself, next-refused}
 use Rattle.lb_world.proofs.Updates.{cause-right, counted-right, does-refuse, does-update, uncounted-right}
 use Rattle.lb_world.proofs.entry.Entry.update.Goals as goal
 use Rattle.lb_world.proofs.entry.Entry.update.Goals.{in-Err, in-Ok-schedule}
@@ -13,11 +9,11 @@ pub returns-in-Some : goal.returns-in-Some
 returns-in-Some g c =
     rw (← c.self.view_is)
     (λ z h n b.
-    let st = seen.update n c.args.now c.args.listings.items in
-    next-core b st (answer.Refused c.in-Some.refusal) refl
+    let st = Step.update n c.args.now c.args.listings.items in
+    next-refused b st c.in-Some.refusal refl
     (cause-right b c.args.now c.args.listings.items c.requires.whole _
     (sym (sym c.in-Some.is ∙ rw c.deref.ensures.value at ((rw (← c.self.view_is) at c.refusal.ensures) _ _ b.is.core_is))))
-    (itself _) b.is.core_is refl (λ s. refl) (λ m. refl) refl (unshared b st (answer.Refused c.in-Some.refusal) refl refl))
+    (itself _) b.is.core_is)
 
 pub returns : goal.returns
 returns g c =
@@ -45,34 +41,31 @@ pub returns-then-lacks_numbers : goal.returns-then-lacks_numbers
 returns-then-lacks_numbers g c =
     rw (← c.self.view_is)
     (λ z h n b.
-    let st = seen.update n c.args.now c.args.listings.items in
-    next-core b st (answer.Refused refusal.NumbersExhausted) refl
+    let st = Step.update n c.args.now c.args.listings.items in
+    next-refused b st Refusal.NumbersExhausted refl
     (counted-right b c.args.now c.args.listings.items c.requires.whole _
     (sym (rw c.deref.ensures.value at ((rw (← c.self.view_is) at c.refusal.ensures) _ _ b.is.core_is)) ∙ c.in_default.is)
     (λ there. rw c.deref-2.ensures.value at ((rw (← c.self.view_is) at c.lacks_numbers.ensures) _ _ b.kept there _ _ b.is.core_is))
-    c.if-lacks_numbers.true)
-    (itself _) b.is.core_is refl (λ s. refl) (λ m. refl) refl (unshared b st (answer.Refused refusal.NumbersExhausted) refl refl))
+    c.if-lacks_numbers.true) (itself _) b.is.core_is)
 
 pub returns-in_default-settings_from : goal.returns-in_default-settings_from
 returns-in_default-settings_from g c =
     rw (← c.self.view_is)
     (λ z h n b.
-    let st = seen.update n c.args.now c.args.listings.items in
-    next-core b st (answer.Refused refusal.OutOfMemory) refl
+    let st = Step.update n c.args.now c.args.listings.items in
+    next-refused b st Refusal.OutOfMemory refl
     (uncounted-right b c.args.now c.args.listings.items c.requires.whole _
     (sym (rw c.deref.ensures.value at ((rw (← c.self.view_is) at c.refusal.ensures) _ _ b.is.core_is)) ∙ c.in_default.is)
     (λ there. rw c.deref-2.ensures.value at ((rw (← c.self.view_is) at c.lacks_numbers.ensures) _ _ b.kept there _ _ b.is.core_is))
-    c.if-lacks_numbers.false)
-    (itself _) b.is.core_is refl (λ s. refl) (λ m. refl) refl (unshared b st (answer.Refused refusal.OutOfMemory) refl refl))
+    c.if-lacks_numbers.false) (itself _) b.is.core_is)
 
 pub returns-in_default-members_from : goal.returns-in_default-members_from
 returns-in_default-members_from g c =
     rw (← c.self.view_is)
     (λ z h n b.
-    let st = seen.update n c.args.now c.args.listings.items in
-    next-core b st (answer.Refused refusal.OutOfMemory) refl
+    let st = Step.update n c.args.now c.args.listings.items in
+    next-refused b st Refusal.OutOfMemory refl
     (uncounted-right b c.args.now c.args.listings.items c.requires.whole _
     (sym (rw c.deref.ensures.value at ((rw (← c.self.view_is) at c.refusal.ensures) _ _ b.is.core_is)) ∙ c.in_default.is)
     (λ there. rw c.deref-2.ensures.value at ((rw (← c.self.view_is) at c.lacks_numbers.ensures) _ _ b.kept there _ _ b.is.core_is))
-    c.if-lacks_numbers.false)
-    (itself _) b.is.core_is refl (λ s. refl) (λ m. refl) refl (unshared b st (answer.Refused refusal.OutOfMemory) refl refl))
+    c.if-lacks_numbers.false) (itself _) b.is.core_is)

@@ -1,11 +1,8 @@
 -- The tests of the two numbers, taken one after the other, are that both are there.
-use Rattle.lb_select.specs.Refusals.{least}
-use Rattle.lb_world.specs.Calls.{in_tables}
 use Rattle.lb_world.specs.Founded.{world_value}
 use Rattle.std.proofs.lemmas.Bool.{le-ltb}
-use Rattle.lb_world.proofs.Words.{if◌then◌else◌, ◌&&◌, ◌<◌, ◌∙◌, ◌≡◌, ◌≤◌, [], ap, arith, Bool, earlier, lt-ltb, map, nat_lt, no_such, past}
-use Rattle.lb_world.proofs.Words.{ℕ}
-use Rattle.lb_world.proofs.Places.{there}
+use Rattle.lb_world.proofs.Words.{◌<◌, ◌∙◌, ◌≡◌, ◌≤◌, ◌&&◌, [], ap, arith, Bool, earlier, in_tables, least, lt-ltb, map}
+use Rattle.lb_world.proofs.Words.{nat_lt, no_such, past, ℕ}
 use Rattle.lb_world.proofs.world.World.cause.Goals as goal
 use Rattle.lb_world.proofs.world.World.cause.Goals.{then-registry-len, else-registry-len}
 

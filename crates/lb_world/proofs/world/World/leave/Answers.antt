@@ -1,8 +1,7 @@
 -- A reader comes back to the group that it entered, whose slot counts it.
-use Rattle.lb_history.specs.Steps as seen
-use Rattle.lb_world.proofs.Words.{◌<◌, ◌∙◌, ◌≤◌, ap, arith, length, past, Some, sym}
+use Rattle.lb_world.proofs.Words.{◌<◌, ◌∙◌, ◌≤◌, ap, arith, length, Some, sym}
 use Rattle.lb_world.proofs.Places.{at-place}
-use Rattle.lb_world.proofs.Tables.{founded}
+use Rattle.lb_world.proofs.Tables.{founded-by}
 use Rattle.lb_world.proofs.Readers.{counted, group-there, leave-gone, leave-nowhere, left-now}
 use Rattle.lb_world.proofs.world.World.leave.Goals as goal
 
@@ -25,36 +24,15 @@ index_mut-entry-requires g c =
     let reader = at ∙ ap Some (sym (rw c.in-Some.is at c.replace-2.view_is ∙ c.replace.ensures.value)) in
     omega (arith, group-there c.self.invariant.stands c.args.reader _ reader)
 
-pub leave-requires-clause-own : goal.leave-requires-clause-own
-leave-requires-clause-own g c =
+pub leave-requires : goal.leave-requires
+leave-requires g c =
     let within : c.args.reader < length c.self.inside.readers.items = omega arith in
     let at = at-place c.self.inside.readers.items c.args.reader _ within c.index_mut-place.ensures.value in
     let reader = at ∙ ap Some (sym (rw c.in-Some.is at c.replace-2.view_is ∙ c.replace.ensures.value)) in
     let low = group-there c.self.invariant.stands c.args.reader _ reader in
     let in_ = at-place c.self.inside.groups.items _ c.index_mut-entry.result.now low c.index_mut-entry.ensures.value in
-    c.self.invariant.stands.own c.args.reader _ reader _ in_
-
-pub leave-requires-clause-counted : goal.leave-requires-clause-counted
-leave-requires-clause-counted g c =
-    let within : c.args.reader < length c.self.inside.readers.items = omega arith in
-    let at = at-place c.self.inside.readers.items c.args.reader _ within c.index_mut-place.ensures.value in
-    let reader = at ∙ ap Some (sym (rw c.in-Some.is at c.replace-2.view_is ∙ c.replace.ensures.value)) in
-    let low = group-there c.self.invariant.stands c.args.reader _ reader in
-    let in_ = at-place c.self.inside.groups.items _ c.index_mut-entry.result.now low c.index_mut-entry.ensures.value in
-    counted c.self.invariant.stands c.args.reader _ _ reader in_
-
-pub invariant_of-self-2 : goal.invariant_of-self-2
-invariant_of-self-2 g c =
-    let within : c.args.reader < length c.self.inside.readers.items = omega arith in
-    let at = at-place c.self.inside.readers.items c.args.reader _ within c.index_mut-place.ensures.value in
-    let reader = at ∙ ap Some (sym (rw c.in-Some.is at c.replace-2.view_is ∙ c.replace.ensures.value)) in
-    let low = group-there c.self.invariant.stands c.args.reader _ reader in
-    let in_ = at-place c.self.inside.groups.items _ c.index_mut-entry.result.now low c.index_mut-entry.ensures.value in
-    rw c.replace.ensures.after
-    (founded (seen.leave c.args.reader) _ c.self.invariant
-    (λ h s.
-    left-now s c.args.reader _ _ c.leave.new.self reader in_ c.leave.ensures.rest c.leave.ensures.site
-    (c.leave.ensures.stands _ _ (s.each _ _ in_).core_is)))
+    let was = c.self.invariant.stands in
+    record { own = was.own c.args.reader _ reader _ in_; counted = counted was c.args.reader _ _ reader in_ }
 
 pub returns : goal.returns
 returns g c =
@@ -67,3 +45,6 @@ returns g c =
     (λ h s.
     left-now s c.args.reader _ _ c.leave.new.self reader in_ c.leave.ensures.rest c.leave.ensures.site
     (c.leave.ensures.stands _ _ (s.each _ _ in_).core_is))
+
+pub invariant_of-self-2 : goal.invariant_of-self-2
+invariant_of-self-2 g c = founded-by c.self.view_is c.self.invariant (returns g c)

@@ -1,14 +1,12 @@
 -- Readiness is asked of the group that the reader is in, with the group's registry.
-use Rattle.lb_history.specs.Steps as seen
-use Rattle.lb_select.specs.declared.refusal.Refusal.TheVariants as refusal
-use Rattle.lb_world.proofs.Words.{◌<◌, ◌∙◌, ◌≤◌, ap, arith, inl, inr, length, None, past, refl, Some}
+use Rattle.lb_world.proofs.Words.{◌<◌, ◌∙◌, ◌≤◌, ap, arith, inl, inr, length, None, refl, Refusal, Some, Step}
 use Rattle.lb_world.proofs.Places.{at-place}
 use Rattle.lb_world.proofs.Tables.{world-refused}
 use Rattle.lb_world.proofs.Readers.{entered-in, entered-past, group-there, ready-next, ready-none}
 use Rattle.lb_world.proofs.world.World.ready.Goals as goal
 
 pub returns-in_default : goal.returns-in_default
-returns-in_default g c = rw c.in_default.is (λ h s. world-refused s (seen.ready c.args.reader None) refusal.InvalidAddress refl)
+returns-in_default g c = rw c.in_default.is (λ h s. world-refused s (Step.ready c.args.reader None) Refusal.InvalidAddress refl)
 
 pub returns-then-reader-len : goal.returns-then-reader-len
 returns-then-reader-len g c =

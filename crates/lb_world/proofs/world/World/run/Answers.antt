@@ -6,16 +6,12 @@ use Rattle.lb_history.proofs.Promised.{never-falls}
 use Rattle.lb_history.proofs.Selecting.{first-accepted}
 use Rattle.lb_history.proofs.Steps.{destroys, raises}
 use Rattle.lb_history.specs.Promises.{DestroysExactly, LivesExactly, NeverFalls, Promised, Raises, ViewFollows}
-use Rattle.lb_history.specs.Refused.{RefusedStays, unrefused}
+use Rattle.lb_history.specs.Refused.{RefusedStays}
 use Rattle.lb_history.specs.Selected.{FirstAccepted}
 use Rattle.lb_history.specs.Steps.{step_seen}
 use Rattle.lb_world.specs.Ever.{JudgedByOwn}
-use Rattle.std.proofs.lemmas.Iterator.Adapters.{YieldsList-from_vec}
-use Rattle.std.proofs.lemmas.Iterator.Consumers.{YieldsList-end}
-use Rattle.std.proofs.lemmas.List.{map-append, map-id}
-use Rattle.lb_world.proofs.Words.{◌∙◌, ◌∷◌, [], after, ap, arith, History, length, length-map, length_push, map, Meaning, meaning_of}
-use Rattle.lb_world.proofs.Words.{promised, Stands, sym, ℕ}
-use Rattle.lb_world.proofs.Entries.{taken}
+use Rattle.lb_world.proofs.Words.{◌∷◌, ◌∙◌, [], after, ap, arith, History, length, length-map, length_push, map, map-append, map-id}
+use Rattle.lb_world.proofs.Words.{Meaning, meaning_of, promised, Stands, sym, YieldsList-end, YieldsList-from_vec, ℕ}
 use Rattle.lb_world.proofs.Tables.{stands-unrefused}
 use Rattle.lb_world.proofs.Runs.{after-push, always, each-step}
 use Rattle.lb_world.proofs.world.World.run.Goals as goal

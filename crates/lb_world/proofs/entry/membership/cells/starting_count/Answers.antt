@@ -1,9 +1,8 @@
 -- One listing more is counted, or left out.
-use Rattle.lb_world.specs.Cells.{new_keys, starts_cell}
-use Rattle.std.proofs.Common.{drop, take, ◌-◌}
-use Rattle.std.proofs.lemmas.List.{at_drop_more, length-drop, take_all}
-use Rattle.lb_world.proofs.Words.{if◌then◌else◌, ◌+◌, ◌∙◌, ◌∷◌, ◌≡◌, ap, arith, cond, false, key_of, length, List, Listing, live, sym, true}
-use Rattle.lb_world.proofs.Words.{views_after, ℕ}
+use Rattle.std.proofs.Common.{◌-◌}
+use Rattle.std.proofs.lemmas.List.{length-drop, take_all}
+use Rattle.lb_world.proofs.Words.{◌∷◌, ◌+◌, ◌∙◌, ◌≡◌, ap, arith, at_drop_more, cond, drop, false, length, List}
+use Rattle.lb_world.proofs.Words.{Listing, live, new_keys, starts_cell, sym, take, true, views_after, ℕ}
 use Rattle.lb_world.proofs.CellCounts.{keys-more}
 use Rattle.lb_world.proofs.entry.membership.cells.starting_count.Goals as goal
 use Rattle.lb_world.proofs.entry.membership.cells.starting_count.Goals.{then-starts, else-starts}
