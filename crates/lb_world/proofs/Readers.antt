@@ -2,11 +2,11 @@
 use Rattle.lb_group.specs.GroupCalls.{Enters, enter_refusal}
 use Rattle.lb_group.specs.Values.{ReaderValue}
 use Rattle.lb_history.proofs.Absent.{config-made, found as found-of}
-use Rattle.lb_history.proofs.Refusing.{none-more}
 use Rattle.lb_history.proofs.Runs.{reading}
 use Rattle.lb_history.specs.Answers.{enter_answer, leave_answer}
 use Rattle.lb_history.specs.History.{Entered, group_in, slot_in}
 use Rattle.lb_world.specs.Calls.{IsCounted}
+use Rattle.std.proofs.lemmas.Grind.{common_steps}
 use Rattle.std.proofs.lemmas.List.{map-set}
 use Rattle.std.proofs.lemmas.Option.{slice_get-map}
 use Rattle.lb_joined.specs.Stands as stands
@@ -21,8 +21,9 @@ use Rattle.lb_world.proofs.Words.{none-some, Ok, Option, option_map, past, past_
 use Rattle.lb_world.proofs.Words.{same_Some, served, site, slice_get, slice_get_past, slice_get_within, slice_set, Some, Stands, Step}
 use Rattle.lb_world.proofs.Words.{subst, sym, true, views_of, with_core, without_memory, WorldRule, WorldValue, ℕ}
 use Rattle.lb_world.proofs.Places.{get_kept, get_push, get_same, set-same, still-there}
-use Rattle.lb_world.proofs.Entries.{config-here, key-here, next-core, next-refused, reading-told, registry-here, unshared, views-are}
-use Rattle.lb_world.proofs.Tables.{group-moves, own-kept, stands-alike, world-refused}
+use Rattle.lb_world.proofs.Entries.{config-here, key-here, Moves, next-core, next-refused, reading-told, registry-here, unshared, views-are}
+use Rattle.lb_world.proofs.Tables.{group-moves, own-kept, registry-set, world-refused}
+use Rattle.lb_world.proofs.Registries.{Tells}
 
 module _ {C : Type 0} (M : Meaning C) where
   -- the slot that a reader entered is there
@@ -45,12 +46,7 @@ module _ {C : Type 0} (M : Meaning C) where
   entered-there ((st, a) ∷ h) run t e at = entered-there h run.0 t e at
 
 full-told : (x n a : ℕ) → (n ≡ 18446744073709551615) ⊎ (x ≡ 18446744073709551615) → enter_answer x n a ≡ refuse Refusal.NumbersExhausted
-full-told x n a (inl is) = rw is (by-other (x == 18446744073709551615)) where
-  by-other : (b : Bool)
-      → cond (b || true) (refuse Refusal.NumbersExhausted) (Answer.Reader 18446744073709551615 a) ≡ refuse Refusal.NumbersExhausted
-  by-other true = refl
-  by-other false = refl
-full-told x n a (inr is) = rw is refl
+full-told x n a many = grind (arith, common_steps, many)
 
 free-told : (x n a : ℕ) → ¬ (n ≡ 18446744073709551615) → ¬ (x ≡ 18446744073709551615) → enter_answer x n a ≡ Answer.Reader n a
 free-told x n a few left = rw (ne_eqb x 18446744073709551615 left, ne_eqb n 18446744073709551615 few) refl
@@ -88,7 +84,7 @@ module _ {C : Type 0} {M : Meaning C} {w : WorldValue C} {h : History C} (s : St
       -- a refusal of a world whose group was lent and stays as it was
       enter-refused : (f : Refusal) → Answers M h (Step.enter g slot) (Answer.Refused f)
           → Stands M (record w { groups = slice_set w.groups g e }) ((Step.enter g slot, Answer.Refused f) ∷ h)
-      enter-refused f right = rw (set-same w.groups g e there_) (world-refused s (Step.enter g slot) f right)
+      enter-refused f right = rw (set-same w.groups g e there_) (world-refused s right)
 
       pub enter-absent : r ≡ None
           → Stands M (record w { groups = slice_set w.groups g e }) ((Step.enter g slot, Answer.Refused Refusal.NoSuch) ∷ h)
@@ -114,11 +110,11 @@ module _ {C : Type 0} {M : Meaning C} {w : WorldValue C} {h : History C} (s : St
 
         -- a reader enters, with the group and the list of readers that the calls left
         pub entered-now : (t : ℕ) (d : EntryValue C) (rs : List (Option (HeldValue C))) (q : ReaderValue C) → d ≡ with_core d.core e
-            → rs ≡ w.readers ++ Some (record { group = g; reader = q }) ∷ [] → t ≡ length w.readers → stands.SameSite e.core d.core
-            → stands.Stands (site e.core) (joined.At slot group.Entered ∷ joined_events g h) d.core
+            → rs ≡ w.readers ++ Some (record { group = g; reader = q }) ∷ [] → t ≡ length w.readers
+            → Moves e (joined.At slot group.Entered ∷ joined_events g h) d.core
             → Enters (site e.core) (joined.group_events (joined_events g h)) slot (Ok q) → IsOwnReader d.core q
             → Stands M (record w { groups = slice_set w.groups g d; readers = rs }) ((Step.enter g slot, Answer.Reader t q.generation) ∷ h)
-        entered-now t d rs q rest grown number same stays answers own =
+        entered-now t d rs q rest grown number moves answers own =
             let st : Step C = Step.enter g slot in
             let a = Answer.Reader t q.generation in
             let is : q.generation ≡ served (past g slot h) = answers.2 ∙ ap (λ (p : group.History). served (past_of slot p)) (group-of g h)
@@ -137,19 +133,18 @@ module _ {C : Type 0} {M : Meaning C} {w : WorldValue C} {h : History C} (s : St
                   ap (λ (v : HeldValue C). slice_get (slice_set w.groups g d) v.group) (sym mine) ∙ in_ in
                   ap (λ (v : HeldValue C). v.reader.group) mine ∙ own
                   ∙ ap (λ (v : EntryValue C). v.core.group.id) (same_Some d z (sym (get_same w.groups g e d there_) ∙ here_))
-              | inr p ↦ own-kept s g e d there_ same.group.id i y p.1 z in_
+              | inr p ↦ own-kept s g e d there_ moves.0.group.id i y p.1 z in_
             ])
             there_
             (λ z u b.
             subst (λ (y : EntryValue C). EntryNext M h g st a e z y z u) (sym rest)
-            (next-core b st a refl right same stays refl (λ i. refl) (λ m. refl) refl (unshared b st a refl refl)))
+            (next-core b refl right moves refl (λ i. refl) (λ m. refl) refl (unshared b st a refl refl)))
 
         -- the core refused it for memory
         pub refused-now : (f : Refusal) (d : EntryValue C) (rs : List (Option (HeldValue C))) → d ≡ with_core d.core e → rs ≡ w.readers
-            → stands.SameSite e.core d.core → stands.Stands (site e.core) (joined_events g h) d.core
-            → Enters (site e.core) (joined.group_events (joined_events g h)) slot (Err f)
+            → Moves e (joined_events g h) d.core → Enters (site e.core) (joined.group_events (joined_events g h)) slot (Err f)
             → Stands M (record w { groups = slice_set w.groups g d; readers = rs }) ((Step.enter g slot, Answer.Refused f) ∷ h)
-        refused-now f d rs rest kept same stays refused =
+        refused-now f d rs rest kept moves refused =
             let st : Step C = Step.enter g slot in
             let within = cond_some (nat_lt slot (length (configs_of e.core.group))) _ x (sym to ∙ some) in
             let none : enter_refusal (site e.core) slot (joined.group_events (joined_events g h)) ≡ None =
@@ -157,20 +152,20 @@ module _ {C : Type 0} {M : Meaning C} {w : WorldValue C} {h : History C} (s : St
             let memory : f ≡ Refusal.OutOfMemory = elim refused [ inl is ↦ absurd (none-some f (sym none ∙ is)) | inr p ↦ p.1 ] in
             let right : Answers M h st (Answer.Refused f) = rw memory memory-right in
             group-moves s g st (Answer.Refused f) e d rs refl (ap (map (option_map entered_of)) kept ∙ s.readers_are)
-            (λ i y held z in_. own-kept s g e d there_ same.group.id i y (rw kept at held) z in_) there_
+            (λ i y held z in_. own-kept s g e d there_ moves.0.group.id i y (rw kept at held) z in_) there_
             (λ z u b.
             subst (λ (y : EntryValue C). EntryNext M h g st (Answer.Refused f) e z y z u) (sym rest)
-            (next-refused b st f refl right same stays))
+            (next-refused b refl right moves))
 
   -- nobody leaves
   pub leave-nowhere : (t : ℕ) → length w.readers ≤ t → Stands M w ((Step.leave t, Answer.Refused Refusal.NoSuchReader) ∷ h)
-  leave-nowhere t few = world-refused s (Step.leave t) Refusal.NoSuchReader (inl (sym (ap leave_answer (entered-past t few))))
+  leave-nowhere t few = world-refused s (inl (sym (ap leave_answer (entered-past t few))))
 
   pub leave-gone : (t : ℕ) → slice_get w.readers t ≡ Some None
       → Stands M (record w { readers = slice_set w.readers t None }) ((Step.leave t, Answer.Refused Refusal.NoSuchReader) ∷ h)
   leave-gone t there_ =
       rw (set-same w.readers t None there_)
-      (world-refused s (Step.leave t) Refusal.NoSuchReader (inl (sym (ap leave_answer (entered-in t None there_)))))
+      (world-refused s (inl (sym (ap leave_answer (entered-in t None there_)))))
 
   -- its group is there, and the slot counts it
   pub group-there : (t : ℕ) (r : HeldValue C) → slice_get w.readers t ≡ Some (Some r) → r.group < length w.groups
@@ -198,61 +193,39 @@ module _ {C : Type 0} {M : Meaning C} {w : WorldValue C} {h : History C} (s : St
 
   -- a reader leaves
   pub left-now : (t : ℕ) (r : HeldValue C) (e d : EntryValue C) → slice_get w.readers t ≡ Some (Some r)
-      → slice_get w.groups r.group ≡ Some e → d ≡ with_core d.core e → stands.SameSite e.core d.core
-      → stands.Stands (site e.core) (joined.At r.reader.slot (group.Left r.reader.generation) ∷ joined_events r.group h) d.core
+      → slice_get w.groups r.group ≡ Some e → d ≡ with_core d.core e
+      → Moves e (joined.At r.reader.slot (group.Left r.reader.generation) ∷ joined_events r.group h) d.core
       → Stands M (record w { groups = slice_set w.groups r.group d; readers = slice_set w.readers t None })
       ((Step.leave t, Answer.Left r.reader.generation) ∷ h)
-  left-now t r e d there_ in_ rest same stays =
+  left-now t r e d there_ in_ rest moves =
       let at = entered-in t (Some r) there_ in
       let st : Step C = Step.leave t in
       let a = Answer.Left r.reader.generation in
       let here_ : group_at h st ≡ Some r.group = ap group_in at in
       group-moves s r.group st a e d _ here_
       (map-set (option_map entered_of) w.readers t None ∙ ap (λ (es : List (Option Entered)). slice_set es t None) s.readers_are)
-      (λ i y held z in_now. own-kept s r.group e d in_ same.group.id i y (still-there w.readers t i y held) z in_now) in_
+      (λ i y held z in_now. own-kept s r.group e d in_ moves.0.group.id i y (still-there w.readers t i y held) z in_now) in_
       (λ z u b.
       subst (λ (y : EntryValue C). EntryNext M h r.group st a e z y z u) (sym rest)
-      (next-core b st a here_ (inl (sym (ap leave_answer at))) same
-      (subst (λ (o : Option (Option Entered)). stands.Stands (site e.core)
-      (joined.At (slot_in o) (group.Left r.reader.generation) ∷ joined_events r.group h) d.core) (sym at) stays)
-      refl (λ i. refl) (λ m. refl) refl (unshared b st a here_ refl)))
+      (next-core b here_ (inl (sym (ap leave_answer at))) (rw at moves) refl (λ i. refl) (λ m. refl) refl (unshared b st a here_ refl)))
 
   -- nobody is asked
   pub ready-none : (t : ℕ) (b : Member) → (slice_get (entries h) t ≡ None) ⊎ (slice_get (entries h) t ≡ Some None)
       → Stands M w ((Step.ready t (Some b), Answer.Refused Refusal.NoSuchReader) ∷ h)
   ready-none t b none =
-      world-refused s (Step.ready t (Some b)) Refusal.NoSuchReader (elim none [ inl is ↦ rw is refl | inr is ↦ rw is refl ])
+      world-refused s {st = Step.ready t (Some b)} {r = Refusal.NoSuchReader} (elim none [ inl is ↦ rw is refl | inr is ↦ rw is refl ])
 
   -- readiness in the generation that a reader reads
   pub ready-next : (t : ℕ) (b : Member) (is : Bool) (r : HeldValue C) (e : EntryValue C) (u : RegistryValue WorldRule)
       → slice_get w.readers t ≡ Some (Some r) → slice_get w.groups r.group ≡ Some e → slice_get w.registries e.registry ≡ Some u
-      → ((key_of : Member → Member) (events : List Event) → IsRegistryAfter key_gives key_of events u
-      → stands.After e.core (λ made es. IsTrue is ↔ IsReady key_of (views_of made es) events r.reader.generation b))
+      → Tells u (λ k es. stands.After e.core (λ made joins. IsTrue is ↔ IsReady k (views_of made joins) es r.reader.generation b))
       → Stands M w ((Step.ready t (Some b), Answer.Ready is) ∷ h)
   ready-next t b is r e u there_ in_ registry-there told =
       let own = s.each r.group e in_ in
       let judged : Judges h r.group r.reader.generation b is =
       rw (key-here own, registry-here own, ← views-are own M s.run)
       (told (key_at e.registry h) (registry_events e.registry h) (s.kept e.registry u registry-there) _ _ own.core_is) in
-      stands-alike h ((Step.ready t (Some b), Answer.Ready is) ∷ h)
-      (record {
-        rest =
-            record {
-              registries_made = refl;
-              gates_made = refl;
-              groups_made = refl;
-              readers = refl;
-              works = λ g i. refl;
-              views = λ g. refl;
-              shared = λ i. refl;
-              cells = λ g n. refl;
-              outs = λ a. refl;
-              grants = λ a. sym (none-more _);
-              failures = λ a. sym (none-more _);
-              destructions = λ a. sym (none-more _);
-              loads = λ g m. refl;
-            };
-        groups = λ g. refl;
-        joined = λ g. refl;
-      })
-      M w (s.run, rw (entered-in t (Some r) there_) (is, refl, judged)) s
+      rw (set-same w.registries e.registry u registry-there)
+      at (registry-set s ((Step.ready t (Some b), Answer.Ready is) ∷ h) e.registry u u
+      (s.run, rw (entered-in t (Some r) there_) (is, refl, judged)) refl refl refl refl (λ i off. refl) (λ g. refl) (λ g. refl) (λ g i. refl)
+      (λ g b. refl) (λ x. refl) registry-there (s.kept e.registry u registry-there))

@@ -31,6 +31,10 @@ flip-told true false true p = refl
 flip-told false true true p = refl
 flip-told false false false p = refl
 
+-- what a registry's calls tell, after each history that it may have
+abbrev pub Tells : RegistryValue WorldRule → ((Member → Member) → List Event → Type 0) → Type 0
+Tells u P = (key_of : Member → Member) (events : List Event) → IsRegistryAfter key_gives key_of events u → P key_of events
+
 -- a number is left
 pub number-left : (n : ℕ) → n < 2 ^ 64 → no_number n ≡ None
 number-left n few = ap (λ (b : Bool). where_ b Refusal.NumbersExhausted) (lt-leb (2 ^ 64) n few)
@@ -83,32 +87,32 @@ module _ {C : Type 0} {M : Meaning C} {w : WorldValue C} {h : History C} (s : St
       × (slice_get (registries h) r ≡ Some m)
   made-there r u there = found (registries h) r (omega (arith, slice_get_within w.registries r u there, s.registries_are))
 
+  -- one registry moves by a step that tells nothing of all else
   pub verdict-next : (r c threshold : ℕ) (ok b : Bool) (u v : RegistryValue WorldRule) → slice_get w.registries r ≡ Some u
-      → ((key_of : Member → Member) (events : List Event) → IsRegistryAfter key_gives key_of events u
-      → IsRegistryAfter key_gives key_of (Observed c (record { ok = ok; threshold = threshold }) ∷ events) v)
-      → ((key_of : Member → Member) (events : List Event) → IsRegistryAfter key_gives key_of events u
-      → (IsTrue b ↔ (cell_health key_of c (Observed c (record { ok = ok; threshold = threshold }) ∷ events) ≢ cell_health key_of c events)))
-      → ((key_of : Member → Member) (events : List Event) → IsRegistryAfter key_gives key_of events u → IsCellKept key_of c events)
+      → Tells u (λ k es. IsRegistryAfter key_gives k (Observed c (record { ok = ok; threshold = threshold }) ∷ es) v)
+      → Tells u (λ k es.
+      IsTrue b ↔ (cell_health k c (Observed c (record { ok = ok; threshold = threshold }) ∷ es) ≢ cell_health k c es))
+      → Tells u (λ k es. IsCellKept k c es)
       → Stands M (record w { registries = slice_set w.registries r v }) ((Step.verdict r c ok threshold, Answer.Flipped b) ∷ h)
   verdict-next r c threshold ok b u v there after flips kept =
       let now = s.kept r u there in
       let m = made-there r u there in
       let st : Step C = Step.verdict r c ok threshold in
-      let right : Answers M h st (Answer.Flipped b) =
-      verdict-told (slice_get (registries h) r) m.0 (registry_events r h) c threshold ok b m.1 (kept _ _ now) (flips _ _ now) in
-      registry-set s ((st, Answer.Flipped b) ∷ h) r u v (s.run, right) refl refl refl refl
+      registry-set s ((st, Answer.Flipped b) ∷ h) r u v
+      (s.run, verdict-told (slice_get (registries h) r) m.0 (registry_events r h) c threshold ok b m.1 (kept _ _ now) (flips _ _ now)) refl refl refl refl
       (λ i off. (others-stay h st (Answer.Flipped b)).registries i (ne_eqb r i (λ q. off (sym q)))) (λ g. refl) (λ g. refl) (λ g i. refl)
       (λ g b. refl) (λ x. refl) there (rw (eq-eqb r r refl) (after _ _ now))
 
   pub verdict-refused : (r c threshold : ℕ) (ok : Bool) (u v : RegistryValue WorldRule) → slice_get w.registries r ≡ Some u → v ≡ u
-      → ((key_of : Member → Member) (events : List Event) → IsRegistryAfter key_gives key_of events u → IsCellKept key_of c events → ⊥)
+      → Tells u (λ k es. IsCellKept k c es → ⊥)
       → Stands M (record w { registries = slice_set w.registries r v }) ((Step.verdict r c ok threshold, Answer.Refused Refusal.NoSuch) ∷ h)
   verdict-refused r c threshold ok u v there same off =
       let after =
-      world-refused s (Step.verdict r c ok threshold) Refusal.NoSuch
+      world-refused s {st = Step.verdict r c ok threshold}
       (verdict-missed (slice_get (registries h) r) (registry_events r h) c threshold ok (off _ _ (s.kept r u there))) in
       registry-lent after r u v there (rw same (after.kept r u there))
 
+  -- marks that are applied start no cell, so a number is left
   targets-told : (r : ℕ) (u : RegistryValue WorldRule) → slice_get w.registries r ≡ Some u
       → answer_after M h (Step.targets r) ≡ Answer.Targets (targets_after (key_at r h) (Applied ∷ registry_events r h))
   targets-told r u there =
@@ -116,10 +120,7 @@ module _ {C : Type 0} {M : Meaning C} {w : WorldValue C} {h : History C} (s : St
       targets-of (slice_get (registries h) r) m.0 (registry_events r h) m.1 (marks-fit _ _ u (s.kept r u there))
 
   pub targets-next : (r : ℕ) (ts : List Target) (u v : RegistryValue WorldRule) → slice_get w.registries r ≡ Some u
-      → ((key_of : Member → Member) (events : List Event) → IsRegistryAfter key_gives key_of events u
-      → IsRegistryAfter key_gives key_of (Applied ∷ events) v)
-      → ((key_of : Member → Member) (events : List Event) → IsRegistryAfter key_gives key_of events u
-      → ts ≡ targets_after key_of (Applied ∷ events))
+      → Tells u (λ k es. IsRegistryAfter key_gives k (Applied ∷ es) v) → Tells u (λ k es. ts ≡ targets_after k (Applied ∷ es))
       → Stands M (record w { registries = slice_set w.registries r v }) ((Step.targets r, Answer.Targets ts) ∷ h)
   targets-next r ts u v there after told =
       let now = s.kept r u there in
@@ -130,18 +131,15 @@ module _ {C : Type 0} {M : Meaning C} {w : WorldValue C} {h : History C} (s : St
 
   -- a refusal other than for the want of a number is for memory
   pub targets-refused : (r : ℕ) (e : Refusal) (u v : RegistryValue WorldRule) → slice_get w.registries r ≡ Some u
-      → ((key_of : Member → Member) (events : List Event) → IsRegistryAfter key_gives key_of events u
-      → IsRegistryAfter key_gives key_of events v)
-      → (e ≡ Refusal.OutOfMemory) ⊎ (e ≡ Refusal.NumbersExhausted)
-      → ((key_of : Member → Member) (events : List Event) → IsRegistryAfter key_gives key_of events u → e ≡ Refusal.NumbersExhausted
-      → 2 ^ 64 ≤ cells_given key_of (Applied ∷ events))
+      → Tells u (λ k es. IsRegistryAfter key_gives k es v) → (e ≡ Refusal.OutOfMemory) ⊎ (e ≡ Refusal.NumbersExhausted)
+      → Tells u (λ k es. e ≡ Refusal.NumbersExhausted → 2 ^ 64 ≤ cells_given k (Applied ∷ es))
       → Stands M (record w { registries = slice_set w.registries r v }) ((Step.targets r, Answer.Refused e) ∷ h)
   targets-refused r e u v there after cause many =
       let now = s.kept r u there in
       let memory : e ≡ Refusal.OutOfMemory =
       elim cause [ inl is ↦ is | inr is ↦ absurd (omega (arith, many _ _ now is, marks-fit _ _ u now)) ] in
       let refused =
-      world-refused s (Step.targets r) e
+      world-refused s {st = Step.targets r} {r = e}
       (inr (ap Answer.Refused memory ∙ sym (ap (without_memory {C = C} (Step.targets r)) (targets-told r u there)))) in
       registry-lent refused r u v there (after _ _ (refused.kept r u there))
 
@@ -163,8 +161,7 @@ module _ {C : Type 0} {M : Meaning C} {w : WorldValue C} {h : History C} (s : St
             (rw m.1 at (s.kept i x was)));
         outs = s.outs;
         each = λ g e in_.
-            let is = s.each g e in_ in
-            entry-moves h ((Step.registry rule healthy, Answer.Registry n) ∷ h) g e is.made_is refl refl (λ r. refl) (λ b. refl) is;
+            entry-moves (s.each g e in_).made_is refl refl (λ r. refl) (λ b. refl) (s.each g e in_);
         on_site = λ g e in_.
             let on = s.on_site g e in_ in
             record { view = on.view; gate = on.gate; id = on.id; registry = omega (arith, length_push w.registries v, on.registry) };
@@ -195,8 +192,7 @@ module _ {C : Type 0} {M : Meaning C} {w : WorldValue C} {h : History C} (s : St
         kept = s.kept;
         outs = each-push w.gates z (free ∙ sym (in-place (is_out (length w.gates) h) refl)) (λ x y low was. s.outs x y was);
         each = λ g e in_.
-            let is = s.each g e in_ in
-            entry-moves h ((Step.gate, Answer.Gate n) ∷ h) g e is.made_is refl refl (λ r. refl) (λ b. refl) is;
+            entry-moves (s.each g e in_).made_is refl refl (λ r. refl) (λ b. refl) (s.each g e in_);
         on_site = λ g e in_.
             let on = s.on_site g e in_ in
             record { view = on.view; gate = get_kept w.gates e.gate z on.view on.gate; id = on.id; registry = on.registry };

@@ -22,10 +22,10 @@ beside g i b off = rw (ne_eqb g i (λ e. off (sym e))) refl
 
 module _ {C : Type 0} where
   -- an entry stays right where what it rests on is as before
-  pub entry-moves : (h k : History C) (g : ℕ) (e : EntryValue C) → made_at g k ≡ Some (made_of e) → joined_events g k ≡ joined_events g h
+  pub entry-moves : {h k : History C} {g : ℕ} {e : EntryValue C} → made_at g k ≡ Some (made_of e) → joined_events g k ≡ joined_events g h
       → group_events g k ≡ group_events g h → ((s : ℕ) → work g s k ≡ work g s h) → ((b : Member) → load_of g b k ≡ load_of g b h)
       → EntryIs h g e → EntryIs k g e
-  entry-moves h k g e m j p w l is =
+  entry-moves {e = e} m j p w l is =
       record {
         made_is = m;
         core_is = subst (λ (es : joined.History). stands.Stands (site e.core) es e.core) (sym j) is.core_is;
@@ -57,7 +57,7 @@ module _ {C : Type 0} where
   entry-else h st a g i e at off is =
       let stays = others-stay h st a in
       let away : is_at i (group_at h st) ≡ false = ap (is_at i) at ∙ ne_eqb g i (λ p. off (sym p)) in
-      entry-moves h ((st, a) ∷ h) i e (ap (λ (ms : List (Made C)). slice_get ms i) (at-group h st a g at).made_are ∙ is.made_is)
+      entry-moves (ap (λ (ms : List (Made C)). slice_get ms i) (at-group h st a g at).made_are ∙ is.made_is)
       (stays.joined i away) (stays.groups i away)
       (λ s. ap (λ (t : Bool). cond t (worked st a (work i s h)) (work i s h)) (works-else h st g i s at off))
       (λ b. loads-else h st a g i b at off) is
@@ -78,7 +78,7 @@ module _ {C : Type 0} (k h : History C) (e : TellsAlike k h) (M : Meaning C) (w 
         outs = λ a z there. is.outs a z there ∙ e.rest.outs a;
         each = λ g x there.
             let own = is.each g x there in
-            entry-moves k h g x (sym (at-alike k h e g) ∙ own.made_is) (sym (e.joined g)) (sym (e.groups g)) (λ s. sym (e.rest.works g s))
+            entry-moves (sym (at-alike k h e g) ∙ own.made_is) (sym (e.joined g)) (sym (e.groups g)) (λ s. sym (e.rest.works g s))
             (λ b. sym (e.rest.loads g b)) own;
         on_site = is.on_site;
         own = is.own;
@@ -113,8 +113,8 @@ founded-by {C = C} {M = M} {st = st} {a = a} same was then_ =
 
 module _ {C : Type 0} {M : Meaning C} {w : WorldValue C} {h : History C} (s : Stands M w h) where
   -- a right refusal, of a world that stays as it is
-  pub world-refused : (st : Step C) (r : Refusal) → Answers M h st (Answer.Refused r) → Stands M w ((st, Answer.Refused r) ∷ h)
-  world-refused st r right =
+  pub world-refused : {st : Step C} {r : Refusal} → Answers M h st (Answer.Refused r) → Stands M w ((st, Answer.Refused r) ∷ h)
+  world-refused {st} {r} right =
       stands-alike h ((st, Answer.Refused r) ∷ h) (alike-sym ((st, Answer.Refused r) ∷ h) h (refused-alike h st r)) M w (s.run, right) s
 
   -- a table that isn't so long
@@ -234,17 +234,9 @@ module _ {C : Type 0} {M : Meaning C} {w : WorldValue C} {h : History C} (s : St
   group-moves g st a e d rs at reads owns there next =
       let on = s.on_site g e there in
       let u = found w.registries e.registry on.registry in
-      subst
-      (λ (vs : List (RegistryValue WorldRule)). Stands M
-      (record { registries = vs; gates = w.gates; groups = slice_set w.groups g d; readers = rs }) ((st, a) ∷ h))
-      (set-same w.registries e.registry u.0 u.1)
-      (subst
-      (λ (zs : List GateView). Stands M
-      (record { registries = slice_set w.registries e.registry u.0; gates = zs; groups = slice_set w.groups g d; readers = rs })
-      ((st, a) ∷ h))
-      (set-same w.gates e.gate on.view on.gate)
-      (world-moves g st a e d on.view on.view u.0 u.0 rs at reads owns there on.gate u.1
-      (next on.view u.0 (before g e on.view u.0 there on.gate u.1))))
+      rw (set-same w.registries e.registry u.0 u.1, set-same w.gates e.gate on.view on.gate)
+      at (world-moves g st a e d on.view on.view u.0 u.0 rs at reads owns there on.gate u.1
+      (next on.view u.0 (before g e on.view u.0 there on.gate u.1)))
 
   -- one registry is another after a history that tells the same of all else
   pub registry-set : (k : History C) (r : ℕ) (u v : RegistryValue WorldRule) → IsRun M k → registries k ≡ registries h → gates k ≡ gates h
@@ -267,7 +259,7 @@ module _ {C : Type 0} {M : Meaning C} {w : WorldValue C} {h : History C} (s : St
         outs = λ x z found_. s.outs x z found_ ∙ sym (outs x);
         each = λ g e found_.
             let is = s.each g e found_ in
-            entry-moves h k g e (ap (λ (xs : List (Made C)). slice_get xs g) ms ∙ is.made_is) (joins g) (groups g) (works g) (loads g) is;
+            entry-moves (ap (λ (xs : List (Made C)). slice_get xs g) ms ∙ is.made_is) (joins g) (groups g) (works g) (loads g) is;
         on_site = λ g e in_.
             let on = s.on_site g e in_ in
             record { view = on.view; gate = on.gate; id = on.id; registry = omega (arith, length-set w.registries r v, on.registry) };

@@ -22,7 +22,7 @@ use Rattle.lb_group.specs.GroupHistory as group
 use Rattle.lb_joined.specs.JoinedHistory as joined
 use Rattle.lb_registry.specs.RegistryEvents as registry
 use Rattle.lb_world.proofs.Words.{◌∙◌, ◌⊎◌, ◌++◌, ◌≡◌, ◌&&◌, ◌∷◌, ◌<◌, ◌≤◌, Answer, answer_after, Answers, ap, ap2, arith, ask_told, at_one}
-use Rattle.lb_world.proofs.Words.{at_slot, Before, Bool, cond, config, configs_of, EntryIs, EntryNext, EntryValue, false, false≢true}
+use Rattle.lb_world.proofs.Words.{At, at_slot, Before, Bool, cond, config, configs_of, EntryIs, EntryNext, EntryValue, false, false≢true}
 use Rattle.lb_world.proofs.Words.{gate, GateId, GateView, granted, granted_members, group-of, group_events, GroupId, held_of, History, inl}
 use Rattle.lb_world.proofs.Words.{inr, is_out, IsRegistryAfter, IsRun, joined_events, JoinedValue, key_gives, key_of, length, List, made}
 use Rattle.lb_world.proofs.Words.{Made, made_of, Meaning, Member, members-past, members_of, nat_lt, newest, newest-past, no_such, None}
@@ -31,7 +31,7 @@ use Rattle.lb_world.proofs.Words.{registry_events, RegistryValue, same_Some, sha
 use Rattle.lb_world.proofs.Words.{slice_get_within, slice_set, slots, Some, Step, subst, sym, Task, true, unless_refused, view_events}
 use Rattle.lb_world.proofs.Words.{ViewEvent, views_of, with_core, without_memory, Work, work, WorkValue, WorldRule, ℕ}
 use Rattle.lb_world.proofs.Places.{found, set-same}
-use Rattle.lb_world.proofs.Entries.{config-here, itself, next, next-core, next-refused, next-work, reading-told, taken, unshared, views-are}
+use Rattle.lb_world.proofs.Entries.{config-here, Moves, next-core, next-refused, next-work, reading-told, stays, unshared, views-are}
 
 -- what is held of a job, as its task and what has become of it
 abbrev pub shown : {C : Type 0} → WorkValue C → Option (Task C × Work)
@@ -102,15 +102,15 @@ module _ {C : Type 0} {h : History C} {g : ℕ} {e : EntryValue C} (is : EntryIs
       → Answer.Refused Refusal.NothingBuilt ≡ at_one (config g s h) (λ c. of_built (work g s h) a)
   unbuilt s k a at off =
       let c = slot-there s k at in
-      not-ready (origin e.core) s c.0 (past g s h) (work g s h) a k (is.works_are s c.0 k c.1 at) off
-      ∙ sym (ap (λ (o : Option C). at_one o (λ x. of_built (work g s h) a)) (config-here is s ∙ c.1))
+      rw (config-here is s ∙ c.1)
+      (not-ready (origin e.core) s c.0 (past g s h) (work g s h) a k (is.works_are s c.0 k c.1 at) off)
 
   pub unstarted : (s : ℕ) (k : WorkValue C) (a : C → Answer) → slice_get e.works s ≡ Some k → NotBuilding k
       → Answer.Refused Refusal.NothingInFlight ≡ at_one (config g s h) (λ c. of_job (work g s h) (a c))
   unstarted s k a at off =
       let c = slot-there s k at in
-      not-building (origin e.core) s c.0 (past g s h) (work g s h) (a c.0) k (is.works_are s c.0 k c.1 at) off
-      ∙ sym (ap (λ (o : Option C). at_one o (λ x. of_job (work g s h) (a x))) (config-here is s ∙ c.1))
+      rw (config-here is s ∙ c.1)
+      (not-building (origin e.core) s c.0 (past g s h) (work g s h) (a c.0) k (is.works_are s c.0 k c.1 at) off)
 
   -- where a job is granted nothing is held
   pub free-place : (M : Meaning C) → IsRun M h → (s now : ℕ) (out : Bool) (k : WorkValue C)
@@ -135,9 +135,11 @@ module _ {C : Type 0} {h : History C} {g : ℕ} {e : EntryValue C} (is : EntryIs
     pub unawaited : (M : Meaning C) → IsRun M h → is_held w ≡ true
         → is_awaited t.slot t.generation (joined.group_events (joined_events g h)) ≡ false → ⊥
     unawaited M run held off =
-        false≢true
-        (sym off ∙ ap (λ (x : Task C). is_awaited x.slot x.generation (joined.group_events (joined_events g h))) has.is
-        ∙ ap (is_awaited s (granted (past g s h))) (group-of g h) ∙ aloft M h g s w (slots M h run) has.work_is held)
+        false≢true (sym off ∙ rw (has.is, group-of g h) (aloft M h g s w (slots M h run) has.work_is held))
+
+-- an event at a slot is none of another's
+pub elsewhere : (s : ℕ) (v : group.SlotEvent) (k : group.History) (r : ℕ) → ¬ (r ≡ s) → past_of r (At s v ∷ k) ≡ past_of r k
+elsewhere s v k r off = past-other r s v k (λ p. off (sym p))
 
 module _ {C : Type 0} {M : Meaning C} {h : History C} {g : ℕ} {e : EntryValue C} {z : GateView} {v : RegistryValue WorldRule}
     (b : Before M h g e z v) where
@@ -149,110 +151,68 @@ module _ {C : Type 0} {M : Meaning C} {h : History C} {g : ℕ} {e : EntryValue 
       (sym (ap (slice_set e.works s) same ∙ set-same e.works s _ at)) next
 
   -- the snapshot of what stood in the slot is let go
-  released : (s n : ℕ) (es : List registry.Event) (u : RegistryValue WorldRule) → n ≡ extra_at g s h
-      → es ≡ registry_released e.core.view.id (extra_at g s h) (view_events g h) (registry_events e.registry h)
-      → IsRegistryAfter key_gives (key_of g h)
+  abbrev pub Releases : ℕ → RegistryValue WorldRule → Type 0
+  Releases n u =
+      IsRegistryAfter key_gives (key_of g h)
       (registry_released e.core.view.id n (views_of (site e.core) (joined_events g h)) (registry_events e.registry h)) u
-      → IsRegistryAfter key_gives (key_of g h) es u
-  released s n es u of new kept =
-      subst (λ (x : List registry.Event). IsRegistryAfter key_gives (key_of g h) x u)
-      (ap2 (λ (m : ℕ) (vs : List ViewEvent). registry_released e.core.view.id m vs (registry_events e.registry h)) of
-      (views-are b.is M b.run)
-      ∙ sym new) kept
 
-  -- another answer than a job changes nothing
+  released : (s n : ℕ) (es : List registry.Event) (u : RegistryValue WorldRule) → n ≡ extra_at g s h
+      → es ≡ registry_released e.core.view.id (extra_at g s h) (view_events g h) (registry_events e.registry h) → Releases n u
+      → IsRegistryAfter key_gives (key_of g h) es u
+  released s n es u of new kept = rw (new, ← of, ← views-are b.is M b.run) kept
+
+  -- what a slot answers: another answer than a job changes nothing
   ask-right : (s now : ℕ) (t : AskAnswer) → s < length (configs_of e.core.group)
       → t ≡ ask_answer (past_of s (joined.group_events (joined_events g h))) z.out now
       → Answers M h (Step.ask g s now) (asked (group.newest (group_events g h)) t)
   ask-right s now t within to =
-      let n = group.newest (group_events g h) in
-      let tell = λ (out : Bool) (k : group.History). asked n (ask_answer (past_of s k) out now) in
-      inl
-      (sym
-      (ap (λ (o : Option (Made C)). at_one o (λ m. at_one (slice_get m.configs s) (λ x. tell (is_out m.gate h) (group_events g h))))
-      b.is.made_is
-      ∙ ap (λ (o : Option C). at_one o (λ x. tell (is_out e.gate h) (group_events g h))) (found (configs_of e.core.group) s within).1
-      ∙ ap2 tell (sym b.out) (sym (group-of g h)) ∙ ap (asked n) (sym to)))
+      inl (rw (b.is.made_is, (found (configs_of e.core.group) s within).1) (ap (asked (group.newest (group_events g h))) (rw (group-of g h, b.out) at to)))
 
-  pub next-asked : {S I : Type 0} (s now : ℕ) (a : Ask S I C) (t : AskAnswer) {core : JoinedValue C} {y : GateView} → ask_told a ≡ t
-      → ¬ (t ≡ job)
-      → Asks (site e.core) (joined.group_events (joined_events g h)) s z.out now (Ok a) → stands.SameSite e.core core
-      → stands.Stands (site e.core) (joined.in_group (asked_events s now (ask_told a)) ++ joined_events g h) core
-      → y ≡ asked_gate (ask_told a) z
+  pub next-asked : {S I : Type 0} {s now : ℕ} (a : Ask S I C) (t : AskAnswer) {core : JoinedValue C} {y : GateView} → ask_told a ≡ t
+      → ¬ (t ≡ job) → Asks (site e.core) (joined.group_events (joined_events g h)) s z.out now (Ok a)
+      → Moves e (joined.in_group (asked_events s now (ask_told a)) ++ joined_events g h) core → y ≡ asked_gate (ask_told a) z
       → EntryNext M h g (Step.ask g s now) (asked (group.newest (group_events g h)) t) e z (with_core core e) y v
-  next-asked s now a job told off answers same stays back = absurd (off refl)
-  next-asked s now a t told off answers same stays back =
-      let events = rw told at stays in
-      let gate-is = rw told at back in
-      next-core b (Step.ask g s now) (asked (group.newest (group_events g h)) t) refl
-      (ask-right s now t answers.0 (sym told ∙ answers.1)) same events refl (λ r. refl) (λ m. refl) gate-is
-      (unshared b (Step.ask g s now) (asked (group.newest (group_events g h)) t) refl refl)
+  next-asked a job told off answers moves back = absurd (off refl)
+  next-asked {s = s} {now = now} a t told off answers moves back =
+      next-core b refl (ask-right s now t answers.0 (sym told ∙ answers.1)) (rw told at moves) refl (λ r. refl) (λ m. refl)
+      (rw told at back) (unshared b (Step.ask g s now) (asked (group.newest (group_events g h)) t) refl refl)
 
-  pub next-unasked : (s now : ℕ) (r : Refusal) {core : JoinedValue C} → r ≡ Refusal.NoSuch → length (configs_of e.core.group) ≤ s
-      → stands.SameSite e.core core → stands.Stands (site e.core) (joined_events g h) core
-      → EntryNext M h g (Step.ask g s now) (Answer.Refused r) e z (with_core core e) z v
-  next-unasked s now r no_such past same stays =
-      let tell = λ (k : group.History) (out : Bool). asked (group.newest k) (ask_answer (past_of s k) out now) in
-      next-refused b (Step.ask g s now) r refl
-      (inl
-      (ap Answer.Refused no_such
-      ∙ sym
-      (ap (λ (o : Option (Made C)). at_one o (λ m. at_one (slice_get m.configs s) (λ x. tell (group_events g h) (is_out m.gate h))))
-      b.is.made_is
-      ∙ ap (λ (o : Option C). at_one o (λ x. tell (group_events g h) (is_out e.gate h)))
-      (slice_get_past (configs_of e.core.group) s past))))
-      same stays
+  pub next-unasked : {s now : ℕ} (r : Refusal) {core : JoinedValue C} → r ≡ Refusal.NoSuch → length (configs_of e.core.group) ≤ s
+      → Moves e (joined_events g h) core → EntryNext M h g (Step.ask g s now) (Answer.Refused r) e z (with_core core e) z v
+  next-unasked {s = s} r no_such past moves =
+      next-refused b refl (inl (rw (b.is.made_is, slice_get_past (configs_of e.core.group) s past) (ap Answer.Refused no_such))) moves
 
-  pub does-grant : {S I : Type 0} (s now : ℕ) (a : Ask S I C) (j : Task C) {core : JoinedValue C} {old : WorkValue C} {y : GateView}
-      → ask_told a ≡ job
-      → Asks (site e.core) (joined.group_events (joined_events g h)) s z.out now (Ok a)
-      → IsJob (site e.core) (joined.group_events (joined_events g h)) s j → stands.SameSite e.core core
-      → stands.Stands (site e.core) (joined.in_group (asked_events s now (ask_told a)) ++ joined_events g h) core
+  pub does-grant : {S I : Type 0} {s now : ℕ} (a : Ask S I C) (j : Task C) {core : JoinedValue C} {old : WorkValue C} {y : GateView}
+      → ask_told a ≡ job → Asks (site e.core) (joined.group_events (joined_events g h)) s z.out now (Ok a)
+      → IsJob (site e.core) (joined.group_events (joined_events g h)) s j
+      → Moves e (joined.in_group (asked_events s now (ask_told a)) ++ joined_events g h) core
       → slice_get e.works s ≡ Some old → y ≡ asked_gate (ask_told a) z
       → EntryNext M h g (Step.ask g s now) (Answer.Build j.generation) e z
       (record e { core = core; works = slice_set e.works s (WorkValue.building j) }) y v
-  does-grant s now a j told answers own same stays was back =
-      let events = rw told at stays in
-      let gate-is = rw told at back in
-      let newest : j.generation ≡ group.newest (group_events g h) = own.generation ∙ ap group.newest (group-of g h) in
-      next-work b s (Step.ask g s now) (Answer.Build j.generation) (WorkValue.building j) refl
-      (subst (λ (n : ℕ). Answers M h (Step.ask g s now) (Answer.Build n)) (sym newest)
-      (ask-right s now job answers.0 (sym told ∙ answers.1)))
-      was same events (λ r off. past-other r s (group.Granted now) (group_events g h) (λ p. off (sym p))) (λ r. refl)
+  does-grant {s = s} {now = now} a j told answers own moves was back =
+      let k = group_events g h in
+      let newest : j.generation ≡ group.newest k = own.generation ∙ ap group.newest (group-of g h) in
+      next-work b s refl (rw newest (ask-right s now job answers.0 (sym told ∙ answers.1))) was (rw told at moves)
+      (elsewhere s (group.Granted now) k) (λ r. refl)
       (λ c there.
       ap WorkValue.building
-      (same-task own.group own.place (newest ∙ sym (newest-past s (group_events g h)))
+      (same-task own.group own.place (newest ∙ sym (newest-past s k))
       (own.members ∙ ap (λ (k : group.History). group.order_members (past_of s k)) (group-of g h))
       (same_Some j.config c (sym own.config ∙ there)) own.permit)
-      ∙ sym (ap (λ (q : group.History). held_of (origin e.core) s c q Work.building) (past-same s (group.Granted now) (group_events g h))))
-      (λ m. refl) gate-is (unshared b (Step.ask g s now) (Answer.Build j.generation) refl refl)
+      ∙ sym (ap (λ (q : group.History). held_of (origin e.core) s c q Work.building) (past-same s (group.Granted now) k)))
+      (λ m. refl) (rw told at back) (unshared b (Step.ask g s now) (Answer.Build j.generation) refl refl)
 
   module _ {s : ℕ} {j : Task C} (has : Holds h g s e j Work.building) where
-    -- what its refusal is told by
-    refusal-is : M.refusal (members_of (granted (past g s h)) (group_events g h)) has.config ≡ M.refusal j.members j.config
-    refusal-is =
-        ap2 M.refusal
-        (sym (members-past (granted (past g s h)) s (group_events g h)) ∙ sym ((promised M h b.run).members_kept g s).under_way
-        ∙ sym (ap (λ (x : Task C). x.members) has.is)) (sym (ap (λ (x : Task C). x.config) has.is))
-
     build-told : (now : ℕ) (r : Option Refusal) → M.refusal j.members j.config ≡ r
         → answer_after M h (Step.build g s now) ≡ built_or_failed j.generation r
     build-told now r is =
+        let members = members-past (granted (past g s h)) s (group_events g h) in
         told-work b.is has
         (λ c w. of_job w (built_or_failed (granted (past g s h)) (M.refusal (members_of (granted (past g s h)) (group_events g h)) c)))
-        ∙ ap2 built_or_failed (sym (ap (λ (x : Task C). x.generation) has.is)) (refusal-is ∙ is)
-
-    -- a build that was refused, for its cause or for memory
-    pub fallen-right : (now : ℕ) (r : Refusal)
-        → (M.refusal j.members j.config ≡ Some r) ⊎ ((M.refusal j.members j.config ≡ None) × (r ≡ Refusal.OutOfMemory))
-        → Answers M h (Step.build g s now) (Answer.BuildFailed j.generation r)
-    fallen-right now r cause =
-        elim cause [
-          | inl q ↦ inl (sym (build-told now (Some r) q))
-          | inr q ↦
-              inr (ap (Answer.BuildFailed j.generation) q.1 ∙ sym (ap (without_memory {C = C} (Step.build g s now))
-              (build-told now None q.0)))
-        ]
+        ∙ ap (built_or_failed (granted (past g s h)))
+        (ap (λ (ms : List Member). M.refusal ms has.config) (sym members ∙ sym ((promised M h b.run).members_kept g s).under_way)
+        ∙ rw has.is at is)
+        ∙ ap (λ (x : Task C). built_or_failed x.generation r) (sym has.is)
 
     -- a build that is done, and held from then on
     pub does-build : (now : ℕ) (x : BuiltValue C) → slice_get e.works s ≡ Some (WorkValue.building j) → M.refusal j.members j.config ≡ None
@@ -260,8 +220,7 @@ module _ {C : Type 0} {M : Meaning C} {h : History C} {g : ℕ} {e : EntryValue 
         → EntryNext M h g (Step.build g s now) (Answer.Built j.generation) e z
         (record e { works = slice_set e.works s (WorkValue.ready x) }) z v
     does-build now x held none task_is ended_is =
-        next-work b s (Step.build g s now) (Answer.Built j.generation) (WorkValue.ready x) refl (inl (sym (build-told now None none))) held
-        (itself e.core) b.is.core_is (λ r off. refl) (λ r. refl)
+        next-work b s refl (inl (sym (build-told now None none))) held (stays b.is) (λ r off. refl) (λ r. refl)
         (λ c there.
         ap2 (λ (t : Task C) (n : ℕ). WorkValue.ready (record { task = t; ended = n }))
         (task_is ∙ has.is ∙ ap (λ (d : C). last_job (origin e.core) s d (past g s h)) (same_Some has.config c (sym has.there ∙ there)))
@@ -269,153 +228,110 @@ module _ {C : Type 0} {M : Meaning C} {h : History C} {g : ℕ} {e : EntryValue 
         (λ m. refl) refl (unshared b (Step.build g s now) (Answer.Built j.generation) refl refl)
 
     -- a build that failed: its permit comes back, and its snapshot is let go
-    abbrev pub Failed : ℕ → JoinedValue C → GateView → RegistryValue WorldRule → Type 0
-    Failed now core y u =
-        stands.Stands (site e.core) (joined.At j.slot (group.Failed now j.members) ∷ joined_events g h) core × (y ≡ gate z.id false)
-        × IsRegistryAfter key_gives (key_of g h)
-        (registry_released e.core.view.id j.generation (views_of (site e.core) (joined_events g h)) (registry_events e.registry h)) u
+    module _ {now : ℕ} {core : JoinedValue C} {y : GateView} {u : RegistryValue WorldRule} (held : slice_get e.works s ≡ Some (WorkValue.building j))
+        (moves : Moves e (joined.At j.slot (group.Failed now j.members) ∷ joined_events g h) core) (back : y ≡ gate z.id false)
+        (lets-go : Releases j.generation u)
+      where
+        let-go : (es : List registry.Event)
+            → es ≡ registry_released e.core.view.id (extra_at g s h) (view_events g h) (registry_events e.registry h)
+            → IsRegistryAfter key_gives (key_of g h) es u
+        let-go es new =
+            released s j.generation es u
+            (ap (λ (x : Task C). x.generation) has.is
+            ∙ sym (aloft-number (granted (past g s h)) (extra (past g s h)) (aloft M h g s Work.building (slots M h b.run) has.work_is refl)))
+            new lets-go
 
-    extra-is : j.generation ≡ extra_at g s h
-    extra-is =
-        ap (λ (x : Task C). x.generation) has.is
-        ∙ sym (aloft-number (granted (past g s h)) (extra (past g s h)) (aloft M h g s Work.building (slots M h b.run) has.work_is refl))
+        -- refused, for its cause or for memory
+        pub does-fall : (r : Refusal)
+            → (M.refusal j.members j.config ≡ Some r) ⊎ ((M.refusal j.members j.config ≡ None) × (r ≡ Refusal.OutOfMemory))
+            → EntryNext M h g (Step.build g s now) (Answer.BuildFailed j.generation r) e z
+            (record e { core = core; works = slice_set e.works s WorkValue.nothing }) y u
+        does-fall r cause =
+            let right : Answers M h (Step.build g s now) (Answer.BuildFailed j.generation r) =
+            elim cause [
+              | inl q ↦ inl (sym (build-told now (Some r) q))
+              | inr q ↦
+                  inr (ap (Answer.BuildFailed j.generation) q.1
+                  ∙ sym (ap (without_memory {C = C} (Step.build g s now)) (build-told now None q.0)))
+            ] in
+            next-work b s refl right held (rw has.is at moves) (elsewhere s _ (group_events g h)) (λ i. refl) (λ c there. refl) (λ m. refl) back
+            (let-go _ (shares M h (Step.build g s now) (Answer.BuildFailed j.generation r) (b.run, right) (made_of e) b.is.made_is))
 
-    failed-is : (now : ℕ) {core : JoinedValue C}
-        → stands.Stands (site e.core) (joined.At j.slot (group.Failed now j.members) ∷ joined_events g h) core
-        → stands.Stands (site e.core) (joined.At s (group.Failed now (granted_members (past g s h))) ∷ joined_events g h) core
-    failed-is now {core} =
-        subst (λ (t : Task C). stands.Stands (site e.core) (joined.At t.slot (group.Failed now t.members) ∷ joined_events g h) core) has.is
-
-    pub does-fall : (now : ℕ) (r : Refusal) {core : JoinedValue C} {y : GateView} {u : RegistryValue WorldRule}
-        → slice_get e.works s ≡ Some (WorkValue.building j) → stands.SameSite e.core core → Failed now core y u
-        → (M.refusal j.members j.config ≡ Some r) ⊎ ((M.refusal j.members j.config ≡ None) × (r ≡ Refusal.OutOfMemory))
-        → EntryNext M h g (Step.build g s now) (Answer.BuildFailed j.generation r) e z
-        (record e { core = core; works = slice_set e.works s WorkValue.nothing }) y u
-    does-fall now r {u = u} held same failed cause =
-        let st : Step C = Step.build g s now in
-        let a = Answer.BuildFailed j.generation r in
-        let right = fallen-right now r cause in
-        next-work b s st a WorkValue.nothing refl right held same (failed-is now failed.0)
-        (λ i off. past-other i s _ (group_events g h) (λ p. off (sym p))) (λ i. refl) (λ c there. refl) (λ m. refl) failed.1
-        (released s j.generation (registry_events e.registry ((st, a) ∷ h)) u extra-is
-        (shares M h st a (b.run, right) (made_of e) b.is.made_is) failed.2)
-
-    pub does-fail : (now : ℕ) {core : JoinedValue C} {y : GateView} {u : RegistryValue WorldRule}
-        → slice_get e.works s ≡ Some (WorkValue.building j) → stands.SameSite e.core core → Failed now core y u
-        → EntryNext M h g (Step.failbuild g s now) (Answer.Failed j.generation) e z
-        (record e { core = core; works = slice_set e.works s WorkValue.nothing }) y u
-    does-fail now {u = u} held same failed =
-        let st : Step C = Step.failbuild g s now in
-        let a = Answer.Failed j.generation in
-        let right : Answers M h st a =
-        inl (ap (λ (x : Task C). Answer.Failed x.generation) has.is ∙ sym
-        (told-work b.is has (λ c w. of_job w (Answer.Failed (granted (past g s h)))))) in
-        next-work b s st a WorkValue.nothing refl right held same (failed-is now failed.0)
-        (λ i off. past-other i s _ (group_events g h) (λ p. off (sym p))) (λ i. refl) (λ c there. refl) (λ m. refl) failed.1
-        (released s j.generation (registry_events e.registry ((st, a) ∷ h)) u extra-is
-        (shares M h st a (b.run, right) (made_of e) b.is.made_is) failed.2)
+        pub does-fail : EntryNext M h g (Step.failbuild g s now) (Answer.Failed j.generation) e z
+            (record e { core = core; works = slice_set e.works s WorkValue.nothing }) y u
+        does-fail =
+            let right : Answers M h (Step.failbuild g s now) (Answer.Failed j.generation) =
+            inl (sym (told-work b.is has (λ c w. of_job w (Answer.Failed (granted (past g s h))))
+            ∙ ap (λ (x : Task C). Answer.Failed x.generation) (sym has.is))) in
+            next-work b s refl right held (rw has.is at moves) (elsewhere s _ (group_events g h)) (λ i. refl) (λ c there. refl) (λ m. refl) back
+            (let-go _ (shares M h (Step.failbuild g s now) (Answer.Failed j.generation) (b.run, right) (made_of e) b.is.made_is))
 
   -- what was built comes back, and is served or retired
   module _ {s : ℕ} {x : BuiltValue C} (has : Holds h g s e x.task (Work.built x.ended)) where
-    retired-is : {core : JoinedValue C}
-        → stands.Stands (site e.core) (joined.At x.task.slot (group.Abandoned x.task.members) ∷ joined_events g h) core
-        → stands.Stands (site e.core) (joined.At s (group.Abandoned (granted_members (past g s h))) ∷ joined_events g h) core
-    retired-is {core} =
-        subst (λ (t : Task C). stands.Stands (site e.core) (joined.At t.slot (group.Abandoned t.members) ∷ joined_events g h) core) has.is
-
     built-told : (f : ℕ → Answer) → at_one (config g s h) (λ c. of_built (work g s h) (f (granted (past g s h)))) ≡ f x.task.generation
     built-told f =
         told-work b.is has (λ c w. of_built w (f (granted (past g s h)))) ∙ sym (ap (λ (t : Task C). f t.generation) has.is)
 
-    pub does-abandon : {core : JoinedValue C} → slice_get e.works s ≡ Some (WorkValue.ready x) → stands.SameSite e.core core
-        → stands.Stands (site e.core) (joined.At x.task.slot (group.Abandoned x.task.members) ∷ joined_events g h) core
+    pub does-abandon : {core : JoinedValue C} → slice_get e.works s ≡ Some (WorkValue.ready x)
+        → Moves e (joined.At x.task.slot (group.Abandoned x.task.members) ∷ joined_events g h) core
         → EntryNext M h g (Step.abandon g s) (Answer.Abandoned x.task.generation) e z
         (record e { core = core; works = slice_set e.works s WorkValue.nothing }) z v
-    does-abandon held same stays =
-        next-work b s (Step.abandon g s) (Answer.Abandoned x.task.generation) WorkValue.nothing refl
-        (inl (sym (built-told Answer.Abandoned))) held
-        same (retired-is stays) (λ i off. past-other i s _ (group_events g h) (λ p. off (sym p))) (λ i. refl) (λ c there. refl) (λ m. refl)
-        refl (unshared b (Step.abandon g s) (Answer.Abandoned x.task.generation) refl refl)
+    does-abandon held moves =
+        next-work b s refl (inl (sym (built-told Answer.Abandoned))) held (rw has.is at moves) (elsewhere s _ (group_events g h)) (λ i. refl)
+        (λ c there. refl) (λ m. refl) refl (unshared b (Step.abandon g s) (Answer.Abandoned x.task.generation) refl refl)
 
-    tells : (served : Bool) {core : JoinedValue C} → is_served s (group_events g h) ≡ served
-        → slice_get e.works s ≡ Some (WorkValue.ready x) → stands.SameSite e.core core
-        → (let t = cond served (Told.Published x.task.generation) (Told.Abandoned x.task.generation) in
-        stands.Stands (site e.core) (joined.in_group (publish_events x (Ok t)) ++ joined_events g h) core
-        → EntryNext M h g (Step.publish g s) (told_as t) e z (record e { core = core; works = slice_set e.works s WorkValue.nothing }) z v)
-    tells true {core} is held same stays =
-        let a = Answer.Published x.task.generation in
-        next-work b s (Step.publish g s) a WorkValue.nothing refl
-        (inl (sym (built-told (λ n. cond (is_served s (group_events g h)) (Answer.Published n) (Answer.Abandoned n))
-        ∙ ap (λ (q : Bool). cond q a (Answer.Abandoned x.task.generation)) is))) held same
-        (rw has.work_is
-        (subst (λ (t : Task C). stands.Stands (site e.core) (joined.At t.slot (group.Published x.ended t.members) ∷ joined_events g h) core)
-        has.is stays))
-        (λ i off. past-other i s _ (group_events g h) (λ p. off (sym p))) (λ i. refl) (λ c there. refl) (λ m. refl)
-        refl (unshared b (Step.publish g s) a refl refl)
-    tells false is held same stays =
-        let a = Answer.Abandoned x.task.generation in
-        next-work b s (Step.publish g s) a WorkValue.nothing refl
-        (inl (sym (built-told (λ n. cond (is_served s (group_events g h)) (Answer.Published n) (Answer.Abandoned n))
-        ∙ ap (λ (q : Bool). cond q (Answer.Published x.task.generation) a) is))) held same
-        (retired-is stays) (λ i off. past-other i s _ (group_events g h) (λ p. off (sym p))) (λ i. refl) (λ c there. refl) (λ m. refl)
-        refl (unshared b (Step.publish g s) a refl refl)
-
-    pub does-publish : (t : Told) {core : JoinedValue C} → slice_get e.works s ≡ Some (WorkValue.ready x) → stands.SameSite e.core core
-        → stands.Stands (site e.core) (joined.in_group (publish_events x (Ok t)) ++ joined_events g h) core
+    pub does-publish : (t : Told) {core : JoinedValue C} → slice_get e.works s ≡ Some (WorkValue.ready x)
+        → Moves e (joined.in_group (publish_events x (Ok t)) ++ joined_events g h) core
         → t ≡ publish_answer x.task.slot x.task.generation (joined.group_events (joined_events g h))
         → EntryNext M h g (Step.publish g s) (told_as t) e z (record e { core = core; works = slice_set e.works s WorkValue.nothing }) z v
-    does-publish t {core} held same stays to =
-        let is : t ≡ cond (is_served s (group_events g h)) (Told.Published x.task.generation) (Told.Abandoned x.task.generation) =
-        to
-        ∙ ap2 (λ (i : ℕ) (k : group.History). publish_answer i x.task.generation k) (ap (λ (y : Task C). y.slot) has.is) (group-of g h) in
-        subst
-        (λ (q : Told). EntryNext M h g (Step.publish g s) (told_as q) e z
-        (record e { core = core; works = slice_set e.works s WorkValue.nothing }) z v)
-        (sym is) (tells (is_served s (group_events g h)) refl held same (rw is at stays))
+    does-publish t {core} held moves to = by-told t moves (inl (ap told_as (rw (has.is, group-of g h) at to) ∙ tells (is_served s (group_events g h)) ∙ sym
+        (built-told (λ n. cond (is_served s (group_events g h)) (Answer.Published n) (Answer.Abandoned n)))))
+      where
+        tells : (b : Bool) → told_as (cond b (Told.Published (granted (past g s h))) (Told.Abandoned (granted (past g s h))))
+            ≡ cond b (Answer.Published x.task.generation) (Answer.Abandoned x.task.generation)
+        tells true = ap (λ (t : Task C). Answer.Published t.generation) (sym has.is)
+        tells false = ap (λ (t : Task C). Answer.Abandoned t.generation) (sym has.is)
+
+        by-told : (t : Told) → Moves e (joined.in_group (publish_events x (Ok t)) ++ joined_events g h) core
+            → Answers M h (Step.publish g s) (told_as t)
+            → EntryNext M h g (Step.publish g s) (told_as t) e z
+            (record e { core = core; works = slice_set e.works s WorkValue.nothing }) z v
+        by-told (Told.Published n) moves right =
+            next-work b s refl right held (rw has.work_is (rw has.is at moves)) (elsewhere s _ (group_events g h)) (λ i. refl) (λ c there. refl)
+            (λ m. refl) refl (unshared b (Step.publish g s) (Answer.Published n) refl refl)
+        by-told (Told.Abandoned n) moves right =
+            next-work b s refl right held (rw has.is at moves) (elsewhere s _ (group_events g h)) (λ i. refl) (λ c there. refl) (λ m. refl) refl
+            (unshared b (Step.publish g s) (Answer.Abandoned n) refl refl)
 
   -- a retired selector: taken out, destroyed and reported at once
   destroy-told : (s : ℕ) (r : Option Refusal) → taken_refusal (site e.core) s (joined.group_events (joined_events g h)) ≡ r
       → answer_after M h (Step.destroy g s) ≡ unless_refused r Answer.Destroyed
   destroy-told s r is =
-      reading-told b.is s destroy_refusal (λ q. unless_refused q Answer.Destroyed)
-      (at_slot (site e.core) s (destroy_refusal (past_of s (joined.group_events (joined_events g h))))) refl
+      reading-told b.is s destroy_refusal (λ q. unless_refused q Answer.Destroyed) _ refl
       ∙ by-place (nat_lt s (length (configs_of e.core.group))) _ is
     where
       by-place : (there : Bool) (q : Option Refusal) → cond there q (Some Refusal.NoSuch) ≡ r
           → at_one (cond there (Some q) None) (λ q. unless_refused q Answer.Destroyed) ≡ unless_refused r Answer.Destroyed
-      by-place true q is = ap (λ (o : Option Refusal). unless_refused o Answer.Destroyed) is
-      by-place false q is = ap (λ (o : Option Refusal). unless_refused o Answer.Destroyed) is
+      by-place true q is = rw is refl
+      by-place false q is = rw (← is) refl
 
-  pub does-refuse-destruction : (s : ℕ) (r : Refusal) {core : JoinedValue C} → stands.SameSite e.core core
-      → stands.Stands (site e.core) (joined_events g h) core
+  pub does-refuse-destruction : {s : ℕ} {r : Refusal} {core : JoinedValue C} → Moves e (joined_events g h) core
       → taken_refusal (site e.core) s (joined.group_events (joined_events g h)) ≡ Some r
       → EntryNext M h g (Step.destroy g s) (Answer.Refused r) e z (with_core core e) z v
-  does-refuse-destruction s r same stays is =
-      next-refused b (Step.destroy g s) r refl (inl (sym (destroy-told s (Some r) is))) same stays
+  does-refuse-destruction {s = s} {r = r} moves is = next-refused b refl (inl (sym (destroy-told s (Some r) is))) moves
 
-  pub does-destroy : (s n : ℕ) {core : JoinedValue C} {y : GateView} {u : RegistryValue WorldRule} → stands.SameSite e.core core
-      → stands.Stands (site e.core) (joined.At s group.Destroyed ∷ joined.At s group.TakenOut ∷ joined_events g h) core
+  pub does-destroy : (s n : ℕ) {core : JoinedValue C} {y : GateView} {u : RegistryValue WorldRule}
+      → Moves e (joined.At s group.Destroyed ∷ joined.At s group.TakenOut ∷ joined_events g h) core
       → taken_refusal (site e.core) s (joined.group_events (joined_events g h)) ≡ None
       → n ≡ generation_of (extra (past_of s (group.At s group.TakenOut ∷ joined.group_events (joined_events g h)))) → y ≡ gate z.id false
-      → IsRegistryAfter key_gives (key_of g h)
-      (registry_released e.core.view.id n (views_of (site e.core) (joined_events g h)) (registry_events e.registry h)) u
-      → EntryNext M h g (Step.destroy g s) Answer.Destroyed e z (with_core core e) y u
-  does-destroy s n {u = u} same stays taken of back kept =
+      → Releases n u → EntryNext M h g (Step.destroy g s) Answer.Destroyed e z (with_core core e) y u
+  does-destroy s n moves taken of back kept =
       let right : Answers M h (Step.destroy g s) Answer.Destroyed = inl (sym (destroy-told s None taken)) in
-      next-core b (Step.destroy g s) Answer.Destroyed refl right same stays refl (λ i. refl) (λ m. refl) back
-      (released s n (registry_events e.registry ((Step.destroy g s, Answer.Destroyed) ∷ h)) u
-      (of ∙ ap (λ (p : group.History). generation_of (extra p)) (past-same s group.TakenOut (joined.group_events (joined_events g h)))
-      ∙ ap (λ (k : group.History). generation_of (extra (past_of s k))) (group-of g h))
+      next-core b refl right moves refl (λ i. refl) (λ m. refl) back
+      (released s n _ _ (rw (past-same s group.TakenOut (joined.group_events (joined_events g h)), group-of g h) at of)
       (shares M h (Step.destroy g s) Answer.Destroyed (b.run, right) (made_of e) b.is.made_is) kept)
 
 -- what was taken out is owed a report
 pub owed-now : {C : Type 0} (made : group-made.Made C) (s : ℕ) (k : group.History) → taken_refusal made s k ≡ None
     → is_owed made s (group.At s group.TakenOut ∷ k) ≡ true
-owed-now made s k none =
-    ap (λ (t : Bool). t && is_taken_out (extra (past_of s (group.At s group.TakenOut ∷ k))))
-    (there-if (nat_lt s (length made.configs)) _ none)
-    ∙ ap (λ (p : group.History). is_taken_out (extra p)) (past-same s group.TakenOut k)
-  where
-    there-if : (there : Bool) (x : Option Refusal) → cond there x (Some Refusal.NoSuch) ≡ None → there ≡ true
-    there-if true x e = refl
-    there-if false x e = absurd (cc)
+owed-now made s k none = rw (past-same s group.TakenOut k) (grind (arith, none))

@@ -8,11 +8,8 @@ use Rattle.lb_world.proofs.Words.{◌∙◌, ◌≡◌, Answer, answer_after, An
 use Rattle.lb_world.proofs.Words.{flight_after, GateView, group-of, History, inl, joined_events, length, Meaning, nat_lt, newest}
 use Rattle.lb_world.proofs.Words.{newest-past, None, Option, past, past_of, refl, Refusal, RegistryValue, served, site, Some, Step, sym}
 use Rattle.lb_world.proofs.Words.{WorldRule, ℕ}
-use Rattle.lb_world.proofs.Entries.{itself, next-core, next-refused, same-flight, told-of, unshared}
+use Rattle.lb_world.proofs.Entries.{next-core, next-refused, same-flight, stays, told-of, unshared}
 use Rattle.lb_world.proofs.entry.Entry.counts.Goals as goal
-use Rattle.lb_world.proofs.entry.Entry.counts.Goals.{in_default-via-in-Some+in-Some+in-Some+in_default}
-use Rattle.lb_world.proofs.entry.Entry.counts.Goals.{in_default-via-in-Some+in-Some+in_default, in_default-via-in-Some+in_default}
-use Rattle.lb_world.proofs.entry.Entry.counts.Goals.{in_default-via-in_default}
 
 module _ {C : Type 0} {M : Meaning C} {h : History C} {g : ℕ} {e : EntryValue C} {z : GateView} {v : RegistryValue WorldRule}
     (b : Before M h g e z v) where
@@ -30,13 +27,13 @@ module _ {C : Type 0} {M : Meaning C} {h : History C} {g : ℕ} {e : EntryValue 
       let within = nat_lt s (length (configs_of e.core.group)) in
       told-of b.is s (group.served p) (Some served) (λ i. Answer.Numbers (numbers_of (past g s h))) a
       ∙ ap (λ (q : group.History). Answer.Numbers (numbers_of (past_of s q))) (sym (group-of g h))
-      ∙ same-numbers _ _ _ _ _ _ _ _ _ _ (newest-past s k ∙ sym n) (cond_some within _ _ (sym a)).1
+      ∙ numbers (newest-past s k ∙ sym n) (cond_some within _ _ (sym a)).1
       (same-flight (group.extra p) ∙ (cond_some within _ _ (sym x)).1) (cond_some within _ _ (sym y)).1 (cond_some within _ _ (sym d)).1
     where
-      same-numbers : (n m s t : ℕ) (f i : Option ℕ) (w x : Bool) (c d : Counts) → n ≡ m → s ≡ t → f ≡ i → w ≡ x → c ≡ d
+      numbers : {n m s t : ℕ} {f i : Option ℕ} {w x : Bool} {c d : Counts} → n ≡ m → s ≡ t → f ≡ i → w ≡ x → c ≡ d
           → Answer.Numbers (record { newest = n; served = s; flight = f; waiting = w; counts = c }) ≡ Answer.Numbers
           (record { newest = m; served = t; flight = i; waiting = x; counts = d })
-      same-numbers n m s t f i w x c d a b e u v = cc
+      numbers a b e u v = cc
 
   absent : {A : Type 0} (s : ℕ) (x : A) (r : Option A) → r ≡ at_slot (site e.core) s x → r ≡ None
       → Answers M h (Step.counts g s) (Answer.Refused Refusal.NoSuch)
@@ -53,27 +50,26 @@ returns-in-Some-Some-Some-Some g c =
       served = w.served;
       flight = w.flight;
       waiting = w.waiting;
-      counts =
-          w.counts;
+      counts = w.counts;
     }) in
-    next-core b (Step.counts n c.args.slot) a refl
+    next-core b refl
     (inl (sym (counts-right b c.args.slot _ _ _ _ _ (c.newest.ensures _ _ b.is.core_is) (sym w.is-0 ∙ c.served.ensures _ _ b.is.core_is)
     (sym w.is-1 ∙ c.flight.ensures _ _ b.is.core_is) (sym w.is-2 ∙ c.is_waiting.ensures _ _ b.is.core_is)
     (sym w.is-3 ∙ c.counts.ensures _ _ b.is.core_is))))
-    (itself _) b.is.core_is refl (λ s. refl) (λ m. refl) refl (unshared b (Step.counts n c.args.slot) a refl refl))
+    (stays b.is) refl (λ s. refl) (λ m. refl) refl (unshared b (Step.counts n c.args.slot) a refl refl))
 
 pub returns-in_default : goal.returns-in_default
 returns-in_default g c =
     rw (← c.self.view_is)
     (λ z v h n b.
-    next-refused b (Step.counts n c.args.slot) Refusal.NoSuch refl
+    next-refused b refl
     (elim c.in_default.branch [
-      | in_default-via-in-Some+in-Some+in-Some+in_default w ↦
+      | goal.in_default-via-in-Some+in-Some+in-Some+in_default w ↦
           absent b c.args.slot _ c.counts.result (c.counts.ensures _ _ b.is.core_is) w.in_default.is-3
-      | in_default-via-in-Some+in-Some+in_default w ↦
+      | goal.in_default-via-in-Some+in-Some+in_default w ↦
           absent b c.args.slot _ c.is_waiting.result (c.is_waiting.ensures _ _ b.is.core_is) w.in_default.is-2
-      | in_default-via-in-Some+in_default w ↦
+      | goal.in_default-via-in-Some+in_default w ↦
           absent b c.args.slot _ c.flight.result (c.flight.ensures _ _ b.is.core_is) w.in_default.is-1
-      | in_default-via-in_default w ↦ absent b c.args.slot _ c.served.result (c.served.ensures _ _ b.is.core_is) w.in_default.is-0
+      | goal.in_default-via-in_default w ↦ absent b c.args.slot _ c.served.result (c.served.ensures _ _ b.is.core_is) w.in_default.is-0
     ])
-    (itself _) b.is.core_is)
+    (stays b.is))

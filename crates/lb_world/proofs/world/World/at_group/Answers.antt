@@ -45,32 +45,29 @@ pub returns-then-group-len : goal.returns-then-group-len
 returns-then-group-len g c =
     rw (← c.self.view_is)
     (λ h s.
-    let past : length c.self.inside.groups.items ≤ c.args.group = omega arith in
-    world-refused s (local_seen c.args.group c.args.local) Refusal.NoSuch
-    (absent-right (meaning_of g.S.BackendSelection) h c.args.group c.args.local (no-group s c.args.group past) c.requires))
+    world-refused s
+    (absent-right (meaning_of g.S.BackendSelection) h c.args.group c.args.local (no-group s c.args.group (omega arith)) c.requires))
 
 pub index_mut-gate-requires : goal.index_mut-gate-requires
 index_mut-gate-requires g c =
-    let within : c.args.group < length c.self.inside.groups.items = omega arith in
-    let at = at-place c.self.inside.groups.items c.args.group _ within c.index_mut-entry.ensures.value in
+    let at = at-place c.self.inside.groups.items c.args.group _ (omega arith) c.index_mut-entry.ensures.value in
     let on = c.self.invariant.stands.on_site _ _ at in
     omega (arith, c.gate.ensures, slice_get_within c.self.inside.gates.items _ _ on.gate)
 
 pub index_mut-registry-requires : goal.index_mut-registry-requires
 index_mut-registry-requires g c =
-    let within : c.args.group < length c.self.inside.groups.items = omega arith in
-    let at = at-place c.self.inside.groups.items c.args.group _ within c.index_mut-entry.ensures.value in
+    let at = at-place c.self.inside.groups.items c.args.group _ (omega arith) c.index_mut-entry.ensures.value in
     let on = c.self.invariant.stands.on_site _ _ at in
     omega (arith, c.registry.ensures, on.registry)
 
 pub take-requires : goal.take-requires
 take-requires g c =
-    let within : c.args.group < length c.self.inside.groups.items = omega arith in
-    let at = at-place c.self.inside.groups.items c.args.group _ within c.index_mut-entry.ensures.value in
+    let at = at-place c.self.inside.groups.items c.args.group _ (omega arith) c.index_mut-entry.ensures.value in
     let on = c.self.invariant.stands.on_site _ _ at in
-    let in_gates : c.gate.result < length c.self.inside.gates.items =
-    omega (arith, c.gate.ensures, slice_get_within c.self.inside.gates.items _ _ on.gate) in
-    let at_gate = rw c.gate.ensures at (at-place c.self.inside.gates.items c.gate.result _ in_gates c.index_mut-gate.ensures.value) in
+    let low = slice_get_within c.self.inside.gates.items _ _ on.gate in
+    let at_gate =
+    rw c.gate.ensures
+    at (at-place c.self.inside.gates.items c.gate.result _ (omega (arith, c.gate.ensures, low)) c.index_mut-gate.ensures.value) in
     let was = c.self.invariant in
     record {
       gate = ap (λ (z : GateView). z.id) (same_Some c.index_mut-gate.result.now on.view (sym at_gate ∙ on.gate)) ∙ on.id;
@@ -80,16 +77,16 @@ take-requires g c =
 
 pub returns : goal.returns
 returns g c =
-    let within : c.args.group < length c.self.inside.groups.items = omega arith in
-    let at = at-place c.self.inside.groups.items c.args.group _ within c.index_mut-entry.ensures.value in
+    let at = at-place c.self.inside.groups.items c.args.group _ (omega arith) c.index_mut-entry.ensures.value in
     let on = c.self.invariant.stands.on_site _ _ at in
-    let in_gates : c.gate.result < length c.self.inside.gates.items =
-    omega (arith, c.gate.ensures, slice_get_within c.self.inside.gates.items _ _ on.gate) in
-    let at_gate = rw c.gate.ensures at (at-place c.self.inside.gates.items c.gate.result _ in_gates c.index_mut-gate.ensures.value) in
-    let in_registries : c.registry.result < length c.self.inside.registries.items = omega (arith, c.registry.ensures, on.registry) in
+    let low = slice_get_within c.self.inside.gates.items _ _ on.gate in
+    let at_gate =
+    rw c.gate.ensures
+    at (at-place c.self.inside.gates.items c.gate.result _ (omega (arith, c.gate.ensures, low)) c.index_mut-gate.ensures.value) in
     let at_registry =
     rw c.registry.ensures
-    at (at-place c.self.inside.registries.items c.registry.result _ in_registries c.index_mut-registry.ensures.value) in
+    at (at-place c.self.inside.registries.items c.registry.result _ (omega (arith, c.registry.ensures, on.registry))
+    c.index_mut-registry.ensures.value) in
     rw (← c.self.view_is, c.gate.ensures, c.registry.ensures)
     (λ h s. does s c.args.group c.args.local c.take.result _ _ _ _ _ _ at at_gate at_registry c.take.ensures)
 

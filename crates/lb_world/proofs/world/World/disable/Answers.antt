@@ -4,4 +4,4 @@ use Rattle.lb_world.proofs.Tables.{world-refused}
 use Rattle.lb_world.proofs.world.World.disable.Goals as goal
 
 pub returns-in_default : goal.returns-in_default
-returns-in_default g c = rw c.in_default.is (λ h s. world-refused s (Step.disable c.args.group None) Refusal.InvalidAddress (inl refl))
+returns-in_default g c = rw c.in_default.is (λ h s. world-refused s (inl refl))

@@ -5,11 +5,11 @@ use Rattle.lb_world.proofs.Registries.{gate-made}
 use Rattle.lb_world.proofs.world.World.gate.Goals as goal
 
 pub returns-in_default : goal.returns-in_default
-returns-in_default g c = rw (← c.self.view_is) (λ h s. world-refused s Step.gate Refusal.OutOfMemory (inr refl))
+returns-in_default g c = rw (← c.self.view_is) (λ h s. world-refused s (inr refl))
 
 pub returns-in_default-push : goal.returns-in_default-push
 returns-in_default-push g c =
-    rw (← c.self.view_is, c.in_default-push.ensures.items) (λ h s. world-refused s Step.gate Refusal.OutOfMemory (inr refl))
+    rw (← c.self.view_is, c.in_default-push.ensures.items) (λ h s. world-refused s (inr refl))
 
 pub returns : goal.returns
 returns g c =

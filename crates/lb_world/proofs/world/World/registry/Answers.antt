@@ -7,7 +7,7 @@ use Rattle.lb_world.proofs.world.World.registry.Goals as goal
 pub returns-in_default : goal.returns-in_default
 returns-in_default g c =
     rw (← c.self.view_is, c.in_default.ensures.items)
-    (λ h s. world-refused s (Step.registry c.args.rule c.args.healthy) Refusal.OutOfMemory (inr refl))
+    (λ h s. world-refused s (inr refl))
 
 pub returns : goal.returns
 returns g c =

@@ -6,8 +6,7 @@ use Rattle.lb_world.proofs.world.World.update.Goals as goal
 pub returns-then-has_refused : goal.returns-then-has_refused
 returns-then-has_refused g c =
     λ h s.
-    world-refused s (Step.update c.args.group c.args.now c.args.listings.items) Refusal.InvalidAddress
-    (inl (rw (ap has_refused (sym c.deref.ensures.value) ∙ sym c.if-has_refused.ensures) refl))
+    world-refused s (inl (rw (ap has_refused (sym c.deref.ensures.value) ∙ sym c.if-has_refused.ensures) refl))
 
 pub at_group-requires : goal.at_group-requires
 at_group-requires g c = ap has_refused (sym c.deref.ensures.value) ∙ sym c.if-has_refused.ensures
