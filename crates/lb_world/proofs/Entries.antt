@@ -12,11 +12,11 @@ use Rattle.lb_group.specs.GroupHistory as group
 use Rattle.lb_joined.specs.JoinedHistory as joined
 use Rattle.lb_registry.specs.RegistryEvents as registry
 use Rattle.lb_world.proofs.Words.{arith, ◌∙◌, ◌⊎◌, ◌++◌, ◌≡◌, ◌&&◌, ◌∷◌, ◌==◌, [], and_parts, Answer, Answers, ap, ap2, At, at_one, at_slot}
-use Rattle.lb_world.proofs.Words.{Before, Bool, changed, cond, config, config_in, configs_of, ended, EntryIs, EntryNext, EntryValue, eq-eqb}
+use Rattle.lb_world.proofs.Words.{Before, Bool, changed, cond, config, config_in, configs_of, EntryIs, EntryNext, EntryValue, eq-eqb}
 use Rattle.lb_world.proofs.Words.{false, gate, GateId, gates, GateView, granted, granted_members, group-of, group_at, group_events, GroupId}
 use Rattle.lb_world.proofs.Words.{happened, held_of, History, inl, inr, is_at, IsRegistryAfter, IsRun, joined_after, joined_events}
 use Rattle.lb_world.proofs.Words.{JoinedValue, key_at, key_gives, key_in, key_of, length, length-set, List, list_all, load_in, load_of}
-use Rattle.lb_world.proofs.Words.{lt-ltb, made, Made, made_at, made_of, Meaning, Member, nat_lt, ne_eqb, None, none-some, Option}
+use Rattle.lb_world.proofs.Words.{lt-ltb, made, Made, made_at, made_of, Meaning, Member, nat_lt, None, none-some, Option}
 use Rattle.lb_world.proofs.Words.{option_map, origin, Origin, past, past_of, permit_after, refl, Refusal, refused-alike, registries}
 use Rattle.lb_world.proofs.Words.{registry_at, registry_events, registry_of, RegistryValue, site, slice_get, slice_get_within, slice_set}
 use Rattle.lb_world.proofs.Words.{Some, Step, subst, sym, Task, true, view_events, views_of, with_core, Work, work, worked, works_at}

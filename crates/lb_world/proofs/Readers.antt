@@ -4,7 +4,7 @@ use Rattle.lb_group.specs.Values.{ReaderValue}
 use Rattle.lb_history.proofs.Absent.{config-made, found as found-of}
 use Rattle.lb_history.proofs.Runs.{reading}
 use Rattle.lb_history.specs.Answers.{enter_answer, leave_answer}
-use Rattle.lb_history.specs.History.{Entered, group_in, slot_in}
+use Rattle.lb_history.specs.History.{Entered, group_in}
 use Rattle.lb_world.specs.Calls.{IsCounted}
 use Rattle.std.proofs.lemmas.Grind.{common_steps}
 use Rattle.std.proofs.lemmas.List.{map-set}
@@ -12,14 +12,14 @@ use Rattle.std.proofs.lemmas.Option.{slice_get-map}
 use Rattle.lb_joined.specs.Stands as stands
 use Rattle.lb_group.specs.GroupHistory as group
 use Rattle.lb_joined.specs.JoinedHistory as joined
-use Rattle.lb_world.proofs.Words.{◌∙◌, ◌↔◌, ◌||◌, ◌⊎◌, ◌++◌, ◌≡◌, ◌&&◌, ◌∷◌, ◌<◌, ◌==◌, ◌≤◌, [], Answer, answer_after, Answers, ap, ap2}
-use Rattle.lb_world.proofs.Words.{arith, at_one, at_slot, Bool, cond, cond_some, config, config_in, configs_of, entered_of, entries}
-use Rattle.lb_world.proofs.Words.{EntryNext, EntryValue, Err, Event, false, group-of, group_at, HeldValue, History, inl, inr, IsOwnReader}
-use Rattle.lb_world.proofs.Words.{IsReady, IsRegistryAfter, IsRun, IsTrue, joined_events, Judges, key_at, key_gives, length}
+use Rattle.lb_world.proofs.Words.{◌∙◌, ◌↔◌, ◌⊎◌, ◌++◌, ◌≡◌, ◌&&◌, ◌∷◌, ◌<◌, ◌≤◌, [], Answer, answer_after, Answers, ap, ap2}
+use Rattle.lb_world.proofs.Words.{arith, at_one, at_slot, Bool, cond_some, config, config_in, configs_of, entered_of, entries}
+use Rattle.lb_world.proofs.Words.{EntryNext, EntryValue, Err, group-of, group_at, HeldValue, History, inl, inr, IsOwnReader}
+use Rattle.lb_world.proofs.Words.{IsReady, IsRun, IsTrue, joined_events, Judges, key_at, length}
 use Rattle.lb_world.proofs.Words.{length-map, List, lt-ltb, made, made_at, map, map-append, Meaning, Member, nat_lt, ne_eqb, None}
 use Rattle.lb_world.proofs.Words.{none-some, Ok, Option, option_map, past, past_of, refl, Refusal, refuse, registry_events, RegistryValue}
 use Rattle.lb_world.proofs.Words.{same_Some, served, site, slice_get, slice_get_past, slice_get_within, slice_set, Some, Stands, Step}
-use Rattle.lb_world.proofs.Words.{subst, sym, true, views_of, with_core, without_memory, WorldRule, WorldValue, ℕ}
+use Rattle.lb_world.proofs.Words.{subst, sym, views_of, with_core, without_memory, WorldRule, WorldValue, ℕ}
 use Rattle.lb_world.proofs.Places.{get_kept, get_push, get_same, set-same, still-there}
 use Rattle.lb_world.proofs.Entries.{config-here, key-here, Moves, next-core, next-refused, reading-told, registry-here, unshared, views-are}
 use Rattle.lb_world.proofs.Tables.{group-moves, own-kept, registry-set, world-refused}

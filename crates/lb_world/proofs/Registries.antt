@@ -10,7 +10,7 @@ use Rattle.lb_registry.specs.Verdicts.{agree}
 use Rattle.lb_registry.specs.declared.targets.Target.{Target}
 use Rattle.std.proofs.Common.{◌≢◌}
 use Rattle.std.proofs.lemmas.Bool.{lt-leb}
-use Rattle.lb_world.proofs.Words.{◌+◌, ◌∙◌, ◌↔◌, ◌^◌, ◌⊎◌, ◌++◌, ◌≡◌, ◌∷◌, ◌<◌, ◌≤◌, [], after, Answer, answer_after, Answers, ap, Applied}
+use Rattle.lb_world.proofs.Words.{◌+◌, ◌∙◌, ◌↔◌, ◌^◌, ◌⊎◌, ◌++◌, ◌≡◌, ◌∷◌, ◌<◌, ◌≤◌, [], after, Answer, answer_after, ap, Applied}
 use Rattle.lb_world.proofs.Words.{arith, at_one, Bool, cells_given, eq-eqb, Err, Event, false, GateView, History, inl, inr}
 use Rattle.lb_world.proofs.Words.{is_out, IsRegistryAfter, IsTrue, key_at, key_by, key_gives, key_in, key_of, length, length_push, List}
 use Rattle.lb_world.proofs.Words.{made, Made, made_at, made_of, marks_start_none, MatchOption, Meaning, Member, ne_eqb, no_number, None}

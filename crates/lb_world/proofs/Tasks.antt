@@ -17,19 +17,18 @@ use Rattle.lb_world.specs.Views.{NotBuilding, NotReady}
 use Rattle.lb_world.specs.Works.{last_job}
 use Rattle.std.proofs.lemmas.Bool.{eqb-true}
 use Rattle.lb_group.specs.Stands as group-made
-use Rattle.lb_joined.specs.Stands as stands
 use Rattle.lb_group.specs.GroupHistory as group
 use Rattle.lb_joined.specs.JoinedHistory as joined
 use Rattle.lb_registry.specs.RegistryEvents as registry
-use Rattle.lb_world.proofs.Words.{◌∙◌, ◌⊎◌, ◌++◌, ◌≡◌, ◌&&◌, ◌∷◌, ◌<◌, ◌≤◌, Answer, answer_after, Answers, ap, ap2, arith, ask_told, at_one}
-use Rattle.lb_world.proofs.Words.{At, at_slot, Before, Bool, cond, config, configs_of, EntryIs, EntryNext, EntryValue, false, false≢true}
-use Rattle.lb_world.proofs.Words.{gate, GateId, GateView, granted, granted_members, group-of, group_events, GroupId, held_of, History, inl}
-use Rattle.lb_world.proofs.Words.{inr, is_out, IsRegistryAfter, IsRun, joined_events, JoinedValue, key_gives, key_of, length, List, made}
-use Rattle.lb_world.proofs.Words.{Made, made_of, Meaning, Member, members-past, members_of, nat_lt, newest, newest-past, no_such, None}
+use Rattle.lb_world.proofs.Words.{◌∙◌, ◌⊎◌, ◌++◌, ◌≡◌, ◌∷◌, ◌<◌, ◌≤◌, Answer, answer_after, Answers, ap, ap2, arith, ask_told, at_one}
+use Rattle.lb_world.proofs.Words.{At, Before, Bool, cond, config, configs_of, EntryIs, EntryNext, EntryValue, false, false≢true}
+use Rattle.lb_world.proofs.Words.{gate, GateId, GateView, granted, group-of, group_events, GroupId, held_of, History, inl}
+use Rattle.lb_world.proofs.Words.{inr, IsRegistryAfter, IsRun, joined_events, JoinedValue, key_gives, key_of, length, List, made}
+use Rattle.lb_world.proofs.Words.{made_of, Meaning, Member, members-past, members_of, nat_lt, newest, newest-past, no_such, None}
 use Rattle.lb_world.proofs.Words.{none-some, Ok, Option, origin, Origin, past, past-other, past-same, past_of, promised, refl, Refusal}
 use Rattle.lb_world.proofs.Words.{registry_events, RegistryValue, same_Some, shares, site, slice_get, slice_get_past}
 use Rattle.lb_world.proofs.Words.{slice_get_within, slice_set, slots, Some, Step, subst, sym, Task, true, unless_refused, view_events}
-use Rattle.lb_world.proofs.Words.{ViewEvent, views_of, with_core, without_memory, Work, work, WorkValue, WorldRule, ℕ}
+use Rattle.lb_world.proofs.Words.{views_of, with_core, without_memory, Work, work, WorkValue, WorldRule, ℕ}
 use Rattle.lb_world.proofs.Places.{found, set-same}
 use Rattle.lb_world.proofs.Entries.{config-here, Moves, next-core, next-refused, next-work, reading-told, stays, unshared, views-are}
 

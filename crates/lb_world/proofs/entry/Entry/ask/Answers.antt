@@ -1,6 +1,6 @@
 -- What the slot answers, and the job that goes to its place.
 use Rattle.lb_group.specs.GroupHistory.{building, busy, cancelled, not_due, up_to_date}
-use Rattle.lb_world.proofs.Words.{◌<◌, ap, arith, ask_told, configs_of, length, meaning_of}
+use Rattle.lb_world.proofs.Words.{ap, arith, ask_told, meaning_of}
 use Rattle.lb_world.proofs.Places.{at-place}
 use Rattle.lb_world.proofs.Tasks.{does-grant, free-place, next-asked, next-unasked}
 use Rattle.lb_world.proofs.entry.Entry.ask.Goals as goal

@@ -1,5 +1,5 @@
 -- The job that is held is the last one, so it is awaited; its snapshot is let go.
-use Rattle.lb_world.proofs.Words.{◌<◌, ◌∙◌, ◌≤◌, ap, arith, inl, length, meaning_of, refl, Refusal, Some, Step, Work}
+use Rattle.lb_world.proofs.Words.{◌∙◌, ap, arith, inl, meaning_of, refl, Some, Work}
 use Rattle.lb_world.proofs.Places.{at-place}
 use Rattle.lb_world.proofs.Entries.{next-refused, stays}
 use Rattle.lb_world.proofs.Tasks.{beyond, does-build, does-fall, holds, next-same, own-task, unawaited, unstarted}

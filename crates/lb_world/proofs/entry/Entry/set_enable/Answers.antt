@@ -9,9 +9,11 @@ does-set : {C : Type 0} {M : Meaning C} {h : History C} {g : ℕ} {e : EntryValu
     (b : Before M h g e z v) {core : JoinedValue C} (m : Member) (on : Bool) → Moves e (joined.Set m on ∷ joined_events g h) core
     → EntryNext M h g (cond on (Step.enable g (Some m)) (Step.disable g (Some m))) Answer.Done e z (with_core core e) z v
 does-set b m true moves =
-    next-core b refl (inl (sym (group-told b.is Answer.Done))) moves refl (λ s. refl) (λ m. refl) refl (unshared b (Step.enable _ (Some m)) Answer.Done refl refl)
+    next-core b refl (inl (sym (group-told b.is Answer.Done))) moves refl (λ s. refl) (λ m. refl) refl
+    (unshared b (Step.enable _ (Some m)) Answer.Done refl refl)
 does-set b m false moves =
-    next-core b refl (inl (sym (group-told b.is Answer.Done))) moves refl (λ s. refl) (λ m. refl) refl (unshared b (Step.disable _ (Some m)) Answer.Done refl refl)
+    next-core b refl (inl (sym (group-told b.is Answer.Done))) moves refl (λ s. refl) (λ m. refl) refl
+    (unshared b (Step.disable _ (Some m)) Answer.Done refl refl)
 
 pub returns : goal.returns
 returns g c =

@@ -13,13 +13,12 @@ use Rattle.lb_joined.specs.JoinedCalls.{after_schedule, IsRefusedFor, Schedules}
 use Rattle.lb_world.specs.Calls.{scheduled_as}
 use Rattle.std.proofs.lemmas.Bool.{false_from_ne_true, leb-true, not-false}
 use Rattle.lb_joined.specs.Stands as stands
-use Rattle.lb_group.specs.GroupHistory as group
 use Rattle.lb_joined.specs.JoinedHistory as joined
 use Rattle.lb_registry.specs.RegistryEvents as registry
 use Rattle.lb_world.proofs.Words.{◌&&◌, ◌+◌, ◌==◌, ◌^◌, ◌↔◌, ◌∙◌, ◌∷◌, ◌≡◌, ◌≤◌, absent, Answer, answer_after, Answers, ap, ap2, at_one}
 use Rattle.lb_world.proofs.Words.{Before, Bool, changed, cond, earlier, EntryNext, EntryValue, Err, events_in, false, GateView, group-of}
 use Rattle.lb_world.proofs.Words.{group_events, has_refused, History, inl, inr, IsRegistryAfter, IsTrue, joined_after, joined_events}
-use Rattle.lb_world.proofs.Words.{JoinedValue, key_gives, key_of, le-leb, leb_tells, List, Listing, Made, made_at, made_of, Meaning}
+use Rattle.lb_world.proofs.Words.{JoinedValue, key_gives, key_of, le-leb, List, Listing, Made, made_at, made_of, Meaning}
 use Rattle.lb_world.proofs.Words.{members_in, members_of, nat_le, newest, no_number, None, numbered, Ok, Option, refl, Refusal, refuse}
 use Rattle.lb_world.proofs.Words.{registry_events, RegistryValue, Result, same_members, settings_in, shares, site, Some, Step, subst, sym}
 use Rattle.lb_world.proofs.Words.{true, true≢false, unless_refused, view_events, view_in, ViewEvent, views_of, where_, with_core}

@@ -2,8 +2,8 @@
 use Rattle.lb_world.specs.Locals.{IsWhole, local_seen}
 use Rattle.lb_world.specs.Stands.{Does}
 use Rattle.lb_world.specs.declared.local.Local.{Local}
-use Rattle.lb_world.proofs.Words.{◌∷◌, ◌<◌, ◌∙◌, ◌≡◌, ◌≤◌, Answer, Answers, ap, arith, entries, EntryValue, GateView, group_at}
-use Rattle.lb_world.proofs.Words.{History, inl, length, made_at, Meaning, meaning_of, None, Origin, refl, Refusal}
+use Rattle.lb_world.proofs.Words.{◌∷◌, ◌∙◌, ◌≡◌, Answer, Answers, ap, arith, entries, EntryValue, GateView, group_at}
+use Rattle.lb_world.proofs.Words.{History, inl, made_at, Meaning, meaning_of, None, Origin, refl, Refusal}
 use Rattle.lb_world.proofs.Words.{RegistryValue, same_Some, slice_get, slice_get_within, slice_set, Some, Stands, sym, WorldRule}
 use Rattle.lb_world.proofs.Words.{WorldValue, ℕ}
 use Rattle.lb_world.proofs.Places.{at-place}

@@ -21,7 +21,8 @@ returns g c =
       | goal.then-registry-len w ↦
           second-test _ c.args.registry _ c.len.result c.args.gate _ w.len-then-registry-len.result (omega arith)
           (omega arith) w.if-registry-len.true w.is_there-is
-      | goal.else-registry-len w ↦ first-test _ c.args.registry _ c.len.result c.args.gate _ (omega arith) w.if-registry-len.false w.is_there-is
+      | goal.else-registry-len w ↦
+          first-test _ c.args.registry _ c.len.result c.args.gate _ (omega arith) w.if-registry-len.false w.is_there-is
     ] in
     rw (← c.self.view_is)
     (c.earlier_cause.ensures

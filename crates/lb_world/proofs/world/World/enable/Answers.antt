@@ -1,5 +1,5 @@
 -- An address that was refused comes before all else.
-use Rattle.lb_world.proofs.Words.{inl, None, refl, Refusal, Step}
+use Rattle.lb_world.proofs.Words.{inl, refl}
 use Rattle.lb_world.proofs.Tables.{world-refused}
 use Rattle.lb_world.proofs.world.World.enable.Goals as goal
 

@@ -12,7 +12,7 @@ use Rattle.std.proofs.lemmas.Bool.{cond_both}
 use Rattle.std.proofs.lemmas.List.{length-replicate}
 use Rattle.lb_registry.specs.RegistryEvents as registry
 use Rattle.lb_world.proofs.Words.{◌&&◌, ◌++◌, ◌+◌, ◌<◌, ◌^◌, ◌||◌, ◌↔◌, ◌∙◌, ◌∷◌, ◌≡◌, ◌≤◌, [], absent, after, and_parts, Answer}
-use Rattle.lb_world.proofs.Words.{answer_after, ap, ap2, arith, Bool, cond, configs_of, earlier, EntryIs, EntryValue, eq-eqb, Event}
+use Rattle.lb_world.proofs.Words.{answer_after, ap, ap2, arith, Bool, cond, configs_of, earlier, EntryIs, EntryValue, eq-eqb}
 use Rattle.lb_world.proofs.Words.{false, false≢true, GateId, GateView, held_of, History, in_tables, inl, inr, IsRegistryAfter, IsRun}
 use Rattle.lb_world.proofs.Words.{IsTrue, key_at, key_gives, key_of, le-leb, least, leb_tells, length, length-set, length_push, List}
 use Rattle.lb_world.proofs.Words.{load_of, lt-ltb, ltb-true, made, made_at, made_of, map, marks_start_none, Meaning, Member, nat_le}

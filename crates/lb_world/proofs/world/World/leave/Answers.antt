@@ -1,5 +1,5 @@
 -- A reader comes back to the group that it entered, whose slot counts it.
-use Rattle.lb_world.proofs.Words.{◌<◌, ◌∙◌, ◌≤◌, ap, arith, length, Some, sym}
+use Rattle.lb_world.proofs.Words.{◌∙◌, ap, arith, Some, sym}
 use Rattle.lb_world.proofs.Places.{at-place}
 use Rattle.lb_world.proofs.Tables.{founded-by}
 use Rattle.lb_world.proofs.Readers.{counted, group-there, leave-gone, leave-nowhere, left-now}

@@ -1,5 +1,5 @@
 -- A registry that is new has the events with which it starts; the others stay as they were.
-use Rattle.lb_world.proofs.Words.{◌≡◌, arith, inr, length, refl, Refusal, Step}
+use Rattle.lb_world.proofs.Words.{◌≡◌, arith, inr, length, refl}
 use Rattle.lb_world.proofs.Tables.{founded-by, world-refused}
 use Rattle.lb_world.proofs.Registries.{registry-made}
 use Rattle.lb_world.proofs.world.World.registry.Goals as goal

@@ -1,5 +1,5 @@
 -- The registry's own targets, at the registry that the step names.
-use Rattle.lb_world.proofs.Words.{◌<◌, ◌≤◌, ap, arith, Err, inl, length, refl, Refusal, Step}
+use Rattle.lb_world.proofs.Words.{ap, arith, Err, inl, refl}
 use Rattle.lb_world.proofs.Places.{at-place}
 use Rattle.lb_world.proofs.Tables.{founded-by, no-registry, world-refused}
 use Rattle.lb_world.proofs.Registries.{growth-told, targets-next, targets-refused}

@@ -1,5 +1,5 @@
 -- An address that was refused comes before all else.
-use Rattle.lb_world.proofs.Words.{◌∙◌, ap, has_refused, inl, refl, Refusal, Step, sym}
+use Rattle.lb_world.proofs.Words.{◌∙◌, ap, has_refused, inl, refl, sym}
 use Rattle.lb_world.proofs.Tables.{world-refused}
 use Rattle.lb_world.proofs.world.World.update.Goals as goal
 

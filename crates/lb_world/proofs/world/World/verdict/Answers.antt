@@ -1,5 +1,5 @@
 -- The registry's own verdict, at the registry that the step names.
-use Rattle.lb_world.proofs.Words.{◌<◌, ◌≤◌, arith, false≢true, length, refl, Refusal, Step}
+use Rattle.lb_world.proofs.Words.{arith, false≢true, refl, Refusal, Step}
 use Rattle.lb_world.proofs.Places.{at-place}
 use Rattle.lb_world.proofs.Tables.{founded-by, no-registry, world-refused}
 use Rattle.lb_world.proofs.Registries.{refused-so, verdict-next, verdict-refused}
