@@ -129,7 +129,8 @@ module _ {C : Type 0} {h : History C} {g : ℕ} {e : EntryValue C} (is : EntryIs
   -- of a slot, where a number of it was read, and of its past
   pub told-of : {A : Type 0} (s : ℕ) (x : A) (r : Option A) (tells : A → Answer) → r ≡ at_slot (site e.core) s x
       → at_one (config g s h) (λ c. tells x) ≡ at_one r tells
-  told-of s x r tells to = rw (config-here s, to) (elim (slot-or (configs_of e.core.group) s) [ inl p ↦ rw (p.0, p.1) refl | inr p ↦ rw (p.1, p.2) refl ])
+  told-of s x r tells to =
+      rw (config-here s, to) (elim (slot-or (configs_of e.core.group) s) [ inl p ↦ rw (p.0, p.1) refl | inr p ↦ rw (p.1, p.2) refl ])
 
   pub reading-told : {A : Type 0} (s : ℕ) (f : group.History → A) (tells : A → Answer) (r : Option A)
       → r ≡ at_slot (site e.core) s (f (past_of s (joined.group_events (joined_events g h))))

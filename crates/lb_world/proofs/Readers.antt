@@ -227,5 +227,6 @@ module _ {C : Type 0} {M : Meaning C} {w : WorldValue C} {h : History C} (s : St
       (told (key_at e.registry h) (registry_events e.registry h) (s.kept e.registry u registry-there) _ _ own.core_is) in
       rw (set-same w.registries e.registry u registry-there)
       at (registry-set s ((Step.ready t (Some b), Answer.Ready is) ∷ h) e.registry u u
-      (s.run, rw (entered-in t (Some r) there_) (is, refl, judged)) refl refl refl refl (λ i off. refl) (λ g. refl) (λ g. refl) (λ g i. refl)
+      (s.run, rw (entered-in t (Some r) there_) (is, refl, judged)) refl refl refl refl (λ i off. refl) (λ g. refl) (λ g. refl)
+      (λ g i. refl)
       (λ g b. refl) (λ x. refl) registry-there (s.kept e.registry u registry-there))

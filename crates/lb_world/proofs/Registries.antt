@@ -99,7 +99,8 @@ module _ {C : Type 0} {M : Meaning C} {w : WorldValue C} {h : History C} (s : St
       let m = made-there r u there in
       let st : Step C = Step.verdict r c ok threshold in
       registry-set s ((st, Answer.Flipped b) ∷ h) r u v
-      (s.run, verdict-told (slice_get (registries h) r) m.0 (registry_events r h) c threshold ok b m.1 (kept _ _ now) (flips _ _ now)) refl refl refl refl
+      (s.run, verdict-told (slice_get (registries h) r) m.0 (registry_events r h) c threshold ok b m.1 (kept _ _ now) (flips _ _ now)) refl
+      refl refl refl
       (λ i off. (others-stay h st (Answer.Flipped b)).registries i (ne_eqb r i (λ q. off (sym q)))) (λ g. refl) (λ g. refl) (λ g i. refl)
       (λ g b. refl) (λ x. refl) there (rw (eq-eqb r r refl) (after _ _ now))
 

@@ -165,7 +165,8 @@ module _ {C : Type 0} {M : Meaning C} {h : History C} {g : ℕ} {e : EntryValue 
       → t ≡ ask_answer (past_of s (joined.group_events (joined_events g h))) z.out now
       → Answers M h (Step.ask g s now) (asked (group.newest (group_events g h)) t)
   ask-right s now t within to =
-      inl (rw (b.is.made_is, (found (configs_of e.core.group) s within).1) (ap (asked (group.newest (group_events g h))) (rw (group-of g h, b.out) at to)))
+      inl (rw (b.is.made_is, (found (configs_of e.core.group) s within).1)
+      (ap (asked (group.newest (group_events g h))) (rw (group-of g h, b.out) at to)))
 
   pub next-asked : {S I : Type 0} {s now : ℕ} (a : Ask S I C) (t : AskAnswer) {core : JoinedValue C} {y : GateView} → ask_told a ≡ t
       → ¬ (t ≡ job) → Asks (site e.core) (joined.group_events (joined_events g h)) s z.out now (Ok a)
@@ -227,7 +228,8 @@ module _ {C : Type 0} {M : Meaning C} {h : History C} {g : ℕ} {e : EntryValue 
         (λ m. refl) refl (unshared b (Step.build g s now) (Answer.Built j.generation) refl refl)
 
     -- a build that failed: its permit comes back, and its snapshot is let go
-    module _ {now : ℕ} {core : JoinedValue C} {y : GateView} {u : RegistryValue WorldRule} (held : slice_get e.works s ≡ Some (WorkValue.building j))
+    module _ {now : ℕ} {core : JoinedValue C} {y : GateView} {u : RegistryValue WorldRule}
+        (held : slice_get e.works s ≡ Some (WorkValue.building j))
         (moves : Moves e (joined.At j.slot (group.Failed now j.members) ∷ joined_events g h) core) (back : y ≡ gate z.id false)
         (lets-go : Releases j.generation u)
       where
@@ -237,7 +239,8 @@ module _ {C : Type 0} {M : Meaning C} {h : History C} {g : ℕ} {e : EntryValue 
         let-go es new =
             released s j.generation es u
             (ap (λ (x : Task C). x.generation) has.is
-            ∙ sym (aloft-number (granted (past g s h)) (extra (past g s h)) (aloft M h g s Work.building (slots M h b.run) has.work_is refl)))
+            ∙ sym (aloft-number (granted (past g s h)) (extra (past g s h))
+            (aloft M h g s Work.building (slots M h b.run) has.work_is refl)))
             new lets-go
 
         -- refused, for its cause or for memory
@@ -253,7 +256,8 @@ module _ {C : Type 0} {M : Meaning C} {h : History C} {g : ℕ} {e : EntryValue 
                   inr (ap (Answer.BuildFailed j.generation) q.1
                   ∙ sym (ap (without_memory {C = C} (Step.build g s now)) (build-told now None q.0)))
             ] in
-            next-work b s refl right held (rw has.is at moves) (elsewhere s _ (group_events g h)) (λ i. refl) (λ c there. refl) (λ m. refl) back
+            next-work b s refl right held (rw has.is at moves) (elsewhere s _ (group_events g h)) (λ i. refl) (λ c there. refl) (λ m. refl)
+            back
             (let-go _ (shares M h (Step.build g s now) (Answer.BuildFailed j.generation r) (b.run, right) (made_of e) b.is.made_is))
 
         pub does-fail : EntryNext M h g (Step.failbuild g s now) (Answer.Failed j.generation) e z
@@ -262,7 +266,8 @@ module _ {C : Type 0} {M : Meaning C} {h : History C} {g : ℕ} {e : EntryValue 
             let right : Answers M h (Step.failbuild g s now) (Answer.Failed j.generation) =
             inl (sym (told-work b.is has (λ c w. of_job w (Answer.Failed (granted (past g s h))))
             ∙ ap (λ (x : Task C). Answer.Failed x.generation) (sym has.is))) in
-            next-work b s refl right held (rw has.is at moves) (elsewhere s _ (group_events g h)) (λ i. refl) (λ c there. refl) (λ m. refl) back
+            next-work b s refl right held (rw has.is at moves) (elsewhere s _ (group_events g h)) (λ i. refl) (λ c there. refl) (λ m. refl)
+            back
             (let-go _ (shares M h (Step.failbuild g s now) (Answer.Failed j.generation) (b.run, right) (made_of e) b.is.made_is))
 
   -- what was built comes back, and is served or retired
@@ -276,14 +281,16 @@ module _ {C : Type 0} {M : Meaning C} {h : History C} {g : ℕ} {e : EntryValue 
         → EntryNext M h g (Step.abandon g s) (Answer.Abandoned x.task.generation) e z
         (record e { core = core; works = slice_set e.works s WorkValue.nothing }) z v
     does-abandon held moves =
-        next-work b s refl (inl (sym (built-told Answer.Abandoned))) held (rw has.is at moves) (elsewhere s _ (group_events g h)) (λ i. refl)
+        next-work b s refl (inl (sym (built-told Answer.Abandoned))) held (rw has.is at moves) (elsewhere s _ (group_events g h))
+        (λ i. refl)
         (λ c there. refl) (λ m. refl) refl (unshared b (Step.abandon g s) (Answer.Abandoned x.task.generation) refl refl)
 
     pub does-publish : (t : Told) {core : JoinedValue C} → slice_get e.works s ≡ Some (WorkValue.ready x)
         → Moves e (joined.in_group (publish_events x (Ok t)) ++ joined_events g h) core
         → t ≡ publish_answer x.task.slot x.task.generation (joined.group_events (joined_events g h))
         → EntryNext M h g (Step.publish g s) (told_as t) e z (record e { core = core; works = slice_set e.works s WorkValue.nothing }) z v
-    does-publish t {core} held moves to = by-told t moves (inl (ap told_as (rw (has.is, group-of g h) at to) ∙ tells (is_served s (group_events g h)) ∙ sym
+    does-publish t {core} held moves to =
+        by-told t moves (inl (ap told_as (rw (has.is, group-of g h) at to) ∙ tells (is_served s (group_events g h)) ∙ sym
         (built-told (λ n. cond (is_served s (group_events g h)) (Answer.Published n) (Answer.Abandoned n)))))
       where
         tells : (b : Bool) → told_as (cond b (Told.Published (granted (past g s h))) (Told.Abandoned (granted (past g s h))))
@@ -296,10 +303,12 @@ module _ {C : Type 0} {M : Meaning C} {h : History C} {g : ℕ} {e : EntryValue 
             → EntryNext M h g (Step.publish g s) (told_as t) e z
             (record e { core = core; works = slice_set e.works s WorkValue.nothing }) z v
         by-told (Told.Published n) moves right =
-            next-work b s refl right held (rw has.work_is (rw has.is at moves)) (elsewhere s _ (group_events g h)) (λ i. refl) (λ c there. refl)
+            next-work b s refl right held (rw has.work_is (rw has.is at moves)) (elsewhere s _ (group_events g h)) (λ i. refl)
+            (λ c there. refl)
             (λ m. refl) refl (unshared b (Step.publish g s) (Answer.Published n) refl refl)
         by-told (Told.Abandoned n) moves right =
-            next-work b s refl right held (rw has.is at moves) (elsewhere s _ (group_events g h)) (λ i. refl) (λ c there. refl) (λ m. refl) refl
+            next-work b s refl right held (rw has.is at moves) (elsewhere s _ (group_events g h)) (λ i. refl) (λ c there. refl) (λ m. refl)
+            refl
             (unshared b (Step.publish g s) (Answer.Abandoned n) refl refl)
 
   -- a retired selector: taken out, destroyed and reported at once

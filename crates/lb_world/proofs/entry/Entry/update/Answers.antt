@@ -174,7 +174,8 @@ module _ {C : Type 0} {M : Meaning C} {h : History C} {g : ℕ} {e : EntryValue 
             elim group-fits.2 [
               | inl memory ↦
                   rw memory
-                  (memory-right none (λ t. left-false (2 ^ 64) cells (λ more. absurd (let clash = lacks (Err r) lacking none c more in cc))))
+                  (memory-right none (λ t. left-false (2 ^ 64) cells
+                  (λ more. absurd (let clash = lacks (Err r) lacking none c more in cc))))
               | inr (inl numbered) ↦ rw numbered (numbers-right none c (numbers numbered))
               | inr (inr absent) ↦ absurd (true≢false (sym (view-there none) ∙ unknown absent))
             ]
@@ -258,7 +259,8 @@ returns g c =
           rw w.result-is
           (does-refuse b c.args.now ls c.requires.whole _ (rw set at (w.in-Err.ensures.answers _ _ b.is.core_is))
           (λ e. w.in-Err.ensures.unknown (ap Err e) _ _ b.kept) (λ e. rw set at (w.in-Err.ensures.numbers (ap Err e) _ _ b.kept))
-          (rw set at (w.in-Err.ensures.lacking _ _ b.kept _ _ b.is.core_is)) (c.schedule.ensures.site, w.in-Err.ensures.err _ _ b.is.core_is)
+          (rw set at (w.in-Err.ensures.lacking _ _ b.kept _ _ b.is.core_is))
+          (c.schedule.ensures.site, w.in-Err.ensures.err _ _ b.is.core_is)
           (w.in-Err.ensures.registry_err _ _ b.kept))
       | goal.in-Ok-schedule w ↦
           let flags = c.in-Ok.ensures.settings ∙ ap settings_in c.deref-3.ensures.value in

@@ -65,7 +65,8 @@ returns-in-Err g c =
     rw (← c.self.view_is)
     (λ h s.
     refused-now s c.args.group _ at c.args.slot _ c.readers.ensures _ c.in-Some.is
-    (λ is. omega (arith, is, c.len-number.ensures, c.if-number.false)) (λ is. omega (arith, is, c.if-readers.false)) c.in-Err.refusal c.enter.new.self _
+    (λ is. omega (arith, is, c.len-number.ensures, c.if-number.false)) (λ is. omega (arith, is, c.if-readers.false)) c.in-Err.refusal
+    c.enter.new.self _
     c.enter.ensures.rest c.reserve.ensures.items (c.enter.ensures.site, c.in-Err.ensures.stands _ _ (s.each _ _ at).core_is)
     (c.in-Err.ensures.answers _ _ (s.each _ _ at).core_is))
 

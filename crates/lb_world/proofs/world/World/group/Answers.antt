@@ -175,70 +175,71 @@ module _ {C : Type 0} {M : Meaning C} {w : WorldValue C} {h : History C} (s : St
           registry-lent refused r u u in_ (refused.kept r u in_)
 
       -- it was told not to be full
-      module _ {full : Bool} (tells : Tells u (λ k es. IsTrue full ↔ (2 ^ 64 ≤ registry.registered_after es + 1))) (room : full ≡ false) where
-        left : Tells u (λ k es. registry.registered_after es + 1 < 2 ^ 64)
-        left key_of events now = not-full full _ (tells key_of events now) room
+      module _ {full : Bool} (tells : Tells u (λ k es. IsTrue full ↔ (2 ^ 64 ≤ registry.registered_after es + 1))) (room : full ≡ false)
+        where
+          left : Tells u (λ k es. registry.registered_after es + 1 < 2 ^ 64)
+          left key_of events now = not-full full _ (tells key_of events now) room
 
-        fits : answer_after M h (Step.group r a cs) ≡ Answer.Group (length (made h))
-        fits =
-            told-then None
-            (ap2 earlier (number-left given (left _ _ (s.kept r u in_))) (number-left cells cells-fit))
+          fits : answer_after M h (Step.group r a cs) ≡ Answer.Group (length (made h))
+          fits =
+              told-then None
+              (ap2 earlier (number-left given (left _ _ (s.kept r u in_))) (number-left cells cells-fit))
 
-        group-lacks : (e : Refusal) (v : RegistryValue WorldRule)
-            → Tells u (λ k es. registry.registered_after es + 1 < 2 ^ 64 → e ≡ Refusal.OutOfMemory)
-            → Tells u (λ k es. IsRegistryAfter key_gives k es v)
-            → Stands M (record w { registries = slice_set w.registries r v }) ((Step.group r a cs, Answer.Refused e) ∷ h)
-        group-lacks e v memory after =
-            let now = s.kept r u in_ in
-            let refused =
-            world-refused s {st = Step.group r a cs} {r = e}
-            (inr (ap Answer.Refused (memory _ _ now (left _ _ now)) ∙ sym (ap (without_memory {C = C} (Step.group r a cs)) fits))) in
-            registry-lent refused r u v in_ (after _ _ (refused.kept r u in_))
+          group-lacks : (e : Refusal) (v : RegistryValue WorldRule)
+              → Tells u (λ k es. registry.registered_after es + 1 < 2 ^ 64 → e ≡ Refusal.OutOfMemory)
+              → Tells u (λ k es. IsRegistryAfter key_gives k es v)
+              → Stands M (record w { registries = slice_set w.registries r v }) ((Step.group r a cs, Answer.Refused e) ∷ h)
+          group-lacks e v memory after =
+              let now = s.kept r u in_ in
+              let refused =
+              world-refused s {st = Step.group r a cs} {r = e}
+              (inr (ap Answer.Refused (memory _ _ now (left _ _ now)) ∙ sym (ap (without_memory {C = C} (Step.group r a cs)) fits))) in
+              registry-lent refused r u v in_ (after _ _ (refused.kept r u in_))
 
-        group-made : (n : ℕ) (z : GateView) (v : RegistryValue WorldRule) (e : EntryValue C) → n ≡ length w.groups
-            → z ≡ get_or w.gates a z
-            → Tells u (λ k es. IsNewEntry r a z.id cs (registry.registered_after es + 1) e
-            × IsRegistryAfter key_gives k (registry.Applied ∷ registry.Registered ∷ es) v)
-            → Stands M (record w { registries = slice_set w.registries r v; groups = w.groups ++ e ∷ [] })
-            ((Step.group r a cs, Answer.Group n) ∷ h)
-        group-made n z v e number gate-read makes =
-            let new = (makes _ _ (s.kept r u in_)).0 in
-            let now = (makes _ _ (s.kept r u in_)).1 in
-            let k : History C = (Step.group r a cs, Answer.Group n) ∷ h in
-            let within : r < length (registries h) = omega (arith, slice_get_within w.registries r u in_, s.registries_are) in
-            let more : length (slice_set w.registries r v) ≡ length w.registries = length-set w.registries r v in
-            record {
-              run = (s.run, inl (ap Answer.Group (number ∙ s.groups_are) ∙ sym fits));
-              registries_are = more ∙ s.registries_are;
-              gates_are = s.gates_are;
-              groups_are = length_push w.groups e ∙ ap (λ (i : ℕ). i + 1) s.groups_are ∙ sym (length_push (made h) _);
-              readers_are = s.readers_are;
-              kept =
-                  each-set w.registries r u v in_ (rw (eq-eqb r r refl) now)
-                  (λ i x off was. rw (ne_eqb r i (λ q. off (sym q))) (s.kept i x was));
-              outs = s.outs;
-              each =
-                  each-push w.groups e (rw s.groups_are (entry-made M h r a z.id cs n e s.run within new))
-                  (λ g x low was.
-                  let is = s.each g x was in
-                  entry-moves (get_kept (made h) g _ (made_of x) is.made_is) refl refl (λ i. refl) (λ b. refl) is);
-              on_site =
-                  each-push w.groups e
-                  (record {
-                    view = z;
-                    gate = ap (slice_get w.gates) new.gate_is ∙ at-place w.gates a z (none-stands none).1 gate-read;
-                    id = sym new.id_is;
-                    registry = omega (arith, new.registry_is, within, more, s.registries_are);
-                  })
-                  (λ g x low was.
-                  let on = s.on_site g x was in
-                  record { view = on.view; gate = on.gate; id = on.id; registry = omega (arith, more, on.registry) });
-              own = λ t q held x in_now.
-                  elim (get_push w.groups q.group e x in_now) [
-                    | inl p ↦ absurd (omega (arith, p.0, group-there s t q held))
-                    | inr p ↦ s.own t q held x p.1
-                  ];
-            }
+          group-made : (n : ℕ) (z : GateView) (v : RegistryValue WorldRule) (e : EntryValue C) → n ≡ length w.groups
+              → z ≡ get_or w.gates a z
+              → Tells u (λ k es. IsNewEntry r a z.id cs (registry.registered_after es + 1) e
+              × IsRegistryAfter key_gives k (registry.Applied ∷ registry.Registered ∷ es) v)
+              → Stands M (record w { registries = slice_set w.registries r v; groups = w.groups ++ e ∷ [] })
+              ((Step.group r a cs, Answer.Group n) ∷ h)
+          group-made n z v e number gate-read makes =
+              let new = (makes _ _ (s.kept r u in_)).0 in
+              let now = (makes _ _ (s.kept r u in_)).1 in
+              let k : History C = (Step.group r a cs, Answer.Group n) ∷ h in
+              let within : r < length (registries h) = omega (arith, slice_get_within w.registries r u in_, s.registries_are) in
+              let more : length (slice_set w.registries r v) ≡ length w.registries = length-set w.registries r v in
+              record {
+                run = (s.run, inl (ap Answer.Group (number ∙ s.groups_are) ∙ sym fits));
+                registries_are = more ∙ s.registries_are;
+                gates_are = s.gates_are;
+                groups_are = length_push w.groups e ∙ ap (λ (i : ℕ). i + 1) s.groups_are ∙ sym (length_push (made h) _);
+                readers_are = s.readers_are;
+                kept =
+                    each-set w.registries r u v in_ (rw (eq-eqb r r refl) now)
+                    (λ i x off was. rw (ne_eqb r i (λ q. off (sym q))) (s.kept i x was));
+                outs = s.outs;
+                each =
+                    each-push w.groups e (rw s.groups_are (entry-made M h r a z.id cs n e s.run within new))
+                    (λ g x low was.
+                    let is = s.each g x was in
+                    entry-moves (get_kept (made h) g _ (made_of x) is.made_is) refl refl (λ i. refl) (λ b. refl) is);
+                on_site =
+                    each-push w.groups e
+                    (record {
+                      view = z;
+                      gate = ap (slice_get w.gates) new.gate_is ∙ at-place w.gates a z (none-stands none).1 gate-read;
+                      id = sym new.id_is;
+                      registry = omega (arith, new.registry_is, within, more, s.registries_are);
+                    })
+                    (λ g x low was.
+                    let on = s.on_site g x was in
+                    record { view = on.view; gate = on.gate; id = on.id; registry = omega (arith, more, on.registry) });
+                own = λ t q held x in_now.
+                    elim (get_push w.groups q.group e x in_now) [
+                      | inl p ↦ absurd (omega (arith, p.0, group-there s t q held))
+                      | inr p ↦ s.own t q held x p.1
+                    ];
+              }
 
 pub returns-in-Some : goal.returns-in-Some
 returns-in-Some g c =
