@@ -2,13 +2,8 @@ pub mod Words
 pub mod Places
 pub mod Entries
 pub mod Tasks
-pub mod Selects
-pub mod SameSets
 pub mod Listed
 pub mod CellCounts
-pub mod Updates
 pub mod Tables
 pub mod Registries
 pub mod Readers
-pub mod Groups
-pub mod Runs

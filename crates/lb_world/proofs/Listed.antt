@@ -1,49 +1,45 @@
 -- What the listings of an update list: the members that are there, and the settings that the marks set.
-use Rattle.lb_health.specs.Joined.{settings_of}
-use Rattle.lb_history.specs.Shared.{marked}
-use Rattle.lb_select.specs.AddressText.{bare_member}
-use Rattle.lb_select.specs.Memberships.{set_of}
+use Rattle.lb_registry.proofs.TargetLemmas.{member_laws}
 use Rattle.lb_select.specs.Seen.{address_seen}
 use Rattle.lb_select.specs.declared.backend.SocketAddr.{SocketAddr}
-use Rattle.lb_world.specs.Calls.{set_marked, with_key}
-use Rattle.lb_world.specs.Listings.{none_or, some_and}
+use Rattle.lb_world.specs.Listings.{none_or}
+use Rattle.std.proofs.lemmas.Grind.{common_steps}
 use Rattle.std.proofs.lemmas.List.Elements.{filter_map-append}
-use Rattle.std.proofs.lemmas.List.Sums.{fold-append}
-use Rattle.std.specs.BTreeMap.{insert_entry}
-use Rattle.std.specs.List.{cons_option}
+use Rattle.std.proofs.lemmas.Map.Steps.{list_any_congr}
 use Rattle.std.specs.Prelude.{filter_map}
-use Rattle.lb_world.proofs.Words.{◌&&◌, ◌++◌, ◌||◌, ◌∙◌, ◌∷◌, ◌≡◌, [], ap, Bool, entries, Equal, fold, Greater, insert_key, Less, List}
-use Rattle.lb_world.proofs.Words.{list_all, list_any, Listing, match_ordering, Member, member_cmp, members_in, None, Option, Ordering, refl}
-use Rattle.lb_world.proofs.Words.{same_member, same_members, settings_in, Some, sym, ℕ}
-use Rattle.lb_world.proofs.SameSets.{same_set}
+use Rattle.lb_world.proofs.Words.{◌∷◌, ◌∙◌, ◌≡◌, ◌++◌, ◌||◌, ◌&&◌, [], ap, arith, bare_member, Bool, fold, insert_entry, insert_key, List}
+use Rattle.lb_world.proofs.Words.{list_all, list_any, Listing, marked, Member, member_cmp, members_in, not, Ordering, refl, same_member}
+use Rattle.lb_world.proofs.Words.{same_members, set_marked, set_of, settings_in, settings_of, some_and, sym, true, with_key, ℕ}
 
 abbrev pub present : List Listing → List Member
 present ls = filter_map (λ l. l.backend) ls
 
--- a backend that is there comes in front
-all-cons : (f : Member → Bool) (o : Option Member) (ys : List Member) → (none_or f o && list_all f ys) ≡ list_all f (cons_option o ys)
-all-cons f None ys = refl
-all-cons f (Some x) ys = refl
-
-any-cons : (f : Member → Bool) (o : Option Member) (ys : List Member) → (some_and f o || list_any f ys) ≡ list_any f (cons_option o ys)
-any-cons f None ys = refl
-any-cons f (Some x) ys = refl
-
 -- all that are there, and one that is there
 all_there : (f : Member → Bool) (ls : List Listing) → list_all (λ l. none_or f l.backend) ls ≡ list_all f (present ls)
 all_there f [] = refl
-all_there f (l ∷ ls) = ap (λ b. none_or f l.backend && b) (all_there f ls) ∙ all-cons f l.backend (present ls)
+all_there f (l ∷ ls) = grind (arith, all_there f ls)
 
 pub one_there : (f : Member → Bool) (ls : List Listing) → list_any (λ l. some_and f l.backend) ls ≡ list_any f (present ls)
 one_there f [] = refl
-one_there f (l ∷ ls) = ap (λ b. some_and f l.backend || b) (one_there f ls) ∙ any-cons f l.backend (present ls)
+one_there f (l ∷ ls) = grind (arith, one_there f ls)
 
-each_there : (ls : List Listing) (ms : List Member)
-    → list_all (λ y. list_any (λ l. some_and (same_member y) l.backend) ls) ms ≡ list_all (λ y. list_any (same_member y) (present ls)) ms
-each_there ls [] = refl
-each_there ls (m ∷ ms) =
-    ap (λ b. b && list_all (λ y. list_any (λ l. some_and (same_member y) l.backend) ls) ms) (one_there (same_member m) ls)
-    ∙ ap (λ b. list_any (same_member m) (present ls) && b) (each_there ls ms)
+-- a test of all as one of any
+all-not : (p : Member → Bool) (xs : List Member) → list_all p xs ≡ not (list_any (λ x. not (p x)) xs)
+all-not p [] = refl
+all-not p (x ∷ xs) = grind (arith, all-not p xs)
+
+-- a test of a set's members that doesn't tell backends of one identity apart
+module _ (p : Member → Bool) (respects : (a b : Member) → same_member a b ≡ true → p a ≡ p b) where
+  any_inserted : (ks : List Member) (k : Member) → list_any p (insert_key member_cmp ks k) ≡ (list_any p ks || p k)
+  any_inserted [] k = grind arith
+  any_inserted (x ∷ ks) k = grind (arith, common_steps, any_inserted ks k, respects k x)
+
+  pub any_folded : (acc xs : List Member) → list_any p (fold (insert_key member_cmp) acc xs) ≡ (list_any p acc || list_any p xs)
+  any_folded acc [] = grind arith
+  any_folded acc (x ∷ xs) = grind (arith, any_folded (insert_key member_cmp acc x) xs, any_inserted acc x)
+
+pub alike : (q a b : Member) → same_member a b ≡ true → same_member q a ≡ same_member q b
+alike q a b e = member_laws.symm q a ∙ member_laws.congr a b q e ∙ member_laws.symm b q
 
 -- whether the listings list these members, each against each
 pub listed_members : (ls : List Listing) (ms : List Member)
@@ -51,56 +47,27 @@ pub listed_members : (ls : List Listing) (ms : List Member)
     && list_all (λ y. list_any (λ l. some_and (same_member y) l.backend) ls) ms)
     ≡ same_members (members_in ls) ms
 listed_members ls ms =
+    let xs = present ls in
+    let known = λ (x : Member). list_any (same_member x) ms in
+    let strange = any_folded (λ x. not (known x)) (λ a b same. ap not (list_any_congr member_laws a b ms same)) [] xs in
     ap (λ b. b && list_all (λ y. list_any (λ l. some_and (same_member y) l.backend) ls) ms)
-    (all_there (λ x. list_any (same_member x) ms) ls)
-    ∙ ap (λ b. list_all (λ x. list_any (same_member x) ms) (present ls) && b) (each_there ls ms) ∙ sym (same_set (present ls) ms)
+    (all_there known ls ∙ all-not known xs ∙ sym (ap not strange) ∙ sym (all-not known (set_of xs)))
+    ∙ ap (λ (f : Member → Bool). list_all known (set_of xs) && list_all f ms)
+    (λ i y. (one_there (same_member y) ls ∙ sym (any_folded (same_member y) (alike y) [] xs)) i)
 
 -- one listing more
-fold-cons : (o : Option Member) (ks : List Member) → fold (insert_key member_cmp) ks (cons_option o []) ≡ with_key o ks
-fold-cons None ks = refl
-fold-cons (Some x) ks = refl
-
 pub member-more : (ls : List Listing) (l : Listing) → members_in (ls ++ l ∷ []) ≡ with_key l.backend (members_in ls)
-member-more ls l =
-    ap set_of (filter_map-append (λ l. l.backend) ls (l ∷ []))
-    ∙ fold-append (insert_key member_cmp) [] (present ls) (cons_option l.backend [])
-    ∙ fold-cons l.backend (members_in ls)
-
-abbrev marks : List Listing → List (Member × Bool)
-marks ls = filter_map (λ l. marked l.backend l.mark) ls
-
-fold-mark : (o : Option (Member × Bool)) (es : List (Member × Bool))
-    → fold (λ entries e. insert_entry member_cmp entries e.0 e.1) es (cons_option o []) ≡ set_marked o es
-fold-mark None es = refl
-fold-mark (Some e) es = refl
+member-more ls l = grind (arith, common_steps, filter_map-append (λ (l : Listing). l.backend) ls (l ∷ []))
 
 pub setting-more : (ls : List Listing) (l : Listing) → settings_in (ls ++ l ∷ []) ≡ set_marked (marked l.backend l.mark) (settings_in ls)
-setting-more ls l =
-    ap (λ (ms : List (Member × Bool)). fold (λ entries e. insert_entry member_cmp entries e.0 e.1) [] ms)
-    (filter_map-append (λ l. marked l.backend l.mark) ls (l ∷ []))
-    ∙ fold-append (λ (entries : List (Member × Bool)) (e : Member × Bool). insert_entry member_cmp entries e.0 e.1) [] (marks ls)
-    (cons_option (marked l.backend l.mark) [])
-    ∙ fold-mark (marked l.backend l.mark) (settings_in ls)
+setting-more ls l = grind (arith, common_steps, filter_map-append (λ (l : Listing). marked l.backend l.mark) ls (l ∷ []))
 
 -- a setting is seen as one of a backend of that identity
 abbrev pub bare : SocketAddr × ℕ → Member
 bare k = bare_member k.1 (address_seen k.0)
 
-seen-by : (o : Ordering) (e : (SocketAddr × ℕ) × Bool) (es ins : List ((SocketAddr × ℕ) × Bool)) (new : List (Member × Bool))
-    (k : SocketAddr × ℕ) (on : Bool)
-    → settings_of ins ≡ new
-    → settings_of (match_ordering o ((k, on) ∷ e ∷ es) ((e.0, on) ∷ es) (e ∷ ins))
-    ≡ match_ordering o ((bare k, on) ∷ settings_of (e ∷ es)) ((bare e.0, on) ∷ settings_of es) ((bare e.0, e.1) ∷ new)
-seen-by Less e es ins new k on is = refl
-seen-by Equal e es ins new k on is = refl
-seen-by Greater e es ins new k on is = ap (λ (xs : List (Member × Bool)). (bare e.0, e.1) ∷ xs) is
-
 pub insert-seen : (cmp : (SocketAddr × ℕ) → (SocketAddr × ℕ) → Ordering) → ((x y : SocketAddr × ℕ) → cmp x y ≡ member_cmp (bare x) (bare y))
     → (es : List ((SocketAddr × ℕ) × Bool)) (k : SocketAddr × ℕ) (on : Bool)
     → settings_of (insert_entry cmp es k on) ≡ insert_entry member_cmp (settings_of es) (bare k) on
 insert-seen cmp agrees [] k on = refl
-insert-seen cmp agrees (e ∷ es) k on =
-    let new = insert_entry member_cmp (settings_of es) (bare k) on in
-    seen-by (cmp k e.0) e es (insert_entry cmp es k on) new k on (insert-seen cmp agrees es k on)
-    ∙ ap (λ (o : Ordering). match_ordering o ((bare k, on) ∷ settings_of (e ∷ es)) ((bare e.0, on) ∷ settings_of es)
-    ((bare e.0, e.1) ∷ new)) (agrees k e.0)
+insert-seen cmp agrees (e ∷ es) k on = grind (arith, common_steps, insert-seen cmp agrees es k on, agrees k e.0)

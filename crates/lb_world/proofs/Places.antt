@@ -1,7 +1,7 @@
 -- Elements of a list after one of them was written, and after one was added at the end.
 use Rattle.std.proofs.Common.{get_or, replicate, suc, zero}
 use Rattle.std.proofs.lemmas.Option.{slice_get-get_or}
-use Rattle.lb_world.proofs.Words.{◌++◌, ◌<◌, ◌∙◌, ◌∷◌, ◌≡◌, ◌≤◌, ◌⊎◌, [], ap, arith, cases_eq, inl, inr, length, List, None, none-some}
+use Rattle.lb_world.proofs.Words.{◌∷◌, ◌<◌, ◌∙◌, ◌⊎◌, ◌≡◌, ◌++◌, ◌≤◌, [], ap, arith, cases_eq, inl, inr, length, List, None, none-some}
 use Rattle.lb_world.proofs.Words.{Option, refl, same_Some, slice_get, slice_set, Some, subst, sym, ℕ}
 
 module _ {X : Type 0} where

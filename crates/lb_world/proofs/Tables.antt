@@ -1,23 +1,19 @@
 -- What a step leaves of a world, table by table. A world stands for each run that tells the same as its history.
-use Rattle.lb_history.proofs.Refusing.{alike-sym, at-alike, refused-alike}
-use Rattle.lb_history.proofs.Steps.{others-stay}
+use Rattle.lb_history.proofs.Refusing.{alike-sym, at-alike}
 use Rattle.lb_history.proofs.Unrefused.{run-unrefused, told-unrefused}
-use Rattle.lb_history.specs.History.{RegistryMade, gate_in, is_at, works_at}
-use Rattle.lb_history.specs.Refused.{TellsAlike, unrefused}
-use Rattle.lb_history.specs.Shared.{registry_at}
+use Rattle.lb_history.specs.History.{gate_in}
+use Rattle.lb_history.specs.Refused.{TellsAlike}
 use Rattle.lb_world.specs.Stands.{IsFounded, OnSite}
-use Rattle.lb_world.specs.Views.{IsOwnReader, entered_of}
 use Rattle.lb_joined.specs.Stands as stands
-use Rattle.lb_history.specs.Steps as step
 use Rattle.lb_joined.specs.JoinedHistory as joined
-use Rattle.lb_history.specs.declared.answer.Answer.TheVariants as answer
-use Rattle.lb_world.proofs.Words.{◌&&◌, ◌<◌, ◌==◌, ◌∙◌, ◌∷◌, ◌≡◌, ◌≤◌, [], Answer, Answers, ap, ap2, arith, Before, Bool, cases_eq, cond}
-use Rattle.lb_world.proofs.Words.{entries, EntryIs, EntryNext, EntryValue, false, gate, gates, GateView, group_at, group_events, held_of}
-use Rattle.lb_world.proofs.Words.{HeldValue, History, inl, inr, is_out, IsRegistryAfter, IsRun, joined_events, key_at, key_gives, key_in}
-use Rattle.lb_world.proofs.Words.{length, length-set, List, load_of, made, Made, made_at, made_of, map, Meaning, Member, ne_eqb, None}
-use Rattle.lb_world.proofs.Words.{none-some, Option, option_map, Origin, origin, past_of, permit_after, refl, Refusal, registries}
-use Rattle.lb_world.proofs.Words.{registry_events, RegistryValue, same_member, same_Some, site, slice_get, slice_get_past, slice_set, Some}
-use Rattle.lb_world.proofs.Words.{Stands, Step, subst, sym, work, worked, WorldRule, WorldValue, ℕ}
+use Rattle.lb_world.proofs.Words.{◌∙◌, ◌≡◌, ◌&&◌, ◌∷◌, ◌<◌, ◌==◌, ◌≤◌, [], Answer, Answers, ap, ap2, arith, Before, Bool, cases_eq, cond}
+use Rattle.lb_world.proofs.Words.{entered_of, entries, EntryIs, EntryNext, EntryValue, false, gates, GateView, group_at, group_events}
+use Rattle.lb_world.proofs.Words.{held_of, HeldValue, History, inl, inr, is_at, is_out, IsOwnReader, IsRegistryAfter, IsRun, joined_events}
+use Rattle.lb_world.proofs.Words.{key_at, key_gives, key_in, length, length-set, List, load_of, made, Made, made_at, made_of, map, Meaning}
+use Rattle.lb_world.proofs.Words.{Member, ne_eqb, None, none-some, Option, option_map, origin, Origin, others-stay, past_of, permit_after}
+use Rattle.lb_world.proofs.Words.{refl, Refusal, refused-alike, registries, registry_at, registry_events, RegistryMade, RegistryValue}
+use Rattle.lb_world.proofs.Words.{same_member, same_Some, site, slice_get, slice_get_past, slice_set, Some, Stands, Step, subst, sym}
+use Rattle.lb_world.proofs.Words.{unrefused, work, worked, works_at, WorldRule, WorldValue, ℕ}
 use Rattle.lb_world.proofs.Places.{each-set, found, get_other, get_same, get_set, set-same, there}
 use Rattle.lb_world.proofs.Entries.{at-group, gate-here, key-here, next, registry-here, taken}
 
@@ -26,10 +22,10 @@ beside g i b off = rw (ne_eqb g i (λ e. off (sym e))) refl
 
 module _ {C : Type 0} where
   -- an entry stays right where what it rests on is as before
-  pub entry-moves : (h k : History C) (g : ℕ) (e : EntryValue C) → made_at g k ≡ Some (made_of e) → joined_events g k ≡ joined_events g h
+  pub entry-moves : {h k : History C} {g : ℕ} {e : EntryValue C} → made_at g k ≡ Some (made_of e) → joined_events g k ≡ joined_events g h
       → group_events g k ≡ group_events g h → ((s : ℕ) → work g s k ≡ work g s h) → ((b : Member) → load_of g b k ≡ load_of g b h)
       → EntryIs h g e → EntryIs k g e
-  entry-moves h k g e m j p w l is =
+  entry-moves {e = e} m j p w l is =
       record {
         made_is = m;
         core_is = subst (λ (es : joined.History). stands.Stands (site e.core) es e.core) (sym j) is.core_is;
@@ -41,19 +37,19 @@ module _ {C : Type 0} where
 
   -- a step at a group leaves what is held and the loads of the others
   works-else : (h : History C) (st : Step C) (g i s : ℕ) → group_at h st ≡ Some g → ¬ (i ≡ g) → works_at i s st ≡ false
-  works-else h (step.ask x r now) g i s at off = beside x i (r == s) (λ p. off (p ∙ same_Some x g at))
-  works-else h (step.build x r now) g i s at off = beside x i (r == s) (λ p. off (p ∙ same_Some x g at))
-  works-else h (step.failbuild x r now) g i s at off = beside x i (r == s) (λ p. off (p ∙ same_Some x g at))
-  works-else h (step.publish x r) g i s at off = beside x i (r == s) (λ p. off (p ∙ same_Some x g at))
-  works-else h (step.abandon x r) g i s at off = beside x i (r == s) (λ p. off (p ∙ same_Some x g at))
+  works-else h (Step.ask x r now) g i s at off = beside x i (r == s) (λ p. off (p ∙ same_Some x g at))
+  works-else h (Step.build x r now) g i s at off = beside x i (r == s) (λ p. off (p ∙ same_Some x g at))
+  works-else h (Step.failbuild x r now) g i s at off = beside x i (r == s) (λ p. off (p ∙ same_Some x g at))
+  works-else h (Step.publish x r) g i s at off = beside x i (r == s) (λ p. off (p ∙ same_Some x g at))
+  works-else h (Step.abandon x r) g i s at off = beside x i (r == s) (λ p. off (p ∙ same_Some x g at))
   works-else h st g i s at off = refl
 
   loads-else : (h : History C) (st : Step C) (a : Answer) (g i : ℕ) (b : Member) → group_at h st ≡ Some g → ¬ (i ≡ g)
       → load_of i b ((st, a) ∷ h) ≡ load_of i b h
-  loads-else h (step.load x (Some c) l) answer.Done g i b at off =
+  loads-else h (Step.load x (Some c) l) Answer.Done g i b at off =
       ap (λ (t : Bool). cond t l (load_of i b h)) (beside x i (same_member c b) (λ p. off (p ∙ same_Some x g at)))
-  loads-else h (step.load x (Some c) l) a g i b at off = refl
-  loads-else h (step.load x None l) a g i b at off = refl
+  loads-else h (Step.load x (Some c) l) a g i b at off = refl
+  loads-else h (Step.load x None l) a g i b at off = refl
   loads-else h st a g i b at off = refl
 
   entry-else : (h : History C) (st : Step C) (a : Answer) (g i : ℕ) (e : EntryValue C) → group_at h st ≡ Some g → ¬ (i ≡ g)
@@ -61,7 +57,7 @@ module _ {C : Type 0} where
   entry-else h st a g i e at off is =
       let stays = others-stay h st a in
       let away : is_at i (group_at h st) ≡ false = ap (is_at i) at ∙ ne_eqb g i (λ p. off (sym p)) in
-      entry-moves h ((st, a) ∷ h) i e (ap (λ (ms : List (Made C)). slice_get ms i) (at-group h st a g at).made_are ∙ is.made_is)
+      entry-moves (ap (λ (ms : List (Made C)). slice_get ms i) (at-group h st a g at).made_are ∙ is.made_is)
       (stays.joined i away) (stays.groups i away)
       (λ s. ap (λ (t : Bool). cond t (worked st a (work i s h)) (work i s h)) (works-else h st g i s at off))
       (λ b. loads-else h st a g i b at off) is
@@ -82,7 +78,7 @@ module _ {C : Type 0} (k h : History C) (e : TellsAlike k h) (M : Meaning C) (w 
         outs = λ a z there. is.outs a z there ∙ e.rest.outs a;
         each = λ g x there.
             let own = is.each g x there in
-            entry-moves k h g x (sym (at-alike k h e g) ∙ own.made_is) (sym (e.joined g)) (sym (e.groups g)) (λ s. sym (e.rest.works g s))
+            entry-moves (sym (at-alike k h e g) ∙ own.made_is) (sym (e.joined g)) (sym (e.groups g)) (λ s. sym (e.rest.works g s))
             (λ b. sym (e.rest.loads g b)) own;
         on_site = is.on_site;
         own = is.own;
@@ -107,15 +103,19 @@ empty M =
     }
 
 -- some history stands behind the world after a step, too
-pub founded : {C : Type 0} {M : Meaning C} {w x : WorldValue C} (st : Step C) (a : Answer) → IsFounded M w
+pub founded-by : {C : Type 0} {M : Meaning C} {v w x : WorldValue C} {st : Step C} {a : Answer} → v ≡ w → IsFounded M v
     → ((h : History C) → Stands M w h → Stands M x ((st, a) ∷ h)) → IsFounded M x
-founded st a was then_ = record { history = (st, a) ∷ was.history; stands = then_ was.history was.stands }
+founded-by {C = C} {M = M} {st = st} {a = a} same was then_ =
+    record {
+      history = (st, a) ∷ was.history;
+      stands = then_ was.history (subst (λ (u : WorldValue C). Stands M u was.history) same was.stands);
+    }
 
 module _ {C : Type 0} {M : Meaning C} {w : WorldValue C} {h : History C} (s : Stands M w h) where
   -- a right refusal, of a world that stays as it is
-  pub world-refused : (st : Step C) (r : Refusal) → Answers M h st (answer.Refused r) → Stands M w ((st, answer.Refused r) ∷ h)
-  world-refused st r right =
-      stands-alike h ((st, answer.Refused r) ∷ h) (alike-sym ((st, answer.Refused r) ∷ h) h (refused-alike h st r)) M w (s.run, right) s
+  pub world-refused : {st : Step C} {r : Refusal} → Answers M h st (Answer.Refused r) → Stands M w ((st, Answer.Refused r) ∷ h)
+  world-refused {st} {r} right =
+      stands-alike h ((st, Answer.Refused r) ∷ h) (alike-sym ((st, Answer.Refused r) ∷ h) h (refused-alike h st r)) M w (s.run, right) s
 
   -- a table that isn't so long
   pub no-registry : (r : ℕ) → length w.registries ≤ r → slice_get (registries h) r ≡ None
@@ -234,17 +234,9 @@ module _ {C : Type 0} {M : Meaning C} {w : WorldValue C} {h : History C} (s : St
   group-moves g st a e d rs at reads owns there next =
       let on = s.on_site g e there in
       let u = found w.registries e.registry on.registry in
-      subst
-      (λ (vs : List (RegistryValue WorldRule)). Stands M
-      (record { registries = vs; gates = w.gates; groups = slice_set w.groups g d; readers = rs }) ((st, a) ∷ h))
-      (set-same w.registries e.registry u.0 u.1)
-      (subst
-      (λ (zs : List GateView). Stands M
-      (record { registries = slice_set w.registries e.registry u.0; gates = zs; groups = slice_set w.groups g d; readers = rs })
-      ((st, a) ∷ h))
-      (set-same w.gates e.gate on.view on.gate)
-      (world-moves g st a e d on.view on.view u.0 u.0 rs at reads owns there on.gate u.1
-      (next on.view u.0 (before g e on.view u.0 there on.gate u.1))))
+      rw (set-same w.registries e.registry u.0 u.1, set-same w.gates e.gate on.view on.gate)
+      at (world-moves g st a e d on.view on.view u.0 u.0 rs at reads owns there on.gate u.1
+      (next on.view u.0 (before g e on.view u.0 there on.gate u.1)))
 
   -- one registry is another after a history that tells the same of all else
   pub registry-set : (k : History C) (r : ℕ) (u v : RegistryValue WorldRule) → IsRun M k → registries k ≡ registries h → gates k ≡ gates h
@@ -267,7 +259,7 @@ module _ {C : Type 0} {M : Meaning C} {w : WorldValue C} {h : History C} (s : St
         outs = λ x z found_. s.outs x z found_ ∙ sym (outs x);
         each = λ g e found_.
             let is = s.each g e found_ in
-            entry-moves h k g e (ap (λ (xs : List (Made C)). slice_get xs g) ms ∙ is.made_is) (joins g) (groups g) (works g) (loads g) is;
+            entry-moves (ap (λ (xs : List (Made C)). slice_get xs g) ms ∙ is.made_is) (joins g) (groups g) (works g) (loads g) is;
         on_site = λ g e in_.
             let on = s.on_site g e in_ in
             record { view = on.view; gate = on.gate; id = on.id; registry = omega (arith, length-set w.registries r v, on.registry) };

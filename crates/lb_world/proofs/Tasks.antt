@@ -1,65 +1,57 @@
 -- Steps of a slot's job: it is granted, built or fails, and comes back. What is held of it is the last job.
-use Rattle.lb_group.proofs.Pasts.{members-past, newest-past, past-other, past-same}
 use Rattle.lb_group.specs.GroupCalls.{Asks, IsJob, asked_events, is_awaited, is_owed, is_served, publish_answer, publish_events}
 use Rattle.lb_group.specs.GroupCalls.{taken_refusal}
-use Rattle.lb_group.specs.GroupHistory.{AskAnswer, ask_answer, extra, generation_of, granted, granted_members, is_aloft, is_taken_out, job}
-use Rattle.lb_group.specs.SlotCalls.{ask_told, asked_gate}
-use Rattle.lb_group.specs.Values.{BuiltValue, Task}
+use Rattle.lb_group.specs.GroupHistory.{AskAnswer, ask_answer, extra, generation_of, is_aloft, is_taken_out, job}
+use Rattle.lb_group.specs.SlotCalls.{asked_gate}
+use Rattle.lb_group.specs.Values.{BuiltValue}
 use Rattle.lb_group.specs.declared.answers.Ask.{Ask}
 use Rattle.lb_group.specs.declared.answers.Told.{Told}
 use Rattle.lb_health.specs.Joined.{registry_released}
 use Rattle.lb_history.proofs.Accepted.{job-may}
-use Rattle.lb_history.proofs.Runs.{aloft, slots}
+use Rattle.lb_history.proofs.Runs.{aloft}
 use Rattle.lb_history.specs.Answers.{asked, built_or_failed, destroy_refusal, of_built, of_job}
-use Rattle.lb_history.specs.History.{ended, is_held}
+use Rattle.lb_history.specs.History.{is_held}
 use Rattle.lb_history.specs.Shared.{extra_at}
-use Rattle.lb_rebuild.specs.Identity.{GroupId}
 use Rattle.lb_world.specs.Calls.{told_as}
 use Rattle.lb_world.specs.Views.{NotBuilding, NotReady}
 use Rattle.lb_world.specs.Works.{last_job}
 use Rattle.std.proofs.lemmas.Bool.{eqb-true}
-use Rattle.lb_group.specs.declared.answers.Told.TheVariants as becomes
 use Rattle.lb_group.specs.Stands as group-made
-use Rattle.lb_joined.specs.Stands as stands
-use Rattle.lb_history.specs.Steps as step
 use Rattle.lb_group.specs.GroupHistory as group
 use Rattle.lb_joined.specs.JoinedHistory as joined
 use Rattle.lb_registry.specs.RegistryEvents as registry
-use Rattle.lb_history.specs.declared.answer.Answer.TheVariants as answer
-use Rattle.lb_select.specs.declared.refusal.Refusal.TheVariants as refusal
-use Rattle.lb_history.specs.History as works
-use Rattle.lb_world.specs.Views as view
-use Rattle.lb_world.proofs.Words.{◌&&◌, ◌++◌, ◌<◌, ◌∙◌, ◌∷◌, ◌≡◌, ◌≤◌, ◌⊎◌, Answer, answer_after, Answers, ap, ap2, arith, at_one, at_slot}
-use Rattle.lb_world.proofs.Words.{Before, Bool, cond, config, configs_of, EntryIs, EntryNext, EntryValue, false, false≢true, gate, GateId}
-use Rattle.lb_world.proofs.Words.{GateView, group-of, group_events, held_of, History, inl, inr, is_out, IsRegistryAfter, IsRun}
-use Rattle.lb_world.proofs.Words.{joined_events, JoinedValue, key_gives, key_of, length, List, made, Made, made_of, Meaning, Member}
-use Rattle.lb_world.proofs.Words.{members_of, nat_lt, newest, no_such, None, none-some, Ok, Option, Origin, origin, past, past_of, promised}
-use Rattle.lb_world.proofs.Words.{refl, Refusal, registry_events, RegistryValue, same_Some, served, shares, site, slice_get, slice_get_past}
-use Rattle.lb_world.proofs.Words.{slice_get_within, slice_set, Some, Step, subst, sym, true, unless_refused, view_events, ViewEvent}
+use Rattle.lb_world.proofs.Words.{◌∙◌, ◌⊎◌, ◌++◌, ◌≡◌, ◌∷◌, ◌<◌, ◌≤◌, Answer, answer_after, Answers, ap, ap2, arith, ask_told, at_one}
+use Rattle.lb_world.proofs.Words.{At, Before, Bool, cond, config, configs_of, EntryIs, EntryNext, EntryValue, false, false≢true}
+use Rattle.lb_world.proofs.Words.{gate, GateId, GateView, granted, group-of, group_events, GroupId, held_of, History, inl}
+use Rattle.lb_world.proofs.Words.{inr, IsRegistryAfter, IsRun, joined_events, JoinedValue, key_gives, key_of, length, List, made}
+use Rattle.lb_world.proofs.Words.{made_of, Meaning, Member, members-past, members_of, nat_lt, newest, newest-past, no_such, None}
+use Rattle.lb_world.proofs.Words.{none-some, Ok, Option, origin, Origin, past, past-other, past-same, past_of, promised, refl, Refusal}
+use Rattle.lb_world.proofs.Words.{registry_events, RegistryValue, same_Some, shares, site, slice_get, slice_get_past}
+use Rattle.lb_world.proofs.Words.{slice_get_within, slice_set, slots, Some, Step, subst, sym, Task, true, unless_refused, view_events}
 use Rattle.lb_world.proofs.Words.{views_of, with_core, without_memory, Work, work, WorkValue, WorldRule, ℕ}
-use Rattle.lb_world.proofs.Places.{found, set-same, there}
-use Rattle.lb_world.proofs.Entries.{config-here, itself, next, next-core, next-work, reading-told, taken, unshared, views-are}
+use Rattle.lb_world.proofs.Places.{found, set-same}
+use Rattle.lb_world.proofs.Entries.{config-here, Moves, next-core, next-refused, next-work, reading-told, stays, unshared, views-are}
 
 -- what is held of a job, as its task and what has become of it
 abbrev pub shown : {C : Type 0} → WorkValue C → Option (Task C × Work)
-shown view.nothing = None
-shown (view.building t) = Some (t, works.building)
-shown (view.ready b) = Some (b.task, works.built b.ended)
+shown WorkValue.nothing = None
+shown (WorkValue.building t) = Some (t, Work.building)
+shown (WorkValue.ready b) = Some (b.task, Work.built b.ended)
 
 is-held : {C : Type 0} (o : Origin) (s : ℕ) (c : C) (p : group.History) (w u : Work) (k : WorkValue C) (t : Task C)
     → k ≡ held_of o s c p w → shown k ≡ Some (t, u) → (w ≡ u) × (t ≡ last_job o s c p)
-is-held o s c p works.idle u k t e to = absurd (none-some (t, u) (sym (ap shown e) ∙ to))
+is-held o s c p Work.idle u k t e to = absurd (none-some (t, u) (sym (ap shown e) ∙ to))
 is-held o s c p w u k t e to =
     let same = same_Some (last_job o s c p, w) (t, u) (sym (ap shown e) ∙ to) in (ap (λ x. x.1) same, sym (ap (λ x. x.0) same))
 
 not-ready : {C : Type 0} (o : Origin) (s : ℕ) (c : C) (p : group.History) (w : Work) (a : Answer) (k : WorkValue C)
-    → k ≡ held_of o s c p w → NotReady k → answer.Refused refusal.NothingBuilt ≡ of_built w a
-not-ready o s c p (works.built now) a k e off = absurd (subst NotReady e off)
+    → k ≡ held_of o s c p w → NotReady k → Answer.Refused Refusal.NothingBuilt ≡ of_built w a
+not-ready o s c p (Work.built now) a k e off = absurd (subst NotReady e off)
 not-ready o s c p w a k e off = refl
 
 not-building : {C : Type 0} (o : Origin) (s : ℕ) (c : C) (p : group.History) (w : Work) (a : Answer) (k : WorkValue C)
-    → k ≡ held_of o s c p w → NotBuilding k → answer.Refused refusal.NothingInFlight ≡ of_job w a
-not-building o s c p works.building a k e off = absurd (subst NotBuilding e off)
+    → k ≡ held_of o s c p w → NotBuilding k → Answer.Refused Refusal.NothingInFlight ≡ of_job w a
+not-building o s c p Work.building a k e off = absurd (subst NotBuilding e off)
 not-building o s c p w a k e off = refl
 
 -- what is aloft is of that generation
@@ -69,8 +61,8 @@ aloft-number n (group.lost m) up = eqb-true m n up
 aloft-number n e up = absurd (cc)
 
 -- nothing is held where a job is granted
-grounded : (w : Work) → false ≡ is_held w → w ≡ works.idle
-grounded works.idle e = refl
+grounded : (w : Work) → false ≡ is_held w → w ≡ Work.idle
+grounded Work.idle e = refl
 grounded w e = absurd (cc)
 
 same-task : {C : Type 0} {i k : GroupId} {s t n m : ℕ} {xs ys : List Member} {c d : C} {p q : GateId}
@@ -100,28 +92,29 @@ module _ {C : Type 0} {h : History C} {g : ℕ} {e : EntryValue C} (is : EntryIs
       record { config = c.0; there = c.1; work_is = p.0; is = p.1 }
 
   -- a slot that isn't there, and a place where nothing built is, or no job
-  pub beyond : (s : ℕ) (f : C → Answer) → length e.works ≤ s → answer.Refused refusal.NoSuch ≡ at_one (config g s h) f
+  pub beyond : (s : ℕ) (f : C → Answer) → length e.works ≤ s → Answer.Refused Refusal.NoSuch ≡ at_one (config g s h) f
   beyond s f past =
       let few : length (configs_of e.core.group) ≤ s = omega (arith, is.works_in, past) in
       sym (ap (λ (o : Option C). at_one o f) (config-here is s ∙ slice_get_past (configs_of e.core.group) s few))
 
   pub unbuilt : (s : ℕ) (k : WorkValue C) (a : Answer) → slice_get e.works s ≡ Some k → NotReady k
-      → answer.Refused refusal.NothingBuilt ≡ at_one (config g s h) (λ c. of_built (work g s h) a)
+      → Answer.Refused Refusal.NothingBuilt ≡ at_one (config g s h) (λ c. of_built (work g s h) a)
   unbuilt s k a at off =
       let c = slot-there s k at in
-      not-ready (origin e.core) s c.0 (past g s h) (work g s h) a k (is.works_are s c.0 k c.1 at) off
-      ∙ sym (ap (λ (o : Option C). at_one o (λ x. of_built (work g s h) a)) (config-here is s ∙ c.1))
+      rw (config-here is s ∙ c.1)
+      (not-ready (origin e.core) s c.0 (past g s h) (work g s h) a k (is.works_are s c.0 k c.1 at) off)
 
   pub unstarted : (s : ℕ) (k : WorkValue C) (a : C → Answer) → slice_get e.works s ≡ Some k → NotBuilding k
-      → answer.Refused refusal.NothingInFlight ≡ at_one (config g s h) (λ c. of_job (work g s h) (a c))
+      → Answer.Refused Refusal.NothingInFlight ≡ at_one (config g s h) (λ c. of_job (work g s h) (a c))
   unstarted s k a at off =
       let c = slot-there s k at in
-      not-building (origin e.core) s c.0 (past g s h) (work g s h) (a c.0) k (is.works_are s c.0 k c.1 at) off
-      ∙ sym (ap (λ (o : Option C). at_one o (λ x. of_job (work g s h) (a x))) (config-here is s ∙ c.1))
+      rw (config-here is s ∙ c.1)
+      (not-building (origin e.core) s c.0 (past g s h) (work g s h) (a c.0) k (is.works_are s c.0 k c.1 at) off)
 
   -- where a job is granted nothing is held
   pub free-place : (M : Meaning C) → IsRun M h → (s now : ℕ) (out : Bool) (k : WorkValue C)
-      → job ≡ ask_answer (past_of s (joined.group_events (joined_events g h))) out now → slice_get e.works s ≡ Some k → k ≡ view.nothing
+      → job ≡ ask_answer (past_of s (joined.group_events (joined_events g h))) out now → slice_get e.works s ≡ Some k
+      → k ≡ WorkValue.nothing
   free-place M run s now out k to at =
       let c = slot-there s k at in
       let may = job-may (past g s h) out now (sym (to ∙ ap (λ (q : group.History). ask_answer (past_of s q) out now) (group-of g h))) in
@@ -141,9 +134,11 @@ module _ {C : Type 0} {h : History C} {g : ℕ} {e : EntryValue C} (is : EntryIs
     pub unawaited : (M : Meaning C) → IsRun M h → is_held w ≡ true
         → is_awaited t.slot t.generation (joined.group_events (joined_events g h)) ≡ false → ⊥
     unawaited M run held off =
-        false≢true
-        (sym off ∙ ap (λ (x : Task C). is_awaited x.slot x.generation (joined.group_events (joined_events g h))) has.is
-        ∙ ap (is_awaited s (granted (past g s h))) (group-of g h) ∙ aloft M h g s w (slots M h run) has.work_is held)
+        false≢true (sym off ∙ rw (has.is, group-of g h) (aloft M h g s w (slots M h run) has.work_is held))
+
+-- an event at a slot is none of another's
+pub elsewhere : (s : ℕ) (v : group.SlotEvent) (k : group.History) (r : ℕ) → ¬ (r ≡ s) → past_of r (At s v ∷ k) ≡ past_of r k
+elsewhere s v k r off = past-other r s v k (λ p. off (sym p))
 
 module _ {C : Type 0} {M : Meaning C} {h : History C} {g : ℕ} {e : EntryValue C} {z : GateView} {v : RegistryValue WorldRule}
     (b : Before M h g e z v) where
@@ -155,275 +150,196 @@ module _ {C : Type 0} {M : Meaning C} {h : History C} {g : ℕ} {e : EntryValue 
       (sym (ap (slice_set e.works s) same ∙ set-same e.works s _ at)) next
 
   -- the snapshot of what stood in the slot is let go
-  released : (s n : ℕ) (es : List registry.Event) (u : RegistryValue WorldRule) → n ≡ extra_at g s h
-      → es ≡ registry_released e.core.view.id (extra_at g s h) (view_events g h) (registry_events e.registry h)
-      → IsRegistryAfter key_gives (key_of g h)
+  abbrev pub Releases : ℕ → RegistryValue WorldRule → Type 0
+  Releases n u =
+      IsRegistryAfter key_gives (key_of g h)
       (registry_released e.core.view.id n (views_of (site e.core) (joined_events g h)) (registry_events e.registry h)) u
-      → IsRegistryAfter key_gives (key_of g h) es u
-  released s n es u of new kept =
-      subst (λ (x : List registry.Event). IsRegistryAfter key_gives (key_of g h) x u)
-      (ap2 (λ (m : ℕ) (vs : List ViewEvent). registry_released e.core.view.id m vs (registry_events e.registry h)) of
-      (views-are b.is M b.run)
-      ∙ sym new) kept
 
-  -- another answer than a job changes nothing
+  released : (s n : ℕ) (es : List registry.Event) (u : RegistryValue WorldRule) → n ≡ extra_at g s h
+      → es ≡ registry_released e.core.view.id (extra_at g s h) (view_events g h) (registry_events e.registry h) → Releases n u
+      → IsRegistryAfter key_gives (key_of g h) es u
+  released s n es u of new kept = rw (new, ← of, ← views-are b.is M b.run) kept
+
+  -- what a slot answers: another answer than a job changes nothing
   ask-right : (s now : ℕ) (t : AskAnswer) → s < length (configs_of e.core.group)
       → t ≡ ask_answer (past_of s (joined.group_events (joined_events g h))) z.out now
-      → Answers M h (step.ask g s now) (asked (group.newest (group_events g h)) t)
+      → Answers M h (Step.ask g s now) (asked (group.newest (group_events g h)) t)
   ask-right s now t within to =
-      let n = group.newest (group_events g h) in
-      let tell = λ (out : Bool) (k : group.History). asked n (ask_answer (past_of s k) out now) in
-      inl
-      (sym
-      (ap (λ (o : Option (Made C)). at_one o (λ m. at_one (slice_get m.configs s) (λ x. tell (is_out m.gate h) (group_events g h))))
-      b.is.made_is
-      ∙ ap (λ (o : Option C). at_one o (λ x. tell (is_out e.gate h) (group_events g h))) (found (configs_of e.core.group) s within).1
-      ∙ ap2 tell (sym b.out) (sym (group-of g h)) ∙ ap (asked n) (sym to)))
+      inl (rw (b.is.made_is, (found (configs_of e.core.group) s within).1)
+      (ap (asked (group.newest (group_events g h))) (rw (group-of g h, b.out) at to)))
 
-  pub next-asked : {S I : Type 0} (s now : ℕ) (a : Ask S I C) (t : AskAnswer) {core : JoinedValue C} {y : GateView} → ask_told a ≡ t
-      → ¬ (t ≡ job)
-      → Asks (site e.core) (joined.group_events (joined_events g h)) s z.out now (Ok a) → stands.SameSite e.core core
-      → stands.Stands (site e.core) (joined.in_group (asked_events s now (ask_told a)) ++ joined_events g h) core
-      → y ≡ asked_gate (ask_told a) z
-      → EntryNext M h g (step.ask g s now) (asked (group.newest (group_events g h)) t) e z (with_core core e) y v
-  next-asked s now a job told off answers same stays back = absurd (off refl)
-  next-asked s now a t told off answers same stays back =
-      let events = rw told at stays in
-      let gate-is = rw told at back in
-      next-core b (step.ask g s now) (asked (group.newest (group_events g h)) t) refl
-      (ask-right s now t answers.0 (sym told ∙ answers.1)) same events refl (λ r. refl) (λ m. refl) gate-is
-      (unshared b (step.ask g s now) (asked (group.newest (group_events g h)) t) refl refl)
+  pub next-asked : {S I : Type 0} {s now : ℕ} (a : Ask S I C) (t : AskAnswer) {core : JoinedValue C} {y : GateView} → ask_told a ≡ t
+      → ¬ (t ≡ job) → Asks (site e.core) (joined.group_events (joined_events g h)) s z.out now (Ok a)
+      → Moves e (joined.in_group (asked_events s now (ask_told a)) ++ joined_events g h) core → y ≡ asked_gate (ask_told a) z
+      → EntryNext M h g (Step.ask g s now) (asked (group.newest (group_events g h)) t) e z (with_core core e) y v
+  next-asked a job told off answers moves back = absurd (off refl)
+  next-asked {s = s} {now = now} a t told off answers moves back =
+      next-core b refl (ask-right s now t answers.0 (sym told ∙ answers.1)) (rw told at moves) refl (λ r. refl) (λ m. refl)
+      (rw told at back) (unshared b (Step.ask g s now) (asked (group.newest (group_events g h)) t) refl refl)
 
-  pub next-unasked : (s now : ℕ) (r : Refusal) {core : JoinedValue C} {y : GateView} → r ≡ refusal.NoSuch
-      → length (configs_of e.core.group) ≤ s
-      → stands.SameSite e.core core → stands.Stands (site e.core) (joined_events g h) core → y ≡ z
-      → EntryNext M h g (step.ask g s now) (answer.Refused r) e z (with_core core e) y v
-  next-unasked s now r no_such past same stays back =
-      let tell = λ (k : group.History) (out : Bool). asked (group.newest k) (ask_answer (past_of s k) out now) in
-      next-core b (step.ask g s now) (answer.Refused r) refl
-      (inl
-      (ap answer.Refused no_such
-      ∙ sym
-      (ap (λ (o : Option (Made C)). at_one o (λ m. at_one (slice_get m.configs s) (λ x. tell (group_events g h) (is_out m.gate h))))
-      b.is.made_is
-      ∙ ap (λ (o : Option C). at_one o (λ x. tell (group_events g h) (is_out e.gate h)))
-      (slice_get_past (configs_of e.core.group) s past))))
-      same stays refl (λ r. refl) (λ m. refl) back (unshared b (step.ask g s now) (answer.Refused r) refl refl)
+  pub next-unasked : {s now : ℕ} (r : Refusal) {core : JoinedValue C} → r ≡ Refusal.NoSuch → length (configs_of e.core.group) ≤ s
+      → Moves e (joined_events g h) core → EntryNext M h g (Step.ask g s now) (Answer.Refused r) e z (with_core core e) z v
+  next-unasked {s = s} r no_such past moves =
+      next-refused b refl (inl (rw (b.is.made_is, slice_get_past (configs_of e.core.group) s past) (ap Answer.Refused no_such))) moves
 
-  pub does-grant : {S I : Type 0} (s now : ℕ) (a : Ask S I C) (j : Task C) {core : JoinedValue C} {old : WorkValue C} {y : GateView}
-      → ask_told a ≡ job
-      → Asks (site e.core) (joined.group_events (joined_events g h)) s z.out now (Ok a)
-      → IsJob (site e.core) (joined.group_events (joined_events g h)) s j → stands.SameSite e.core core
-      → stands.Stands (site e.core) (joined.in_group (asked_events s now (ask_told a)) ++ joined_events g h) core
+  pub does-grant : {S I : Type 0} {s now : ℕ} (a : Ask S I C) (j : Task C) {core : JoinedValue C} {old : WorkValue C} {y : GateView}
+      → ask_told a ≡ job → Asks (site e.core) (joined.group_events (joined_events g h)) s z.out now (Ok a)
+      → IsJob (site e.core) (joined.group_events (joined_events g h)) s j
+      → Moves e (joined.in_group (asked_events s now (ask_told a)) ++ joined_events g h) core
       → slice_get e.works s ≡ Some old → y ≡ asked_gate (ask_told a) z
-      → EntryNext M h g (step.ask g s now) (answer.Build j.generation) e z
-      (record e { core = core; works = slice_set e.works s (view.building j) }) y v
-  does-grant s now a j told answers own same stays was back =
-      let events = rw told at stays in
-      let gate-is = rw told at back in
-      let newest : j.generation ≡ group.newest (group_events g h) = own.generation ∙ ap group.newest (group-of g h) in
-      next-work b s (step.ask g s now) (answer.Build j.generation) (view.building j) refl
-      (subst (λ (n : ℕ). Answers M h (step.ask g s now) (answer.Build n)) (sym newest)
-      (ask-right s now job answers.0 (sym told ∙ answers.1)))
-      was same events (λ r off. past-other r s (group.Granted now) (group_events g h) (λ p. off (sym p))) (λ r. refl)
+      → EntryNext M h g (Step.ask g s now) (Answer.Build j.generation) e z
+      (record e { core = core; works = slice_set e.works s (WorkValue.building j) }) y v
+  does-grant {s = s} {now = now} a j told answers own moves was back =
+      let k = group_events g h in
+      let newest : j.generation ≡ group.newest k = own.generation ∙ ap group.newest (group-of g h) in
+      next-work b s refl (rw newest (ask-right s now job answers.0 (sym told ∙ answers.1))) was (rw told at moves)
+      (elsewhere s (group.Granted now) k) (λ r. refl)
       (λ c there.
-      ap view.building
-      (same-task own.group own.place (newest ∙ sym (newest-past s (group_events g h)))
+      ap WorkValue.building
+      (same-task own.group own.place (newest ∙ sym (newest-past s k))
       (own.members ∙ ap (λ (k : group.History). group.order_members (past_of s k)) (group-of g h))
       (same_Some j.config c (sym own.config ∙ there)) own.permit)
-      ∙ sym (ap (λ (q : group.History). held_of (origin e.core) s c q works.building) (past-same s (group.Granted now) (group_events g h))))
-      (λ m. refl) gate-is (unshared b (step.ask g s now) (answer.Build j.generation) refl refl)
+      ∙ sym (ap (λ (q : group.History). held_of (origin e.core) s c q Work.building) (past-same s (group.Granted now) k)))
+      (λ m. refl) (rw told at back) (unshared b (Step.ask g s now) (Answer.Build j.generation) refl refl)
 
-  module _ {s : ℕ} {j : Task C} (has : Holds h g s e j works.building) where
-    -- what its refusal is told by
-    refusal-is : M.refusal (members_of (granted (past g s h)) (group_events g h)) has.config ≡ M.refusal j.members j.config
-    refusal-is =
-        ap2 M.refusal
-        (sym (members-past (granted (past g s h)) s (group_events g h)) ∙ sym ((promised M h b.run).members_kept g s).under_way
-        ∙ sym (ap (λ (x : Task C). x.members) has.is)) (sym (ap (λ (x : Task C). x.config) has.is))
-
+  module _ {s : ℕ} {j : Task C} (has : Holds h g s e j Work.building) where
     build-told : (now : ℕ) (r : Option Refusal) → M.refusal j.members j.config ≡ r
-        → answer_after M h (step.build g s now) ≡ built_or_failed j.generation r
+        → answer_after M h (Step.build g s now) ≡ built_or_failed j.generation r
     build-told now r is =
+        let members = members-past (granted (past g s h)) s (group_events g h) in
         told-work b.is has
         (λ c w. of_job w (built_or_failed (granted (past g s h)) (M.refusal (members_of (granted (past g s h)) (group_events g h)) c)))
-        ∙ ap2 built_or_failed (sym (ap (λ (x : Task C). x.generation) has.is)) (refusal-is ∙ is)
-
-    -- a build that was refused, for its cause or for memory
-    pub fallen-right : (now : ℕ) (r : Refusal)
-        → (M.refusal j.members j.config ≡ Some r) ⊎ ((M.refusal j.members j.config ≡ None) × (r ≡ refusal.OutOfMemory))
-        → Answers M h (step.build g s now) (answer.BuildFailed j.generation r)
-    fallen-right now r cause =
-        elim cause [
-          | inl q ↦ inl (sym (build-told now (Some r) q))
-          | inr q ↦
-              inr (ap (answer.BuildFailed j.generation) q.1 ∙ sym (ap (without_memory {C = C} (step.build g s now))
-              (build-told now None q.0)))
-        ]
+        ∙ ap (built_or_failed (granted (past g s h)))
+        (ap (λ (ms : List Member). M.refusal ms has.config) (sym members ∙ sym ((promised M h b.run).members_kept g s).under_way)
+        ∙ rw has.is at is)
+        ∙ ap (λ (x : Task C). built_or_failed x.generation r) (sym has.is)
 
     -- a build that is done, and held from then on
-    pub does-build : (now : ℕ) (x : BuiltValue C) → slice_get e.works s ≡ Some (view.building j) → M.refusal j.members j.config ≡ None
+    pub does-build : (now : ℕ) (x : BuiltValue C) → slice_get e.works s ≡ Some (WorkValue.building j) → M.refusal j.members j.config ≡ None
         → x.task ≡ j → x.ended ≡ now
-        → EntryNext M h g (step.build g s now) (answer.Built j.generation) e z (record e { works = slice_set e.works s (view.ready x) }) z v
+        → EntryNext M h g (Step.build g s now) (Answer.Built j.generation) e z
+        (record e { works = slice_set e.works s (WorkValue.ready x) }) z v
     does-build now x held none task_is ended_is =
-        next-work b s (step.build g s now) (answer.Built j.generation) (view.ready x) refl (inl (sym (build-told now None none))) held
-        (itself e.core) b.is.core_is (λ r off. refl) (λ r. refl)
+        next-work b s refl (inl (sym (build-told now None none))) held (stays b.is) (λ r off. refl) (λ r. refl)
         (λ c there.
-        ap2 (λ (t : Task C) (n : ℕ). view.ready (record { task = t; ended = n }))
+        ap2 (λ (t : Task C) (n : ℕ). WorkValue.ready (record { task = t; ended = n }))
         (task_is ∙ has.is ∙ ap (λ (d : C). last_job (origin e.core) s d (past g s h)) (same_Some has.config c (sym has.there ∙ there)))
         ended_is)
-        (λ m. refl) refl (unshared b (step.build g s now) (answer.Built j.generation) refl refl)
+        (λ m. refl) refl (unshared b (Step.build g s now) (Answer.Built j.generation) refl refl)
 
     -- a build that failed: its permit comes back, and its snapshot is let go
-    abbrev pub Failed : ℕ → JoinedValue C → GateView → RegistryValue WorldRule → Type 0
-    Failed now core y u =
-        stands.Stands (site e.core) (joined.At j.slot (group.Failed now j.members) ∷ joined_events g h) core × (y ≡ gate z.id false)
-        × IsRegistryAfter key_gives (key_of g h)
-        (registry_released e.core.view.id j.generation (views_of (site e.core) (joined_events g h)) (registry_events e.registry h)) u
+    module _ {now : ℕ} {core : JoinedValue C} {y : GateView} {u : RegistryValue WorldRule}
+        (held : slice_get e.works s ≡ Some (WorkValue.building j))
+        (moves : Moves e (joined.At j.slot (group.Failed now j.members) ∷ joined_events g h) core) (back : y ≡ gate z.id false)
+        (lets-go : Releases j.generation u)
+      where
+        let-go : (es : List registry.Event)
+            → es ≡ registry_released e.core.view.id (extra_at g s h) (view_events g h) (registry_events e.registry h)
+            → IsRegistryAfter key_gives (key_of g h) es u
+        let-go es new =
+            released s j.generation es u
+            (ap (λ (x : Task C). x.generation) has.is
+            ∙ sym (aloft-number (granted (past g s h)) (extra (past g s h))
+            (aloft M h g s Work.building (slots M h b.run) has.work_is refl)))
+            new lets-go
 
-    extra-is : j.generation ≡ extra_at g s h
-    extra-is =
-        ap (λ (x : Task C). x.generation) has.is
-        ∙ sym (aloft-number (granted (past g s h)) (extra (past g s h)) (aloft M h g s works.building (slots M h b.run) has.work_is refl))
+        -- refused, for its cause or for memory
+        pub does-fall : (r : Refusal)
+            → (M.refusal j.members j.config ≡ Some r) ⊎ ((M.refusal j.members j.config ≡ None) × (r ≡ Refusal.OutOfMemory))
+            → EntryNext M h g (Step.build g s now) (Answer.BuildFailed j.generation r) e z
+            (record e { core = core; works = slice_set e.works s WorkValue.nothing }) y u
+        does-fall r cause =
+            let right : Answers M h (Step.build g s now) (Answer.BuildFailed j.generation r) =
+            elim cause [
+              | inl q ↦ inl (sym (build-told now (Some r) q))
+              | inr q ↦
+                  inr (ap (Answer.BuildFailed j.generation) q.1
+                  ∙ sym (ap (without_memory {C = C} (Step.build g s now)) (build-told now None q.0)))
+            ] in
+            next-work b s refl right held (rw has.is at moves) (elsewhere s _ (group_events g h)) (λ i. refl) (λ c there. refl) (λ m. refl)
+            back
+            (let-go _ (shares M h (Step.build g s now) (Answer.BuildFailed j.generation r) (b.run, right) (made_of e) b.is.made_is))
 
-    failed-is : (now : ℕ) {core : JoinedValue C}
-        → stands.Stands (site e.core) (joined.At j.slot (group.Failed now j.members) ∷ joined_events g h) core
-        → stands.Stands (site e.core) (joined.At s (group.Failed now (granted_members (past g s h))) ∷ joined_events g h) core
-    failed-is now {core} =
-        subst (λ (t : Task C). stands.Stands (site e.core) (joined.At t.slot (group.Failed now t.members) ∷ joined_events g h) core) has.is
-
-    pub does-fall : (now : ℕ) (r : Refusal) {core : JoinedValue C} {y : GateView} {u : RegistryValue WorldRule}
-        → slice_get e.works s ≡ Some (view.building j) → stands.SameSite e.core core → Failed now core y u
-        → (M.refusal j.members j.config ≡ Some r) ⊎ ((M.refusal j.members j.config ≡ None) × (r ≡ refusal.OutOfMemory))
-        → EntryNext M h g (step.build g s now) (answer.BuildFailed j.generation r) e z
-        (record e { core = core; works = slice_set e.works s view.nothing }) y u
-    does-fall now r {u = u} held same failed cause =
-        let st : Step C = step.build g s now in
-        let a = answer.BuildFailed j.generation r in
-        let right = fallen-right now r cause in
-        next-work b s st a view.nothing refl right held same (failed-is now failed.0)
-        (λ i off. past-other i s _ (group_events g h) (λ p. off (sym p))) (λ i. refl) (λ c there. refl) (λ m. refl) failed.1
-        (released s j.generation (registry_events e.registry ((st, a) ∷ h)) u extra-is
-        (shares M h st a (b.run, right) (made_of e) b.is.made_is) failed.2)
-
-    pub does-fail : (now : ℕ) {core : JoinedValue C} {y : GateView} {u : RegistryValue WorldRule}
-        → slice_get e.works s ≡ Some (view.building j) → stands.SameSite e.core core → Failed now core y u
-        → EntryNext M h g (step.failbuild g s now) (answer.Failed j.generation) e z
-        (record e { core = core; works = slice_set e.works s view.nothing }) y u
-    does-fail now {u = u} held same failed =
-        let st : Step C = step.failbuild g s now in
-        let a = answer.Failed j.generation in
-        let right : Answers M h st a =
-        inl (ap (λ (x : Task C). answer.Failed x.generation) has.is ∙ sym
-        (told-work b.is has (λ c w. of_job w (answer.Failed (granted (past g s h)))))) in
-        next-work b s st a view.nothing refl right held same (failed-is now failed.0)
-        (λ i off. past-other i s _ (group_events g h) (λ p. off (sym p))) (λ i. refl) (λ c there. refl) (λ m. refl) failed.1
-        (released s j.generation (registry_events e.registry ((st, a) ∷ h)) u extra-is
-        (shares M h st a (b.run, right) (made_of e) b.is.made_is) failed.2)
+        pub does-fail : EntryNext M h g (Step.failbuild g s now) (Answer.Failed j.generation) e z
+            (record e { core = core; works = slice_set e.works s WorkValue.nothing }) y u
+        does-fail =
+            let right : Answers M h (Step.failbuild g s now) (Answer.Failed j.generation) =
+            inl (sym (told-work b.is has (λ c w. of_job w (Answer.Failed (granted (past g s h))))
+            ∙ ap (λ (x : Task C). Answer.Failed x.generation) (sym has.is))) in
+            next-work b s refl right held (rw has.is at moves) (elsewhere s _ (group_events g h)) (λ i. refl) (λ c there. refl) (λ m. refl)
+            back
+            (let-go _ (shares M h (Step.failbuild g s now) (Answer.Failed j.generation) (b.run, right) (made_of e) b.is.made_is))
 
   -- what was built comes back, and is served or retired
-  module _ {s : ℕ} {x : BuiltValue C} (has : Holds h g s e x.task (works.built x.ended)) where
-    retired-is : {core : JoinedValue C}
-        → stands.Stands (site e.core) (joined.At x.task.slot (group.Abandoned x.task.members) ∷ joined_events g h) core
-        → stands.Stands (site e.core) (joined.At s (group.Abandoned (granted_members (past g s h))) ∷ joined_events g h) core
-    retired-is {core} =
-        subst (λ (t : Task C). stands.Stands (site e.core) (joined.At t.slot (group.Abandoned t.members) ∷ joined_events g h) core) has.is
-
+  module _ {s : ℕ} {x : BuiltValue C} (has : Holds h g s e x.task (Work.built x.ended)) where
     built-told : (f : ℕ → Answer) → at_one (config g s h) (λ c. of_built (work g s h) (f (granted (past g s h)))) ≡ f x.task.generation
     built-told f =
         told-work b.is has (λ c w. of_built w (f (granted (past g s h)))) ∙ sym (ap (λ (t : Task C). f t.generation) has.is)
 
-    pub does-abandon : {core : JoinedValue C} → slice_get e.works s ≡ Some (view.ready x) → stands.SameSite e.core core
-        → stands.Stands (site e.core) (joined.At x.task.slot (group.Abandoned x.task.members) ∷ joined_events g h) core
-        → EntryNext M h g (step.abandon g s) (answer.Abandoned x.task.generation) e z
-        (record e { core = core; works = slice_set e.works s view.nothing }) z v
-    does-abandon held same stays =
-        next-work b s (step.abandon g s) (answer.Abandoned x.task.generation) view.nothing refl (inl (sym (built-told answer.Abandoned)))
-        held
-        same (retired-is stays) (λ i off. past-other i s _ (group_events g h) (λ p. off (sym p))) (λ i. refl) (λ c there. refl) (λ m. refl)
-        refl (unshared b (step.abandon g s) (answer.Abandoned x.task.generation) refl refl)
+    pub does-abandon : {core : JoinedValue C} → slice_get e.works s ≡ Some (WorkValue.ready x)
+        → Moves e (joined.At x.task.slot (group.Abandoned x.task.members) ∷ joined_events g h) core
+        → EntryNext M h g (Step.abandon g s) (Answer.Abandoned x.task.generation) e z
+        (record e { core = core; works = slice_set e.works s WorkValue.nothing }) z v
+    does-abandon held moves =
+        next-work b s refl (inl (sym (built-told Answer.Abandoned))) held (rw has.is at moves) (elsewhere s _ (group_events g h))
+        (λ i. refl)
+        (λ c there. refl) (λ m. refl) refl (unshared b (Step.abandon g s) (Answer.Abandoned x.task.generation) refl refl)
 
-    tells : (served : Bool) {core : JoinedValue C} → is_served s (group_events g h) ≡ served
-        → slice_get e.works s ≡ Some (view.ready x) → stands.SameSite e.core core
-        → (let t = cond served (becomes.Published x.task.generation) (becomes.Abandoned x.task.generation) in
-        stands.Stands (site e.core) (joined.in_group (publish_events x (Ok t)) ++ joined_events g h) core
-        → EntryNext M h g (step.publish g s) (told_as t) e z (record e { core = core; works = slice_set e.works s view.nothing }) z v)
-    tells true {core} is held same stays =
-        let a = answer.Published x.task.generation in
-        next-work b s (step.publish g s) a view.nothing refl
-        (inl (sym (built-told (λ n. cond (is_served s (group_events g h)) (answer.Published n) (answer.Abandoned n))
-        ∙ ap (λ (q : Bool). cond q a (answer.Abandoned x.task.generation)) is))) held same
-        (rw has.work_is
-        (subst (λ (t : Task C). stands.Stands (site e.core) (joined.At t.slot (group.Published x.ended t.members) ∷ joined_events g h) core)
-        has.is stays))
-        (λ i off. past-other i s _ (group_events g h) (λ p. off (sym p))) (λ i. refl) (λ c there. refl) (λ m. refl)
-        refl (unshared b (step.publish g s) a refl refl)
-    tells false is held same stays =
-        let a = answer.Abandoned x.task.generation in
-        next-work b s (step.publish g s) a view.nothing refl
-        (inl (sym (built-told (λ n. cond (is_served s (group_events g h)) (answer.Published n) (answer.Abandoned n))
-        ∙ ap (λ (q : Bool). cond q (answer.Published x.task.generation) a) is))) held same
-        (retired-is stays) (λ i off. past-other i s _ (group_events g h) (λ p. off (sym p))) (λ i. refl) (λ c there. refl) (λ m. refl)
-        refl (unshared b (step.publish g s) a refl refl)
-
-    pub does-publish : (t : Told) {core : JoinedValue C} → slice_get e.works s ≡ Some (view.ready x) → stands.SameSite e.core core
-        → stands.Stands (site e.core) (joined.in_group (publish_events x (Ok t)) ++ joined_events g h) core
+    pub does-publish : (t : Told) {core : JoinedValue C} → slice_get e.works s ≡ Some (WorkValue.ready x)
+        → Moves e (joined.in_group (publish_events x (Ok t)) ++ joined_events g h) core
         → t ≡ publish_answer x.task.slot x.task.generation (joined.group_events (joined_events g h))
-        → EntryNext M h g (step.publish g s) (told_as t) e z (record e { core = core; works = slice_set e.works s view.nothing }) z v
-    does-publish t {core} held same stays to =
-        let is : t ≡ cond (is_served s (group_events g h)) (becomes.Published x.task.generation) (becomes.Abandoned x.task.generation) =
-        to
-        ∙ ap2 (λ (i : ℕ) (k : group.History). publish_answer i x.task.generation k) (ap (λ (y : Task C). y.slot) has.is) (group-of g h) in
-        subst
-        (λ (q : Told). EntryNext M h g (step.publish g s) (told_as q) e z
-        (record e { core = core; works = slice_set e.works s view.nothing }) z v)
-        (sym is) (tells (is_served s (group_events g h)) refl held same (rw is at stays))
+        → EntryNext M h g (Step.publish g s) (told_as t) e z (record e { core = core; works = slice_set e.works s WorkValue.nothing }) z v
+    does-publish t {core} held moves to =
+        by-told t moves (inl (ap told_as (rw (has.is, group-of g h) at to) ∙ tells (is_served s (group_events g h)) ∙ sym
+        (built-told (λ n. cond (is_served s (group_events g h)) (Answer.Published n) (Answer.Abandoned n)))))
+      where
+        tells : (b : Bool) → told_as (cond b (Told.Published (granted (past g s h))) (Told.Abandoned (granted (past g s h))))
+            ≡ cond b (Answer.Published x.task.generation) (Answer.Abandoned x.task.generation)
+        tells true = ap (λ (t : Task C). Answer.Published t.generation) (sym has.is)
+        tells false = ap (λ (t : Task C). Answer.Abandoned t.generation) (sym has.is)
+
+        by-told : (t : Told) → Moves e (joined.in_group (publish_events x (Ok t)) ++ joined_events g h) core
+            → Answers M h (Step.publish g s) (told_as t)
+            → EntryNext M h g (Step.publish g s) (told_as t) e z
+            (record e { core = core; works = slice_set e.works s WorkValue.nothing }) z v
+        by-told (Told.Published n) moves right =
+            next-work b s refl right held (rw has.work_is (rw has.is at moves)) (elsewhere s _ (group_events g h)) (λ i. refl)
+            (λ c there. refl)
+            (λ m. refl) refl (unshared b (Step.publish g s) (Answer.Published n) refl refl)
+        by-told (Told.Abandoned n) moves right =
+            next-work b s refl right held (rw has.is at moves) (elsewhere s _ (group_events g h)) (λ i. refl) (λ c there. refl) (λ m. refl)
+            refl
+            (unshared b (Step.publish g s) (Answer.Abandoned n) refl refl)
 
   -- a retired selector: taken out, destroyed and reported at once
   destroy-told : (s : ℕ) (r : Option Refusal) → taken_refusal (site e.core) s (joined.group_events (joined_events g h)) ≡ r
-      → answer_after M h (step.destroy g s) ≡ unless_refused r answer.Destroyed
+      → answer_after M h (Step.destroy g s) ≡ unless_refused r Answer.Destroyed
   destroy-told s r is =
-      reading-told b.is s destroy_refusal (λ q. unless_refused q answer.Destroyed)
-      (at_slot (site e.core) s (destroy_refusal (past_of s (joined.group_events (joined_events g h))))) refl
+      reading-told b.is s destroy_refusal (λ q. unless_refused q Answer.Destroyed) _ refl
       ∙ by-place (nat_lt s (length (configs_of e.core.group))) _ is
     where
-      by-place : (there : Bool) (q : Option Refusal) → cond there q (Some refusal.NoSuch) ≡ r
-          → at_one (cond there (Some q) None) (λ q. unless_refused q answer.Destroyed) ≡ unless_refused r answer.Destroyed
-      by-place true q is = ap (λ (o : Option Refusal). unless_refused o answer.Destroyed) is
-      by-place false q is = ap (λ (o : Option Refusal). unless_refused o answer.Destroyed) is
+      by-place : (there : Bool) (q : Option Refusal) → cond there q (Some Refusal.NoSuch) ≡ r
+          → at_one (cond there (Some q) None) (λ q. unless_refused q Answer.Destroyed) ≡ unless_refused r Answer.Destroyed
+      by-place true q is = rw is refl
+      by-place false q is = rw (← is) refl
 
-  pub does-refuse-destruction : (s : ℕ) (r : Refusal) {core : JoinedValue C} → stands.SameSite e.core core
-      → stands.Stands (site e.core) (joined_events g h) core
+  pub does-refuse-destruction : {s : ℕ} {r : Refusal} {core : JoinedValue C} → Moves e (joined_events g h) core
       → taken_refusal (site e.core) s (joined.group_events (joined_events g h)) ≡ Some r
-      → EntryNext M h g (step.destroy g s) (answer.Refused r) e z (with_core core e) z v
-  does-refuse-destruction s r same stays is =
-      next-core b (step.destroy g s) (answer.Refused r) refl (inl (sym (destroy-told s (Some r) is))) same stays refl (λ i. refl)
-      (λ m. refl)
-      refl (unshared b (step.destroy g s) (answer.Refused r) refl refl)
+      → EntryNext M h g (Step.destroy g s) (Answer.Refused r) e z (with_core core e) z v
+  does-refuse-destruction {s = s} {r = r} moves is = next-refused b refl (inl (sym (destroy-told s (Some r) is))) moves
 
-  pub does-destroy : (s n : ℕ) {core : JoinedValue C} {y : GateView} {u : RegistryValue WorldRule} → stands.SameSite e.core core
-      → stands.Stands (site e.core) (joined.At s group.Destroyed ∷ joined.At s group.TakenOut ∷ joined_events g h) core
+  pub does-destroy : (s n : ℕ) {core : JoinedValue C} {y : GateView} {u : RegistryValue WorldRule}
+      → Moves e (joined.At s group.Destroyed ∷ joined.At s group.TakenOut ∷ joined_events g h) core
       → taken_refusal (site e.core) s (joined.group_events (joined_events g h)) ≡ None
       → n ≡ generation_of (extra (past_of s (group.At s group.TakenOut ∷ joined.group_events (joined_events g h)))) → y ≡ gate z.id false
-      → IsRegistryAfter key_gives (key_of g h)
-      (registry_released e.core.view.id n (views_of (site e.core) (joined_events g h)) (registry_events e.registry h)) u
-      → EntryNext M h g (step.destroy g s) answer.Destroyed e z (with_core core e) y u
-  does-destroy s n {u = u} same stays taken of back kept =
-      let right : Answers M h (step.destroy g s) answer.Destroyed = inl (sym (destroy-told s None taken)) in
-      next-core b (step.destroy g s) answer.Destroyed refl right same stays refl (λ i. refl) (λ m. refl) back
-      (released s n (registry_events e.registry ((step.destroy g s, answer.Destroyed) ∷ h)) u
-      (of ∙ ap (λ (p : group.History). generation_of (extra p)) (past-same s group.TakenOut (joined.group_events (joined_events g h)))
-      ∙ ap (λ (k : group.History). generation_of (extra (past_of s k))) (group-of g h))
-      (shares M h (step.destroy g s) answer.Destroyed (b.run, right) (made_of e) b.is.made_is) kept)
+      → Releases n u → EntryNext M h g (Step.destroy g s) Answer.Destroyed e z (with_core core e) y u
+  does-destroy s n moves taken of back kept =
+      let right : Answers M h (Step.destroy g s) Answer.Destroyed = inl (sym (destroy-told s None taken)) in
+      next-core b refl right moves refl (λ i. refl) (λ m. refl) back
+      (released s n _ _ (rw (past-same s group.TakenOut (joined.group_events (joined_events g h)), group-of g h) at of)
+      (shares M h (Step.destroy g s) Answer.Destroyed (b.run, right) (made_of e) b.is.made_is) kept)
 
 -- what was taken out is owed a report
 pub owed-now : {C : Type 0} (made : group-made.Made C) (s : ℕ) (k : group.History) → taken_refusal made s k ≡ None
     → is_owed made s (group.At s group.TakenOut ∷ k) ≡ true
-owed-now made s k none =
-    ap (λ (t : Bool). t && is_taken_out (extra (past_of s (group.At s group.TakenOut ∷ k))))
-    (there-if (nat_lt s (length made.configs)) _ none)
-    ∙ ap (λ (p : group.History). is_taken_out (extra p)) (past-same s group.TakenOut k)
-  where
-    there-if : (there : Bool) (x : Option Refusal) → cond there x (Some refusal.NoSuch) ≡ None → there ≡ true
-    there-if true x e = refl
-    there-if false x e = absurd (cc)
+owed-now made s k none = rw (past-same s group.TakenOut k) (grind (arith, none))

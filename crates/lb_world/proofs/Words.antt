@@ -1,46 +1,67 @@
 -- The names that the proofs of this crate share, passed on from one place. Declares nothing.
+pub use Rattle.lb_group.proofs.Pasts.{members-past, newest-past, past-other, past-same}
+pub use Rattle.lb_group.specs.Flights.{flight_after}
 pub use Rattle.lb_group.specs.GroupCalls.{at_slot}
-pub use Rattle.lb_group.specs.GroupHistory.{members_of, newest, past_of, served}
-pub use Rattle.lb_group.specs.Values.{configs_of}
+pub use Rattle.lb_group.specs.GroupHistory.{At, granted, granted_members, members_of, newest, past_of, served}
+pub use Rattle.lb_group.specs.SlotCalls.{ask_told}
+pub use Rattle.lb_group.specs.Values.{Task, configs_of}
+pub use Rattle.lb_health.specs.Joined.{IsReady, settings_of}
 pub use Rattle.lb_health.specs.ViewEvents.{ViewEvent}
+pub use Rattle.lb_history.proofs.Absent.{absent}
+pub use Rattle.lb_history.proofs.Numbering.{numbered}
 pub use Rattle.lb_history.proofs.Promised.{promised}
-pub use Rattle.lb_history.proofs.Refusing.{ap2}
+pub use Rattle.lb_history.proofs.Refusing.{ap2, refused-alike}
+pub use Rattle.lb_history.proofs.Runs.{slots}
 pub use Rattle.lb_history.proofs.Sharing.{shares}
+pub use Rattle.lb_history.proofs.Steps.{others-stay}
 pub use Rattle.lb_history.proofs.Together.{group-of}
-pub use Rattle.lb_history.specs.Answers.{Answers, IsRun, answer_after, at_one, no_number, no_such, refuse, unless_refused, where_}
-pub use Rattle.lb_history.specs.Answers.{without_memory}
-pub use Rattle.lb_history.specs.History.{History, Made, Work, after, config, entries, gates, group_at, group_events, happened, is_out}
-pub use Rattle.lb_history.specs.History.{load_of, made, made_at, members_in, past, registries, work, worked}
+pub use Rattle.lb_history.specs.Answers.{Answers, IsRun, Judges, answer_after, at_one, has_refused, no_number, no_such, refuse}
+pub use Rattle.lb_history.specs.Answers.{unless_refused, where_, without_memory}
+pub use Rattle.lb_history.specs.History.{History, Made, RegistryMade, Work, after, config, config_in, ended, entries, gates, group_at}
+pub use Rattle.lb_history.specs.History.{group_events, happened, is_at, is_out, load_of, made, made_at, members_in, past, registries}
+pub use Rattle.lb_history.specs.History.{registry_of, work, worked, works_at}
 pub use Rattle.lb_history.specs.Joined.{joined_after, joined_events}
 pub use Rattle.lb_history.specs.Meanings.{Meaning, meaning_of}
-pub use Rattle.lb_history.specs.Shared.{changed, key_at, key_in, key_of, registry_events, settings_in, view_events}
+pub use Rattle.lb_history.specs.Refused.{unrefused}
+pub use Rattle.lb_history.specs.Shared.{changed, events_in, key_at, key_by, key_in, key_of, marked, registry_at, registry_events}
+pub use Rattle.lb_history.specs.Shared.{settings_in, view_events, view_in}
 pub use Rattle.lb_history.specs.Steps.{Step}
 pub use Rattle.lb_history.specs.declared.answer.Answer.{Answer}
 pub use Rattle.lb_history.specs.declared.step.Listing.{Listing}
 pub use Rattle.lb_joined.specs.Stands.{JoinedValue, views_of}
 pub use Rattle.lb_rebuild.specs.Gate.{GateId, GateView, gate}
-pub use Rattle.lb_registry.specs.Keys.{by_identity}
+pub use Rattle.lb_rebuild.specs.Identity.{GroupId}
+pub use Rattle.lb_registry.proofs.FreshLemmas.{marks_start_none}
+pub use Rattle.lb_registry.specs.Keys.{by_address, by_identity}
 pub use Rattle.lb_registry.specs.Registry.{IsRegistryAfter, RegistryValue}
-pub use Rattle.lb_registry.specs.RegistryEvents.{Event, views_after}
+pub use Rattle.lb_registry.specs.RegistryEvents.{Applied, Event, cells_given, views_after}
 pub use Rattle.lb_registry.specs.Targets.{live}
+pub use Rattle.lb_select.specs.AddressText.{bare_member}
 pub use Rattle.lb_select.specs.Backends.{Member, member_cmp, same_member}
 pub use Rattle.lb_select.specs.Loads.{load_in}
-pub use Rattle.lb_select.specs.Memberships.{same_members}
-pub use Rattle.lb_select.specs.Refusals.{earlier}
+pub use Rattle.lb_select.specs.Memberships.{same_members, set_of}
+pub use Rattle.lb_select.specs.Refusals.{earlier, least}
 pub use Rattle.lb_select.specs.declared.refusal.Refusal.{Refusal}
-pub use Rattle.lb_world.specs.Calls.{with_core}
+pub use Rattle.lb_world.specs.Calls.{in_tables, set_marked, with_core, with_key}
+pub use Rattle.lb_world.specs.Cells.{lists_key, new_keys, starts_cell}
+pub use Rattle.lb_world.specs.Listings.{some_and}
 pub use Rattle.lb_world.specs.Rules.{WorldRule, key_gives}
 pub use Rattle.lb_world.specs.Stands.{Before, EntryIs, EntryNext, Stands, made_of, permit_after}
-pub use Rattle.lb_world.specs.Views.{EntryValue, HeldValue, Origin, WorkValue, WorldValue, origin, site}
+pub use Rattle.lb_world.specs.Views.{EntryValue, HeldValue, IsOwnReader, Origin, WorkValue, WorldValue, entered_of, origin, site}
 pub use Rattle.lb_world.specs.Works.{held_of}
-pub use Rattle.std.proofs.Common.{Bool, Equal, Greater, IsTrue, Less, List, Ordering, [], ap, arith, cond, false, if◌then◌else◌, inl, inr}
-pub use Rattle.std.proofs.Common.{length, map, nat_le, nat_lt, not, refl, slice_get, subst, sym, true, ℕ, ◌&&◌, ◌++◌, ◌+◌, ◌<◌, ◌==◌, ◌^◌}
-pub use Rattle.std.proofs.Common.{◌||◌, ◌↔◌, ◌∙◌, ◌∷◌, ◌≡◌, ◌≤◌, ◌⊎◌}
-pub use Rattle.std.proofs.lemmas.Bool.{cases_eq, eq-eqb, false≢true, lt-ltb, ne_eqb}
-pub use Rattle.std.proofs.lemmas.List.{length-map, length-set, length_push}
-pub use Rattle.std.proofs.lemmas.Option.{none-some, same_Some, slice_get_past, slice_get_within}
+pub use Rattle.std.proofs.Common.{Bool, Equal, Greater, IsTrue, Less, List, Ordering, [], ap, arith, cond, drop, false, inl, inr, length}
+pub use Rattle.std.proofs.Common.{map, nat_le, nat_lt, not, refl, slice_get, subst, sym, take, true, true≢false, ℕ, if◌then◌else◌, ◌&&◌}
+pub use Rattle.std.proofs.Common.{◌++◌, ◌+◌, ◌<◌, ◌==◌, ◌^◌, ◌||◌, ◌↔◌, ◌∙◌, ◌∷◌, ◌≡◌, ◌≤◌, ◌⊎◌}
+pub use Rattle.std.proofs.lemmas.Bool.{and_parts, cases_eq, eq-eqb, false≢true, le-leb, lt-ltb, ltb-true, ne_eqb}
+pub use Rattle.std.proofs.lemmas.Bool.Decides.{leb_tells}
+pub use Rattle.std.proofs.lemmas.Iterator.Adapters.{YieldsList-from_vec}
+pub use Rattle.std.proofs.lemmas.Iterator.Consumers.{YieldsList-end}
+pub use Rattle.std.proofs.lemmas.List.{at_drop_more, length-map, length-set, length_push, map-append, map-id}
+pub use Rattle.std.proofs.lemmas.Option.{cond_some, none-some, same_Some, slice_get_past, slice_get_within}
+pub use Rattle.std.specs.BTreeMap.{insert_entry}
 pub use Rattle.std.specs.BTreeSet.{insert_key}
-pub use Rattle.std.specs.List.{list_all, list_any}
+pub use Rattle.std.specs.Cmp.{IsEquivalence}
+pub use Rattle.std.specs.List.{cons_option, list_all, list_any}
 pub use Rattle.std.specs.Option.{option_map}
-pub use Rattle.std.specs.Ordering.{match_ordering}
-pub use Rattle.std.specs.Prelude.{Err, None, Ok, Option, Result, Some, fold, slice_set}
+pub use Rattle.std.specs.Ordering.{is_eq, match_ordering, nat_cmp, ordering_then}
+pub use Rattle.std.specs.Prelude.{Err, MatchOption, None, Ok, Option, Result, Some, fold, slice_set}

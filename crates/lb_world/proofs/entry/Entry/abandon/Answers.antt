@@ -1,71 +1,40 @@
 -- What is held built is the last job, so it is awaited.
-use Rattle.lb_history.specs.Steps as seen
-use Rattle.lb_history.specs.declared.answer.Answer.TheVariants as answer
-use Rattle.lb_select.specs.declared.refusal.Refusal.TheVariants as refusal
-use Rattle.lb_history.specs.History as works
-use Rattle.lb_world.proofs.Words.{◌<◌, ◌∙◌, ◌≤◌, ap, arith, inl, length, meaning_of, past, refl, Some}
+use Rattle.lb_world.proofs.Words.{◌∙◌, ap, arith, inl, meaning_of, refl, Some, Work}
 use Rattle.lb_world.proofs.Places.{at-place}
-use Rattle.lb_world.proofs.Entries.{itself, next-core, unshared}
+use Rattle.lb_world.proofs.Entries.{next-refused, stays}
 use Rattle.lb_world.proofs.Tasks.{beyond, does-abandon, holds, next-same, own-task, unawaited, unbuilt}
 use Rattle.lb_world.proofs.entry.Entry.abandon.Goals as goal
 
 pub returns-then-slot-len : goal.returns-then-slot-len
 returns-then-slot-len g c =
-    rw (← c.self.view_is)
-    (λ z v h n b.
-    let past : length c.self.inside.works.items ≤ c.args.slot = omega arith in
-    next-core b (seen.abandon n c.args.slot) (answer.Refused refusal.NoSuch) refl (inl (beyond b.is c.args.slot _ past)) (itself _)
-    b.is.core_is refl
-    (λ s. refl) (λ m. refl) refl (unshared b (seen.abandon n c.args.slot) (answer.Refused refusal.NoSuch) refl refl))
+    rw (← c.self.view_is) (λ z v h n b. next-refused b refl (inl (beyond b.is c.args.slot _ (omega arith))) (stays b.is))
 
 pub returns-in_default : goal.returns-in_default
 returns-in_default g c =
     rw (← c.self.view_is)
     (λ z v h n b.
-    let within : c.args.slot < length c.self.inside.works.items = omega arith in
-    let at = at-place c.self.inside.works.items c.args.slot _ within c.index_mut-place.ensures.value in
+    let at = at-place c.self.inside.works.items c.args.slot _ (omega arith) c.index_mut-place.ensures.value in
     next-same b c.args.slot at c.in_default.ensures.1
-    (next-core b (seen.abandon n c.args.slot) (answer.Refused refusal.NothingBuilt) refl
-    (inl (unbuilt b.is c.args.slot _ _ at c.in_default.ensures.0)) (itself _)
-    b.is.core_is refl (λ s. refl) (λ m. refl) refl (unshared b (seen.abandon n c.args.slot) (answer.Refused refusal.NothingBuilt) refl
-    refl)))
+    (next-refused b refl (inl (unbuilt b.is c.args.slot _ _ at c.in_default.ensures.0)) (stays b.is)))
 
-pub abandon-requires-clause-own : goal.abandon-requires-clause-own
-abandon-requires-clause-own g c =
+pub abandon-requires : goal.abandon-requires
+abandon-requires g c =
     let own = rw (← c.self.view_is) at c.requires.stands.is in
-    let within : c.args.slot < length c.self.inside.works.items = omega arith in
-    let at = at-place c.self.inside.works.items c.args.slot _ within c.index_mut-place.ensures.value ∙ ap Some c.in-Some.ensures.0 in
-    (own-task own (holds own c.in-Some.built.task (works.built c.in-Some.built.ended) at refl)).0
-
-pub abandon-requires-clause-permit : goal.abandon-requires-clause-permit
-abandon-requires-clause-permit g c =
-    let own = rw (← c.self.view_is) at c.requires.stands.is in
-    let within : c.args.slot < length c.self.inside.works.items = omega arith in
-    let at = at-place c.self.inside.works.items c.args.slot _ within c.index_mut-place.ensures.value ∙ ap Some c.in-Some.ensures.0 in
-    (own-task own (holds own c.in-Some.built.task (works.built c.in-Some.built.ended) at refl)).1
-
-pub abandon-requires-clause-config : goal.abandon-requires-clause-config
-abandon-requires-clause-config g c =
-    let own = rw (← c.self.view_is) at c.requires.stands.is in
-    let within : c.args.slot < length c.self.inside.works.items = omega arith in
-    let at = at-place c.self.inside.works.items c.args.slot _ within c.index_mut-place.ensures.value ∙ ap Some c.in-Some.ensures.0 in
-    (own-task own (holds own c.in-Some.built.task (works.built c.in-Some.built.ended) at refl)).2
+    let at = at-place c.self.inside.works.items c.args.slot _ (omega arith) c.index_mut-place.ensures.value ∙ ap Some c.in-Some.ensures.0 in
+    let its = own-task own (holds own c.in-Some.built.task (Work.built c.in-Some.built.ended) at refl) in
+    record { own = its.0; permit = its.1; config = its.2 }
 
 pub unreachable-requires : goal.unreachable-requires
 unreachable-requires g c =
     let own = rw (← c.self.view_is) at c.requires.stands.is in
-    let within : c.args.slot < length c.self.inside.works.items = omega arith in
-    let at = at-place c.self.inside.works.items c.args.slot _ within c.index_mut-place.ensures.value ∙ ap Some c.in-Some.ensures.0 in
-    unawaited own (holds own c.in-Some.built.task (works.built c.in-Some.built.ended) at refl) (meaning_of g.S.BackendSelection)
-    c.requires.stands.run refl
-    (c.in-Err.ensures.answers _ _ own.core_is).0
+    let at = at-place c.self.inside.works.items c.args.slot _ (omega arith) c.index_mut-place.ensures.value ∙ ap Some c.in-Some.ensures.0 in
+    unawaited own (holds own c.in-Some.built.task (Work.built c.in-Some.built.ended) at refl) (meaning_of g.S.BackendSelection)
+    c.requires.stands.run refl (c.in-Err.ensures.answers _ _ own.core_is).0
 
 pub returns : goal.returns
 returns g c =
-    rw (← c.self.view_is)
+    rw (← c.self.view_is, c.generation-generation.ensures, c.in-Some.ensures.1)
     (λ z v h n b.
-    let within : c.args.slot < length c.self.inside.works.items = omega arith in
-    let at = at-place c.self.inside.works.items c.args.slot _ within c.index_mut-place.ensures.value ∙ ap Some c.in-Some.ensures.0 in
-    rw (c.generation-generation.ensures, c.in-Some.ensures.1)
-    (does-abandon b (holds b.is c.in-Some.built.task (works.built c.in-Some.built.ended) at refl) at c.abandon.ensures.site
-    (c.in-Ok.ensures.stands _ _ b.is.core_is)))
+    let at = at-place c.self.inside.works.items c.args.slot _ (omega arith) c.index_mut-place.ensures.value ∙ ap Some c.in-Some.ensures.0 in
+    does-abandon b (holds b.is c.in-Some.built.task (Work.built c.in-Some.built.ended) at refl) at
+    (c.abandon.ensures.site, c.in-Ok.ensures.stands _ _ b.is.core_is))

@@ -1,83 +1,51 @@
 -- The job that is held is the last one, so it is awaited; its snapshot is let go.
-use Rattle.lb_history.specs.Steps as seen
-use Rattle.lb_history.specs.declared.answer.Answer.TheVariants as answer
-use Rattle.lb_select.specs.declared.refusal.Refusal.TheVariants as refusal
-use Rattle.lb_history.specs.History as works
-use Rattle.lb_world.proofs.Words.{◌<◌, ◌∙◌, ◌≤◌, ap, arith, inl, length, meaning_of, past, refl, Some}
+use Rattle.lb_world.proofs.Words.{◌∙◌, ap, arith, inl, meaning_of, refl, Some, Work}
 use Rattle.lb_world.proofs.Places.{at-place}
-use Rattle.lb_world.proofs.Entries.{itself, next-core, unshared}
+use Rattle.lb_world.proofs.Entries.{next-refused, stays}
 use Rattle.lb_world.proofs.Tasks.{beyond, does-build, does-fall, holds, next-same, own-task, unawaited, unstarted}
 use Rattle.lb_world.proofs.entry.Entry.build.Goals as goal
 
 pub returns-then-slot-len : goal.returns-then-slot-len
 returns-then-slot-len g c =
-    rw (← c.self.view_is)
-    (λ h n b.
-    let past : length c.self.inside.works.items ≤ c.args.slot = omega arith in
-    next-core b (seen.build n c.args.slot c.args.now) (answer.Refused refusal.NoSuch) refl (inl (beyond b.is c.args.slot _ past))
-    (itself _) b.is.core_is refl
-    (λ s. refl) (λ m. refl) refl (unshared b (seen.build n c.args.slot c.args.now) (answer.Refused refusal.NoSuch) refl refl))
+    rw (← c.self.view_is) (λ h n b. next-refused b refl (inl (beyond b.is c.args.slot _ (omega arith))) (stays b.is))
 
 pub returns-in_default : goal.returns-in_default
 returns-in_default g c =
     rw (← c.self.view_is)
     (λ h n b.
-    let within : c.args.slot < length c.self.inside.works.items = omega arith in
-    let at = at-place c.self.inside.works.items c.args.slot _ within c.index_mut-place.ensures.value in
+    let at = at-place c.self.inside.works.items c.args.slot _ (omega arith) c.index_mut-place.ensures.value in
     next-same b c.args.slot at c.in_default.ensures.1
-    (next-core b (seen.build n c.args.slot c.args.now) (answer.Refused refusal.NothingInFlight) refl
-    (inl (unstarted b.is c.args.slot _ _ at c.in_default.ensures.0)) (itself _)
-    b.is.core_is refl (λ s. refl) (λ m. refl) refl (unshared b (seen.build n c.args.slot c.args.now)
-    (answer.Refused refusal.NothingInFlight) refl refl)))
+    (next-refused b refl (inl (unstarted b.is c.args.slot _ _ at c.in_default.ensures.0)) (stays b.is)))
 
-pub fail-requires-clause-own : goal.fail-requires-clause-own
-fail-requires-clause-own g c =
+pub fail-requires : goal.fail-requires
+fail-requires g c =
     let own = rw (← c.self.view_is) at c.requires.stands.is in
-    let within : c.args.slot < length c.self.inside.works.items = omega arith in
-    let at = at-place c.self.inside.works.items c.args.slot _ within c.index_mut-place.ensures.value ∙ ap Some c.in-Some.ensures.0 in
-    rw c.in-Err.ensures.failed.0 (own-task own (holds own c.in-Some.job works.building at refl)).0
-
-pub fail-requires-clause-permit : goal.fail-requires-clause-permit
-fail-requires-clause-permit g c =
-    let own = rw (← c.self.view_is) at c.requires.stands.is in
-    let within : c.args.slot < length c.self.inside.works.items = omega arith in
-    let at = at-place c.self.inside.works.items c.args.slot _ within c.index_mut-place.ensures.value ∙ ap Some c.in-Some.ensures.0 in
-    rw c.in-Err.ensures.failed.0 (own-task own (holds own c.in-Some.job works.building at refl)).1
-
-pub fail-requires-clause-config : goal.fail-requires-clause-config
-fail-requires-clause-config g c =
-    let own = rw (← c.self.view_is) at c.requires.stands.is in
-    let within : c.args.slot < length c.self.inside.works.items = omega arith in
-    let at = at-place c.self.inside.works.items c.args.slot _ within c.index_mut-place.ensures.value ∙ ap Some c.in-Some.ensures.0 in
-    rw c.in-Err.ensures.failed.0 (own-task own (holds own c.in-Some.job works.building at refl)).2
+    let at = at-place c.self.inside.works.items c.args.slot _ (omega arith) c.index_mut-place.ensures.value ∙ ap Some c.in-Some.ensures.0 in
+    let its = own-task own (holds own c.in-Some.job Work.building at refl) in
+    let same = c.in-Err.ensures.failed.0 in
+    record { own = rw same its.0; permit = rw same its.1; config = rw same its.2; gate = rw (← c.self.view_is) at c.requires.gate }
 
 pub unreachable-requires : goal.unreachable-requires
 unreachable-requires g c =
     let own = rw (← c.self.view_is) at c.requires.stands.is in
-    let within : c.args.slot < length c.self.inside.works.items = omega arith in
-    let at = at-place c.self.inside.works.items c.args.slot _ within c.index_mut-place.ensures.value ∙ ap Some c.in-Some.ensures.0 in
-    unawaited own (holds own c.in-Some.job works.building at refl) (meaning_of g.S.BackendSelection) c.requires.stands.run refl
+    let at = at-place c.self.inside.works.items c.args.slot _ (omega arith) c.index_mut-place.ensures.value ∙ ap Some c.in-Some.ensures.0 in
+    unawaited own (holds own c.in-Some.job Work.building at refl) (meaning_of g.S.BackendSelection) c.requires.stands.run refl
     (rw c.in-Err.ensures.failed.0 at (c.in-Err-fail.ensures.answers _ _ own.core_is).0)
 
 pub returns-in-Ok : goal.returns-in-Ok
 returns-in-Ok g c =
-    rw (← c.self.view_is)
+    rw (← c.self.view_is, c.generation-generation.ensures, c.hold.ensures)
     (λ h n b.
-    let within : c.args.slot < length c.self.inside.works.items = omega arith in
-    let at = at-place c.self.inside.works.items c.args.slot _ within c.index_mut-place.ensures.value ∙ ap Some c.in-Some.ensures.0 in
+    let at = at-place c.self.inside.works.items c.args.slot _ (omega arith) c.index_mut-place.ensures.value ∙ ap Some c.in-Some.ensures.0 in
     let x = c.in-Ok.ensures.built in
-    rw (c.generation-generation.ensures, c.hold.ensures)
-    (does-build b (holds b.is c.in-Some.job works.building at refl) c.args.now c.in-Ok.built at x.0 x.1 x.2))
+    does-build b (holds b.is c.in-Some.job Work.building at refl) c.args.now c.in-Ok.built at x.0 x.1 x.2)
 
 pub returns-in-Ok-fail : goal.returns-in-Ok-fail
 returns-in-Ok-fail g c =
-    rw (← c.self.view_is)
+    rw (← c.self.view_is, c.generation-generation.ensures, c.in-Some.ensures.1)
     (λ h n b.
-    let within : c.args.slot < length c.self.inside.works.items = omega arith in
-    let at = at-place c.self.inside.works.items c.args.slot _ within c.index_mut-place.ensures.value ∙ ap Some c.in-Some.ensures.0 in
-    rw (c.generation-generation.ensures, c.in-Some.ensures.1)
-    (does-fall b (holds b.is c.in-Some.job works.building at refl) c.args.now _ at c.fail.ensures.site (
-      rw c.in-Err.ensures.failed.0 at (c.in-Ok-fail.ensures.stands _ _ b.is.core_is),
-      c.in-Ok-fail.ensures.gate,
-      rw c.in-Err.ensures.failed.0 at (c.in-Ok-fail.ensures.registry _ _ b.kept _ _ b.is.core_is),
-    ) c.in-Err.ensures.failed.1))
+    let at = at-place c.self.inside.works.items c.args.slot _ (omega arith) c.index_mut-place.ensures.value ∙ ap Some c.in-Some.ensures.0 in
+    let same = c.in-Err.ensures.failed.0 in
+    does-fall b (holds b.is c.in-Some.job Work.building at refl) at
+    (c.fail.ensures.site, rw same at (c.in-Ok-fail.ensures.stands _ _ b.is.core_is)) c.in-Ok-fail.ensures.gate
+    (rw same at (c.in-Ok-fail.ensures.registry _ _ b.kept _ _ b.is.core_is)) _ c.in-Err.ensures.failed.1)

@@ -1,29 +1,15 @@
 -- The core's cancellation, and the mark of its view.
-use Rattle.lb_history.specs.Shared.{view_in}
-use Rattle.lb_joined.specs.Stands as stands
-use Rattle.lb_history.specs.Steps as seen
-use Rattle.lb_joined.specs.JoinedHistory as joined
 use Rattle.lb_registry.specs.RegistryEvents as registry
-use Rattle.lb_history.specs.declared.answer.Answer.TheVariants as answer
-use Rattle.lb_world.proofs.Words.{◌∷◌, ap, Before, EntryNext, EntryValue, GateView, History, inl, IsRegistryAfter, joined_events}
-use Rattle.lb_world.proofs.Words.{JoinedValue, key_gives, key_of, Made, Meaning, Option, refl, registry_events, RegistryValue, site, sym}
-use Rattle.lb_world.proofs.Words.{with_core, WorldRule, ℕ}
+use Rattle.lb_world.proofs.Words.{◌∷◌, Answer, ap, inl, Made, Option, refl, registry_events, Step, sym, view_in}
 use Rattle.lb_world.proofs.Entries.{group-told, next-core, shared}
 use Rattle.lb_world.proofs.entry.Entry.cancel.Goals as goal
-
-does-cancel : {C : Type 0} {M : Meaning C} {h : History C} {g : ℕ} {e : EntryValue C} {z : GateView} {v : RegistryValue WorldRule}
-    (b : Before M h g e z v) {core : JoinedValue C} {u : RegistryValue WorldRule} → stands.SameSite e.core core
-    → stands.Stands (site e.core) (joined.Cancelled ∷ joined_events g h) core
-    → IsRegistryAfter key_gives (key_of g h) (registry.Marked e.core.view.id ∷ registry_events e.registry h) u
-    → EntryNext M h g (seen.cancel g) answer.Cancelled e z (with_core core e) z u
-does-cancel {C} {h = h} {g = g} {e = e} b same stays kept =
-    next-core b (seen.cancel g) answer.Cancelled refl (inl (sym (group-told b.is answer.Cancelled))) same stays refl (λ x. refl) (λ m. refl)
-    refl
-    (shared b (seen.cancel g) answer.Cancelled refl
-    (ap (λ (o : Option (Made C)). registry.Marked (view_in o) ∷ registry_events e.registry h) b.is.made_is) kept)
 
 pub returns : goal.returns
 returns g c =
     rw (← c.self.view_is)
     (λ z h n b.
-    does-cancel b c.cancel.ensures.site (c.cancel.ensures.stands _ _ b.is.core_is) (c.cancel.ensures.registry _ _ b.kept))
+    next-core b refl (inl (sym (group-told b.is Answer.Cancelled))) (c.cancel.ensures.site, c.cancel.ensures.stands _ _ b.is.core_is) refl
+    (λ x. refl) (λ m. refl) refl
+    (shared b (Step.cancel n) Answer.Cancelled refl
+    (ap (λ (o : Option (Made g.row.S-Config.Denot)). registry.Marked (view_in o) ∷ registry_events c.self.inside.registry h) b.is.made_is)
+    (c.cancel.ensures.registry _ _ b.kept)))

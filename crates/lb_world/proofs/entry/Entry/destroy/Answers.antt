@@ -1,7 +1,17 @@
 -- The core takes the selector out, and its report is owed then.
-use Rattle.lb_world.proofs.Words.{◌∙◌, after, false≢true, gate, refl, site, sym}
+use Rattle.lb_joined.specs.Stands.{SameSite}
+use Rattle.lb_world.proofs.Words.{◌∙◌, false≢true, JoinedValue, refl, site, sym}
 use Rattle.lb_world.proofs.Tasks.{does-destroy, does-refuse-destruction, owed-now}
 use Rattle.lb_world.proofs.entry.Entry.destroy.Goals as goal
+
+-- a site that two calls left
+site-then : {C : Type 0} {u v w : JoinedValue C} → SameSite u v → SameSite v w → SameSite u w
+site-then a b =
+    record {
+      group =
+          record { id = b.group.id ∙ a.group.id; gate = b.group.gate ∙ a.group.gate; configs = b.group.configs ∙ a.group.configs };
+      id = b.id ∙ a.id;
+    }
 
 pub unreachable-requires : goal.unreachable-requires
 unreachable-requires g c =
@@ -14,7 +24,7 @@ pub returns-in-Err : goal.returns-in-Err
 returns-in-Err g c =
     rw (← c.self.view_is)
     (λ h n b.
-    does-refuse-destruction b c.args.slot _ c.take_retired.ensures.site (c.in-Err.ensures.stands _ _ b.is.core_is)
+    does-refuse-destruction b (c.take_retired.ensures.site, c.in-Err.ensures.stands _ _ b.is.core_is)
     (c.in-Err.ensures.answers _ _ b.is.core_is))
 
 pub returns-in-Ok-destroyed : goal.returns-in-Ok-destroyed
@@ -23,16 +33,6 @@ returns-in-Ok-destroyed g c =
     (λ h n b.
     let after = c.in-Ok.ensures.stands _ _ b.is.core_is in
     let first = c.take_retired.ensures.site in
-    let then_ = c.destroyed.ensures.site in
-    does-destroy b c.args.slot _
-    (record {
-      group =
-          record {
-            id = then_.group.id ∙ first.group.id;
-            gate = then_.group.gate ∙ first.group.gate;
-            configs = then_.group.configs ∙ first.group.configs;
-          };
-      id = then_.id ∙ first.id;
-    })
-    (c.in-Ok-destroyed.ensures.stands _ _ after) (c.in-Ok.ensures.answers _ _ b.is.core_is).0 refl c.in-Ok-destroyed.ensures.gate
+    does-destroy b c.args.slot _ (site-then first c.destroyed.ensures.site, c.in-Ok-destroyed.ensures.stands _ _ after)
+    (c.in-Ok.ensures.answers _ _ b.is.core_is).0 refl c.in-Ok-destroyed.ensures.gate
     (rw first.id at (c.in-Ok-destroyed.ensures.registry _ _ b.kept _ _ after)))

@@ -1,58 +1,49 @@
 -- The flight that the core lost is the one that was read.
-use Rattle.lb_group.specs.Flights.{flight_after}
 use Rattle.lb_group.specs.GroupCalls.{lose_refusal}
 use Rattle.lb_history.specs.Answers.{lost_answer}
 use Rattle.lb_world.specs.Calls.{number_of}
-use Rattle.lb_history.specs.Steps as seen
 use Rattle.lb_group.specs.GroupHistory as group
 use Rattle.lb_joined.specs.JoinedHistory as joined
-use Rattle.lb_history.specs.declared.answer.Answer.TheVariants as answer
-use Rattle.lb_select.specs.declared.refusal.Refusal.TheVariants as refusal
-use Rattle.lb_world.proofs.Words.{◌∙◌, ◌≡◌, answer_after, ap, at_one, at_slot, Before, Bool, cond, config, configs_of, EntryValue, false}
-use Rattle.lb_world.proofs.Words.{GateView, History, inl, joined_events, length, Meaning, nat_lt, None, Option, past, past_of, refl}
-use Rattle.lb_world.proofs.Words.{Refusal, RegistryValue, site, Some, sym, true, unless_refused, WorldRule, ℕ}
-use Rattle.lb_world.proofs.Places.{there}
-use Rattle.lb_world.proofs.Entries.{next-core, reading-told, same-flight, unshared}
+use Rattle.lb_world.proofs.Words.{◌∙◌, ◌≡◌, Answer, answer_after, ap, at_one, at_slot, Before, Bool, cond, config, configs_of, EntryValue}
+use Rattle.lb_world.proofs.Words.{false, flight_after, GateView, History, inl, joined_events, length, Meaning, nat_lt, None, Option, past}
+use Rattle.lb_world.proofs.Words.{past_of, refl, Refusal, RegistryValue, site, Some, Step, sym, true, unless_refused, WorldRule, ℕ}
+use Rattle.lb_world.proofs.Entries.{next-core, next-refused, reading-told, same-flight, unshared}
 use Rattle.lb_world.proofs.entry.Entry.lost.Goals as goal
-use Rattle.lb_world.proofs.entry.Entry.lost.Goals.{in-Ok, in-Err}
 
 -- where there is a flight, what was read of it is its generation
-told-flight : (there flies : Bool) (n : ℕ) (f : Option (Option ℕ)) (r : Option Refusal)
-    → f ≡ cond there (Some (cond flies (Some n) None)) None
-    → cond there (cond flies None (Some refusal.NothingInFlight)) (Some refusal.NoSuch) ≡ r
-    → at_one f lost_answer ≡ unless_refused r (answer.Lost (number_of f))
-told-flight true true n f r is e = rw (← e, is) refl
-told-flight true false n f r is e = rw (← e, is) refl
-told-flight false flies n f r is e = rw (← e, is) refl
+told-flight : (there flies : Bool) (n : ℕ) (r : Option Refusal)
+    → cond there (cond flies None (Some Refusal.NothingInFlight)) (Some Refusal.NoSuch) ≡ r
+    → at_one (cond there (Some (cond flies (Some n) None)) None) lost_answer
+    ≡ unless_refused r (Answer.Lost (number_of (cond there (Some (cond flies (Some n) None)) None)))
+told-flight true true n r is = rw (← is) refl
+told-flight true false n r is = rw (← is) refl
+told-flight false flies n r is = rw (← is) refl
 
 module _ {C : Type 0} {M : Meaning C} {h : History C} {g : ℕ} {e : EntryValue C} {z : GateView} {v : RegistryValue WorldRule}
     (b : Before M h g e z v) where
   told-lost : (s : ℕ) (f : Option (Option ℕ)) (r : Option Refusal)
       → f ≡ at_slot (site e.core) s (flight_after (past_of s (joined.group_events (joined_events g h))))
       → lose_refusal (site e.core) s (joined.group_events (joined_events g h)) ≡ r
-      → answer_after M h (seen.lost g s) ≡ unless_refused r (answer.Lost (number_of f))
+      → answer_after M h (Step.lost g s) ≡ unless_refused r (Answer.Lost (number_of f))
   told-lost s f r to is =
       let x = group.extra (past_of s (joined.group_events (joined_events g h))) in
       ap (λ (o : Option ℕ). at_one (config g s h) (λ c. lost_answer o)) (same-flight (group.extra (past g s h)))
       ∙ reading-told b.is s flight_after lost_answer f to
-      ∙ told-flight (nat_lt s (length (configs_of e.core.group))) (group.is_flight x) (group.flight_number x) f r to is
+      ∙ rw to (told-flight (nat_lt s (length (configs_of e.core.group))) (group.is_flight x) (group.flight_number x) r is)
 
 pub returns : goal.returns
 returns g c =
     rw (← c.self.view_is)
     (λ z v h n b.
+    let flight = c.flight-flight.ensures _ _ b.is.core_is in
     elim c.match-worker_lost.branch [
-      | in-Ok w ↦
+      | goal.in-Ok w ↦
           rw (w.result-is, w.number_in.ensures)
-          (next-core b (seen.lost n c.args.slot) (answer.Lost (number_of c.flight-flight.result)) refl
-          (inl (sym (told-lost b c.args.slot _ None (c.flight-flight.ensures _ _ b.is.core_is) (w.in-Ok.ensures.answers _ _ b.is.core_is))))
-          c.worker_lost.ensures.site (w.in-Ok.ensures.stands _ _ b.is.core_is) refl (λ s. refl) (λ m. refl) refl
-          (unshared b (seen.lost n c.args.slot) (answer.Lost (number_of c.flight-flight.result)) refl refl))
-      | in-Err w ↦
+          (next-core b refl (inl (sym (told-lost b c.args.slot _ None flight (w.in-Ok.ensures.answers _ _ b.is.core_is))))
+          (c.worker_lost.ensures.site, w.in-Ok.ensures.stands _ _ b.is.core_is) refl (λ s. refl) (λ m. refl) refl
+          (unshared b (Step.lost n c.args.slot) (Answer.Lost (number_of c.flight-flight.result)) refl refl))
+      | goal.in-Err w ↦
           rw w.result-is
-          (next-core b (seen.lost n c.args.slot) (answer.Refused w.in-Err.refusal) refl
-          (inl (sym (told-lost b c.args.slot _ (Some w.in-Err.refusal) (c.flight-flight.ensures _ _ b.is.core_is)
-          (w.in-Err.ensures.answers _ _ b.is.core_is))))
-          c.worker_lost.ensures.site (w.in-Err.ensures.stands _ _ b.is.core_is) refl (λ s. refl) (λ m. refl) refl
-          (unshared b (seen.lost n c.args.slot) (answer.Refused w.in-Err.refusal) refl refl))
+          (next-refused b refl (inl (sym (told-lost b c.args.slot _ (Some _) flight (w.in-Err.ensures.answers _ _ b.is.core_is))))
+          (c.worker_lost.ensures.site, w.in-Err.ensures.stands _ _ b.is.core_is))
     ])

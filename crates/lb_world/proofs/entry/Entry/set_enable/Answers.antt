@@ -1,28 +1,21 @@
 -- The core's flag.
-use Rattle.lb_joined.specs.Stands as stands
-use Rattle.lb_history.specs.Steps as seen
 use Rattle.lb_joined.specs.JoinedHistory as joined
-use Rattle.lb_history.specs.declared.answer.Answer.TheVariants as answer
-use Rattle.lb_world.proofs.Words.{◌∷◌, Before, Bool, cond, EntryNext, EntryValue, false, GateView, History, inl, joined_events, JoinedValue}
-use Rattle.lb_world.proofs.Words.{Meaning, Member, refl, RegistryValue, site, Some, sym, true, with_core, WorldRule, ℕ}
-use Rattle.lb_world.proofs.Entries.{group-told, next-core, unshared}
+use Rattle.lb_world.proofs.Words.{◌∷◌, Answer, Before, Bool, cond, EntryNext, EntryValue, false, GateView, History, inl, joined_events}
+use Rattle.lb_world.proofs.Words.{JoinedValue, Meaning, Member, refl, RegistryValue, Some, Step, sym, true, with_core, WorldRule, ℕ}
+use Rattle.lb_world.proofs.Entries.{group-told, Moves, next-core, unshared}
 use Rattle.lb_world.proofs.entry.Entry.set_enable.Goals as goal
 
-module _ {C : Type 0} {M : Meaning C} {h : History C} {g : ℕ} {e : EntryValue C} {z : GateView} {v : RegistryValue WorldRule}
-    (b : Before M h g e z v) where
-  does-set : {core : JoinedValue C} (m : Member) (on : Bool) → stands.SameSite e.core core
-      → stands.Stands (site e.core) (joined.Set m on ∷ joined_events g h) core
-      → EntryNext M h g (cond on (seen.enable g (Some m)) (seen.disable g (Some m))) answer.Done e z (with_core core e) z v
-  does-set m true same stays =
-      next-core b (seen.enable g (Some m)) answer.Done refl (inl (sym (group-told b.is answer.Done))) same stays refl (λ s. refl)
-      (λ m. refl)
-      refl (unshared b (seen.enable g (Some m)) answer.Done refl refl)
-  does-set m false same stays =
-      next-core b (seen.disable g (Some m)) answer.Done refl (inl (sym (group-told b.is answer.Done))) same stays refl (λ s. refl)
-      (λ m. refl)
-      refl (unshared b (seen.disable g (Some m)) answer.Done refl refl)
+does-set : {C : Type 0} {M : Meaning C} {h : History C} {g : ℕ} {e : EntryValue C} {z : GateView} {v : RegistryValue WorldRule}
+    (b : Before M h g e z v) {core : JoinedValue C} (m : Member) (on : Bool) → Moves e (joined.Set m on ∷ joined_events g h) core
+    → EntryNext M h g (cond on (Step.enable g (Some m)) (Step.disable g (Some m))) Answer.Done e z (with_core core e) z v
+does-set b m true moves =
+    next-core b refl (inl (sym (group-told b.is Answer.Done))) moves refl (λ s. refl) (λ m. refl) refl
+    (unshared b (Step.enable _ (Some m)) Answer.Done refl refl)
+does-set b m false moves =
+    next-core b refl (inl (sym (group-told b.is Answer.Done))) moves refl (λ s. refl) (λ m. refl) refl
+    (unshared b (Step.disable _ (Some m)) Answer.Done refl refl)
 
 pub returns : goal.returns
 returns g c =
     rw (← c.self.view_is)
-    (λ z v h n b. does-set b _ c.args.enabled c.set_enable.ensures.site (c.set_enable.ensures.stands _ _ b.is.core_is))
+    (λ z v h n b. does-set b _ c.args.enabled (c.set_enable.ensures.site, c.set_enable.ensures.stands _ _ b.is.core_is))

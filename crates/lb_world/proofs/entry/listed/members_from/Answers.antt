@@ -1,10 +1,5 @@
 -- The backends that are there, one after the other.
-use Rattle.lb_world.specs.Calls.{with_key}
-use Rattle.std.proofs.lemmas.Iterator.Adapters.{YieldsList-from_vec}
-use Rattle.std.proofs.lemmas.Iterator.Consumers.{YieldsList-end}
-use Rattle.std.proofs.lemmas.List.{map-id}
-use Rattle.lb_world.proofs.Words.{◌∙◌, ap, members_in, sym}
-use Rattle.lb_world.proofs.Entries.{taken}
+use Rattle.lb_world.proofs.Words.{◌∙◌, ap, map-id, members_in, sym, with_key, YieldsList-end, YieldsList-from_vec}
 use Rattle.lb_world.proofs.Listed.{member-more}
 use Rattle.lb_world.proofs.entry.listed.members_from.Goals as goal
 

@@ -1,10 +1,7 @@
 -- A setting of that identity is inserted as a member of it would be.
-use Rattle.lb_health.specs.Joined.{settings_of}
-use Rattle.lb_select.specs.AddressText.{bare_member}
 use Rattle.lb_select.specs.Backends.{Address}
-use Rattle.std.specs.BTreeMap.{insert_entry}
-use Rattle.std.specs.Ordering.{nat_cmp, ordering_then}
-use Rattle.lb_world.proofs.Words.{◌∙◌, ap, by_identity, Member, member_cmp, Ordering}
+use Rattle.lb_world.proofs.Words.{◌∙◌, ap, bare_member, by_identity, insert_entry, Member, member_cmp, nat_cmp, Ordering, ordering_then}
+use Rattle.lb_world.proofs.Words.{settings_of}
 use Rattle.lb_world.proofs.Listed.{insert-seen}
 use Rattle.lb_world.proofs.entry.listed.set_flag.Goals as goal
 

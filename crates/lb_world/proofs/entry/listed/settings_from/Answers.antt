@@ -1,9 +1,6 @@
 -- The marks, one after the other.
-use Rattle.lb_history.specs.Shared.{marked}
-use Rattle.lb_world.specs.Calls.{set_marked}
-use Rattle.std.proofs.Common.{take}
 use Rattle.std.proofs.lemmas.List.{take_more}
-use Rattle.lb_world.proofs.Words.{◌++◌, ◌∙◌, ◌∷◌, [], ap, Listing, settings_in, sym}
+use Rattle.lb_world.proofs.Words.{◌∷◌, ◌∙◌, ◌++◌, [], ap, Listing, marked, set_marked, settings_in, sym, take}
 use Rattle.lb_world.proofs.Listed.{setting-more}
 use Rattle.lb_world.proofs.entry.listed.settings_from.Goals as goal
 

@@ -2,29 +2,27 @@
 use Rattle.lb_world.specs.Locals.{IsWhole, local_seen}
 use Rattle.lb_world.specs.Stands.{Does}
 use Rattle.lb_world.specs.declared.local.Local.{Local}
-use Rattle.lb_history.specs.declared.answer.Answer.TheVariants as answer
-use Rattle.lb_select.specs.declared.refusal.Refusal.TheVariants as refusal
-use Rattle.lb_world.specs.declared.local.Local.TheVariants as is
-use Rattle.lb_world.proofs.Words.{◌<◌, ◌∙◌, ◌∷◌, ◌≡◌, ◌≤◌, Answer, Answers, ap, arith, entries, EntryValue, gates, GateView, group_at}
-use Rattle.lb_world.proofs.Words.{History, inl, length, made_at, Meaning, meaning_of, None, Origin, past, refl, registries, RegistryValue}
-use Rattle.lb_world.proofs.Words.{same_Some, slice_get, slice_get_within, slice_set, Some, Stands, sym, WorldRule, WorldValue, ℕ}
+use Rattle.lb_world.proofs.Words.{◌∷◌, ◌∙◌, ◌≡◌, Answer, Answers, ap, arith, entries, EntryValue, GateView, group_at}
+use Rattle.lb_world.proofs.Words.{History, inl, made_at, Meaning, meaning_of, None, Origin, refl, Refusal}
+use Rattle.lb_world.proofs.Words.{RegistryValue, same_Some, slice_get, slice_get_within, slice_set, Some, Stands, sym, WorldRule}
+use Rattle.lb_world.proofs.Words.{WorldValue, ℕ}
 use Rattle.lb_world.proofs.Places.{at-place}
-use Rattle.lb_world.proofs.Tables.{before, founded, no-group, own-kept, world-moves, world-refused}
+use Rattle.lb_world.proofs.Tables.{before, founded-by, no-group, own-kept, world-moves, world-refused}
 use Rattle.lb_world.proofs.world.World.at_group.Goals as goal
 
 -- no such group
 absent-right : {C : Type 0} (M : Meaning C) (h : History C) (g : ℕ) (l : Local) → made_at g h ≡ None → IsWhole l
-    → Answers M h (local_seen g l) (answer.Refused refusal.NoSuch)
-absent-right M h g (is.Update now listings) none whole = inl (rw (whole, none) refl)
-absent-right M h g (is.Select s key limit words) none whole = rw none refl
+    → Answers M h (local_seen g l) (Answer.Refused Refusal.NoSuch)
+absent-right M h g (Local.Update now listings) none whole = inl (rw (whole, none) refl)
+absent-right M h g (Local.Select s key limit words) none whole = rw none refl
 absent-right M h g l none whole = inl (rw none refl)
 
 local-at : {C : Type 0} (h : History C) (g : ℕ) (l : Local) → group_at h (local_seen g l) ≡ Some g
-local-at h g is.Cancel = refl
+local-at h g Local.Cancel = refl
 local-at h g l = refl
 
 local-entries : {C : Type 0} (h : History C) (g : ℕ) (l : Local) (a : Answer) → entries ((local_seen g l, a) ∷ h) ≡ entries h
-local-entries h g is.Cancel a = refl
+local-entries h g Local.Cancel a = refl
 local-entries h g l a = refl
 
 module _ {C : Type 0} {M : Meaning C} {w : WorldValue C} {h : History C} (s : Stands M w h) where
@@ -47,68 +45,50 @@ pub returns-then-group-len : goal.returns-then-group-len
 returns-then-group-len g c =
     rw (← c.self.view_is)
     (λ h s.
-    let past : length c.self.inside.groups.items ≤ c.args.group = omega arith in
-    world-refused s (local_seen c.args.group c.args.local) refusal.NoSuch
-    (absent-right (meaning_of g.S.BackendSelection) h c.args.group c.args.local (no-group s c.args.group past) c.requires))
+    world-refused s
+    (absent-right (meaning_of g.S.BackendSelection) h c.args.group c.args.local (no-group s c.args.group (omega arith)) c.requires))
 
 pub index_mut-gate-requires : goal.index_mut-gate-requires
 index_mut-gate-requires g c =
-    let within : c.args.group < length c.self.inside.groups.items = omega arith in
-    let at = at-place c.self.inside.groups.items c.args.group _ within c.index_mut-entry.ensures.value in
+    let at = at-place c.self.inside.groups.items c.args.group _ (omega arith) c.index_mut-entry.ensures.value in
     let on = c.self.invariant.stands.on_site _ _ at in
     omega (arith, c.gate.ensures, slice_get_within c.self.inside.gates.items _ _ on.gate)
 
 pub index_mut-registry-requires : goal.index_mut-registry-requires
 index_mut-registry-requires g c =
-    let within : c.args.group < length c.self.inside.groups.items = omega arith in
-    let at = at-place c.self.inside.groups.items c.args.group _ within c.index_mut-entry.ensures.value in
+    let at = at-place c.self.inside.groups.items c.args.group _ (omega arith) c.index_mut-entry.ensures.value in
     let on = c.self.invariant.stands.on_site _ _ at in
     omega (arith, c.registry.ensures, on.registry)
 
-pub take-requires-clause-gate : goal.take-requires-clause-gate
-take-requires-clause-gate g c =
-    let within : c.args.group < length c.self.inside.groups.items = omega arith in
-    let at = at-place c.self.inside.groups.items c.args.group _ within c.index_mut-entry.ensures.value in
+pub take-requires : goal.take-requires
+take-requires g c =
+    let at = at-place c.self.inside.groups.items c.args.group _ (omega arith) c.index_mut-entry.ensures.value in
     let on = c.self.invariant.stands.on_site _ _ at in
-    let in_gates : c.gate.result < length c.self.inside.gates.items =
-    omega (arith, c.gate.ensures, slice_get_within c.self.inside.gates.items _ _ on.gate) in
-    let at_gate = rw c.gate.ensures at (at-place c.self.inside.gates.items c.gate.result _ in_gates c.index_mut-gate.ensures.value) in
-    ap (λ (z : GateView). z.id) (same_Some c.index_mut-gate.result.now on.view (sym at_gate ∙ on.gate)) ∙ on.id
-
-pub take-requires-clause-stands : goal.take-requires-clause-stands
-take-requires-clause-stands g c =
-    let within : c.args.group < length c.self.inside.groups.items = omega arith in
-    let at = at-place c.self.inside.groups.items c.args.group _ within c.index_mut-entry.ensures.value in
+    let low = slice_get_within c.self.inside.gates.items _ _ on.gate in
+    let at_gate =
+    rw c.gate.ensures
+    at (at-place c.self.inside.gates.items c.gate.result _ (omega (arith, c.gate.ensures, low)) c.index_mut-gate.ensures.value) in
     let was = c.self.invariant in
-    record { history = was.history; number = c.args.group; run = was.stands.run; is = was.stands.each c.args.group _ at }
-
-pub invariant_of-self : goal.invariant_of-self
-invariant_of-self g c =
-    let within : c.args.group < length c.self.inside.groups.items = omega arith in
-    let at = at-place c.self.inside.groups.items c.args.group _ within c.index_mut-entry.ensures.value in
-    let on = c.self.invariant.stands.on_site _ _ at in
-    let in_gates : c.gate.result < length c.self.inside.gates.items =
-    omega (arith, c.gate.ensures, slice_get_within c.self.inside.gates.items _ _ on.gate) in
-    let at_gate = rw c.gate.ensures at (at-place c.self.inside.gates.items c.gate.result _ in_gates c.index_mut-gate.ensures.value) in
-    let in_registries : c.registry.result < length c.self.inside.registries.items = omega (arith, c.registry.ensures, on.registry) in
-    let at_registry =
-    rw c.registry.ensures
-    at (at-place c.self.inside.registries.items c.registry.result _ in_registries c.index_mut-registry.ensures.value) in
-    rw (c.gate.ensures, c.registry.ensures)
-    (founded (local_seen c.args.group c.args.local) c.take.result c.self.invariant
-    (λ h s. does s c.args.group c.args.local c.take.result _ _ _ _ _ _ at at_gate at_registry c.take.ensures))
+    record {
+      gate = ap (λ (z : GateView). z.id) (same_Some c.index_mut-gate.result.now on.view (sym at_gate ∙ on.gate)) ∙ on.id;
+      whole = c.requires;
+      stands = record { history = was.history; number = c.args.group; run = was.stands.run; is = was.stands.each c.args.group _ at };
+    }
 
 pub returns : goal.returns
 returns g c =
-    let within : c.args.group < length c.self.inside.groups.items = omega arith in
-    let at = at-place c.self.inside.groups.items c.args.group _ within c.index_mut-entry.ensures.value in
+    let at = at-place c.self.inside.groups.items c.args.group _ (omega arith) c.index_mut-entry.ensures.value in
     let on = c.self.invariant.stands.on_site _ _ at in
-    let in_gates : c.gate.result < length c.self.inside.gates.items =
-    omega (arith, c.gate.ensures, slice_get_within c.self.inside.gates.items _ _ on.gate) in
-    let at_gate = rw c.gate.ensures at (at-place c.self.inside.gates.items c.gate.result _ in_gates c.index_mut-gate.ensures.value) in
-    let in_registries : c.registry.result < length c.self.inside.registries.items = omega (arith, c.registry.ensures, on.registry) in
+    let low = slice_get_within c.self.inside.gates.items _ _ on.gate in
+    let at_gate =
+    rw c.gate.ensures
+    at (at-place c.self.inside.gates.items c.gate.result _ (omega (arith, c.gate.ensures, low)) c.index_mut-gate.ensures.value) in
     let at_registry =
     rw c.registry.ensures
-    at (at-place c.self.inside.registries.items c.registry.result _ in_registries c.index_mut-registry.ensures.value) in
+    at (at-place c.self.inside.registries.items c.registry.result _ (omega (arith, c.registry.ensures, on.registry))
+    c.index_mut-registry.ensures.value) in
     rw (← c.self.view_is, c.gate.ensures, c.registry.ensures)
     (λ h s. does s c.args.group c.args.local c.take.result _ _ _ _ _ _ at at_gate at_registry c.take.ensures)
+
+pub invariant_of-self : goal.invariant_of-self
+invariant_of-self g c = founded-by c.self.view_is c.self.invariant (returns g c)

@@ -1,13 +1,9 @@
 -- The tests of the two numbers, taken one after the other, are that both are there.
-use Rattle.lb_select.specs.Refusals.{least}
-use Rattle.lb_world.specs.Calls.{in_tables}
 use Rattle.lb_world.specs.Founded.{world_value}
 use Rattle.std.proofs.lemmas.Bool.{le-ltb}
-use Rattle.lb_world.proofs.Words.{if◌then◌else◌, ◌&&◌, ◌<◌, ◌∙◌, ◌≡◌, ◌≤◌, [], ap, arith, Bool, earlier, lt-ltb, map, nat_lt, no_such, past}
-use Rattle.lb_world.proofs.Words.{ℕ}
-use Rattle.lb_world.proofs.Places.{there}
+use Rattle.lb_world.proofs.Words.{◌<◌, ◌∙◌, ◌≡◌, ◌≤◌, ◌&&◌, [], ap, arith, Bool, earlier, in_tables, least, lt-ltb, map}
+use Rattle.lb_world.proofs.Words.{nat_lt, no_such, past, ℕ}
 use Rattle.lb_world.proofs.world.World.cause.Goals as goal
-use Rattle.lb_world.proofs.world.World.cause.Goals.{then-registry-len, else-registry-len}
 
 -- two numbers are in their tables: the second test is taken where the first one holds
 second-test :
@@ -22,10 +18,11 @@ pub returns : goal.returns
 returns g c =
     let there : c.if-registry-len.is_there ≡ in_tables (world_value c.self.inside) c.args.registry c.args.gate =
     elim c.if-registry-len.branch [
-      | then-registry-len w ↦
+      | goal.then-registry-len w ↦
           second-test _ c.args.registry _ c.len.result c.args.gate _ w.len-then-registry-len.result (omega arith)
           (omega arith) w.if-registry-len.true w.is_there-is
-      | else-registry-len w ↦ first-test _ c.args.registry _ c.len.result c.args.gate _ (omega arith) w.if-registry-len.false w.is_there-is
+      | goal.else-registry-len w ↦
+          first-test _ c.args.registry _ c.len.result c.args.gate _ (omega arith) w.if-registry-len.false w.is_there-is
     ] in
     rw (← c.self.view_is)
     (c.earlier_cause.ensures

@@ -1,9 +1,7 @@
 -- An address that was refused comes before all else.
-use Rattle.lb_history.specs.Steps as seen
-use Rattle.lb_select.specs.declared.refusal.Refusal.TheVariants as refusal
-use Rattle.lb_world.proofs.Words.{inl, None, refl}
+use Rattle.lb_world.proofs.Words.{inl, refl}
 use Rattle.lb_world.proofs.Tables.{world-refused}
 use Rattle.lb_world.proofs.world.World.enable.Goals as goal
 
 pub returns-in_default : goal.returns-in_default
-returns-in_default g c = rw c.in_default.is (λ h s. world-refused s (seen.enable c.args.group None) refusal.InvalidAddress (inl refl))
+returns-in_default g c = rw c.in_default.is (λ h s. world-refused s (inl refl))

@@ -1,113 +1,49 @@
 -- The group's core lets the reader enter; the reader's number is that of its place.
-use Rattle.lb_history.specs.Steps as seen
-use Rattle.lb_history.specs.declared.answer.Answer.TheVariants as answer
-use Rattle.lb_select.specs.declared.refusal.Refusal.TheVariants as refusal
-use Rattle.lb_world.proofs.Words.{if◌then◌else◌, ◌++◌, ◌<◌, ◌∙◌, ◌∷◌, ◌≡◌, ◌≤◌, [], ap, arith, HeldValue, inl, inr, length, List, Option}
-use Rattle.lb_world.proofs.Words.{past, refl, Some}
+use Rattle.lb_world.proofs.Words.{◌∷◌, ◌∙◌, ◌≡◌, ◌++◌, [], ap, arith, HeldValue, inl, inr, length, List, Option}
+use Rattle.lb_world.proofs.Words.{refl, Some}
 use Rattle.lb_world.proofs.Places.{at-place}
-use Rattle.lb_world.proofs.Tables.{founded, no-group, world-refused}
+use Rattle.lb_world.proofs.Tables.{founded-by, no-group, world-refused}
 use Rattle.lb_world.proofs.Readers.{enter-absent, enter-full, enter-memory, entered-now, refused-now}
 use Rattle.lb_world.proofs.world.World.enter.Goals as goal
-use Rattle.lb_world.proofs.world.World.enter.Goals.{then-number-via-then-number, then-number-via-else-number+then-readers}
 
 pub returns-then-group-len : goal.returns-then-group-len
 returns-then-group-len g c =
     rw (← c.self.view_is)
-    (λ h s.
-    let past : length c.self.inside.groups.items ≤ c.args.group = omega arith in
-    world-refused s (seen.enter c.args.group c.args.slot) refusal.NoSuch (inl (rw (no-group s c.args.group past) refl)))
+    (λ h s. world-refused s (inl (rw (no-group s c.args.group (omega arith)) refl)))
 
 pub returns-in_default : goal.returns-in_default
 returns-in_default g c =
-    let within : c.args.group < length c.self.inside.groups.items = omega arith in
-    let at = at-place c.self.inside.groups.items c.args.group _ within c.index_mut-entry.ensures.value in
+    let at = at-place c.self.inside.groups.items c.args.group _ (omega arith) c.index_mut-entry.ensures.value in
     rw (← c.self.view_is)
-    (λ h s. enter-absent s c.args.group _ at c.args.slot _ (c.readers.ensures _ _ (s.each _ _ at).core_is) c.in_default.is)
-
-pub invariant_of-self-then-number : goal.invariant_of-self-then-number
-invariant_of-self-then-number g c =
-    let within : c.args.group < length c.self.inside.groups.items = omega arith in
-    let at = at-place c.self.inside.groups.items c.args.group _ within c.index_mut-entry.ensures.value in
-    elim c.then-number.branch [
-      | then-number-via-then-number w ↦
-          let many : length c.self.inside.readers.items ≡ 18446744073709551615 = omega (arith, c.len-number.ensures, w.if-number.true) in
-          rw w.self-inside-is
-          (founded (seen.enter c.args.group c.args.slot) (answer.Refused refusal.NumbersExhausted) c.self.invariant
-          (λ h s. enter-full s c.args.group _ at c.args.slot _ (c.readers.ensures _ _ (s.each _ _ at).core_is) _ c.in-Some.is (inl many)))
-      | then-number-via-else-number+then-readers w ↦
-          let many : c.in-Some.readers ≡ 18446744073709551615 = omega (arith, w.if-readers.true) in
-          rw w.self-inside-is
-          (founded (seen.enter c.args.group c.args.slot) (answer.Refused refusal.NumbersExhausted) c.self.invariant
-          (λ h s. enter-full s c.args.group _ at c.args.slot _ (c.readers.ensures _ _ (s.each _ _ at).core_is) _ c.in-Some.is (inr many)))
-    ]
+    (λ h s. enter-absent s c.args.group _ at c.args.slot _ c.readers.ensures c.in_default.is)
 
 pub returns-then-number : goal.returns-then-number
 returns-then-number g c =
-    let within : c.args.group < length c.self.inside.groups.items = omega arith in
-    let at = at-place c.self.inside.groups.items c.args.group _ within c.index_mut-entry.ensures.value in
+    let at = at-place c.self.inside.groups.items c.args.group _ (omega arith) c.index_mut-entry.ensures.value in
     rw (← c.self.view_is)
     (λ h s.
     elim c.then-number.branch [
-      | then-number-via-then-number w ↦
-          let many : length c.self.inside.readers.items ≡ 18446744073709551615 = omega (arith, c.len-number.ensures, w.if-number.true) in
-          rw w.self-inside-is (enter-full s c.args.group _ at c.args.slot _ (c.readers.ensures _ _ (s.each _ _ at).core_is) _ c.in-Some.is
-          (inl many))
-      | then-number-via-else-number+then-readers w ↦
-          let many : c.in-Some.readers ≡ 18446744073709551615 = omega (arith, w.if-readers.true) in
-          rw w.self-inside-is (enter-full s c.args.group _ at c.args.slot _ (c.readers.ensures _ _ (s.each _ _ at).core_is) _ c.in-Some.is
-          (inr many))
+      | goal.then-number-via-then-number w ↦
+          rw w.self-inside-is (enter-full s c.args.group _ at c.args.slot _ c.readers.ensures _ c.in-Some.is
+          (inl (omega (arith, c.len-number.ensures, w.if-number.true))))
+      | goal.then-number-via-else-number+then-readers w ↦
+          rw w.self-inside-is (enter-full s c.args.group _ at c.args.slot _ c.readers.ensures _ c.in-Some.is
+          (inr (omega (arith, w.if-readers.true))))
     ])
+
+pub invariant_of-self-then-number : goal.invariant_of-self-then-number
+invariant_of-self-then-number g c = founded-by c.self.view_is c.self.invariant (returns-then-number g c)
 
 pub returns-in_default-reserve : goal.returns-in_default-reserve
 returns-in_default-reserve g c =
-    let within : c.args.group < length c.self.inside.groups.items = omega arith in
-    let at = at-place c.self.inside.groups.items c.args.group _ within c.index_mut-entry.ensures.value in
-    let few : ¬ (length c.self.inside.readers.items ≡ 18446744073709551615) =
-    λ is. omega (arith, is, c.len-number.ensures, c.if-number.false) in
-    let left : ¬ (c.in-Some.readers ≡ 18446744073709551615) = λ is. omega (arith, is, c.if-readers.false) in
+    let at = at-place c.self.inside.groups.items c.args.group _ (omega arith) c.index_mut-entry.ensures.value in
     rw (← c.self.view_is, c.reserve.ensures.items)
-    (λ h s. enter-memory s c.args.group _ at c.args.slot _ (c.readers.ensures _ _ (s.each _ _ at).core_is) _ c.in-Some.is few left)
-
-pub invariant_of-self-in-Ok-enter : goal.invariant_of-self-in-Ok-enter
-invariant_of-self-in-Ok-enter g c =
-    let within : c.args.group < length c.self.inside.groups.items = omega arith in
-    let at = at-place c.self.inside.groups.items c.args.group _ within c.index_mut-entry.ensures.value in
-    let few : ¬ (length c.self.inside.readers.items ≡ 18446744073709551615) =
-    λ is. omega (arith, is, c.len-number.ensures, c.if-number.false) in
-    let left : ¬ (c.in-Some.readers ≡ 18446744073709551615) = λ is. omega (arith, is, c.if-readers.false) in
-    let grown =
-    c.push_reserved.ensures.items
-    ∙ ap (λ (l : List (Option (HeldValue g.row.S-Config.Denot))). l
-    ++ Some (record { group = c.args.group; reader = c.in-Ok-enter.reader }) ∷ []) c.reserve.ensures.items in
-    let last : c.len-number.result ≡ length c.self.inside.readers.items = omega arith in
-    founded (seen.enter c.args.group c.args.slot) (answer.Reader c.len-number.result c.in-Ok-enter.reader.generation) c.self.invariant
-    (λ h s.
-    entered-now s c.args.group _ at c.args.slot _ (c.readers.ensures _ _ (s.each _ _ at).core_is) _ c.in-Some.is few left _
-    c.enter.new.self _
-    c.in-Ok-enter.reader c.enter.ensures.rest grown last c.enter.ensures.site (c.in-Ok-enter.ensures.stands _ _ (s.each _ _ at).core_is)
-    (c.in-Ok-enter.ensures.answers _ _ (s.each _ _ at).core_is) c.in-Ok-enter.ensures.own)
-
-pub invariant_of-self-in-Err : goal.invariant_of-self-in-Err
-invariant_of-self-in-Err g c =
-    let within : c.args.group < length c.self.inside.groups.items = omega arith in
-    let at = at-place c.self.inside.groups.items c.args.group _ within c.index_mut-entry.ensures.value in
-    let few : ¬ (length c.self.inside.readers.items ≡ 18446744073709551615) =
-    λ is. omega (arith, is, c.len-number.ensures, c.if-number.false) in
-    let left : ¬ (c.in-Some.readers ≡ 18446744073709551615) = λ is. omega (arith, is, c.if-readers.false) in
-    founded (seen.enter c.args.group c.args.slot) (answer.Refused c.in-Err.refusal) c.self.invariant
-    (λ h s.
-    refused-now s c.args.group _ at c.args.slot _ (c.readers.ensures _ _ (s.each _ _ at).core_is) _ c.in-Some.is few left c.in-Err.refusal
-    c.enter.new.self _
-    c.enter.ensures.rest c.reserve.ensures.items c.enter.ensures.site (c.in-Err.ensures.stands _ _ (s.each _ _ at).core_is)
-    (c.in-Err.ensures.answers _ _ (s.each _ _ at).core_is))
+    (λ h s. enter-memory s c.args.group _ at c.args.slot _ c.readers.ensures _ c.in-Some.is
+    (λ is. omega (arith, is, c.len-number.ensures, c.if-number.false)) (λ is. omega (arith, is, c.if-readers.false)))
 
 pub returns-in-Ok-enter : goal.returns-in-Ok-enter
 returns-in-Ok-enter g c =
-    let within : c.args.group < length c.self.inside.groups.items = omega arith in
-    let at = at-place c.self.inside.groups.items c.args.group _ within c.index_mut-entry.ensures.value in
-    let few : ¬ (length c.self.inside.readers.items ≡ 18446744073709551615) =
-    λ is. omega (arith, is, c.len-number.ensures, c.if-number.false) in
-    let left : ¬ (c.in-Some.readers ≡ 18446744073709551615) = λ is. omega (arith, is, c.if-readers.false) in
+    let at = at-place c.self.inside.groups.items c.args.group _ (omega arith) c.index_mut-entry.ensures.value in
     let grown =
     c.push_reserved.ensures.items
     ∙ ap (λ (l : List (Option (HeldValue g.row.S-Config.Denot))). l
@@ -115,21 +51,24 @@ returns-in-Ok-enter g c =
     let last : c.len-number.result ≡ length c.self.inside.readers.items = omega arith in
     rw (← c.self.view_is, c.generation-generation.ensures)
     (λ h s.
-    entered-now s c.args.group _ at c.args.slot _ (c.readers.ensures _ _ (s.each _ _ at).core_is) _ c.in-Some.is few left _
-    c.enter.new.self _
-    c.in-Ok-enter.reader c.enter.ensures.rest grown last c.enter.ensures.site (c.in-Ok-enter.ensures.stands _ _ (s.each _ _ at).core_is)
+    entered-now s c.args.group _ at c.args.slot _ c.readers.ensures _ c.in-Some.is
+    (λ is. omega (arith, is, c.len-number.ensures, c.if-number.false)) (λ is. omega (arith, is, c.if-readers.false)) _ c.enter.new.self _
+    c.in-Ok-enter.reader c.enter.ensures.rest grown last (c.enter.ensures.site, c.in-Ok-enter.ensures.stands _ _ (s.each _ _ at).core_is)
     (c.in-Ok-enter.ensures.answers _ _ (s.each _ _ at).core_is) c.in-Ok-enter.ensures.own)
+
+pub invariant_of-self-in-Ok-enter : goal.invariant_of-self-in-Ok-enter
+invariant_of-self-in-Ok-enter g c = founded-by c.self.view_is c.self.invariant (returns-in-Ok-enter g c)
 
 pub returns-in-Err : goal.returns-in-Err
 returns-in-Err g c =
-    let within : c.args.group < length c.self.inside.groups.items = omega arith in
-    let at = at-place c.self.inside.groups.items c.args.group _ within c.index_mut-entry.ensures.value in
-    let few : ¬ (length c.self.inside.readers.items ≡ 18446744073709551615) =
-    λ is. omega (arith, is, c.len-number.ensures, c.if-number.false) in
-    let left : ¬ (c.in-Some.readers ≡ 18446744073709551615) = λ is. omega (arith, is, c.if-readers.false) in
+    let at = at-place c.self.inside.groups.items c.args.group _ (omega arith) c.index_mut-entry.ensures.value in
     rw (← c.self.view_is)
     (λ h s.
-    refused-now s c.args.group _ at c.args.slot _ (c.readers.ensures _ _ (s.each _ _ at).core_is) _ c.in-Some.is few left c.in-Err.refusal
+    refused-now s c.args.group _ at c.args.slot _ c.readers.ensures _ c.in-Some.is
+    (λ is. omega (arith, is, c.len-number.ensures, c.if-number.false)) (λ is. omega (arith, is, c.if-readers.false)) c.in-Err.refusal
     c.enter.new.self _
-    c.enter.ensures.rest c.reserve.ensures.items c.enter.ensures.site (c.in-Err.ensures.stands _ _ (s.each _ _ at).core_is)
+    c.enter.ensures.rest c.reserve.ensures.items (c.enter.ensures.site, c.in-Err.ensures.stands _ _ (s.each _ _ at).core_is)
     (c.in-Err.ensures.answers _ _ (s.each _ _ at).core_is))
+
+pub invariant_of-self-in-Err : goal.invariant_of-self-in-Err
+invariant_of-self-in-Err g c = founded-by c.self.view_is c.self.invariant (returns-in-Err g c)

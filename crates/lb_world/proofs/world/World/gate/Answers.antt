@@ -1,26 +1,20 @@
 -- A gate that is new is not out; the others stay as they were.
-use Rattle.lb_history.specs.Steps as seen
-use Rattle.lb_history.specs.declared.answer.Answer.TheVariants as answer
-use Rattle.lb_select.specs.declared.refusal.Refusal.TheVariants as refusal
 use Rattle.lb_world.proofs.Words.{◌≡◌, arith, inr, length, refl}
-use Rattle.lb_world.proofs.Tables.{founded, world-refused}
+use Rattle.lb_world.proofs.Tables.{founded-by, world-refused}
 use Rattle.lb_world.proofs.Registries.{gate-made}
 use Rattle.lb_world.proofs.world.World.gate.Goals as goal
 
 pub returns-in_default : goal.returns-in_default
-returns-in_default g c = rw (← c.self.view_is) (λ h s. world-refused s seen.gate refusal.OutOfMemory (inr refl))
+returns-in_default g c = rw (← c.self.view_is) (λ h s. world-refused s (inr refl))
 
 pub returns-in_default-push : goal.returns-in_default-push
 returns-in_default-push g c =
-    rw (← c.self.view_is, c.in_default-push.ensures.items) (λ h s. world-refused s seen.gate refusal.OutOfMemory (inr refl))
-
-pub invariant_of-self-2 : goal.invariant_of-self-2
-invariant_of-self-2 g c =
-    rw c.in-Ok-push.ensures.items
-    (founded seen.gate (answer.Gate (length c.self.inside.gates.items)) c.self.invariant
-    (λ h s. gate-made s _ c.in-Ok.gate refl c.in-Ok.ensures.free))
+    rw (← c.self.view_is, c.in_default-push.ensures.items) (λ h s. world-refused s (inr refl))
 
 pub returns : goal.returns
 returns g c =
     let last : c.len-number.result ≡ length c.self.inside.gates.items = omega arith in
     rw (← c.self.view_is, c.in-Ok-push.ensures.items) (λ h s. gate-made s _ c.in-Ok.gate last c.in-Ok.ensures.free)
+
+pub invariant_of-self-2 : goal.invariant_of-self-2
+invariant_of-self-2 g c = founded-by c.self.view_is c.self.invariant (returns g c)

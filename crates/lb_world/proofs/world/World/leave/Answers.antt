@@ -1,69 +1,46 @@
 -- A reader comes back to the group that it entered, whose slot counts it.
-use Rattle.lb_history.specs.Steps as seen
-use Rattle.lb_world.proofs.Words.{◌<◌, ◌∙◌, ◌≤◌, ap, arith, length, past, Some, sym}
+use Rattle.lb_world.proofs.Words.{◌∙◌, ap, arith, Some, sym}
 use Rattle.lb_world.proofs.Places.{at-place}
-use Rattle.lb_world.proofs.Tables.{founded}
+use Rattle.lb_world.proofs.Tables.{founded-by}
 use Rattle.lb_world.proofs.Readers.{counted, group-there, leave-gone, leave-nowhere, left-now}
 use Rattle.lb_world.proofs.world.World.leave.Goals as goal
 
 pub returns-then-reader-len : goal.returns-then-reader-len
 returns-then-reader-len g c =
     rw (← c.self.view_is)
-    (λ h s. let past : length c.self.inside.readers.items ≤ c.args.reader = omega arith in leave-nowhere s c.args.reader past)
+    (λ h s. leave-nowhere s c.args.reader (omega arith))
 
 pub returns-in_default : goal.returns-in_default
 returns-in_default g c =
-    let within : c.args.reader < length c.self.inside.readers.items = omega arith in
-    let at = at-place c.self.inside.readers.items c.args.reader _ within c.index_mut-place.ensures.value in
+    let at = at-place c.self.inside.readers.items c.args.reader _ (omega arith) c.index_mut-place.ensures.value in
     let gone = at ∙ ap Some (sym (rw c.in_default.is at c.replace-2.view_is ∙ c.replace.ensures.value)) in
     rw (← c.self.view_is, c.replace.ensures.after) (λ h s. leave-gone s c.args.reader gone)
 
 pub index_mut-entry-requires : goal.index_mut-entry-requires
 index_mut-entry-requires g c =
-    let within : c.args.reader < length c.self.inside.readers.items = omega arith in
-    let at = at-place c.self.inside.readers.items c.args.reader _ within c.index_mut-place.ensures.value in
+    let at = at-place c.self.inside.readers.items c.args.reader _ (omega arith) c.index_mut-place.ensures.value in
     let reader = at ∙ ap Some (sym (rw c.in-Some.is at c.replace-2.view_is ∙ c.replace.ensures.value)) in
     omega (arith, group-there c.self.invariant.stands c.args.reader _ reader)
 
-pub leave-requires-clause-own : goal.leave-requires-clause-own
-leave-requires-clause-own g c =
-    let within : c.args.reader < length c.self.inside.readers.items = omega arith in
-    let at = at-place c.self.inside.readers.items c.args.reader _ within c.index_mut-place.ensures.value in
+pub leave-requires : goal.leave-requires
+leave-requires g c =
+    let at = at-place c.self.inside.readers.items c.args.reader _ (omega arith) c.index_mut-place.ensures.value in
     let reader = at ∙ ap Some (sym (rw c.in-Some.is at c.replace-2.view_is ∙ c.replace.ensures.value)) in
     let low = group-there c.self.invariant.stands c.args.reader _ reader in
     let in_ = at-place c.self.inside.groups.items _ c.index_mut-entry.result.now low c.index_mut-entry.ensures.value in
-    c.self.invariant.stands.own c.args.reader _ reader _ in_
-
-pub leave-requires-clause-counted : goal.leave-requires-clause-counted
-leave-requires-clause-counted g c =
-    let within : c.args.reader < length c.self.inside.readers.items = omega arith in
-    let at = at-place c.self.inside.readers.items c.args.reader _ within c.index_mut-place.ensures.value in
-    let reader = at ∙ ap Some (sym (rw c.in-Some.is at c.replace-2.view_is ∙ c.replace.ensures.value)) in
-    let low = group-there c.self.invariant.stands c.args.reader _ reader in
-    let in_ = at-place c.self.inside.groups.items _ c.index_mut-entry.result.now low c.index_mut-entry.ensures.value in
-    counted c.self.invariant.stands c.args.reader _ _ reader in_
-
-pub invariant_of-self-2 : goal.invariant_of-self-2
-invariant_of-self-2 g c =
-    let within : c.args.reader < length c.self.inside.readers.items = omega arith in
-    let at = at-place c.self.inside.readers.items c.args.reader _ within c.index_mut-place.ensures.value in
-    let reader = at ∙ ap Some (sym (rw c.in-Some.is at c.replace-2.view_is ∙ c.replace.ensures.value)) in
-    let low = group-there c.self.invariant.stands c.args.reader _ reader in
-    let in_ = at-place c.self.inside.groups.items _ c.index_mut-entry.result.now low c.index_mut-entry.ensures.value in
-    rw c.replace.ensures.after
-    (founded (seen.leave c.args.reader) _ c.self.invariant
-    (λ h s.
-    left-now s c.args.reader _ _ c.leave.new.self reader in_ c.leave.ensures.rest c.leave.ensures.site
-    (c.leave.ensures.stands _ _ (s.each _ _ in_).core_is)))
+    let was = c.self.invariant.stands in
+    record { own = was.own c.args.reader _ reader _ in_; counted = counted was c.args.reader _ _ reader in_ }
 
 pub returns : goal.returns
 returns g c =
-    let within : c.args.reader < length c.self.inside.readers.items = omega arith in
-    let at = at-place c.self.inside.readers.items c.args.reader _ within c.index_mut-place.ensures.value in
+    let at = at-place c.self.inside.readers.items c.args.reader _ (omega arith) c.index_mut-place.ensures.value in
     let reader = at ∙ ap Some (sym (rw c.in-Some.is at c.replace-2.view_is ∙ c.replace.ensures.value)) in
     let low = group-there c.self.invariant.stands c.args.reader _ reader in
     let in_ = at-place c.self.inside.groups.items _ c.index_mut-entry.result.now low c.index_mut-entry.ensures.value in
     rw (← c.self.view_is, c.replace.ensures.after, c.generation-generation.ensures)
     (λ h s.
-    left-now s c.args.reader _ _ c.leave.new.self reader in_ c.leave.ensures.rest c.leave.ensures.site
-    (c.leave.ensures.stands _ _ (s.each _ _ in_).core_is))
+    left-now s c.args.reader _ _ c.leave.new.self reader in_ c.leave.ensures.rest
+    (c.leave.ensures.site, c.leave.ensures.stands _ _ (s.each _ _ in_).core_is))
+
+pub invariant_of-self-2 : goal.invariant_of-self-2
+invariant_of-self-2 g c = founded-by c.self.view_is c.self.invariant (returns g c)

@@ -1,69 +1,60 @@
 -- Readiness is asked of the group that the reader is in, with the group's registry.
-use Rattle.lb_history.specs.Steps as seen
-use Rattle.lb_select.specs.declared.refusal.Refusal.TheVariants as refusal
-use Rattle.lb_world.proofs.Words.{◌<◌, ◌∙◌, ◌≤◌, ap, arith, inl, inr, length, None, past, refl, Some}
+use Rattle.lb_world.proofs.Words.{◌∙◌, ap, arith, inl, inr, None, refl, Some, Step}
 use Rattle.lb_world.proofs.Places.{at-place}
 use Rattle.lb_world.proofs.Tables.{world-refused}
 use Rattle.lb_world.proofs.Readers.{entered-in, entered-past, group-there, ready-next, ready-none}
 use Rattle.lb_world.proofs.world.World.ready.Goals as goal
 
 pub returns-in_default : goal.returns-in_default
-returns-in_default g c = rw c.in_default.is (λ h s. world-refused s (seen.ready c.args.reader None) refusal.InvalidAddress refl)
+returns-in_default g c = rw c.in_default.is (λ h s. world-refused s {st = Step.ready c.args.reader None} refl)
 
 pub returns-then-reader-len : goal.returns-then-reader-len
 returns-then-reader-len g c =
     rw (← c.self.view_is, c.in-Some.is)
-    (λ h s.
-    let past : length c.self.inside.readers.items ≤ c.args.reader = omega arith in
-    ready-none s c.args.reader c.in-Some.backend (inl (entered-past s c.args.reader past)))
+    (λ h s. ready-none s c.args.reader c.in-Some.backend (inl (entered-past s c.args.reader (omega arith))))
 
 pub returns-in_default-index : goal.returns-in_default-index
 returns-in_default-index g c =
-    let within : c.args.reader < length c.self.inside.readers.items = omega arith in
-    let at = at-place c.self.inside.readers.items c.args.reader _ within c.index.ensures in
+    let at = at-place c.self.inside.readers.items c.args.reader _ (omega arith) c.index.ensures in
     rw (← c.self.view_is, c.in-Some.is)
     (λ h s. ready-none s c.args.reader c.in-Some.backend (inr (entered-in s c.args.reader None (at ∙ ap Some c.in_default-index.is))))
 
 pub index-entry-requires : goal.index-entry-requires
 index-entry-requires g c =
-    let within : c.args.reader < length c.self.inside.readers.items = omega arith in
-    let at = at-place c.self.inside.readers.items c.args.reader _ within c.index.ensures in
-    let reader = at ∙ ap Some c.in-Some-index.is in
+    let reader = at-place c.self.inside.readers.items c.args.reader _ (omega arith) c.index.ensures ∙ ap Some c.in-Some-index.is in
     let there_ = group-there c.self.invariant.stands c.args.reader _ reader in
     omega (arith, c.group.ensures, there_)
 
 pub index-registry-requires : goal.index-registry-requires
 index-registry-requires g c =
-    let within : c.args.reader < length c.self.inside.readers.items = omega arith in
-    let at = at-place c.self.inside.readers.items c.args.reader _ within c.index.ensures in
-    let reader = at ∙ ap Some c.in-Some-index.is in
+    let reader = at-place c.self.inside.readers.items c.args.reader _ (omega arith) c.index.ensures ∙ ap Some c.in-Some-index.is in
     let there_ = group-there c.self.invariant.stands c.args.reader _ reader in
-    let low : c.group.result < length c.self.inside.groups.items = omega (arith, c.group.ensures, there_) in
-    let in_ = rw c.group.ensures at (at-place c.self.inside.groups.items c.group.result _ low c.index-entry.ensures) in
+    let in_ =
+    rw c.group.ensures
+    at (at-place c.self.inside.groups.items c.group.result _ (omega (arith, c.group.ensures, there_)) c.index-entry.ensures) in
     omega (arith, c.registry.ensures, (c.self.invariant.stands.on_site _ _ in_).registry)
 
 pub ready-requires : goal.ready-requires
 ready-requires g c =
-    let within : c.args.reader < length c.self.inside.readers.items = omega arith in
-    let at = at-place c.self.inside.readers.items c.args.reader _ within c.index.ensures in
-    let reader = at ∙ ap Some c.in-Some-index.is in
+    let reader = at-place c.self.inside.readers.items c.args.reader _ (omega arith) c.index.ensures ∙ ap Some c.in-Some-index.is in
     let there_ = group-there c.self.invariant.stands c.args.reader _ reader in
-    let low : c.group.result < length c.self.inside.groups.items = omega (arith, c.group.ensures, there_) in
-    let in_ = rw c.group.ensures at (at-place c.self.inside.groups.items c.group.result _ low c.index-entry.ensures) in
+    let in_ =
+    rw c.group.ensures
+    at (at-place c.self.inside.groups.items c.group.result _ (omega (arith, c.group.ensures, there_)) c.index-entry.ensures) in
     rw c.reader.ensures (c.self.invariant.stands.own c.args.reader _ reader _ in_)
 
 pub returns : goal.returns
 returns g c =
-    let within : c.args.reader < length c.self.inside.readers.items = omega arith in
-    let at = at-place c.self.inside.readers.items c.args.reader _ within c.index.ensures in
-    let reader = at ∙ ap Some c.in-Some-index.is in
+    let reader = at-place c.self.inside.readers.items c.args.reader _ (omega arith) c.index.ensures ∙ ap Some c.in-Some-index.is in
     let there_ = group-there c.self.invariant.stands c.args.reader _ reader in
-    let low : c.group.result < length c.self.inside.groups.items = omega (arith, c.group.ensures, there_) in
-    let in_ = rw c.group.ensures at (at-place c.self.inside.groups.items c.group.result _ low c.index-entry.ensures) in
+    let in_ =
+    rw c.group.ensures
+    at (at-place c.self.inside.groups.items c.group.result _ (omega (arith, c.group.ensures, there_)) c.index-entry.ensures) in
     let on = c.self.invariant.stands.on_site _ _ in_ in
-    let in_registries : c.registry.result < length c.self.inside.registries.items = omega (arith, c.registry.ensures, on.registry) in
     let at_registry =
-    rw c.registry.ensures at (at-place c.self.inside.registries.items c.registry.result _ in_registries c.index-registry.ensures) in
+    rw c.registry.ensures
+    at (at-place c.self.inside.registries.items c.registry.result _ (omega (arith, c.registry.ensures, on.registry))
+    c.index-registry.ensures) in
     rw (← c.self.view_is, c.in-Some.is)
     (λ h s. ready-next s c.args.reader c.in-Some.backend c.ready.result _ _ _ reader in_ at_registry
     (rw c.reader.ensures at c.ready.ensures))

@@ -6,19 +6,34 @@ use Rattle.lb_history.proofs.Promised.{never-falls}
 use Rattle.lb_history.proofs.Selecting.{first-accepted}
 use Rattle.lb_history.proofs.Steps.{destroys, raises}
 use Rattle.lb_history.specs.Promises.{DestroysExactly, LivesExactly, NeverFalls, Promised, Raises, ViewFollows}
-use Rattle.lb_history.specs.Refused.{RefusedStays, unrefused}
+use Rattle.lb_history.specs.Refused.{RefusedStays}
 use Rattle.lb_history.specs.Selected.{FirstAccepted}
 use Rattle.lb_history.specs.Steps.{step_seen}
-use Rattle.lb_world.specs.Ever.{JudgedByOwn}
-use Rattle.std.proofs.lemmas.Iterator.Adapters.{YieldsList-from_vec}
-use Rattle.std.proofs.lemmas.Iterator.Consumers.{YieldsList-end}
-use Rattle.std.proofs.lemmas.List.{map-append, map-id}
-use Rattle.lb_world.proofs.Words.{◌∙◌, ◌∷◌, [], after, ap, arith, History, length, length-map, length_push, map, Meaning, meaning_of}
-use Rattle.lb_world.proofs.Words.{promised, Stands, sym, ℕ}
-use Rattle.lb_world.proofs.Entries.{taken}
+use Rattle.lb_world.specs.Ever.{Always, EachStep, JudgedByOwn}
+use Rattle.lb_world.proofs.Words.{◌++◌, ◌∙◌, ◌∷◌, ◌≡◌, [], after, Answer, ap, arith, History, IsRun, length, length-map, length_push}
+use Rattle.lb_world.proofs.Words.{List, map, map-append, map-id, Meaning, meaning_of, promised, refl, Stands, Step, sym, YieldsList-end}
+use Rattle.lb_world.proofs.Words.{YieldsList-from_vec, ℕ}
 use Rattle.lb_world.proofs.Tables.{stands-unrefused}
-use Rattle.lb_world.proofs.Runs.{after-push, always, each-step}
 use Rattle.lb_world.proofs.world.World.run.Goals as goal
+
+-- one step more, with its answer
+after-push :
+    {C : Type 0} (h : History C) (steps : List (Step C)) (answers : List Answer) (st : Step C) (a : Answer)
+    → length steps ≡ length answers → after h (steps ++ st ∷ []) (answers ++ a ∷ []) ≡ (st, a) ∷ after h steps answers
+after-push h [] [] st a e = refl
+after-push h [] (b ∷ bs) st a e = absurd (omega arith)
+after-push h (s ∷ ss) [] st a e = absurd (omega arith)
+after-push h (s ∷ ss) (b ∷ bs) st a e = after-push ((s, b) ∷ h) ss bs st a (omega arith)
+
+module _ {C : Type 0} (M : Meaning C) where
+  each-step : (P : History C → Step C → Answer → Type 0)
+      → ((h : History C) (st : Step C) (a : Answer) → IsRun M ((st, a) ∷ h) → P h st a) → (h : History C) → IsRun M h → EachStep P h
+  each-step P law [] run = tt
+  each-step P law ((st, a) ∷ h) run = (law h st a run, each-step P law h run.0)
+
+  always : (P : History C → Type 0) → ((h : History C) → IsRun M h → P h) → (h : History C) → IsRun M h → Always P h
+  always P law [] run = law [] run
+  always P law ((st, a) ∷ h) run = (law ((st, a) ∷ h) run, always P law h run.0)
 
 pub loop-step-preserved : goal.loop-step-preserved
 loop-step-preserved g c =

@@ -1,46 +1,27 @@
 -- The registry's own targets, at the registry that the step names.
-use Rattle.lb_history.specs.Steps as seen
-use Rattle.lb_history.specs.declared.answer.Answer.TheVariants as answer
-use Rattle.lb_select.specs.declared.refusal.Refusal.TheVariants as refusal
-use Rattle.lb_world.proofs.Words.{◌<◌, ◌≤◌, ap, arith, Err, inl, length, past, refl}
+use Rattle.lb_world.proofs.Words.{ap, arith, Err, inl, refl}
 use Rattle.lb_world.proofs.Places.{at-place}
-use Rattle.lb_world.proofs.Tables.{founded, no-registry, world-refused}
+use Rattle.lb_world.proofs.Tables.{founded-by, no-registry, world-refused}
 use Rattle.lb_world.proofs.Registries.{growth-told, targets-next, targets-refused}
 use Rattle.lb_world.proofs.world.World.targets.Goals as goal
-use Rattle.lb_world.proofs.world.World.targets.Goals.{in-Ok, in-Err}
 
 pub returns-then-registry-len : goal.returns-then-registry-len
 returns-then-registry-len g c =
     rw (← c.self.view_is)
-    (λ h s.
-    let past : length c.self.inside.registries.items ≤ c.args.registry = omega arith in
-    world-refused s (seen.targets c.args.registry) refusal.NoSuch (inl (rw (no-registry s c.args.registry past) refl)))
-
-pub invariant_of-self : goal.invariant_of-self
-invariant_of-self g c =
-    let within : c.args.registry < length c.self.inside.registries.items = omega arith in
-    let at = at-place c.self.inside.registries.items c.args.registry _ within c.index_mut-at.ensures.value in
-    elim c.match-targets.branch [
-      | in-Ok w ↦
-          founded (seen.targets c.args.registry) (answer.Targets w.in-Ok.targets.items) c.self.invariant
-          (λ h s. targets-next s _ _ _ _ at w.in-Ok.ensures.ok w.in-Ok.ensures.targets)
-      | in-Err w ↦
-          founded (seen.targets c.args.registry) (answer.Refused w.in-Err.refusal) c.self.invariant
-          (λ h s.
-          targets-refused s _ _ _ _ at w.in-Err.ensures.err (growth-told _ w.in-Err.ensures.refused)
-          (λ k es now is. (w.in-Err.ensures.exhausted k es now).0 (ap Err is)))
-    ]
+    (λ h s. world-refused s (inl (rw (no-registry s c.args.registry (omega arith)) refl)))
 
 pub returns : goal.returns
 returns g c =
-    let within : c.args.registry < length c.self.inside.registries.items = omega arith in
-    let at = at-place c.self.inside.registries.items c.args.registry _ within c.index_mut-at.ensures.value in
+    let at = at-place c.self.inside.registries.items c.args.registry _ (omega arith) c.index_mut-at.ensures.value in
     rw (← c.self.view_is)
     (λ h s.
     elim c.match-targets.branch [
-      | in-Ok w ↦ rw w.result-is (targets-next s _ _ _ _ at w.in-Ok.ensures.ok w.in-Ok.ensures.targets)
-      | in-Err w ↦
+      | goal.in-Ok w ↦ rw w.result-is (targets-next s _ _ _ _ at w.in-Ok.ensures.ok w.in-Ok.ensures.targets)
+      | goal.in-Err w ↦
           rw w.result-is
           (targets-refused s _ _ _ _ at w.in-Err.ensures.err (growth-told _ w.in-Err.ensures.refused)
           (λ k es now is. (w.in-Err.ensures.exhausted k es now).0 (ap Err is)))
     ])
+
+pub invariant_of-self : goal.invariant_of-self
+invariant_of-self g c = founded-by c.self.view_is c.self.invariant (returns g c)

@@ -1,16 +1,12 @@
 -- An address that was refused comes before all else.
-use Rattle.lb_history.specs.Answers.{has_refused}
-use Rattle.lb_history.specs.Steps as seen
-use Rattle.lb_select.specs.declared.refusal.Refusal.TheVariants as refusal
-use Rattle.lb_world.proofs.Words.{◌∙◌, ap, inl, refl, sym}
+use Rattle.lb_world.proofs.Words.{◌∙◌, ap, has_refused, inl, refl, sym}
 use Rattle.lb_world.proofs.Tables.{world-refused}
 use Rattle.lb_world.proofs.world.World.update.Goals as goal
 
 pub returns-then-has_refused : goal.returns-then-has_refused
 returns-then-has_refused g c =
     λ h s.
-    world-refused s (seen.update c.args.group c.args.now c.args.listings.items) refusal.InvalidAddress
-    (inl (rw (ap has_refused (sym c.deref.ensures.value) ∙ sym c.if-has_refused.ensures) refl))
+    world-refused s (inl (rw (ap has_refused (sym c.deref.ensures.value) ∙ sym c.if-has_refused.ensures) refl))
 
 pub at_group-requires : goal.at_group-requires
 at_group-requires g c = ap has_refused (sym c.deref.ensures.value) ∙ sym c.if-has_refused.ensures

@@ -1,6 +1,5 @@
 -- A rule without a caller's gives the keys of the cells' rule.
-use Rattle.lb_registry.specs.Keys.{by_address}
-use Rattle.lb_world.proofs.Words.{by_identity}
+use Rattle.lb_world.proofs.Words.{by_address, by_identity}
 use Rattle.lb_world.proofs.world.made.new_registry.Goals as goal
 
 pub returns-in-Identity : goal.returns-in-Identity

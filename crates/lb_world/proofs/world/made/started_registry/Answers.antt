@@ -1,6 +1,5 @@
 -- Cells that start unhealthy are the registry's first event.
-use Rattle.lb_history.specs.Shared.{key_by}
-use Rattle.lb_world.proofs.Words.{[]}
+use Rattle.lb_world.proofs.Words.{[], key_by}
 use Rattle.lb_world.proofs.world.made.started_registry.Goals as goal
 
 pub returns : goal.returns

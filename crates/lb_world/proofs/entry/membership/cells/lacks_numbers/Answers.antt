@@ -1,8 +1,6 @@
 -- The numbers that are left are enough for the listings, or for the keys that they start, or for neither.
-use Rattle.std.proofs.lemmas.Bool.{ltb-true}
-use Rattle.lb_world.proofs.Words.{if◌then◌else◌, arith, key_of, live, lt-ltb, views_after}
+use Rattle.lb_world.proofs.Words.{arith, live, lt-ltb, ltb-true, views_after}
 use Rattle.lb_world.proofs.CellCounts.{given-then, keys-le}
-use Rattle.lb_world.proofs.Readers.{counted}
 use Rattle.lb_world.proofs.entry.membership.cells.lacks_numbers.Goals as goal
 
 pub returns-then-listings-left : goal.returns-then-listings-left

@@ -1,8 +1,5 @@
 -- The listings one by one: one that has the key, and one that hasn't.
-use Rattle.lb_world.specs.Cells.{lists_key}
-use Rattle.std.proofs.Common.{drop}
-use Rattle.std.proofs.lemmas.List.{at_drop_more}
-use Rattle.lb_world.proofs.Words.{◌+◌, ◌||◌, ◌∙◌, ◌∷◌, ap, Bool, key_of, List, Listing, sym}
+use Rattle.lb_world.proofs.Words.{◌||◌, ◌∷◌, ◌∙◌, ◌+◌, ap, at_drop_more, Bool, drop, List, Listing, lists_key, sym}
 use Rattle.lb_world.proofs.entry.membership.cells.shares_key.Goals as goal
 
 pub returns-then-has_same_key : goal.returns-then-has_same_key

@@ -1,53 +1,41 @@
 -- One listing more is counted, or left out.
-use Rattle.lb_world.specs.Cells.{new_keys, starts_cell}
-use Rattle.std.proofs.Common.{drop, take, ◌-◌}
-use Rattle.std.proofs.lemmas.List.{at_drop_more, length-drop, take_all}
-use Rattle.lb_world.proofs.Words.{if◌then◌else◌, ◌+◌, ◌∙◌, ◌∷◌, ◌≡◌, ap, arith, cond, false, key_of, length, List, Listing, live, sym, true}
-use Rattle.lb_world.proofs.Words.{views_after, ℕ}
+use Rattle.lb_registry.specs.Targets.{ViewValue}
+use Rattle.std.proofs.Common.{◌-◌, get_or}
+use Rattle.std.proofs.lemmas.List.{length-drop, take_all}
+use Rattle.lb_world.proofs.Words.{◌∷◌, ◌+◌, ◌∙◌, ◌≡◌, ◌<◌, ap, arith, at_drop_more, Bool, cond, drop, length, List, Listing, live}
+use Rattle.lb_world.proofs.Words.{Member, new_keys, starts_cell, sym, take, views_after, ℕ}
 use Rattle.lb_world.proofs.CellCounts.{keys-more}
 use Rattle.lb_world.proofs.entry.membership.cells.starting_count.Goals as goal
-use Rattle.lb_world.proofs.entry.membership.cells.starting_count.Goals.{then-starts, else-starts}
+
+more : (key_of : Member → Member) (views : List ViewValue) (ls : List Listing) (i : ℕ) (item : Listing) (b : Bool) → i < length ls
+    → item ≡ get_or ls i item → b ≡ starts_cell key_of views item (take (length ls - (i + 1)) (drop (i + 1) ls))
+    → new_keys key_of views (drop i ls) ≡ cond b 1 0 + new_keys key_of views (drop (i + 1) ls)
+more key_of views ls i item b low is starts =
+    let rest = drop (i + 1) ls in
+    let whole = take_all (length ls - (i + 1)) rest (omega (arith, length-drop (i + 1) ls)) in
+    at_drop_more (new_keys key_of views) ls i item low ∙ ap (λ (l : Listing). new_keys key_of views (l ∷ rest)) (sym is)
+    ∙ keys-more key_of views item rest
+    ∙ ap (λ (b : Bool). cond b 1 0 + new_keys key_of views rest) (sym (starts ∙ ap (starts_cell key_of views item) whole))
 
 pub loop-place-preserved : goal.loop-place-preserved
 loop-place-preserved c =
+    let ls = c.args.listings.now in
     let i = c.loop-place.place in
     let item = c.index-listings-place.result in
-    let ls = c.args.listings.now in
-    let rest = drop (i + 1) ls in
-    let whole : take (length ls - (i + 1)) rest ≡ rest = take_all (length ls - (i + 1)) rest (omega (arith, length-drop (i + 1) ls)) in
+    let low = c.loop-place-test.true in
+    let is = c.index-listings-place.is in
+    let keys = λ (key_of : Member → Member) (views : List ViewValue). more key_of views ls i item c.starts.result low is in
     elim c.if-starts.branch [
-      | then-starts w ↦ (
+      | goal.then-starts w ↦ (
         omega (arith, w.count-is, c.loop-place.invariant.0),
         λ key_of events r.
-            let views = live (views_after events) in
-            let keys : List Listing → ℕ = new_keys key_of views in
-            let one : starts_cell key_of views item rest ≡ true = sym (ap (starts_cell key_of views item) whole)
-            ∙ sym (c.starts.ensures key_of events r) ∙ w.if-starts.true in
-            omega (
-              arith,
-              w.count-is,
-              c.loop-place.invariant.1 key_of events r,
-              at_drop_more keys ls i item c.loop-place-test.true,
-              ap (λ (l : Listing). keys (l ∷ rest)) (sym c.index-listings-place.is),
-              keys-more key_of views item rest,
-              ap {B = ℕ} (λ b. cond b 1 0) one,
-            ),
+            let one = keys key_of (live (views_after events)) (c.starts.ensures key_of events r) in
+            omega (arith, w.count-is, c.loop-place.invariant.1 key_of events r, one, ap {B = ℕ} (λ b. cond b 1 0) w.if-starts.true),
       )
-      | else-starts w ↦ (
+      | goal.else-starts w ↦ (
         omega (arith, w.count-is, c.loop-place.invariant.0),
         λ key_of events r.
-            let views = live (views_after events) in
-            let keys : List Listing → ℕ = new_keys key_of views in
-            let none : starts_cell key_of views item rest ≡ false = sym (ap (starts_cell key_of views item) whole)
-            ∙ sym (c.starts.ensures key_of events r) ∙ w.if-starts.false in
-            omega (
-              arith,
-              w.count-is,
-              c.loop-place.invariant.1 key_of events r,
-              at_drop_more keys ls i item c.loop-place-test.true,
-              ap (λ (l : Listing). keys (l ∷ rest)) (sym c.index-listings-place.is),
-              keys-more key_of views item rest,
-              ap {B = ℕ} (λ b. cond b 1 0) none,
-            ),
+            let none = keys key_of (live (views_after events)) (c.starts.ensures key_of events r) in
+            omega (arith, w.count-is, c.loop-place.invariant.1 key_of events r, none, ap {B = ℕ} (λ b. cond b 1 0) w.if-starts.false),
       )
     ]
