@@ -1,5 +1,5 @@
 -- A loop that drives a run: what the run of a group answers from its start on is never a wait for targets, nor for the end.
-use Rattle.std.proofs.Common.{◌≡◌, ◌≢◌, ◌∙◌, ℕ, Bool, true, false, not, ◌&&◌, ◌||◌, List, [], ◌∷◌, Option, Some, None, Result, refl, sym, ap, subst}
+use Rattle.std.proofs.Common.{◌≡◌, ◌≢◌, ◌∙◌, ℕ, Bool, true, false, not, ◌&&◌, List, [], ◌∷◌, Result, refl, sym, ap, subst}
 use Rattle.std.proofs.Common.{if◌then◌else◌}
 use Rattle.lb_select.specs.declared.refusal.Refusal.{Refusal}
 use Rattle.lb_schedule.specs.declared.event.Event.{Event}
@@ -9,9 +9,9 @@ use Rattle.lb_schedule.specs.declared.event.Action.TheVariants as to
 use Rattle.lb_schedule.specs.Schedule.{due, is_idle, next_moment}
 use Rattle.lb_schedule.specs.Turns.{Plan, RunValue, awaits, has_reached, stage, action_at, at_turn, at_tell, at_check, at_rest, with_last}
 use Rattle.lb_schedule.specs.Turns.{is_update, is_ready, is_check, is_sleep}
-use Rattle.lb_schedule.specs.History.{Heard, last, state, IsRun, IsAfter}
+use Rattle.lb_schedule.specs.History.{Heard, state, IsRun, IsAfter}
 use Rattle.lb_schedule.proofs.LawLemmas.{falsehood}
-use Rattle.lb_workers.specs.Driven.{Driven, Told, is_asked}
+use Rattle.lb_workers.specs.Driven.{Driven, is_asked}
 
 -- whether a run waits for what no group has
 abbrev is_wait : Action → Bool
