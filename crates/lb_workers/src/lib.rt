@@ -2,9 +2,12 @@
 //! it.
 #![tactic(auto)]
 
+pub mod drive;
 pub mod group;
 mod making;
 mod noting;
 pub mod parts;
+pub mod port;
 mod readings;
+mod running;
 pub mod start;

@@ -73,6 +73,17 @@ impl<
         true
     }
 
+    // The least generation that a slot serves, read one after another; 18446744073709551615 without slots.
+    pub(crate) fn least_served(&self) -> u64 {
+        let mut least = u64::MAX;
+        for slot in 0..self.shared.slot_count() {
+            if let Some(served) = self.selector_generation(slot) {
+                least = least.min(served);
+            }
+        }
+        least
+    }
+
     /// The timing of a slot's last publication: `None` where no such slot is there, and none in it before the first.
     pub fn selector_last_update_timing(&self, slot: usize) -> Option<Option<SelectorUpdateTimings>>
         ensures { Seen (arc_value self.now.shared) (λ v. After v (λ made e. result

@@ -23,9 +23,26 @@ where
     S::Iter: Send + Sync + 'static,
     S::Config: Send + Sync + 'static,
 {
+    let shared: &SharedGroup<S, R, C> = &**group;
+    start_workers_by(
+        shared,
+        &|slot: usize| starts_worker(rt, alloc, group, slot, clock),
+    )
+}
+
+/// Starts by `starts`, which answers whether it could, a worker for each slot that has none. Answers how many couldn't be started; their
+/// slots have none then.
+pub fn start_workers_by<
+    S: BackendSelection,
+    R: KeyRule + Drop,
+    C: HealthCheck + Drop,
+    F: Fn(usize) -> bool,
+>(group: &SharedGroup<S, R, C>, starts: &F) -> usize
+    requires { F.IsAlwaysCallable starts.now }
+{
     let mut missing: usize = 0;
     for slot in 0..group.slot_count() {
-        if group.claim_slot(slot) && !starts_worker(rt, alloc, group, slot, clock) {
+        if group.claim_slot(slot) && !starts(slot) {
             group.leave_slot(slot);
             missing = missing.saturating_add(1);
         }

@@ -30,3 +30,4 @@ pub use lb_select::backend::{Backend, Ext, InetAddr, SocketAddr};
 pub use lb_select::loads::Loads;
 pub use lb_select::refusal::Refusal;
 pub use lb_select::words::{CoreWords, HandedWords, LentWords, SharedWords, WordSource};
+pub use lb_workers::group::LoadBalancerGroup;

@@ -1,0 +1,43 @@
+-- Each round adds an event to the run's history.
+use Rattle.std.proofs.Common.{◌∙◌, [], ◌∷◌, refl, subst}
+use Rattle.lb_schedule.specs.History.{heard, IsRun}
+use Rattle.lb_workers.proofs.Drives.{asks_port}
+use Rattle.lb_workers.proofs.drive.drive.Goals as goal
+
+pub loop-init : goal.loop-init
+loop-init g c = ([], c.requires.fresh, refl, c.args.port.now, refl, (refl, refl))
+
+pub returns-in-Return : goal.returns-in-Return
+returns-in-Return g c =
+    let i = c.loop.invariant in
+    let h = heard c.now-now.result c.least-least.result c.loop.event c.step-action.result ∷ i.0 in
+    let after = c.step-action.ensures.history i.0 i.1 in (
+      h,
+      subst (λ p. IsRun p h) (c.step-action.ensures.plan ∙ i.2) after.run,
+      c.in-Return.is,
+      (i.3, c.loop.port, c.now-now.new.self, i.4, i.5, c.now-now.ensures, c.least-least.ensures),
+    )
+
+pub act-event-requires : goal.act-event-requires
+act-event-requires g c =
+    let i = c.loop.invariant in
+    let p = g.P.RunPort in
+    let x = heard c.now-now.result c.least-least.result c.loop.event c.step-action.result in
+    record {
+      asked = asks_port p.moments p.leasts p.looks p.updates p.checks p.tells p.sleeps c.step-action.new.self c.args.port.now
+          c.least-least.new.self x i.0 (i.3, c.loop.port, c.now-now.new.self, i.4, i.5, c.now-now.ensures, c.least-least.ensures)
+          (c.step-action.ensures.history i.0 i.1) c.in_default.not-Return;
+      can = c.requires.can;
+    }
+
+pub loop-preserved : goal.loop-preserved
+loop-preserved g c =
+    let i = c.loop.invariant in
+    let h = heard c.now-now.result c.least-least.result c.loop.event c.step-action.result ∷ i.0 in (
+      h,
+      c.step-action.ensures.history i.0 i.1,
+      c.step-action.ensures.plan ∙ i.2,
+      c.least-least.new.self,
+      (i.3, c.loop.port, c.now-now.new.self, i.4, i.5, c.now-now.ensures, c.least-least.ensures),
+      c.act-event.ensures,
+    )
