@@ -1,0 +1,10 @@
+//! A balancer with one selector that threads share. An update builds with no lock held but its own; a selection goes on in what was
+//! served when it began.
+#![tactic(auto)]
+
+pub mod backends;
+pub mod balancing;
+pub mod load_balancer;
+pub mod reader;
+pub mod serving;
+pub mod shown;
