@@ -1,5 +1,5 @@
 -- A selection in what is shown, and which members are found not ready.
-use Rattle.std.proofs.Common.{◌≡◌, ◌∙◌, ◌⊎◌, inl, inr, ◌∷◌, ℕ, Bool, true, false, not, List, [], length, take, Option, Some, None, Result, Ok, Err, refl, sym, ap, subst, arith}
+use Rattle.std.proofs.Common.{◌≡◌, inl, inr, ◌∷◌, ℕ, Bool, true, false, not, List, [], length, take, Option, Some, None, Result, Ok, Err, refl, sym, subst, arith}
 use Rattle.std.specs.Borrow.{Bor}
 use Rattle.std.specs.Fn.{Shared, Mut, FnReturns, FnReturnsAt, CalledAt}
 use Rattle.std.specs.List.{items_where_true, AllByRecursion as Each}

@@ -1,5 +1,5 @@
 -- Another membership comes with the selector that is built of it.
-use Rattle.std.proofs.Common.{◌≡◌, ◌∙◌, sym, ap, subst}
+use Rattle.std.proofs.Common.{◌∙◌, sym, ap, subst}
 use Rattle.std.specs.Prelude.{is_ok}
 use Rattle.lb_registry.specs.Registry.{IsRegistryAfter}
 use Rattle.lb_health.specs.Joined.{after_settings, registry_updated, settings_of, view_updated, with_membership}
