@@ -1,2 +1,3 @@
-pub mod Shown
+pub mod Driven
 pub mod SharedUpdates
+pub mod Shown

@@ -4,7 +4,10 @@
 
 pub mod backends;
 pub mod balancing;
+pub mod drive;
 pub mod load_balancer;
+pub mod port;
 pub mod reader;
+pub mod run;
 pub mod serving;
 pub mod shown;

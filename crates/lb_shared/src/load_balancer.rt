@@ -174,6 +174,13 @@ impl<
         self.shared.set_health_check(rt, check)
     }
 
+    /// What the balancer serves from: its generation, which of its backends are ready, and their flags.
+    pub fn backends(&self) -> &Balancing<S, D, R, C>
+        ensures { result.now ≡ self.now.shared }
+    {
+        &self.shared
+    }
+
     /// The newest generation, which is the served one; 0 before the first membership.
     pub fn backend_generation<W: Wait>(&self, rt: &W) -> u64 {
         self.shared.generation(rt)
