@@ -1,14 +1,14 @@
-//! Selections beside updates, in threads.
-use crate::fixtures::{Tested, Ticks, balancer, waited};
+//! Selections beside updates and checks, in threads.
+use crate::fixtures::{DownAt, Line, Tested, Ticks, balancer, waited};
 use lb_select::backend::Backend;
 use lb_select::refusal::Refusal;
 use std::alloc::Global;
-use std::sync::Wait;
-use std::sync::atomic::AtomicU64;
 use std::sync::atomic::Ordering::SeqCst;
+use std::sync::{Arc, Wait};
 use std::test::Fail;
+use std::thread;
 use std::thread::join;
-use std::time::Clock;
+use std::time::{Clock, Duration};
 
 // Updates so many times.
 fn updated<R: Wait + Clock + Copy + Drop>(
@@ -55,7 +55,8 @@ fn of_one<R: Wait + Clock + Copy + Drop>(
 #[test]
 fn memberships_are_not_mixed(rt: HostRuntime) -> Result<(), Fail> {
     let alloc = rt.alloc();
-    let (balancer, _line) = balancer(rt, alloc, true)?;
+    let line = Arc::new(alloc, Line::new(true))?;
+    let balancer = balancer(rt, alloc, line)?;
     let shared = &balancer;
     let (updates, (first, second)) = join(
         &rt,
@@ -78,12 +79,11 @@ fn selected_meanwhile<R: Wait + Clock + Copy + Drop>(
     rt: &R,
     alloc: Global,
     balancer: &Tested<R>,
-    asked: &AtomicU64,
-    open: &AtomicU64,
+    line: &Line,
 ) -> (bool, Result<Option<Backend>, Refusal>) {
-    let came = waited(rt, asked, 1);
+    let came = waited(rt, &line.asked, 1);
     let found = balancer.select(rt, alloc, b"k", 9);
-    open.store(1, SeqCst);
+    line.open.store(1, SeqCst);
     (came, found)
 }
 
@@ -91,17 +91,65 @@ fn selected_meanwhile<R: Wait + Clock + Copy + Drop>(
 #[test]
 fn selections_go_on(rt: HostRuntime) -> Result<(), Fail> {
     let alloc = rt.alloc();
-    let (balancer, line) = balancer(rt, alloc, false)?;
+    let line = Arc::new(alloc, Line::new(false))?;
+    let balancer = balancer(rt, alloc, Arc::try_clone(&line)?)?;
     let shared = &balancer;
-    let (asked, open) = (&line.asked, &line.open);
+    let asked = &*line;
     let (updates, (came, found)) = join(
         &rt,
         || updated(&rt, alloc, shared, 1),
-        || selected_meanwhile(&rt, alloc, shared, asked, open),
+        || selected_meanwhile(&rt, alloc, shared, asked),
     );
     assert_eq!(rt; updates, Ok(()));
     assert!(rt; came);
     assert!(rt; found == Ok(None));
     assert_eq!(rt; balancer.backend_generation(&rt), 1);
+    Ok(())
+}
+
+// Selects until the backend was left out in two rounds of turns, for ten seconds at most; whether it was.
+fn turned_away<R: Wait + Clock + Copy + Drop>(
+    rt: &R,
+    alloc: Global,
+    balancer: &Tested<R>,
+    down: &Backend,
+) -> Result<bool, Refusal> {
+    let mut reader = balancer.reader(rt, alloc)?;
+    let mut misses = 0u64;
+    for _ in 0..5000 {
+        match reader.select(rt, alloc, b"k", 9)? {
+            Some(backend) if backend != *down => misses = misses.saturating_add(1),
+            _ => misses = 0,
+        }
+        if misses >= 6 {
+            return Ok(true);
+        }
+        thread::sleep(rt, Duration::from_millis(2));
+    }
+    Ok(false)
+}
+
+// A thread that keeps what it saw selects what is found down meanwhile no longer.
+#[test]
+fn flips_are_seen(rt: HostRuntime) -> Result<(), Fail> {
+    let alloc = rt.alloc();
+    let line = Arc::new(alloc, Line::new(true))?;
+    let down = Backend::new(alloc, "1.0.0.2:80")?;
+    let check = DownAt {
+        rt,
+        down: "1.0.0.2:80",
+        line: Arc::try_clone(&line)?,
+    };
+    let balancer = balancer(rt, alloc, line)?;
+    balancer.set_health_check(&rt, check)?;
+    updated(&rt, alloc, &balancer, 1)?;
+    let (shared, down) = (&balancer, &down);
+    let (checks, away) = join(
+        &rt,
+        || shared.run_health_check(&rt, alloc, false),
+        || turned_away(&rt, alloc, shared, down),
+    );
+    assert_eq!(rt; checks, Ok(()));
+    assert_eq!(rt; away, Ok(true));
     Ok(())
 }

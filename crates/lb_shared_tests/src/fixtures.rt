@@ -36,15 +36,51 @@ impl MomentSource for Ticks {
     }
 }
 
-/// A line between a discovery and the test: how often it was asked, and whether it may answer.
+/// What a discovery answers: its rows in turn, a fault, or a membership of too much weight.
+pub const ROWS: u64 = 0;
+
+pub const FAULT: u64 = 1;
+
+pub const HEAVY: u64 = 2;
+
+/// A line between the test and what a balancer calls: how often that was called, whether it may answer, and what.
 #[derive(Drop)]
 pub struct Line {
     pub asked: AtomicU64,
     pub open: AtomicU64,
+    pub answers: AtomicU64,
 }
 
-/// Answers the backends 1.0.0.1:80 to 1.0.0.3:80 and 2.0.0.1:80 to 2.0.0.3:80 in turn. Where its line isn't open it waits for that, for
-/// ten seconds at most.
+impl Line {
+    /// A line that is open or isn't, and answers rows.
+    pub fn new(open: bool) -> Line {
+        Line {
+            asked: AtomicU64::new(0),
+            open: AtomicU64::new(u64::from(open)),
+            answers: AtomicU64::new(ROWS),
+        }
+    }
+
+    /// Counts a call, and waits until the line is open, for ten seconds at most. How many calls came before.
+    pub fn call<R: Clock>(&self, rt: &R) -> u64 {
+        let turn = self.asked.fetch_add(1, SeqCst);
+        let _ = waited(rt, &self.open, 1);
+        turn
+    }
+}
+
+/// Waits, for ten seconds at most, until the word is so much; whether it is.
+pub fn waited<R: Clock>(rt: &R, word: &AtomicU64, wanted: u64) -> bool {
+    for _ in 0..5000 {
+        if word.load(SeqCst) >= wanted {
+            return true;
+        }
+        thread::sleep(rt, Duration::from_millis(2));
+    }
+    false
+}
+
+/// Answers the backends 1.0.0.1:80 to 1.0.0.3:80 and 2.0.0.1:80 to 2.0.0.3:80 in turn, or what its line says.
 #[derive(Drop)]
 pub struct InTurn<R> {
     pub rt: R,
@@ -55,42 +91,49 @@ const FIRST: [&str; 3] = ["1.0.0.1:80", "1.0.0.2:80", "1.0.0.3:80"];
 
 const SECOND: [&str; 3] = ["2.0.0.1:80", "2.0.0.2:80", "2.0.0.3:80"];
 
+// Backends of weight 1 at these addresses.
+fn listed(alloc: Global, texts: [&str; 3]) -> Result<BTreeSet<Backend>, Refusal> {
+    let mut set = BTreeSet::new(alloc);
+    for text in texts {
+        set.insert(Backend::new(alloc, text)?)?;
+    }
+    Ok(set)
+}
+
+// Two backends whose weights are more than 64 bits hold.
+fn heavy(alloc: Global) -> Result<BTreeSet<Backend>, Refusal> {
+    let mut set = BTreeSet::new(alloc);
+    set.insert(Backend::new_with_weight(alloc, "3.0.0.1:80", usize::MAX)?)?;
+    set.insert(Backend::new(alloc, "3.0.0.2:80")?)?;
+    Ok(set)
+}
+
 impl<R: Clock> ServiceDiscovery for InTurn<R> {
     fn discover(&self, alloc: Global) -> Result<Discovered, Refusal> {
-        let turn = self.line.asked.fetch_add(1, SeqCst);
-        let _ = waited(&self.rt, &self.line.open, 1);
-        let texts = if turn % 2 == 0 { FIRST } else { SECOND };
-        let mut set = BTreeSet::new(alloc);
-        for text in texts {
-            set.insert(Backend::new(alloc, text)?)?;
-        }
+        let turn = self.line.call(&self.rt);
+        let set = match self.line.answers.load(SeqCst) {
+            FAULT => return Err(Refusal::Discovery),
+            HEAVY => heavy(alloc)?,
+            _ if turn % 2 == 0 => listed(alloc, FIRST)?,
+            _ => listed(alloc, SECOND)?,
+        };
         Ok((set, Settings::new(alloc)))
     }
 }
 
-/// Waits, for ten seconds at most, until the word is so much; whether it is.
-pub fn waited<R: Clock>(rt: &R, word: &AtomicU64, wanted: u64) -> bool {
-    for _ in 0..1000 {
-        if word.load(SeqCst) >= wanted {
-            return true;
-        }
-        thread::sleep(rt, Duration::from_millis(10));
-    }
-    false
-}
-
-/// A check that finds down what listens at this address, and counts.
+/// A check that finds down what listens at this address.
 #[derive(Drop)]
-pub struct DownAt {
+pub struct DownAt<R> {
+    pub rt: R,
     pub down: &'static str,
-    pub checks: Arc<AtomicU64>,
+    pub line: Arc<Line>,
 }
 
-impl HealthCheck for DownAt {
+impl<R: Clock> HealthCheck for DownAt<R> {
     ghost threshold = { λ _ _. 1 };
 
     fn check(&self, alloc: Global, target: &Backend) -> Result<(), CheckError> {
-        self.checks.fetch_add(1, SeqCst);
+        self.line.call(&self.rt);
         match Backend::new(alloc, self.down) {
             Ok(backend) if backend == *target => Err(CheckError::Connect),
             _ => Ok(()),
@@ -103,25 +146,23 @@ impl HealthCheck for DownAt {
 }
 
 /// The balancer of the tests.
-pub type Tested<R> = LoadBalancer<RoundRobin, InTurn<R>, Rule<ByNumber>, DownAt>;
+pub type Tested<R> = LoadBalancer<RoundRobin, InTurn<R>, Rule<ByNumber>, DownAt<R>>;
 
-/// A balancer over the discovery in turn, whose line is open where that is asked for; and the line.
+/// A balancer over the discovery in turn by this line.
 pub fn balancer<R: Wait + Clock + Copy + Drop>(
     rt: R,
     alloc: Global,
-    open: bool,
-) -> Result<(Tested<R>, Arc<Line>), Refusal> {
-    let line = Arc::new(
-        alloc,
-        Line {
-            asked: AtomicU64::new(0),
-            open: AtomicU64::new(u64::from(open)),
-        },
-    )?;
-    let discovery = InTurn {
-        rt,
-        line: Arc::try_clone(&line)?,
-    };
+    line: Arc<Line>,
+) -> Result<Tested<R>, Refusal> {
+    let discovery = InTurn { rt, line };
     let backends = Backends::new(alloc, DiscoverySource::Boxed(discovery))?;
-    Ok((LoadBalancer::from_backends(&rt, alloc, backends)?, line))
+    LoadBalancer::from_backends(&rt, alloc, backends)
+}
+
+/// A selected backend as its text.
+pub fn text(alloc: Global, found: Option<Backend>) -> Result<String, Refusal> {
+    match found {
+        Some(backend) => Ok(format!(in alloc; "{backend}")?),
+        None => Ok(String::from_str(alloc, "none")?),
+    }
 }

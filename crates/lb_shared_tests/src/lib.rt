@@ -1,5 +1,5 @@
-//! Tests of a balancer that threads share: what it serves beside updates, checks and flags, which no contract says of running threads.
-//! There is no code here beside them.
+//! Tests of a balancer that threads share: what it serves beside updates, checks and flags, and what its run does, which no contract
+//! says of running threads. There is no code here beside them.
 #![tactic(auto)]
 
 #[cfg(test)]
@@ -8,3 +8,5 @@ mod beside;
 mod calls;
 #[cfg(test)]
 mod fixtures;
+#[cfg(test)]
+mod running;
