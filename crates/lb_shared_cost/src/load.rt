@@ -79,11 +79,11 @@ pub trait Work {
 
 /// Selections until a measurement is over: through the balancer itself, or through a reader of the thread's own.
 #[derive(Drop)]
-pub struct Selections<'a, S: BackendSelection, R> {
-    pub rt: &'a R,
+pub struct Selections<'r, 'b, 'o, S: BackendSelection, R> {
+    pub rt: &'r R,
     pub alloc: Global,
-    pub balancer: &'a Shared<S>,
-    pub over: &'a AtomicU64,
+    pub balancer: &'b Shared<S>,
+    pub over: &'o AtomicU64,
     pub has_reader: bool,
 }
 
@@ -93,7 +93,7 @@ fn next_key(key: u64) -> u64 {
         .wrapping_add(1442695040888963407)
 }
 
-impl<'a, S: BackendSelection, R: Wait> Selections<'a, S, R> {
+impl<'r, 'b, 'o, S: BackendSelection, R: Wait> Selections<'r, 'b, 'o, S, R> {
     // Whether the measurement is over.
     fn is_over(&self) -> bool {
         self.over.load(SeqCst) > 0
@@ -135,7 +135,7 @@ impl<'a, S: BackendSelection, R: Wait> Selections<'a, S, R> {
     }
 }
 
-impl<'a, S: BackendSelection, R: Wait> Work for Selections<'a, S, R> {
+impl<'r, 'b, 'o, S: BackendSelection, R: Wait> Work for Selections<'r, 'b, 'o, S, R> {
     // A thread that is refused memory counts nothing.
     fn run(&self, worker: u64) -> u64 {
         let count = if self.has_reader {

@@ -158,11 +158,3 @@ pub fn balancer<R: Wait + Clock + Copy + Drop>(
     let backends = Backends::new(alloc, DiscoverySource::Boxed(discovery))?;
     LoadBalancer::from_backends(&rt, alloc, backends)
 }
-
-/// A selected backend as its text.
-pub fn text(alloc: Global, found: Option<Backend>) -> Result<String, Refusal> {
-    match found {
-        Some(backend) => Ok(format!(in alloc; "{backend}")?),
-        None => Ok(String::from_str(alloc, "none")?),
-    }
-}

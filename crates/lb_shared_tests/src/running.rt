@@ -31,11 +31,12 @@ fn update_is_let_end(rt: HostRuntime) -> Result<(), Fail> {
     let mut clock = Ticks { next: 0 };
     let mut balancer = balancer(rt, alloc, Arc::try_clone(&line)?)?;
     balancer.update_frequency = Some(10);
-    let (shared, asked, sends) = (&balancer, &*line, &mut signal);
+    let asked = &*line;
+    let sends = &mut signal;
     let (came, _) = join(
         &rt,
         || end_amid(&rt, asked, sends),
-        || shared.run(&rt, alloc, &mut clock, &watch, Some(notifier)),
+        || balancer.run(&rt, alloc, &mut clock, &watch, Some(notifier)),
     );
     assert!(rt; came);
     assert_eq!(rt; line.asked.load(SeqCst), 1);
@@ -62,11 +63,12 @@ fn check_is_let_end(rt: HostRuntime) -> Result<(), Fail> {
     balancer.update_frequency = Some(10);
     balancer.health_check_frequency = Some(10);
     balancer.set_health_check(&rt, check)?;
-    let (shared, asked, sends) = (&balancer, &*checks, &mut signal);
+    let asked = &*checks;
+    let sends = &mut signal;
     let (came, _) = join(
         &rt,
         || end_amid(&rt, asked, sends),
-        || shared.run(&rt, alloc, &mut clock, &watch, Some(notifier)),
+        || balancer.run(&rt, alloc, &mut clock, &watch, Some(notifier)),
     );
     assert!(rt; came);
     assert_eq!(rt; line.asked.load(SeqCst), 1);
@@ -95,11 +97,11 @@ fn ready_after_update(rt: HostRuntime) -> Result<(), Fail> {
     let (notifier, ready) = ready_pair(alloc)?;
     let mut clock = Ticks { next: 0 };
     let balancer = balancer(rt, alloc, Arc::try_clone(&line)?)?;
-    let (shared, asked, seen) = (&balancer, &*line, &ready);
+    let asked = &*line;
     let (before, _) = join(
         &rt,
-        || opened(&rt, asked, seen),
-        || shared.run(&rt, alloc, &mut clock, &watch, Some(notifier)),
+        || opened(&rt, asked, &ready),
+        || balancer.run(&rt, alloc, &mut clock, &watch, Some(notifier)),
     );
     assert_eq!(rt; before, (true, false));
     assert!(rt; ready.is_ready());
