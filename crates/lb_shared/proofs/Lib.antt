@@ -1,0 +1,4 @@
+mod Drives
+mod Judged
+mod Memberships
+mod Readings
