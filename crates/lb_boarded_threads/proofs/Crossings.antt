@@ -139,3 +139,12 @@ module _ (T R I C : RattleType) (g : Selection T.Denot I.Denot C.Denot) (h : Ite
 
   pub boarded_sync : IsSync (boarded.the_row T R I C g h)
   boarded_sync = view_sync _ _ _ _ _ inside_sync
+
+all_sent : (Ts : List RattleType) → AllSend Ts → AllSend (rows (parts Ts))
+all_sent [] s = tt
+all_sent (T ∷ Ts) s = (s.0, all_sent Ts s.1)
+
+-- a closure, which is the tuple of what it captures
+pub sent : (i : ℕ) (τ : Ty) (k : Kept) (n : Sym) (Ts : List RattleType) → AllSend Ts → IsSend (param i (arg τ k (TupleAt n Ts)))
+sent i τ k n Ts s = param_send i (arg τ k (TupleAt n Ts)) (arg_send τ k (TupleAt n Ts)
+    (recorded_send (field_at n Ts).row _ _ (type_at n Ts).to_one (struct_send (shape (type_at n Ts)) (all_sent Ts s))))

@@ -10,4 +10,4 @@ pub join-requires-send-F : goal.join-requires-send-F
 join-requires-send-F g c κs within =
     let b = c.type_bounds in
     let y = boarded_sync (param 0 g.row.S) (param 1 g.row.K) (param 3 g.row.S-Iter) (param 4 g.row.S-Config) g.S.BackendSelection g.S.Iter.BackendIter b.send-S b.send-S-Config b.sync-S b.sync-S-Config b.send-K in
-    sent 1 _ no _ _ (search (sendable, y, pass.the_send, b.sync-R) depth 20, (search (sendable, y, pass.the_send, b.sync-R) depth 20, tt))
+    sent 1 _ no _ _ (search (sendable, y, pass.the_send, b.sync-R) depth 30)
