@@ -1,15 +1,8 @@
 -- A group behind a lock may be shared by threads.
 -- What a `Snapshot` shows crosses freely, which rattle's own search doesn't know: so the types that hold one, and those above, stand here.
 use denote.RattleType.{RattleType}
-use denote.Param.{param, arg}
-use denote.Struct.Field.{rows}
-use denote.Struct.Tuple.{parts, TupleAt, type_at, field_at}
 use denote.Struct.Declared.{shape}
-use denote.Exit.{Kept}
-use mir.Syntax.{Ty, Sym}
-use mathlib.Core.List.{List, [], ◌∷◌}
-use Prim.Native.Nat.{ℕ}
-use denote.Param.Send.{IsSend, IsSync, sendable, view_send, view_sync, struct_send, struct_sync, recorded_send, recorded_sync, param_send, arg_send, AllSend}
+use denote.Param.Send.{IsSend, IsSync, sendable, view_send, view_sync, struct_send, struct_sync, recorded_send, recorded_sync}
 use Rattle.std.proofs.Crossing.{crosses}
 use Rattle.std.proofs.MapsCrossing as maps
 use Rattle.std.proofs.MapsCrossingOver as sets
@@ -139,12 +132,3 @@ module _ (T R I C : RattleType) (g : Selection T.Denot I.Denot C.Denot) (h : Ite
 
   pub boarded_sync : IsSync (boarded.the_row T R I C g h)
   boarded_sync = view_sync _ _ _ _ _ inside_sync
-
-all_sent : (Ts : List RattleType) → AllSend Ts → AllSend (rows (parts Ts))
-all_sent [] s = tt
-all_sent (T ∷ Ts) s = (s.0, all_sent Ts s.1)
-
--- a closure, which is the tuple of what it captures
-pub sent : (i : ℕ) (τ : Ty) (k : Kept) (n : Sym) (Ts : List RattleType) → AllSend Ts → IsSend (param i (arg τ k (TupleAt n Ts)))
-sent i τ k n Ts s = param_send i (arg τ k (TupleAt n Ts)) (arg_send τ k (TupleAt n Ts)
-    (recorded_send (field_at n Ts).row _ _ (type_at n Ts).to_one (struct_send (shape (type_at n Ts)) (all_sent Ts s))))
