@@ -10,8 +10,8 @@ use lb_health::view::Settings;
 use lb_joined::group::GroupCore;
 use lb_pass::boarded::BoardedGroup;
 use lb_rebuild::gate::GateCore;
-use lb_registry::keys::{ByNumber, Rule};
-use lb_registry::registry::RegistryCore;
+use lb_registry::keys::{ByNumber, KeyRule, Rule};
+use lb_registry::registry::Registry;
 use lb_select::backend::Backend;
 use lb_select::refusal::Refusal;
 use lb_select::words::HandedWords;
@@ -24,10 +24,13 @@ use std::sync::{Arc, Mutex, Wait};
 pub(crate) type Group = BoardedGroup<RoundRobin, Rule<ByNumber>>;
 
 /// A fresh group of one slot on that gate, with a registry of its own.
-pub(crate) fn fresh(alloc: Global, gate: &GateCore) -> Result<Group, Refusal>
+pub(crate) fn fresh<N: KeyRule + Drop>(
+    alloc: Global,
+    gate: &GateCore,
+) -> Result<BoardedGroup<RoundRobin, Rule<N>>, Refusal>
     ensures { IfOk result (λ g. g.core.group.gate ≡ gate.now.id) }
 {
-    let mut registry = RegistryCore::new(alloc);
+    let mut registry: Registry<Rule<N>> = Registry::with_rule(alloc, Rule::Identity);
     let mut configs = Vec::new(alloc);
     configs.push(())?;
     let core: GroupCore<RoundRobin> = GroupCore::new(alloc, &mut registry, gate, configs)?;

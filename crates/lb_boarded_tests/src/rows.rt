@@ -16,7 +16,7 @@ use std::test::Fail;
 fn first_generation(rt: HostRuntime) -> Result<(), Fail> {
     let alloc = rt.alloc();
     let mut gate = GateCore::new(alloc)?;
-    let group = fresh(alloc, &gate)?;
+    let group: Group = fresh(alloc, &gate)?;
     shows_the_update(&rt, alloc, &group)?;
     shows_the_publication(&rt, alloc, &group, &mut gate)?;
     Ok(())
@@ -69,7 +69,7 @@ fn selects_it<R: Wait + Abort>(
 fn updates_do_something(rt: HostRuntime) -> Result<(), Fail> {
     let alloc = rt.alloc();
     let mut gate = GateCore::new(alloc)?;
-    let group = fresh(alloc, &gate)?;
+    let group: Group = fresh(alloc, &gate)?;
     counts_updates(&rt, alloc, &group)?;
     assert!(rt; rebuilt(&rt, alloc, &group, &mut gate)?);
     assert!(rt; destroyed(&rt, &group, &mut gate)?);
@@ -95,7 +95,7 @@ fn counts_updates<R: Wait + Abort>(rt: &R, alloc: Global, group: &Group) -> Resu
 fn no_such_slot(rt: HostRuntime) -> Result<(), Fail> {
     let alloc = rt.alloc();
     let gate = GateCore::new(alloc)?;
-    let group = fresh(alloc, &gate)?;
+    let group: Group = fresh(alloc, &gate)?;
     let mut pass = group.pass();
     let entered = match group.enter_as(&rt, 1, &mut pass) {
         Ok(reader) => {

@@ -1,15 +1,8 @@
 -- A group behind a lock may be shared by threads.
 -- What a `Snapshot` shows crosses freely, which rattle's own search doesn't know: so the types that hold one, and those above, stand here.
 use denote.RattleType.{RattleType}
-use denote.Param.{param, arg}
-use denote.Struct.Field.{rows}
-use denote.Struct.Tuple.{parts, TupleAt, type_at, field_at}
 use denote.Struct.Declared.{shape}
-use denote.Exit.{Kept}
-use mir.Syntax.{Ty, Sym}
-use mathlib.Core.List.{List, [], ◌∷◌}
-use Prim.Native.Nat.{ℕ}
-use denote.Param.Send.{IsSend, IsSync, sendable, view_send, view_sync, struct_send, struct_sync, recorded_send, recorded_sync, param_send, arg_send, AllSend}
+use denote.Param.Send.{IsSend, IsSync, sendable, view_send, view_sync, struct_send, struct_sync, recorded_send, recorded_sync}
 use Rattle.std.proofs.Crossing.{crosses}
 use Rattle.std.proofs.MapsCrossing as maps
 use Rattle.std.proofs.MapsCrossingOver as sets

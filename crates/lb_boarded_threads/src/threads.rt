@@ -7,7 +7,7 @@ use lb_joined::group::GroupCore;
 use lb_pass::boarded::BoardedGroup;
 use lb_rebuild::gate::GateCore;
 use lb_registry::keys::{ByNumber, KeyRule, Rule};
-use lb_registry::registry::RegistryCore;
+use lb_registry::registry::Registry;
 use lb_select::refusal::Refusal;
 use lb_select::walk::BackendSelection;
 use lb_weighted::selection::RoundRobin;
@@ -25,10 +25,13 @@ const MEETINGS: u64 = 5_000;
 type Group = BoardedGroup<RoundRobin, Rule<ByNumber>>;
 
 // A fresh group of one slot on that gate, with a registry of its own.
-fn fresh(alloc: Global, gate: &GateCore) -> Result<Group, Refusal>
+fn fresh<N: KeyRule + Drop>(
+    alloc: Global,
+    gate: &GateCore,
+) -> Result<BoardedGroup<RoundRobin, Rule<N>>, Refusal>
     ensures { IfOk result (λ g. g.core.group.gate ≡ gate.now.id) }
 {
-    let mut registry = RegistryCore::new(alloc);
+    let mut registry: Registry<Rule<N>> = Registry::with_rule(alloc, Rule::Identity);
     let mut configs = Vec::new(alloc);
     configs.push(())?;
     let core: GroupCore<RoundRobin> = GroupCore::new(alloc, &mut registry, gate, configs)?;
@@ -128,7 +131,7 @@ where
 fn four_readers_beside_updates(rt: HostRuntime) -> Result<(), Fail> {
     let alloc = rt.alloc();
     let gate = GateCore::new(alloc)?;
-    let group = fresh(alloc, &gate)?;
+    let group: Group = fresh(alloc, &gate)?;
     let (never_fell, newest) = read_beside_updates(&rt, alloc, &group, gate);
     assert!(rt; never_fell);
     assert_eq!(rt; newest?, UPDATES);
@@ -140,7 +143,7 @@ fn four_readers_beside_updates(rt: HostRuntime) -> Result<(), Fail> {
 fn passes_meet_beside_updates(rt: HostRuntime) -> Result<(), Fail> {
     let alloc = rt.alloc();
     let gate = GateCore::new(alloc)?;
-    let group = fresh(alloc, &gate)?;
+    let group: Group = fresh(alloc, &gate)?;
     let (never_fell, newest) = meet_beside_updates(&rt, alloc, &group, gate);
     assert!(rt; never_fell);
     assert_eq!(rt; newest?, UPDATES);

@@ -6,6 +6,7 @@ pub mod background;
 pub mod discovery;
 pub mod health;
 pub mod health_check;
+pub mod passes;
 pub mod port;
 pub mod prelude;
 pub mod rebuild;
