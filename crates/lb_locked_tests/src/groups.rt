@@ -102,11 +102,7 @@ fn one_slot(
     GroupCore::new(alloc, registry, gate, configs)
 }
 
-fn two_cores(
-    alloc: Global,
-    registry: &mut RegistryCore,
-    gate: &GateCore,
-) -> Result<Cores, Refusal>
+fn two_cores(alloc: Global, registry: &mut RegistryCore, gate: &GateCore) -> Result<Cores, Refusal>
     ensures first { IfOk result (λ c. c.first.group.gate ≡ gate.now.id) }
     ensures second { IfOk result (λ c. c.second.group.gate ≡ gate.now.id) }
 {
@@ -143,8 +139,8 @@ fn two_shared(
     Ok(Groups { first, second })
 }
 
-fn two_groups(alloc: Global) -> Result<Groups, Refusal> {
-    let mut registry = RegistryCore::new(alloc);
+// The registry is the caller's: who makes one hands out no value of a rule's type.
+fn two_groups(alloc: Global, mut registry: RegistryCore) -> Result<Groups, Refusal> {
     let gate = GateCore::new(alloc)?;
     let cores = two_cores(alloc, &mut registry, &gate)?;
     let registry = Arc::new(alloc, HealthRegistry::new(registry))?;
@@ -245,7 +241,7 @@ enum Row {
 
 // Plays a row on two new groups.
 fn played<W: Wait + Abort>(alloc: Global, rt: &W, row: Row) -> Result<(), Refusal> {
-    let groups = two_groups(alloc)?;
+    let groups = two_groups(alloc, RegistryCore::new(alloc))?;
     let mut clock = Ticks { next: 10 };
     match row {
         Row::Turns => turns(alloc, &groups.first, rt, &mut clock),
