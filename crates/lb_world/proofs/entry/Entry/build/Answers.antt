@@ -1,8 +1,7 @@
 -- The job that is held is the last one, so it is awaited; its snapshot is let go.
 use Rattle.lb_world.proofs.Words.{◌∙◌, ap, arith, inl, meaning_of, refl, Some, Work}
 use Rattle.lb_world.proofs.Places.{at-place}
-use Rattle.lb_world.proofs.Entries.{next-refused, stays}
-use Rattle.lb_world.proofs.Tasks.{beyond, does-build, does-fall, holds, next-same, own-task, unawaited, unstarted}
+use Rattle.lb_world.proofs.Entries.{next-refused, stays, beyond, does-build, does-fall, holds, next-same, own-task, unawaited, unstarted}
 use Rattle.lb_world.proofs.entry.Entry.build.Goals as goal
 
 pub returns-then-slot-len : goal.returns-then-slot-len

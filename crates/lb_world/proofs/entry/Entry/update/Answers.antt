@@ -18,11 +18,11 @@ use Rattle.lb_registry.specs.RegistryEvents as registry
 use Rattle.lb_world.proofs.Words.{◌&&◌, ◌+◌, ◌==◌, ◌^◌, ◌↔◌, ◌∙◌, ◌∷◌, ◌≡◌, ◌≤◌, absent, Answer, answer_after, Answers, ap, ap2, at_one}
 use Rattle.lb_world.proofs.Words.{Before, Bool, changed, cond, earlier, EntryNext, EntryValue, Err, events_in, false, GateView, group-of}
 use Rattle.lb_world.proofs.Words.{group_events, has_refused, History, inl, inr, IsRegistryAfter, IsTrue, joined_after, joined_events}
-use Rattle.lb_world.proofs.Words.{JoinedValue, key_gives, key_of, le-leb, List, Listing, Made, made_at, made_of, Meaning}
-use Rattle.lb_world.proofs.Words.{members_in, members_of, nat_le, newest, no_number, None, numbered, Ok, Option, refl, Refusal, refuse}
-use Rattle.lb_world.proofs.Words.{registry_events, RegistryValue, Result, same_members, settings_in, shares, site, Some, Step, subst, sym}
-use Rattle.lb_world.proofs.Words.{true, true≢false, unless_refused, view_events, view_in, ViewEvent, views_of, where_, with_core}
-use Rattle.lb_world.proofs.Words.{without_memory, WorldRule, ℕ}
+use Rattle.lb_world.proofs.Words.{JoinedValue, key_gives, key_of, le-leb, List, Listing, Made, made_at, made_of, Meaning, members_in}
+use Rattle.lb_world.proofs.Words.{members_of, nat_le, newest, no_number, None, numbered, Ok, Option, refl, Refusal, refuse, registry_events}
+use Rattle.lb_world.proofs.Words.{RegistryValue, Result, same_members, settings_in, shares, site, Some, Step, subst, sym, true, true≢false}
+use Rattle.lb_world.proofs.Words.{unless_refused, view_events, view_in, ViewEvent, views_of, where_, with_core, without_memory, WorldRule}
+use Rattle.lb_world.proofs.Words.{ℕ}
 use Rattle.lb_world.proofs.Entries.{joined-here, Moves, next-core, next-refused, registry-here, shared, stays, views-are}
 use Rattle.lb_world.proofs.entry.Entry.update.Goals as goal
 

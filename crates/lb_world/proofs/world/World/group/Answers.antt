@@ -12,18 +12,15 @@ use Rattle.std.proofs.lemmas.Bool.{cond_both}
 use Rattle.std.proofs.lemmas.List.{length-replicate}
 use Rattle.lb_registry.specs.RegistryEvents as registry
 use Rattle.lb_world.proofs.Words.{◌&&◌, ◌++◌, ◌+◌, ◌<◌, ◌^◌, ◌||◌, ◌↔◌, ◌∙◌, ◌∷◌, ◌≡◌, ◌≤◌, [], absent, after, and_parts, Answer}
-use Rattle.lb_world.proofs.Words.{answer_after, ap, ap2, arith, Bool, cond, configs_of, earlier, EntryIs, EntryValue, eq-eqb}
-use Rattle.lb_world.proofs.Words.{false, false≢true, GateId, GateView, held_of, History, in_tables, inl, inr, IsRegistryAfter, IsRun}
-use Rattle.lb_world.proofs.Words.{IsTrue, key_at, key_gives, key_of, le-leb, least, leb_tells, length, length-set, length_push, List}
-use Rattle.lb_world.proofs.Words.{load_of, lt-ltb, ltb-true, made, made_at, made_of, map, marks_start_none, Meaning, Member, nat_le}
-use Rattle.lb_world.proofs.Words.{nat_lt, ne_eqb, no_number, no_such, None, none-some, numbered, Option, origin, past, refl, Refusal}
-use Rattle.lb_world.proofs.Words.{registries, registry_events, RegistryValue, slice_get, slice_get_past, slice_get_within, slice_set}
-use Rattle.lb_world.proofs.Words.{Some, Stands, Step, sym, true, unless_refused, where_, without_memory, WorkValue, WorldRule, WorldValue}
-use Rattle.lb_world.proofs.Words.{ℕ}
+use Rattle.lb_world.proofs.Words.{answer_after, ap, ap2, arith, Bool, cond, configs_of, earlier, EntryIs, EntryValue, eq-eqb, false}
+use Rattle.lb_world.proofs.Words.{false≢true, GateId, GateView, held_of, History, in_tables, inl, inr, IsRegistryAfter, IsRun, IsTrue}
+use Rattle.lb_world.proofs.Words.{key_at, key_gives, key_of, le-leb, least, leb_tells, length, length-set, length_push, List, load_of}
+use Rattle.lb_world.proofs.Words.{lt-ltb, ltb-true, made, made_at, made_of, map, marks_start_none, Meaning, Member, nat_le, nat_lt, ne_eqb}
+use Rattle.lb_world.proofs.Words.{no_number, no_such, None, none-some, numbered, Option, origin, past, refl, Refusal, registries}
+use Rattle.lb_world.proofs.Words.{registry_events, RegistryValue, slice_get, slice_get_past, slice_get_within, slice_set, Some, Stands}
+use Rattle.lb_world.proofs.Words.{Step, sym, true, unless_refused, where_, without_memory, WorkValue, WorldRule, WorldValue, ℕ}
 use Rattle.lb_world.proofs.Places.{at-place, each-push, each-set, get_kept, get_last, get_push, get_replicate}
-use Rattle.lb_world.proofs.Tables.{entry-moves, founded-by, registry-lent, world-refused}
-use Rattle.lb_world.proofs.Registries.{number-left, refused-so, Tells}
-use Rattle.lb_world.proofs.Readers.{group-there}
+use Rattle.lb_world.proofs.Tables.{entry-moves, founded-by, registry-lent, world-refused, number-left, refused-so, Tells, group-there}
 use Rattle.lb_world.proofs.world.World.group.Goals as goal
 
 -- no refusal has a greater number than the want of numbers

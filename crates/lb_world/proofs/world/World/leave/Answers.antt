@@ -1,8 +1,7 @@
 -- A reader comes back to the group that it entered, whose slot counts it.
 use Rattle.lb_world.proofs.Words.{◌∙◌, ap, arith, Some, sym}
 use Rattle.lb_world.proofs.Places.{at-place}
-use Rattle.lb_world.proofs.Tables.{founded-by}
-use Rattle.lb_world.proofs.Readers.{counted, group-there, leave-gone, leave-nowhere, left-now}
+use Rattle.lb_world.proofs.Tables.{founded-by, counted, group-there, leave-gone, leave-nowhere, left-now}
 use Rattle.lb_world.proofs.world.World.leave.Goals as goal
 
 pub returns-then-reader-len : goal.returns-then-reader-len

@@ -1,8 +1,7 @@
 -- Readiness is asked of the group that the reader is in, with the group's registry.
 use Rattle.lb_world.proofs.Words.{◌∙◌, ap, arith, inl, inr, None, refl, Some, Step}
 use Rattle.lb_world.proofs.Places.{at-place}
-use Rattle.lb_world.proofs.Tables.{world-refused}
-use Rattle.lb_world.proofs.Readers.{entered-in, entered-past, group-there, ready-next, ready-none}
+use Rattle.lb_world.proofs.Tables.{world-refused, entered-in, entered-past, group-there, ready-next, ready-none}
 use Rattle.lb_world.proofs.world.World.ready.Goals as goal
 
 pub returns-in_default : goal.returns-in_default
