@@ -27,19 +27,19 @@ use Rattle.lb_group.specs.GroupHistory as group
 use Rattle.lb_joined.specs.JoinedHistory as joined
 use Rattle.lb_registry.specs.RegistryEvents as registry
 use Rattle.lb_group.specs.Stands as group-made
-use Rattle.lb_world.proofs.Words.{arith, ◌∙◌, ◌⊎◌, ◌++◌, ◌≡◌, ◌&&◌, ◌∷◌, ◌==◌, [], and_parts, Answer, Answers, ap, ap2, At, at_one, at_slot}
-use Rattle.lb_world.proofs.Words.{Before, Bool, changed, cond, config, config_in, configs_of, EntryIs, EntryNext, EntryValue, eq-eqb, false}
-use Rattle.lb_world.proofs.Words.{gate, GateId, gates, GateView, granted, granted_members, group-of, group_at, group_events, GroupId}
-use Rattle.lb_world.proofs.Words.{happened, held_of, History, inl, inr, is_at, IsRegistryAfter, IsRun, joined_after, joined_events}
-use Rattle.lb_world.proofs.Words.{JoinedValue, key_at, key_gives, key_in, key_of, length, length-set, List, list_all, load_in, load_of}
-use Rattle.lb_world.proofs.Words.{lt-ltb, made, Made, made_at, made_of, Meaning, Member, nat_lt, None, none-some, Option, option_map}
-use Rattle.lb_world.proofs.Words.{origin, Origin, past, past_of, permit_after, refl, Refusal, refused-alike, registries, registry_at}
-use Rattle.lb_world.proofs.Words.{registry_events, registry_of, RegistryValue, site, slice_get, slice_get_within, slice_set, Some, Step}
-use Rattle.lb_world.proofs.Words.{subst, sym, Task, true, view_events, views_of, with_core, Work, work, worked, works_at, WorkValue}
-use Rattle.lb_world.proofs.Words.{WorldRule, ℕ, ◌<◌, ◌≤◌, answer_after, ask_told, false≢true, members-past, members_of, newest, newest-past}
-use Rattle.lb_world.proofs.Words.{no_such, Ok, past-other, past-same, promised, same_Some, shares, slice_get_past, slots, unless_refused}
-use Rattle.lb_world.proofs.Words.{without_memory}
-use Rattle.lb_world.proofs.Places.{get_set, there, found, set-same}
+use Rattle.lb_world.proofs.Words.{◌∙◌, ◌⊎◌, ◌++◌, ◌≡◌, ◌&&◌, ◌∷◌, ◌==◌, [], ◌<◌, ◌≤◌, and_parts, Answer, answer_after, Answers, ap, ap2}
+use Rattle.lb_world.proofs.Words.{arith, ask_told, At, at_one, at_slot, Before, Bool, changed, cond, config, config_in, configs_of, EntryIs}
+use Rattle.lb_world.proofs.Words.{EntryNext, EntryValue, eq-eqb, false, false≢true, gate, GateId, gates, GateView, granted, granted_members}
+use Rattle.lb_world.proofs.Words.{group-of, group_at, group_events, GroupId, happened, held_of, History, inl, inr, is_at, IsRegistryAfter}
+use Rattle.lb_world.proofs.Words.{IsRun, joined_after, joined_events, JoinedValue, key_at, key_gives, key_in, key_of, length, length-set}
+use Rattle.lb_world.proofs.Words.{List, list_all, load_in, load_of, lt-ltb, made, Made, made_at, made_of, Meaning, Member, members-past}
+use Rattle.lb_world.proofs.Words.{members_of, nat_lt, newest, newest-past, no_such, None, none-some, Ok, Option, option_map, origin, Origin}
+use Rattle.lb_world.proofs.Words.{past, past-other, past-same, past_of, permit_after, promised, refl, Refusal, refused-alike, registries}
+use Rattle.lb_world.proofs.Words.{registry_at, registry_events, registry_of, RegistryValue, same_Some, shares, site, slice_get}
+use Rattle.lb_world.proofs.Words.{slice_get_past, slice_get_within, slice_set, slots, Some, Step, subst, sym, Task, there-at, true}
+use Rattle.lb_world.proofs.Words.{unless_refused, view_events, views_of, with_core, without_memory, Work, work, worked, works_at, WorkValue}
+use Rattle.lb_world.proofs.Words.{WorldRule, ℕ}
+use Rattle.lb_world.proofs.Places.{get_set, set-same, there}
 
 -- an event that is no grant leaves the last job
 abbrev pub no_grant : group.GroupEvent → Bool
@@ -319,7 +319,7 @@ module _ {C : Type 0} {h : History C} {g : ℕ} {e : EntryValue C} (is : EntryIs
   pub slot-there : (s : ℕ) (k : WorkValue C) → slice_get e.works s ≡ Some k → (c : C) × (slice_get (configs_of e.core.group) s ≡ Some c)
   slot-there s k at =
       let low : s < length (configs_of e.core.group) = omega (arith, is.works_in, slice_get_within e.works s k at) in
-      found (configs_of e.core.group) s low
+      there-at (configs_of e.core.group) s low
 
   pub holds : {s : ℕ} {k : WorkValue C} (t : Task C) (w : Work) → slice_get e.works s ≡ Some k → shown k ≡ Some (t, w) → Holds h g s e t w
   holds {s} {k} t w at to =
@@ -379,11 +379,11 @@ elsewhere s v k r off = past-other r s v k (λ p. off (sym p))
 module _ {C : Type 0} {M : Meaning C} {h : History C} {g : ℕ} {e : EntryValue C} {z : GateView} {v : RegistryValue WorldRule}
     (b : Before M h g e z v) where
   -- a place written as it was
-  pub next-same : (s : ℕ) {st : Step C} {a : Answer} {x k : WorkValue C} → slice_get e.works s ≡ Some x → k ≡ x
-      → EntryNext M h g st a e z e z v → EntryNext M h g st a e z (record e { works = slice_set e.works s k }) z v
-  next-same s {st} {a} at same next =
-      subst (λ (ws : List (WorkValue C)). EntryNext M h g st a e z (record e { works = ws }) z v)
-      (sym (ap (slice_set e.works s) same ∙ set-same e.works s _ at)) next
+  pub left-so : (s : ℕ) {st : Step C} {r : Refusal} {x k : WorkValue C} → slice_get e.works s ≡ Some x → k ≡ x → group_at h st ≡ Some g
+      → Answers M h st (Answer.Refused r) → EntryNext M h g st (Answer.Refused r) e z (record e { works = slice_set e.works s k }) z v
+  left-so s {st} {r} at same here right =
+      subst (λ (ws : List (WorkValue C)). EntryNext M h g st (Answer.Refused r) e z (record e { works = ws }) z v)
+      (sym (ap (slice_set e.works s) same ∙ set-same e.works s _ at)) (next-refused b here right (stays b.is))
 
   -- the snapshot of what stood in the slot is let go
   abbrev pub Releases : ℕ → RegistryValue WorldRule → Type 0
@@ -401,7 +401,7 @@ module _ {C : Type 0} {M : Meaning C} {h : History C} {g : ℕ} {e : EntryValue 
       → t ≡ ask_answer (past_of s (joined.group_events (joined_events g h))) z.out now
       → Answers M h (Step.ask g s now) (asked (group.newest (group_events g h)) t)
   ask-right s now t within to =
-      inl (rw (b.is.made_is, (found (configs_of e.core.group) s within).1)
+      inl (rw (b.is.made_is, (there-at (configs_of e.core.group) s within).1)
       (ap (asked (group.newest (group_events g h))) (rw (group-of g h, b.out) at to)))
 
   pub next-asked : {S I : Type 0} {s now : ℕ} (a : Ask S I C) (t : AskAnswer) {core : JoinedValue C} {y : GateView} → ask_told a ≡ t

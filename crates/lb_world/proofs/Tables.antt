@@ -18,7 +18,7 @@ use Rattle.lb_registry.specs.Verdicts.{agree}
 use Rattle.lb_registry.specs.declared.targets.Target.{Target}
 use Rattle.lb_world.specs.Calls.{IsCounted}
 use Rattle.lb_world.specs.Stands.{IsFounded, OnSite}
-use Rattle.std.proofs.Common.{◌≢◌}
+use Rattle.std.proofs.Common.{◌≢◌, get_or}
 use Rattle.std.proofs.lemmas.Bool.{lt-leb}
 use Rattle.std.proofs.lemmas.Grind.{common_steps}
 use Rattle.std.proofs.lemmas.List.{map-set}
@@ -26,20 +26,20 @@ use Rattle.std.proofs.lemmas.Option.{slice_get-map}
 use Rattle.lb_joined.specs.Stands as stands
 use Rattle.lb_joined.specs.JoinedHistory as joined
 use Rattle.lb_group.specs.GroupHistory as group
-use Rattle.lb_world.proofs.Words.{◌∙◌, ◌≡◌, ◌&&◌, ◌∷◌, ◌<◌, ◌==◌, ◌≤◌, [], Answer, Answers, ap, ap2, arith, Before, Bool, cases_eq, cond}
-use Rattle.lb_world.proofs.Words.{entered_of, entries, EntryIs, EntryNext, EntryValue, false, gates, GateView, group_at, group_events}
-use Rattle.lb_world.proofs.Words.{held_of, HeldValue, History, inl, inr, is_at, is_out, IsOwnReader, IsRegistryAfter, IsRun, joined_events}
-use Rattle.lb_world.proofs.Words.{key_at, key_gives, key_in, length, length-set, List, load_of, made, Made, made_at, made_of, map, Meaning}
-use Rattle.lb_world.proofs.Words.{Member, ne_eqb, None, none-some, Option, option_map, origin, Origin, others-stay, past_of, permit_after}
-use Rattle.lb_world.proofs.Words.{refl, Refusal, refused-alike, registries, registry_at, registry_events, RegistryMade, RegistryValue}
-use Rattle.lb_world.proofs.Words.{same_member, same_Some, site, slice_get, slice_get_past, slice_set, Some, Stands, Step, subst, sym}
-use Rattle.lb_world.proofs.Words.{unrefused, work, worked, works_at, WorldRule, WorldValue, ℕ, ◌+◌, ◌↔◌, ◌^◌, ◌⊎◌, ◌++◌, after}
-use Rattle.lb_world.proofs.Words.{answer_after, Applied, at_one, cells_given, eq-eqb, Err, Event, IsTrue, key_by, key_of, length_push}
-use Rattle.lb_world.proofs.Words.{marks_start_none, MatchOption, no_number, not, refuse, Result, slice_get_within, true, unless_refused}
-use Rattle.lb_world.proofs.Words.{where_, without_memory, at_slot, cond_some, config, config_in, configs_of, group-of, IsReady, Judges}
-use Rattle.lb_world.proofs.Words.{length-map, lt-ltb, map-append, nat_lt, Ok, past, served, views_of, with_core}
-use Rattle.lb_world.proofs.Places.{each-set, found, get_other, get_same, get_set, set-same, there, each-push, get_kept, get_last, get_push}
-use Rattle.lb_world.proofs.Places.{still-there}
+use Rattle.lb_world.proofs.Words.{◌∙◌, ◌≡◌, ◌&&◌, ◌∷◌, ◌<◌, ◌==◌, ◌≤◌, [], ◌+◌, ◌↔◌, ◌^◌, ◌⊎◌, ◌++◌, after, Answer, answer_after, Answers}
+use Rattle.lb_world.proofs.Words.{ap, ap2, Applied, arith, at_one, at_slot, Before, Bool, cases_eq, cells_given, cond, cond_some, config}
+use Rattle.lb_world.proofs.Words.{config_in, configs_of, entered_of, entries, EntryIs, EntryNext, EntryValue, eq-eqb, Err, Event, false}
+use Rattle.lb_world.proofs.Words.{gates, GateView, get-kept, get-pushed, group-of, group_at, group_events, held_of, HeldValue, History, inl}
+use Rattle.lb_world.proofs.Words.{inr, is_at, is_out, IsOwnReader, IsReady, IsRegistryAfter, IsRun, IsTrue, joined_events, Judges, key_at}
+use Rattle.lb_world.proofs.Words.{key_by, key_gives, key_in, key_of, length, length-map, length-set, length_push, List, load_of, lt-ltb}
+use Rattle.lb_world.proofs.Words.{made, Made, made_at, made_of, map, map-append, marks_start_none, MatchOption, Meaning, Member, nat_lt}
+use Rattle.lb_world.proofs.Words.{ne_eqb, no_number, None, none-some, not, Ok, Option, option_map, origin, Origin, others-stay, past}
+use Rattle.lb_world.proofs.Words.{past_of, permit_after, refl, Refusal, refuse, refused-alike, registries, registry_at, registry_events}
+use Rattle.lb_world.proofs.Words.{RegistryMade, RegistryValue, Result, same_member, same_Some, served, set_found, site, slice_get}
+use Rattle.lb_world.proofs.Words.{slice_get_past, slice_get_within, slice_set, Some, Stands, Step, subst, sym, there-at, true}
+use Rattle.lb_world.proofs.Words.{unless_refused, unrefused, views_of, where_, with_core, without_memory, work, worked, works_at, WorldRule}
+use Rattle.lb_world.proofs.Words.{WorldValue, ℕ}
+use Rattle.lb_world.proofs.Places.{at-place, each-push, each-set, get_last, get_other, get_set, set-same, still-there, there}
 use Rattle.lb_world.proofs.Entries.{at-group, gate-here, key-here, next, registry-here, taken, config-here, Moves, next-core, next-refused}
 use Rattle.lb_world.proofs.Entries.{reading-told, unshared, views-are}
 
@@ -74,8 +74,6 @@ module _ {C : Type 0} where
       → load_of i b ((st, a) ∷ h) ≡ load_of i b h
   loads-else h (Step.load x (Some c) l) Answer.Done g i b at off =
       ap (λ (t : Bool). cond t l (load_of i b h)) (beside x i (same_member c b) (λ p. off (p ∙ same_Some x g at)))
-  loads-else h (Step.load x (Some c) l) a g i b at off = refl
-  loads-else h (Step.load x None l) a g i b at off = refl
   loads-else h st a g i b at off = refl
 
   entry-else : (h : History C) (st : Step C) (a : Answer) (g i : ℕ) (e : EntryValue C) → group_at h st ≡ Some g → ¬ (i ≡ g)
@@ -170,7 +168,7 @@ module _ {C : Type 0} {M : Meaning C} {w : WorldValue C} {h : History C} (s : St
         | inl p ↦
             record {
               view = y;
-              gate = ap (slice_get (slice_set w.gates e.gate y)) p ∙ get_same w.gates e.gate z y there;
+              gate = ap (slice_get (slice_set w.gates e.gate y)) p ∙ set_found w.gates e.gate z y there;
               id = same
                   ∙ ap (λ (t : GateView). t.id) (same_Some z on.view (sym there ∙ ap (slice_get w.gates) (sym p ∙ a) ∙ on.gate)) ∙ on.id ∙
                   sym i;
@@ -259,7 +257,7 @@ module _ {C : Type 0} {M : Meaning C} {w : WorldValue C} {h : History C} (s : St
       → Stands M (record w { groups = slice_set w.groups g d; readers = rs }) ((st, a) ∷ h)
   group-moves g st a e d rs at reads owns there next =
       let on = s.on_site g e there in
-      let u = found w.registries e.registry on.registry in
+      let u = there-at w.registries e.registry on.registry in
       rw (set-same w.registries e.registry u.0 u.1, set-same w.gates e.gate on.view on.gate)
       at (world-moves g st a e d on.view on.view u.0 u.0 rs at reads owns there on.gate u.1
       (next on.view u.0 (before g e on.view u.0 there on.gate u.1)))
@@ -305,10 +303,7 @@ flip-told true true true p = absurd (p.0 refl refl)
 flip-told true false false p = absurd (p.0 refl refl)
 flip-told false true false p = p.1 (λ e. absurd (cc))
 flip-told false false true p = p.1 (λ e. absurd (cc))
-flip-told true true false p = refl
-flip-told true false true p = refl
-flip-told false true true p = refl
-flip-told false false false p = refl
+flip-told b new old p = refl
 
 -- what a registry's calls tell, after each history that it may have
 abbrev pub Tells : RegistryValue WorldRule → ((Member → Member) → List Event → Type 0) → Type 0
@@ -364,7 +359,7 @@ module _ {C : Type 0} {M : Meaning C} {w : WorldValue C} {h : History C} (s : St
   -- what a registry was made with
   made-there : (r : ℕ) (u : RegistryValue WorldRule) → slice_get w.registries r ≡ Some u → (m : RegistryMade)
       × (slice_get (registries h) r ≡ Some m)
-  made-there r u there = found (registries h) r (omega (arith, slice_get_within w.registries r u there, s.registries_are))
+  made-there r u there = there-at (registries h) r (omega (arith, slice_get_within w.registries r u there, s.registries_are))
 
   -- one registry moves by a step that tells nothing of all else
   pub verdict-next : (r c threshold : ℕ) (ok b : Bool) (u v : RegistryValue WorldRule) → slice_get w.registries r ≡ Some u
@@ -436,8 +431,8 @@ module _ {C : Type 0} {M : Meaning C} {w : WorldValue C} {h : History C} (s : St
         kept =
             each-push w.registries v (rw (s.registries_are, eq-eqb (length (registries h)) (length (registries h)) refl, get_last) new)
             (λ i x low was.
-            let m = found (registries h) i (omega (arith, low, s.registries_are)) in
-            rw (ne_eqb (length (registries h)) i (λ e. omega (arith, e, low, s.registries_are)), get_kept (registries h) i _ m.0 m.1)
+            let m = there-at (registries h) i (omega (arith, low, s.registries_are)) in
+            rw (ne_eqb (length (registries h)) i (λ e. omega (arith, e, low, s.registries_are)), get-kept (registries h) _ m.0 i m.1)
             (rw m.1 at (s.kept i x was)));
         outs = s.outs;
         each = λ g e in_.
@@ -454,7 +449,7 @@ module _ {C : Type 0} {M : Meaning C} {w : WorldValue C} {h : History C} (s : St
   in-place true is =
       let whose = (one-extra M h s.run).whose (length w.gates) is in
       let m = slot-on whose.1 (length w.gates) (made_at whose.0 h) whose.2 in
-      let e = found w.groups whose.0 (omega (arith, slice_get_within (made h) whose.0 m.0 m.1.0, s.groups_are)) in
+      let e = there-at w.groups whose.0 (omega (arith, slice_get_within (made h) whose.0 m.0 m.1.0, s.groups_are)) in
       let on = s.on_site whose.0 e.0 e.1 in
       let gate_is : e.0.gate ≡ length w.gates =
       ap (λ (t : Made C). t.gate) (same_Some (made_of e.0) m.0 (sym (s.each whose.0 e.0 e.1).made_is ∙ m.1.0)) ∙ m.1.1 in
@@ -475,7 +470,7 @@ module _ {C : Type 0} {M : Meaning C} {w : WorldValue C} {h : History C} (s : St
             entry-moves (s.each g e in_).made_is refl refl (λ r. refl) (λ b. refl) (s.each g e in_);
         on_site = λ g e in_.
             let on = s.on_site g e in_ in
-            record { view = on.view; gate = get_kept w.gates e.gate z on.view on.gate; id = on.id; registry = on.registry };
+            record { view = on.view; gate = get-kept w.gates z on.view e.gate on.gate; id = on.id; registry = on.registry };
         own = s.own;
       }
 
@@ -487,9 +482,9 @@ module _ {C : Type 0} (M : Meaning C) where
   entered-there ((Step.group r a cs, Answer.Group n) ∷ h) run t e at =
       let c = entered-there h run.0 t e at in
       let m = config-made e.slot (made_at e.group h) c.0 c.1 in
-      (c.0, ap (config_in e.slot) (get_kept (made h) e.group _ m.0 m.1) ∙ sym (ap (config_in e.slot) m.1) ∙ c.1)
+      (c.0, ap (config_in e.slot) (get-kept (made h) _ m.0 e.group m.1) ∙ sym (ap (config_in e.slot) m.1) ∙ c.1)
   entered-there ((Step.enter g s, Answer.Reader u n) ∷ h) run t e at =
-      elim (get_push (entries h) t _ (Some e) at) [
+      elim (get-pushed (entries h) _ (Some e) t at) [
         | inl p ↦
             let c = found-of {C = C} (Step.enter g s) (config g s h) _ (Answer.Reader u n) refl run.1 in
             let same : e ≡ record { group = g; slot = s; generation = n } = same_Some _ _ p.1 in
@@ -580,13 +575,13 @@ module _ {C : Type 0} {M : Meaning C} {w : WorldValue C} {h : History C} (s : St
             ∙ ap2 (λ (es : List (Option Entered)) (i : ℕ). es ++ Some (record { group = g; slot = i; generation = q.generation }) ∷ [])
             s.readers_are answers.1)
             (λ i y held z in_.
-            elim (get_push w.readers i (Some (record { group = g; reader = q })) (Some y) (rw grown at held)) [
+            elim (get-pushed w.readers (Some (record { group = g; reader = q })) (Some y) i (rw grown at held)) [
               | inl p ↦
                   let mine : y ≡ record { group = g; reader = q } = same_Some _ _ p.1 in
                   let here_ : slice_get (slice_set w.groups g d) g ≡ Some z =
                   ap (λ (v : HeldValue C). slice_get (slice_set w.groups g d) v.group) (sym mine) ∙ in_ in
                   ap (λ (v : HeldValue C). v.reader.group) mine ∙ own
-                  ∙ ap (λ (v : EntryValue C). v.core.group.id) (same_Some d z (sym (get_same w.groups g e d there_) ∙ here_))
+                  ∙ ap (λ (v : EntryValue C). v.core.group.id) (same_Some d z (sym (set_found w.groups g e d there_) ∙ here_))
               | inr p ↦ own-kept s g e d there_ moves.0.group.id i y p.1 z in_
             ])
             there_
@@ -627,6 +622,11 @@ module _ {C : Type 0} {M : Meaning C} {w : WorldValue C} {h : History C} (s : St
       let c = entered-there M h s.run t (entered_of r) (entered-in t (Some r) there_) in
       let m = config-made r.reader.slot (made_at r.group h) c.0 c.1 in
       omega (arith, slice_get_within (made h) r.group m.0 m.1, s.groups_are)
+
+  -- the entry of its group, as it is read
+  pub entry-of : (t : ℕ) (r : HeldValue C) {k : ℕ} {e : EntryValue C} → slice_get w.readers t ≡ Some (Some r) → k ≡ r.group
+      → e ≡ get_or w.groups k e → slice_get w.groups r.group ≡ Some e
+  entry-of t r {k} {e} there_ is read = rw is at (at-place w.groups k e (omega (arith, is, group-there t r there_)) read)
 
   pub counted : (t : ℕ) (r : HeldValue C) (e : EntryValue C) → slice_get w.readers t ≡ Some (Some r) → slice_get w.groups r.group ≡ Some e
       → IsCounted e.core r.reader.slot r.reader.generation
