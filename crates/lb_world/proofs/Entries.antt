@@ -1,27 +1,45 @@
--- A step at a group, by what it leaves of the group's entry: once for all kinds.
+-- A step at a group, by what it leaves of the group's entry, once for all kinds; then the steps of a slot's job: it is granted,
+-- built or fails, and comes back, and what is held of it is the last job.
 use Rattle.lb_group.proofs.Pasts.{lt-false}
+use Rattle.lb_group.specs.GroupCalls.{Asks, IsJob, asked_events, is_awaited, is_owed, is_served, publish_answer, publish_events}
+use Rattle.lb_group.specs.GroupCalls.{taken_refusal}
+use Rattle.lb_group.specs.GroupHistory.{AskAnswer, ask_answer, extra, generation_of, is_aloft, is_taken_out, job}
+use Rattle.lb_group.specs.SlotCalls.{asked_gate}
+use Rattle.lb_group.specs.Values.{BuiltValue}
+use Rattle.lb_group.specs.declared.answers.Ask.{Ask}
+use Rattle.lb_group.specs.declared.answers.Told.{Told}
+use Rattle.lb_health.specs.Joined.{registry_released}
+use Rattle.lb_history.proofs.Accepted.{job-may}
 use Rattle.lb_history.proofs.Placing.{here, same-either}
+use Rattle.lb_history.proofs.Runs.{aloft}
 use Rattle.lb_history.proofs.Together.{joins-alike}
-use Rattle.lb_history.specs.Answers.{flight_of}
-use Rattle.lb_history.specs.History.{gate_of}
-use Rattle.lb_history.specs.Shared.{registry_in, registry_made}
+use Rattle.lb_history.specs.Answers.{flight_of, asked, built_or_failed, destroy_refusal, of_built, of_job}
+use Rattle.lb_history.specs.History.{gate_of, is_held}
+use Rattle.lb_history.specs.Shared.{registry_in, registry_made, extra_at}
+use Rattle.lb_world.specs.Calls.{told_as}
 use Rattle.lb_world.specs.Stands.{AreHeld}
+use Rattle.lb_world.specs.Views.{NotBuilding, NotReady}
+use Rattle.lb_world.specs.Works.{last_job}
+use Rattle.std.proofs.lemmas.Bool.{eqb-true}
 use Rattle.std.proofs.lemmas.Grind.{common_steps}
 use Rattle.lb_joined.specs.Stands as stands
 use Rattle.lb_group.specs.GroupHistory as group
 use Rattle.lb_joined.specs.JoinedHistory as joined
 use Rattle.lb_registry.specs.RegistryEvents as registry
-use Rattle.lb_world.proofs.Words.{arith, ◌∙◌, ◌⊎◌, ◌++◌, ◌≡◌, ◌&&◌, ◌∷◌, ◌==◌, [], and_parts, Answer, Answers, ap, ap2, At, at_one, at_slot}
-use Rattle.lb_world.proofs.Words.{Before, Bool, changed, cond, config, config_in, configs_of, EntryIs, EntryNext, EntryValue, eq-eqb}
-use Rattle.lb_world.proofs.Words.{false, gate, GateId, gates, GateView, granted, granted_members, group-of, group_at, group_events, GroupId}
-use Rattle.lb_world.proofs.Words.{happened, held_of, History, inl, inr, is_at, IsRegistryAfter, IsRun, joined_after, joined_events}
-use Rattle.lb_world.proofs.Words.{JoinedValue, key_at, key_gives, key_in, key_of, length, length-set, List, list_all, load_in, load_of}
-use Rattle.lb_world.proofs.Words.{lt-ltb, made, Made, made_at, made_of, Meaning, Member, nat_lt, None, none-some, Option}
-use Rattle.lb_world.proofs.Words.{option_map, origin, Origin, past, past_of, permit_after, refl, Refusal, refused-alike, registries}
-use Rattle.lb_world.proofs.Words.{registry_at, registry_events, registry_of, RegistryValue, site, slice_get, slice_get_within, slice_set}
-use Rattle.lb_world.proofs.Words.{Some, Step, subst, sym, Task, true, view_events, views_of, with_core, Work, work, worked, works_at}
-use Rattle.lb_world.proofs.Words.{WorkValue, WorldRule, ℕ}
-use Rattle.lb_world.proofs.Places.{get_set, there}
+use Rattle.lb_group.specs.Stands as group-made
+use Rattle.lb_world.proofs.Words.{◌∙◌, ◌⊎◌, ◌++◌, ◌≡◌, ◌&&◌, ◌∷◌, ◌==◌, [], ◌<◌, ◌≤◌, and_parts, Answer, answer_after, Answers, ap, ap2}
+use Rattle.lb_world.proofs.Words.{arith, ask_told, At, at_one, at_slot, Before, Bool, changed, cond, config, config_in, configs_of, EntryIs}
+use Rattle.lb_world.proofs.Words.{EntryNext, EntryValue, eq-eqb, false, false≢true, gate, GateId, gates, GateView, granted, granted_members}
+use Rattle.lb_world.proofs.Words.{group-of, group_at, group_events, GroupId, happened, held_of, History, inl, inr, is_at, IsRegistryAfter}
+use Rattle.lb_world.proofs.Words.{IsRun, joined_after, joined_events, JoinedValue, key_at, key_gives, key_in, key_of, length, length-set}
+use Rattle.lb_world.proofs.Words.{List, list_all, load_in, load_of, lt-ltb, made, Made, made_at, made_of, Meaning, Member, members-past}
+use Rattle.lb_world.proofs.Words.{members_of, nat_lt, newest, newest-past, no_such, None, none-some, Ok, Option, option_map, origin, Origin}
+use Rattle.lb_world.proofs.Words.{past, past-other, past-same, past_of, permit_after, promised, refl, Refusal, refused-alike, registries}
+use Rattle.lb_world.proofs.Words.{registry_at, registry_events, registry_of, RegistryValue, same_Some, shares, site, slice_get}
+use Rattle.lb_world.proofs.Words.{slice_get_past, slice_get_within, slice_set, slots, Some, Step, subst, sym, Task, there-at, true}
+use Rattle.lb_world.proofs.Words.{unless_refused, view_events, views_of, with_core, without_memory, Work, work, worked, works_at, WorkValue}
+use Rattle.lb_world.proofs.Words.{WorldRule, ℕ}
+use Rattle.lb_world.proofs.Places.{get_set, set-same, there}
 
 -- an event that is no grant leaves the last job
 abbrev pub no_grant : group.GroupEvent → Bool
@@ -249,3 +267,315 @@ module _ {C : Type 0} {M : Meaning C} {h : History C} {g : ℕ} {e : EntryValue 
             ∙ ap (at-slot r c (group_events g ((st, a) ∷ h))) (sym (places r ∙ off))
       ])
       (λ m. b.is.loads_are m ∙ sym (loads m)) out kept
+
+-- what is held of a job, as its task and what has become of it
+abbrev pub shown : {C : Type 0} → WorkValue C → Option (Task C × Work)
+shown WorkValue.nothing = None
+shown (WorkValue.building t) = Some (t, Work.building)
+shown (WorkValue.ready b) = Some (b.task, Work.built b.ended)
+
+is-held : {C : Type 0} (o : Origin) (s : ℕ) (c : C) (p : group.History) (w u : Work) (k : WorkValue C) (t : Task C)
+    → k ≡ held_of o s c p w → shown k ≡ Some (t, u) → (w ≡ u) × (t ≡ last_job o s c p)
+is-held o s c p Work.idle u k t e to = absurd (none-some (t, u) (sym (ap shown e) ∙ to))
+is-held o s c p w u k t e to =
+    let same = same_Some (last_job o s c p, w) (t, u) (sym (ap shown e) ∙ to) in (ap (λ x. x.1) same, sym (ap (λ x. x.0) same))
+
+not-ready : {C : Type 0} (o : Origin) (s : ℕ) (c : C) (p : group.History) (w : Work) (a : Answer) (k : WorkValue C)
+    → k ≡ held_of o s c p w → NotReady k → Answer.Refused Refusal.NothingBuilt ≡ of_built w a
+not-ready o s c p (Work.built now) a k e off = absurd (subst NotReady e off)
+not-ready o s c p w a k e off = refl
+
+not-building : {C : Type 0} (o : Origin) (s : ℕ) (c : C) (p : group.History) (w : Work) (a : Answer) (k : WorkValue C)
+    → k ≡ held_of o s c p w → NotBuilding k → Answer.Refused Refusal.NothingInFlight ≡ of_job w a
+not-building o s c p Work.building a k e off = absurd (subst NotBuilding e off)
+not-building o s c p w a k e off = refl
+
+-- what is aloft is of that generation
+aloft-number : (n : ℕ) (e : group.Extra) → is_aloft n e ≡ true → generation_of e ≡ n
+aloft-number n (group.flight m) up = eqb-true m n up
+aloft-number n (group.lost m) up = eqb-true m n up
+aloft-number n e up = absurd (cc)
+
+-- nothing is held where a job is granted
+grounded : (w : Work) → false ≡ is_held w → w ≡ Work.idle
+grounded Work.idle e = refl
+grounded w e = absurd (cc)
+
+same-task : {C : Type 0} {i k : GroupId} {s t n m : ℕ} {xs ys : List Member} {c d : C} {p q : GateId}
+    → i ≡ k → s ≡ t → n ≡ m → xs ≡ ys → c ≡ d → p ≡ q
+    → (let left : Task C = record { group = i; slot = s; generation = n; members = xs; config = c; permit = p } in
+    let right : Task C = record { group = k; slot = t; generation = m; members = ys; config = d; permit = q } in
+    left ≡ right)
+same-task w a b e f u = cc
+
+-- what is held of a job: that job, of a slot that is there
+pub record Holds {C : Type 0} (h : History C) (g s : ℕ) (e : EntryValue C) (t : Task C) (w : Work) : Type 0 where
+  pub config : C
+  pub there : slice_get (configs_of e.core.group) s ≡ Some config
+  pub work_is : work g s h ≡ w
+  pub is : t ≡ last_job (origin e.core) s config (past g s h)
+
+module _ {C : Type 0} {h : History C} {g : ℕ} {e : EntryValue C} (is : EntryIs h g e) where
+  pub slot-there : (s : ℕ) (k : WorkValue C) → slice_get e.works s ≡ Some k → (c : C) × (slice_get (configs_of e.core.group) s ≡ Some c)
+  slot-there s k at =
+      let low : s < length (configs_of e.core.group) = omega (arith, is.works_in, slice_get_within e.works s k at) in
+      there-at (configs_of e.core.group) s low
+
+  pub holds : {s : ℕ} {k : WorkValue C} (t : Task C) (w : Work) → slice_get e.works s ≡ Some k → shown k ≡ Some (t, w) → Holds h g s e t w
+  holds {s} {k} t w at to =
+      let c = slot-there s k at in
+      let p = is-held (origin e.core) s c.0 (past g s h) (work g s h) w k t (is.works_are s c.0 k c.1 at) to in
+      record { config = c.0; there = c.1; work_is = p.0; is = p.1 }
+
+  -- a slot that isn't there, and a place where nothing built is, or no job
+  pub beyond : (s : ℕ) (f : C → Answer) → length e.works ≤ s → Answer.Refused Refusal.NoSuch ≡ at_one (config g s h) f
+  beyond s f past =
+      let few : length (configs_of e.core.group) ≤ s = omega (arith, is.works_in, past) in
+      sym (ap (λ (o : Option C). at_one o f) (config-here is s ∙ slice_get_past (configs_of e.core.group) s few))
+
+  pub unbuilt : (s : ℕ) (k : WorkValue C) (a : Answer) → slice_get e.works s ≡ Some k → NotReady k
+      → Answer.Refused Refusal.NothingBuilt ≡ at_one (config g s h) (λ c. of_built (work g s h) a)
+  unbuilt s k a at off =
+      let c = slot-there s k at in
+      rw (config-here is s ∙ c.1)
+      (not-ready (origin e.core) s c.0 (past g s h) (work g s h) a k (is.works_are s c.0 k c.1 at) off)
+
+  pub unstarted : (s : ℕ) (k : WorkValue C) (a : C → Answer) → slice_get e.works s ≡ Some k → NotBuilding k
+      → Answer.Refused Refusal.NothingInFlight ≡ at_one (config g s h) (λ c. of_job (work g s h) (a c))
+  unstarted s k a at off =
+      let c = slot-there s k at in
+      rw (config-here is s ∙ c.1)
+      (not-building (origin e.core) s c.0 (past g s h) (work g s h) (a c.0) k (is.works_are s c.0 k c.1 at) off)
+
+  -- where a job is granted nothing is held
+  pub free-place : (M : Meaning C) → IsRun M h → (s now : ℕ) (out : Bool) (k : WorkValue C)
+      → job ≡ ask_answer (past_of s (joined.group_events (joined_events g h))) out now → slice_get e.works s ≡ Some k
+      → k ≡ WorkValue.nothing
+  free-place M run s now out k to at =
+      let c = slot-there s k at in
+      let may = job-may (past g s h) out now (sym (to ∙ ap (λ (q : group.History). ask_answer (past_of s q) out now) (group-of g h))) in
+      is.works_are s c.0 k c.1 at
+      ∙ ap (held_of (origin e.core) s c.0 (past g s h))
+      (grounded (work g s h) (sym (ap (is_aloft (granted (past g s h))) may.0) ∙ (slots M h run g s).1))
+
+  module _ {s : ℕ} {t : Task C} {w : Work} (has : Holds h g s e t w) where
+    pub told-work : (f : C → Work → Answer) → at_one (config g s h) (λ c. f c (work g s h)) ≡ f has.config w
+    told-work f = ap2 (λ (o : Option C) (u : Work). at_one o (λ c. f c u)) (config-here is s ∙ has.there) has.work_is
+
+    -- it is the group's own, and awaited
+    pub own-task : (t.group ≡ e.core.group.id) × (t.permit ≡ e.core.group.gate) ×
+        (slice_get (configs_of e.core.group) t.slot ≡ Some t.config)
+    own-task = (ap (λ (x : Task C). x.group) has.is, ap (λ (x : Task C). x.permit) has.is, rw has.is has.there)
+
+    pub unawaited : (M : Meaning C) → IsRun M h → is_held w ≡ true
+        → is_awaited t.slot t.generation (joined.group_events (joined_events g h)) ≡ false → ⊥
+    unawaited M run held off =
+        false≢true (sym off ∙ rw (has.is, group-of g h) (aloft M h g s w (slots M h run) has.work_is held))
+
+-- an event at a slot is none of another's
+pub elsewhere : (s : ℕ) (v : group.SlotEvent) (k : group.History) (r : ℕ) → ¬ (r ≡ s) → past_of r (At s v ∷ k) ≡ past_of r k
+elsewhere s v k r off = past-other r s v k (λ p. off (sym p))
+
+module _ {C : Type 0} {M : Meaning C} {h : History C} {g : ℕ} {e : EntryValue C} {z : GateView} {v : RegistryValue WorldRule}
+    (b : Before M h g e z v) where
+  -- a place written as it was
+  pub left-so : (s : ℕ) {st : Step C} {r : Refusal} {x k : WorkValue C} → slice_get e.works s ≡ Some x → k ≡ x → group_at h st ≡ Some g
+      → Answers M h st (Answer.Refused r) → EntryNext M h g st (Answer.Refused r) e z (record e { works = slice_set e.works s k }) z v
+  left-so s {st} {r} at same here right =
+      subst (λ (ws : List (WorkValue C)). EntryNext M h g st (Answer.Refused r) e z (record e { works = ws }) z v)
+      (sym (ap (slice_set e.works s) same ∙ set-same e.works s _ at)) (next-refused b here right (stays b.is))
+
+  -- the snapshot of what stood in the slot is let go
+  abbrev pub Releases : ℕ → RegistryValue WorldRule → Type 0
+  Releases n u =
+      IsRegistryAfter key_gives (key_of g h)
+      (registry_released e.core.view.id n (views_of (site e.core) (joined_events g h)) (registry_events e.registry h)) u
+
+  released : (s n : ℕ) (es : List registry.Event) (u : RegistryValue WorldRule) → n ≡ extra_at g s h
+      → es ≡ registry_released e.core.view.id (extra_at g s h) (view_events g h) (registry_events e.registry h) → Releases n u
+      → IsRegistryAfter key_gives (key_of g h) es u
+  released s n es u of new kept = rw (new, ← of, ← views-are b.is M b.run) kept
+
+  -- what a slot answers: another answer than a job changes nothing
+  ask-right : (s now : ℕ) (t : AskAnswer) → s < length (configs_of e.core.group)
+      → t ≡ ask_answer (past_of s (joined.group_events (joined_events g h))) z.out now
+      → Answers M h (Step.ask g s now) (asked (group.newest (group_events g h)) t)
+  ask-right s now t within to =
+      inl (rw (b.is.made_is, (there-at (configs_of e.core.group) s within).1)
+      (ap (asked (group.newest (group_events g h))) (rw (group-of g h, b.out) at to)))
+
+  pub next-asked : {S I : Type 0} {s now : ℕ} (a : Ask S I C) (t : AskAnswer) {core : JoinedValue C} {y : GateView} → ask_told a ≡ t
+      → ¬ (t ≡ job) → Asks (site e.core) (joined.group_events (joined_events g h)) s z.out now (Ok a)
+      → Moves e (joined.in_group (asked_events s now (ask_told a)) ++ joined_events g h) core → y ≡ asked_gate (ask_told a) z
+      → EntryNext M h g (Step.ask g s now) (asked (group.newest (group_events g h)) t) e z (with_core core e) y v
+  next-asked a job told off answers moves back = absurd (off refl)
+  next-asked {s = s} {now = now} a t told off answers moves back =
+      next-core b refl (ask-right s now t answers.0 (sym told ∙ answers.1)) (rw told at moves) refl (λ r. refl) (λ m. refl)
+      (rw told at back) (unshared b (Step.ask g s now) (asked (group.newest (group_events g h)) t) refl refl)
+
+  pub next-unasked : {s now : ℕ} (r : Refusal) {core : JoinedValue C} → r ≡ Refusal.NoSuch → length (configs_of e.core.group) ≤ s
+      → Moves e (joined_events g h) core → EntryNext M h g (Step.ask g s now) (Answer.Refused r) e z (with_core core e) z v
+  next-unasked {s = s} r no_such past moves =
+      next-refused b refl (inl (rw (b.is.made_is, slice_get_past (configs_of e.core.group) s past) (ap Answer.Refused no_such))) moves
+
+  pub does-grant : {S I : Type 0} {s now : ℕ} (a : Ask S I C) (j : Task C) {core : JoinedValue C} {old : WorkValue C} {y : GateView}
+      → ask_told a ≡ job → Asks (site e.core) (joined.group_events (joined_events g h)) s z.out now (Ok a)
+      → IsJob (site e.core) (joined.group_events (joined_events g h)) s j
+      → Moves e (joined.in_group (asked_events s now (ask_told a)) ++ joined_events g h) core
+      → slice_get e.works s ≡ Some old → y ≡ asked_gate (ask_told a) z
+      → EntryNext M h g (Step.ask g s now) (Answer.Build j.generation) e z
+      (record e { core = core; works = slice_set e.works s (WorkValue.building j) }) y v
+  does-grant {s = s} {now = now} a j told answers own moves was back =
+      let k = group_events g h in
+      let newest : j.generation ≡ group.newest k = own.generation ∙ ap group.newest (group-of g h) in
+      next-work b s refl (rw newest (ask-right s now job answers.0 (sym told ∙ answers.1))) was (rw told at moves)
+      (elsewhere s (group.Granted now) k) (λ r. refl)
+      (λ c there.
+      ap WorkValue.building
+      (same-task own.group own.place (newest ∙ sym (newest-past s k))
+      (own.members ∙ ap (λ (k : group.History). group.order_members (past_of s k)) (group-of g h))
+      (same_Some j.config c (sym own.config ∙ there)) own.permit)
+      ∙ sym (ap (λ (q : group.History). held_of (origin e.core) s c q Work.building) (past-same s (group.Granted now) k)))
+      (λ m. refl) (rw told at back) (unshared b (Step.ask g s now) (Answer.Build j.generation) refl refl)
+
+  module _ {s : ℕ} {j : Task C} (has : Holds h g s e j Work.building) where
+    build-told : (now : ℕ) (r : Option Refusal) → M.refusal j.members j.config ≡ r
+        → answer_after M h (Step.build g s now) ≡ built_or_failed j.generation r
+    build-told now r is =
+        let members = members-past (granted (past g s h)) s (group_events g h) in
+        told-work b.is has
+        (λ c w. of_job w (built_or_failed (granted (past g s h)) (M.refusal (members_of (granted (past g s h)) (group_events g h)) c)))
+        ∙ ap (built_or_failed (granted (past g s h)))
+        (ap (λ (ms : List Member). M.refusal ms has.config) (sym members ∙ sym ((promised M h b.run).members_kept g s).under_way)
+        ∙ rw has.is at is)
+        ∙ ap (λ (x : Task C). built_or_failed x.generation r) (sym has.is)
+
+    -- a build that is done, and held from then on
+    pub does-build : (now : ℕ) (x : BuiltValue C) → slice_get e.works s ≡ Some (WorkValue.building j) → M.refusal j.members j.config ≡ None
+        → x.task ≡ j → x.ended ≡ now
+        → EntryNext M h g (Step.build g s now) (Answer.Built j.generation) e z
+        (record e { works = slice_set e.works s (WorkValue.ready x) }) z v
+    does-build now x held none task_is ended_is =
+        next-work b s refl (inl (sym (build-told now None none))) held (stays b.is) (λ r off. refl) (λ r. refl)
+        (λ c there.
+        ap2 (λ (t : Task C) (n : ℕ). WorkValue.ready (record { task = t; ended = n }))
+        (task_is ∙ has.is ∙ ap (λ (d : C). last_job (origin e.core) s d (past g s h)) (same_Some has.config c (sym has.there ∙ there)))
+        ended_is)
+        (λ m. refl) refl (unshared b (Step.build g s now) (Answer.Built j.generation) refl refl)
+
+    -- a build that failed: its permit comes back, and its snapshot is let go
+    module _ {now : ℕ} {core : JoinedValue C} {y : GateView} {u : RegistryValue WorldRule}
+        (held : slice_get e.works s ≡ Some (WorkValue.building j))
+        (moves : Moves e (joined.At j.slot (group.Failed now j.members) ∷ joined_events g h) core) (back : y ≡ gate z.id false)
+        (lets-go : Releases j.generation u)
+      where
+        let-go : (es : List registry.Event)
+            → es ≡ registry_released e.core.view.id (extra_at g s h) (view_events g h) (registry_events e.registry h)
+            → IsRegistryAfter key_gives (key_of g h) es u
+        let-go es new =
+            released s j.generation es u
+            (ap (λ (x : Task C). x.generation) has.is
+            ∙ sym (aloft-number (granted (past g s h)) (extra (past g s h))
+            (aloft M h g s Work.building (slots M h b.run) has.work_is refl)))
+            new lets-go
+
+        -- refused, for its cause or for memory
+        pub does-fall : (r : Refusal)
+            → (M.refusal j.members j.config ≡ Some r) ⊎ ((M.refusal j.members j.config ≡ None) × (r ≡ Refusal.OutOfMemory))
+            → EntryNext M h g (Step.build g s now) (Answer.BuildFailed j.generation r) e z
+            (record e { core = core; works = slice_set e.works s WorkValue.nothing }) y u
+        does-fall r cause =
+            let right : Answers M h (Step.build g s now) (Answer.BuildFailed j.generation r) =
+            elim cause [
+              | inl q ↦ inl (sym (build-told now (Some r) q))
+              | inr q ↦
+                  inr (ap (Answer.BuildFailed j.generation) q.1
+                  ∙ sym (ap (without_memory {C = C} (Step.build g s now)) (build-told now None q.0)))
+            ] in
+            next-work b s refl right held (rw has.is at moves) (elsewhere s _ (group_events g h)) (λ i. refl) (λ c there. refl) (λ m. refl)
+            back
+            (let-go _ (shares M h (Step.build g s now) (Answer.BuildFailed j.generation r) (b.run, right) (made_of e) b.is.made_is))
+
+        pub does-fail : EntryNext M h g (Step.failbuild g s now) (Answer.Failed j.generation) e z
+            (record e { core = core; works = slice_set e.works s WorkValue.nothing }) y u
+        does-fail =
+            let right : Answers M h (Step.failbuild g s now) (Answer.Failed j.generation) =
+            inl (sym (told-work b.is has (λ c w. of_job w (Answer.Failed (granted (past g s h))))
+            ∙ ap (λ (x : Task C). Answer.Failed x.generation) (sym has.is))) in
+            next-work b s refl right held (rw has.is at moves) (elsewhere s _ (group_events g h)) (λ i. refl) (λ c there. refl) (λ m. refl)
+            back
+            (let-go _ (shares M h (Step.failbuild g s now) (Answer.Failed j.generation) (b.run, right) (made_of e) b.is.made_is))
+
+  -- what was built comes back, and is served or retired
+  module _ {s : ℕ} {x : BuiltValue C} (has : Holds h g s e x.task (Work.built x.ended)) where
+    built-told : (f : ℕ → Answer) → at_one (config g s h) (λ c. of_built (work g s h) (f (granted (past g s h)))) ≡ f x.task.generation
+    built-told f =
+        told-work b.is has (λ c w. of_built w (f (granted (past g s h)))) ∙ sym (ap (λ (t : Task C). f t.generation) has.is)
+
+    pub does-abandon : {core : JoinedValue C} → slice_get e.works s ≡ Some (WorkValue.ready x)
+        → Moves e (joined.At x.task.slot (group.Abandoned x.task.members) ∷ joined_events g h) core
+        → EntryNext M h g (Step.abandon g s) (Answer.Abandoned x.task.generation) e z
+        (record e { core = core; works = slice_set e.works s WorkValue.nothing }) z v
+    does-abandon held moves =
+        next-work b s refl (inl (sym (built-told Answer.Abandoned))) held (rw has.is at moves) (elsewhere s _ (group_events g h))
+        (λ i. refl)
+        (λ c there. refl) (λ m. refl) refl (unshared b (Step.abandon g s) (Answer.Abandoned x.task.generation) refl refl)
+
+    pub does-publish : (t : Told) {core : JoinedValue C} → slice_get e.works s ≡ Some (WorkValue.ready x)
+        → Moves e (joined.in_group (publish_events x (Ok t)) ++ joined_events g h) core
+        → t ≡ publish_answer x.task.slot x.task.generation (joined.group_events (joined_events g h))
+        → EntryNext M h g (Step.publish g s) (told_as t) e z (record e { core = core; works = slice_set e.works s WorkValue.nothing }) z v
+    does-publish t {core} held moves to =
+        by-told t moves (inl (ap told_as (rw (has.is, group-of g h) at to) ∙ tells (is_served s (group_events g h)) ∙ sym
+        (built-told (λ n. cond (is_served s (group_events g h)) (Answer.Published n) (Answer.Abandoned n)))))
+      where
+        tells : (b : Bool) → told_as (cond b (Told.Published (granted (past g s h))) (Told.Abandoned (granted (past g s h))))
+            ≡ cond b (Answer.Published x.task.generation) (Answer.Abandoned x.task.generation)
+        tells true = ap (λ (t : Task C). Answer.Published t.generation) (sym has.is)
+        tells false = ap (λ (t : Task C). Answer.Abandoned t.generation) (sym has.is)
+
+        by-told : (t : Told) → Moves e (joined.in_group (publish_events x (Ok t)) ++ joined_events g h) core
+            → Answers M h (Step.publish g s) (told_as t)
+            → EntryNext M h g (Step.publish g s) (told_as t) e z
+            (record e { core = core; works = slice_set e.works s WorkValue.nothing }) z v
+        by-told (Told.Published n) moves right =
+            next-work b s refl right held (rw has.work_is (rw has.is at moves)) (elsewhere s _ (group_events g h)) (λ i. refl)
+            (λ c there. refl)
+            (λ m. refl) refl (unshared b (Step.publish g s) (Answer.Published n) refl refl)
+        by-told (Told.Abandoned n) moves right =
+            next-work b s refl right held (rw has.is at moves) (elsewhere s _ (group_events g h)) (λ i. refl) (λ c there. refl) (λ m. refl)
+            refl
+            (unshared b (Step.publish g s) (Answer.Abandoned n) refl refl)
+
+  -- a retired selector: taken out, destroyed and reported at once
+  destroy-told : (s : ℕ) (r : Option Refusal) → taken_refusal (site e.core) s (joined.group_events (joined_events g h)) ≡ r
+      → answer_after M h (Step.destroy g s) ≡ unless_refused r Answer.Destroyed
+  destroy-told s r is =
+      reading-told b.is s destroy_refusal (λ q. unless_refused q Answer.Destroyed) _ refl
+      ∙ by-place (nat_lt s (length (configs_of e.core.group))) _ is
+    where
+      by-place : (there : Bool) (q : Option Refusal) → cond there q (Some Refusal.NoSuch) ≡ r
+          → at_one (cond there (Some q) None) (λ q. unless_refused q Answer.Destroyed) ≡ unless_refused r Answer.Destroyed
+      by-place true q is = rw is refl
+      by-place false q is = rw (← is) refl
+
+  pub does-refuse-destruction : {s : ℕ} {r : Refusal} {core : JoinedValue C} → Moves e (joined_events g h) core
+      → taken_refusal (site e.core) s (joined.group_events (joined_events g h)) ≡ Some r
+      → EntryNext M h g (Step.destroy g s) (Answer.Refused r) e z (with_core core e) z v
+  does-refuse-destruction {s = s} {r = r} moves is = next-refused b refl (inl (sym (destroy-told s (Some r) is))) moves
+
+  pub does-destroy : (s n : ℕ) {core : JoinedValue C} {y : GateView} {u : RegistryValue WorldRule}
+      → Moves e (joined.At s group.Destroyed ∷ joined.At s group.TakenOut ∷ joined_events g h) core
+      → taken_refusal (site e.core) s (joined.group_events (joined_events g h)) ≡ None
+      → n ≡ generation_of (extra (past_of s (group.At s group.TakenOut ∷ joined.group_events (joined_events g h)))) → y ≡ gate z.id false
+      → Releases n u → EntryNext M h g (Step.destroy g s) Answer.Destroyed e z (with_core core e) y u
+  does-destroy s n moves taken of back kept =
+      let right : Answers M h (Step.destroy g s) Answer.Destroyed = inl (sym (destroy-told s None taken)) in
+      next-core b refl right moves refl (λ i. refl) (λ m. refl) back
+      (released s n _ _ (rw (past-same s group.TakenOut (joined.group_events (joined_events g h)), group-of g h) at of)
+      (shares M h (Step.destroy g s) Answer.Destroyed (b.run, right) (made_of e) b.is.made_is) kept)
+
+-- what was taken out is owed a report
+pub owed-now : {C : Type 0} (made : group-made.Made C) (s : ℕ) (k : group.History) → taken_refusal made s k ≡ None
+    → is_owed made s (group.At s group.TakenOut ∷ k) ≡ true
+owed-now made s k none = rw (past-same s group.TakenOut k) (grind (arith, none))

@@ -1,9 +1,5 @@
 pub mod Words
 pub mod Places
 pub mod Entries
-pub mod Tasks
 pub mod Listed
-pub mod CellCounts
 pub mod Tables
-pub mod Registries
-pub mod Readers

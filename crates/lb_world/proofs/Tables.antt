@@ -1,21 +1,47 @@
--- What a step leaves of a world, table by table. A world stands for each run that tells the same as its history.
+-- What a step leaves of a world, table by table; then the steps at a registry, those that make a registry or a gate, and those
+-- of readers. A world stands for each run that tells the same as its history.
+use Rattle.lb_group.specs.GroupCalls.{Enters, enter_refusal}
+use Rattle.lb_group.specs.Values.{ReaderValue}
+use Rattle.lb_history.proofs.Absent.{config-made, found as found-of}
+use Rattle.lb_history.proofs.Counting.{one-extra}
 use Rattle.lb_history.proofs.Refusing.{alike-sym, at-alike}
+use Rattle.lb_history.proofs.Runs.{reading}
 use Rattle.lb_history.proofs.Unrefused.{run-unrefused, told-unrefused}
-use Rattle.lb_history.specs.History.{gate_in}
+use Rattle.lb_history.specs.Answers.{VerdictAnswers, enter_answer, leave_answer}
+use Rattle.lb_history.specs.History.{gate_in, gate_at, Entered, group_in}
 use Rattle.lb_history.specs.Refused.{TellsAlike}
+use Rattle.lb_history.specs.Shared.{started}
+use Rattle.lb_history.specs.declared.step.CellKey.{CellKey}
+use Rattle.lb_registry.specs.Registry.{IsGrowthRefusal, targets_after}
+use Rattle.lb_registry.specs.RegistryEvents.{IsCellKept, Observed, cell_health}
+use Rattle.lb_registry.specs.Verdicts.{agree}
+use Rattle.lb_registry.specs.declared.targets.Target.{Target}
+use Rattle.lb_world.specs.Calls.{IsCounted}
 use Rattle.lb_world.specs.Stands.{IsFounded, OnSite}
+use Rattle.std.proofs.Common.{◌≢◌, get_or}
+use Rattle.std.proofs.lemmas.Bool.{lt-leb}
+use Rattle.std.proofs.lemmas.Grind.{common_steps}
+use Rattle.std.proofs.lemmas.List.{map-set}
+use Rattle.std.proofs.lemmas.Option.{slice_get-map}
 use Rattle.lb_joined.specs.Stands as stands
 use Rattle.lb_joined.specs.JoinedHistory as joined
-use Rattle.lb_world.proofs.Words.{◌∙◌, ◌≡◌, ◌&&◌, ◌∷◌, ◌<◌, ◌==◌, ◌≤◌, [], Answer, Answers, ap, ap2, arith, Before, Bool, cases_eq, cond}
-use Rattle.lb_world.proofs.Words.{entered_of, entries, EntryIs, EntryNext, EntryValue, false, gates, GateView, group_at, group_events}
-use Rattle.lb_world.proofs.Words.{held_of, HeldValue, History, inl, inr, is_at, is_out, IsOwnReader, IsRegistryAfter, IsRun, joined_events}
-use Rattle.lb_world.proofs.Words.{key_at, key_gives, key_in, length, length-set, List, load_of, made, Made, made_at, made_of, map, Meaning}
-use Rattle.lb_world.proofs.Words.{Member, ne_eqb, None, none-some, Option, option_map, origin, Origin, others-stay, past_of, permit_after}
-use Rattle.lb_world.proofs.Words.{refl, Refusal, refused-alike, registries, registry_at, registry_events, RegistryMade, RegistryValue}
-use Rattle.lb_world.proofs.Words.{same_member, same_Some, site, slice_get, slice_get_past, slice_set, Some, Stands, Step, subst, sym}
-use Rattle.lb_world.proofs.Words.{unrefused, work, worked, works_at, WorldRule, WorldValue, ℕ}
-use Rattle.lb_world.proofs.Places.{each-set, found, get_other, get_same, get_set, set-same, there}
-use Rattle.lb_world.proofs.Entries.{at-group, gate-here, key-here, next, registry-here, taken}
+use Rattle.lb_group.specs.GroupHistory as group
+use Rattle.lb_world.proofs.Words.{◌∙◌, ◌≡◌, ◌&&◌, ◌∷◌, ◌<◌, ◌==◌, ◌≤◌, [], ◌+◌, ◌↔◌, ◌^◌, ◌⊎◌, ◌++◌, after, Answer, answer_after, Answers}
+use Rattle.lb_world.proofs.Words.{ap, ap2, Applied, arith, at_one, at_slot, Before, Bool, cases_eq, cells_given, cond, cond_some, config}
+use Rattle.lb_world.proofs.Words.{config_in, configs_of, entered_of, entries, EntryIs, EntryNext, EntryValue, eq-eqb, Err, Event, false}
+use Rattle.lb_world.proofs.Words.{gates, GateView, get-kept, get-pushed, group-of, group_at, group_events, held_of, HeldValue, History, inl}
+use Rattle.lb_world.proofs.Words.{inr, is_at, is_out, IsOwnReader, IsReady, IsRegistryAfter, IsRun, IsTrue, joined_events, Judges, key_at}
+use Rattle.lb_world.proofs.Words.{key_by, key_gives, key_in, key_of, length, length-map, length-set, length_push, List, load_of, lt-ltb}
+use Rattle.lb_world.proofs.Words.{made, Made, made_at, made_of, map, map-append, marks_start_none, MatchOption, Meaning, Member, nat_lt}
+use Rattle.lb_world.proofs.Words.{ne_eqb, no_number, None, none-some, not, Ok, Option, option_map, origin, Origin, others-stay, past}
+use Rattle.lb_world.proofs.Words.{past_of, permit_after, refl, Refusal, refuse, refused-alike, registries, registry_at, registry_events}
+use Rattle.lb_world.proofs.Words.{RegistryMade, RegistryValue, Result, same_member, same_Some, served, set_found, site, slice_get}
+use Rattle.lb_world.proofs.Words.{slice_get_past, slice_get_within, slice_set, Some, Stands, Step, subst, sym, there-at, true}
+use Rattle.lb_world.proofs.Words.{unless_refused, unrefused, views_of, where_, with_core, without_memory, work, worked, works_at, WorldRule}
+use Rattle.lb_world.proofs.Words.{WorldValue, ℕ}
+use Rattle.lb_world.proofs.Places.{at-place, each-push, each-set, get_last, get_other, get_set, set-same, still-there, there}
+use Rattle.lb_world.proofs.Entries.{at-group, gate-here, key-here, next, registry-here, taken, config-here, Moves, next-core, next-refused}
+use Rattle.lb_world.proofs.Entries.{reading-told, unshared, views-are}
 
 beside : (g i : ℕ) (b : Bool) → ¬ (i ≡ g) → (g == i && b) ≡ false
 beside g i b off = rw (ne_eqb g i (λ e. off (sym e))) refl
@@ -48,8 +74,6 @@ module _ {C : Type 0} where
       → load_of i b ((st, a) ∷ h) ≡ load_of i b h
   loads-else h (Step.load x (Some c) l) Answer.Done g i b at off =
       ap (λ (t : Bool). cond t l (load_of i b h)) (beside x i (same_member c b) (λ p. off (p ∙ same_Some x g at)))
-  loads-else h (Step.load x (Some c) l) a g i b at off = refl
-  loads-else h (Step.load x None l) a g i b at off = refl
   loads-else h st a g i b at off = refl
 
   entry-else : (h : History C) (st : Step C) (a : Answer) (g i : ℕ) (e : EntryValue C) → group_at h st ≡ Some g → ¬ (i ≡ g)
@@ -144,7 +168,7 @@ module _ {C : Type 0} {M : Meaning C} {w : WorldValue C} {h : History C} (s : St
         | inl p ↦
             record {
               view = y;
-              gate = ap (slice_get (slice_set w.gates e.gate y)) p ∙ get_same w.gates e.gate z y there;
+              gate = ap (slice_get (slice_set w.gates e.gate y)) p ∙ set_found w.gates e.gate z y there;
               id = same
                   ∙ ap (λ (t : GateView). t.id) (same_Some z on.view (sym there ∙ ap (slice_get w.gates) (sym p ∙ a) ∙ on.gate)) ∙ on.id ∙
                   sym i;
@@ -233,7 +257,7 @@ module _ {C : Type 0} {M : Meaning C} {w : WorldValue C} {h : History C} (s : St
       → Stands M (record w { groups = slice_set w.groups g d; readers = rs }) ((st, a) ∷ h)
   group-moves g st a e d rs at reads owns there next =
       let on = s.on_site g e there in
-      let u = found w.registries e.registry on.registry in
+      let u = there-at w.registries e.registry on.registry in
       rw (set-same w.registries e.registry u.0 u.1, set-same w.gates e.gate on.view on.gate)
       at (world-moves g st a e d on.view on.view u.0 u.0 rs at reads owns there on.gate u.1
       (next on.view u.0 (before g e on.view u.0 there on.gate u.1)))
@@ -272,3 +296,391 @@ module _ {C : Type 0} {M : Meaning C} {w : WorldValue C} {h : History C} (s : St
   registry-lent r u v there now =
       registry-set h r u v s.run refl refl refl refl (λ i off. refl) (λ g. refl) (λ g. refl) (λ g i. refl) (λ g b. refl) (λ x. refl) there
       now
+
+-- a flip is told where the health is another one
+flip-told : (b new old : Bool) → (IsTrue b ↔ (new ≢ old)) → b ≡ not (agree old new)
+flip-told true true true p = absurd (p.0 refl refl)
+flip-told true false false p = absurd (p.0 refl refl)
+flip-told false true false p = p.1 (λ e. absurd (cc))
+flip-told false false true p = p.1 (λ e. absurd (cc))
+flip-told b new old p = refl
+
+-- what a registry's calls tell, after each history that it may have
+abbrev pub Tells : RegistryValue WorldRule → ((Member → Member) → List Event → Type 0) → Type 0
+Tells u P = (key_of : Member → Member) (events : List Event) → IsRegistryAfter key_gives key_of events u → P key_of events
+
+-- a number is left
+pub number-left : (n : ℕ) → n < 2 ^ 64 → no_number n ≡ None
+number-left n few = ap (λ (b : Bool). where_ b Refusal.NumbersExhausted) (lt-leb (2 ^ 64) n few)
+
+-- what a refused call says, of the refusal itself
+pub refused-so : {A : Type 0} {e f : Refusal} → (let r : Result A Refusal = Err e in r ≡ Err f) → e ≡ f
+refused-so is = cc
+
+pub growth-told : {A : Type 0} (e : Refusal) → IsGrowthRefusal {A = A} (Err e) → (e ≡ Refusal.OutOfMemory) ⊎ (e ≡ Refusal.NumbersExhausted)
+growth-told e cause = elim cause [ inl is ↦ inl (cc) | inr is ↦ inr (cc) ]
+
+-- marks that are applied start no cell, so a number is left
+pub marks-fit : (key_of : Member → Member) (events : List Event) (u : RegistryValue WorldRule) → IsRegistryAfter key_gives key_of events u
+    → cells_given key_of (Applied ∷ events) < 2 ^ 64
+marks-fit key_of events u now = omega (arith, marks_start_none key_of events now.state.sets, now.state.fits)
+
+verdict-told : (o : Option RegistryMade) (m : RegistryMade) (events : List Event) (c threshold : ℕ) (ok b : Bool) → o ≡ Some m
+    → IsCellKept (key_in o) c events
+    → (IsTrue b ↔
+    (cell_health (key_in o) c (Observed c (record { ok = ok; threshold = threshold }) ∷ events) ≢ cell_health (key_in o) c events))
+    → MatchOption o (Answer.Flipped b ≡ refuse Refusal.NoSuch)
+    (λ m. VerdictAnswers (key_by m.rule) events c ok threshold (Answer.Flipped b))
+verdict-told None m events c threshold ok b there kept flips = absurd (none-some m there)
+verdict-told (Some x) m events c threshold ok b there kept flips = inl (kept, ap Answer.Flipped (flip-told b _ _ flips))
+
+verdict-missed : (o : Option RegistryMade) (events : List Event) (c threshold : ℕ) (ok : Bool) → (IsCellKept (key_in o) c events → ⊥)
+    → MatchOption o (Answer.Refused Refusal.NoSuch ≡ refuse Refusal.NoSuch)
+    (λ m. VerdictAnswers (key_by m.rule) events c ok threshold (Answer.Refused Refusal.NoSuch))
+verdict-missed None events c threshold ok off = refl
+verdict-missed (Some m) events c threshold ok off = inr (off, refl)
+
+targets-of : (o : Option RegistryMade) (m : RegistryMade) (events : List Event) → o ≡ Some m
+    → cells_given (key_in o) (Applied ∷ events) < 2 ^ 64
+    → at_one o (λ m. unless_refused (no_number (cells_given (key_by m.rule) (Applied ∷ events)))
+    (Answer.Targets (targets_after (key_by m.rule) (Applied ∷ events)))) ≡ Answer.Targets (targets_after (key_in o) (Applied ∷ events))
+targets-of None m events there few = absurd (none-some m there)
+targets-of (Some x) m events there few =
+    ap (λ (o : Option Refusal). unless_refused o (Answer.Targets (targets_after (key_by x.rule) (Applied ∷ events)))) (number-left _ few)
+
+slot-on : {C : Type 0} (s x : ℕ) (o : Option (Made C)) → gate_at s o ≡ Some x → (m : Made C) × ((o ≡ Some m) × (m.gate ≡ x))
+slot-on s x None e = absurd (none-some x e)
+slot-on {C} s x (Some m) e = (m, (refl, on (slice_get m.configs s) e)) where
+  on : (c : Option C) → option_map (λ c. m.gate) c ≡ Some x → m.gate ≡ x
+  on None e = absurd (none-some x e)
+  on (Some c) e = same_Some m.gate x e
+
+module _ {C : Type 0} {M : Meaning C} {w : WorldValue C} {h : History C} (s : Stands M w h) where
+  -- what a registry was made with
+  made-there : (r : ℕ) (u : RegistryValue WorldRule) → slice_get w.registries r ≡ Some u → (m : RegistryMade)
+      × (slice_get (registries h) r ≡ Some m)
+  made-there r u there = there-at (registries h) r (omega (arith, slice_get_within w.registries r u there, s.registries_are))
+
+  -- one registry moves by a step that tells nothing of all else
+  pub verdict-next : (r c threshold : ℕ) (ok b : Bool) (u v : RegistryValue WorldRule) → slice_get w.registries r ≡ Some u
+      → Tells u (λ k es. IsRegistryAfter key_gives k (Observed c (record { ok = ok; threshold = threshold }) ∷ es) v)
+      → Tells u (λ k es.
+      IsTrue b ↔ (cell_health k c (Observed c (record { ok = ok; threshold = threshold }) ∷ es) ≢ cell_health k c es))
+      → Tells u (λ k es. IsCellKept k c es)
+      → Stands M (record w { registries = slice_set w.registries r v }) ((Step.verdict r c ok threshold, Answer.Flipped b) ∷ h)
+  verdict-next r c threshold ok b u v there after flips kept =
+      let now = s.kept r u there in
+      let m = made-there r u there in
+      let st : Step C = Step.verdict r c ok threshold in
+      registry-set s ((st, Answer.Flipped b) ∷ h) r u v
+      (s.run, verdict-told (slice_get (registries h) r) m.0 (registry_events r h) c threshold ok b m.1 (kept _ _ now) (flips _ _ now)) refl
+      refl refl refl
+      (λ i off. (others-stay h st (Answer.Flipped b)).registries i (ne_eqb r i (λ q. off (sym q)))) (λ g. refl) (λ g. refl) (λ g i. refl)
+      (λ g b. refl) (λ x. refl) there (rw (eq-eqb r r refl) (after _ _ now))
+
+  pub verdict-refused : (r c threshold : ℕ) (ok : Bool) (u v : RegistryValue WorldRule) → slice_get w.registries r ≡ Some u → v ≡ u
+      → Tells u (λ k es. IsCellKept k c es → ⊥)
+      → Stands M (record w { registries = slice_set w.registries r v }) ((Step.verdict r c ok threshold, Answer.Refused Refusal.NoSuch) ∷ h)
+  verdict-refused r c threshold ok u v there same off =
+      let after =
+      world-refused s {st = Step.verdict r c ok threshold}
+      (verdict-missed (slice_get (registries h) r) (registry_events r h) c threshold ok (off _ _ (s.kept r u there))) in
+      registry-lent after r u v there (rw same (after.kept r u there))
+
+  -- marks that are applied start no cell, so a number is left
+  targets-told : (r : ℕ) (u : RegistryValue WorldRule) → slice_get w.registries r ≡ Some u
+      → answer_after M h (Step.targets r) ≡ Answer.Targets (targets_after (key_at r h) (Applied ∷ registry_events r h))
+  targets-told r u there =
+      let m = made-there r u there in
+      targets-of (slice_get (registries h) r) m.0 (registry_events r h) m.1 (marks-fit _ _ u (s.kept r u there))
+
+  pub targets-next : (r : ℕ) (ts : List Target) (u v : RegistryValue WorldRule) → slice_get w.registries r ≡ Some u
+      → Tells u (λ k es. IsRegistryAfter key_gives k (Applied ∷ es) v) → Tells u (λ k es. ts ≡ targets_after k (Applied ∷ es))
+      → Stands M (record w { registries = slice_set w.registries r v }) ((Step.targets r, Answer.Targets ts) ∷ h)
+  targets-next r ts u v there after told =
+      let now = s.kept r u there in
+      let st : Step C = Step.targets r in
+      registry-set s ((st, Answer.Targets ts) ∷ h) r u v (s.run, inl (ap Answer.Targets (told _ _ now) ∙ sym (targets-told r u there))) refl
+      refl refl refl (λ i off. (others-stay h st (Answer.Targets ts)).registries i (ne_eqb r i (λ q. off (sym q)))) (λ g. refl) (λ g. refl)
+      (λ g i. refl) (λ g b. refl) (λ x. refl) there (rw (eq-eqb r r refl) (after _ _ now))
+
+  -- a refusal other than for the want of a number is for memory
+  pub targets-refused : (r : ℕ) (e : Refusal) (u v : RegistryValue WorldRule) → slice_get w.registries r ≡ Some u
+      → Tells u (λ k es. IsRegistryAfter key_gives k es v) → (e ≡ Refusal.OutOfMemory) ⊎ (e ≡ Refusal.NumbersExhausted)
+      → Tells u (λ k es. e ≡ Refusal.NumbersExhausted → 2 ^ 64 ≤ cells_given k (Applied ∷ es))
+      → Stands M (record w { registries = slice_set w.registries r v }) ((Step.targets r, Answer.Refused e) ∷ h)
+  targets-refused r e u v there after cause many =
+      let now = s.kept r u there in
+      let memory : e ≡ Refusal.OutOfMemory =
+      elim cause [ inl is ↦ is | inr is ↦ absurd (omega (arith, many _ _ now is, marks-fit _ _ u now)) ] in
+      let refused =
+      world-refused s {st = Step.targets r} {r = e}
+      (inr (ap Answer.Refused memory ∙ sym (ap (without_memory {C = C} (Step.targets r)) (targets-told r u there)))) in
+      registry-lent refused r u v there (after _ _ (refused.kept r u there))
+
+  pub registry-made : (rule : CellKey) (healthy : Bool) (n : ℕ) (v : RegistryValue WorldRule) → n ≡ length w.registries
+      → IsRegistryAfter key_gives (key_by rule) (started healthy) v
+      → Stands M (record w { registries = w.registries ++ v ∷ [] }) ((Step.registry rule healthy, Answer.Registry n) ∷ h)
+  registry-made rule healthy n v number new =
+      record {
+        run = (s.run, inl (ap Answer.Registry (number ∙ s.registries_are)));
+        registries_are = length_push w.registries v ∙ ap (λ (k : ℕ). k + 1) s.registries_are ∙ sym (length_push (registries h) _);
+        gates_are = s.gates_are;
+        groups_are = s.groups_are;
+        readers_are = s.readers_are;
+        kept =
+            each-push w.registries v (rw (s.registries_are, eq-eqb (length (registries h)) (length (registries h)) refl, get_last) new)
+            (λ i x low was.
+            let m = there-at (registries h) i (omega (arith, low, s.registries_are)) in
+            rw (ne_eqb (length (registries h)) i (λ e. omega (arith, e, low, s.registries_are)), get-kept (registries h) _ m.0 i m.1)
+            (rw m.1 at (s.kept i x was)));
+        outs = s.outs;
+        each = λ g e in_.
+            entry-moves (s.each g e in_).made_is refl refl (λ r. refl) (λ b. refl) (s.each g e in_);
+        on_site = λ g e in_.
+            let on = s.on_site g e in_ in
+            record { view = on.view; gate = on.gate; id = on.id; registry = omega (arith, length_push w.registries v, on.registry) };
+        own = s.own;
+      }
+
+  -- the permit of a gate that isn't there is not out
+  in-place : (b : Bool) → is_out (length w.gates) h ≡ b → b ≡ false
+  in-place false is = refl
+  in-place true is =
+      let whose = (one-extra M h s.run).whose (length w.gates) is in
+      let m = slot-on whose.1 (length w.gates) (made_at whose.0 h) whose.2 in
+      let e = there-at w.groups whose.0 (omega (arith, slice_get_within (made h) whose.0 m.0 m.1.0, s.groups_are)) in
+      let on = s.on_site whose.0 e.0 e.1 in
+      let gate_is : e.0.gate ≡ length w.gates =
+      ap (λ (t : Made C). t.gate) (same_Some (made_of e.0) m.0 (sym (s.each whose.0 e.0 e.1).made_is ∙ m.1.0)) ∙ m.1.1 in
+      absurd (omega (arith, slice_get_within w.gates e.0.gate on.view on.gate, gate_is))
+
+  pub gate-made : (n : ℕ) (z : GateView) → n ≡ length w.gates → z.out ≡ false
+      → Stands M (record w { gates = w.gates ++ z ∷ [] }) ((Step.gate, Answer.Gate n) ∷ h)
+  gate-made n z number free =
+      record {
+        run = (s.run, inl (ap Answer.Gate (number ∙ s.gates_are)));
+        registries_are = s.registries_are;
+        gates_are = length_push w.gates z ∙ ap (λ (k : ℕ). k + 1) s.gates_are;
+        groups_are = s.groups_are;
+        readers_are = s.readers_are;
+        kept = s.kept;
+        outs = each-push w.gates z (free ∙ sym (in-place (is_out (length w.gates) h) refl)) (λ x y low was. s.outs x y was);
+        each = λ g e in_.
+            entry-moves (s.each g e in_).made_is refl refl (λ r. refl) (λ b. refl) (s.each g e in_);
+        on_site = λ g e in_.
+            let on = s.on_site g e in_ in
+            record { view = on.view; gate = get-kept w.gates z on.view e.gate on.gate; id = on.id; registry = on.registry };
+        own = s.own;
+      }
+
+module _ {C : Type 0} (M : Meaning C) where
+  -- the slot that a reader entered is there
+  pub entered-there : (h : History C) → IsRun M h → (t : ℕ) (e : Entered) → slice_get (entries h) t ≡ Some (Some e) → (c : C)
+      × (config e.group e.slot h ≡ Some c)
+  entered-there [] run t e at = absurd (none-some (Some e) at)
+  entered-there ((Step.group r a cs, Answer.Group n) ∷ h) run t e at =
+      let c = entered-there h run.0 t e at in
+      let m = config-made e.slot (made_at e.group h) c.0 c.1 in
+      (c.0, ap (config_in e.slot) (get-kept (made h) _ m.0 e.group m.1) ∙ sym (ap (config_in e.slot) m.1) ∙ c.1)
+  entered-there ((Step.enter g s, Answer.Reader u n) ∷ h) run t e at =
+      elim (get-pushed (entries h) _ (Some e) t at) [
+        | inl p ↦
+            let c = found-of {C = C} (Step.enter g s) (config g s h) _ (Answer.Reader u n) refl run.1 in
+            let same : e ≡ record { group = g; slot = s; generation = n } = same_Some _ _ p.1 in
+            (c.0, ap (λ (x : Entered). config x.group x.slot h) same ∙ c.1)
+        | inr p ↦ entered-there h run.0 t e p.1
+      ]
+  entered-there ((Step.leave u, Answer.Left n) ∷ h) run t e at = entered-there h run.0 t e (still-there (entries h) u t e at)
+  entered-there ((st, a) ∷ h) run t e at = entered-there h run.0 t e at
+
+full-told : (x n a : ℕ) → (n ≡ 18446744073709551615) ⊎ (x ≡ 18446744073709551615) → enter_answer x n a ≡ refuse Refusal.NumbersExhausted
+full-told x n a many = grind (arith, common_steps, many)
+
+free-told : (x n a : ℕ) → ¬ (n ≡ 18446744073709551615) → ¬ (x ≡ 18446744073709551615) → enter_answer x n a ≡ Answer.Reader n a
+free-told x n a few left = rw (ne_eqb x 18446744073709551615 left, ne_eqb n 18446744073709551615 few) refl
+
+module _ {C : Type 0} {M : Meaning C} {w : WorldValue C} {h : History C} (s : Stands M w h) where
+  pub entered-in : (t : ℕ) (x : Option (HeldValue C)) → slice_get w.readers t ≡ Some x
+      → slice_get (entries h) t ≡ Some (option_map entered_of x)
+  entered-in t x there_ =
+      ap (λ (es : List (Option Entered)). slice_get es t) (sym s.readers_are) ∙ slice_get-map (option_map entered_of) w.readers t
+      ∙ ap (option_map (option_map entered_of)) there_
+
+  entries-count : length (entries h) ≡ length w.readers
+  entries-count = ap length (sym s.readers_are) ∙ length-map w.readers (option_map entered_of)
+
+  pub entered-past : (t : ℕ) → length w.readers ≤ t → slice_get (entries h) t ≡ None
+  entered-past t few = slice_get_past (entries h) t (omega (arith, few, entries-count))
+
+  module _ (g : ℕ) (e : EntryValue C) (there_ : slice_get w.groups g ≡ Some e) (slot : ℕ) (r : Option ℕ)
+      (told : stands.After e.core (λ made es. r ≡ at_slot made slot
+      (group.readers (served (past_of slot (joined.group_events es))) (past_of slot (joined.group_events es)))))
+    where
+      to : r ≡ at_slot (site e.core) slot
+          (group.readers (served (past_of slot (joined.group_events (joined_events g h))))
+          (past_of slot (joined.group_events (joined_events g h))))
+      to = told (site e.core) (joined_events g h) (s.each g e there_).core_is
+
+      -- what is answered, by the number of readers that was read
+      enter-told : answer_after M h (Step.enter g slot) ≡ at_one r (λ n. enter_answer n (length w.readers) (served (past g slot h)))
+      enter-told =
+          ap (λ (m : ℕ). at_one (config g slot h)
+          (λ c. enter_answer (group.readers (served (past g slot h)) (past g slot h)) m (served (past g slot h)))) entries-count
+          ∙ reading-told (s.each g e there_) slot (λ p. group.readers (served p) p)
+          (λ n. enter_answer n (length w.readers) (served (past g slot h))) r to
+
+      -- a refusal of a world whose group was lent and stays as it was
+      enter-refused : (f : Refusal) → Answers M h (Step.enter g slot) (Answer.Refused f)
+          → Stands M (record w { groups = slice_set w.groups g e }) ((Step.enter g slot, Answer.Refused f) ∷ h)
+      enter-refused f right = rw (set-same w.groups g e there_) (world-refused s right)
+
+      pub enter-absent : r ≡ None
+          → Stands M (record w { groups = slice_set w.groups g e }) ((Step.enter g slot, Answer.Refused Refusal.NoSuch) ∷ h)
+      enter-absent none = enter-refused Refusal.NoSuch (inl (sym (enter-told ∙ rw none refl)))
+
+      -- no number is left for a reader
+      pub enter-full : (x : ℕ) → r ≡ Some x → (length w.readers ≡ 18446744073709551615) ⊎ (x ≡ 18446744073709551615)
+          → Stands M (record w { groups = slice_set w.groups g e }) ((Step.enter g slot, Answer.Refused Refusal.NumbersExhausted) ∷ h)
+      enter-full x some many =
+          enter-refused Refusal.NumbersExhausted
+          (inl (sym (enter-told ∙ rw some (full-told x (length w.readers) (served (past g slot h)) many))))
+
+      module _ (x : ℕ) (some : r ≡ Some x) (few : ¬ (length w.readers ≡ 18446744073709551615)) (left : ¬ (x ≡ 18446744073709551615)) where
+        enters-as : answer_after M h (Step.enter g slot) ≡ Answer.Reader (length w.readers) (served (past g slot h))
+        enters-as = enter-told ∙ rw some (free-told x (length w.readers) (served (past g slot h)) few left)
+
+        memory-right : Answers M h (Step.enter g slot) (Answer.Refused Refusal.OutOfMemory)
+        memory-right = inr (sym (ap (without_memory {C = C} (Step.enter g slot)) enters-as))
+
+        pub enter-memory : Stands M (record w { groups = slice_set w.groups g e })
+            ((Step.enter g slot, Answer.Refused Refusal.OutOfMemory) ∷ h)
+        enter-memory = enter-refused Refusal.OutOfMemory memory-right
+
+        -- a reader enters, with the group and the list of readers that the calls left
+        pub entered-now : (t : ℕ) (d : EntryValue C) (rs : List (Option (HeldValue C))) (q : ReaderValue C) → d ≡ with_core d.core e
+            → rs ≡ w.readers ++ Some (record { group = g; reader = q }) ∷ [] → t ≡ length w.readers
+            → Moves e (joined.At slot group.Entered ∷ joined_events g h) d.core
+            → Enters (site e.core) (joined.group_events (joined_events g h)) slot (Ok q) → IsOwnReader d.core q
+            → Stands M (record w { groups = slice_set w.groups g d; readers = rs }) ((Step.enter g slot, Answer.Reader t q.generation) ∷ h)
+        entered-now t d rs q rest grown number moves answers own =
+            let st : Step C = Step.enter g slot in
+            let a = Answer.Reader t q.generation in
+            let is : q.generation ≡ served (past g slot h) = answers.2 ∙ ap (λ (p : group.History). served (past_of slot p)) (group-of g h)
+            in
+            let right : Answers M h st a = inl (ap2 Answer.Reader number is ∙ sym enters-as) in
+            group-moves s g st a e d rs refl
+            (ap (map (option_map entered_of)) grown ∙ map-append (option_map entered_of) w.readers
+            (Some (record { group = g; reader = q }) ∷ [])
+            ∙ ap2 (λ (es : List (Option Entered)) (i : ℕ). es ++ Some (record { group = g; slot = i; generation = q.generation }) ∷ [])
+            s.readers_are answers.1)
+            (λ i y held z in_.
+            elim (get-pushed w.readers (Some (record { group = g; reader = q })) (Some y) i (rw grown at held)) [
+              | inl p ↦
+                  let mine : y ≡ record { group = g; reader = q } = same_Some _ _ p.1 in
+                  let here_ : slice_get (slice_set w.groups g d) g ≡ Some z =
+                  ap (λ (v : HeldValue C). slice_get (slice_set w.groups g d) v.group) (sym mine) ∙ in_ in
+                  ap (λ (v : HeldValue C). v.reader.group) mine ∙ own
+                  ∙ ap (λ (v : EntryValue C). v.core.group.id) (same_Some d z (sym (set_found w.groups g e d there_) ∙ here_))
+              | inr p ↦ own-kept s g e d there_ moves.0.group.id i y p.1 z in_
+            ])
+            there_
+            (λ z u b.
+            subst (λ (y : EntryValue C). EntryNext M h g st a e z y z u) (sym rest)
+            (next-core b refl right moves refl (λ i. refl) (λ m. refl) refl (unshared b st a refl refl)))
+
+        -- the core refused it for memory
+        pub refused-now : (f : Refusal) (d : EntryValue C) (rs : List (Option (HeldValue C))) → d ≡ with_core d.core e → rs ≡ w.readers
+            → Moves e (joined_events g h) d.core → Enters (site e.core) (joined.group_events (joined_events g h)) slot (Err f)
+            → Stands M (record w { groups = slice_set w.groups g d; readers = rs }) ((Step.enter g slot, Answer.Refused f) ∷ h)
+        refused-now f d rs rest kept moves refused =
+            let st : Step C = Step.enter g slot in
+            let within = cond_some (nat_lt slot (length (configs_of e.core.group))) _ x (sym to ∙ some) in
+            let none : enter_refusal (site e.core) slot (joined.group_events (joined_events g h)) ≡ None =
+            rw (within.0, ne_eqb _ 18446744073709551615 (λ is. left (sym within.1 ∙ is))) refl in
+            let memory : f ≡ Refusal.OutOfMemory = elim refused [ inl is ↦ absurd (none-some f (sym none ∙ is)) | inr p ↦ p.1 ] in
+            let right : Answers M h st (Answer.Refused f) = rw memory memory-right in
+            group-moves s g st (Answer.Refused f) e d rs refl (ap (map (option_map entered_of)) kept ∙ s.readers_are)
+            (λ i y held z in_. own-kept s g e d there_ moves.0.group.id i y (rw kept at held) z in_) there_
+            (λ z u b.
+            subst (λ (y : EntryValue C). EntryNext M h g st (Answer.Refused f) e z y z u) (sym rest)
+            (next-refused b refl right moves))
+
+  -- nobody leaves
+  pub leave-nowhere : (t : ℕ) → length w.readers ≤ t → Stands M w ((Step.leave t, Answer.Refused Refusal.NoSuchReader) ∷ h)
+  leave-nowhere t few = world-refused s (inl (sym (ap leave_answer (entered-past t few))))
+
+  pub leave-gone : (t : ℕ) → slice_get w.readers t ≡ Some None
+      → Stands M (record w { readers = slice_set w.readers t None }) ((Step.leave t, Answer.Refused Refusal.NoSuchReader) ∷ h)
+  leave-gone t there_ =
+      rw (set-same w.readers t None there_)
+      (world-refused s (inl (sym (ap leave_answer (entered-in t None there_)))))
+
+  -- its group is there, and the slot counts it
+  pub group-there : (t : ℕ) (r : HeldValue C) → slice_get w.readers t ≡ Some (Some r) → r.group < length w.groups
+  group-there t r there_ =
+      let c = entered-there M h s.run t (entered_of r) (entered-in t (Some r) there_) in
+      let m = config-made r.reader.slot (made_at r.group h) c.0 c.1 in
+      omega (arith, slice_get_within (made h) r.group m.0 m.1, s.groups_are)
+
+  -- the entry of its group, as it is read
+  pub entry-of : (t : ℕ) (r : HeldValue C) {k : ℕ} {e : EntryValue C} → slice_get w.readers t ≡ Some (Some r) → k ≡ r.group
+      → e ≡ get_or w.groups k e → slice_get w.groups r.group ≡ Some e
+  entry-of t r {k} {e} there_ is read = rw is at (at-place w.groups k e (omega (arith, is, group-there t r there_)) read)
+
+  pub counted : (t : ℕ) (r : HeldValue C) (e : EntryValue C) → slice_get w.readers t ≡ Some (Some r) → slice_get w.groups r.group ≡ Some e
+      → IsCounted e.core r.reader.slot r.reader.generation
+  counted t r e there_ in_ =
+      let is = s.each r.group e in_ in
+      let at = entered-in t (Some r) there_ in
+      let c = entered-there M h s.run t (entered_of r) at in
+      let config-is : slice_get (configs_of e.core.group) r.reader.slot ≡ Some c.0 = sym (config-here is r.reader.slot) ∙ c.1 in
+      record {
+        made = site e.core;
+        events = joined_events r.group h;
+        stands = is.core_is;
+        read =
+            ap2 ◌&&◌ (lt-ltb r.reader.slot (length (configs_of e.core.group))
+            (slice_get_within (configs_of e.core.group) r.reader.slot c.0 config-is))
+            (lt-ltb 0 _ (rw (← group-of r.group h) at (reading M h s.run t r.reader.generation (entered_of r) at refl)));
+      }
+
+  -- a reader leaves
+  pub left-now : (t : ℕ) (r : HeldValue C) (e d : EntryValue C) → slice_get w.readers t ≡ Some (Some r)
+      → slice_get w.groups r.group ≡ Some e → d ≡ with_core d.core e
+      → Moves e (joined.At r.reader.slot (group.Left r.reader.generation) ∷ joined_events r.group h) d.core
+      → Stands M (record w { groups = slice_set w.groups r.group d; readers = slice_set w.readers t None })
+      ((Step.leave t, Answer.Left r.reader.generation) ∷ h)
+  left-now t r e d there_ in_ rest moves =
+      let at = entered-in t (Some r) there_ in
+      let st : Step C = Step.leave t in
+      let a = Answer.Left r.reader.generation in
+      let here_ : group_at h st ≡ Some r.group = ap group_in at in
+      group-moves s r.group st a e d _ here_
+      (map-set (option_map entered_of) w.readers t None ∙ ap (λ (es : List (Option Entered)). slice_set es t None) s.readers_are)
+      (λ i y held z in_now. own-kept s r.group e d in_ moves.0.group.id i y (still-there w.readers t i y held) z in_now) in_
+      (λ z u b.
+      subst (λ (y : EntryValue C). EntryNext M h r.group st a e z y z u) (sym rest)
+      (next-core b here_ (inl (sym (ap leave_answer at))) (rw at moves) refl (λ i. refl) (λ m. refl) refl (unshared b st a here_ refl)))
+
+  -- nobody is asked
+  pub ready-none : (t : ℕ) (b : Member) → (slice_get (entries h) t ≡ None) ⊎ (slice_get (entries h) t ≡ Some None)
+      → Stands M w ((Step.ready t (Some b), Answer.Refused Refusal.NoSuchReader) ∷ h)
+  ready-none t b none =
+      world-refused s {st = Step.ready t (Some b)} {r = Refusal.NoSuchReader} (elim none [ inl is ↦ rw is refl | inr is ↦ rw is refl ])
+
+  -- readiness in the generation that a reader reads
+  pub ready-next : (t : ℕ) (b : Member) (is : Bool) (r : HeldValue C) (e : EntryValue C) (u : RegistryValue WorldRule)
+      → slice_get w.readers t ≡ Some (Some r) → slice_get w.groups r.group ≡ Some e → slice_get w.registries e.registry ≡ Some u
+      → Tells u (λ k es. stands.After e.core (λ made joins. IsTrue is ↔ IsReady k (views_of made joins) es r.reader.generation b))
+      → Stands M w ((Step.ready t (Some b), Answer.Ready is) ∷ h)
+  ready-next t b is r e u there_ in_ registry-there told =
+      let own = s.each r.group e in_ in
+      let judged : Judges h r.group r.reader.generation b is =
+      rw (key-here own, registry-here own, ← views-are own M s.run)
+      (told (key_at e.registry h) (registry_events e.registry h) (s.kept e.registry u registry-there) _ _ own.core_is) in
+      rw (set-same w.registries e.registry u registry-there)
+      at (registry-set s ((Step.ready t (Some b), Answer.Ready is) ∷ h) e.registry u u
+      (s.run, rw (entered-in t (Some r) there_) (is, refl, judged)) refl refl refl refl (λ i off. refl) (λ g. refl) (λ g. refl)
+      (λ g i. refl)
+      (λ g b. refl) (λ x. refl) registry-there (s.kept e.registry u registry-there))

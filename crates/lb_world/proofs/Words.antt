@@ -8,13 +8,15 @@ pub use Rattle.lb_group.specs.Values.{Task, configs_of}
 pub use Rattle.lb_health.specs.Joined.{IsReady, settings_of}
 pub use Rattle.lb_health.specs.ViewEvents.{ViewEvent}
 pub use Rattle.lb_history.proofs.Absent.{absent}
+pub use Rattle.lb_history.proofs.Counting.{there-at}
+pub use Rattle.lb_history.proofs.Extras.{get-kept}
 pub use Rattle.lb_history.proofs.Numbering.{numbered}
 pub use Rattle.lb_history.proofs.Promised.{promised}
 pub use Rattle.lb_history.proofs.Refusing.{ap2, refused-alike}
 pub use Rattle.lb_history.proofs.Runs.{slots}
 pub use Rattle.lb_history.proofs.Sharing.{shares}
 pub use Rattle.lb_history.proofs.Steps.{others-stay}
-pub use Rattle.lb_history.proofs.Together.{group-of}
+pub use Rattle.lb_history.proofs.Together.{get-pushed, group-of}
 pub use Rattle.lb_history.specs.Answers.{Answers, IsRun, Judges, answer_after, at_one, has_refused, no_number, no_such, refuse}
 pub use Rattle.lb_history.specs.Answers.{unless_refused, where_, without_memory}
 pub use Rattle.lb_history.specs.History.{History, Made, RegistryMade, Work, after, config, config_in, ended, entries, gates, group_at}
@@ -32,6 +34,7 @@ pub use Rattle.lb_joined.specs.Stands.{JoinedValue, views_of}
 pub use Rattle.lb_rebuild.specs.Gate.{GateId, GateView, gate}
 pub use Rattle.lb_rebuild.specs.Identity.{GroupId}
 pub use Rattle.lb_registry.proofs.FreshLemmas.{marks_start_none}
+pub use Rattle.lb_registry.proofs.StateLemmas.{set_found}
 pub use Rattle.lb_registry.specs.Keys.{by_address, by_identity}
 pub use Rattle.lb_registry.specs.Registry.{IsRegistryAfter, RegistryValue}
 pub use Rattle.lb_registry.specs.RegistryEvents.{Applied, Event, cells_given, views_after}

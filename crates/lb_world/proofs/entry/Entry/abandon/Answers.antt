@@ -1,8 +1,7 @@
 -- What is held built is the last job, so it is awaited.
 use Rattle.lb_world.proofs.Words.{◌∙◌, ap, arith, inl, meaning_of, refl, Some, Work}
 use Rattle.lb_world.proofs.Places.{at-place}
-use Rattle.lb_world.proofs.Entries.{next-refused, stays}
-use Rattle.lb_world.proofs.Tasks.{beyond, does-abandon, holds, next-same, own-task, unawaited, unbuilt}
+use Rattle.lb_world.proofs.Entries.{next-refused, stays, beyond, does-abandon, holds, left-so, own-task, unawaited, unbuilt}
 use Rattle.lb_world.proofs.entry.Entry.abandon.Goals as goal
 
 pub returns-then-slot-len : goal.returns-then-slot-len
@@ -14,8 +13,7 @@ returns-in_default g c =
     rw (← c.self.view_is)
     (λ z v h n b.
     let at = at-place c.self.inside.works.items c.args.slot _ (omega arith) c.index_mut-place.ensures.value in
-    next-same b c.args.slot at c.in_default.ensures.1
-    (next-refused b refl (inl (unbuilt b.is c.args.slot _ _ at c.in_default.ensures.0)) (stays b.is)))
+    left-so b c.args.slot at c.in_default.ensures.1 refl (inl (unbuilt b.is c.args.slot _ _ at c.in_default.ensures.0)))
 
 pub abandon-requires : goal.abandon-requires
 abandon-requires g c =

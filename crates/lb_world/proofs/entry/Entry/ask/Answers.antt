@@ -2,7 +2,7 @@
 use Rattle.lb_group.specs.GroupHistory.{building, busy, cancelled, not_due, up_to_date}
 use Rattle.lb_world.proofs.Words.{ap, arith, ask_told, meaning_of}
 use Rattle.lb_world.proofs.Places.{at-place}
-use Rattle.lb_world.proofs.Tasks.{does-grant, free-place, next-asked, next-unasked}
+use Rattle.lb_world.proofs.Entries.{does-grant, free-place, next-asked, next-unasked}
 use Rattle.lb_world.proofs.entry.Entry.ask.Goals as goal
 
 pub index_mut-place-requires : goal.index_mut-place-requires

@@ -1,7 +1,7 @@
 -- The core takes the selector out, and its report is owed then.
 use Rattle.lb_joined.specs.Stands.{SameSite}
 use Rattle.lb_world.proofs.Words.{◌∙◌, false≢true, JoinedValue, refl, site, sym}
-use Rattle.lb_world.proofs.Tasks.{does-destroy, does-refuse-destruction, owed-now}
+use Rattle.lb_world.proofs.Entries.{does-destroy, does-refuse-destruction, owed-now}
 use Rattle.lb_world.proofs.entry.Entry.destroy.Goals as goal
 
 -- a site that two calls left

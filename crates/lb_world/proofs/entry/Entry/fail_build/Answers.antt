@@ -1,8 +1,7 @@
 -- The job that is held is the last one, so it is awaited; its snapshot is let go.
 use Rattle.lb_world.proofs.Words.{◌∙◌, ap, arith, inl, meaning_of, refl, Some, Work}
 use Rattle.lb_world.proofs.Places.{at-place}
-use Rattle.lb_world.proofs.Entries.{next-refused, stays}
-use Rattle.lb_world.proofs.Tasks.{beyond, does-fail, holds, next-same, own-task, unawaited, unstarted}
+use Rattle.lb_world.proofs.Entries.{next-refused, stays, beyond, does-fail, holds, left-so, own-task, unawaited, unstarted}
 use Rattle.lb_world.proofs.entry.Entry.fail_build.Goals as goal
 
 pub returns-then-slot-len : goal.returns-then-slot-len
@@ -14,8 +13,7 @@ returns-in_default g c =
     rw (← c.self.view_is)
     (λ h n b.
     let at = at-place c.self.inside.works.items c.args.slot _ (omega arith) c.index_mut-place.ensures.value in
-    next-same b c.args.slot at c.in_default.ensures.1
-    (next-refused b refl (inl (unstarted b.is c.args.slot _ _ at c.in_default.ensures.0)) (stays b.is)))
+    left-so b c.args.slot at c.in_default.ensures.1 refl (inl (unstarted b.is c.args.slot _ _ at c.in_default.ensures.0)))
 
 pub fail-requires : goal.fail-requires
 fail-requires g c =

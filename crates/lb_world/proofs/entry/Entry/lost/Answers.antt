@@ -16,8 +16,7 @@ told-flight : (there flies : Bool) (n : ℕ) (r : Option Refusal)
     → at_one (cond there (Some (cond flies (Some n) None)) None) lost_answer
     ≡ unless_refused r (Answer.Lost (number_of (cond there (Some (cond flies (Some n) None)) None)))
 told-flight true true n r is = rw (← is) refl
-told-flight true false n r is = rw (← is) refl
-told-flight false flies n r is = rw (← is) refl
+told-flight there flies n r is = rw (← is) refl
 
 module _ {C : Type 0} {M : Meaning C} {h : History C} {g : ℕ} {e : EntryValue C} {z : GateView} {v : RegistryValue WorldRule}
     (b : Before M h g e z v) where

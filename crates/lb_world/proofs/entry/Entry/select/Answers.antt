@@ -20,14 +20,13 @@ use Rattle.lb_group.specs.GroupHistory as group
 use Rattle.lb_joined.specs.JoinedHistory as joined
 use Rattle.lb_joined.specs.JoinedCalls as calls
 use Rattle.lb_history.specs.Answers as answers
-use Rattle.lb_world.proofs.Words.{◌&&◌, ◌++◌, ◌+◌, ◌==◌, ◌∙◌, ◌∷◌, ◌≡◌, [], Answer, ap, ap2, At, Before, Bool, cases_eq, changed}
-use Rattle.lb_world.proofs.Words.{cond, config, configs_of, EntryNext, EntryValue, Err, false, gate, GateId, GateView}
-use Rattle.lb_world.proofs.Words.{group-of, group_events, happened, History, inl, inr, joined_after, joined_events}
-use Rattle.lb_world.proofs.Words.{JoinedValue, Judges, key_of, length, List, list_all, load_in, load_of, lt-ltb, made, MatchOption}
-use Rattle.lb_world.proofs.Words.{Meaning, Member, members-past, members_of, nat_le, nat_lt, None, Ok, Option, past, past-other}
-use Rattle.lb_world.proofs.Words.{past-same, past_of, permit_after, promised, refl, Refusal, registry_events, RegistryValue}
-use Rattle.lb_world.proofs.Words.{Result, same_member, served, shares, site, slice_get, slice_get_within, Some, Step, subst, sym, true}
-use Rattle.lb_world.proofs.Words.{with_core, Work, worked, WorldRule, ℕ}
+use Rattle.lb_world.proofs.Words.{◌&&◌, ◌++◌, ◌+◌, ◌==◌, ◌∙◌, ◌∷◌, ◌≡◌, [], Answer, ap, ap2, At, Before, Bool, cases_eq, changed, cond}
+use Rattle.lb_world.proofs.Words.{config, configs_of, EntryNext, EntryValue, Err, false, gate, GateId, GateView, group-of, group_events}
+use Rattle.lb_world.proofs.Words.{happened, History, inl, inr, joined_after, joined_events, JoinedValue, Judges, key_of, length, List}
+use Rattle.lb_world.proofs.Words.{list_all, load_in, load_of, lt-ltb, made, MatchOption, Meaning, Member, members-past, members_of, nat_le}
+use Rattle.lb_world.proofs.Words.{nat_lt, None, Ok, Option, past, past-other, past-same, past_of, permit_after, promised, refl, Refusal}
+use Rattle.lb_world.proofs.Words.{registry_events, RegistryValue, Result, same_member, served, shares, site, slice_get, slice_get_within}
+use Rattle.lb_world.proofs.Words.{Some, Step, subst, sym, true, with_core, Work, worked, WorldRule, ℕ}
 use Rattle.lb_world.proofs.Places.{there}
 use Rattle.lb_world.proofs.Entries.{config-here, Moves, next-core, next-refused, no_grant, registry-here, slot-or, unshared, views-are}
 use Rattle.lb_world.proofs.entry.Entry.select.Goals as goal

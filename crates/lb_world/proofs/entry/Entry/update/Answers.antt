@@ -18,11 +18,11 @@ use Rattle.lb_registry.specs.RegistryEvents as registry
 use Rattle.lb_world.proofs.Words.{◌&&◌, ◌+◌, ◌==◌, ◌^◌, ◌↔◌, ◌∙◌, ◌∷◌, ◌≡◌, ◌≤◌, absent, Answer, answer_after, Answers, ap, ap2, at_one}
 use Rattle.lb_world.proofs.Words.{Before, Bool, changed, cond, earlier, EntryNext, EntryValue, Err, events_in, false, GateView, group-of}
 use Rattle.lb_world.proofs.Words.{group_events, has_refused, History, inl, inr, IsRegistryAfter, IsTrue, joined_after, joined_events}
-use Rattle.lb_world.proofs.Words.{JoinedValue, key_gives, key_of, le-leb, List, Listing, Made, made_at, made_of, Meaning}
-use Rattle.lb_world.proofs.Words.{members_in, members_of, nat_le, newest, no_number, None, numbered, Ok, Option, refl, Refusal, refuse}
-use Rattle.lb_world.proofs.Words.{registry_events, RegistryValue, Result, same_members, settings_in, shares, site, Some, Step, subst, sym}
-use Rattle.lb_world.proofs.Words.{true, true≢false, unless_refused, view_events, view_in, ViewEvent, views_of, where_, with_core}
-use Rattle.lb_world.proofs.Words.{without_memory, WorldRule, ℕ}
+use Rattle.lb_world.proofs.Words.{JoinedValue, key_gives, key_of, le-leb, List, Listing, Made, made_at, made_of, Meaning, members_in}
+use Rattle.lb_world.proofs.Words.{members_of, nat_le, newest, no_number, None, numbered, Ok, Option, refl, Refusal, refuse, registry_events}
+use Rattle.lb_world.proofs.Words.{RegistryValue, Result, same_members, settings_in, shares, site, Some, Step, subst, sym, true, true≢false}
+use Rattle.lb_world.proofs.Words.{unless_refused, view_events, view_in, ViewEvent, views_of, where_, with_core, without_memory, WorldRule}
+use Rattle.lb_world.proofs.Words.{ℕ}
 use Rattle.lb_world.proofs.Entries.{joined-here, Moves, next-core, next-refused, registry-here, shared, stays, views-are}
 use Rattle.lb_world.proofs.entry.Entry.update.Goals as goal
 
@@ -32,13 +32,9 @@ cause a b = cond a (Some Refusal.GenerationsExhausted) (cond b (Some Refusal.Gro
 
 first-cause : (a b c d : Bool) (r : Refusal) → cause a b ≡ Some r
     → earlier (cause a b) (cond c (where_ d Refusal.NumbersExhausted) None) ≡ Some r
-first-cause true b true true r is = is
-first-cause true b true false r is = is
-first-cause true b false d r is = is
-first-cause false true true true r is = is
-first-cause false true true false r is = is
-first-cause false true false d r is = is
 first-cause false false c d r is = absurd (cc)
+first-cause a b true true r is = is
+first-cause a b c d r is = is
 
 left-false : (a b : ℕ) → (a ≤ b → ⊥) → nat_le a b ≡ false
 left-false a b off = false_from_ne_true (nat_le a b) (λ e. off (leb-true a b e))
@@ -133,17 +129,18 @@ module _ {C : Type 0} {M : Meaning C} {h : History C} {g : ℕ} {e : EntryValue 
   counted : (lacking : Bool) → causes ≡ None → Counted lacking → (IsTrue lacking ↔ ((change ≡ true) × (2 ^ 64 ≤ cells)))
   counted lacking none told = rw (group-of g h) at (told (view-there none))
 
-  counted-right : (lacking : Bool) → schedule_refusal (members_in ls) (joined.group_events (joined_events g h)) ≡ None
-      → Counted lacking → lacking ≡ true → Answers M h st (Answer.Refused Refusal.NumbersExhausted)
-  counted-right lacking own told is =
-      let none = caused None own in let both = (counted lacking none told).0 is in numbers-right none both.0 both.1
+  does-lack : (lacking : Bool) → schedule_refusal (members_in ls) (joined.group_events (joined_events g h)) ≡ None
+      → Counted lacking → lacking ≡ true → EntryNext M h g st (Answer.Refused Refusal.NumbersExhausted) e z e z v
+  does-lack lacking own told is =
+      let none = caused None own in let both = (counted lacking none told).0 is in
+      next-refused b refl (numbers-right none both.0 both.1) (stays b.is)
 
-  uncounted-right : (lacking : Bool) → schedule_refusal (members_in ls) (joined.group_events (joined_events g h)) ≡ None
-      → Counted lacking → lacking ≡ false → Answers M h st (Answer.Refused Refusal.OutOfMemory)
-  uncounted-right lacking own told is =
+  lacks-memory : (lacking : Bool) → schedule_refusal (members_in ls) (joined.group_events (joined_events g h)) ≡ None
+      → Counted lacking → lacking ≡ false → EntryNext M h g st (Answer.Refused Refusal.OutOfMemory) e z e z v
+  lacks-memory lacking own told is =
       let none = caused None own in
-      memory-right none
-      (λ c. left-false (2 ^ 64) cells (λ more. true≢false (sym ((counted lacking none told).1 (c, more)) ∙ is)))
+      let fit = λ (c : change ≡ true). left-false (2 ^ 64) cells (λ more. true≢false (sym ((counted lacking none told).1 (c, more)) ∙ is)) in
+      next-refused b refl (memory-right none fit) (stays b.is)
 
   -- what the core tells of a change for which no number is left
   abbrev Lacking : Result Scheduled Refusal → Type 0
@@ -275,28 +272,25 @@ pub returns-then-lacks_numbers : goal.returns-then-lacks_numbers
 returns-then-lacks_numbers g c =
     rw (← c.self.view_is)
     (λ z h n b.
-    next-refused b refl
-    (counted-right b c.args.now c.args.listings.items c.requires.whole _
+    does-lack b c.args.now c.args.listings.items c.requires.whole _
     (sym (rw c.deref.ensures.value at ((rw (← c.self.view_is) at c.refusal.ensures) _ _ b.is.core_is)) ∙ c.in_default.is)
     (λ there. rw c.deref-2.ensures.value at ((rw (← c.self.view_is) at c.lacks_numbers.ensures) _ _ b.kept there _ _ b.is.core_is))
-    c.if-lacks_numbers.true) (stays b.is))
+    c.if-lacks_numbers.true)
 
 pub returns-in_default-settings_from : goal.returns-in_default-settings_from
 returns-in_default-settings_from g c =
     rw (← c.self.view_is)
     (λ z h n b.
-    next-refused b refl
-    (uncounted-right b c.args.now c.args.listings.items c.requires.whole _
+    lacks-memory b c.args.now c.args.listings.items c.requires.whole _
     (sym (rw c.deref.ensures.value at ((rw (← c.self.view_is) at c.refusal.ensures) _ _ b.is.core_is)) ∙ c.in_default.is)
     (λ there. rw c.deref-2.ensures.value at ((rw (← c.self.view_is) at c.lacks_numbers.ensures) _ _ b.kept there _ _ b.is.core_is))
-    c.if-lacks_numbers.false) (stays b.is))
+    c.if-lacks_numbers.false)
 
 pub returns-in_default-members_from : goal.returns-in_default-members_from
 returns-in_default-members_from g c =
     rw (← c.self.view_is)
     (λ z h n b.
-    next-refused b refl
-    (uncounted-right b c.args.now c.args.listings.items c.requires.whole _
+    lacks-memory b c.args.now c.args.listings.items c.requires.whole _
     (sym (rw c.deref.ensures.value at ((rw (← c.self.view_is) at c.refusal.ensures) _ _ b.is.core_is)) ∙ c.in_default.is)
     (λ there. rw c.deref-2.ensures.value at ((rw (← c.self.view_is) at c.lacks_numbers.ensures) _ _ b.kept there _ _ b.is.core_is))
-    c.if-lacks_numbers.false) (stays b.is))
+    c.if-lacks_numbers.false)

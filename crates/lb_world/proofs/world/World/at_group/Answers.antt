@@ -2,10 +2,9 @@
 use Rattle.lb_world.specs.Locals.{IsWhole, local_seen}
 use Rattle.lb_world.specs.Stands.{Does}
 use Rattle.lb_world.specs.declared.local.Local.{Local}
-use Rattle.lb_world.proofs.Words.{◌∷◌, ◌∙◌, ◌≡◌, Answer, Answers, ap, arith, entries, EntryValue, GateView, group_at}
-use Rattle.lb_world.proofs.Words.{History, inl, made_at, Meaning, meaning_of, None, Origin, refl, Refusal}
-use Rattle.lb_world.proofs.Words.{RegistryValue, same_Some, slice_get, slice_get_within, slice_set, Some, Stands, sym, WorldRule}
-use Rattle.lb_world.proofs.Words.{WorldValue, ℕ}
+use Rattle.lb_world.proofs.Words.{◌∷◌, ◌∙◌, ◌≡◌, Answer, Answers, ap, arith, entries, EntryValue, GateView, group_at, History, inl, made_at}
+use Rattle.lb_world.proofs.Words.{Meaning, meaning_of, None, Origin, refl, Refusal, RegistryValue, same_Some, slice_get, slice_get_within}
+use Rattle.lb_world.proofs.Words.{slice_set, Some, Stands, sym, WorldRule, WorldValue, ℕ}
 use Rattle.lb_world.proofs.Places.{at-place}
 use Rattle.lb_world.proofs.Tables.{before, founded-by, no-group, own-kept, world-moves, world-refused}
 use Rattle.lb_world.proofs.world.World.at_group.Goals as goal

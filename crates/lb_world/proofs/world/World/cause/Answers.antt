@@ -1,8 +1,8 @@
 -- The tests of the two numbers, taken one after the other, are that both are there.
 use Rattle.lb_world.specs.Founded.{world_value}
 use Rattle.std.proofs.lemmas.Bool.{le-ltb}
-use Rattle.lb_world.proofs.Words.{◌<◌, ◌∙◌, ◌≡◌, ◌≤◌, ◌&&◌, [], ap, arith, Bool, earlier, in_tables, least, lt-ltb, map}
-use Rattle.lb_world.proofs.Words.{nat_lt, no_such, past, ℕ}
+use Rattle.lb_world.proofs.Words.{◌<◌, ◌∙◌, ◌≡◌, ◌≤◌, ◌&&◌, [], ap, arith, Bool, earlier, in_tables, least, lt-ltb, map, nat_lt, no_such}
+use Rattle.lb_world.proofs.Words.{past, ℕ}
 use Rattle.lb_world.proofs.world.World.cause.Goals as goal
 
 -- two numbers are in their tables: the second test is taken where the first one holds

@@ -1,9 +1,7 @@
 -- The group's core lets the reader enter; the reader's number is that of its place.
-use Rattle.lb_world.proofs.Words.{◌∷◌, ◌∙◌, ◌≡◌, ◌++◌, [], ap, arith, HeldValue, inl, inr, length, List, Option}
-use Rattle.lb_world.proofs.Words.{refl, Some}
+use Rattle.lb_world.proofs.Words.{◌∷◌, ◌∙◌, ◌≡◌, ◌++◌, [], ap, arith, HeldValue, inl, inr, length, List, Option, refl, Some}
 use Rattle.lb_world.proofs.Places.{at-place}
-use Rattle.lb_world.proofs.Tables.{founded-by, no-group, world-refused}
-use Rattle.lb_world.proofs.Readers.{enter-absent, enter-full, enter-memory, entered-now, refused-now}
+use Rattle.lb_world.proofs.Tables.{founded-by, no-group, world-refused, enter-absent, enter-full, enter-memory, entered-now, refused-now}
 use Rattle.lb_world.proofs.world.World.enter.Goals as goal
 
 pub returns-then-group-len : goal.returns-then-group-len

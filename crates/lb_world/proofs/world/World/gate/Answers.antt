@@ -1,7 +1,6 @@
 -- A gate that is new is not out; the others stay as they were.
 use Rattle.lb_world.proofs.Words.{◌≡◌, arith, inr, length, refl}
-use Rattle.lb_world.proofs.Tables.{founded-by, world-refused}
-use Rattle.lb_world.proofs.Registries.{gate-made}
+use Rattle.lb_world.proofs.Tables.{founded-by, world-refused, gate-made}
 use Rattle.lb_world.proofs.world.World.gate.Goals as goal
 
 pub returns-in_default : goal.returns-in_default

@@ -12,18 +12,16 @@ use Rattle.std.proofs.lemmas.Bool.{cond_both}
 use Rattle.std.proofs.lemmas.List.{length-replicate}
 use Rattle.lb_registry.specs.RegistryEvents as registry
 use Rattle.lb_world.proofs.Words.{◌&&◌, ◌++◌, ◌+◌, ◌<◌, ◌^◌, ◌||◌, ◌↔◌, ◌∙◌, ◌∷◌, ◌≡◌, ◌≤◌, [], absent, after, and_parts, Answer}
-use Rattle.lb_world.proofs.Words.{answer_after, ap, ap2, arith, Bool, cond, configs_of, earlier, EntryIs, EntryValue, eq-eqb}
-use Rattle.lb_world.proofs.Words.{false, false≢true, GateId, GateView, held_of, History, in_tables, inl, inr, IsRegistryAfter, IsRun}
-use Rattle.lb_world.proofs.Words.{IsTrue, key_at, key_gives, key_of, le-leb, least, leb_tells, length, length-set, length_push, List}
-use Rattle.lb_world.proofs.Words.{load_of, lt-ltb, ltb-true, made, made_at, made_of, map, marks_start_none, Meaning, Member, nat_le}
-use Rattle.lb_world.proofs.Words.{nat_lt, ne_eqb, no_number, no_such, None, none-some, numbered, Option, origin, past, refl, Refusal}
-use Rattle.lb_world.proofs.Words.{registries, registry_events, RegistryValue, slice_get, slice_get_past, slice_get_within, slice_set}
-use Rattle.lb_world.proofs.Words.{Some, Stands, Step, sym, true, unless_refused, where_, without_memory, WorkValue, WorldRule, WorldValue}
-use Rattle.lb_world.proofs.Words.{ℕ}
-use Rattle.lb_world.proofs.Places.{at-place, each-push, each-set, get_kept, get_last, get_push, get_replicate}
-use Rattle.lb_world.proofs.Tables.{entry-moves, founded-by, registry-lent, world-refused}
-use Rattle.lb_world.proofs.Registries.{number-left, refused-so, Tells}
-use Rattle.lb_world.proofs.Readers.{group-there}
+use Rattle.lb_world.proofs.Words.{answer_after, ap, ap2, arith, Bool, cond, configs_of, earlier, EntryIs, EntryValue, eq-eqb, false}
+use Rattle.lb_world.proofs.Words.{false≢true, GateId, GateView, get-kept, get-pushed, held_of, History, in_tables, inl, inr}
+use Rattle.lb_world.proofs.Words.{IsRegistryAfter, IsRun, IsTrue, key_at, key_gives, key_of, le-leb, least, leb_tells, length, length-set}
+use Rattle.lb_world.proofs.Words.{length_push, List, load_of, lt-ltb, ltb-true, made, made_at, made_of, map, marks_start_none, Meaning}
+use Rattle.lb_world.proofs.Words.{Member, nat_le, nat_lt, ne_eqb, no_number, no_such, None, none-some, numbered, Option, origin, past, refl}
+use Rattle.lb_world.proofs.Words.{Refusal, registries, registry_events, RegistryValue, slice_get, slice_get_past, slice_get_within}
+use Rattle.lb_world.proofs.Words.{slice_set, Some, Stands, Step, sym, true, unless_refused, where_, without_memory, WorkValue, WorldRule}
+use Rattle.lb_world.proofs.Words.{WorldValue, ℕ}
+use Rattle.lb_world.proofs.Places.{at-place, each-push, each-set, get_last, get_replicate}
+use Rattle.lb_world.proofs.Tables.{entry-moves, founded-by, registry-lent, world-refused, number-left, refused-so, Tells, group-there}
 use Rattle.lb_world.proofs.world.World.group.Goals as goal
 
 -- no refusal has a greater number than the want of numbers
@@ -222,7 +220,7 @@ module _ {C : Type 0} {M : Meaning C} {w : WorldValue C} {h : History C} (s : St
                     each-push w.groups e (rw s.groups_are (entry-made M h r a z.id cs n e s.run within new))
                     (λ g x low was.
                     let is = s.each g x was in
-                    entry-moves (get_kept (made h) g _ (made_of x) is.made_is) refl refl (λ i. refl) (λ b. refl) is);
+                    entry-moves (get-kept (made h) _ (made_of x) g is.made_is) refl refl (λ i. refl) (λ b. refl) is);
                 on_site =
                     each-push w.groups e
                     (record {
@@ -235,7 +233,7 @@ module _ {C : Type 0} {M : Meaning C} {w : WorldValue C} {h : History C} (s : St
                     let on = s.on_site g x was in
                     record { view = on.view; gate = on.gate; id = on.id; registry = omega (arith, more, on.registry) });
                 own = λ t q held x in_now.
-                    elim (get_push w.groups q.group e x in_now) [
+                    elim (get-pushed w.groups e x q.group in_now) [
                       | inl p ↦ absurd (omega (arith, p.0, group-there s t q held))
                       | inr p ↦ s.own t q held x p.1
                     ];

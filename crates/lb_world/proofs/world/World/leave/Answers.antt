@@ -1,8 +1,7 @@
 -- A reader comes back to the group that it entered, whose slot counts it.
-use Rattle.lb_world.proofs.Words.{◌∙◌, ap, arith, Some, sym}
+use Rattle.lb_world.proofs.Words.{◌∙◌, ap, arith, refl, Some, sym}
 use Rattle.lb_world.proofs.Places.{at-place}
-use Rattle.lb_world.proofs.Tables.{founded-by}
-use Rattle.lb_world.proofs.Readers.{counted, group-there, leave-gone, leave-nowhere, left-now}
+use Rattle.lb_world.proofs.Tables.{entry-of, founded-by, counted, group-there, leave-gone, leave-nowhere, left-now}
 use Rattle.lb_world.proofs.world.World.leave.Goals as goal
 
 pub returns-then-reader-len : goal.returns-then-reader-len
@@ -26,8 +25,7 @@ pub leave-requires : goal.leave-requires
 leave-requires g c =
     let at = at-place c.self.inside.readers.items c.args.reader _ (omega arith) c.index_mut-place.ensures.value in
     let reader = at ∙ ap Some (sym (rw c.in-Some.is at c.replace-2.view_is ∙ c.replace.ensures.value)) in
-    let low = group-there c.self.invariant.stands c.args.reader _ reader in
-    let in_ = at-place c.self.inside.groups.items _ c.index_mut-entry.result.now low c.index_mut-entry.ensures.value in
+    let in_ = entry-of c.self.invariant.stands c.args.reader _ reader refl c.index_mut-entry.ensures.value in
     let was = c.self.invariant.stands in
     record { own = was.own c.args.reader _ reader _ in_; counted = counted was c.args.reader _ _ reader in_ }
 
@@ -35,8 +33,7 @@ pub returns : goal.returns
 returns g c =
     let at = at-place c.self.inside.readers.items c.args.reader _ (omega arith) c.index_mut-place.ensures.value in
     let reader = at ∙ ap Some (sym (rw c.in-Some.is at c.replace-2.view_is ∙ c.replace.ensures.value)) in
-    let low = group-there c.self.invariant.stands c.args.reader _ reader in
-    let in_ = at-place c.self.inside.groups.items _ c.index_mut-entry.result.now low c.index_mut-entry.ensures.value in
+    let in_ = entry-of c.self.invariant.stands c.args.reader _ reader refl c.index_mut-entry.ensures.value in
     rw (← c.self.view_is, c.replace.ensures.after, c.generation-generation.ensures)
     (λ h s.
     left-now s c.args.reader _ _ c.leave.new.self reader in_ c.leave.ensures.rest

@@ -1,8 +1,7 @@
 -- Readiness is asked of the group that the reader is in, with the group's registry.
 use Rattle.lb_world.proofs.Words.{◌∙◌, ap, arith, inl, inr, None, refl, Some, Step}
 use Rattle.lb_world.proofs.Places.{at-place}
-use Rattle.lb_world.proofs.Tables.{world-refused}
-use Rattle.lb_world.proofs.Readers.{entered-in, entered-past, group-there, ready-next, ready-none}
+use Rattle.lb_world.proofs.Tables.{world-refused, entered-in, entered-past, entry-of, group-there, ready-next, ready-none}
 use Rattle.lb_world.proofs.world.World.ready.Goals as goal
 
 pub returns-in_default : goal.returns-in_default
@@ -28,28 +27,19 @@ index-entry-requires g c =
 pub index-registry-requires : goal.index-registry-requires
 index-registry-requires g c =
     let reader = at-place c.self.inside.readers.items c.args.reader _ (omega arith) c.index.ensures ∙ ap Some c.in-Some-index.is in
-    let there_ = group-there c.self.invariant.stands c.args.reader _ reader in
-    let in_ =
-    rw c.group.ensures
-    at (at-place c.self.inside.groups.items c.group.result _ (omega (arith, c.group.ensures, there_)) c.index-entry.ensures) in
+    let in_ = entry-of c.self.invariant.stands c.args.reader _ reader c.group.ensures c.index-entry.ensures in
     omega (arith, c.registry.ensures, (c.self.invariant.stands.on_site _ _ in_).registry)
 
 pub ready-requires : goal.ready-requires
 ready-requires g c =
     let reader = at-place c.self.inside.readers.items c.args.reader _ (omega arith) c.index.ensures ∙ ap Some c.in-Some-index.is in
-    let there_ = group-there c.self.invariant.stands c.args.reader _ reader in
-    let in_ =
-    rw c.group.ensures
-    at (at-place c.self.inside.groups.items c.group.result _ (omega (arith, c.group.ensures, there_)) c.index-entry.ensures) in
+    let in_ = entry-of c.self.invariant.stands c.args.reader _ reader c.group.ensures c.index-entry.ensures in
     rw c.reader.ensures (c.self.invariant.stands.own c.args.reader _ reader _ in_)
 
 pub returns : goal.returns
 returns g c =
     let reader = at-place c.self.inside.readers.items c.args.reader _ (omega arith) c.index.ensures ∙ ap Some c.in-Some-index.is in
-    let there_ = group-there c.self.invariant.stands c.args.reader _ reader in
-    let in_ =
-    rw c.group.ensures
-    at (at-place c.self.inside.groups.items c.group.result _ (omega (arith, c.group.ensures, there_)) c.index-entry.ensures) in
+    let in_ = entry-of c.self.invariant.stands c.args.reader _ reader c.group.ensures c.index-entry.ensures in
     let on = c.self.invariant.stands.on_site _ _ in_ in
     let at_registry =
     rw c.registry.ensures

@@ -1,7 +1,6 @@
 -- A registry that is new has the events with which it starts; the others stay as they were.
 use Rattle.lb_world.proofs.Words.{◌≡◌, arith, inr, length, refl}
-use Rattle.lb_world.proofs.Tables.{founded-by, world-refused}
-use Rattle.lb_world.proofs.Registries.{registry-made}
+use Rattle.lb_world.proofs.Tables.{founded-by, world-refused, registry-made}
 use Rattle.lb_world.proofs.world.World.registry.Goals as goal
 
 pub returns-in_default : goal.returns-in_default

@@ -10,8 +10,8 @@ use Rattle.lb_history.specs.Refused.{RefusedStays}
 use Rattle.lb_history.specs.Selected.{FirstAccepted}
 use Rattle.lb_history.specs.Steps.{step_seen}
 use Rattle.lb_world.specs.Ever.{Always, EachStep, JudgedByOwn}
-use Rattle.lb_world.proofs.Words.{◌++◌, ◌∙◌, ◌∷◌, ◌≡◌, [], after, Answer, ap, arith, History, IsRun, length, length-map, length_push}
-use Rattle.lb_world.proofs.Words.{List, map, map-append, map-id, Meaning, meaning_of, promised, refl, Stands, Step, sym, YieldsList-end}
+use Rattle.lb_world.proofs.Words.{◌++◌, ◌∙◌, ◌∷◌, ◌≡◌, [], after, Answer, ap, arith, History, IsRun, length, length-map, length_push, List}
+use Rattle.lb_world.proofs.Words.{map, map-append, map-id, Meaning, meaning_of, promised, refl, Stands, Step, sym, YieldsList-end}
 use Rattle.lb_world.proofs.Words.{YieldsList-from_vec, ℕ}
 use Rattle.lb_world.proofs.Tables.{stands-unrefused}
 use Rattle.lb_world.proofs.world.World.run.Goals as goal

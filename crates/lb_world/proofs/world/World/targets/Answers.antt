@@ -1,8 +1,7 @@
 -- The registry's own targets, at the registry that the step names.
 use Rattle.lb_world.proofs.Words.{ap, arith, Err, inl, refl}
 use Rattle.lb_world.proofs.Places.{at-place}
-use Rattle.lb_world.proofs.Tables.{founded-by, no-registry, world-refused}
-use Rattle.lb_world.proofs.Registries.{growth-told, targets-next, targets-refused}
+use Rattle.lb_world.proofs.Tables.{founded-by, no-registry, world-refused, growth-told, targets-next, targets-refused}
 use Rattle.lb_world.proofs.world.World.targets.Goals as goal
 
 pub returns-then-registry-len : goal.returns-then-registry-len

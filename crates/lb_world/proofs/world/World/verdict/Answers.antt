@@ -1,8 +1,7 @@
 -- The registry's own verdict, at the registry that the step names.
 use Rattle.lb_world.proofs.Words.{arith, false≢true, refl, Refusal, Step}
 use Rattle.lb_world.proofs.Places.{at-place}
-use Rattle.lb_world.proofs.Tables.{founded-by, no-registry, world-refused}
-use Rattle.lb_world.proofs.Registries.{refused-so, verdict-next, verdict-refused}
+use Rattle.lb_world.proofs.Tables.{founded-by, no-registry, world-refused, refused-so, verdict-next, verdict-refused}
 use Rattle.lb_world.proofs.world.World.verdict.Goals as goal
 
 pub returns-then-registry-len : goal.returns-then-registry-len

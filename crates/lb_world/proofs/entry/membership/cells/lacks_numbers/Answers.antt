@@ -1,6 +1,6 @@
 -- The numbers that are left are enough for the listings, or for the keys that they start, or for neither.
 use Rattle.lb_world.proofs.Words.{arith, live, lt-ltb, ltb-true, views_after}
-use Rattle.lb_world.proofs.CellCounts.{given-then, keys-le}
+use Rattle.lb_world.proofs.Listed.{given-then, keys-le}
 use Rattle.lb_world.proofs.entry.membership.cells.lacks_numbers.Goals as goal
 
 pub returns-then-listings-left : goal.returns-then-listings-left

@@ -2,9 +2,9 @@
 use Rattle.lb_registry.specs.Targets.{ViewValue}
 use Rattle.std.proofs.Common.{◌-◌, get_or}
 use Rattle.std.proofs.lemmas.List.{length-drop, take_all}
-use Rattle.lb_world.proofs.Words.{◌∷◌, ◌+◌, ◌∙◌, ◌≡◌, ◌<◌, ap, arith, at_drop_more, Bool, cond, drop, length, List, Listing, live}
-use Rattle.lb_world.proofs.Words.{Member, new_keys, starts_cell, sym, take, views_after, ℕ}
-use Rattle.lb_world.proofs.CellCounts.{keys-more}
+use Rattle.lb_world.proofs.Words.{◌∷◌, ◌+◌, ◌∙◌, ◌≡◌, ◌<◌, ap, arith, at_drop_more, Bool, cond, drop, length, List, Listing, live, Member}
+use Rattle.lb_world.proofs.Words.{new_keys, starts_cell, sym, take, views_after, ℕ}
+use Rattle.lb_world.proofs.Listed.{keys-more}
 use Rattle.lb_world.proofs.entry.membership.cells.starting_count.Goals as goal
 
 more : (key_of : Member → Member) (views : List ViewValue) (ls : List Listing) (i : ℕ) (item : Listing) (b : Bool) → i < length ls
