@@ -1,24 +1,48 @@
 //! Balancers that run in the background, while another thread tells them to end.
 use crate::fixtures::{DownAt, FAULT, Line, ROWS, Tested, Ticks, balancer, waited};
 use lb_select::backend::Backend;
-use lb_service::ready::{ReadyWatch, ready_pair};
-use lb_service::shutdown::{ShutdownSignal, shutdown_pair};
+use lb_service::ready::{ReadyWatch, ServiceReadyNotifier, ready_pair};
+use lb_service::shutdown::{ShutdownSignal, ShutdownWatch, shutdown_pair};
 use log::sink::Locked;
-use log::{Level, Logged};
+use log::{Level, Log, Logged};
 use std::alloc::Global;
 use std::sync::atomic::Ordering::SeqCst;
 use std::sync::{Arc, Wait};
 use std::test::Fail;
 use std::thread;
-use std::thread::join;
+use std::thread::{Threads, join};
 use std::time::{Clock, Duration};
 
-// Sends the end once the line was asked, and opens the line then; whether it was asked.
-fn end_amid<R: Clock>(rt: &R, line: &Line, signal: &mut ShutdownSignal) -> bool {
+// Sends the end once the line was asked, and opens the line then; whether it was asked, and the generation before.
+fn end_amid<R: Wait + Clock + Copy + Drop>(
+    rt: &R,
+    balancer: &Tested<R>,
+    line: &Line,
+    signal: &mut ShutdownSignal,
+) -> (bool, u64) {
     let came = waited(rt, &line.asked, 1);
+    let generation = balancer.backend_generation(rt);
     signal.send(true);
     line.open.store(1, SeqCst);
-    came
+    (came, generation)
+}
+
+// Runs by a clock that goes on by five at each reading; the generation then, and whether a member isn't ready.
+fn ran<R: Log + Threads + Wait + Clock + Copy + Send + Sync + Drop>(
+    rt: &R,
+    alloc: Global,
+    balancer: &Tested<R>,
+    watch: &ShutdownWatch,
+    notifier: ServiceReadyNotifier,
+) -> (u64, bool) {
+    let mut clock = Ticks { next: 0 };
+    balancer.run(rt, alloc, &mut clock, watch, Some(notifier));
+    let unready = |_: &Backend, ready: bool| !ready;
+    let is_down = match balancer.select_with(rt, alloc, b"k", 9, &unready) {
+        Ok(found) => found.is_some(),
+        Err(_) => false,
+    };
+    (balancer.backend_generation(rt), is_down)
 }
 
 // An update that runs when services are to end is let end, and then the run ends without telling its notifier.
@@ -28,19 +52,17 @@ fn update_is_let_end(rt: HostRuntime) -> Result<(), Fail> {
     let line = Arc::new(alloc, Line::new(false))?;
     let (mut signal, watch) = shutdown_pair(alloc)?;
     let (notifier, ready) = ready_pair(alloc)?;
-    let mut clock = Ticks { next: 0 };
     let mut balancer = balancer(rt, alloc, Arc::try_clone(&line)?)?;
     balancer.update_frequency = Some(10);
-    let asked = &*line;
-    let sends = &mut signal;
-    let (came, _) = join(
+    let (shared, asked, sends, end) = (&balancer, &*line, &mut signal, &watch);
+    let (came, after) = join(
         &rt,
-        || end_amid(&rt, asked, sends),
-        || balancer.run(&rt, alloc, &mut clock, &watch, Some(notifier)),
+        || end_amid(&rt, shared, asked, sends),
+        || ran(&rt, alloc, shared, end, notifier),
     );
-    assert!(rt; came);
+    assert_eq!(rt; came, (true, 0));
+    assert_eq!(rt; after, (1, false));
     assert_eq!(rt; line.asked.load(SeqCst), 1);
-    assert_eq!(rt; balancer.backend_generation(&rt), 1);
     assert!(rt; !ready.is_ready());
     Ok(())
 }
@@ -58,25 +80,21 @@ fn check_is_let_end(rt: HostRuntime) -> Result<(), Fail> {
         down: "1.0.0.2:80",
         line: Arc::try_clone(&checks)?,
     };
-    let mut clock = Ticks { next: 0 };
     let mut balancer = balancer(rt, alloc, Arc::try_clone(&line)?)?;
     balancer.update_frequency = Some(10);
     balancer.health_check_frequency = Some(10);
     balancer.set_health_check(&rt, check)?;
-    let asked = &*checks;
-    let sends = &mut signal;
-    let (came, _) = join(
+    let (shared, asked, sends, end) = (&balancer, &*checks, &mut signal, &watch);
+    let (came, after) = join(
         &rt,
-        || end_amid(&rt, asked, sends),
-        || balancer.run(&rt, alloc, &mut clock, &watch, Some(notifier)),
+        move || end_amid(&rt, shared, asked, sends),
+        move || ran(&rt, alloc, shared, end, notifier),
     );
-    assert!(rt; came);
+    assert_eq!(rt; came, (true, 1));
+    assert_eq!(rt; after, (1, true));
     assert_eq!(rt; line.asked.load(SeqCst), 1);
     assert_eq!(rt; checks.asked.load(SeqCst), 3);
     assert!(rt; ready.is_ready());
-    let unready = |_: &Backend, ready: bool| !ready;
-    let found = balancer.select_with(&rt, alloc, b"k", 9, &unready)?;
-    assert!(rt; found.is_some());
     Ok(())
 }
 
@@ -95,18 +113,17 @@ fn ready_after_update(rt: HostRuntime) -> Result<(), Fail> {
     let line = Arc::new(alloc, Line::new(false))?;
     let (_signal, watch) = shutdown_pair(alloc)?;
     let (notifier, ready) = ready_pair(alloc)?;
-    let mut clock = Ticks { next: 0 };
     let balancer = balancer(rt, alloc, Arc::try_clone(&line)?)?;
-    let asked = &*line;
-    let (before, _) = join(
+    let (shared, asked, seen, end) = (&balancer, &*line, &ready, &watch);
+    let (before, after) = join(
         &rt,
-        || opened(&rt, asked, &ready),
-        || balancer.run(&rt, alloc, &mut clock, &watch, Some(notifier)),
+        move || opened(&rt, asked, seen),
+        move || ran(&rt, alloc, shared, end, notifier),
     );
     assert_eq!(rt; before, (true, false));
+    assert_eq!(rt; after, (1, false));
     assert!(rt; ready.is_ready());
     assert_eq!(rt; line.asked.load(SeqCst), 1);
-    assert_eq!(rt; balancer.backend_generation(&rt), 1);
     Ok(())
 }
 
