@@ -48,7 +48,8 @@ fn used<W: Threads + Wait + Clock + Copy + Send + Sync + Drop + 'static>(
     if missing != 0 || crowd.second.start_workers(alloc, clock) != 0 {
         return Ending::Unstarted;
     }
-    if !crowd_in(rt, alloc, crowd.groups(), 500, 20, &mut clock) {
+    let (first, second) = (crowd.first.shared(), crowd.second.shared());
+    if !crowd_in(rt, alloc, first, second, 500, 20, &mut clock) {
         return Ending::Refused;
     }
     if is_cancelled {

@@ -16,11 +16,9 @@ use lb_workers::group::LoadBalancerGroup;
 use lb_workers::parts::GroupParts;
 use std::alloc::Global;
 use std::collections::BTreeSet;
-use std::sync::atomic::AtomicBool;
-use std::sync::atomic::Ordering::SeqCst;
 use std::sync::{Arc, Wait};
 use std::thread;
-use std::thread::Threads;
+use std::thread::{JoinHandle, Threads};
 use std::time::{Clock, Duration};
 
 /// A check that is never run.
@@ -210,17 +208,51 @@ pub fn serves<S: BackendSelection, R: KeyRule + Drop, C: HealthCheck + Drop, W: 
     false
 }
 
+// Starts a thread that selects so many times, and answers whether none was refused; none where it can't be started.
+fn starts_reader<
+    S: BackendSelection + Send + Sync + 'static,
+    R: KeyRule + Drop + Send + Sync + 'static,
+    C: HealthCheck + Drop + Send + Sync + 'static,
+    W: Threads + Wait + Copy + Send + 'static,
+>(
+    rt: &W,
+    alloc: Global,
+    group: &Arc<SharedGroup<S, R, C>>,
+    selections: u64,
+) -> Option<JoinHandle<bool>>
+where
+    S::Iter: Send + Sync + 'static,
+    S::Config: Send + Sync + 'static,
+{
+    let shared = Arc::try_clone(group).ok()?;
+    let own = *rt;
+    let started = thread::spawn(rt, move || {
+        let group: &SharedGroup<S, R, C> = &*shared;
+        select_often(&own, alloc, group, selections)
+    });
+    started.ok()
+}
+
+// What a thread answered that selected; `false` where none was started.
+fn joined<W: Threads>(rt: &W, reader: Option<JoinHandle<bool>>) -> bool {
+    match reader {
+        Some(reader) => reader.join(rt),
+        None => false,
+    }
+}
+
 /// Three threads that select so many times each, while the caller's updates both groups so many times; whether nothing was refused.
 pub fn crowd_in<
     S: BackendSelection + Send + Sync + 'static,
     R: KeyRule + Drop + Send + Sync + 'static,
     C: HealthCheck + Drop + Send + Sync + 'static,
-    W: Threads + Wait + Clock + Sync,
+    W: Threads + Wait + Clock + Copy + Send + 'static,
     K: MomentSource,
 >(
     rt: &W,
     alloc: Global,
-    groups: [&SharedGroup<S, R, C>; 2],
+    first: &Arc<SharedGroup<S, R, C>>,
+    second: &Arc<SharedGroup<S, R, C>>,
     selections: u64,
     updates: u64,
     clock: &mut K,
@@ -229,25 +261,11 @@ where
     S::Iter: Send + Sync + 'static,
     S::Config: Send + Sync + 'static,
 {
-    let refused = AtomicBool::new(false);
-    let seen = &refused;
-    let [first, second] = groups;
-    thread::scope(thread::scope_env(), rt, |scope| {
-        for group in [first, second, first] {
-            let started = scope.spawn(move || {
-                if !select_often(rt, alloc, group, selections) {
-                    seen.store(true, SeqCst);
-                }
-            });
-            if started.is_err() {
-                seen.store(true, SeqCst);
-            }
-        }
-        let told = update_often(rt, alloc, first, updates, clock);
-        let other = update_often(rt, alloc, second, updates, clock);
-        if told.is_err() || other.is_err() {
-            seen.store(true, SeqCst);
-        }
-    });
-    !refused.load(SeqCst)
+    let one = starts_reader(rt, alloc, first, selections);
+    let two = starts_reader(rt, alloc, second, selections);
+    let three = starts_reader(rt, alloc, first, selections);
+    let told = update_often(rt, alloc, &**first, updates, clock);
+    let other = update_often(rt, alloc, &**second, updates, clock);
+    let has_read = [joined(rt, one), joined(rt, two), joined(rt, three)];
+    told.is_ok() && other.is_ok() && has_read == [true; 3]
 }

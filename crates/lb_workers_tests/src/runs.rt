@@ -9,16 +9,14 @@ use lb_locked::clock::RuntimeClock;
 use lb_locked::registry::HealthRegistry;
 use lb_probe::error::CheckError;
 use lb_probe::health_check::HealthCheck;
-use lb_registry::keys::{ByNumber, KeyRule, Rule};
+use lb_registry::keys::{ByNumber, Rule};
 use lb_select::backend::Backend;
 use lb_select::refusal::Refusal;
-use lb_select::walk::BackendSelection;
-use lb_service::ready::{ServiceReadyNotifier, ready_pair};
+use lb_service::ready::ready_pair;
 use lb_service::shutdown::{ShutdownSignal, ShutdownWatch, shutdown_pair};
 use lb_weighted::selection::RoundRobin;
 use lb_workers::group::LoadBalancerGroup;
 use lb_workers::parts::GroupParts;
-use log::Log;
 use std::alloc::Global;
 use std::collections::BTreeSet;
 use std::sync::atomic::AtomicU64;
@@ -26,7 +24,7 @@ use std::sync::atomic::Ordering::SeqCst;
 use std::sync::{Arc, Wait};
 use std::test::Fail;
 use std::thread;
-use std::thread::{Threads, join};
+use std::thread::join;
 use std::time::{Clock, Duration};
 
 // A discovery of one backend, and a check that finds it down. It counts its calls; with a watch, each waits, for ten seconds at most, until
@@ -114,36 +112,6 @@ fn end_after<W: Clock>(
     came
 }
 
-// Runs a group until a call that is counted has begun; whether it has.
-fn run_until<
-    S: BackendSelection + Send + Sync + 'static,
-    W: Log + Threads + Wait + Clock + Copy + Send + Sync + Drop + 'static,
-    D: ServiceDiscovery + Drop,
-    R: KeyRule + Drop + Send + Sync + 'static,
-    C: HealthCheck + Drop + Send + Sync + 'static,
->(
-    rt: &W,
-    alloc: Global,
-    group: &LoadBalancerGroup<S, W, D, R, C>,
-    calls: &AtomicU64,
-    wanted: u64,
-    signal: &mut ShutdownSignal,
-    watch: &ShutdownWatch,
-    notifier: ServiceReadyNotifier,
-) -> bool
-where
-    S::Iter: Send + Sync + 'static,
-    S::Config: Send + Sync + 'static,
-{
-    let mut clock = RuntimeClock::new(*rt);
-    let (came, _) = join(
-        rt,
-        || end_after(rt, calls, wanted, signal),
-        || group.run(alloc, &mut clock, watch, Some(notifier)),
-    );
-    came
-}
-
 // An update that runs when the run is to end is let end: its membership stands, and the notifier isn't told.
 #[test]
 fn an_update_is_let_end(rt: HostRuntime) -> Result<(), Fail> {
@@ -162,15 +130,13 @@ fn an_update_is_let_end(rt: HostRuntime) -> Result<(), Fail> {
         until: None,
     };
     let (group, _registry) = group_of(rt, alloc, updates, checks)?;
-    let came = run_until(
+    let mut clock = RuntimeClock::new(rt);
+    let begun = &*calls;
+    let sends = &mut signal;
+    let (came, _) = join(
         &rt,
-        alloc,
-        &group,
-        &*calls,
-        1,
-        &mut signal,
-        &watch,
-        notifier,
+        || end_after(&rt, begun, 1, sends),
+        || group.run(alloc, &mut clock, &watch, Some(notifier)),
     );
     assert!(rt; came);
     assert_eq!(rt; group.backend_generation(), 1);
@@ -196,15 +162,13 @@ fn a_check_is_let_end(rt: HostRuntime) -> Result<(), Fail> {
         until: Some(watch.try_clone()?),
     };
     let (group, registry) = group_of(rt, alloc, updates, checks)?;
-    let came = run_until(
+    let mut clock = RuntimeClock::new(rt);
+    let begun = &*calls;
+    let sends = &mut signal;
+    let (came, _) = join(
         &rt,
-        alloc,
-        &group,
-        &*calls,
-        1,
-        &mut signal,
-        &watch,
-        notifier,
+        || end_after(&rt, begun, 1, sends),
+        || group.run(alloc, &mut clock, &watch, Some(notifier)),
     );
     assert!(rt; came);
     assert_eq!(rt; calls.load(SeqCst), 1);
@@ -222,15 +186,13 @@ fn a_build_is_let_end(rt: HostRuntime) -> Result<(), Fail> {
     let group = site.group(rt, alloc)?;
     let counts: &Counts<HostRuntime> = &*site.counts;
     counts.hold(true);
-    let came = run_until(
+    let mut clock = RuntimeClock::new(rt);
+    let begun = &counts.begun;
+    let sends = &mut signal;
+    let (came, _) = join(
         &rt,
-        alloc,
-        &group,
-        &counts.begun,
-        3,
-        &mut signal,
-        &watch,
-        notifier,
+        || end_after(&rt, begun, 3, sends),
+        || group.run(alloc, &mut clock, &watch, Some(notifier)),
     );
     assert!(rt; came);
     assert!(rt; !ready.is_ready());

@@ -51,7 +51,8 @@ fn is_served_in_a_crowd<W: Threads + Wait + Clock + Copy + Send + Sync + Drop + 
 ) -> bool {
     let groups = crowd.groups();
     let mut clock = RuntimeClock::new(*rt);
-    let mut holds = crowd_in(rt, alloc, groups, 2000, 50, &mut clock);
+    let (first, second) = (crowd.first.shared(), crowd.second.shared());
+    let mut holds = crowd_in(rt, alloc, first, second, 2000, 50, &mut clock);
     for group in groups {
         for slot in 0..2 {
             holds = holds && serves(rt, group, slot, 50, TURNS);
