@@ -2,7 +2,7 @@
 use Rattle.std.proofs.Common.{get_or, replicate, suc, zero}
 use Rattle.std.proofs.lemmas.List.{set-get_or}
 use Rattle.std.proofs.lemmas.Option.{get_or_from_slice_get, slice_get-get_or, slice_get_cases}
-use Rattle.lb_world.proofs.Words.{◌∷◌, ◌<◌, ◌∙◌, ◌⊎◌, ◌≡◌, ◌++◌, ◌≤◌, [], ap, arith, cases_eq, get-pushed, inl, inr, length, List, None}
+use Rattle.lb_world.proofs.Words.{◌∷◌, ◌<◌, ◌∙◌, ◌⊎◌, ◌≡◌, ◌++◌, ◌≤◌, [], ap, cases_eq, get-pushed, inl, inr, length, List, None}
 use Rattle.lb_world.proofs.Words.{none-some, Option, refl, same_Some, set_found, slice_get, slice_set, Some, subst, sym, ℕ}
 
 module _ {X : Type 0} where

@@ -4,7 +4,7 @@ use Rattle.lb_group.specs.GroupCalls.{Enters, enter_refusal}
 use Rattle.lb_group.specs.Values.{ReaderValue}
 use Rattle.lb_history.proofs.Absent.{config-made, found as found-of}
 use Rattle.lb_history.proofs.Counting.{one-extra}
-use Rattle.lb_history.proofs.Refusing.{alike-sym, at-alike}
+use Rattle.lb_history.proofs.Refusing.{alike-sym}
 use Rattle.lb_history.proofs.Runs.{reading}
 use Rattle.lb_history.proofs.Unrefused.{run-unrefused, told-unrefused}
 use Rattle.lb_history.specs.Answers.{VerdictAnswers, enter_answer, leave_answer}
@@ -86,30 +86,45 @@ module _ {C : Type 0} where
       (λ s. ap (λ (t : Bool). cond t (worked st a (work i s h)) (work i s h)) (works-else h st g i s at off))
       (λ b. loads-else h st a g i b at off) is
 
-module _ {C : Type 0} (k h : History C) (e : TellsAlike k h) (M : Meaning C) (w : WorldValue C) where
-  pub stands-alike : IsRun M h → Stands M w k → Stands M w h
-  stands-alike run is =
+module _ {C : Type 0} {M : Meaning C} {w : WorldValue C} {h : History C} (s : Stands M w h) where
+  -- the registries are others, after a history that tells the same of all else
+  registries-set : (k : History C) (vs : List (RegistryValue WorldRule)) → IsRun M k → length vs ≡ length (registries k)
+      → length w.registries ≤ length vs → gates k ≡ gates h → made k ≡ made h → entries k ≡ entries h
+      → ((r : ℕ) (v : RegistryValue WorldRule) → slice_get vs r ≡ Some v → IsRegistryAfter key_gives (key_at r k) (registry_events r k) v)
+      → ((g : ℕ) → joined_events g k ≡ joined_events g h) → ((g : ℕ) → group_events g k ≡ group_events g h)
+      → ((g i : ℕ) → work g i k ≡ work g i h) → ((g : ℕ) (b : Member) → load_of g b k ≡ load_of g b h)
+      → ((x : ℕ) → is_out x k ≡ is_out x h) → Stands M (record w { registries = vs }) k
+  registries-set k vs run rs more zs ms es kept joins groups works loads outs =
       record {
         run = run;
-        registries_are = is.registries_are ∙ ap length e.rest.registries_made;
-        gates_are = is.gates_are ∙ e.rest.gates_made;
-        groups_are = is.groups_are ∙ ap length e.rest.groups_made;
-        readers_are = is.readers_are ∙ e.rest.readers;
-        kept = λ r v there.
-            rw (← e.rest.shared r)
-            (subst (λ (rs : List RegistryMade). IsRegistryAfter key_gives (key_in (slice_get rs r)) (registry_events r k) v)
-            e.rest.registries_made (is.kept r v there));
-        outs = λ a z there. is.outs a z there ∙ e.rest.outs a;
-        each = λ g x there.
-            let own = is.each g x there in
-            entry-moves (sym (at-alike k h e g) ∙ own.made_is) (sym (e.joined g)) (sym (e.groups g)) (λ s. sym (e.rest.works g s))
-            (λ b. sym (e.rest.loads g b)) own;
-        on_site = is.on_site;
-        own = is.own;
+        registries_are = rs;
+        gates_are = s.gates_are ∙ sym zs;
+        groups_are = s.groups_are ∙ ap length (sym ms);
+        readers_are = s.readers_are ∙ sym es;
+        kept = kept;
+        outs = λ x z in_. s.outs x z in_ ∙ sym (outs x);
+        each = λ g e in_.
+            let is = s.each g e in_ in
+            entry-moves (ap (λ (xs : List (Made C)). slice_get xs g) ms ∙ is.made_is) (joins g) (groups g) (works g) (loads g) is;
+        on_site = λ g e in_.
+            let on = s.on_site g e in_ in
+            record { view = on.view; gate = on.gate; id = on.id; registry = omega (arith, more, on.registry) };
+        own = s.own;
       }
 
+  pub stands-alike : (k : History C) → TellsAlike h k → IsRun M k → Stands M w k
+  stands-alike k e run =
+      registries-set k w.registries run (s.registries_are ∙ ap length e.rest.registries_made) (omega arith) (sym e.rest.gates_made)
+      (sym e.rest.groups_made) (sym e.rest.readers)
+      (λ r v there.
+      rw (← e.rest.shared r)
+      (subst (λ (rs : List RegistryMade). IsRegistryAfter key_gives (key_in (slice_get rs r)) (registry_events r h) v)
+      e.rest.registries_made (s.kept r v there)))
+      (λ g. sym (e.joined g)) (λ g. sym (e.groups g)) (λ g i. sym (e.rest.works g i)) (λ g b. sym (e.rest.loads g b))
+      (λ x. sym (e.rest.outs x))
+
 pub stands-unrefused : {C : Type 0} (M : Meaning C) (w : WorldValue C) (h : History C) → Stands M w h → Stands M w (unrefused h)
-stands-unrefused M w h is = stands-alike h (unrefused h) (told-unrefused M h) M w (run-unrefused M h is.run) is
+stands-unrefused M w h is = stands-alike is (unrefused h) (told-unrefused M h) (run-unrefused M h is.run)
 
 pub empty : {C : Type 0} (M : Meaning C) → Stands M (record { registries = []; gates = []; groups = []; readers = [] }) []
 empty M =
@@ -139,7 +154,7 @@ module _ {C : Type 0} {M : Meaning C} {w : WorldValue C} {h : History C} (s : St
   -- a right refusal, of a world that stays as it is
   pub world-refused : {st : Step C} {r : Refusal} → Answers M h st (Answer.Refused r) → Stands M w ((st, Answer.Refused r) ∷ h)
   world-refused {st} {r} right =
-      stands-alike h ((st, Answer.Refused r) ∷ h) (alike-sym ((st, Answer.Refused r) ∷ h) h (refused-alike h st r)) M w (s.run, right) s
+      stands-alike s ((st, Answer.Refused r) ∷ h) (alike-sym ((st, Answer.Refused r) ∷ h) h (refused-alike h st r)) (s.run, right)
 
   -- a table that isn't so long
   pub no-registry : (r : ℕ) → length w.registries ≤ r → slice_get (registries h) r ≡ None
@@ -270,25 +285,13 @@ module _ {C : Type 0} {M : Meaning C} {w : WorldValue C} {h : History C} (s : St
       → ((x : ℕ) → is_out x k ≡ is_out x h) → slice_get w.registries r ≡ Some u
       → IsRegistryAfter key_gives (key_at r h) (registry_events r k) v → Stands M (record w { registries = slice_set w.registries r v }) k
   registry-set k r u v run rs zs ms es others joins groups works loads outs there now =
-      record {
-        run = run;
-        registries_are = length-set w.registries r v ∙ s.registries_are ∙ ap length (sym rs);
-        gates_are = s.gates_are ∙ sym zs;
-        groups_are = s.groups_are ∙ ap length (sym ms);
-        readers_are = s.readers_are ∙ sym es;
-        kept = λ i x found_.
-            subst (λ (ms : List RegistryMade). IsRegistryAfter key_gives (key_in (slice_get ms i)) (registry_events i k) x) (sym rs)
-            (each-set {Q = λ (i : ℕ) (t : RegistryValue WorldRule). IsRegistryAfter key_gives (key_at i h) (registry_events i k) t}
-            w.registries r u v there now (λ i t off was. rw (others i off) (s.kept i t was)) i x found_);
-        outs = λ x z found_. s.outs x z found_ ∙ sym (outs x);
-        each = λ g e found_.
-            let is = s.each g e found_ in
-            entry-moves (ap (λ (xs : List (Made C)). slice_get xs g) ms ∙ is.made_is) (joins g) (groups g) (works g) (loads g) is;
-        on_site = λ g e in_.
-            let on = s.on_site g e in_ in
-            record { view = on.view; gate = on.gate; id = on.id; registry = omega (arith, length-set w.registries r v, on.registry) };
-        own = s.own;
-      }
+      registries-set s k (slice_set w.registries r v) run (length-set w.registries r v ∙ s.registries_are ∙ ap length (sym rs))
+      (omega (arith, length-set w.registries r v)) zs ms es
+      (λ i x found_.
+      subst (λ (ms : List RegistryMade). IsRegistryAfter key_gives (key_in (slice_get ms i)) (registry_events i k) x) (sym rs)
+      (each-set {Q = λ (i : ℕ) (t : RegistryValue WorldRule). IsRegistryAfter key_gives (key_at i h) (registry_events i k) t}
+      w.registries r u v there now (λ i t off was. rw (others i off) (s.kept i t was)) i x found_))
+      joins groups works loads outs
 
   -- and one that was lent stands for the same history
   pub registry-lent : (r : ℕ) (u v : RegistryValue WorldRule) → slice_get w.registries r ≡ Some u
@@ -422,26 +425,16 @@ module _ {C : Type 0} {M : Meaning C} {w : WorldValue C} {h : History C} (s : St
       → IsRegistryAfter key_gives (key_by rule) (started healthy) v
       → Stands M (record w { registries = w.registries ++ v ∷ [] }) ((Step.registry rule healthy, Answer.Registry n) ∷ h)
   registry-made rule healthy n v number new =
-      record {
-        run = (s.run, inl (ap Answer.Registry (number ∙ s.registries_are)));
-        registries_are = length_push w.registries v ∙ ap (λ (k : ℕ). k + 1) s.registries_are ∙ sym (length_push (registries h) _);
-        gates_are = s.gates_are;
-        groups_are = s.groups_are;
-        readers_are = s.readers_are;
-        kept =
-            each-push w.registries v (rw (s.registries_are, eq-eqb (length (registries h)) (length (registries h)) refl, get_last) new)
-            (λ i x low was.
-            let m = there-at (registries h) i (omega (arith, low, s.registries_are)) in
-            rw (ne_eqb (length (registries h)) i (λ e. omega (arith, e, low, s.registries_are)), get-kept (registries h) _ m.0 i m.1)
-            (rw m.1 at (s.kept i x was)));
-        outs = s.outs;
-        each = λ g e in_.
-            entry-moves (s.each g e in_).made_is refl refl (λ r. refl) (λ b. refl) (s.each g e in_);
-        on_site = λ g e in_.
-            let on = s.on_site g e in_ in
-            record { view = on.view; gate = on.gate; id = on.id; registry = omega (arith, length_push w.registries v, on.registry) };
-        own = s.own;
-      }
+      registries-set s ((Step.registry rule healthy, Answer.Registry n) ∷ h) (w.registries ++ v ∷ [])
+      (s.run, inl (ap Answer.Registry (number ∙ s.registries_are)))
+      (length_push w.registries v ∙ ap (λ (k : ℕ). k + 1) s.registries_are ∙ sym (length_push (registries h) _))
+      (omega (arith, length_push w.registries v)) refl refl refl
+      (each-push w.registries v (rw (s.registries_are, eq-eqb (length (registries h)) (length (registries h)) refl, get_last) new)
+      (λ i x low was.
+      let m = there-at (registries h) i (omega (arith, low, s.registries_are)) in
+      rw (ne_eqb (length (registries h)) i (λ e. omega (arith, e, low, s.registries_are)), get-kept (registries h) _ m.0 i m.1)
+      (rw m.1 at (s.kept i x was))))
+      (λ g. refl) (λ g. refl) (λ g i. refl) (λ g b. refl) (λ x. refl)
 
   -- the permit of a gate that isn't there is not out
   in-place : (b : Bool) → is_out (length w.gates) h ≡ b → b ≡ false
@@ -531,17 +524,18 @@ module _ {C : Type 0} {M : Meaning C} {w : WorldValue C} {h : History C} (s : St
           (λ n. enter_answer n (length w.readers) (served (past g slot h))) r to
 
       -- a refusal of a world whose group was lent and stays as it was
-      enter-refused : (f : Refusal) → Answers M h (Step.enter g slot) (Answer.Refused f)
-          → Stands M (record w { groups = slice_set w.groups g e }) ((Step.enter g slot, Answer.Refused f) ∷ h)
+      abbrev pub Refuses : Refusal → Type 0
+      Refuses f = Stands M (record w { groups = slice_set w.groups g e }) ((Step.enter g slot, Answer.Refused f) ∷ h)
+
+      enter-refused : (f : Refusal) → Answers M h (Step.enter g slot) (Answer.Refused f) → Refuses f
       enter-refused f right = rw (set-same w.groups g e there_) (world-refused s right)
 
-      pub enter-absent : r ≡ None
-          → Stands M (record w { groups = slice_set w.groups g e }) ((Step.enter g slot, Answer.Refused Refusal.NoSuch) ∷ h)
+      pub enter-absent : r ≡ None → Refuses Refusal.NoSuch
       enter-absent none = enter-refused Refusal.NoSuch (inl (sym (enter-told ∙ rw none refl)))
 
       -- no number is left for a reader
       pub enter-full : (x : ℕ) → r ≡ Some x → (length w.readers ≡ 18446744073709551615) ⊎ (x ≡ 18446744073709551615)
-          → Stands M (record w { groups = slice_set w.groups g e }) ((Step.enter g slot, Answer.Refused Refusal.NumbersExhausted) ∷ h)
+          → Refuses Refusal.NumbersExhausted
       enter-full x some many =
           enter-refused Refusal.NumbersExhausted
           (inl (sym (enter-told ∙ rw some (full-told x (length w.readers) (served (past g slot h)) many))))
@@ -553,8 +547,7 @@ module _ {C : Type 0} {M : Meaning C} {w : WorldValue C} {h : History C} (s : St
         memory-right : Answers M h (Step.enter g slot) (Answer.Refused Refusal.OutOfMemory)
         memory-right = inr (sym (ap (without_memory {C = C} (Step.enter g slot)) enters-as))
 
-        pub enter-memory : Stands M (record w { groups = slice_set w.groups g e })
-            ((Step.enter g slot, Answer.Refused Refusal.OutOfMemory) ∷ h)
+        pub enter-memory : Refuses Refusal.OutOfMemory
         enter-memory = enter-refused Refusal.OutOfMemory memory-right
 
         -- a reader enters, with the group and the list of readers that the calls left

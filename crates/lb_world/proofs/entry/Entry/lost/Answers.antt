@@ -5,7 +5,7 @@ use Rattle.lb_world.specs.Calls.{number_of}
 use Rattle.lb_group.specs.GroupHistory as group
 use Rattle.lb_joined.specs.JoinedHistory as joined
 use Rattle.lb_world.proofs.Words.{◌∙◌, ◌≡◌, Answer, answer_after, ap, at_one, at_slot, Before, Bool, cond, config, configs_of, EntryValue}
-use Rattle.lb_world.proofs.Words.{false, flight_after, GateView, History, inl, joined_events, length, Meaning, nat_lt, None, Option, past}
+use Rattle.lb_world.proofs.Words.{flight_after, GateView, History, inl, joined_events, length, Meaning, nat_lt, None, Option, past}
 use Rattle.lb_world.proofs.Words.{past_of, refl, Refusal, RegistryValue, site, Some, Step, sym, true, unless_refused, WorldRule, ℕ}
 use Rattle.lb_world.proofs.Entries.{next-core, next-refused, reading-told, same-flight, unshared}
 use Rattle.lb_world.proofs.entry.Entry.lost.Goals as goal

@@ -139,7 +139,7 @@ module _ {C : Type 0} {M : Meaning C} {h : History C} {g : ℕ} {e : EntryValue 
       → Counted lacking → lacking ≡ false → EntryNext M h g st (Answer.Refused Refusal.OutOfMemory) e z e z v
   lacks-memory lacking own told is =
       let none = caused None own in
-      let fit = λ (c : change ≡ true). left-false (2 ^ 64) cells (λ more. true≢false (sym ((counted lacking none told).1 (c, more)) ∙ is)) in
+      let fit = λ (c : change ≡ true). left-false (2 ^ 64) cells (λ m. true≢false (sym ((counted lacking none told).1 (c, m)) ∙ is)) in
       next-refused b refl (memory-right none fit) (stays b.is)
 
   -- what the core tells of a change for which no number is left
