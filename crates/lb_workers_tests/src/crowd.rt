@@ -8,7 +8,6 @@ use lb_locked::registry::HealthRegistry;
 use lb_probe::error::CheckError;
 use lb_probe::health_check::HealthCheck;
 use lb_registry::keys::{ByNumber, KeyRule, Rule};
-use lb_registry::registry::RegistryCore;
 use lb_select::backend::Backend;
 use lb_select::refusal::Refusal;
 use lb_select::walk::BackendSelection;
@@ -43,20 +42,23 @@ pub type Group<W> = SharedGroup<Counted<W>, Rule<ByNumber>, NoCheck>;
 /// The handle of such a group.
 pub type Handle<W> = LoadBalancerGroup<Counted<W>, W, Static, Rule<ByNumber>, NoCheck>;
 
+/// The registry of such groups. Whoever makes a site hands it in, since a function that made one would hide its boxed rule.
+pub type Registry = HealthRegistry<Rule<ByNumber>, NoCheck>;
+
 /// What groups share: the counts of their selectors, a registry and a gate.
 #[derive(Drop)]
 pub struct Site<W> {
     pub counts: Arc<Counts<W>>,
-    pub registry: Arc<HealthRegistry<Rule<ByNumber>, NoCheck>>,
+    pub registry: Arc<Registry>,
     pub gate: Arc<SelectorRebuildGate>,
 }
 
 impl<W: Wait + Clock + Copy + Drop> Site<W> {
-    /// Without groups.
-    pub fn new(rt: W, alloc: Global) -> Result<Site<W>, Refusal> {
+    /// Without groups, over this registry.
+    pub fn new(rt: W, alloc: Global, registry: &Arc<Registry>) -> Result<Site<W>, Refusal> {
         Ok(Site {
             counts: Arc::new(alloc, Counts::new(rt, false))?,
-            registry: Arc::new(alloc, HealthRegistry::new(RegistryCore::new(alloc)))?,
+            registry: Arc::try_clone(registry)?,
             gate: Arc::new(alloc, SelectorRebuildGate::new(alloc)?)?,
         })
     }
@@ -84,9 +86,14 @@ pub struct Crowd<W: Wait + Clock + Copy + Drop> {
 }
 
 impl<W: Wait + Clock + Copy + Drop> Crowd<W> {
-    /// Without workers; builds from here on are held or not.
-    pub fn new(rt: W, alloc: Global, held: bool) -> Result<Crowd<W>, Refusal> {
-        let site = Site::new(rt, alloc)?;
+    /// Without workers, over this registry; builds from here on are held or not.
+    pub fn new(
+        rt: W,
+        alloc: Global,
+        registry: &Arc<Registry>,
+        held: bool,
+    ) -> Result<Crowd<W>, Refusal> {
+        let site = Site::new(rt, alloc, registry)?;
         let first = site.group(rt, alloc)?;
         let second = site.group(rt, alloc)?;
         site.counts.hold(held);

@@ -2,6 +2,8 @@
 use crate::counted::Counts;
 use crate::crowd::{Group, Handle, Site, ends, is_free, serves};
 use lb_locked::clock::RuntimeClock;
+use lb_locked::registry::HealthRegistry;
+use lb_registry::registry::RegistryCore;
 use lb_select::backend::Backend;
 use lb_select::refusal::Refusal;
 use lb_workers::start::start_workers_by;
@@ -43,7 +45,8 @@ fn is_cancelled_by_drop<W: Threads + Wait + Clock + Copy + Send + Sync + Drop + 
 #[test]
 fn a_dropped_handle_cancels_its_group(rt: HostRuntime) -> Result<(), Fail> {
     let alloc = rt.alloc();
-    let site = Site::new(rt, alloc)?;
+    let registry = Arc::new(alloc, HealthRegistry::new(RegistryCore::new(alloc)))?;
+    let site = Site::new(rt, alloc, &registry)?;
     assert!(rt; is_cancelled_by_drop(&rt, alloc, &site, true)?);
     assert!(rt; is_cancelled_by_drop(&rt, alloc, &site, false)?);
     assert!(rt; is_free(&rt, &site.gate));
@@ -66,7 +69,8 @@ fn lives_none<W: Clock>(counts: &Counts<W>) -> bool {
 #[test]
 fn a_fresh_handle(rt: HostRuntime) -> Result<(), Fail> {
     let alloc = rt.alloc();
-    let site = Site::new(rt, alloc)?;
+    let registry = Arc::new(alloc, HealthRegistry::new(RegistryCore::new(alloc)))?;
+    let site = Site::new(rt, alloc, &registry)?;
     let group = site.group(rt, alloc)?;
     let fresh = [
         group.selector_count() == 2,
@@ -122,7 +126,8 @@ fn served<W: Threads + Wait + Clock + Copy + Send + Sync + Drop + 'static>(
 #[test]
 fn a_handle_serves_what_it_found(rt: HostRuntime) -> Result<(), Fail> {
     let alloc = rt.alloc();
-    let site = Site::new(rt, alloc)?;
+    let registry = Arc::new(alloc, HealthRegistry::new(RegistryCore::new(alloc)))?;
+    let site = Site::new(rt, alloc, &registry)?;
     let group = site.group(rt, alloc)?;
     assert_eq!(rt; served(&rt, alloc, &group)?, [true; 8]);
     Ok(())
@@ -147,7 +152,8 @@ fn starts_but_one<W: Threads + Wait + Clock + Copy + Send + Sync + Drop + 'stati
 #[test]
 fn a_worker_that_cannot_be_started(rt: HostRuntime) -> Result<(), Fail> {
     let alloc = rt.alloc();
-    let site = Site::new(rt, alloc)?;
+    let registry = Arc::new(alloc, HealthRegistry::new(RegistryCore::new(alloc)))?;
+    let site = Site::new(rt, alloc, &registry)?;
     let group = site.group(rt, alloc)?;
     group.update(alloc, &mut RuntimeClock::new(rt))?;
     assert_eq!(rt; starts_but_one(&rt, alloc, &group), [1, 0]);

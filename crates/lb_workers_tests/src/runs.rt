@@ -10,6 +10,7 @@ use lb_locked::registry::HealthRegistry;
 use lb_probe::error::CheckError;
 use lb_probe::health_check::HealthCheck;
 use lb_registry::keys::{ByNumber, Rule};
+use lb_registry::registry::RegistryCore;
 use lb_select::backend::Backend;
 use lb_select::refusal::Refusal;
 use lb_service::ready::ready_pair;
@@ -182,7 +183,8 @@ fn a_build_is_let_end(rt: HostRuntime) -> Result<(), Fail> {
     let alloc = rt.alloc();
     let (mut signal, watch) = shutdown_pair(alloc)?;
     let (notifier, ready) = ready_pair(alloc)?;
-    let site = Site::new(rt, alloc)?;
+    let registry = Arc::new(alloc, HealthRegistry::new(RegistryCore::new(alloc)))?;
+    let site = Site::new(rt, alloc, &registry)?;
     let group = site.group(rt, alloc)?;
     let counts: &Counts<HostRuntime> = &*site.counts;
     counts.hold(true);

@@ -4,10 +4,12 @@
 use crate::counted::Counts;
 use crate::crowd::{Crowd, crowd_in, ends, is_free, select_one, serves};
 use lb_locked::clock::RuntimeClock;
+use lb_locked::registry::HealthRegistry;
+use lb_registry::registry::RegistryCore;
 use lb_select::refusal::Refusal;
 use std::alloc::Global;
-use std::sync::Wait;
 use std::sync::atomic::Ordering::SeqCst;
+use std::sync::{Arc, Wait};
 use std::test::Fail;
 use std::thread;
 use std::thread::Threads;
@@ -68,7 +70,8 @@ fn is_served_in_a_crowd<W: Threads + Wait + Clock + Copy + Send + Sync + Drop + 
 #[test]
 fn never_more_than_the_slots_and_one(rt: HostRuntime) -> Result<(), Fail> {
     let alloc = rt.alloc();
-    let crowd = Crowd::new(rt, alloc, false)?;
+    let registry = Arc::new(alloc, HealthRegistry::new(RegistryCore::new(alloc)))?;
+    let crowd = Crowd::new(rt, alloc, &registry, false)?;
     assert_eq!(rt; start(&rt, alloc, &crowd), [0, 0, 0, 0]);
     assert!(rt; is_served_in_a_crowd(&rt, alloc, &crowd));
     assert!(rt; crowd.site.counts.most.load(SeqCst) <= 5);
@@ -106,7 +109,8 @@ fn selects_beside_a_build<W: Threads + Wait + Clock + Copy + Send + Sync + Drop 
 #[test]
 fn selections_beside_a_build(rt: HostRuntime) -> Result<(), Fail> {
     let alloc = rt.alloc();
-    let crowd = Crowd::new(rt, alloc, true)?;
+    let registry = Arc::new(alloc, HealthRegistry::new(RegistryCore::new(alloc)))?;
+    let crowd = Crowd::new(rt, alloc, &registry, true)?;
     assert_eq!(rt; start(&rt, alloc, &crowd), [0, 0, 0, 0]);
     assert_eq!(rt; selects_beside_a_build(&rt, alloc, &crowd)?, [true; 7]);
     assert!(rt; is_free(&rt, &crowd.site.gate));
@@ -144,7 +148,8 @@ fn cancels_a_build<W: Threads + Wait + Clock + Copy + Send + Sync + Drop + 'stat
 #[test]
 fn cancelled_in_the_middle_of_a_build(rt: HostRuntime) -> Result<(), Fail> {
     let alloc = rt.alloc();
-    let crowd = Crowd::new(rt, alloc, true)?;
+    let registry = Arc::new(alloc, HealthRegistry::new(RegistryCore::new(alloc)))?;
+    let crowd = Crowd::new(rt, alloc, &registry, true)?;
     assert_eq!(rt; start(&rt, alloc, &crowd), [0, 0, 0, 0]);
     assert_eq!(rt; cancels_a_build(&rt, alloc, &crowd)?, [true; 7]);
     assert_eq!(rt; crowd.site.counts.live.load(SeqCst), 4);
