@@ -7,7 +7,7 @@ use lb_locked::clock::RuntimeClock;
 use lb_locked::registry::HealthRegistry;
 use lb_registry::registry::RegistryCore;
 use lb_select::refusal::Refusal;
-use lb_workers_tests::crowd::{Crowd, Group, Registry, Site, crowd_in, ends, is_free};
+use lb_workers_tests::crowd::{Crowd, Group, Site, crowd_in, ends, is_free};
 use std::alloc::Global;
 use std::process::ExitCode;
 use std::sync::atomic::Ordering::SeqCst;
@@ -95,14 +95,14 @@ fn lives_none<W: Clock>(rt: &W, site: &Site<W>) -> bool {
     false
 }
 
-// Two groups with their workers, threads that use them, and their end.
+// Two groups of a registry of their own, with their workers, threads that use them, and their end.
 fn round<W: Threads + Wait + Clock + Copy + Send + Sync + Drop + 'static>(
     rt: &W,
     alloc: Global,
-    registry: &Arc<Registry>,
     is_cancelled: bool,
 ) -> Result<Ending, Refusal> {
-    let crowd = Crowd::new(*rt, alloc, registry, false)?;
+    let registry = Arc::new(alloc, HealthRegistry::new(RegistryCore::new(alloc)))?;
+    let crowd = Crowd::new(*rt, alloc, &registry, false)?;
     let told = used(rt, alloc, &crowd, is_cancelled);
     let Crowd {
         site,
@@ -129,14 +129,13 @@ fn seconds_since<W: Clock>(rt: &W, begun: Duration) -> u64 {
 fn soak<W: Threads + Wait + Clock + Print + Copy + Send + Sync + Drop + 'static>(
     rt: &W,
     alloc: Global,
-    registry: &Arc<Registry>,
     seconds: u64,
 ) -> Result<Ending, Refusal> {
     let begun = rt.monotonic().unwrap_or(Duration::from_secs(0));
     let mut is_cancelled = true;
     let mut line = LINE_SECONDS;
     for rounds in 1..u64::MAX {
-        let told = round(rt, alloc, registry, is_cancelled)?;
+        let told = round(rt, alloc, is_cancelled)?;
         is_cancelled = !is_cancelled;
         let passed = seconds_since(rt, begun);
         if told != Ending::Good || passed >= seconds {
@@ -164,11 +163,7 @@ fn main(rt: HostRuntime) -> ExitCode {
         let _ = println!(rt; "usage: lb_soak [SECONDS]");
         return ExitCode::from(2);
     };
-    let alloc = rt.alloc();
-    let Ok(registry) = Arc::new(alloc, HealthRegistry::new(RegistryCore::new(alloc))) else {
-        return ExitCode::from(1);
-    };
-    match soak(&rt, alloc, &registry, seconds) {
+    match soak(&rt, rt.alloc(), seconds) {
         Ok(Ending::Good) => {
             let _ = println!(rt; "every permit is back");
             ExitCode::SUCCESS
