@@ -12,9 +12,10 @@ returns-in_default g c =
     (ends _ _ _ _ _ (g.met.S.BackendSelection.rest_starts _) _ _ c.in_ok-walk.ensures.begins c.loop.invariant.0 (rw c.in_default.is at c.step.ensures.step) (omega (arith, c.loop-test.true)))
 
 pub loop-preserved-then-contains : goal.loop-preserved-then-contains
-loop-preserved-then-contains g c =
-    (searched_repeat _ _ _ c.in-Some.candidate.now _ _ c.loop.invariant.0 (rw c.in-Some.is at c.step.ensures.step) (sym c.contains.ensures ∙ c.if-contains.true),
-    c.step.ensures.fitting)
+loop-preserved-then-contains g c = (
+  searched_repeat _ _ _ c.in-Some.candidate.now _ _ c.loop.invariant.0 (rw c.in-Some.is at c.step.ensures.step) (sym c.contains.ensures ∙ c.if-contains.true),
+  c.step.ensures.fitting,
+)
 
 pub returns-in_err-answer : goal.returns-in_err-answer
 returns-in_err-answer g c =
@@ -37,9 +38,11 @@ returns-in_err-remember g c =
 
 pub loop-preserved : goal.loop-preserved
 loop-preserved g c =
-    let refused : FnReturnsAt g.F.Fn c.args.accept.now c.in-Some.candidate.now false = search rules in
-    (searched_new _ _ _ c.in-Some.candidate.now c.remember.new.self _ _ c.loop.invariant.0 (rw c.in-Some.is at c.step.ensures.step)
-    (sym c.contains.ensures ∙ c.if-contains.false) refused c.in_ok-remember.ensures.remembered, c.step.ensures.fitting)
+    let refused : FnReturnsAt g.F.Fn c.args.accept.now c.in-Some.candidate.now false = search rules in (
+      searched_new _ _ _ c.in-Some.candidate.now c.remember.new.self _ _ c.loop.invariant.0 (rw c.in-Some.is at c.step.ensures.step)
+          (sym c.contains.ensures ∙ c.if-contains.false) refused c.in_ok-remember.ensures.remembered,
+      c.step.ensures.fitting,
+    )
 
 pub returns : goal.returns
 returns g c =

@@ -6,5 +6,5 @@ use Rattle.lb_select.proofs.select.select.Given as goal
 abbrev pub invariant-loop : goal.invariant-loop
 invariant-loop g l =
     Searched g.W.WordSource.gives (g.S.BackendSelection.rest l.of) (λ b r. FnReturnsAt g.F.Fn l.fn.accept b r)
-      l.initial.walk l.initial.words l.seen l.walk l.words l.counter
+    l.initial.walk l.initial.words l.seen l.walk l.words l.counter
     × g.S.BackendSelection.fits l.of l.walk
