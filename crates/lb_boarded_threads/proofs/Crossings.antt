@@ -35,15 +35,15 @@ use Rattle.lb_pass.specs.contracts.boarded.BoardedGroup.TheInside as inside
 place_send : IsSend place.the_row
 place_send = search (sendable, crosses) depth 20
 
-module _ (T I C : RattleType) (g : Selection T.Denot I.Denot C.Denot) (h : Iter I.Denot) (s : IsSend T) (sc : IsSend C) (y : IsSync T) (yc : IsSync C) where
-  retired_send : IsSend (retired.the_row T I C g h)
+module _ (T I C W : RattleType) (g : Selection T.Denot I.Denot C.Denot W.Denot) (h : Iter I.Denot) (s : IsSend T) (sc : IsSend C) (y : IsSync T) (yc : IsSync C) where
+  retired_send : IsSend (retired.the_row T I C W g h)
   retired_send = search (sendable, crosses, place_send, serving.the_send, permit.the_send) depth 20
 
-  stage_send : IsSend (stage.the_field T I C g h).row
+  stage_send : IsSend (stage.the_field T I C W g h).row
   stage_send = search (sendable, retired_send) depth 20
 
-  slot_fields : IsSend (slot.the_field T I C g h).row
-  slot_fields = struct_send (shape (slot.the_type T I C g h)) (
+  slot_fields : IsSend (slot.the_field T I C W g h).row
+  slot_fields = struct_send (shape (slot.the_type T I C W g h)) (
     search (sendable, crosses) depth 10,
     (
       search (sendable, serving.the_send) depth 10,
@@ -78,12 +78,12 @@ module _ (T I C : RattleType) (g : Selection T.Denot I.Denot C.Denot) (h : Iter 
     ),
   )
 
-  slot_send : IsSend (slot.the_row T I C g h)
-  slot_send = recorded_send (slot.the_field T I C g h).row _ _ (slot.the_type T I C g h).to_one slot_fields
+  slot_send : IsSend (slot.the_row T I C W g h)
+  slot_send = recorded_send (slot.the_field T I C W g h).row _ _ (slot.the_type T I C W g h).to_one slot_fields
 
-  group_fields : IsSend (group_inside.the_row T I C g h)
-  group_fields = recorded_send (group_inside.the_field T I C g h).row _ _ (group_inside.the_type T I C g h).to_one
-      (struct_send (shape (group_inside.the_type T I C g h)) (
+  group_fields : IsSend (group_inside.the_row T I C W g h)
+  group_fields = recorded_send (group_inside.the_field T I C W g h).row _ _ (group_inside.the_type T I C W g h).to_one
+      (struct_send (shape (group_inside.the_type T I C W g h)) (
         search (sendable, identity.the_send) depth 10,
         (
           search (sendable, crosses) depth 10,
@@ -100,29 +100,29 @@ module _ (T I C : RattleType) (g : Selection T.Denot I.Denot C.Denot) (h : Iter 
         ),
       ))
 
-  group_send : IsSend (group.the_row T I C g h)
+  group_send : IsSend (group.the_row T I C W g h)
   group_send = view_send _ _ _ _ _ group_fields
 
-  pub joined_send : IsSend (joined.the_row T I C g h)
+  pub joined_send : IsSend (joined.the_row T I C W g h)
   joined_send = search (sendable, group_send, view.the_send) depth 20
 
-  watched_fields : IsSend (watched_inside.the_row T I C g h)
-  watched_fields = recorded_send (watched_inside.the_field T I C g h).row _ _ (watched_inside.the_type T I C g h).to_one
-      (struct_send (shape (watched_inside.the_type T I C g h)) (
+  watched_fields : IsSend (watched_inside.the_row T I C W g h)
+  watched_fields = recorded_send (watched_inside.the_field T I C W g h).row _ _ (watched_inside.the_type T I C W g h).to_one
+      (struct_send (shape (watched_inside.the_type T I C W g h)) (
         search (sendable, joined_send) depth 10,
         (search (sendable, writer.the_send) depth 10, (search (sendable, crosses, board.the_send, board.the_sync) depth 20, tt)),
       ))
 
-  pub watched_send : IsSend (watched.the_row T I C g h)
+  pub watched_send : IsSend (watched.the_row T I C W g h)
   watched_send = view_send _ _ _ _ _ watched_fields
 
-module _ (T R I C : RattleType) (g : Selection T.Denot I.Denot C.Denot) (h : Iter I.Denot) (s : IsSend T) (sc : IsSend C) (y : IsSync T) (yc : IsSync C) (sr : IsSend R) where
-  core_send : IsSend (watched.the_row T I C g h)
-  core_send = watched_send T I C g h s sc y yc
+module _ (T R I C W : RattleType) (g : Selection T.Denot I.Denot C.Denot W.Denot) (h : Iter I.Denot) (s : IsSend T) (sc : IsSend C) (y : IsSync T) (yc : IsSync C) (sr : IsSend R) where
+  core_send : IsSend (watched.the_row T I C W g h)
+  core_send = watched_send T I C W g h s sc y yc
 
-  inside_sync : IsSync (inside.the_row T R I C g h)
-  inside_sync = recorded_sync (inside.the_field T R I C g h).row _ _ (inside.the_type T R I C g h).to_one
-      (struct_sync (shape (inside.the_type T R I C g h)) (
+  inside_sync : IsSync (inside.the_row T R I C W g h)
+  inside_sync = recorded_sync (inside.the_field T R I C W g h).row _ _ (inside.the_type T R I C W g h).to_one
+      (struct_sync (shape (inside.the_type T R I C W g h)) (
         search (lock.the_field_sync, core_send) depth 10,
         (
           search (sendable, crosses, board.the_send, board.the_sync) depth 20,
@@ -130,5 +130,5 @@ module _ (T R I C : RattleType) (g : Selection T.Denot I.Denot C.Denot) (h : Ite
         ),
       ))
 
-  pub boarded_sync : IsSync (boarded.the_row T R I C g h)
+  pub boarded_sync : IsSync (boarded.the_row T R I C W g h)
   boarded_sync = view_sync _ _ _ _ _ inside_sync

@@ -61,7 +61,7 @@ module _ {C : Type 0} where
       memory_or x (cause_if (nat_lt slot (length made.configs)) (readers (served past) past == 18446744073709551615) x there.0) (enters made e p.1.1)
 
 -- what holds of the walks of a selector holds of those of its members and configuration
-pub walks_as : {S I C : Type 0} (ghosts : Ghosts S I C) {s : S} {ms : List Member} {config : C} (key : List ℕ)
+pub walks_as : {S I C W : Type 0} (ghosts : Ghosts S I C W) {s : S} {ms : List Member} {config : C} (key : List ℕ)
     (Holds : (List Draw → List Member → Bool → Type 0) → Type 0) → ghosts.members s ≡ ms → ghosts.built_with s ≡ config
     → Holds (walks_of ghosts s key) → Holds (ghosts.walks ms config key)
 walks_as ghosts {s} {ms} {config} key Holds members built is =

@@ -41,15 +41,15 @@ use Rattle.lb_locked.specs.contracts.group.SharedGroup.TheInside as inside
 place_send : IsSend place.the_row
 place_send = search (sendable, crosses) depth 20
 
-module _ (T I C : RattleType) (g : Selection T.Denot I.Denot C.Denot) (h : Iter I.Denot) (s : IsSend T) (sc : IsSend C) (y : IsSync T) (yc : IsSync C) where
-  retired_send : IsSend (retired.the_row T I C g h)
+module _ (T I C W : RattleType) (g : Selection T.Denot I.Denot C.Denot W.Denot) (h : Iter I.Denot) (s : IsSend T) (sc : IsSend C) (y : IsSync T) (yc : IsSync C) where
+  retired_send : IsSend (retired.the_row T I C W g h)
   retired_send = search (sendable, crosses, place_send, serving.the_send, permit.the_send) depth 20
 
-  stage_send : IsSend (stage.the_field T I C g h).row
+  stage_send : IsSend (stage.the_field T I C W g h).row
   stage_send = search (sendable, retired_send) depth 20
 
-  slot_fields : IsSend (slot.the_field T I C g h).row
-  slot_fields = struct_send (shape (slot.the_type T I C g h)) (
+  slot_fields : IsSend (slot.the_field T I C W g h).row
+  slot_fields = struct_send (shape (slot.the_type T I C W g h)) (
     search (sendable, crosses) depth 10,
     (
       search (sendable, serving.the_send) depth 10,
@@ -84,12 +84,12 @@ module _ (T I C : RattleType) (g : Selection T.Denot I.Denot C.Denot) (h : Iter 
     ),
   )
 
-  slot_send : IsSend (slot.the_row T I C g h)
-  slot_send = recorded_send (slot.the_field T I C g h).row _ _ (slot.the_type T I C g h).to_one slot_fields
+  slot_send : IsSend (slot.the_row T I C W g h)
+  slot_send = recorded_send (slot.the_field T I C W g h).row _ _ (slot.the_type T I C W g h).to_one slot_fields
 
-  group_fields : IsSend (group_inside.the_row T I C g h)
-  group_fields = recorded_send (group_inside.the_field T I C g h).row _ _ (group_inside.the_type T I C g h).to_one
-      (struct_send (shape (group_inside.the_type T I C g h)) (
+  group_fields : IsSend (group_inside.the_row T I C W g h)
+  group_fields = recorded_send (group_inside.the_field T I C W g h).row _ _ (group_inside.the_type T I C W g h).to_one
+      (struct_send (shape (group_inside.the_type T I C W g h)) (
         search (sendable, identity.the_send) depth 10,
         (
           search (sendable, crosses) depth 10,
@@ -106,19 +106,19 @@ module _ (T I C : RattleType) (g : Selection T.Denot I.Denot C.Denot) (h : Iter 
         ),
       ))
 
-  group_send : IsSend (group.the_row T I C g h)
+  group_send : IsSend (group.the_row T I C W g h)
   group_send = view_send _ _ _ _ _ group_fields
 
-  pub joined_send : IsSend (joined.the_row T I C g h)
+  pub joined_send : IsSend (joined.the_row T I C W g h)
   joined_send = search (sendable, group_send, view.the_send) depth 20
 
-module _ (T R H I C : RattleType) (g : Selection T.Denot I.Denot C.Denot) (h : Iter I.Denot) (s : IsSend T) (sc : IsSend C) (y : IsSync T) (yc : IsSync C) (sr : IsSend R) (yr : IsSync R) (sh : IsSend H) (yh : IsSync H) where
-  core_send : IsSend (joined.the_row T I C g h)
-  core_send = joined_send T I C g h s sc y yc
+module _ (T R H I C W : RattleType) (g : Selection T.Denot I.Denot C.Denot W.Denot) (h : Iter I.Denot) (s : IsSend T) (sc : IsSend C) (y : IsSync T) (yc : IsSync C) (sr : IsSend R) (yr : IsSync R) (sh : IsSend H) (yh : IsSync H) where
+  core_send : IsSend (joined.the_row T I C W g h)
+  core_send = joined_send T I C W g h s sc y yc
 
-  inside_send : IsSend (inside.the_row T R H I C g h)
-  inside_send = recorded_send (inside.the_field T R H I C g h).row _ _ (inside.the_type T R H I C g h).to_one
-      (struct_send (shape (inside.the_type T R H I C g h)) (
+  inside_send : IsSend (inside.the_row T R H I C W g h)
+  inside_send = recorded_send (inside.the_field T R H I C W g h).row _ _ (inside.the_type T R H I C W g h).to_one
+      (struct_send (shape (inside.the_type T R H I C W g h)) (
         search (lock.the_field_send, core_send) depth 10,
         (
           search (sendable, crosses, registry.the_send, registry.the_sync) depth 20,
@@ -138,9 +138,9 @@ module _ (T R H I C : RattleType) (g : Selection T.Denot I.Denot C.Denot) (h : I
         ),
       ))
 
-  inside_sync : IsSync (inside.the_row T R H I C g h)
-  inside_sync = recorded_sync (inside.the_field T R H I C g h).row _ _ (inside.the_type T R H I C g h).to_one
-      (struct_sync (shape (inside.the_type T R H I C g h)) (
+  inside_sync : IsSync (inside.the_row T R H I C W g h)
+  inside_sync = recorded_sync (inside.the_field T R H I C W g h).row _ _ (inside.the_type T R H I C W g h).to_one
+      (struct_sync (shape (inside.the_type T R H I C W g h)) (
         search (lock.the_field_sync, core_send) depth 10,
         (
           search (sendable, crosses, registry.the_send, registry.the_sync) depth 20,
@@ -160,10 +160,10 @@ module _ (T R H I C : RattleType) (g : Selection T.Denot I.Denot C.Denot) (h : I
         ),
       ))
 
-  pub shared_send : IsSend (shared.the_row T R H I C g h)
+  pub shared_send : IsSend (shared.the_row T R H I C W g h)
   shared_send = view_send _ _ _ _ _ inside_send
 
-  pub shared_sync : IsSync (shared.the_row T R H I C g h)
+  pub shared_sync : IsSync (shared.the_row T R H I C W g h)
   shared_sync = view_sync _ _ _ _ _ inside_sync
 
 all_sent : (Ts : List RattleType) → AllSend Ts → AllSend (rows (parts Ts))

@@ -404,7 +404,7 @@ module _ {C : Type 0} {M : Meaning C} {h : History C} {g : ℕ} {e : EntryValue 
       inl (rw (b.is.made_is, (there-at (configs_of e.core.group) s within).1)
       (ap (asked (group.newest (group_events g h))) (rw (group-of g h, b.out) at to)))
 
-  pub next-asked : {S I : Type 0} {s now : ℕ} (a : Ask S I C) (t : AskAnswer) {core : JoinedValue C} {y : GateView} → ask_told a ≡ t
+  pub next-asked : {S I W : Type 0} {s now : ℕ} (a : Ask S I C W) (t : AskAnswer) {core : JoinedValue C} {y : GateView} → ask_told a ≡ t
       → ¬ (t ≡ job) → Asks (site e.core) (joined.group_events (joined_events g h)) s z.out now (Ok a)
       → Moves e (joined.in_group (asked_events s now (ask_told a)) ++ joined_events g h) core → y ≡ asked_gate (ask_told a) z
       → EntryNext M h g (Step.ask g s now) (asked (group.newest (group_events g h)) t) e z (with_core core e) y v
@@ -418,7 +418,7 @@ module _ {C : Type 0} {M : Meaning C} {h : History C} {g : ℕ} {e : EntryValue 
   next-unasked {s = s} r no_such past moves =
       next-refused b refl (inl (rw (b.is.made_is, slice_get_past (configs_of e.core.group) s past) (ap Answer.Refused no_such))) moves
 
-  pub does-grant : {S I : Type 0} {s now : ℕ} (a : Ask S I C) (j : Task C) {core : JoinedValue C} {old : WorkValue C} {y : GateView}
+  pub does-grant : {S I W : Type 0} {s now : ℕ} (a : Ask S I C W) (j : Task C) {core : JoinedValue C} {old : WorkValue C} {y : GateView}
       → ask_told a ≡ job → Asks (site e.core) (joined.group_events (joined_events g h)) s z.out now (Ok a)
       → IsJob (site e.core) (joined.group_events (joined_events g h)) s j
       → Moves e (joined.in_group (asked_events s now (ask_told a)) ++ joined_events g h) core

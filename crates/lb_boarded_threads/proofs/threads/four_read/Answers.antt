@@ -8,5 +8,5 @@ use Rattle.lb_boarded_threads.proofs.threads.four_read.Goals as goal
 pub join-left-requires-send-F : goal.join-left-requires-send-F
 join-left-requires-send-F g c κs within =
     let b = c.type_bounds in
-    let y = boarded_sync (param 0 g.row.S) (param 1 g.row.K) (param 3 g.row.S-Iter) (param 4 g.row.S-Config) g.S.BackendSelection g.S.Iter.BackendIter b.send-S b.send-S-Config b.sync-S b.sync-S-Config b.send-K in
+    let y = boarded_sync (param 0 g.row.S) (param 1 g.row.K) (param 3 g.row.S-Iter) (param 4 g.row.S-Config) (param 5 g.row.S-Walk) g.S.BackendSelection g.S.Iter.BackendIter b.send-S b.send-S-Config b.sync-S b.sync-S-Config b.send-K in
     search (sendable, y, pass.the_send, b.sync-R) depth 30
