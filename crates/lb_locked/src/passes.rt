@@ -133,6 +133,7 @@ impl<S: BackendSelection, R: KeyRule + Drop, C: HealthCheck + Drop> SharedGroup<
         ensures reader { IfOk result (λ r. (slot + 1 < self.now.board.words) × (r.slot ≡ slot)
             × (r.generation ≡ served_of pass.new slot)) }
         ensures own { IfOk result (λ r. r.group ≡ self.now.core.group.id) }
+        ensures entered { IfOk result (λ r. EnteredUnder self.now.core slot (Ok r)) }
         ensures refused { IfErr result (IsEntryRefusal self.now.board slot) }
         ensures later { IsLater pass.old pass.new }
     {
@@ -234,6 +235,8 @@ fn enter_at<S: BackendSelection>(
 ) -> Result<Option<Reader<S>>, Refusal>
     ensures found { IfOk result (λ o. IfSome o (λ r. (r.slot ≡ slot) × (r.generation ≡ found)
         × (r.group ≡ watched.old.core.group.id))) }
+    ensures entered { IfOk result (λ o. IfSome o (λ r. IsFounded watched.old.core
+        × IsEntered watched.old.core slot (Ok r) watched.new.core)) }
     ensures refused { IfErr result (λ e. (e ≡ Refusal.NumbersExhausted) ⊎ (e ≡ Refusal.OutOfMemory)) }
     ensures same { IsSame watched.old watched.new }
 {

@@ -2,7 +2,7 @@
 use Rattle.std.specs.Fn.{FnReturnsAt}
 use Rattle.lb_locked.specs.Shared.{SelectsByAny}
 use Rattle.lb_locked.proofs.Entries.{selects_by_any, walks_as}
-use Rattle.lb_locked.proofs.passes.SharedGroup.select_in.Goals as goal
+use Rattle.lb_locked.proofs.group.SharedGroup.select_in.Goals as goal
 
 pub returns : goal.returns
 returns g c =
