@@ -1,1 +1,3 @@
 pub mod Sites
+pub mod Entries
+pub mod Crossings

@@ -1,2 +1,3 @@
 pub mod Gate
 pub mod Group
+pub mod Shared

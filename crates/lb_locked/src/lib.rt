@@ -5,6 +5,7 @@
 pub mod clock;
 pub mod gate;
 pub mod group;
+pub mod passes;
 pub mod port;
 mod reading;
 pub mod registry;

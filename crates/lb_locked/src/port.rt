@@ -36,17 +36,17 @@ impl<'g, 'r, S: BackendSelection, R: KeyRule + Drop, C: HealthCheck + Drop, W: W
     Built<S>,
     Reader<S>,
 > for LockedPort<'g, 'r, S, R, C, W> {
-    ghost owns_refused = { λ p r. OwnsJob p.group.now r.task };
+    ghost owns_refused = { λ p r. OwnsJob p.group.now.core r.task };
 
-    ghost owns_built = { λ p b. OwnsJob p.group.now b.task };
+    ghost owns_built = { λ p b. OwnsJob p.group.now.core b.task };
 
-    ghost owns_reader = { λ p r. r.group ≡ p.group.now.group.id };
+    ghost owns_reader = { λ p r. r.group ≡ p.group.now.core.group.id };
 
-    ghost failed = { λ p r now q. FailedUnder R.gives p.group.now r.task now × (q.group.now ≡ p.group.now) };
+    ghost failed = { λ p r now q. FailedUnder R.gives p.group.now.core r.task now × (q.group.now ≡ p.group.now) };
 
-    ghost published = { λ p b t q. PublishedUnder p.group.now b t × (q.group.now ≡ p.group.now) };
+    ghost published = { λ p b t q. PublishedUnder p.group.now.core b t × (q.group.now ≡ p.group.now) };
 
-    ghost left = { λ p r q. LeftUnder p.group.now r × (q.group.now ≡ p.group.now) };
+    ghost left = { λ p r q. LeftUnder p.group.now.core r × (q.group.now ≡ p.group.now) };
 
     fn fail(&mut self, refused: RefusedJob<S>, now: u128) {
         let group = self.group;
@@ -100,24 +100,24 @@ impl<'g, 'r, S: BackendSelection, R: KeyRule + Drop, C: HealthCheck + Drop, W: W
 
 impl<'g, 'r, S: BackendSelection, R: KeyRule + Drop, C: HealthCheck + Drop, W: Wait> GroupPort<S>
     for LockedPort<'g, 'r, S, R, C, W> {
-    ghost owns_job = { λ p t. OwnsJob p.group.now t };
+    ghost owns_job = { λ p t. OwnsJob p.group.now.core t };
 
-    ghost scheduled = { λ p ms settings now r q. ScheduledUnder R.gives p.group.now ms settings now r × (q.group.now ≡ p.group.now) };
+    ghost scheduled = { λ p ms settings now r q. ScheduledUnder R.gives p.group.now.core ms settings now r × (q.group.now ≡ p.group.now) };
 
-    ghost asked = { λ p slot now r q. AskedUnder p.group.now slot now r × (q.group.now ≡ p.group.now) };
+    ghost asked = { λ p slot now r q. AskedUnder p.group.now.core slot now r × (q.group.now ≡ p.group.now) };
 
-    ghost entered = { λ p slot r q. EnteredUnder p.group.now slot r × (q.group.now ≡ p.group.now) };
+    ghost entered = { λ p slot r q. EnteredUnder p.group.now.core slot r × (q.group.now ≡ p.group.now) };
 
-    ghost readies = { λ p r b a q. ReadyUnder R.gives p.group.now r b a × (q.group.now ≡ p.group.now) };
+    ghost readies = { λ p r b a q. ReadyUnder R.gives p.group.now.core r b a × (q.group.now ≡ p.group.now) };
 
     // Of which words others' draws leave nothing is said.
     ghost draws = { λ p r d q. q.group.now ≡ p.group.now };
 
-    ghost taken = { λ p slot r q. TakenUnder p.group.now slot r × (q.group.now ≡ p.group.now) };
+    ghost taken = { λ p slot r q. TakenUnder p.group.now.core slot r × (q.group.now ≡ p.group.now) };
 
-    ghost reported = { λ p slot permit q. ReportedUnder R.gives p.group.now slot permit × (q.group.now ≡ p.group.now) };
+    ghost reported = { λ p slot permit q. ReportedUnder R.gives p.group.now.core slot permit × (q.group.now ≡ p.group.now) };
 
-    ghost owns_permit = { λ p slot permit. OwnsPermit p.group.now slot permit };
+    ghost owns_permit = { λ p slot permit. OwnsPermit p.group.now.core slot permit };
 
     fn schedule(
         &mut self,
@@ -168,7 +168,7 @@ impl<'g, 'r, S: BackendSelection, R: KeyRule + Drop, C: HealthCheck + Drop, W: W
         let held = group.lock.take(self.rt);
         held.value.founded();
         let registry = group.registry.lock(self.rt);
-        let told = held.value.ready(reader, &*registry, backend);
+        let told = held.value.core().ready(reader, &*registry, backend);
         drop(registry);
         group.lock.put(held);
         told
@@ -219,9 +219,9 @@ impl<'g, 'r, S: BackendSelection, R: KeyRule + Drop, C: HealthCheck + Drop, W: W
         }
     }
 
-    ghost draws_keep = { λ p r d q same own. subst (λ v. r.group ≡ v.group.id) (sym same) own };
+    ghost draws_keep = { λ p r d q same own. subst (λ v. r.group ≡ v.core.group.id) (sym same) own };
 
-    ghost readies_keep = { λ p r b a q told own. subst (λ v. r.group ≡ v.group.id) (sym told.1) own };
+    ghost readies_keep = { λ p r b a q told own. subst (λ v. r.group ≡ v.core.group.id) (sym told.1) own };
 
     ghost built_of = { λ p t ended own. own };
 

@@ -32,7 +32,7 @@ impl<S: BackendSelection, R: KeyRule + Drop, C: HealthCheck + Drop> SharedGroup<
         accept: &F,
     ) -> Result<Option<Backend>, Refusal>
         requires { F.IsAlwaysCallable accept.now }
-        ensures { SelectedUnder R.gives (λ b ready a. Answers F.Fn accept.now b ready a) max_iterations S.walks key.now self.now slot
+        ensures { SelectedUnder R.gives (λ b ready a. Answers F.Fn accept.now b ready a) max_iterations S.walks key.now self.now.core slot
             result }
     {
         let mut port = LockedPort { group: self, rt };
@@ -57,7 +57,7 @@ fn select_on<
     accept: &F,
 ) -> Result<Option<Backend>, Refusal>
     requires { F.IsAlwaysCallable accept.now }
-    ensures { SelectedUnder R.gives (λ b ready a. Answers F.Fn accept.now b ready a) max_iterations S.walks key.now port.old.group.now
+    ensures { SelectedUnder R.gives (λ b ready a. Answers F.Fn accept.now b ready a) max_iterations S.walks key.now port.old.group.now.core
         slot result }
 {
     select_through(alloc, port, slot, key, max_iterations, accept)

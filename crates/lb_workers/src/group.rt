@@ -97,8 +97,8 @@ impl<
         configs: Vec<S::Config>,
     ) -> Result<LoadBalancerGroup<S, W, D, R, C>, Refusal>
         ensures made { IfOk result (λ g. Stands
-            (record { id = (arc_value g.shared).group.id; gate = (arc_value parts.gate).id; configs = configs.items }) []
-            (arc_value g.shared)) }
+            (record { id = (arc_value g.shared).core.group.id; gate = (arc_value parts.gate).id; configs = configs.items }) []
+            (arc_value g.shared).core) }
         ensures parts { IfOk result (λ g. (g.discovery ≡ parts.discovery) × (g.owns_checks ≡ parts.owns_checks)
             × (g.health_check_frequency ≡ None) × (g.update_frequency ≡ None) × (g.parallel_health_check ≡ false)) }
         ensures refused { IsMakingRefusal (least (map (S.refusal []) configs.items)) result }
@@ -138,7 +138,7 @@ impl<
     ///
     /// As `SharedGroup::update`; the timing is then as before.
     pub fn update<K: MomentSource>(&self, alloc: Global, clock: &mut K) -> Result<u64, Refusal>
-        ensures { UpdatedUnder R.gives K.reads FoundBy self.now.discovery clock.old (arc_value self.now.shared) result clock.new }
+        ensures { UpdatedUnder R.gives K.reads FoundBy self.now.discovery clock.old (arc_value self.now.shared).core result clock.new }
     {
         let turn = self.updates.lock(&self.rt);
         let mut noting = Noting {
@@ -170,7 +170,8 @@ impl<
         key: &[u8],
         max_iterations: usize,
     ) -> Result<Option<Backend>, Refusal>
-        ensures { SelectedUnder R.gives (λ b ready a. a ≡ ready) max_iterations S.walks key.now (arc_value self.now.shared) slot result }
+        ensures { SelectedUnder R.gives (λ b ready a. a ≡ ready) max_iterations S.walks key.now (arc_value self.now.shared).core slot
+            result }
     {
         self.select_with(alloc, slot, key, max_iterations, &ready_ones)
     }
@@ -191,7 +192,7 @@ impl<
     ) -> Result<Option<Backend>, Refusal>
         requires { F.IsAlwaysCallable accept.now }
         ensures { SelectedUnder R.gives (λ b ready a. Answers F.Fn accept.now b ready a) max_iterations S.walks key.now
-            (arc_value self.now.shared) slot result }
+            (arc_value self.now.shared).core slot result }
     {
         let shared: &SharedGroup<S, R, C> = &*self.shared;
         shared.select_with(&self.rt, alloc, slot, key, max_iterations, accept)

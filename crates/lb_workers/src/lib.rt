@@ -7,6 +7,7 @@ pub mod group;
 mod making;
 mod noting;
 pub mod parts;
+mod passes;
 pub mod port;
 mod readings;
 mod running;

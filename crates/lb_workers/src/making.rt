@@ -50,7 +50,7 @@ pub(crate) fn share<S: BackendSelection, R: KeyRule + Drop, C: HealthCheck + Dro
     gate: Arc<SelectorRebuildGate>,
 ) -> Result<Arc<SharedGroup<S, R, C>>, Refusal>
     requires { (arc_value gate).id ≡ core.group.gate }
-    ensures made { IfOk result (λ g. arc_value g ≡ core) }
+    ensures made { IfOk result (λ g. (arc_value g).core ≡ core) }
     ensures refused { IfErr result (λ e. e ≡ Refusal.OutOfMemory) }
 {
     let generator = Pcg64::new(0, u128::from(core.id()));
@@ -75,7 +75,7 @@ pub(crate) fn update_noting<
     discovery: &DiscoverySource<D>,
     noting: &mut Noting<'c, K>,
 ) -> Result<u64, Refusal>
-    ensures updated { UpdatedUnder R.gives K.reads FoundBy discovery.now noting.old.clock.now group.now result noting.new.clock.now }
+    ensures updated { UpdatedUnder R.gives K.reads FoundBy discovery.now noting.old.clock.now group.now.core result noting.new.clock.now }
     ensures same_reference { noting.new.clock.ghost_name ≡ noting.old.clock.ghost_name }
 {
     group.update(rt, alloc, discovery, noting)

@@ -192,7 +192,7 @@ impl<
     ghost can_run = { ((start : F) → F.IsAlwaysCallable start) × ((pass : G) → G.IsAlwaysCallable pass) };
 
     ghost updates = { λ p r q. UpdatedUnder R.gives K.reads FoundBy p.group.now.discovery p.clock.now
-        (arc_value p.group.now.shared) r q.clock.now };
+        (arc_value p.group.now.shared).core r q.clock.now };
 
     ghost checks = { λ p q. q.clock.now ≡ p.clock.now };
 

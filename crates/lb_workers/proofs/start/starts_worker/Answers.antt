@@ -8,7 +8,8 @@ use Rattle.std.specs.contracts.alloc.Global as heap
 use Rattle.std.specs.contracts.impls.GlobalAllocator.TheImpl.{ghosts}
 use Rattle.std.specs.contracts.sync.Arc as Arc
 use Rattle.lb_locked.specs.contracts.group.SharedGroup as shared
-use Rattle.lb_workers.proofs.Crossings.{sent, shared_send, shared_sync}
+use Rattle.lb_locked.proofs.Crossings.{shared_send, shared_sync}
+use Rattle.lb_workers.proofs.Crossings.{sent}
 use Rattle.lb_workers.proofs.start.starts_worker.Goals as goal
 
 -- what the closure captures, in the order of its use: the clock, the group, the runtime, the allocator and the slot

@@ -17,7 +17,7 @@ returns-in-Ok g c =
                 c.destroyed-told.new.gate,
                 (
                   search rules,
-                  (c.take-held.result.value, (c.destroyed-told.new.self, ((search rules, c.founded.ensures), (is.answers, is.stands, is.site, is.gate, is.registry)))),
+                  (c.take-held.result.value.core, (c.destroyed-told.new.self.core, ((search rules, c.founded.ensures), (is.answers, is.stands, is.site, is.gate, is.registry)))),
                 ),
               ),
             ),
@@ -42,7 +42,7 @@ returns-in-Err g c =
                 c.destroyed-told.new.gate,
                 (
                   search rules,
-                  (c.take-held.result.value, (c.destroyed-told.new.self, ((search rules, c.founded.ensures), (is.answers, is.stands, is.site, is.gate, is.registry)))),
+                  (c.take-held.result.value.core, (c.destroyed-told.new.self.core, ((search rules, c.founded.ensures), (is.answers, is.stands, is.site, is.gate, is.registry)))),
                 ),
               ),
             ),

@@ -3,4 +3,4 @@ use Rattle.std.proofs.Common.{rules}
 use Rattle.lb_locked.proofs.port.LockedPortGroupPort.ready.Goals as goal
 
 pub returns : goal.returns
-returns g c = ((c.take-held.result.value, (c.deref-2.result.now, ((search rules, c.founded.ensures), c.ready-told.ensures))), refl)
+returns g c = ((c.take-held.result.value.core, (c.deref-2.result.now, ((search rules, c.founded.ensures), rw c.core.ensures at c.ready-told.ensures))), refl)

@@ -10,9 +10,9 @@ returns g c =
         (
           c.schedule-told.new.registry,
           (
-            c.take-held.result.value,
+            c.take-held.result.value.core,
             (
-              c.schedule-told.new.self,
+              c.schedule-told.new.self.core,
               (
                 (search rules, c.founded.ensures),
                 (is.answers, is.stands, is.registry, is.err, is.registry_err, is.unknown, is.numbers, is.missing, is.lacking, is.site),

@@ -18,7 +18,7 @@ returns-in-Ok g c =
                 c.fail-told.new.gate,
                 (
                   search rules,
-                  (c.take-held.result.value, (c.fail-told.new.self, ((search rules, c.founded.ensures), (is.answers, is.stands, is.site, is.gate, is.registry)))),
+                  (c.take-held.result.value.core, (c.fail-told.new.self.core, ((search rules, c.founded.ensures), (is.answers, is.stands, is.site, is.gate, is.registry)))),
                 ),
               ),
             ),
@@ -44,7 +44,7 @@ returns-in-Err g c =
                 c.fail-told.new.gate,
                 (
                   search rules,
-                  (c.take-held.result.value, (c.fail-told.new.self, ((search rules, c.founded.ensures), (is.answers, is.stands, is.site, is.gate, is.registry)))),
+                  (c.take-held.result.value.core, (c.fail-told.new.self.core, ((search rules, c.founded.ensures), (is.answers, is.stands, is.site, is.gate, is.registry)))),
                 ),
               ),
             ),

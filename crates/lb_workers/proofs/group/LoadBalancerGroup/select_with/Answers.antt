@@ -7,4 +7,4 @@ use Rattle.lb_workers.proofs.group.LoadBalancerGroup.select_with.Goals as goal
 pub returns : goal.returns
 returns g c =
     subst (λ v. SelectedUnder g.R.KeyRule.gives (λ b ready a. Answers g.F.Fn c.args.accept.now b ready a) c.args.max_iterations
-    g.S.BackendSelection.walks c.args.key.now v c.args.slot c.select_with.result) c.deref-shared.ensures c.select_with.ensures
+    g.S.BackendSelection.walks c.args.key.now v.core c.args.slot c.select_with.result) c.deref-shared.ensures c.select_with.ensures

@@ -1,8 +1,8 @@
--- A group behind a lock may be shared by threads.
+-- A group with the pass that writes its board may be sent to a thread.
 -- What a `Snapshot` shows crosses freely, which rattle's own search doesn't know: so the types that hold one, and those above, stand here.
 use denote.RattleType.{RattleType}
 use denote.Struct.Declared.{shape}
-use denote.Param.Send.{IsSend, IsSync, sendable, view_send, view_sync, struct_send, struct_sync, recorded_send, recorded_sync}
+use denote.Param.Send.{IsSend, IsSync, sendable, view_send, struct_send, recorded_send}
 use Rattle.std.proofs.Crossing.{crosses}
 use Rattle.std.proofs.MapsCrossing as maps
 use Rattle.std.proofs.MapsCrossingOver as sets
@@ -12,7 +12,6 @@ use Rattle.lb_select.proofs.backend.Backend.TheSendSync as backend
 use Rattle.lb_health.proofs.view.ViewCore.TheSendSync as view
 use Rattle.lb_rebuild.proofs.gate.Permit.TheSendSync as permit
 use Rattle.lb_rebuild.proofs.identity.Identity.TheSendSync as identity
-use Rattle.lb_lock.proofs.lock.KeyedLock.TheSendSync as lock
 use Rattle.lb_group.proofs.answers.Counts.TheSendSync as counts
 use Rattle.lb_group.proofs.answers.Timing.TheSendSync as timing
 use Rattle.lb_group.proofs.retired.Serving.TheSendSync as serving
@@ -26,11 +25,8 @@ use Rattle.lb_group.specs.contracts.group.GroupCore.TheInside as group_inside
 use Rattle.lb_joined.specs.contracts.group.GroupCore as joined
 use Rattle.lb_board.proofs.board.Board.TheSendSync as board
 use Rattle.lb_board.proofs.board.WritingPass.TheSendSync as writer
-use Rattle.lb_registry.proofs.registry.Registry.TheSendSync as registry
 use Rattle.lb_watched.specs.contracts.watched.Watched as watched
 use Rattle.lb_watched.specs.contracts.watched.Watched.TheInside as watched_inside
-use Rattle.lb_pass.specs.contracts.boarded.BoardedGroup as boarded
-use Rattle.lb_pass.specs.contracts.boarded.BoardedGroup.TheInside as inside
 
 place_send : IsSend place.the_row
 place_send = search (sendable, crosses) depth 20
@@ -103,7 +99,7 @@ module _ (T I C W : RattleType) (g : Selection T.Denot I.Denot C.Denot W.Denot) 
   group_send : IsSend (group.the_row T I C W g h)
   group_send = view_send _ _ _ _ _ group_fields
 
-  pub joined_send : IsSend (joined.the_row T I C W g h)
+  joined_send : IsSend (joined.the_row T I C W g h)
   joined_send = search (sendable, group_send, view.the_send) depth 20
 
   watched_fields : IsSend (watched_inside.the_row T I C W g h)
@@ -115,20 +111,3 @@ module _ (T I C W : RattleType) (g : Selection T.Denot I.Denot C.Denot W.Denot) 
 
   pub watched_send : IsSend (watched.the_row T I C W g h)
   watched_send = view_send _ _ _ _ _ watched_fields
-
-module _ (T R I C W : RattleType) (g : Selection T.Denot I.Denot C.Denot W.Denot) (h : Iter I.Denot) (s : IsSend T) (sc : IsSend C) (y : IsSync T) (yc : IsSync C) (sr : IsSend R) where
-  core_send : IsSend (watched.the_row T I C W g h)
-  core_send = watched_send T I C W g h s sc y yc
-
-  inside_sync : IsSync (inside.the_row T R I C W g h)
-  inside_sync = recorded_sync (inside.the_field T R I C W g h).row _ _ (inside.the_type T R I C W g h).to_one
-      (struct_sync (shape (inside.the_type T R I C W g h)) (
-        search (lock.the_field_sync, core_send) depth 10,
-        (
-          search (sendable, crosses, board.the_send, board.the_sync) depth 20,
-          (search (sendable, crosses, registry.the_send) depth 20, tt),
-        ),
-      ))
-
-  pub boarded_sync : IsSync (boarded.the_row T R I C W g h)
-  boarded_sync = view_sync _ _ _ _ _ inside_sync

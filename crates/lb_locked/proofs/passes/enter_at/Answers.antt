@@ -1,7 +1,7 @@
 -- The slot serves what it was asked for when it is entered.
 use Rattle.std.proofs.Common.{◌∙◌, ◌≡◌, rules, Err}
-use Rattle.lb_pass.proofs.Entries.{founded_as, told_as, entered_ok, entered_err}
-use Rattle.lb_pass.proofs.boarded.enter_at.Goals as goal
+use Rattle.lb_locked.proofs.Entries.{founded_as, told_as, entered_ok, entered_err}
+use Rattle.lb_locked.proofs.passes.enter_at.Goals as goal
 
 pub returns-clause-found : goal.returns-clause-found
 returns-clause-found g c =

@@ -1,17 +1,18 @@
--- An entry into a slot that was just asked what it serves.
-use Rattle.std.proofs.Common.{◌≡◌, ◌⊎◌, ◌∙◌, ◌==◌, ℕ, List, Bool, true, false, cond, nat_lt, length, refl, sym, subst, inl, inr, Option, Some, None, Result, Ok, Err}
+-- An entry into a slot that was just asked what it serves, and a selection by whichever words were drawn.
+use Rattle.std.proofs.Common.{◌≡◌, ◌⊎◌, ◌∙◌, ◌==◌, ℕ, List, [], ◌∷◌, Bool, true, false, cond, nat_lt, length, refl, sym, subst, inl, inr, Option, Some, None, Result, Ok, Err}
 use Rattle.lb_select.specs.declared.refusal.Refusal.{Refusal}
 use Rattle.lb_select.specs.declared.refusal.Refusal.TheVariants as refusal
 use Rattle.lb_select.specs.declared.walk.BackendSelection.{Ghosts}
-use Rattle.lb_select.specs.Backends.{Member}
-use Rattle.lb_select.specs.Draws.{Draw}
-use Rattle.lb_select.specs.Selections.{walks_of}
+use Rattle.lb_select.specs.Backends.{Member, same_member}
+use Rattle.lb_select.specs.Draws.{Draw, Gives}
+use Rattle.lb_select.specs.Selections.{Selects, walks_of}
 use Rattle.lb_group.specs.GroupHistory.{past_of, served, readers}
 use Rattle.lb_group.specs.GroupCalls.{at_slot, Enters}
 use Rattle.lb_group.specs.Stands.{Made}
 use Rattle.lb_group.specs.Values.{ReaderValue}
 use Rattle.lb_joined.specs.JoinedHistory.{History, group_events}
 use Rattle.lb_joined.specs.Stands.{JoinedValue, IsFounded, After}
+use Rattle.lb_locked.specs.Shared.{SelectsByAny}
 
 -- what is told of a slot is told of one that is there
 told_if : (b : Bool) (s g : ℕ) → cond b (Some s) None ≡ Some g → (b ≡ true) × (s ≡ g)
@@ -66,3 +67,15 @@ pub walks_as : {S I C W : Type 0} (ghosts : Ghosts S I C W) {s : S} {ms : List M
     → Holds (walks_of ghosts s key) → Holds (ghosts.walks ms config key)
 walks_as ghosts {s} {ms} {config} key Holds members built is =
     subst (λ c. Holds (ghosts.walks ms c key)) built (subst (λ m. Holds (ghosts.walks m (ghosts.built_with s) key)) members is)
+
+any_words : (ds : List Draw) → Gives {S = Unit {0}} (λ s d t. Unit {0}) tt ds tt
+any_words [] = refl
+any_words (d ∷ ds) = (tt, tt, any_words ds)
+
+-- what is selected by the words of a source is selected by some words
+pub selects_by_any : {S : Type 0} (accepts : Member → Bool → Type 0) (limit : ℕ) (gives : S → Draw → S → Type 0)
+    (walks : List Draw → List Member → Bool → Type 0) (s t : S) (r : Result (Option Member) Refusal)
+    → Selects same_member accepts limit gives walks s r t → SelectsByAny accepts limit walks r
+selects_by_any accepts limit gives walks s t (Ok o) (cs, ended, w, is) =
+    (cs, ended, record { draws = w.draws; drawn = any_words w.draws; walked = w.walked }, is)
+selects_by_any accepts limit gives walks s t (Err e) (memory, either) = (memory, inl refl)
