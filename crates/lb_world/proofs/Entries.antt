@@ -16,7 +16,7 @@ use Rattle.lb_history.proofs.Together.{joins-alike}
 use Rattle.lb_history.specs.Answers.{flight_of, asked, built_or_failed, destroy_refusal, of_built, of_job}
 use Rattle.lb_history.specs.History.{gate_of, is_held}
 use Rattle.lb_history.specs.Shared.{registry_in, registry_made, extra_at}
-use Rattle.lb_world.specs.Calls.{told_as}
+use Rattle.lb_world.specs.Calls.{IsUngranted, told_as}
 use Rattle.lb_world.specs.Stands.{AreHeld}
 use Rattle.lb_world.specs.Views.{NotBuilding, NotReady}
 use Rattle.lb_world.specs.Works.{last_job}
@@ -404,14 +404,15 @@ module _ {C : Type 0} {M : Meaning C} {h : History C} {g : ℕ} {e : EntryValue 
       inl (rw (b.is.made_is, (there-at (configs_of e.core.group) s within).1)
       (ap (asked (group.newest (group_events g h))) (rw (group-of g h, b.out) at to)))
 
-  pub next-asked : {S I : Type 0} {s now : ℕ} (a : Ask S I C) (t : AskAnswer) {core : JoinedValue C} {y : GateView} → ask_told a ≡ t
-      → ¬ (t ≡ job) → Asks (site e.core) (joined.group_events (joined_events g h)) s z.out now (Ok a)
+  pub next-asked : {S I : Type 0} {s now : ℕ} (a : Ask S I C) (t : AskAnswer) {x : Answer} {core : JoinedValue C} {y : GateView}
+      → ask_told a ≡ t → IsUngranted t x → Asks (site e.core) (joined.group_events (joined_events g h)) s z.out now (Ok a)
       → Moves e (joined.in_group (asked_events s now (ask_told a)) ++ joined_events g h) core → y ≡ asked_gate (ask_told a) z
-      → EntryNext M h g (Step.ask g s now) (asked (group.newest (group_events g h)) t) e z (with_core core e) y v
-  next-asked a job told off answers moves back = absurd (off refl)
-  next-asked {s = s} {now = now} a t told off answers moves back =
-      next-core b refl (ask-right s now t answers.0 (sym told ∙ answers.1)) (rw told at moves) refl (λ r. refl) (λ m. refl)
-      (rw told at back) (unshared b (Step.ask g s now) (asked (group.newest (group_events g h)) t) refl refl)
+      → EntryNext M h g (Step.ask g s now) x e z (with_core core e) y v
+  next-asked a job told is answers moves back = absurd is
+  next-asked {s = s} {now = now} a t told is answers moves back =
+      rw is
+      (next-core b refl (ask-right s now t answers.0 (sym told ∙ answers.1)) (rw told at moves) refl (λ r. refl) (λ m. refl)
+      (rw told at back) (unshared b (Step.ask g s now) (asked (group.newest (group_events g h)) t) refl refl))
 
   pub next-unasked : {s now : ℕ} (r : Refusal) {core : JoinedValue C} → r ≡ Refusal.NoSuch → length (configs_of e.core.group) ≤ s
       → Moves e (joined_events g h) core → EntryNext M h g (Step.ask g s now) (Answer.Refused r) e z (with_core core e) z v
