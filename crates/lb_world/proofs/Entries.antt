@@ -144,16 +144,13 @@ module _ {C : Type 0} {h : History C} {g : ℕ} {e : EntryValue C} (is : EntryIs
   pub stays : Moves e (joined_events g h) e.core
   stays = (record { group = record { id = refl; gate = refl; configs = refl }; id = refl }, is.core_is)
 
-  -- of a slot, where a number of it was read, and of its past
-  pub told-of : {A : Type 0} (s : ℕ) (x : A) (r : Option A) (tells : A → Answer) → r ≡ at_slot (site e.core) s x
-      → at_one (config g s h) (λ c. tells x) ≡ at_one r tells
-  told-of s x r tells to =
-      rw (config-here s, to) (elim (slot-or (configs_of e.core.group) s) [ inl p ↦ rw (p.0, p.1) refl | inr p ↦ rw (p.1, p.2) refl ])
-
+  -- what was read of a slot's past
   pub reading-told : {A : Type 0} (s : ℕ) (f : group.History → A) (tells : A → Answer) (r : Option A)
       → r ≡ at_slot (site e.core) s (f (past_of s (joined.group_events (joined_events g h))))
       → at_one (config g s h) (λ c. tells (f (past g s h))) ≡ at_one r tells
-  reading-told s f tells r to = told-of s (f (past g s h)) r tells (rw (group-of g h) at to)
+  reading-told s f tells r to =
+      rw (to, config-here s, ← group-of g h)
+      (elim (slot-or (configs_of e.core.group) s) [ inl p ↦ rw (p.0, p.1) refl | inr p ↦ rw (p.1, p.2) refl ])
 
 module _ {C : Type 0} {M : Meaning C} {h : History C} {g : ℕ} {e : EntryValue C} {z : GateView} {v : RegistryValue WorldRule}
     (b : Before M h g e z v) where
