@@ -3,7 +3,7 @@ use Rattle.lb_world.specs.Locals.{IsWhole, local_seen}
 use Rattle.lb_world.specs.Stands.{Does}
 use Rattle.lb_world.specs.declared.local.Local.{Local}
 use Rattle.lb_world.proofs.Words.{◌∷◌, ◌∙◌, ◌≡◌, Answer, Answers, ap, arith, entries, EntryValue, GateView, group_at, History, inl, made_at}
-use Rattle.lb_world.proofs.Words.{Meaning, meaning_of, None, Origin, refl, Refusal, RegistryValue, same_Some, slice_get, slice_get_within}
+use Rattle.lb_world.proofs.Words.{Meaning, meaning_of, None, refl, Refusal, RegistryValue, same_Some, slice_get, slice_get_within}
 use Rattle.lb_world.proofs.Words.{slice_set, Some, Stands, sym, WorldRule, WorldValue, ℕ}
 use Rattle.lb_world.proofs.Places.{at-place}
 use Rattle.lb_world.proofs.Tables.{before, founded-by, no-group, own-kept, world-moves, world-refused}
@@ -27,7 +27,7 @@ local-entries h g l a = refl
 module _ {C : Type 0} {M : Meaning C} {w : WorldValue C} {h : History C} (s : Stands M w h) where
   does : (g : ℕ) (l : Local) (a : Answer) (e d : EntryValue C) (z y : GateView) (u v : RegistryValue WorldRule)
       → slice_get w.groups g ≡ Some e → slice_get w.gates e.gate ≡ Some z → slice_get w.registries e.registry ≡ Some u
-      → Does M (λ (n : ℕ). local_seen n l) e z u a d y v
+      → Does M (λ n. local_seen n l) e z u a d y v
       → Stands M
       (record w {
         registries = slice_set w.registries e.registry v;
@@ -38,7 +38,7 @@ module _ {C : Type 0} {M : Meaning C} {w : WorldValue C} {h : History C} (s : St
   does g l a e d z y u v there_ gate-there registry-there call =
       let next_ = call h g (before s g e z u there_ gate-there registry-there) in
       world-moves s g (local_seen g l) a e d z y u v w.readers (local-at h g l) (s.readers_are ∙ sym (local-entries h g l a))
-      (own-kept s g e d there_ (ap (λ (o : Origin). o.id) next_.origin_is)) there_ gate-there registry-there next_
+      (own-kept s g e d there_ (ap (λ o. o.id) next_.origin_is)) there_ gate-there registry-there next_
 
 pub returns-then-group-len : goal.returns-then-group-len
 returns-then-group-len g c =
@@ -69,7 +69,7 @@ take-requires g c =
     at (at-place c.self.inside.gates.items c.gate.result _ (omega (arith, c.gate.ensures, low)) c.index_mut-gate.ensures.value) in
     let was = c.self.invariant in
     record {
-      gate = ap (λ (z : GateView). z.id) (same_Some c.index_mut-gate.result.now on.view (sym at_gate ∙ on.gate)) ∙ on.id;
+      gate = ap (λ z. z.id) (same_Some c.index_mut-gate.result.now on.view (sym at_gate ∙ on.gate)) ∙ on.id;
       whole = c.requires;
       stands = record { history = was.history; number = c.args.group; run = was.stands.run; is = was.stands.each c.args.group _ at };
     }

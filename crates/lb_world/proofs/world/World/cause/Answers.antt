@@ -27,4 +27,4 @@ returns g c =
     rw (← c.self.view_is)
     (c.earlier_cause.ensures
     ∙ ap (earlier (no_such c.if-registry-len.is_there)) c.least_refusal.ensures
-    ∙ ap (λ (b : Bool). earlier (no_such b) (least (map (g.S.BackendSelection.refusal []) c.args.configs.now))) there)
+    ∙ ap (λ b. earlier (no_such b) (least (map (g.S.BackendSelection.refusal []) c.args.configs.now))) there)

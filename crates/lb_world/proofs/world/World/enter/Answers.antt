@@ -1,5 +1,5 @@
 -- The group's core lets the reader enter; the reader's number is that of its place.
-use Rattle.lb_world.proofs.Words.{◌∷◌, ◌∙◌, ◌≡◌, ◌++◌, [], ap, arith, HeldValue, inl, inr, length, List, Option, refl, Some}
+use Rattle.lb_world.proofs.Words.{◌∷◌, ◌∙◌, ◌≡◌, ◌++◌, [], ap, arith, inl, inr, length, refl, Some}
 use Rattle.lb_world.proofs.Places.{at-place}
 use Rattle.lb_world.proofs.Tables.{founded-by, no-group, world-refused, enter-absent, enter-full, enter-memory, entered-now, refused-now}
 use Rattle.lb_world.proofs.world.World.enter.Goals as goal
@@ -44,7 +44,7 @@ returns-in-Ok-enter g c =
     let at = at-place c.self.inside.groups.items c.args.group _ (omega arith) c.index_mut-entry.ensures.value in
     let grown =
     c.push_reserved.ensures.items
-    ∙ ap (λ (l : List (Option (HeldValue g.row.S-Config.Denot))). l
+    ∙ ap (λ l. l
     ++ Some (record { group = c.args.group; reader = c.in-Ok-enter.reader }) ∷ []) c.reserve.ensures.items in
     let last : c.len-number.result ≡ length c.self.inside.readers.items = omega arith in
     rw (← c.self.view_is, c.generation-generation.ensures)
