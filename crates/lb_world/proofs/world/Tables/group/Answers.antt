@@ -20,8 +20,8 @@ use Rattle.lb_world.proofs.Words.{Refusal, registries, registry_events, Registry
 use Rattle.lb_world.proofs.Words.{slice_set, Some, Stands, Step, sym, true, unless_refused, where_, without_memory, WorldRule, WorldValue}
 use Rattle.lb_world.proofs.Words.{ℕ}
 use Rattle.lb_world.proofs.Places.{at-place, each-push, each-set, get_last, get_replicate}
-use Rattle.lb_world.proofs.Tables.{entry-moves, founded-by, registry-lent, world-refused, number-left, refused-so, Tells, group-there}
-use Rattle.lb_world.proofs.world.World.group.Goals as goal
+use Rattle.lb_world.proofs.Tables.{entry-moves, registry-lent, world-refused, number-left, refused-so, Tells, group-there}
+use Rattle.lb_world.proofs.world.Tables.group.Goals as goal
 
 -- no refusal has a greater number than the want of numbers
 last-of : (e : Refusal) → nat_lt 17 (refusal_number e) ≡ false
@@ -245,39 +245,31 @@ returns-in-Some g c =
 
 pub returns-then-is_full : goal.returns-then-is_full
 returns-then-is_full g c =
-    let none = rw (← c.self.view_is, c.deref.ensures.value) at (sym c.cause.ensures ∙ c.in_default.is) in
-    rw (← c.self.view_is)
-    (λ h s. group-is-full s c.args.registry c.args.gate c.args.configs.items none c.index_mut-registry.ensures.value
-    (λ k es now. (c.is_full.ensures k es now).0 c.if-is_full.true))
+    let none = rw c.deref.ensures.value at (sym c.cause.ensures ∙ c.in_default.is) in
+    λ h s. group-is-full s c.args.registry c.args.gate c.args.configs.items none c.index_mut-registry.ensures.value
+    (λ k es now. (c.is_full.ensures k es now).0 c.if-is_full.true)
 
 pub returns-in_default-reserve : goal.returns-in_default-reserve
 returns-in_default-reserve g c =
-    let none = rw (← c.self.view_is, c.deref.ensures.value) at (sym c.cause.ensures ∙ c.in_default.is) in
-    rw (← c.self.view_is, c.reserve.ensures.items)
+    let none = rw c.deref.ensures.value at (sym c.cause.ensures ∙ c.in_default.is) in
+    rw c.reserve.ensures.items
     (λ h s. group-lacks s c.args.registry c.args.gate c.args.configs.items none c.index_mut-registry.ensures.value c.is_full.ensures
     c.if-is_full.false Refusal.OutOfMemory _ (λ k es now few. refl) (λ k es now. now))
 
 pub returns-in-Ok-new : goal.returns-in-Ok-new
 returns-in-Ok-new g c =
-    let none = rw (← c.self.view_is, c.deref.ensures.value) at (sym c.cause.ensures ∙ c.in_default.is) in
-    let last : c.len-number.result ≡ length c.self.inside.groups.items =
+    let none = rw c.deref.ensures.value at (sym c.cause.ensures ∙ c.in_default.is) in
+    let last : c.len-number.result ≡ length c.args.self.now.groups.items =
     omega (arith, c.len-number.ensures, ap length c.reserve.ensures.items) in
-    rw (← c.self.view_is)
-    (λ h s.
+    λ h s.
     rw (c.push_reserved.ensures.items, c.reserve.ensures.items)
     (group-made s c.args.registry c.args.gate c.args.configs.items none c.index_mut-registry.ensures.value c.is_full.ensures
-    c.if-is_full.false _ _ _ c.in-Ok-new.entry last c.index.ensures c.in-Ok-new.ensures.made))
-
-pub invariant_of-self-in-Ok-new : goal.invariant_of-self-in-Ok-new
-invariant_of-self-in-Ok-new g c = founded-by c.self.view_is c.self.invariant (returns-in-Ok-new g c)
+    c.if-is_full.false _ _ _ c.in-Ok-new.entry last c.index.ensures c.in-Ok-new.ensures.made)
 
 pub returns-in-Err : goal.returns-in-Err
 returns-in-Err g c =
-    let none = rw (← c.self.view_is, c.deref.ensures.value) at (sym c.cause.ensures ∙ c.in_default.is) in
-    rw (← c.self.view_is, c.reserve.ensures.items)
+    let none = rw c.deref.ensures.value at (sym c.cause.ensures ∙ c.in_default.is) in
+    rw c.reserve.ensures.items
     (λ h s.
     group-lacks s c.args.registry c.args.gate c.args.configs.items none c.index_mut-registry.ensures.value c.is_full.ensures
     c.if-is_full.false c.in-Err.refusal _ (λ k es now few. refused-so (c.in-Err.ensures.refused k es now few)) c.in-Err.ensures.err)
-
-pub invariant_of-self-in-Err : goal.invariant_of-self-in-Err
-invariant_of-self-in-Err g c = founded-by c.self.view_is c.self.invariant (returns-in-Err g c)
