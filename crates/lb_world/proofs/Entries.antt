@@ -3,7 +3,7 @@
 use Rattle.lb_group.proofs.Pasts.{lt-false}
 use Rattle.lb_group.specs.GroupCalls.{Asks, IsJob, asked_events, is_awaited, is_owed, is_served, publish_answer, publish_events}
 use Rattle.lb_group.specs.GroupCalls.{taken_refusal}
-use Rattle.lb_group.specs.GroupHistory.{AskAnswer, ask_answer, extra, generation_of, is_aloft, is_taken_out, job}
+use Rattle.lb_group.specs.GroupHistory.{AskAnswer, ask_answer, extra, generation_of, is_aloft, job}
 use Rattle.lb_group.specs.SlotCalls.{asked_gate}
 use Rattle.lb_group.specs.Values.{BuiltValue}
 use Rattle.lb_group.specs.declared.answers.Ask.{Ask}
@@ -16,7 +16,7 @@ use Rattle.lb_history.proofs.Together.{joins-alike}
 use Rattle.lb_history.specs.Answers.{flight_of, asked, built_or_failed, destroy_refusal, of_built, of_job}
 use Rattle.lb_history.specs.History.{gate_of, is_held}
 use Rattle.lb_history.specs.Shared.{registry_in, registry_made, extra_at}
-use Rattle.lb_world.specs.Calls.{told_as}
+use Rattle.lb_world.specs.Calls.{IsUngranted, told_as}
 use Rattle.lb_world.specs.Stands.{AreHeld}
 use Rattle.lb_world.specs.Views.{NotBuilding, NotReady}
 use Rattle.lb_world.specs.Works.{last_job}
@@ -32,7 +32,7 @@ use Rattle.lb_world.proofs.Words.{arith, ask_told, At, at_one, at_slot, Before, 
 use Rattle.lb_world.proofs.Words.{EntryNext, EntryValue, eq-eqb, false, false≢true, gate, GateId, gates, GateView, granted, granted_members}
 use Rattle.lb_world.proofs.Words.{group-of, group_at, group_events, GroupId, happened, held_of, History, inl, inr, is_at, IsRegistryAfter}
 use Rattle.lb_world.proofs.Words.{IsRun, joined_after, joined_events, JoinedValue, key_at, key_gives, key_in, key_of, length, length-set}
-use Rattle.lb_world.proofs.Words.{List, list_all, load_in, load_of, lt-ltb, made, Made, made_at, made_of, Meaning, Member, members-past}
+use Rattle.lb_world.proofs.Words.{List, list_all, load_in, load_of, lt-ltb, made, made_at, made_of, Meaning, Member, members-past}
 use Rattle.lb_world.proofs.Words.{members_of, nat_lt, newest, newest-past, no_such, None, none-some, Ok, Option, option_map, origin, Origin}
 use Rattle.lb_world.proofs.Words.{past, past-other, past-same, past_of, permit_after, promised, refl, Refusal, refused-alike, registries}
 use Rattle.lb_world.proofs.Words.{registry_at, registry_events, registry_of, RegistryValue, same_Some, shares, site, slice_get}
@@ -65,11 +65,11 @@ job-of o s c j = record { group = o.id; slot = s; generation = j.0; members = j.
 held-by : {C : Type 0} (o : Origin) (s : ℕ) (c : C) (p q : group.History) (w : Work) → last p ≡ last q
     → held_of o s c p w ≡ held_of o s c q w
 held-by o s c p q Work.idle e = refl
-held-by o s c p q Work.building e = ap (λ (j : ℕ × List Member). WorkValue.building (job-of o s c j)) e
-held-by o s c p q (Work.built now) e = ap (λ (j : ℕ × List Member). WorkValue.ready (record { task = job-of o s c j; ended = now })) e
+held-by o s c p q Work.building e = ap (λ j. WorkValue.building (job-of o s c j)) e
+held-by o s c p q (Work.built now) e = ap (λ j. WorkValue.ready (record { task = job-of o s c j; ended = now })) e
 
 pub taken : {A : Type 0} (x y : A) (g : ℕ) (o : Option ℕ) → o ≡ Some g → cond (is_at g o) x y ≡ x
-taken x y g o at = ap (λ (b : Bool). cond b x y) (ap (is_at g) at ∙ eq-eqb g g refl)
+taken x y g o at = ap (λ b. cond b x y) (ap (is_at g) at ∙ eq-eqb g g refl)
 
 -- a slot is in a list of configurations, or not
 pub slot-or : {C : Type 0} (cs : List C) (s : ℕ) → ((slice_get cs s ≡ None) × (nat_lt s (length cs) ≡ false))
@@ -126,16 +126,16 @@ module _ {C : Type 0} {h : History C} {g : ℕ} {e : EntryValue C} (is : EntryIs
   config-here s = ap (config_in s) is.made_is
 
   pub registry-here : registry_of g h ≡ Some e.registry
-  registry-here = ap (λ (o : Option (Made C)). option_map (λ m. m.registry) o) is.made_is
+  registry-here = ap (λ o. option_map (λ m. m.registry) o) is.made_is
 
   pub gate-here : gate_of g h ≡ Some e.gate
-  gate-here = ap (λ (o : Option (Made C)). option_map (λ m. m.gate) o) is.made_is
+  gate-here = ap (λ o. option_map (λ m. m.gate) o) is.made_is
 
   pub key-here : key_of g h ≡ key_at e.registry h
-  key-here = ap (λ (o : Option ℕ). key_in (registry_made o h)) registry-here
+  key-here = ap (λ o. key_in (registry_made o h)) registry-here
 
   pub group-told : (a : Answer) → at_one (made_at g h) (λ m. a) ≡ a
-  group-told a = ap (λ (o : Option (Made C)). at_one o (λ m. a)) is.made_is
+  group-told a = ap (λ o. at_one o (λ m. a)) is.made_is
 
   pub views-are : (M : Meaning C) → IsRun M h → views_of (site e.core) (joined_events g h) ≡ view_events g h
   views-are M run = (joins-alike M h run g).views (made_of e) is.made_is
@@ -144,16 +144,13 @@ module _ {C : Type 0} {h : History C} {g : ℕ} {e : EntryValue C} (is : EntryIs
   pub stays : Moves e (joined_events g h) e.core
   stays = (record { group = record { id = refl; gate = refl; configs = refl }; id = refl }, is.core_is)
 
-  -- of a slot, where a number of it was read, and of its past
-  pub told-of : {A : Type 0} (s : ℕ) (x : A) (r : Option A) (tells : A → Answer) → r ≡ at_slot (site e.core) s x
-      → at_one (config g s h) (λ c. tells x) ≡ at_one r tells
-  told-of s x r tells to =
-      rw (config-here s, to) (elim (slot-or (configs_of e.core.group) s) [ inl p ↦ rw (p.0, p.1) refl | inr p ↦ rw (p.1, p.2) refl ])
-
+  -- what was read of a slot's past
   pub reading-told : {A : Type 0} (s : ℕ) (f : group.History → A) (tells : A → Answer) (r : Option A)
       → r ≡ at_slot (site e.core) s (f (past_of s (joined.group_events (joined_events g h))))
       → at_one (config g s h) (λ c. tells (f (past g s h))) ≡ at_one r tells
-  reading-told s f tells r to = told-of s (f (past g s h)) r tells (rw (group-of g h) at to)
+  reading-told s f tells r to =
+      rw (to, config-here s, ← group-of g h)
+      (elim (slot-or (configs_of e.core.group) s) [ inl p ↦ rw (p.0, p.1) refl | inr p ↦ rw (p.1, p.2) refl ])
 
 module _ {C : Type 0} {M : Meaning C} {h : History C} {g : ℕ} {e : EntryValue C} {z : GateView} {v : RegistryValue WorldRule}
     (b : Before M h g e z v) where
@@ -162,7 +159,7 @@ module _ {C : Type 0} {M : Meaning C} {h : History C} {g : ℕ} {e : EntryValue 
       → changed h ((st, a) ∷ h) st a (registry_events e.registry h) ≡ es → IsRegistryAfter key_gives (key_of g h) es u
       → IsRegistryAfter key_gives (key_of g h) (registry_events e.registry ((st, a) ∷ h)) u
   shared st a {u = u} at is kept =
-      subst (λ (es : List registry.Event). IsRegistryAfter key_gives (key_of g h) es u)
+      subst (λ es. IsRegistryAfter key_gives (key_of g h) es u)
       (sym
       (taken _ (registry_events e.registry h) e.registry (registry_at h st) ((at-group h st a g at).registry_is ∙ registry-here b.is) ∙ is))
       kept
@@ -182,19 +179,19 @@ module _ {C : Type 0} {M : Meaning C} {h : History C} {g : ℕ} {e : EntryValue 
   next {st} {a} {core} ws ls at right moves count held loads out kept =
       let same = moves.0 in
       let origin-is : origin core ≡ origin e.core =
-      ap2 (λ (i : GroupId) (a : GateId). record { id = i; gate = a }) same.group.id same.group.gate in
+      ap2 (λ i a. record { id = i; gate = a }) same.group.id same.group.gate in
       record {
         right = right;
         is =
             record {
-              made_is = ap (λ (ms : List (Made C)). slice_get ms g) (at-group h st a g at).made_are ∙ b.is.made_is
-                  ∙ ap2 (λ (i : ℕ) (cs : List C). Some (record { registry = e.registry; gate = e.gate; view = i; configs = cs }))
+              made_is = ap (λ ms. slice_get ms g) (at-group h st a g at).made_are ∙ b.is.made_is
+                  ∙ ap2 (λ i cs. Some (record { registry = e.registry; gate = e.gate; view = i; configs = cs }))
                   (sym same.id) (sym same.group.configs);
               core_is = rw (← joined-here h st a g at, ← same.group.id, ← same.group.gate, ← same.group.configs) at moves.1;
               works_in = count ∙ b.is.works_in ∙ ap length (sym same.group.configs);
               works_are = λ s c k cs ks.
-                  held s c k (sym (ap (λ (xs : List C). slice_get xs s) same.group.configs) ∙ cs) ks
-                  ∙ ap (λ (o : Origin). held_of o s c (past g s ((st, a) ∷ h)) (work g s ((st, a) ∷ h))) (sym origin-is);
+                  held s c k (sym (ap (λ xs. slice_get xs s) same.group.configs) ∙ cs) ks
+                  ∙ ap (λ o. held_of o s c (past g s ((st, a) ∷ h)) (work g s ((st, a) ∷ h))) (sym origin-is);
               loads_are = loads;
             };
         registry_is = refl;
@@ -218,7 +215,7 @@ module _ {C : Type 0} {M : Meaning C} {h : History C} {g : ℕ} {e : EntryValue 
       ∙ held-by (origin e.core) s c (past g s h) (past_of s (happened h (group_events g h) st a ++ group_events g h)) (work g s h)
       (sym (jobs-kept s (happened h (group_events g h) st a) (group_events g h) free))
       ∙ ap2 (held_of (origin e.core) s c) (ap (past_of s) (sym (events-here h st a g at)))
-      (sym (ap (λ (x : Work). cond (works_at g s st) x (work g s h)) (stay (work g s h)) ∙ same-either (works_at g s st) (work g s h))))
+      (sym (ap (λ x. cond (works_at g s st) x (work g s h)) (stay (work g s h)) ∙ same-either (works_at g s st) (work g s h))))
       (λ m. b.is.loads_are m ∙ sym (loads m)) out kept
 
   -- a refusal after which the core stands for the same events leaves all else
@@ -228,15 +225,14 @@ module _ {C : Type 0} {M : Meaning C} {h : History C} {g : ℕ} {e : EntryValue 
       let told = refused-alike h st r in
       next {st = st} {a = Answer.Refused r} e.works e.loads at right (
         moves.0,
-        subst (λ (es : joined.History). stands.Stands (site e.core) es core)
-            (sym (told.joined g) ∙ joined-here h st (Answer.Refused r) g at) moves.1,
+        subst (λ es. stands.Stands (site e.core) es core) (sym (told.joined g) ∙ joined-here h st (Answer.Refused r) g at) moves.1,
       )
       refl
       (λ s c k cs ks.
       b.is.works_are s c k cs ks
       ∙ ap2 (held_of (origin e.core) s c) (ap (past_of s) (sym (told.groups g))) (sym (told.rest.works g s)))
       (λ m. b.is.loads_are m ∙ sym (told.rest.loads g m)) (ap (gate z.id) (sym (unmoved st r z.out)))
-      (subst (λ (es : List registry.Event). IsRegistryAfter key_gives (key_of g h) es v) (sym (told.rest.shared e.registry)) b.kept)
+      (subst (λ es. IsRegistryAfter key_gives (key_of g h) es v) (sym (told.rest.shared e.registry)) b.kept)
 
   -- one that writes the place of one slot, where no other slot saw an event
   pub next-work : (s : ℕ) {st : Step C} {a : Answer} {core : JoinedValue C} {old new : WorkValue C} {y : GateView}
@@ -259,11 +255,11 @@ module _ {C : Type 0} {M : Meaning C} {h : History C} {g : ℕ} {e : EntryValue 
       elim (get_set e.works s r old new k was ks) [
         | inl p ↦
             p.1 ∙ placed c (ap (slice_get (configs_of e.core.group)) (sym p.0) ∙ cs)
-            ∙ ap2 (at-slot s c) (sym events) (sym (places s ∙ here g s)) ∙ ap (λ (i : ℕ). now i c) (sym p.0)
+            ∙ ap2 (at-slot s c) (sym events) (sym (places s ∙ here g s)) ∙ ap (λ i. now i c) (sym p.0)
         | inr p ↦
             let off : (g == g && s == r) ≡ false = grind (arith, common_steps, p.0) in
             b.is.works_are r c k cs p.1
-            ∙ ap (λ (q : group.History). held_of (origin e.core) r c q (work g r h)) (sym (pasts r p.0) ∙ ap (past_of r) (sym events))
+            ∙ ap (λ q. held_of (origin e.core) r c q (work g r h)) (sym (pasts r p.0) ∙ ap (past_of r) (sym events))
             ∙ ap (at-slot r c (group_events g ((st, a) ∷ h))) (sym (places r ∙ off))
       ])
       (λ m. b.is.loads_are m ∙ sym (loads m)) out kept
@@ -331,7 +327,7 @@ module _ {C : Type 0} {h : History C} {g : ℕ} {e : EntryValue C} (is : EntryIs
   pub beyond : (s : ℕ) (f : C → Answer) → length e.works ≤ s → Answer.Refused Refusal.NoSuch ≡ at_one (config g s h) f
   beyond s f past =
       let few : length (configs_of e.core.group) ≤ s = omega (arith, is.works_in, past) in
-      sym (ap (λ (o : Option C). at_one o f) (config-here is s ∙ slice_get_past (configs_of e.core.group) s few))
+      sym (ap (λ o. at_one o f) (config-here is s ∙ slice_get_past (configs_of e.core.group) s few))
 
   pub unbuilt : (s : ℕ) (k : WorkValue C) (a : Answer) → slice_get e.works s ≡ Some k → NotReady k
       → Answer.Refused Refusal.NothingBuilt ≡ at_one (config g s h) (λ c. of_built (work g s h) a)
@@ -353,19 +349,19 @@ module _ {C : Type 0} {h : History C} {g : ℕ} {e : EntryValue C} (is : EntryIs
       → k ≡ WorkValue.nothing
   free-place M run s now out k to at =
       let c = slot-there s k at in
-      let may = job-may (past g s h) out now (sym (to ∙ ap (λ (q : group.History). ask_answer (past_of s q) out now) (group-of g h))) in
+      let may = job-may (past g s h) out now (sym (to ∙ ap (λ q. ask_answer (past_of s q) out now) (group-of g h))) in
       is.works_are s c.0 k c.1 at
       ∙ ap (held_of (origin e.core) s c.0 (past g s h))
       (grounded (work g s h) (sym (ap (is_aloft (granted (past g s h))) may.0) ∙ (slots M h run g s).1))
 
   module _ {s : ℕ} {t : Task C} {w : Work} (has : Holds h g s e t w) where
     pub told-work : (f : C → Work → Answer) → at_one (config g s h) (λ c. f c (work g s h)) ≡ f has.config w
-    told-work f = ap2 (λ (o : Option C) (u : Work). at_one o (λ c. f c u)) (config-here is s ∙ has.there) has.work_is
+    told-work f = ap2 (λ o u. at_one o (λ c. f c u)) (config-here is s ∙ has.there) has.work_is
 
     -- it is the group's own, and awaited
     pub own-task : (t.group ≡ e.core.group.id) × (t.permit ≡ e.core.group.gate) ×
         (slice_get (configs_of e.core.group) t.slot ≡ Some t.config)
-    own-task = (ap (λ (x : Task C). x.group) has.is, ap (λ (x : Task C). x.permit) has.is, rw has.is has.there)
+    own-task = (ap (λ x. x.group) has.is, ap (λ x. x.permit) has.is, rw has.is has.there)
 
     pub unawaited : (M : Meaning C) → IsRun M h → is_held w ≡ true
         → is_awaited t.slot t.generation (joined.group_events (joined_events g h)) ≡ false → ⊥
@@ -381,8 +377,7 @@ module _ {C : Type 0} {M : Meaning C} {h : History C} {g : ℕ} {e : EntryValue 
   -- a place written as it was
   pub left-so : (s : ℕ) {st : Step C} {r : Refusal} {x k : WorkValue C} → slice_get e.works s ≡ Some x → k ≡ x → group_at h st ≡ Some g
       → Answers M h st (Answer.Refused r) → EntryNext M h g st (Answer.Refused r) e z (record e { works = slice_set e.works s k }) z v
-  left-so s {st} {r} at same here right =
-      subst (λ (ws : List (WorkValue C)). EntryNext M h g st (Answer.Refused r) e z (record e { works = ws }) z v)
+  left-so s {st} {r} at same here right = subst (λ ws. EntryNext M h g st (Answer.Refused r) e z (record e { works = ws }) z v)
       (sym (ap (slice_set e.works s) same ∙ set-same e.works s _ at)) (next-refused b here right (stays b.is))
 
   -- the snapshot of what stood in the slot is let go
@@ -404,14 +399,15 @@ module _ {C : Type 0} {M : Meaning C} {h : History C} {g : ℕ} {e : EntryValue 
       inl (rw (b.is.made_is, (there-at (configs_of e.core.group) s within).1)
       (ap (asked (group.newest (group_events g h))) (rw (group-of g h, b.out) at to)))
 
-  pub next-asked : {S I W : Type 0} {s now : ℕ} (a : Ask S I C W) (t : AskAnswer) {core : JoinedValue C} {y : GateView} → ask_told a ≡ t
-      → ¬ (t ≡ job) → Asks (site e.core) (joined.group_events (joined_events g h)) s z.out now (Ok a)
+  pub next-asked : {S I W : Type 0} {s now : ℕ} (a : Ask S I C W) (t : AskAnswer) {x : Answer} {core : JoinedValue C} {y : GateView}
+      → ask_told a ≡ t → IsUngranted t x → Asks (site e.core) (joined.group_events (joined_events g h)) s z.out now (Ok a)
       → Moves e (joined.in_group (asked_events s now (ask_told a)) ++ joined_events g h) core → y ≡ asked_gate (ask_told a) z
-      → EntryNext M h g (Step.ask g s now) (asked (group.newest (group_events g h)) t) e z (with_core core e) y v
-  next-asked a job told off answers moves back = absurd (off refl)
-  next-asked {s = s} {now = now} a t told off answers moves back =
-      next-core b refl (ask-right s now t answers.0 (sym told ∙ answers.1)) (rw told at moves) refl (λ r. refl) (λ m. refl)
-      (rw told at back) (unshared b (Step.ask g s now) (asked (group.newest (group_events g h)) t) refl refl)
+      → EntryNext M h g (Step.ask g s now) x e z (with_core core e) y v
+  next-asked a job told is answers moves back = absurd is
+  next-asked {s = s} {now = now} a t told is answers moves back =
+      rw is
+      (next-core b refl (ask-right s now t answers.0 (sym told ∙ answers.1)) (rw told at moves) refl (λ r. refl) (λ m. refl)
+      (rw told at back) (unshared b (Step.ask g s now) (asked (group.newest (group_events g h)) t) refl refl))
 
   pub next-unasked : {s now : ℕ} (r : Refusal) {core : JoinedValue C} → r ≡ Refusal.NoSuch → length (configs_of e.core.group) ≤ s
       → Moves e (joined_events g h) core → EntryNext M h g (Step.ask g s now) (Answer.Refused r) e z (with_core core e) z v
@@ -433,9 +429,8 @@ module _ {C : Type 0} {M : Meaning C} {h : History C} {g : ℕ} {e : EntryValue 
       (λ c there.
       ap WorkValue.building
       (same-task own.group own.place (newest ∙ sym (newest-past s k))
-      (own.members ∙ ap (λ (k : group.History). group.order_members (past_of s k)) (group-of g h))
-      (same_Some j.config c (sym own.config ∙ there)) own.permit)
-      ∙ sym (ap (λ (q : group.History). held_of (origin e.core) s c q Work.building) (past-same s (group.Granted now) k)))
+      (own.members ∙ ap (λ k. group.order_members (past_of s k)) (group-of g h)) (same_Some j.config c (sym own.config ∙ there)) own.permit)
+      ∙ sym (ap (λ q. held_of (origin e.core) s c q Work.building) (past-same s (group.Granted now) k)))
       (λ m. refl) (rw told at back) (unshared b (Step.ask g s now) (Answer.Build j.generation) refl refl)
 
   module _ {s : ℕ} {j : Task C} (has : Holds h g s e j Work.building) where
@@ -446,9 +441,8 @@ module _ {C : Type 0} {M : Meaning C} {h : History C} {g : ℕ} {e : EntryValue 
         told-work b.is has
         (λ c w. of_job w (built_or_failed (granted (past g s h)) (M.refusal (members_of (granted (past g s h)) (group_events g h)) c)))
         ∙ ap (built_or_failed (granted (past g s h)))
-        (ap (λ (ms : List Member). M.refusal ms has.config) (sym members ∙ sym ((promised M h b.run).members_kept g s).under_way)
-        ∙ rw has.is at is)
-        ∙ ap (λ (x : Task C). built_or_failed x.generation r) (sym has.is)
+        (ap (λ ms. M.refusal ms has.config) (sym members ∙ sym ((promised M h b.run).members_kept g s).under_way) ∙ rw has.is at is)
+        ∙ ap (λ x. built_or_failed x.generation r) (sym has.is)
 
     -- a build that is done, and held from then on
     pub does-build : (now : ℕ) (x : BuiltValue C) → slice_get e.works s ≡ Some (WorkValue.building j) → M.refusal j.members j.config ≡ None
@@ -458,8 +452,8 @@ module _ {C : Type 0} {M : Meaning C} {h : History C} {g : ℕ} {e : EntryValue 
     does-build now x held none task_is ended_is =
         next-work b s refl (inl (sym (build-told now None none))) held (stays b.is) (λ r off. refl) (λ r. refl)
         (λ c there.
-        ap2 (λ (t : Task C) (n : ℕ). WorkValue.ready (record { task = t; ended = n }))
-        (task_is ∙ has.is ∙ ap (λ (d : C). last_job (origin e.core) s d (past g s h)) (same_Some has.config c (sym has.there ∙ there)))
+        ap2 (λ t n. WorkValue.ready (record { task = t; ended = n }))
+        (task_is ∙ has.is ∙ ap (λ d. last_job (origin e.core) s d (past g s h)) (same_Some has.config c (sym has.there ∙ there)))
         ended_is)
         (λ m. refl) refl (unshared b (Step.build g s now) (Answer.Built j.generation) refl refl)
 
@@ -474,7 +468,7 @@ module _ {C : Type 0} {M : Meaning C} {h : History C} {g : ℕ} {e : EntryValue 
             → IsRegistryAfter key_gives (key_of g h) es u
         let-go es new =
             released s j.generation es u
-            (ap (λ (x : Task C). x.generation) has.is
+            (ap (λ x. x.generation) has.is
             ∙ sym (aloft-number (granted (past g s h)) (extra (past g s h))
             (aloft M h g s Work.building (slots M h b.run) has.work_is refl)))
             new lets-go
@@ -501,7 +495,7 @@ module _ {C : Type 0} {M : Meaning C} {h : History C} {g : ℕ} {e : EntryValue 
         does-fail =
             let right : Answers M h (Step.failbuild g s now) (Answer.Failed j.generation) =
             inl (sym (told-work b.is has (λ c w. of_job w (Answer.Failed (granted (past g s h))))
-            ∙ ap (λ (x : Task C). Answer.Failed x.generation) (sym has.is))) in
+            ∙ ap (λ x. Answer.Failed x.generation) (sym has.is))) in
             next-work b s refl right held (rw has.is at moves) (elsewhere s _ (group_events g h)) (λ i. refl) (λ c there. refl) (λ m. refl)
             back
             (let-go _ (shares M h (Step.failbuild g s now) (Answer.Failed j.generation) (b.run, right) (made_of e) b.is.made_is))
@@ -510,7 +504,7 @@ module _ {C : Type 0} {M : Meaning C} {h : History C} {g : ℕ} {e : EntryValue 
   module _ {s : ℕ} {x : BuiltValue C} (has : Holds h g s e x.task (Work.built x.ended)) where
     built-told : (f : ℕ → Answer) → at_one (config g s h) (λ c. of_built (work g s h) (f (granted (past g s h)))) ≡ f x.task.generation
     built-told f =
-        told-work b.is has (λ c w. of_built w (f (granted (past g s h)))) ∙ sym (ap (λ (t : Task C). f t.generation) has.is)
+        told-work b.is has (λ c w. of_built w (f (granted (past g s h)))) ∙ sym (ap (λ t. f t.generation) has.is)
 
     pub does-abandon : {core : JoinedValue C} → slice_get e.works s ≡ Some (WorkValue.ready x)
         → Moves e (joined.At x.task.slot (group.Abandoned x.task.members) ∷ joined_events g h) core
@@ -531,8 +525,8 @@ module _ {C : Type 0} {M : Meaning C} {h : History C} {g : ℕ} {e : EntryValue 
       where
         tells : (b : Bool) → told_as (cond b (Told.Published (granted (past g s h))) (Told.Abandoned (granted (past g s h))))
             ≡ cond b (Answer.Published x.task.generation) (Answer.Abandoned x.task.generation)
-        tells true = ap (λ (t : Task C). Answer.Published t.generation) (sym has.is)
-        tells false = ap (λ (t : Task C). Answer.Abandoned t.generation) (sym has.is)
+        tells true = ap (λ t. Answer.Published t.generation) (sym has.is)
+        tells false = ap (λ t. Answer.Abandoned t.generation) (sym has.is)
 
         by-told : (t : Told) → Moves e (joined.in_group (publish_events x (Ok t)) ++ joined_events g h) core
             → Answers M h (Step.publish g s) (told_as t)

@@ -73,15 +73,15 @@ listed_members ls ms =
     let strange = any_folded (λ x. not (known x)) (λ a b same. ap not (list_any_congr member_laws a b ms same)) [] xs in
     ap (λ b. b && list_all (λ y. list_any (λ l. some_and (same_member y) l.backend) ls) ms)
     (all_there known ls ∙ all-not known xs ∙ sym (ap not strange) ∙ sym (all-not known (set_of xs)))
-    ∙ ap (λ (f : Member → Bool). list_all known (set_of xs) && list_all f ms)
+    ∙ ap (λ f. list_all known (set_of xs) && list_all f ms)
     (λ i y. (one_there (same_member y) ls ∙ sym (any_folded (same_member y) (alike y) [] xs)) i)
 
 -- one listing more
 pub member-more : (ls : List Listing) (l : Listing) → members_in (ls ++ l ∷ []) ≡ with_key l.backend (members_in ls)
-member-more ls l = grind (arith, common_steps, filter_map-append (λ (l : Listing). l.backend) ls (l ∷ []))
+member-more ls l = grind (arith, common_steps, filter_map-append (λ l. l.backend) ls (l ∷ []))
 
 pub setting-more : (ls : List Listing) (l : Listing) → settings_in (ls ++ l ∷ []) ≡ set_marked (marked l.backend l.mark) (settings_in ls)
-setting-more ls l = grind (arith, common_steps, filter_map-append (λ (l : Listing). marked l.backend l.mark) ls (l ∷ []))
+setting-more ls l = grind (arith, common_steps, filter_map-append (λ l. marked l.backend l.mark) ls (l ∷ []))
 
 -- a setting is seen as one of a backend of that identity
 abbrev pub bare : SocketAddr × ℕ → Member
@@ -95,7 +95,7 @@ insert-seen cmp agrees (e ∷ es) k on = grind (arith, common_steps, insert-seen
 
 -- the first occurrences are apart, and none of them was there before
 firsts-apart : {B : Type 0} {same : B → B → Bool} (laws : IsEquivalence same) (before xs : List B)
-    → Each (λ (y : B). list_any (same y) before ≡ false) (firsts same before xs) × IsDistinct same (firsts same before xs)
+    → Each (λ y. list_any (same y) before ≡ false) (firsts same before xs) × IsDistinct same (firsts same before xs)
 unfolding IsDistinct
 firsts-apart laws before [] = (tt, tt)
 firsts-apart {B} {same} laws before (x ∷ xs) =
@@ -104,12 +104,12 @@ firsts-apart {B} {same} laws before (x ∷ xs) =
     let parts = λ (y : B) (e : list_any (same y) (before ++ x ∷ []) ≡ false).
     or_parts (list_any (same y) before) (same y x || false) (sym (list_any-append (same y) before (x ∷ [])) ∙ e) in
     let old = each-impl _ (λ y e. (parts y e).0) fs rest.0 in
-    cond_both (list_any (same x) before) fs (x ∷ fs) (λ zs. Each (λ (y : B). list_any (same y) before ≡ false) zs × IsDistinct same zs)
+    cond_both (list_any (same x) before) fs (x ∷ fs) (λ zs. Each (λ y. list_any (same y) before ≡ false) zs × IsDistinct same zs)
     (λ e. (old, rest.1))
     (λ e. ((e, old), (each-impl _ (λ y f. laws.symm x y ∙ (or_parts (same y x) false (parts y f).1).0) fs rest.0, rest.1)))
 
 -- and so are the keys of those that pass a test
-each-map : (P : Member → Type 0) (cs : List Candidate) → Each (λ (c : Candidate). P c.key) cs → Each P (map (λ c. c.key) cs)
+each-map : (P : Member → Type 0) (cs : List Candidate) → Each (λ c. P c.key) cs → Each P (map (λ c. c.key) cs)
 each-map P [] a = tt
 each-map P (c ∷ cs) a = (a.0, each-map P cs a.1)
 
@@ -119,7 +119,7 @@ unfolding IsDistinct
 keys-apart p [] d = tt
 keys-apart p (c ∷ cs) d =
     let rest = keys-apart p cs d.1 in
-    cond_both (p c) (c ∷ filter p cs) (filter p cs) (λ (ds : List Candidate). IsDistinct same_member (map (λ c. c.key) ds))
+    cond_both (p c) (c ∷ filter p cs) (filter p cs) (λ ds. IsDistinct same_member (map (λ c. c.key) ds))
     (λ e. (each-map _ (filter p cs) (each-filter _ p cs d.0), rest)) (λ e. rest)
 
 module _ (key_of : Member → Member) (views : List ViewValue) where
@@ -128,8 +128,7 @@ module _ (key_of : Member → Member) (views : List ViewValue) where
 
   -- a test of keys that doesn't tell those of one identity apart
   new-alike : (j k : Member) → same_member j k ≡ true → is-new j ≡ is-new k
-  new-alike j k e =
-      ap (λ (f : Member → Bool). not (list_any (λ (c : Candidate). f c.key) (candidates key_of views))) (λ i m. member_laws.congr j k m e i)
+  new-alike j k e = ap (λ (f : Member → Bool). not (list_any (λ c. f c.key) (candidates key_of views))) (λ i m. member_laws.congr j k m e i)
 
   -- whether a key is a new one among those of the listed backends
   lists-new : (k : Member) (ls : List Listing)
@@ -159,18 +158,17 @@ module _ (key_of : Member → Member) (views : List ViewValue) where
   set-starts one id ls =
       let cs = candidates_of key_of id (members_in ls) in
       let passes = λ (c : Candidate). is-new c.key in
-      sym (length-map (filter passes (distinct same_key cs)) (λ (c : Candidate). c.key))
+      sym (length-map (filter passes (distinct same_key cs)) (λ c. c.key))
       ∙ length-from_keys member_laws (map (λ c. c.key) (filter passes (distinct same_key cs))) (filter is-new (map key_of (present ls)))
       (keys-apart passes (distinct same_key cs) (firsts-apart key_laws [] cs).1)
       (λ k.
       let of-key = λ (m : Member). same_member k (key_of m) in
-      any-map (λ (c : Candidate). c.key) (same_member k) (filter passes (distinct same_key cs))
+      any-map (λ c. c.key) (same_member k) (filter passes (distinct same_key cs))
       ∙ is_member-filter key_laws passes (record { place = record { backend = k; view = id }; key = k }) (λ x s. new-alike k x.key s)
       (distinct same_key cs)
       ∙ ap (λ b. b && is-new k)
-      (any-distinct (λ (c : Candidate). same_member k c.key) (λ c d s. alike k c.key d.key s) cs
-      ∙ any-map (λ (m : Member). record { place = record { backend = m; view = id }; key = key_of m })
-      (λ (c : Candidate). same_member k c.key) (members_in ls)
+      (any-distinct (λ c. same_member k c.key) (λ c d s. alike k c.key d.key s) cs
+      ∙ any-map (λ m. record { place = record { backend = m; view = id }; key = key_of m }) (λ c. same_member k c.key) (members_in ls)
       ∙ any_folded of-key (λ a b s. alike k (key_of a) (key_of b) (one a b s)) [] (present ls) ∙ sym (one_there of-key ls))
       ∙ sym (lists-new k ls))
 

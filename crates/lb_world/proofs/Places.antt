@@ -2,8 +2,8 @@
 use Rattle.std.proofs.Common.{get_or, replicate, suc, zero}
 use Rattle.std.proofs.lemmas.List.{set-get_or}
 use Rattle.std.proofs.lemmas.Option.{get_or_from_slice_get, slice_get-get_or, slice_get_cases}
-use Rattle.lb_world.proofs.Words.{◌∷◌, ◌<◌, ◌∙◌, ◌⊎◌, ◌≡◌, ◌++◌, ◌≤◌, [], ap, cases_eq, get-pushed, inl, inr, length, List, None}
-use Rattle.lb_world.proofs.Words.{none-some, Option, refl, same_Some, set_found, slice_get, slice_set, Some, subst, sym, ℕ}
+use Rattle.lb_world.proofs.Words.{◌∷◌, ◌<◌, ◌∙◌, ◌⊎◌, ◌≡◌, ◌++◌, ◌≤◌, [], ap, cases_eq, get-pushed, inl, inr, length, List, None, none-some}
+use Rattle.lb_world.proofs.Words.{Option, refl, same_Some, set_found, slice_get, slice_set, Some, subst, sym, ℕ}
 
 module _ {X : Type 0} where
   -- elsewhere nothing changed
@@ -41,7 +41,7 @@ module _ {X : Type 0} where
       → (j : ℕ) (z : X) → slice_get (slice_set xs i y) j ≡ Some z → Q j z
   each-set {Q} xs i x y was new old j z at =
       elim (get_set xs i j x y z was at) [
-        | inl p ↦ subst (λ (k : ℕ). Q k z) (sym p.0) (subst (Q i) (sym p.1) new)
+        | inl p ↦ subst (λ k. Q k z) (sym p.0) (subst (Q i) (sym p.1) new)
         | inr p ↦ old j z p.0 p.1
       ]
 
@@ -50,7 +50,7 @@ module _ {X : Type 0} where
       → (j : ℕ) (z : X) → slice_get (xs ++ y ∷ []) j ≡ Some z → Q j z
   each-push {Q} xs y new old j z at =
       elim (get-pushed xs y z j at) [
-        | inl p ↦ subst (λ (k : ℕ). Q k z) (sym p.0) (subst (Q (length xs)) (sym p.1) new)
+        | inl p ↦ subst (λ k. Q k z) (sym p.0) (subst (Q (length xs)) (sym p.1) new)
         | inr p ↦ old j z p.0 p.1
       ]
 

@@ -33,8 +33,8 @@ use Rattle.lb_world.proofs.Words.{gates, GateView, get-kept, get-pushed, group-o
 use Rattle.lb_world.proofs.Words.{inr, is_at, is_out, IsOwnReader, IsReady, IsRegistryAfter, IsRun, IsTrue, joined_events, Judges, key_at}
 use Rattle.lb_world.proofs.Words.{key_by, key_gives, key_in, key_of, length, length-map, length-set, length_push, List, load_of, lt-ltb}
 use Rattle.lb_world.proofs.Words.{made, Made, made_at, made_of, map, map-append, marks_start_none, MatchOption, Meaning, Member, nat_lt}
-use Rattle.lb_world.proofs.Words.{ne_eqb, no_number, None, none-some, not, Ok, Option, option_map, origin, Origin, others-stay, past}
-use Rattle.lb_world.proofs.Words.{past_of, permit_after, refl, Refusal, refuse, refused-alike, registries, registry_at, registry_events}
+use Rattle.lb_world.proofs.Words.{ne_eqb, no_number, None, none-some, not, Ok, Option, option_map, origin, others-stay, past, past_of}
+use Rattle.lb_world.proofs.Words.{permit_after, refl, Refusal, refuse, refused-alike, registries, registry_at, registry_events}
 use Rattle.lb_world.proofs.Words.{RegistryMade, RegistryValue, Result, same_member, same_Some, served, set_found, site, slice_get}
 use Rattle.lb_world.proofs.Words.{slice_get_past, slice_get_within, slice_set, Some, Stands, Step, subst, sym, there-at, true}
 use Rattle.lb_world.proofs.Words.{unless_refused, unrefused, views_of, where_, with_core, without_memory, work, worked, works_at, WorldRule}
@@ -54,7 +54,7 @@ module _ {C : Type 0} where
   entry-moves {e = e} m j p w l is =
       record {
         made_is = m;
-        core_is = subst (λ (es : joined.History). stands.Stands (site e.core) es e.core) (sym j) is.core_is;
+        core_is = subst (λ es. stands.Stands (site e.core) es e.core) (sym j) is.core_is;
         works_in = is.works_in;
         works_are =
             λ s c x cs xs. is.works_are s c x cs xs ∙ ap2 (held_of (origin e.core) s c) (ap (past_of s) (sym p)) (sym (w s));
@@ -73,7 +73,7 @@ module _ {C : Type 0} where
   loads-else : (h : History C) (st : Step C) (a : Answer) (g i : ℕ) (b : Member) → group_at h st ≡ Some g → ¬ (i ≡ g)
       → load_of i b ((st, a) ∷ h) ≡ load_of i b h
   loads-else h (Step.load x (Some c) l) Answer.Done g i b at off =
-      ap (λ (t : Bool). cond t l (load_of i b h)) (beside x i (same_member c b) (λ p. off (p ∙ same_Some x g at)))
+      ap (λ t. cond t l (load_of i b h)) (beside x i (same_member c b) (λ p. off (p ∙ same_Some x g at)))
   loads-else h st a g i b at off = refl
 
   entry-else : (h : History C) (st : Step C) (a : Answer) (g i : ℕ) (e : EntryValue C) → group_at h st ≡ Some g → ¬ (i ≡ g)
@@ -81,9 +81,8 @@ module _ {C : Type 0} where
   entry-else h st a g i e at off is =
       let stays = others-stay h st a in
       let away : is_at i (group_at h st) ≡ false = ap (is_at i) at ∙ ne_eqb g i (λ p. off (sym p)) in
-      entry-moves (ap (λ (ms : List (Made C)). slice_get ms i) (at-group h st a g at).made_are ∙ is.made_is)
-      (stays.joined i away) (stays.groups i away)
-      (λ s. ap (λ (t : Bool). cond t (worked st a (work i s h)) (work i s h)) (works-else h st g i s at off))
+      entry-moves (ap (λ ms. slice_get ms i) (at-group h st a g at).made_are ∙ is.made_is) (stays.joined i away) (stays.groups i away)
+      (λ s. ap (λ t. cond t (worked st a (work i s h)) (work i s h)) (works-else h st g i s at off))
       (λ b. loads-else h st a g i b at off) is
 
 module _ {C : Type 0} {M : Meaning C} {w : WorldValue C} {h : History C} (s : Stands M w h) where
@@ -105,7 +104,7 @@ module _ {C : Type 0} {M : Meaning C} {w : WorldValue C} {h : History C} (s : St
         outs = λ x z in_. s.outs x z in_ ∙ sym (outs x);
         each = λ g e in_.
             let is = s.each g e in_ in
-            entry-moves (ap (λ (xs : List (Made C)). slice_get xs g) ms ∙ is.made_is) (joins g) (groups g) (works g) (loads g) is;
+            entry-moves (ap (λ xs. slice_get xs g) ms ∙ is.made_is) (joins g) (groups g) (works g) (loads g) is;
         on_site = λ g e in_.
             let on = s.on_site g e in_ in
             record { view = on.view; gate = on.gate; id = on.id; registry = omega (arith, more, on.registry) };
@@ -117,8 +116,7 @@ module _ {C : Type 0} {M : Meaning C} {w : WorldValue C} {h : History C} (s : St
       registries-set k w.registries run (s.registries_are ∙ ap length e.rest.registries_made) (omega arith) (sym e.rest.gates_made)
       (sym e.rest.groups_made) (sym e.rest.readers)
       (λ r v there.
-      rw (← e.rest.shared r)
-      (subst (λ (rs : List RegistryMade). IsRegistryAfter key_gives (key_in (slice_get rs r)) (registry_events r h) v)
+      rw (← e.rest.shared r) (subst (λ rs. IsRegistryAfter key_gives (key_in (slice_get rs r)) (registry_events r h) v)
       e.rest.registries_made (s.kept r v there)))
       (λ g. sym (e.joined g)) (λ g. sym (e.groups g)) (λ g i. sym (e.rest.works g i)) (λ g b. sym (e.rest.loads g b))
       (λ x. sym (e.rest.outs x))
@@ -147,7 +145,7 @@ pub founded-by : {C : Type 0} {M : Meaning C} {v w x : WorldValue C} {st : Step 
 founded-by {C = C} {M = M} {st = st} {a = a} same was then_ =
     record {
       history = (st, a) ∷ was.history;
-      stands = then_ was.history (subst (λ (u : WorldValue C). Stands M u was.history) same was.stands);
+      stands = then_ was.history (subst (λ u. Stands M u was.history) same was.stands);
     }
 
 module _ {C : Type 0} {M : Meaning C} {w : WorldValue C} {h : History C} (s : Stands M w h) where
@@ -184,8 +182,7 @@ module _ {C : Type 0} {M : Meaning C} {w : WorldValue C} {h : History C} (s : St
             record {
               view = y;
               gate = ap (slice_get (slice_set w.gates e.gate y)) p ∙ set_found w.gates e.gate z y there;
-              id = same
-                  ∙ ap (λ (t : GateView). t.id) (same_Some z on.view (sym there ∙ ap (slice_get w.gates) (sym p ∙ a) ∙ on.gate)) ∙ on.id ∙
+              id = same ∙ ap (λ t. t.id) (same_Some z on.view (sym there ∙ ap (slice_get w.gates) (sym p ∙ a) ∙ on.gate)) ∙ on.id ∙
                   sym i;
               registry = inside;
             }
@@ -205,7 +202,7 @@ module _ {C : Type 0} {M : Meaning C} {w : WorldValue C} {h : History C} (s : St
   own-kept g e d there same t r held x in_ =
       elim (get_set w.groups g r.group e d x there in_) [
         | inl p ↦
-            s.own t r held e (ap (slice_get w.groups) p.0 ∙ there) ∙ sym (ap (λ (y : EntryValue C). y.core.group.id) p.1 ∙ same)
+            s.own t r held e (ap (slice_get w.groups) p.0 ∙ there) ∙ sym (ap (λ y. y.core.group.id) p.1 ∙ same)
         | inr p ↦ s.own t r held x p.1
       ]
 
@@ -227,7 +224,7 @@ module _ {C : Type 0} {M : Meaning C} {w : WorldValue C} {h : History C} (s : St
   world-moves g st a e d z y u v rs at reads owns there gate-there registry-there next =
       let is = s.each g e there in
       let now = at-group h st a g at in
-      let same-id : y.id ≡ z.id = ap (λ (x : GateView). x.id) next.out in
+      let same-id : y.id ≡ z.id = ap (λ x. x.id) next.out in
       let gate-at : gate_in h (group_at h st) ≡ Some e.gate = ap (gate_in h) at ∙ gate-here is in
       let registry-at : registry_at h st ≡ Some e.registry = now.registry_is ∙ registry-here is in
       record {
@@ -237,8 +234,7 @@ module _ {C : Type 0} {M : Meaning C} {w : WorldValue C} {h : History C} (s : St
         groups_are = length-set w.groups g d ∙ s.groups_are ∙ ap length (sym now.made_are);
         readers_are = reads;
         kept = λ r x found_.
-            subst (λ (ms : List RegistryMade). IsRegistryAfter key_gives (key_in (slice_get ms r)) (registry_events r ((st, a) ∷ h)) x)
-            (sym now.registries_are)
+            subst (λ ms. IsRegistryAfter key_gives (key_in (slice_get ms r)) (registry_events r ((st, a) ∷ h)) x) (sym now.registries_are)
             (each-set {Q = λ (i : ℕ) (t : RegistryValue WorldRule). IsRegistryAfter key_gives (key_at i h)
             (registry_events i ((st, a) ∷ h)) t}
             w.registries e.registry u v registry-there (rw (key-here is) at next.kept)
@@ -246,18 +242,17 @@ module _ {C : Type 0} {M : Meaning C} {w : WorldValue C} {h : History C} (s : St
             rw ((others-stay h st a).registries i (ap (is_at i) registry-at ∙ ne_eqb e.registry i (λ q. off (sym q)))) (s.kept i t was)) r
             x found_);
         outs =
-            each-set w.gates e.gate z y gate-there
-            (ap (λ (t : GateView). t.out) next.out ∙ ap (permit_after st a) (s.outs e.gate z gate-there)
+            each-set w.gates e.gate z y gate-there (ap (λ t. t.out) next.out ∙ ap (permit_after st a) (s.outs e.gate z gate-there)
             ∙ sym (taken (permit_after st a (is_out e.gate h)) (is_out e.gate h) e.gate (gate_in h (group_at h st)) gate-at))
             (λ x q off was.
             s.outs x q was
-            ∙ sym (ap (λ (t : Bool). cond t (permit_after st a (is_out x h)) (is_out x h))
+            ∙ sym (ap (λ t. cond t (permit_after st a (is_out x h)) (is_out x h))
             (ap (is_at x) gate-at ∙ ne_eqb e.gate x (λ p. off (sym p)))));
         each = each-set w.groups g e d there next.is (λ i x off was. entry-else h st a g i x at off (s.each i x was));
         on_site =
             each-set w.groups g e d there
             (placed (slice_set w.groups g d) rs e e d z y v gate-there same-id next.registry_is next.gate_is
-            (ap (λ (o : Origin). o.gate) next.origin_is) (s.on_site g e there))
+            (ap (λ o. o.gate) next.origin_is) (s.on_site g e there))
             (λ i x off was. placed (slice_set w.groups g d) rs e x x z y v gate-there same-id refl refl refl (s.on_site i x was));
         own = owns;
       }
@@ -288,7 +283,7 @@ module _ {C : Type 0} {M : Meaning C} {w : WorldValue C} {h : History C} (s : St
       registries-set s k (slice_set w.registries r v) run (length-set w.registries r v ∙ s.registries_are ∙ ap length (sym rs))
       (omega (arith, length-set w.registries r v)) zs ms es
       (λ i x found_.
-      subst (λ (ms : List RegistryMade). IsRegistryAfter key_gives (key_in (slice_get ms i)) (registry_events i k) x) (sym rs)
+      subst (λ ms. IsRegistryAfter key_gives (key_in (slice_get ms i)) (registry_events i k) x) (sym rs)
       (each-set {Q = λ (i : ℕ) (t : RegistryValue WorldRule). IsRegistryAfter key_gives (key_at i h) (registry_events i k) t}
       w.registries r u v there now (λ i t off was. rw (others i off) (s.kept i t was)) i x found_))
       joins groups works loads outs
@@ -314,7 +309,7 @@ Tells u P = (key_of : Member → Member) (events : List Event) → IsRegistryAft
 
 -- a number is left
 pub number-left : (n : ℕ) → n < 2 ^ 64 → no_number n ≡ None
-number-left n few = ap (λ (b : Bool). where_ b Refusal.NumbersExhausted) (lt-leb (2 ^ 64) n few)
+number-left n few = ap (λ b. where_ b Refusal.NumbersExhausted) (lt-leb (2 ^ 64) n few)
 
 -- what a refused call says, of the refusal itself
 pub refused-so : {A : Type 0} {e f : Refusal} → (let r : Result A Refusal = Err e in r ≡ Err f) → e ≡ f
@@ -349,7 +344,7 @@ targets-of : (o : Option RegistryMade) (m : RegistryMade) (events : List Event) 
     (Answer.Targets (targets_after (key_by m.rule) (Applied ∷ events)))) ≡ Answer.Targets (targets_after (key_in o) (Applied ∷ events))
 targets-of None m events there few = absurd (none-some m there)
 targets-of (Some x) m events there few =
-    ap (λ (o : Option Refusal). unless_refused o (Answer.Targets (targets_after (key_by x.rule) (Applied ∷ events)))) (number-left _ few)
+    ap (λ o. unless_refused o (Answer.Targets (targets_after (key_by x.rule) (Applied ∷ events)))) (number-left _ few)
 
 slot-on : {C : Type 0} (s x : ℕ) (o : Option (Made C)) → gate_at s o ≡ Some x → (m : Made C) × ((o ≡ Some m) × (m.gate ≡ x))
 slot-on s x None e = absurd (none-some x e)
@@ -427,7 +422,7 @@ module _ {C : Type 0} {M : Meaning C} {w : WorldValue C} {h : History C} (s : St
   registry-made rule healthy n v number new =
       registries-set s ((Step.registry rule healthy, Answer.Registry n) ∷ h) (w.registries ++ v ∷ [])
       (s.run, inl (ap Answer.Registry (number ∙ s.registries_are)))
-      (length_push w.registries v ∙ ap (λ (k : ℕ). k + 1) s.registries_are ∙ sym (length_push (registries h) _))
+      (length_push w.registries v ∙ ap (λ k. k + 1) s.registries_are ∙ sym (length_push (registries h) _))
       (omega (arith, length_push w.registries v)) refl refl refl
       (each-push w.registries v (rw (s.registries_are, eq-eqb (length (registries h)) (length (registries h)) refl, get_last) new)
       (λ i x low was.
@@ -445,7 +440,7 @@ module _ {C : Type 0} {M : Meaning C} {w : WorldValue C} {h : History C} (s : St
       let e = there-at w.groups whose.0 (omega (arith, slice_get_within (made h) whose.0 m.0 m.1.0, s.groups_are)) in
       let on = s.on_site whose.0 e.0 e.1 in
       let gate_is : e.0.gate ≡ length w.gates =
-      ap (λ (t : Made C). t.gate) (same_Some (made_of e.0) m.0 (sym (s.each whose.0 e.0 e.1).made_is ∙ m.1.0)) ∙ m.1.1 in
+      ap (λ t. t.gate) (same_Some (made_of e.0) m.0 (sym (s.each whose.0 e.0 e.1).made_is ∙ m.1.0)) ∙ m.1.1 in
       absurd (omega (arith, slice_get_within w.gates e.0.gate on.view on.gate, gate_is))
 
   pub gate-made : (n : ℕ) (z : GateView) → n ≡ length w.gates → z.out ≡ false
@@ -454,7 +449,7 @@ module _ {C : Type 0} {M : Meaning C} {w : WorldValue C} {h : History C} (s : St
       record {
         run = (s.run, inl (ap Answer.Gate (number ∙ s.gates_are)));
         registries_are = s.registries_are;
-        gates_are = length_push w.gates z ∙ ap (λ (k : ℕ). k + 1) s.gates_are;
+        gates_are = length_push w.gates z ∙ ap (λ k. k + 1) s.gates_are;
         groups_are = s.groups_are;
         readers_are = s.readers_are;
         kept = s.kept;
@@ -481,7 +476,7 @@ module _ {C : Type 0} (M : Meaning C) where
         | inl p ↦
             let c = found-of {C = C} (Step.enter g s) (config g s h) _ (Answer.Reader u n) refl run.1 in
             let same : e ≡ record { group = g; slot = s; generation = n } = same_Some _ _ p.1 in
-            (c.0, ap (λ (x : Entered). config x.group x.slot h) same ∙ c.1)
+            (c.0, ap (λ x. config x.group x.slot h) same ∙ c.1)
         | inr p ↦ entered-there h run.0 t e p.1
       ]
   entered-there ((Step.leave u, Answer.Left n) ∷ h) run t e at = entered-there h run.0 t e (still-there (entries h) u t e at)
@@ -496,8 +491,7 @@ free-told x n a few left = rw (ne_eqb x 18446744073709551615 left, ne_eqb n 1844
 module _ {C : Type 0} {M : Meaning C} {w : WorldValue C} {h : History C} (s : Stands M w h) where
   pub entered-in : (t : ℕ) (x : Option (HeldValue C)) → slice_get w.readers t ≡ Some x
       → slice_get (entries h) t ≡ Some (option_map entered_of x)
-  entered-in t x there_ =
-      ap (λ (es : List (Option Entered)). slice_get es t) (sym s.readers_are) ∙ slice_get-map (option_map entered_of) w.readers t
+  entered-in t x there_ = ap (λ es. slice_get es t) (sym s.readers_are) ∙ slice_get-map (option_map entered_of) w.readers t
       ∙ ap (option_map (option_map entered_of)) there_
 
   entries-count : length (entries h) ≡ length w.readers
@@ -518,7 +512,7 @@ module _ {C : Type 0} {M : Meaning C} {w : WorldValue C} {h : History C} (s : St
       -- what is answered, by the number of readers that was read
       enter-told : answer_after M h (Step.enter g slot) ≡ at_one r (λ n. enter_answer n (length w.readers) (served (past g slot h)))
       enter-told =
-          ap (λ (m : ℕ). at_one (config g slot h)
+          ap (λ m. at_one (config g slot h)
           (λ c. enter_answer (group.readers (served (past g slot h)) (past g slot h)) m (served (past g slot h)))) entries-count
           ∙ reading-told (s.each g e there_) slot (λ p. group.readers (served p) p)
           (λ n. enter_answer n (length w.readers) (served (past g slot h))) r to
@@ -559,27 +553,27 @@ module _ {C : Type 0} {M : Meaning C} {w : WorldValue C} {h : History C} (s : St
         entered-now t d rs q rest grown number moves answers own =
             let st : Step C = Step.enter g slot in
             let a = Answer.Reader t q.generation in
-            let is : q.generation ≡ served (past g slot h) = answers.2 ∙ ap (λ (p : group.History). served (past_of slot p)) (group-of g h)
+            let is : q.generation ≡ served (past g slot h) = answers.2 ∙ ap (λ p. served (past_of slot p)) (group-of g h)
             in
             let right : Answers M h st a = inl (ap2 Answer.Reader number is ∙ sym enters-as) in
             group-moves s g st a e d rs refl
             (ap (map (option_map entered_of)) grown ∙ map-append (option_map entered_of) w.readers
             (Some (record { group = g; reader = q }) ∷ [])
-            ∙ ap2 (λ (es : List (Option Entered)) (i : ℕ). es ++ Some (record { group = g; slot = i; generation = q.generation }) ∷ [])
+            ∙ ap2 (λ es i. es ++ Some (record { group = g; slot = i; generation = q.generation }) ∷ [])
             s.readers_are answers.1)
             (λ i y held z in_.
             elim (get-pushed w.readers (Some (record { group = g; reader = q })) (Some y) i (rw grown at held)) [
               | inl p ↦
                   let mine : y ≡ record { group = g; reader = q } = same_Some _ _ p.1 in
                   let here_ : slice_get (slice_set w.groups g d) g ≡ Some z =
-                  ap (λ (v : HeldValue C). slice_get (slice_set w.groups g d) v.group) (sym mine) ∙ in_ in
-                  ap (λ (v : HeldValue C). v.reader.group) mine ∙ own
-                  ∙ ap (λ (v : EntryValue C). v.core.group.id) (same_Some d z (sym (set_found w.groups g e d there_) ∙ here_))
+                  ap (λ v. slice_get (slice_set w.groups g d) v.group) (sym mine) ∙ in_ in
+                  ap (λ v. v.reader.group) mine ∙ own
+                  ∙ ap (λ v. v.core.group.id) (same_Some d z (sym (set_found w.groups g e d there_) ∙ here_))
               | inr p ↦ own-kept s g e d there_ moves.0.group.id i y p.1 z in_
             ])
             there_
             (λ z u b.
-            subst (λ (y : EntryValue C). EntryNext M h g st a e z y z u) (sym rest)
+            subst (λ y. EntryNext M h g st a e z y z u) (sym rest)
             (next-core b refl right moves refl (λ i. refl) (λ m. refl) refl (unshared b st a refl refl)))
 
         -- the core refused it for memory
@@ -596,7 +590,7 @@ module _ {C : Type 0} {M : Meaning C} {w : WorldValue C} {h : History C} (s : St
             group-moves s g st (Answer.Refused f) e d rs refl (ap (map (option_map entered_of)) kept ∙ s.readers_are)
             (λ i y held z in_. own-kept s g e d there_ moves.0.group.id i y (rw kept at held) z in_) there_
             (λ z u b.
-            subst (λ (y : EntryValue C). EntryNext M h g st (Answer.Refused f) e z y z u) (sym rest)
+            subst (λ y. EntryNext M h g st (Answer.Refused f) e z y z u) (sym rest)
             (next-refused b refl right moves))
 
   -- nobody leaves
@@ -650,10 +644,10 @@ module _ {C : Type 0} {M : Meaning C} {w : WorldValue C} {h : History C} (s : St
       let a = Answer.Left r.reader.generation in
       let here_ : group_at h st ≡ Some r.group = ap group_in at in
       group-moves s r.group st a e d _ here_
-      (map-set (option_map entered_of) w.readers t None ∙ ap (λ (es : List (Option Entered)). slice_set es t None) s.readers_are)
+      (map-set (option_map entered_of) w.readers t None ∙ ap (λ es. slice_set es t None) s.readers_are)
       (λ i y held z in_now. own-kept s r.group e d in_ moves.0.group.id i y (still-there w.readers t i y held) z in_now) in_
       (λ z u b.
-      subst (λ (y : EntryValue C). EntryNext M h r.group st a e z y z u) (sym rest)
+      subst (λ y. EntryNext M h r.group st a e z y z u) (sym rest)
       (next-core b here_ (inl (sym (ap leave_answer at))) (rw at moves) refl (λ i. refl) (λ m. refl) refl (unshared b st a here_ refl)))
 
   -- nobody is asked

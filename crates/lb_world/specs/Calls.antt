@@ -9,11 +9,13 @@ use Rattle.lb_select.specs.Loads.{load_in}
 use Rattle.lb_select.specs.declared.refusal.Refusal.{Refusal}
 use Rattle.lb_select.specs.declared.refusal.Refusal.TheVariants as refusal
 use Rattle.lb_group.specs.GroupCalls.{is_read}
+use Rattle.lb_group.specs.GroupHistory.{AskAnswer, job}
 use Rattle.lb_group.specs.Stands.{Made}
 use Rattle.lb_group.specs.declared.answers.Selection.{Selection}
 use Rattle.lb_group.specs.declared.answers.Told.{Told}
 use Rattle.lb_group.specs.declared.schedule.Scheduled.{Scheduled}
 use Rattle.lb_group.specs.declared.answers.Told.TheVariants as told
+use Rattle.lb_history.specs.Answers.{asked}
 use Rattle.lb_history.specs.declared.answer.Answer.{Answer}
 use Rattle.lb_history.specs.declared.answer.Answer.TheVariants as answer
 use Rattle.lb_joined.specs.JoinedHistory.{History, group_events}
@@ -33,6 +35,11 @@ number_of (Some (Some n)) = n
 abbrev pub told_as : Told → Answer
 told_as (told.Published n) = answer.Published n
 told_as (told.Abandoned n) = answer.Abandoned n
+
+-- the answer to an ask that grants no job
+abbrev pub IsUngranted : AskAnswer → Answer → Type 0
+IsUngranted job a = ⊥
+IsUngranted t a = a ≡ asked 0 t
 
 -- a selection as an answer: one that was refused for memory may have moved the counter of tickets
 abbrev pub selected_as : Result (Option Member) Refusal → ℕ → Answer

@@ -1,8 +1,13 @@
 //! A group of a world: its core with the numbers of its registry and its gate, what is held for its slots, and its loads.
 //! Each call here is a step at the group; its contract is told by the world's history, with the group's number as a parameter.
 ghost use Rattle.std.specs.Prelude.{◌≡◌, ℕ, Some, if◌then◌else◌};
+ghost use Rattle.lb_group.specs.GroupCalls.{at_slot};
+ghost use Rattle.lb_group.specs.GroupHistory.{past_of};
+ghost use Rattle.lb_history.specs.Answers.{numbers_of};
 ghost use Rattle.lb_history.specs.Meanings.{meaning_of};
 ghost use Rattle.lb_history.specs.Steps as seen;
+ghost use Rattle.lb_joined.specs.JoinedHistory.{group_events};
+ghost use Rattle.lb_joined.specs.Stands.{After};
 ghost use Rattle.lb_world.specs.Locals.{local_seen, IsWhole};
 ghost use Rattle.lb_world.specs.Stands.{IsEntry, Does, DoesAtRegistry, DoesAlone};
 
@@ -120,24 +125,24 @@ impl<S: BackendSelection> Entry<S> {
         ensures { DoesAlone (meaning_of S.BackendSelection) (λ (g : ℕ). seen.counts g slot)
             self.now result self.now }
     {
-        let core = &self.core;
-        match (
-            core.served(slot),
-            core.flight(slot),
-            core.is_waiting(slot),
-            core.counts(slot),
-        ) {
-            (Some(served), Some(flight), Some(waiting), Some(counts)) => Answer::Numbers(
-                SlotCounts {
-                    newest: core.newest(),
-                    served,
-                    flight,
-                    waiting,
-                    counts,
-                },
-            ),
-            _ => Answer::Refused(Refusal::NoSuch),
+        match self.numbers(slot) {
+            Some(numbers) => Answer::Numbers(numbers),
+            None => Answer::Refused(Refusal::NoSuch),
         }
+    }
+
+    // What the core counts at a slot, if it is there.
+    fn numbers(&self, slot: usize) -> Option<SlotCounts>
+        ensures { After self.now.core (λ made e. result ≡ at_slot made slot (numbers_of (past_of slot (group_events e)))) }
+    {
+        let core = &self.core;
+        Some(SlotCounts {
+            newest: core.newest(),
+            served: core.served(slot)?,
+            flight: core.flight(slot)?,
+            waiting: core.is_waiting(slot)?,
+            counts: core.counts(slot)?,
+        })
     }
 
     // The timing of a slot's last publication.

@@ -1,5 +1,6 @@
 //! The world: tables of registries, gates, groups and readers, and one method for all steps at a group.
-//! Its contract is over histories alone; what lies in the tables is no part of it.
+//! Its contract is over histories alone; what lies in the tables is no part of it. That some history stands behind them is told of the
+//! world once, and asked of the tables where a step needs it.
 ghost use Rattle.std.specs.Prelude.{◌≡◌, ◌∷◌, [], ℕ, map, IfOk, IfErr, vec_len};
 ghost use Rattle.lb_history.specs.Answers.{IsRun};
 ghost use Rattle.lb_history.specs.History.{History, after};
@@ -11,7 +12,8 @@ ghost use Rattle.lb_history.specs.Steps as seen;
 ghost use Rattle.lb_history.specs.Steps.{step_seen};
 ghost use Rattle.lb_world.specs.Ever.{Always, EachStep, JudgedByOwn};
 ghost use Rattle.lb_world.specs.Locals.{local_seen, IsWhole};
-ghost use Rattle.lb_world.specs.Stands.{Stands};
+ghost use Rattle.lb_world.specs.Founded.{world_value};
+ghost use Rattle.lb_world.specs.Stands.{IsFounded, Stands};
 
 mod made;
 mod readers;
@@ -34,6 +36,11 @@ use std::marker::Model;
 ///
 /// Contracts see its tables; some history stands behind every world.
 pub struct World<S: BackendSelection> {
+    tables: Tables<S>,
+}
+
+// What a world is made of.
+pub(crate) struct Tables<S: BackendSelection> {
     alloc: Global,
     registries: Vec<WorldRegistry>,
     gates: Vec<GateCore>,
@@ -49,14 +56,111 @@ impl<S: BackendSelection> Model for World<S> {
 
     ghost Value = { WorldValue S.Config };
 
-    ghost view = { world_value };
+    ghost view = { λ w. world_value w.tables };
 
-    ghost invariant = { λ w. IsFounded (meaning_of S.BackendSelection) (world_value w) };
+    ghost invariant = { λ w. IsFounded (meaning_of S.BackendSelection) (world_value w.tables) };
 }
 
 impl<S: BackendSelection> Drop for World<S> {
     fn drop(self) {
-        let World {
+        let World { tables } = self;
+        tables.close();
+    }
+}
+
+impl<S: BackendSelection> World<S> {
+    /// A world without anything. It takes no memory.
+    pub fn new(alloc: Global) -> Self
+        ensures { Stands (meaning_of S.BackendSelection) result [] }
+    {
+        World {
+            tables: Tables {
+                alloc,
+                registries: Vec::new(alloc),
+                gates: Vec::new(alloc),
+                groups: Vec::new(alloc),
+                readers: Vec::new(alloc),
+            },
+        }
+    }
+
+    /// Takes one step, and answers it as the definitions do after any history that the world stands for. A refused step leaves
+    /// everything as it was, save that a selection refused for memory may have drawn tickets.
+    pub fn step(&mut self, step: Step<S::Config>) -> Answer
+        ensures { (h : History S.Config) → Stands (meaning_of S.BackendSelection) self.old h
+            → Stands (meaning_of S.BackendSelection) self.new ((step_seen step, result) ∷ h) }
+    {
+        self.tables.step(step)
+    }
+
+    /// Takes the steps in their order, and answers each. Room for all answers is made before the first step is taken.
+    ///
+    /// # Errors
+    ///
+    /// `OutOfMemory` where the memory for the answers is refused; then no step was taken.
+    pub fn run(&mut self, steps: Vec<Step<S::Config>>) -> Result<Vec<Answer>, Refusal>
+        ensures stands { IfOk result (λ answers. (h : History S.Config) → Stands (meaning_of S.BackendSelection) self.old h
+            → Stands (meaning_of S.BackendSelection) self.new (after h (map step_seen steps.items) answers.items)) }
+        ensures run { IfOk result (λ answers. (h : History S.Config) → Stands (meaning_of S.BackendSelection) self.old h
+            → IsRun (meaning_of S.BackendSelection) (after h (map step_seen steps.items) answers.items)) }
+        ensures each { IfOk result (λ answers. vec_len answers ≡ vec_len steps) }
+
+        // Of the whole history and of each step in it, whatever it was before.
+        ensures promised { IfOk result (λ answers. (h : History S.Config) → Stands (meaning_of S.BackendSelection) self.old h
+            → Always (Promised (meaning_of S.BackendSelection)) (after h (map step_seen steps.items) answers.items)) }
+        ensures view_follows { IfOk result (λ answers. (h : History S.Config) → Stands (meaning_of S.BackendSelection) self.old h
+            → Always (λ k. (g : ℕ) → ViewFollows g k) (after h (map step_seen steps.items) answers.items)) }
+        ensures lives_exactly { IfOk result (λ answers. (h : History S.Config) → Stands (meaning_of S.BackendSelection) self.old h
+            → Always LivesExactly (after h (map step_seen steps.items) answers.items)) }
+        ensures judged { IfOk result (λ answers. (h : History S.Config) → Stands (meaning_of S.BackendSelection) self.old h
+            → Always JudgedByOwn (after h (map step_seen steps.items) answers.items)) }
+        ensures never_falls { IfOk result (λ answers. (h : History S.Config) → Stands (meaning_of S.BackendSelection) self.old h
+            → EachStep NeverFalls (after h (map step_seen steps.items) answers.items)) }
+        ensures first_accepted { IfOk result (λ answers. (h : History S.Config) → Stands (meaning_of S.BackendSelection) self.old h
+            → EachStep (FirstAccepted (meaning_of S.BackendSelection)) (after h (map step_seen steps.items) answers.items)) }
+        ensures raises { IfOk result (λ answers. (h : History S.Config) → Stands (meaning_of S.BackendSelection) self.old h
+            → EachStep Raises (after h (map step_seen steps.items) answers.items)) }
+        ensures destroys_exactly { IfOk result (λ answers. (h : History S.Config) → Stands (meaning_of S.BackendSelection) self.old h
+            → EachStep DestroysExactly (after h (map step_seen steps.items) answers.items)) }
+
+        // A refused step changed nothing: the world stands for the history without the refused ones as well.
+        ensures refused_stays { IfOk result (λ answers. (h : History S.Config) → Stands (meaning_of S.BackendSelection) self.old h
+            → EachStep (RefusedStays (meaning_of S.BackendSelection)) (after h (map step_seen steps.items) answers.items)) }
+        ensures unrefused { IfOk result (λ answers. (h : History S.Config) → Stands (meaning_of S.BackendSelection) self.old h
+            → Stands (meaning_of S.BackendSelection) self.new (unrefused (after h (map step_seen steps.items) answers.items))) }
+
+        // Where the answers have no room, no step was taken.
+        ensures err { IfErr result (λ r. (r ≡ Refusal.OutOfMemory) × (self.new ≡ self.old)) }
+    {
+        let mut answers = Vec::with_capacity(self.tables.alloc, steps.len())?;
+        for step in steps {
+            answers.push_reserved(self.step(step));
+        }
+        Ok(answers)
+    }
+
+    /// Takes a step that selects, and answers it as `step` does. Key and random words are lent, so that the step takes no memory
+    /// for them.
+    pub fn select(
+        &mut self,
+        group: u64,
+        slot: usize,
+        key: &[u8],
+        limit: usize,
+        words: &[u64],
+    ) -> Answer
+        ensures { (h : History S.Config) → Stands (meaning_of S.BackendSelection) self.old h
+            → Stands (meaning_of S.BackendSelection) self.new
+            ((seen.select group slot key.now limit words.now, result) ∷ h) }
+    {
+        self.tables.select(group, slot, key, limit, words)
+    }
+}
+
+impl<S: BackendSelection> Tables<S> {
+    // Lets everything go with the world.
+    fn close(self) {
+        let Tables {
             alloc: _,
             registries: _,
             gates: _,
@@ -74,27 +178,11 @@ impl<S: BackendSelection> Drop for World<S> {
         }
         groups.destroy_empty();
     }
-}
 
-impl<S: BackendSelection> World<S> {
-    /// A world without anything. It takes no memory.
-    pub fn new(alloc: Global) -> Self
-        ensures { Stands (meaning_of S.BackendSelection) result [] }
-    {
-        World {
-            alloc,
-            registries: Vec::new(alloc),
-            gates: Vec::new(alloc),
-            groups: Vec::new(alloc),
-            readers: Vec::new(alloc),
-        }
-    }
-
-    /// Takes one step, and answers it as the definitions do after any history that the world stands for. A refused step leaves
-    /// everything as it was, save that a selection refused for memory may have drawn tickets.
-    pub fn step(&mut self, step: Step<S::Config>) -> Answer
-        ensures { (h : History S.Config) → Stands (meaning_of S.BackendSelection) self.old h
-            → Stands (meaning_of S.BackendSelection) self.new ((step_seen step, result) ∷ h) }
+    fn step(&mut self, step: Step<S::Config>) -> Answer
+        requires founded { IsFounded (meaning_of S.BackendSelection) (world_value self.old) }
+        ensures { (h : History S.Config) → Stands (meaning_of S.BackendSelection) (world_value self.old) h
+            → Stands (meaning_of S.BackendSelection) (world_value self.new) ((step_seen step, result) ∷ h) }
     {
         match step {
             Step::Registry { rule, healthy } => self.registry(rule, healthy),
@@ -148,64 +236,10 @@ impl<S: BackendSelection> World<S> {
         }
     }
 
-    /// Takes the steps in their order, and answers each. Room for all answers is made before the first step is taken.
-    ///
-    /// # Errors
-    ///
-    /// `OutOfMemory` where the memory for the answers is refused; then no step was taken.
-    pub fn run(&mut self, steps: Vec<Step<S::Config>>) -> Result<Vec<Answer>, Refusal>
-        ensures stands { IfOk result (λ answers. (h : History S.Config) → Stands (meaning_of S.BackendSelection) self.old h
-            → Stands (meaning_of S.BackendSelection) self.new (after h (map step_seen steps.items) answers.items)) }
-        ensures run { IfOk result (λ answers. (h : History S.Config) → Stands (meaning_of S.BackendSelection) self.old h
-            → IsRun (meaning_of S.BackendSelection) (after h (map step_seen steps.items) answers.items)) }
-        ensures each { IfOk result (λ answers. vec_len answers ≡ vec_len steps) }
-
-        // Of the whole history and of each step in it, whatever it was before.
-        ensures promised { IfOk result (λ answers. (h : History S.Config) → Stands (meaning_of S.BackendSelection) self.old h
-            → Always (Promised (meaning_of S.BackendSelection)) (after h (map step_seen steps.items) answers.items)) }
-        ensures view_follows { IfOk result (λ answers. (h : History S.Config) → Stands (meaning_of S.BackendSelection) self.old h
-            → Always (λ k. (g : ℕ) → ViewFollows g k) (after h (map step_seen steps.items) answers.items)) }
-        ensures lives_exactly { IfOk result (λ answers. (h : History S.Config) → Stands (meaning_of S.BackendSelection) self.old h
-            → Always LivesExactly (after h (map step_seen steps.items) answers.items)) }
-        ensures judged { IfOk result (λ answers. (h : History S.Config) → Stands (meaning_of S.BackendSelection) self.old h
-            → Always JudgedByOwn (after h (map step_seen steps.items) answers.items)) }
-        ensures never_falls { IfOk result (λ answers. (h : History S.Config) → Stands (meaning_of S.BackendSelection) self.old h
-            → EachStep NeverFalls (after h (map step_seen steps.items) answers.items)) }
-        ensures first_accepted { IfOk result (λ answers. (h : History S.Config) → Stands (meaning_of S.BackendSelection) self.old h
-            → EachStep (FirstAccepted (meaning_of S.BackendSelection)) (after h (map step_seen steps.items) answers.items)) }
-        ensures raises { IfOk result (λ answers. (h : History S.Config) → Stands (meaning_of S.BackendSelection) self.old h
-            → EachStep Raises (after h (map step_seen steps.items) answers.items)) }
-        ensures destroys_exactly { IfOk result (λ answers. (h : History S.Config) → Stands (meaning_of S.BackendSelection) self.old h
-            → EachStep DestroysExactly (after h (map step_seen steps.items) answers.items)) }
-
-        // A refused step changed nothing: the world stands for the history without the refused ones as well.
-        ensures refused_stays { IfOk result (λ answers. (h : History S.Config) → Stands (meaning_of S.BackendSelection) self.old h
-            → EachStep (RefusedStays (meaning_of S.BackendSelection)) (after h (map step_seen steps.items) answers.items)) }
-        ensures unrefused { IfOk result (λ answers. (h : History S.Config) → Stands (meaning_of S.BackendSelection) self.old h
-            → Stands (meaning_of S.BackendSelection) self.new (unrefused (after h (map step_seen steps.items) answers.items))) }
-
-        // Where the answers have no room, no step was taken.
-        ensures err { IfErr result (λ r. (r ≡ Refusal.OutOfMemory) × (self.new ≡ self.old)) }
-    {
-        let mut answers = Vec::with_capacity(self.alloc, steps.len())?;
-        for step in steps {
-            answers.push_reserved(self.step(step));
-        }
-        Ok(answers)
-    }
-
-    /// Takes a step that selects, and answers it as `step` does. Key and random words are lent, so that the step takes no memory
-    /// for them.
-    pub fn select(
-        &mut self,
-        group: u64,
-        slot: usize,
-        key: &[u8],
-        limit: usize,
-        words: &[u64],
-    ) -> Answer
-        ensures { (h : History S.Config) → Stands (meaning_of S.BackendSelection) self.old h
-            → Stands (meaning_of S.BackendSelection) self.new
+    fn select(&mut self, group: u64, slot: usize, key: &[u8], limit: usize, words: &[u64]) -> Answer
+        requires founded { IsFounded (meaning_of S.BackendSelection) (world_value self.old) }
+        ensures { (h : History S.Config) → Stands (meaning_of S.BackendSelection) (world_value self.old) h
+            → Stands (meaning_of S.BackendSelection) (world_value self.new)
             ((seen.select group slot key.now limit words.now, result) ∷ h) }
     {
         let local = Local::Select {
@@ -219,9 +253,10 @@ impl<S: BackendSelection> World<S> {
 
     // Takes a step at a group, with the group's gate and registry.
     fn at_group(&mut self, group: u64, local: Local<'_>) -> Answer
-        requires { IsWhole local }
-        ensures { (h : History S.Config) → Stands (meaning_of S.BackendSelection) self.old h
-            → Stands (meaning_of S.BackendSelection) self.new ((local_seen group local.entry, result) ∷ h) }
+        requires whole { IsWhole local }
+        requires founded { IsFounded (meaning_of S.BackendSelection) (world_value self.old) }
+        ensures { (h : History S.Config) → Stands (meaning_of S.BackendSelection) (world_value self.old) h
+            → Stands (meaning_of S.BackendSelection) (world_value self.new) ((local_seen group local.entry, result) ∷ h) }
     {
         if group as usize >= self.groups.len() {
             return Answer::Refused(Refusal::NoSuch);
@@ -233,8 +268,9 @@ impl<S: BackendSelection> World<S> {
     }
 
     fn update(&mut self, group: u64, now: u128, listings: Vec<Listing>) -> Answer
-        ensures { (h : History S.Config) → Stands (meaning_of S.BackendSelection) self.old h
-            → Stands (meaning_of S.BackendSelection) self.new
+        requires founded { IsFounded (meaning_of S.BackendSelection) (world_value self.old) }
+        ensures { (h : History S.Config) → Stands (meaning_of S.BackendSelection) (world_value self.old) h
+            → Stands (meaning_of S.BackendSelection) (world_value self.new)
             ((seen.update group now listings.items, result) ∷ h) }
     {
         if has_refused(&listings) {
@@ -244,8 +280,9 @@ impl<S: BackendSelection> World<S> {
     }
 
     fn enable(&mut self, group: u64, backend: Option<Backend>) -> Answer
-        ensures { (h : History S.Config) → Stands (meaning_of S.BackendSelection) self.old h
-            → Stands (meaning_of S.BackendSelection) self.new
+        requires founded { IsFounded (meaning_of S.BackendSelection) (world_value self.old) }
+        ensures { (h : History S.Config) → Stands (meaning_of S.BackendSelection) (world_value self.old) h
+            → Stands (meaning_of S.BackendSelection) (world_value self.new)
             ((seen.enable group backend, result) ∷ h) }
     {
         let Some(backend) = &backend else {
@@ -255,8 +292,9 @@ impl<S: BackendSelection> World<S> {
     }
 
     fn disable(&mut self, group: u64, backend: Option<Backend>) -> Answer
-        ensures { (h : History S.Config) → Stands (meaning_of S.BackendSelection) self.old h
-            → Stands (meaning_of S.BackendSelection) self.new
+        requires founded { IsFounded (meaning_of S.BackendSelection) (world_value self.old) }
+        ensures { (h : History S.Config) → Stands (meaning_of S.BackendSelection) (world_value self.old) h
+            → Stands (meaning_of S.BackendSelection) (world_value self.new)
             ((seen.disable group backend, result) ∷ h) }
     {
         let Some(backend) = &backend else {
@@ -266,8 +304,9 @@ impl<S: BackendSelection> World<S> {
     }
 
     fn load(&mut self, group: u64, backend: Option<Backend>, load: u64) -> Answer
-        ensures { (h : History S.Config) → Stands (meaning_of S.BackendSelection) self.old h
-            → Stands (meaning_of S.BackendSelection) self.new
+        requires founded { IsFounded (meaning_of S.BackendSelection) (world_value self.old) }
+        ensures { (h : History S.Config) → Stands (meaning_of S.BackendSelection) (world_value self.old) h
+            → Stands (meaning_of S.BackendSelection) (world_value self.new)
             ((seen.load group backend load, result) ∷ h) }
     {
         let Some(backend) = &backend else {

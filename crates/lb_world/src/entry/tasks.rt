@@ -1,9 +1,10 @@
 //! Steps of the jobs of a slot: what is granted, built, lost, published or abandoned, and what is retired.
 //! What a slot's job has become lies in the slot's place from the ask on, so each of these finds there what the history tells.
-ghost use Rattle.std.specs.Prelude.{◌≡◌, ℕ};
+ghost use Rattle.std.specs.Prelude.{◌≡◌, ℕ, MatchResult};
+ghost use Rattle.lb_group.specs.SlotCalls.{ask_told};
 ghost use Rattle.lb_history.specs.Meanings.{meaning_of};
 ghost use Rattle.lb_history.specs.Steps as seen;
-ghost use Rattle.lb_world.specs.Calls.{number_of, told_as};
+ghost use Rattle.lb_world.specs.Calls.{IsUngranted, number_of, told_as};
 ghost use Rattle.lb_world.specs.Stands.{IsEntry, Does, DoesAtGate, DoesAlone};
 
 use super::Entry;
@@ -27,17 +28,15 @@ impl<S: BackendSelection> Entry<S> {
     {
         match self.core.ask(slot, gate, now) {
             Err(refusal) => Answer::Refused(refusal),
-            Ok(Ask::Cancelled) => Answer::Cancelled,
-            Ok(Ask::Building) => Answer::Building,
-            Ok(Ask::Nothing) => Answer::Idle,
-            Ok(Ask::NotDue(moment)) => Answer::Wait(moment),
-            Ok(Ask::Busy) => Answer::Busy,
-            Ok(Ask::Job(job)) => {
-                let generation = job.generation();
-                let place = &mut self.works[slot];
-                place.hold(Work::Building(job));
-                Answer::Build(generation)
-            }
+            Ok(ask) => match granted(ask) {
+                Err(answer) => answer,
+                Ok(job) => {
+                    let generation = job.generation();
+                    let place = &mut self.works[slot];
+                    place.hold(Work::Building(job));
+                    Answer::Build(generation)
+                }
+            },
         }
     }
 
@@ -178,6 +177,20 @@ impl<S: BackendSelection> Entry<S> {
                 }
             }
         }
+    }
+}
+
+// The job that is granted, or the answer where none is.
+fn granted<S: BackendSelection>(ask: Ask<S>) -> Result<Job<S>, Answer>
+    ensures { MatchResult result (λ job. ask ≡ Ask.Job job) (λ a. IsUngranted (ask_told ask) a) }
+{
+    match ask {
+        Ask::Cancelled => Err(Answer::Cancelled),
+        Ask::Building => Err(Answer::Building),
+        Ask::Nothing => Err(Answer::Idle),
+        Ask::NotDue(moment) => Err(Answer::Wait(moment)),
+        Ask::Busy => Err(Answer::Busy),
+        Ask::Job(job) => Ok(job),
     }
 }
 

@@ -10,9 +10,10 @@ ghost use Rattle.lb_history.specs.Steps as seen;
 ghost use Rattle.lb_world.specs.Calls.{in_tables};
 ghost use Rattle.lb_world.specs.Rules.{key_gives};
 ghost use Rattle.lb_registry.specs.Registry.{IsRegistryAfter};
+ghost use Rattle.lb_world.specs.Founded.{world_value};
 ghost use Rattle.lb_world.specs.Stands.{Stands};
 
-use super::World;
+use super::Tables;
 use crate::entry::Entry;
 use crate::rule::WorldRegistry;
 use lb_history::answer::Answer;
@@ -25,10 +26,10 @@ use lb_select::refusal::Refusal;
 use lb_select::walk::BackendSelection;
 use std::alloc::Global;
 
-impl<S: BackendSelection> World<S> {
+impl<S: BackendSelection> Tables<S> {
     pub(super) fn registry(&mut self, rule: CellKey, healthy: bool) -> Answer
-        ensures { (h : History S.Config) → Stands (meaning_of S.BackendSelection) self.old h
-            → Stands (meaning_of S.BackendSelection) self.new
+        ensures { (h : History S.Config) → Stands (meaning_of S.BackendSelection) (world_value self.old) h
+            → Stands (meaning_of S.BackendSelection) (world_value self.new)
             ((seen.registry rule healthy, result) ∷ h) }
     {
         let number = self.registries.len() as u64;
@@ -40,8 +41,8 @@ impl<S: BackendSelection> World<S> {
     }
 
     pub(super) fn gate(&mut self) -> Answer
-        ensures { (h : History S.Config) → Stands (meaning_of S.BackendSelection) self.old h
-            → Stands (meaning_of S.BackendSelection) self.new ((seen.gate, result) ∷ h) }
+        ensures { (h : History S.Config) → Stands (meaning_of S.BackendSelection) (world_value self.old) h
+            → Stands (meaning_of S.BackendSelection) (world_value self.new) ((seen.gate, result) ∷ h) }
     {
         let number = self.gates.len() as u64;
         let Ok(gate) = GateCore::new(self.alloc) else {
@@ -55,15 +56,15 @@ impl<S: BackendSelection> World<S> {
 
     // Why no group can be made of these, apart from numbers and memory.
     fn cause(&self, registry: u64, gate: u64, configs: &[S::Config]) -> Option<Refusal>
-        ensures { result ≡ earlier_of (no_such (in_tables self.now registry gate)) (least (map (S.refusal []) configs.now)) }
+        ensures { result ≡ earlier_of (no_such (in_tables (world_value self.now) registry gate)) (least (map (S.refusal []) configs.now)) }
     {
         let is_there = registry < self.registries.len() as u64 && gate < self.gates.len() as u64;
         earlier_cause(is_there, least_refusal::<S>(self.alloc, configs))
     }
 
     pub(super) fn group(&mut self, registry: u64, gate: u64, configs: Vec<S::Config>) -> Answer
-        ensures { (h : History S.Config) → Stands (meaning_of S.BackendSelection) self.old h
-            → Stands (meaning_of S.BackendSelection) self.new
+        ensures { (h : History S.Config) → Stands (meaning_of S.BackendSelection) (world_value self.old) h
+            → Stands (meaning_of S.BackendSelection) (world_value self.new)
             ((seen.group registry gate configs.items, result) ∷ h) }
     {
         if let Some(refusal) = self.cause(registry, gate, &configs) {

@@ -4,9 +4,10 @@ ghost use Rattle.std.specs.Prelude.{◌≡◌, ◌∷◌};
 ghost use Rattle.lb_history.specs.History.{History};
 ghost use Rattle.lb_history.specs.Meanings.{meaning_of};
 ghost use Rattle.lb_history.specs.Steps as seen;
-ghost use Rattle.lb_world.specs.Stands.{Stands};
+ghost use Rattle.lb_world.specs.Founded.{world_value};
+ghost use Rattle.lb_world.specs.Stands.{IsFounded, Stands};
 
-use super::World;
+use super::Tables;
 use crate::held::Held;
 use lb_history::answer::Answer;
 use lb_select::backend::Backend;
@@ -14,10 +15,11 @@ use lb_select::refusal::Refusal;
 use lb_select::walk::BackendSelection;
 use std::mem;
 
-impl<S: BackendSelection> World<S> {
+impl<S: BackendSelection> Tables<S> {
     pub(super) fn enter(&mut self, group: u64, slot: usize) -> Answer
-        ensures { (h : History S.Config) → Stands (meaning_of S.BackendSelection) self.old h
-            → Stands (meaning_of S.BackendSelection) self.new ((seen.enter group slot, result) ∷ h) }
+        requires founded { IsFounded (meaning_of S.BackendSelection) (world_value self.old) }
+        ensures { (h : History S.Config) → Stands (meaning_of S.BackendSelection) (world_value self.old) h
+            → Stands (meaning_of S.BackendSelection) (world_value self.new) ((seen.enter group slot, result) ∷ h) }
     {
         let number = self.readers.len() as u64;
         if group as usize >= self.groups.len() {
@@ -48,8 +50,9 @@ impl<S: BackendSelection> World<S> {
     }
 
     pub(super) fn leave(&mut self, reader: u64) -> Answer
-        ensures { (h : History S.Config) → Stands (meaning_of S.BackendSelection) self.old h
-            → Stands (meaning_of S.BackendSelection) self.new ((seen.leave reader, result) ∷ h) }
+        requires founded { IsFounded (meaning_of S.BackendSelection) (world_value self.old) }
+        ensures { (h : History S.Config) → Stands (meaning_of S.BackendSelection) (world_value self.old) h
+            → Stands (meaning_of S.BackendSelection) (world_value self.new) ((seen.leave reader, result) ∷ h) }
     {
         if reader as usize >= self.readers.len() {
             return Answer::Refused(Refusal::NoSuchReader);
@@ -65,8 +68,9 @@ impl<S: BackendSelection> World<S> {
     }
 
     pub(super) fn ready(&mut self, reader: u64, backend: Option<Backend>) -> Answer
-        ensures { (h : History S.Config) → Stands (meaning_of S.BackendSelection) self.old h
-            → Stands (meaning_of S.BackendSelection) self.new
+        requires founded { IsFounded (meaning_of S.BackendSelection) (world_value self.old) }
+        ensures { (h : History S.Config) → Stands (meaning_of S.BackendSelection) (world_value self.old) h
+            → Stands (meaning_of S.BackendSelection) (world_value self.new)
             ((seen.ready reader backend, result) ∷ h) }
     {
         let Some(backend) = backend else {

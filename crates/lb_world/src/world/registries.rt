@@ -4,17 +4,18 @@ ghost use Rattle.std.specs.Prelude.{◌≡◌, ◌∷◌};
 ghost use Rattle.lb_history.specs.History.{History};
 ghost use Rattle.lb_history.specs.Meanings.{meaning_of};
 ghost use Rattle.lb_history.specs.Steps as seen;
+ghost use Rattle.lb_world.specs.Founded.{world_value};
 ghost use Rattle.lb_world.specs.Stands.{Stands};
 
-use super::World;
+use super::Tables;
 use lb_history::answer::{Answer, TargetList};
 use lb_select::refusal::Refusal;
 use lb_select::walk::BackendSelection;
 
-impl<S: BackendSelection> World<S> {
+impl<S: BackendSelection> Tables<S> {
     pub(super) fn verdict(&mut self, registry: u64, cell: u64, ok: bool, threshold: usize) -> Answer
-        ensures { (h : History S.Config) → Stands (meaning_of S.BackendSelection) self.old h
-            → Stands (meaning_of S.BackendSelection) self.new
+        ensures { (h : History S.Config) → Stands (meaning_of S.BackendSelection) (world_value self.old) h
+            → Stands (meaning_of S.BackendSelection) (world_value self.new)
             ((seen.verdict registry cell ok threshold, result) ∷ h) }
     {
         if registry as usize >= self.registries.len() {
@@ -28,8 +29,8 @@ impl<S: BackendSelection> World<S> {
     }
 
     pub(super) fn targets(&mut self, registry: u64) -> Answer
-        ensures { (h : History S.Config) → Stands (meaning_of S.BackendSelection) self.old h
-            → Stands (meaning_of S.BackendSelection) self.new ((seen.targets registry, result) ∷ h) }
+        ensures { (h : History S.Config) → Stands (meaning_of S.BackendSelection) (world_value self.old) h
+            → Stands (meaning_of S.BackendSelection) (world_value self.new) ((seen.targets registry, result) ∷ h) }
     {
         if registry as usize >= self.registries.len() {
             return Answer::Refused(Refusal::NoSuch);

@@ -1,10 +1,10 @@
 -- The load that was set is the one that the history tells; where memory was refused, nothing is set.
 use Rattle.lb_select.specs.Loads.{SetsLoad}
 use Rattle.lb_group.specs.GroupHistory as group
-use Rattle.lb_world.proofs.Words.{◌∷◌, ◌∙◌, ◌≡◌, ◌++◌, ◌&&◌, [], Answer, Answers, ap, Before, Bool, cond, EntryNext, EntryValue, eq-eqb}
-use Rattle.lb_world.proofs.Words.{gate, GateView, group_events, happened, held_of, History, inl, inr, joined_after, joined_events, List}
-use Rattle.lb_world.proofs.Words.{load_in, load_of, Meaning, Member, origin, past_of, permit_after, refl, Refusal, RegistryValue}
-use Rattle.lb_world.proofs.Words.{same_member, Some, Step, sym, without_memory, work, WorldRule, ℕ}
+use Rattle.lb_world.proofs.Words.{◌∷◌, ◌∙◌, ◌≡◌, ◌++◌, ◌&&◌, [], Answer, Answers, ap, Before, cond, EntryNext, EntryValue, eq-eqb, gate}
+use Rattle.lb_world.proofs.Words.{GateView, group_events, happened, held_of, History, inl, inr, joined_after, joined_events, List, load_in}
+use Rattle.lb_world.proofs.Words.{load_of, Meaning, Member, origin, past_of, permit_after, refl, Refusal, RegistryValue, same_member, Some}
+use Rattle.lb_world.proofs.Words.{Step, sym, without_memory, work, WorldRule, ℕ}
 use Rattle.lb_world.proofs.Entries.{events-here, group-told, next, stays, unshared}
 use Rattle.lb_world.proofs.entry.Entry.load.Goals as goal
 
@@ -21,8 +21,8 @@ module _ {C : Type 0} {M : Meaning C} {h : History C} {g : ℕ} {e : EntryValue 
       next b e.works new refl right (rw joins (stays b.is)) refl
       (λ s c k cs ks.
       b.is.works_are s c k cs ks
-      ∙ ap (λ (es : group.History). held_of (origin e.core) s c (past_of s es) (work g s h))
-      (sym (events-here h st a g refl ∙ ap (λ (es : group.History). es ++ group_events g h) none)))
+      ∙ ap (λ es. held_of (origin e.core) s c (past_of s es) (work g s h))
+      (sym (events-here h st a g refl ∙ ap (λ es. es ++ group_events g h) none)))
       loads (ap (gate z.id) (sym out)) (unshared b st a refl refl)
 
   does-load : (m : Member) (l : ℕ) (new : List (Member × ℕ)) → SetsLoad (load_in e.loads) m l (load_in new)
@@ -31,7 +31,7 @@ module _ {C : Type 0} {M : Meaning C} {h : History C} {g : ℕ} {e : EntryValue 
       lent new (inl (sym (group-told b.is Answer.Done)))
       (λ q.
       sets q ∙ ap (cond (same_member m q) l) (b.is.loads_are q)
-      ∙ sym (ap (λ (t : Bool). cond (t && same_member m q) l (load_of g q h)) (eq-eqb g g refl)))
+      ∙ sym (ap (λ t. cond (t && same_member m q) l (load_of g q h)) (eq-eqb g g refl)))
       refl refl refl
 
   unset : (m : Member) (l : ℕ) (r : Refusal) (new : List (Member × ℕ)) → r ≡ Refusal.OutOfMemory

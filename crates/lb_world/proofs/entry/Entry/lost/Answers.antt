@@ -5,8 +5,8 @@ use Rattle.lb_world.specs.Calls.{number_of}
 use Rattle.lb_group.specs.GroupHistory as group
 use Rattle.lb_joined.specs.JoinedHistory as joined
 use Rattle.lb_world.proofs.Words.{◌∙◌, ◌≡◌, Answer, answer_after, ap, at_one, at_slot, Before, Bool, cond, config, configs_of, EntryValue}
-use Rattle.lb_world.proofs.Words.{flight_after, GateView, History, inl, joined_events, length, Meaning, nat_lt, None, Option, past}
-use Rattle.lb_world.proofs.Words.{past_of, refl, Refusal, RegistryValue, site, Some, Step, sym, true, unless_refused, WorldRule, ℕ}
+use Rattle.lb_world.proofs.Words.{flight_after, GateView, History, inl, joined_events, length, Meaning, nat_lt, None, Option, past, past_of}
+use Rattle.lb_world.proofs.Words.{refl, Refusal, RegistryValue, site, Some, Step, sym, true, unless_refused, WorldRule, ℕ}
 use Rattle.lb_world.proofs.Entries.{next-core, next-refused, reading-told, same-flight, unshared}
 use Rattle.lb_world.proofs.entry.Entry.lost.Goals as goal
 
@@ -26,7 +26,7 @@ module _ {C : Type 0} {M : Meaning C} {h : History C} {g : ℕ} {e : EntryValue 
       → answer_after M h (Step.lost g s) ≡ unless_refused r (Answer.Lost (number_of f))
   told-lost s f r to is =
       let x = group.extra (past_of s (joined.group_events (joined_events g h))) in
-      ap (λ (o : Option ℕ). at_one (config g s h) (λ c. lost_answer o)) (same-flight (group.extra (past g s h)))
+      ap (λ o. at_one (config g s h) (λ c. lost_answer o)) (same-flight (group.extra (past g s h)))
       ∙ reading-told b.is s flight_after lost_answer f to
       ∙ rw to (told-flight (nat_lt s (length (configs_of e.core.group))) (group.is_flight x) (group.flight_number x) r is)
 

@@ -6,7 +6,6 @@ use Rattle.lb_group.specs.GroupCalls.{SelectsIn}
 use Rattle.lb_group.specs.GroupHistory.{drawn, Drew, IsPast, served_members}
 use Rattle.lb_group.specs.SlotCalls.{drawn_slot, SelectsFrom}
 use Rattle.lb_group.specs.Stands.{group_after, slot_after, slots_after}
-use Rattle.lb_group.specs.Values.{SlotValue}
 use Rattle.lb_group.specs.declared.answers.Selection.{Selection}
 use Rattle.lb_history.specs.Answers.{SelectAnswers, selected}
 use Rattle.lb_history.specs.History.{drew}
@@ -37,11 +36,11 @@ undrawn-slot : {C : Type 0} (id : GateId) (i s t : ℕ) (c : C) (k : group.Histo
 undrawn-slot {C = C} id i s t c k is =
     elim (cases_eq s i) [
       | inl same ↦
-          ap (λ (j : ℕ). slot_after id c (past_of j (At s (Drew t) ∷ k))) (sym same)
+          ap (λ j. slot_after id c (past_of j (At s (Drew t) ∷ k))) (sym same)
           ∙ ap (slot_after id c) (past-same s (Drew t) k)
           ∙ sym (drew-step id c s t (past_of s k))
-          ∙ ap (λ (n : ℕ). drawn_slot n (slot_after id c (past_of s k))) is
-          ∙ ap (λ (j : ℕ). slot_after id c (past_of j k)) same
+          ∙ ap (λ n. drawn_slot n (slot_after id c (past_of s k))) is
+          ∙ ap (λ j. slot_after id c (past_of j k)) same
       | inr off ↦ ap (slot_after id c) (past-other i s (Drew t) k off)
     ]
 
@@ -54,7 +53,7 @@ undrawn-slots {C = C} id i s t (c ∷ cs) k is =
 undrawn-group : {C : Type 0} (made : group-made.Made C) (s t : ℕ) (k : group.History) → t ≡ drawn (past_of s k)
     → group_after made (At s (Drew t) ∷ k) ≡ group_after made k
 undrawn-group {C = C} made s t k is =
-    ap (λ (xs : List (SlotValue C)). record (group_after made k) { slots = xs }) (undrawn-slots made.gate 0 s t made.configs k is)
+    ap (λ xs. record (group_after made k) { slots = xs }) (undrawn-slots made.gate 0 s t made.configs k is)
 
 undrawn : {C : Type 0} (made : group-made.Made C) (s t : ℕ) (e : joined.History) (v : JoinedValue C)
     → t ≡ drawn (past_of s (joined.group_events e))
@@ -153,7 +152,7 @@ module _ {C : Type 0} {M : Meaning C} {h : History C} {g : ℕ} {e : EntryValue 
           (handed-selects (load_in e.loads) (λ m. load_of g m h) b.is.loads_are Was limit walks source t sel.answer long.1) in
           told (told-selected sel.answer sel.tickets all)
           (placed (Some c) (selected sel.tickets sel.answer) at
-          (rw enough (sel.answer, t.words, walked, ap (λ (n : ℕ). selected n sel.answer) long.3)))
+          (rw enough (sel.answer, t.words, walked, ap (λ n. selected n sel.answer) long.3)))
 
   selects : Told (group_events g h) → Selected
   selects all =
@@ -162,7 +161,7 @@ module _ {C : Type 0} {M : Meaning C} {h : History C} {g : ℕ} {e : EntryValue 
             let none-told = rw none.0 at all in
             told (told-selected sel.answer sel.tickets (λ x to. absurd (ok-err none-told.0 to)))
             (placed None (selected sel.tickets sel.answer) none.0
-            (ap (selected sel.tickets) none-told.0 ∙ ap (λ (n : ℕ). Answer.NoBackend n) none-told.2))
+            (ap (selected sel.tickets) none-told.0 ∙ ap (λ n. Answer.NoBackend n) none-told.2))
         | inr at ↦ from-slot at.0 at.1 (rw at.1 at all)
       ]
     where
@@ -193,12 +192,11 @@ module _ {C : Type 0} {M : Meaning C} {h : History C} {g : ℕ} {e : EntryValue 
 
     by-selected : Selected → EntryNext M h g st (selection_as sel) e z (with_core core e) z v
     by-selected (told same-answer right) =
-        subst (λ (a : Answer). EntryNext M h g st a e z (with_core core e) z v) (sym same-answer) (to-told sel.answer right)
+        subst (λ a. EntryNext M h g st a e z (with_core core e) z v) (sym same-answer) (to-told sel.answer right)
     by-selected (refused c there_ short left right) =
         let within = lt-ltb s (length (configs_of e.core.group)) (slice_get_within (configs_of e.core.group) s c there_) in
-        let counter = left ∙ ap (λ (k : group.History). drawn (past_of s k)) (sym (group-of g h)) in
-        subst (λ (a : Answer). EntryNext M h g st a e z (with_core core e) z v)
-        (sym (ap (λ (r : Result (Option Member) Refusal). selected_as r sel.tickets) short))
+        let counter = left ∙ ap (λ k. drawn (past_of s k)) (sym (group-of g h)) in
+        subst (λ a. EntryNext M h g st a e z (with_core core e) z v) (sym (ap (λ r. selected_as r sel.tickets) short))
         (next-refused b refl right
         (moves.0, undrawn (site e.core) s sel.tickets (joined_events g h) core counter (rw within at moves.1)))
 

@@ -21,8 +21,7 @@ use Rattle.lb_world.proofs.Words.{group_events, has_refused, History, inl, inr, 
 use Rattle.lb_world.proofs.Words.{JoinedValue, key_gives, key_of, le-leb, List, Listing, Made, made_at, made_of, Meaning, members_in}
 use Rattle.lb_world.proofs.Words.{members_of, nat_le, newest, no_number, None, numbered, Ok, Option, refl, Refusal, refuse, registry_events}
 use Rattle.lb_world.proofs.Words.{RegistryValue, Result, same_members, settings_in, shares, site, Some, Step, subst, sym, true, true≢false}
-use Rattle.lb_world.proofs.Words.{unless_refused, view_events, view_in, ViewEvent, views_of, where_, with_core, without_memory, WorldRule}
-use Rattle.lb_world.proofs.Words.{ℕ}
+use Rattle.lb_world.proofs.Words.{unless_refused, view_events, view_in, views_of, where_, with_core, without_memory, WorldRule, ℕ}
 use Rattle.lb_world.proofs.Entries.{joined-here, Moves, next-core, next-refused, registry-here, shared, stays, views-are}
 use Rattle.lb_world.proofs.entry.Entry.update.Goals as goal
 
@@ -88,9 +87,8 @@ module _ {C : Type 0} {M : Meaning C} {h : History C} {g : ℕ} {e : EntryValue 
       (no_number (registry.cells_given (key_of g h)
       (registry.Updated m.view (members_in ls) ∷ registry.Applied ∷ registry_events m.registry h))) None))
       (update_answer (newest (group_events g h)) change) in
-      ap (λ (t : Bool). cond t (refuse Refusal.InvalidAddress) (at_one (made_at g h) Told)) whole
-      ∙ ap (λ (o : Option (Made C)). at_one o Told) b.is.made_is
-      ∙ ap (λ (o : Option Refusal). unless_refused o (update_answer (newest (group_events g h)) change)) is
+      ap (λ t. cond t (refuse Refusal.InvalidAddress) (at_one (made_at g h) Told)) whole ∙ ap (λ o. at_one o Told) b.is.made_is
+      ∙ ap (λ o. unless_refused o (update_answer (newest (group_events g h)) change)) is
 
   -- where the group has no cause and a number is left
   fits : causes ≡ None → (change ≡ true → nat_le (2 ^ 64) cells ≡ false)
@@ -189,7 +187,7 @@ module _ {C : Type 0} {M : Meaning C} {h : History C} {g : ℕ} {e : EntryValue 
       (registry_events e.registry h)) u
       → EntryNext M h g st (scheduled_as s) e z (with_core core e) z u
   does-update s {core} {u} own lacking moves kept =
-      subst (λ (a : Answer). EntryNext M h g st a e z (with_core core e) z u)
+      subst (λ a. EntryNext M h g st a e z (with_core core e) z u)
       (sym
       (scheduled-told change (newest (group_events g h)) s (rw (group-of g h) at own.1) (rw (group-of g h) at own.2)))
       (by-change change refl)
@@ -206,9 +204,9 @@ module _ {C : Type 0} {M : Meaning C} {h : History C} {g : ℕ} {e : EntryValue 
       becomes : (a : Answer) → Updated h g now ls a → Moves e (joined_after h (group_events g h) (joined_events g h) st a) core
       becomes a alike = (
         moves.0,
-        subst (λ (es : joined.History). stands.Stands (site e.core) es core)
-            (ap2 (λ (i : ℕ) (es : List registry.Event). after_schedule (key_of g h) i (members_in ls) (settings_in ls) now es
-            (joined_events g h)) (sym (ap view_in b.is.made_is)) (sym (ap (λ (o : Option ℕ). events_in o h) (registry-here b.is)))
+        subst (λ es. stands.Stands (site e.core) es core)
+            (ap2 (λ i es. after_schedule (key_of g h) i (members_in ls) (settings_in ls) now es
+            (joined_events g h)) (sym (ap view_in b.is.made_is)) (sym (ap (λ o. events_in o h) (registry-here b.is)))
             ∙ sym alike ∙ joined-here h st a g refl) moves.1,
       )
 
@@ -216,8 +214,8 @@ module _ {C : Type 0} {M : Meaning C} {h : History C} {g : ℕ} {e : EntryValue 
           → registry_updated (key_of g h) e.core.view.id (members_in ls) (view_events g h) (registry_events e.registry h) ≡ es
           → IsRegistryAfter key_gives (key_of g h) es u
       kept-as es is =
-          subst (λ (es : List registry.Event). IsRegistryAfter key_gives (key_of g h) es u)
-          (ap (λ (vs : List ViewEvent). registry_updated (key_of g h) e.core.view.id (members_in ls) vs (registry_events e.registry h))
+          subst (λ es. IsRegistryAfter key_gives (key_of g h) es u)
+          (ap (λ vs. registry_updated (key_of g h) e.core.view.id (members_in ls) vs (registry_events e.registry h))
           (views-are b.is M b.run) ∙ is) kept
 
       by-change : (c : Bool) → change ≡ c → EntryNext M h g st (update_answer N c) e z (with_core core e) z u

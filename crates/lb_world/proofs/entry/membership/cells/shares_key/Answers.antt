@@ -10,7 +10,7 @@ returns-then-has_same_key c =
     let rest = drop (i + 1) c.args.listings.now in
     sym (sym (c.loop-listing.invariant key_of events r)
     ∙ at_drop_more has c.args.listings.now i c.listing-item.result c.loop-listing-test.true
-    ∙ ap (λ (l : Listing). has (l ∷ rest)) (sym c.listing-item.is)
+    ∙ ap (λ l. has (l ∷ rest)) (sym c.listing-item.is)
     ∙ ap (λ b. b || has rest) (sym (c.has_same_key.ensures key_of events r) ∙ c.if-has_same_key.true))
 
 pub loop-listing-preserved : goal.loop-listing-preserved
@@ -20,5 +20,5 @@ loop-listing-preserved c =
     let i = c.loop-listing.listing-index in
     let rest = drop (i + 1) c.args.listings.now in
     sym (ap (λ b. b || has rest) (sym (c.has_same_key.ensures key_of events r) ∙ c.if-has_same_key.false))
-    ∙ sym (ap (λ (l : Listing). has (l ∷ rest)) (sym c.listing-item.is))
+    ∙ sym (ap (λ l. has (l ∷ rest)) (sym c.listing-item.is))
     ∙ sym (at_drop_more has c.args.listings.now i c.listing-item.result c.loop-listing-test.true) ∙ c.loop-listing.invariant key_of events r

@@ -13,9 +13,9 @@ more : (key_of : Member → Member) (views : List ViewValue) (ls : List Listing)
 more key_of views ls i item b low is starts =
     let rest = drop (i + 1) ls in
     let whole = take_all (length ls - (i + 1)) rest (omega (arith, length-drop (i + 1) ls)) in
-    at_drop_more (new_keys key_of views) ls i item low ∙ ap (λ (l : Listing). new_keys key_of views (l ∷ rest)) (sym is)
+    at_drop_more (new_keys key_of views) ls i item low ∙ ap (λ l. new_keys key_of views (l ∷ rest)) (sym is)
     ∙ keys-more key_of views item rest
-    ∙ ap (λ (b : Bool). cond b 1 0 + new_keys key_of views rest) (sym (starts ∙ ap (starts_cell key_of views item) whole))
+    ∙ ap (λ b. cond b 1 0 + new_keys key_of views rest) (sym (starts ∙ ap (starts_cell key_of views item) whole))
 
 pub loop-place-preserved : goal.loop-place-preserved
 loop-place-preserved c =

@@ -3,11 +3,11 @@ use Rattle.lb_world.specs.Locals.{IsWhole, local_seen}
 use Rattle.lb_world.specs.Stands.{Does}
 use Rattle.lb_world.specs.declared.local.Local.{Local}
 use Rattle.lb_world.proofs.Words.{◌∷◌, ◌∙◌, ◌≡◌, Answer, Answers, ap, arith, entries, EntryValue, GateView, group_at, History, inl, made_at}
-use Rattle.lb_world.proofs.Words.{Meaning, meaning_of, None, Origin, refl, Refusal, RegistryValue, same_Some, slice_get, slice_get_within}
+use Rattle.lb_world.proofs.Words.{Meaning, meaning_of, None, refl, Refusal, RegistryValue, same_Some, slice_get, slice_get_within}
 use Rattle.lb_world.proofs.Words.{slice_set, Some, Stands, sym, WorldRule, WorldValue, ℕ}
 use Rattle.lb_world.proofs.Places.{at-place}
-use Rattle.lb_world.proofs.Tables.{before, founded-by, no-group, own-kept, world-moves, world-refused}
-use Rattle.lb_world.proofs.world.World.at_group.Goals as goal
+use Rattle.lb_world.proofs.Tables.{before, no-group, own-kept, world-moves, world-refused}
+use Rattle.lb_world.proofs.world.Tables.at_group.Goals as goal
 
 -- no such group
 absent-right : {C : Type 0} (M : Meaning C) (h : History C) (g : ℕ) (l : Local) → made_at g h ≡ None → IsWhole l
@@ -27,7 +27,7 @@ local-entries h g l a = refl
 module _ {C : Type 0} {M : Meaning C} {w : WorldValue C} {h : History C} (s : Stands M w h) where
   does : (g : ℕ) (l : Local) (a : Answer) (e d : EntryValue C) (z y : GateView) (u v : RegistryValue WorldRule)
       → slice_get w.groups g ≡ Some e → slice_get w.gates e.gate ≡ Some z → slice_get w.registries e.registry ≡ Some u
-      → Does M (λ (n : ℕ). local_seen n l) e z u a d y v
+      → Does M (λ n. local_seen n l) e z u a d y v
       → Stands M
       (record w {
         registries = slice_set w.registries e.registry v;
@@ -38,56 +38,52 @@ module _ {C : Type 0} {M : Meaning C} {w : WorldValue C} {h : History C} (s : St
   does g l a e d z y u v there_ gate-there registry-there call =
       let next_ = call h g (before s g e z u there_ gate-there registry-there) in
       world-moves s g (local_seen g l) a e d z y u v w.readers (local-at h g l) (s.readers_are ∙ sym (local-entries h g l a))
-      (own-kept s g e d there_ (ap (λ (o : Origin). o.id) next_.origin_is)) there_ gate-there registry-there next_
+      (own-kept s g e d there_ (ap (λ o. o.id) next_.origin_is)) there_ gate-there registry-there next_
 
 pub returns-then-group-len : goal.returns-then-group-len
 returns-then-group-len g c =
-    rw (← c.self.view_is)
-    (λ h s.
+    λ h s.
     world-refused s
-    (absent-right (meaning_of g.S.BackendSelection) h c.args.group c.args.local (no-group s c.args.group (omega arith)) c.requires))
+    (absent-right (meaning_of g.S.BackendSelection) h c.args.group c.args.local (no-group s c.args.group (omega arith)) c.requires.whole)
 
 pub index_mut-gate-requires : goal.index_mut-gate-requires
 index_mut-gate-requires g c =
-    let at = at-place c.self.inside.groups.items c.args.group _ (omega arith) c.index_mut-entry.ensures.value in
-    let on = c.self.invariant.stands.on_site _ _ at in
-    omega (arith, c.gate.ensures, slice_get_within c.self.inside.gates.items _ _ on.gate)
+    let at = at-place c.args.self.now.groups.items c.args.group _ (omega arith) c.index_mut-entry.ensures.value in
+    let on = c.requires.founded.stands.on_site _ _ at in
+    omega (arith, c.gate.ensures, slice_get_within c.args.self.now.gates.items _ _ on.gate)
 
 pub index_mut-registry-requires : goal.index_mut-registry-requires
 index_mut-registry-requires g c =
-    let at = at-place c.self.inside.groups.items c.args.group _ (omega arith) c.index_mut-entry.ensures.value in
-    let on = c.self.invariant.stands.on_site _ _ at in
+    let at = at-place c.args.self.now.groups.items c.args.group _ (omega arith) c.index_mut-entry.ensures.value in
+    let on = c.requires.founded.stands.on_site _ _ at in
     omega (arith, c.registry.ensures, on.registry)
 
 pub take-requires : goal.take-requires
 take-requires g c =
-    let at = at-place c.self.inside.groups.items c.args.group _ (omega arith) c.index_mut-entry.ensures.value in
-    let on = c.self.invariant.stands.on_site _ _ at in
-    let low = slice_get_within c.self.inside.gates.items _ _ on.gate in
+    let at = at-place c.args.self.now.groups.items c.args.group _ (omega arith) c.index_mut-entry.ensures.value in
+    let on = c.requires.founded.stands.on_site _ _ at in
+    let low = slice_get_within c.args.self.now.gates.items _ _ on.gate in
     let at_gate =
     rw c.gate.ensures
-    at (at-place c.self.inside.gates.items c.gate.result _ (omega (arith, c.gate.ensures, low)) c.index_mut-gate.ensures.value) in
-    let was = c.self.invariant in
+    at (at-place c.args.self.now.gates.items c.gate.result _ (omega (arith, c.gate.ensures, low)) c.index_mut-gate.ensures.value) in
+    let was = c.requires.founded in
     record {
-      gate = ap (λ (z : GateView). z.id) (same_Some c.index_mut-gate.result.now on.view (sym at_gate ∙ on.gate)) ∙ on.id;
-      whole = c.requires;
+      gate = ap (λ z. z.id) (same_Some c.index_mut-gate.result.now on.view (sym at_gate ∙ on.gate)) ∙ on.id;
+      whole = c.requires.whole;
       stands = record { history = was.history; number = c.args.group; run = was.stands.run; is = was.stands.each c.args.group _ at };
     }
 
 pub returns : goal.returns
 returns g c =
-    let at = at-place c.self.inside.groups.items c.args.group _ (omega arith) c.index_mut-entry.ensures.value in
-    let on = c.self.invariant.stands.on_site _ _ at in
-    let low = slice_get_within c.self.inside.gates.items _ _ on.gate in
+    let at = at-place c.args.self.now.groups.items c.args.group _ (omega arith) c.index_mut-entry.ensures.value in
+    let on = c.requires.founded.stands.on_site _ _ at in
+    let low = slice_get_within c.args.self.now.gates.items _ _ on.gate in
     let at_gate =
     rw c.gate.ensures
-    at (at-place c.self.inside.gates.items c.gate.result _ (omega (arith, c.gate.ensures, low)) c.index_mut-gate.ensures.value) in
+    at (at-place c.args.self.now.gates.items c.gate.result _ (omega (arith, c.gate.ensures, low)) c.index_mut-gate.ensures.value) in
     let at_registry =
     rw c.registry.ensures
-    at (at-place c.self.inside.registries.items c.registry.result _ (omega (arith, c.registry.ensures, on.registry))
+    at (at-place c.args.self.now.registries.items c.registry.result _ (omega (arith, c.registry.ensures, on.registry))
     c.index_mut-registry.ensures.value) in
-    rw (← c.self.view_is, c.gate.ensures, c.registry.ensures)
+    rw (c.gate.ensures, c.registry.ensures)
     (λ h s. does s c.args.group c.args.local c.take.result _ _ _ _ _ _ at at_gate at_registry c.take.ensures)
-
-pub invariant_of-self : goal.invariant_of-self
-invariant_of-self g c = founded-by c.self.view_is c.self.invariant (returns g c)

@@ -3,7 +3,7 @@ use Rattle.lb_world.specs.Founded.{world_value}
 use Rattle.std.proofs.lemmas.Bool.{le-ltb}
 use Rattle.lb_world.proofs.Words.{◌<◌, ◌∙◌, ◌≡◌, ◌≤◌, ◌&&◌, [], ap, arith, Bool, earlier, in_tables, least, lt-ltb, map, nat_lt, no_such}
 use Rattle.lb_world.proofs.Words.{past, ℕ}
-use Rattle.lb_world.proofs.world.World.cause.Goals as goal
+use Rattle.lb_world.proofs.world.Tables.cause.Goals as goal
 
 -- two numbers are in their tables: the second test is taken where the first one holds
 second-test :
@@ -16,7 +16,7 @@ first-test b r n m g k same_n past is = rw (← same_n, le-ltb r m past) (is ∙
 
 pub returns : goal.returns
 returns g c =
-    let there : c.if-registry-len.is_there ≡ in_tables (world_value c.self.inside) c.args.registry c.args.gate =
+    let there : c.if-registry-len.is_there ≡ in_tables (world_value c.args.self.now) c.args.registry c.args.gate =
     elim c.if-registry-len.branch [
       | goal.then-registry-len w ↦
           second-test _ c.args.registry _ c.len.result c.args.gate _ w.len-then-registry-len.result (omega arith)
@@ -24,7 +24,6 @@ returns g c =
       | goal.else-registry-len w ↦
           first-test _ c.args.registry _ c.len.result c.args.gate _ (omega arith) w.if-registry-len.false w.is_there-is
     ] in
-    rw (← c.self.view_is)
-    (c.earlier_cause.ensures
+    c.earlier_cause.ensures
     ∙ ap (earlier (no_such c.if-registry-len.is_there)) c.least_refusal.ensures
-    ∙ ap (λ (b : Bool). earlier (no_such b) (least (map (g.S.BackendSelection.refusal []) c.args.configs.now))) there)
+    ∙ ap (λ b. earlier (no_such b) (least (map (g.S.BackendSelection.refusal []) c.args.configs.now))) there

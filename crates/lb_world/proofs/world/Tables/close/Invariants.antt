@@ -1,4 +1,4 @@
-use Rattle.lb_world.proofs.world.World.drop.Given as goal
+use Rattle.lb_world.proofs.world.Tables.close.Given as goal
 
 abbrev pub invariant-loop-place : goal.invariant-loop-place
 invariant-loop-place g l = Unit {0}

@@ -1,6 +1,5 @@
 -- Where no cause stands, the entry that is new joins the groups, over its registry and its gate.
 use Rattle.lb_group.proofs.GroupSteps.{configs-after}
-use Rattle.lb_group.specs.Values.{GroupValue}
 use Rattle.lb_history.proofs.Absent.{found as found-of, get-front}
 use Rattle.lb_history.proofs.Together.{nothing-joined}
 use Rattle.lb_history.specs.History.{over}
@@ -18,11 +17,11 @@ use Rattle.lb_world.proofs.Words.{IsRegistryAfter, IsRun, IsTrue, key_at, key_gi
 use Rattle.lb_world.proofs.Words.{length_push, List, load_of, lt-ltb, ltb-true, made, made_at, made_of, map, marks_start_none, Meaning}
 use Rattle.lb_world.proofs.Words.{Member, nat_le, nat_lt, ne_eqb, no_number, no_such, None, none-some, numbered, Option, origin, past, refl}
 use Rattle.lb_world.proofs.Words.{Refusal, registries, registry_events, RegistryValue, slice_get, slice_get_past, slice_get_within}
-use Rattle.lb_world.proofs.Words.{slice_set, Some, Stands, Step, sym, true, unless_refused, where_, without_memory, WorkValue, WorldRule}
-use Rattle.lb_world.proofs.Words.{WorldValue, ℕ}
+use Rattle.lb_world.proofs.Words.{slice_set, Some, Stands, Step, sym, true, unless_refused, where_, without_memory, WorldRule, WorldValue}
+use Rattle.lb_world.proofs.Words.{ℕ}
 use Rattle.lb_world.proofs.Places.{at-place, each-push, each-set, get_last, get_replicate}
-use Rattle.lb_world.proofs.Tables.{entry-moves, founded-by, registry-lent, world-refused, number-left, refused-so, Tells, group-there}
-use Rattle.lb_world.proofs.world.World.group.Goals as goal
+use Rattle.lb_world.proofs.Tables.{entry-moves, registry-lent, world-refused, number-left, refused-so, Tells, group-there}
+use Rattle.lb_world.proofs.world.Tables.group.Goals as goal
 
 -- no refusal has a greater number than the want of numbers
 last-of : (e : Refusal) → nat_lt 17 (refusal_number e) ≡ false
@@ -35,7 +34,7 @@ not-full b n told is = elim (leb_tells (2 ^ 64) n) [ inl t ↦ absurd (false≢t
 
 -- so another cause goes before it, of numbers of views and of cells alike
 stays : (e : Refusal) (b : Bool) → earlier (Some e) (where_ b Refusal.NumbersExhausted) ≡ Some e
-stays e true = ap (λ (t : Bool). cond t (Some Refusal.NumbersExhausted) (Some e)) (last-of e)
+stays e true = ap (λ t. cond t (Some Refusal.NumbersExhausted) (Some e)) (last-of e)
 stays e false = refl
 
 either : (b c : Bool) → earlier (where_ b Refusal.NumbersExhausted) (where_ c Refusal.NumbersExhausted)
@@ -83,7 +82,7 @@ module _ {C : Type 0} (M : Meaning C) where
   nothing-loaded ((Step.group r a cs, Answer.Group n) ∷ h) run g none b = nothing-loaded h run.0 g (get-front (made h) _ g none) b
   nothing-loaded ((Step.load i (Some c) l, Answer.Done) ∷ h) run g none b =
       let m = found-of {C = C} (Step.load i (Some c) l) (made_at i h) _ Answer.Done refl run.1 in
-      rw (ne_eqb i g (λ e. none-some m.0 (sym none ∙ sym (ap (λ (j : ℕ). made_at j h) e) ∙ m.1))) (nothing-loaded h run.0 g none b)
+      rw (ne_eqb i g (λ e. none-some m.0 (sym none ∙ sym (ap (λ j. made_at j h) e) ∙ m.1))) (nothing-loaded h run.0 g none b)
   nothing-loaded ((st, a) ∷ h) run g none b = nothing-loaded h run.0 g none b
 
   -- the entry of the new group
@@ -94,14 +93,14 @@ module _ {C : Type 0} (M : Meaning C) where
       let none : made_at (length (made h)) h ≡ None = slice_get_past (made h) (length (made h)) (omega arith) in
       let was = absent M h run (length (made h)) none in
       let configs : cs ≡ configs_of e.core.group =
-      sym (ap (λ (w : GroupValue C). configs_of w) new.core_is.group.shows ∙ configs-after id 0 cs []) in
+      sym (ap (λ w. configs_of w) new.core_is.group.shows ∙ configs-after id 0 cs []) in
       record {
         made_is = get_last (made h) _
-            ∙ ap Some (same-made new.registry_is new.gate_is (new.view_is ∙ ap (λ (k : ℕ). k + 1) (numbered M h run r within)) configs);
+            ∙ ap Some (same-made new.registry_is new.gate_is (new.view_is ∙ ap (λ k. k + 1) (numbered M h run r within)) configs);
         core_is = rw (← nothing-joined M h run (length (made h)) none, ← new.id_is, configs) at new.core_is;
         works_in = ap length new.works_are ∙ length-replicate (length cs) nothing ∙ ap length configs;
         works_are = λ s c k at in_.
-            get_replicate (length cs) nothing s k (ap (λ (xs : List (WorkValue C)). slice_get xs s) (sym new.works_are) ∙ in_)
+            get_replicate (length cs) nothing s k (ap (λ xs. slice_get xs s) (sym new.works_are) ∙ in_)
             ∙ sym (ap (held_of (origin e.core) s c (past (length (made h)) s h)) (was.works s));
         loads_are = λ b. new.loads_are b ∙ sym (nothing-loaded h run (length (made h)) none b);
       }
@@ -168,7 +167,7 @@ module _ {C : Type 0} {M : Meaning C} {w : WorldValue C} {h : History C} (s : St
           let refused =
           world-refused s {st = Step.group r a cs} {r = Refusal.NumbersExhausted}
           (inl (sym (told-then (Some Refusal.NumbersExhausted)
-          (ap (λ (b : Bool). earlier (where_ b Refusal.NumbersExhausted) (no_number cells)) (le-leb (2 ^ 64) given (many _ _ now))
+          (ap (λ b. earlier (where_ b Refusal.NumbersExhausted) (no_number cells)) (le-leb (2 ^ 64) given (many _ _ now))
           ∙ stays Refusal.NumbersExhausted (nat_le (2 ^ 64) cells))))) in
           registry-lent refused r u u in_ (refused.kept r u in_)
 
@@ -210,7 +209,7 @@ module _ {C : Type 0} {M : Meaning C} {w : WorldValue C} {h : History C} (s : St
                 run = (s.run, inl (ap Answer.Group (number ∙ s.groups_are) ∙ sym fits));
                 registries_are = more ∙ s.registries_are;
                 gates_are = s.gates_are;
-                groups_are = length_push w.groups e ∙ ap (λ (i : ℕ). i + 1) s.groups_are ∙ sym (length_push (made h) _);
+                groups_are = length_push w.groups e ∙ ap (λ i. i + 1) s.groups_are ∙ sym (length_push (made h) _);
                 readers_are = s.readers_are;
                 kept =
                     each-set w.registries r u v in_ (rw (eq-eqb r r refl) now)
@@ -246,39 +245,31 @@ returns-in-Some g c =
 
 pub returns-then-is_full : goal.returns-then-is_full
 returns-then-is_full g c =
-    let none = rw (← c.self.view_is, c.deref.ensures.value) at (sym c.cause.ensures ∙ c.in_default.is) in
-    rw (← c.self.view_is)
-    (λ h s. group-is-full s c.args.registry c.args.gate c.args.configs.items none c.index_mut-registry.ensures.value
-    (λ k es now. (c.is_full.ensures k es now).0 c.if-is_full.true))
+    let none = rw c.deref.ensures.value at (sym c.cause.ensures ∙ c.in_default.is) in
+    λ h s. group-is-full s c.args.registry c.args.gate c.args.configs.items none c.index_mut-registry.ensures.value
+    (λ k es now. (c.is_full.ensures k es now).0 c.if-is_full.true)
 
 pub returns-in_default-reserve : goal.returns-in_default-reserve
 returns-in_default-reserve g c =
-    let none = rw (← c.self.view_is, c.deref.ensures.value) at (sym c.cause.ensures ∙ c.in_default.is) in
-    rw (← c.self.view_is, c.reserve.ensures.items)
+    let none = rw c.deref.ensures.value at (sym c.cause.ensures ∙ c.in_default.is) in
+    rw c.reserve.ensures.items
     (λ h s. group-lacks s c.args.registry c.args.gate c.args.configs.items none c.index_mut-registry.ensures.value c.is_full.ensures
     c.if-is_full.false Refusal.OutOfMemory _ (λ k es now few. refl) (λ k es now. now))
 
 pub returns-in-Ok-new : goal.returns-in-Ok-new
 returns-in-Ok-new g c =
-    let none = rw (← c.self.view_is, c.deref.ensures.value) at (sym c.cause.ensures ∙ c.in_default.is) in
-    let last : c.len-number.result ≡ length c.self.inside.groups.items =
+    let none = rw c.deref.ensures.value at (sym c.cause.ensures ∙ c.in_default.is) in
+    let last : c.len-number.result ≡ length c.args.self.now.groups.items =
     omega (arith, c.len-number.ensures, ap length c.reserve.ensures.items) in
-    rw (← c.self.view_is)
-    (λ h s.
+    λ h s.
     rw (c.push_reserved.ensures.items, c.reserve.ensures.items)
     (group-made s c.args.registry c.args.gate c.args.configs.items none c.index_mut-registry.ensures.value c.is_full.ensures
-    c.if-is_full.false _ _ _ c.in-Ok-new.entry last c.index.ensures c.in-Ok-new.ensures.made))
-
-pub invariant_of-self-in-Ok-new : goal.invariant_of-self-in-Ok-new
-invariant_of-self-in-Ok-new g c = founded-by c.self.view_is c.self.invariant (returns-in-Ok-new g c)
+    c.if-is_full.false _ _ _ c.in-Ok-new.entry last c.index.ensures c.in-Ok-new.ensures.made)
 
 pub returns-in-Err : goal.returns-in-Err
 returns-in-Err g c =
-    let none = rw (← c.self.view_is, c.deref.ensures.value) at (sym c.cause.ensures ∙ c.in_default.is) in
-    rw (← c.self.view_is, c.reserve.ensures.items)
+    let none = rw c.deref.ensures.value at (sym c.cause.ensures ∙ c.in_default.is) in
+    rw c.reserve.ensures.items
     (λ h s.
     group-lacks s c.args.registry c.args.gate c.args.configs.items none c.index_mut-registry.ensures.value c.is_full.ensures
     c.if-is_full.false c.in-Err.refusal _ (λ k es now few. refused-so (c.in-Err.ensures.refused k es now few)) c.in-Err.ensures.err)
-
-pub invariant_of-self-in-Err : goal.invariant_of-self-in-Err
-invariant_of-self-in-Err g c = founded-by c.self.view_is c.self.invariant (returns-in-Err g c)
