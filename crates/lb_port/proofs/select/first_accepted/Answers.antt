@@ -20,9 +20,11 @@ returns-in_default-clause-same_reference g c =
     visit_named _ _ _ _ _ _ _ walks c.args.limit (g.met.S.BackendSelection.rest_starts _) begins c.loop.invariant.0 _ _ _ c.step.ensures.step
 
 pub loop-preserved-then-contains : goal.loop-preserved-then-contains
-loop-preserved-then-contains g c =
-    (visited_repeat _ _ _ _ _ _ _ c.loop.invariant.0 c.in-Some.candidate.now _ _ (rw c.in-Some.is at c.step.ensures.step)
-    (sym c.contains.ensures ∙ c.if-contains.true), c.step.ensures.fitting)
+loop-preserved-then-contains g c = (
+  visited_repeat _ _ _ _ _ _ _ c.loop.invariant.0 c.in-Some.candidate.now _ _ (rw c.in-Some.is at c.step.ensures.step)
+      (sym c.contains.ensures ∙ c.if-contains.true),
+  c.step.ensures.fitting,
+)
 
 pub ready-ready-requires : goal.ready-ready-requires
 ready-ready-requires g c =
@@ -77,10 +79,12 @@ returns-in_err-remember-clause-same_reference g c =
 
 pub loop-preserved : goal.loop-preserved
 loop-preserved g c =
-    let refused : Answers g.F.Fn c.args.accept.now c.in-Some.candidate.now c.ready-ready.result false = search rules in
-    (visited_new _ _ _ _ _ _ _ c.loop.invariant.0 c.in-Some.candidate.now _ _ _ _ (rw c.in-Some.is at c.step.ensures.step)
-    (sym c.contains.ensures ∙ c.if-contains.false) c.ready-ready.ensures c.remember.new.self _ refl (record { reader = refl; name = refl }) refused
-    c.in_ok-remember.ensures.remembered, c.step.ensures.fitting)
+    let refused : Answers g.F.Fn c.args.accept.now c.in-Some.candidate.now c.ready-ready.result false = search rules in (
+      visited_new _ _ _ _ _ _ _ c.loop.invariant.0 c.in-Some.candidate.now _ _ _ _ (rw c.in-Some.is at c.step.ensures.step)
+          (sym c.contains.ensures ∙ c.if-contains.false) c.ready-ready.ensures c.remember.new.self _ refl (record { reader = refl; name = refl }) refused
+          c.in_ok-remember.ensures.remembered,
+      c.step.ensures.fitting,
+    )
 
 pub returns-clause-selects : goal.returns-clause-selects
 returns-clause-selects g c =
