@@ -38,8 +38,7 @@ use Rattle.lb_world.proofs.Words.{past, past-other, past-same, past_of, permit_a
 use Rattle.lb_world.proofs.Words.{registry_at, registry_events, registry_of, RegistryValue, same_Some, shares, site, slice_get}
 use Rattle.lb_world.proofs.Words.{slice_get_past, slice_get_within, slice_set, slots, Some, Step, subst, sym, Task, there-at, true}
 use Rattle.lb_world.proofs.Words.{unless_refused, view_events, views_of, with_core, without_memory, Work, work, worked, works_at, WorkValue}
-use Rattle.lb_world.proofs.Words.{WorldRule, ℕ}
-use Rattle.lb_world.proofs.Places.{get_set, set-same, there}
+use Rattle.lb_world.proofs.Words.{WorldRule, ℕ, get_set, set-same, there}
 
 -- an event that is no grant leaves the last job
 abbrev pub no_grant : group.GroupEvent → Bool

@@ -25,8 +25,7 @@ use Rattle.lb_world.proofs.Words.{happened, History, inl, inr, joined_after, joi
 use Rattle.lb_world.proofs.Words.{list_all, load_in, load_of, lt-ltb, made, MatchOption, Meaning, Member, members-past, members_of, nat_le}
 use Rattle.lb_world.proofs.Words.{nat_lt, None, Ok, Option, past, past-other, past-same, past_of, permit_after, promised, refl, Refusal}
 use Rattle.lb_world.proofs.Words.{registry_events, RegistryValue, Result, same_member, served, shares, site, slice_get, slice_get_within}
-use Rattle.lb_world.proofs.Words.{Some, Step, subst, sym, true, with_core, Work, worked, WorldRule, ℕ}
-use Rattle.lb_world.proofs.Places.{there}
+use Rattle.lb_world.proofs.Words.{Some, Step, subst, sym, true, with_core, Work, worked, WorldRule, ℕ, there}
 use Rattle.lb_world.proofs.Entries.{config-here, Moves, next-core, next-refused, no_grant, registry-here, slot-or, unshared, views-are}
 use Rattle.lb_world.proofs.entry.Entry.select.Goals as goal
 

@@ -18,8 +18,7 @@ use Rattle.lb_world.proofs.Words.{length_push, List, load_of, lt-ltb, ltb-true, 
 use Rattle.lb_world.proofs.Words.{Member, nat_le, nat_lt, ne_eqb, no_number, no_such, None, none-some, numbered, Option, origin, past, refl}
 use Rattle.lb_world.proofs.Words.{Refusal, registries, registry_events, RegistryValue, slice_get, slice_get_past, slice_get_within}
 use Rattle.lb_world.proofs.Words.{slice_set, Some, Stands, Step, sym, true, unless_refused, where_, without_memory, WorldRule, WorldValue}
-use Rattle.lb_world.proofs.Words.{ℕ}
-use Rattle.lb_world.proofs.Places.{at-place, each-push, each-set, get_last, get_replicate}
+use Rattle.lb_world.proofs.Words.{ℕ, at-place, each-push, each-set, get_last, get_replicate}
 use Rattle.lb_world.proofs.Tables.{entry-moves, registry-lent, world-refused, number-left, refused-so, Tells, group-there}
 use Rattle.lb_world.proofs.world.Tables.group.Goals as goal
 
