@@ -36,9 +36,9 @@ use Rattle.lb_world.proofs.Words.{made, Made, made_at, made_of, map, map-append,
 use Rattle.lb_world.proofs.Words.{no_number, None, none-some, not, Ok, Option, option_map, origin, others-stay, past, past_of, permit_after}
 use Rattle.lb_world.proofs.Words.{refl, Refusal, refuse, refused-alike, registries, registry_at, registry_events, RegistryMade}
 use Rattle.lb_world.proofs.Words.{RegistryValue, Result, same_member, same_Some, served, set_found, site, slice_get, slice_get_past}
-use Rattle.lb_world.proofs.Words.{slice_get_within, slice_set, Some, Stands, Step, subst, sym, there-at, true, unless_refused, unrefused}
-use Rattle.lb_world.proofs.Words.{views_of, where_, with_core, without_memory, work, worked, works_at, WorldRule, WorldValue, ℕ, at-place}
-use Rattle.lb_world.proofs.Words.{each-push, each-set, get_last, get_other, get_set, set-same, still-there, there}
+use Rattle.lb_world.proofs.Words.{slice_get_within, slice_set, Some, Stands, Step, subst, sym, there-at, true, unrefused, views_of, where_}
+use Rattle.lb_world.proofs.Words.{with_core, without_memory, work, worked, works_at, WorldRule, WorldValue, ℕ, at-place, each-push}
+use Rattle.lb_world.proofs.Words.{each-set, get_last, get_other, get_set, set-same, still-there, there}
 use Rattle.lb_world.proofs.Entries.{at-group, gate-here, key-here, next, registry-here, taken, config-here, Moves, next-core, next-refused}
 use Rattle.lb_world.proofs.Entries.{reading-told, unshared, views-are}
 

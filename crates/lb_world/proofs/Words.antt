@@ -7,7 +7,6 @@ pub use Rattle.lb_group.specs.GroupHistory.{At, granted, granted_members, member
 pub use Rattle.lb_group.specs.SlotCalls.{ask_told}
 pub use Rattle.lb_group.specs.Values.{Task, configs_of}
 pub use Rattle.lb_health.specs.Joined.{IsReady, settings_of}
-pub use Rattle.lb_health.specs.ViewEvents.{ViewEvent}
 pub use Rattle.lb_history.proofs.Absent.{absent}
 pub use Rattle.lb_history.proofs.Counting.{there-at}
 pub use Rattle.lb_history.proofs.Extras.{get-kept}
@@ -20,7 +19,7 @@ pub use Rattle.lb_history.proofs.Steps.{others-stay}
 pub use Rattle.lb_history.proofs.Together.{get-pushed, group-of}
 pub use Rattle.lb_history.specs.Answers.{Answers, IsRun, Judges, answer_after, at_one, has_refused, no_number, no_such, refuse}
 pub use Rattle.lb_history.specs.Answers.{unless_refused, where_, without_memory}
-pub use Rattle.lb_history.specs.History.{History, Made, RegistryMade, Work, after, config, config_in, ended, entries, gates, group_at}
+pub use Rattle.lb_history.specs.History.{History, Made, RegistryMade, Work, after, config, config_in, entries, gates, group_at}
 pub use Rattle.lb_history.specs.History.{group_events, happened, is_at, is_out, load_of, made, made_at, members_in, past, registries}
 pub use Rattle.lb_history.specs.History.{registry_of, work, worked, works_at}
 pub use Rattle.lb_history.specs.Joined.{joined_after, joined_events}
@@ -54,8 +53,8 @@ pub use Rattle.lb_world.specs.Stands.{Before, EntryIs, EntryNext, Stands, made_o
 pub use Rattle.lb_world.specs.Views.{EntryValue, HeldValue, IsOwnReader, Origin, WorkValue, WorldValue, entered_of, origin, site}
 pub use Rattle.lb_world.specs.Works.{held_of}
 pub use Rattle.std.proofs.Common.{Bool, Equal, Greater, IsTrue, Less, List, Ordering, [], ap, arith, cond, drop, false, inl, inr, length}
-pub use Rattle.std.proofs.Common.{map, nat_le, nat_lt, not, refl, slice_get, subst, sym, take, true, true≢false, ℕ, if◌then◌else◌, ◌&&◌}
-pub use Rattle.std.proofs.Common.{◌++◌, ◌+◌, ◌<◌, ◌==◌, ◌^◌, ◌||◌, ◌↔◌, ◌∙◌, ◌∷◌, ◌≡◌, ◌≤◌, ◌⊎◌}
+pub use Rattle.std.proofs.Common.{map, nat_le, nat_lt, not, refl, slice_get, subst, sym, take, true, true≢false, ℕ, ◌&&◌, ◌++◌, ◌+◌, ◌<◌}
+pub use Rattle.std.proofs.Common.{◌==◌, ◌^◌, ◌||◌, ◌↔◌, ◌∙◌, ◌∷◌, ◌≡◌, ◌≤◌, ◌⊎◌}
 pub use Rattle.std.proofs.lemmas.Bool.{and_parts, cases_eq, eq-eqb, false≢true, le-leb, lt-ltb, ltb-true, ne_eqb}
 pub use Rattle.std.proofs.lemmas.Bool.Decides.{leb_tells}
 pub use Rattle.std.proofs.lemmas.Iterator.Adapters.{YieldsList-from_vec}
@@ -67,7 +66,7 @@ pub use Rattle.std.specs.BTreeSet.{insert_key}
 pub use Rattle.std.specs.Cmp.{IsEquivalence}
 pub use Rattle.std.specs.List.{cons_option, list_all, list_any}
 pub use Rattle.std.specs.Option.{option_map}
-pub use Rattle.std.specs.Ordering.{is_eq, match_ordering, nat_cmp, ordering_then}
+pub use Rattle.std.specs.Ordering.{match_ordering, nat_cmp, ordering_then}
 pub use Rattle.std.specs.Prelude.{Err, MatchOption, None, Ok, Option, Result, Some, fold, slice_set}
 use Rattle.std.proofs.Common.{get_or, replicate, suc, zero}
 use Rattle.std.proofs.lemmas.List.{set-get_or}
