@@ -376,7 +376,8 @@ module _ {C : Type 0} {M : Meaning C} {h : History C} {g : ℕ} {e : EntryValue 
   -- a place written as it was
   pub left-so : (s : ℕ) {st : Step C} {r : Refusal} {x k : WorkValue C} → slice_get e.works s ≡ Some x → k ≡ x → group_at h st ≡ Some g
       → Answers M h st (Answer.Refused r) → EntryNext M h g st (Answer.Refused r) e z (record e { works = slice_set e.works s k }) z v
-  left-so s {st} {r} at same here right = subst (λ ws. EntryNext M h g st (Answer.Refused r) e z (record e { works = ws }) z v)
+  left-so s {st} {r} at same here right =
+      subst (λ ws. EntryNext M h g st (Answer.Refused r) e z (record e { works = ws }) z v)
       (sym (ap (slice_set e.works s) same ∙ set-same e.works s _ at)) (next-refused b here right (stays b.is))
 
   -- the snapshot of what stood in the slot is let go

@@ -34,11 +34,11 @@ use Rattle.lb_world.proofs.Words.{inr, is_at, is_out, IsOwnReader, IsReady, IsRe
 use Rattle.lb_world.proofs.Words.{key_by, key_gives, key_in, key_of, length, length-map, length-set, length_push, List, load_of, lt-ltb}
 use Rattle.lb_world.proofs.Words.{made, Made, made_at, made_of, map, map-append, marks_start_none, Meaning, Member, nat_lt, ne_eqb}
 use Rattle.lb_world.proofs.Words.{no_number, None, none-some, not, Ok, Option, option_map, origin, others-stay, past, past_of, permit_after}
-use Rattle.lb_world.proofs.Words.{refl, Refusal, refuse, refused-alike, registries, registry_at, registry_events, RegistryMade}
-use Rattle.lb_world.proofs.Words.{RegistryValue, Result, same_member, same_Some, served, set_found, site, slice_get, slice_get_past}
-use Rattle.lb_world.proofs.Words.{slice_get_within, slice_set, Some, Stands, Step, subst, sym, there-at, true, unrefused, views_of, where_}
-use Rattle.lb_world.proofs.Words.{with_core, without_memory, work, worked, works_at, WorldRule, WorldValue, ℕ, at-place, each-push}
-use Rattle.lb_world.proofs.Words.{each-set, get_last, get_other, get_set, set-same, still-there, there}
+use Rattle.lb_world.proofs.Words.{refl, Refusal, refused-alike, registries, registry_at, registry_events, RegistryMade, RegistryValue}
+use Rattle.lb_world.proofs.Words.{Result, same_member, same_Some, served, set_found, site, slice_get, slice_get_past, slice_get_within}
+use Rattle.lb_world.proofs.Words.{slice_set, Some, Stands, Step, subst, sym, there-at, true, unrefused, views_of, where_, with_core}
+use Rattle.lb_world.proofs.Words.{without_memory, work, worked, works_at, WorldRule, WorldValue, ℕ, at-place, each-push, each-set, get_last}
+use Rattle.lb_world.proofs.Words.{get_other, get_set, set-same, still-there, there}
 use Rattle.lb_world.proofs.Entries.{at-group, gate-here, key-here, next, registry-here, taken, config-here, Moves, next-core, next-refused}
 use Rattle.lb_world.proofs.Entries.{reading-told, unshared, views-are}
 
@@ -448,12 +448,6 @@ module _ {C : Type 0} (M : Meaning C) where
   entered-there ((Step.leave u, Answer.Left n) ∷ h) run t e at = entered-there h run.0 t e (still-there (entries h) u t e at)
   entered-there ((st, a) ∷ h) run t e at = entered-there h run.0 t e at
 
-full-told : (x n a : ℕ) → (n ≡ 18446744073709551615) ⊎ (x ≡ 18446744073709551615) → enter_answer x n a ≡ refuse Refusal.NumbersExhausted
-full-told x n a many = grind (arith, common_steps, many)
-
-free-told : (x n a : ℕ) → ¬ (n ≡ 18446744073709551615) → ¬ (x ≡ 18446744073709551615) → enter_answer x n a ≡ Answer.Reader n a
-free-told x n a few left = rw (ne_eqb x 18446744073709551615 left, ne_eqb n 18446744073709551615 few) refl
-
 module _ {C : Type 0} {M : Meaning C} {w : WorldValue C} {h : History C} (s : Stands M w h) where
   pub entered-in : (t : ℕ) (x : Option (HeldValue C)) → slice_get w.readers t ≡ Some x
       → slice_get (entries h) t ≡ Some (option_map entered_of x)
@@ -498,11 +492,11 @@ module _ {C : Type 0} {M : Meaning C} {w : WorldValue C} {h : History C} (s : St
           → Refuses Refusal.NumbersExhausted
       enter-full x some many =
           enter-refused Refusal.NumbersExhausted
-          (inl (sym (enter-told ∙ rw some (full-told x (length w.readers) (served (past g slot h)) many))))
+          (inl (sym (enter-told ∙ rw some (grind (arith, common_steps, many)))))
 
       module _ (x : ℕ) (some : r ≡ Some x) (few : ¬ (length w.readers ≡ 18446744073709551615)) (left : ¬ (x ≡ 18446744073709551615)) where
         enters-as : answer_after M h (Step.enter g slot) ≡ Answer.Reader (length w.readers) (served (past g slot h))
-        enters-as = enter-told ∙ rw some (free-told x (length w.readers) (served (past g slot h)) few left)
+        enters-as = enter-told ∙ rw (some, ne_eqb x 18446744073709551615 left, ne_eqb (length w.readers) 18446744073709551615 few) refl
 
         memory-right : Answers M h (Step.enter g slot) (Answer.Refused Refusal.OutOfMemory)
         memory-right = inr (sym (ap (without_memory {C = C} (Step.enter g slot)) enters-as))

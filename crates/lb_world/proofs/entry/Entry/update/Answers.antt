@@ -3,7 +3,6 @@ use Rattle.lb_group.specs.GroupCalls.{is_change, schedule_refusal}
 use Rattle.lb_group.specs.GroupHistory.{is_cancelled}
 use Rattle.lb_group.specs.declared.schedule.Scheduled.{Scheduled}
 use Rattle.lb_health.specs.Joined.{registry_updated}
-use Rattle.lb_health.specs.ViewEvents.{membership_after}
 use Rattle.lb_history.proofs.Joining.{follows}
 use Rattle.lb_history.proofs.Registered.{is-registered}
 use Rattle.lb_history.proofs.Together.{schedules-alike}
@@ -45,16 +44,12 @@ unlacked : (c : Bool) (n : ℕ) → (c ≡ true → n < 2 ^ 64) → cond c (no_n
 unlacked true n left = number-left n (left refl)
 unlacked false n left = refl
 
-same-events : (es fs : List registry.Event) (t : Bool) → t ≡ true → cond t es fs ≡ es
-same-events es fs t is = rw is refl
-
 memory-told : {C : Type 0} (st : Step C) (n : ℕ) (c : Bool) → without_memory st (update_answer n c) ≡ Answer.Refused Refusal.OutOfMemory
 memory-told st n true = refl
 memory-told st n false = refl
 
 scheduled-told : (c : Bool) (n : ℕ) (s : Scheduled) → s.changed ≡ c → s.generation ≡ cond c (n + 1) n → scheduled_as s ≡ update_answer n c
-scheduled-told true n s changed number = rw (changed, number) refl
-scheduled-told false n s changed number = rw (changed, number) refl
+scheduled-told c n s changed number = grind (arith, changed, number)
 
 module _ {C : Type 0} {M : Meaning C} {h : History C} {g : ℕ} {e : EntryValue C} {z : GateView} {v : RegistryValue WorldRule}
     (b : Before M h g e z v) (now : ℕ) (ls : List Listing) (whole : has_refused ls ≡ false) where
@@ -229,9 +224,8 @@ module _ {C : Type 0} {M : Meaning C} {h : History C} {g : ℕ} {e : EntryValue 
           next-core b refl right (becomes a (schedules-alike M h st a (b.run, right))) refl (λ s. refl) (λ m. refl) refl
           (shared b st a refl refl
           (kept-as (registry_events e.registry h)
-          (same-events (registry_events e.registry h) _ (same_members (members_in ls) (membership_after (view_events g h)))
-          (ap (same_members (members_in ls)) (follows M h b.run g).membership
-          ∙ not-false (same_members (members_in ls) (members_of N (group_events g h))) is))))
+          (rw (ap (same_members (members_in ls)) (follows M h b.run g).membership
+          ∙ not-false (same_members (members_in ls) (members_of N (group_events g h))) is) refl)))
 
 pub returns-in-Some : goal.returns-in-Some
 returns-in-Some g c =
