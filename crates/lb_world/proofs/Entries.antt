@@ -38,8 +38,7 @@ use Rattle.lb_world.proofs.Words.{past, past-other, past-same, past_of, permit_a
 use Rattle.lb_world.proofs.Words.{registry_at, registry_events, registry_of, RegistryValue, same_Some, shares, site, slice_get}
 use Rattle.lb_world.proofs.Words.{slice_get_past, slice_get_within, slice_set, slots, Some, Step, subst, sym, Task, there-at, true}
 use Rattle.lb_world.proofs.Words.{unless_refused, view_events, views_of, with_core, without_memory, Work, work, worked, works_at, WorkValue}
-use Rattle.lb_world.proofs.Words.{WorldRule, ℕ}
-use Rattle.lb_world.proofs.Places.{get_set, set-same, there}
+use Rattle.lb_world.proofs.Words.{WorldRule, ℕ, get_set, set-same, there}
 
 -- an event that is no grant leaves the last job
 abbrev pub no_grant : group.GroupEvent → Bool
@@ -377,7 +376,8 @@ module _ {C : Type 0} {M : Meaning C} {h : History C} {g : ℕ} {e : EntryValue 
   -- a place written as it was
   pub left-so : (s : ℕ) {st : Step C} {r : Refusal} {x k : WorkValue C} → slice_get e.works s ≡ Some x → k ≡ x → group_at h st ≡ Some g
       → Answers M h st (Answer.Refused r) → EntryNext M h g st (Answer.Refused r) e z (record e { works = slice_set e.works s k }) z v
-  left-so s {st} {r} at same here right = subst (λ ws. EntryNext M h g st (Answer.Refused r) e z (record e { works = ws }) z v)
+  left-so s {st} {r} at same here right =
+      subst (λ ws. EntryNext M h g st (Answer.Refused r) e z (record e { works = ws }) z v)
       (sym (ap (slice_set e.works s) same ∙ set-same e.works s _ at)) (next-refused b here right (stays b.is))
 
   -- the snapshot of what stood in the slot is let go

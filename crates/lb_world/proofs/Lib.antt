@@ -1,5 +1,4 @@
 pub mod Words
-pub mod Places
 pub mod Entries
 pub mod Listed
 pub mod Tables

@@ -16,9 +16,10 @@ use Rattle.lb_world.specs.Listings.{none_or}
 use Rattle.std.proofs.Common.{filter}
 use Rattle.std.proofs.lemmas.Bool.{cond_both, or_parts}
 use Rattle.std.proofs.lemmas.Grind.{common_steps}
-use Rattle.std.proofs.lemmas.List.Elements.{filter_map-append}
+use Rattle.std.proofs.lemmas.List.Elements.{All-from_recursion, filter_map-append, recursion_from_All}
 use Rattle.std.proofs.lemmas.List.Folds.{list_any-append}
 use Rattle.std.proofs.lemmas.Map.Made.{is_member-filter, length-from_keys}
+use Rattle.std.proofs.lemmas.Map.Views.{All-insert_key}
 use Rattle.std.proofs.lemmas.Map.Steps.{list_any_congr}
 use Rattle.std.specs.List.{AllByRecursion as Each, IsDistinct}
 use Rattle.std.specs.List.Sorted.{IsStrictlySortedBy}
@@ -174,10 +175,8 @@ module _ (key_of : Member → Member) (views : List ViewValue) where
 
 -- sets ascend
 each-inserted : (P : Member → Type 0) (ks : List Member) (k : Member) → Each P ks → P k → Each P (insert_key member_cmp ks k)
-each-inserted P [] k a it = (it, tt)
-each-inserted P (x ∷ ks) k a it =
-    elim (member_cmp k x) as (λ o. Each P (match_ordering o (k ∷ x ∷ ks) (x ∷ ks) (x ∷ insert_key member_cmp ks k)))
-    [ Less ↦ (it, a) | Equal ↦ a | Greater ↦ (a.0, each-inserted P ks k a.1 it) ]
+each-inserted P ks k a it =
+    recursion_from_All P (insert_key member_cmp ks k) (All-insert_key member_cmp k P ks (All-from_recursion P ks a) it)
 
 ascends-inserted : (ks : List Member) (k : Member) → IsStrictlySortedBy member_cmp ks
     → IsStrictlySortedBy member_cmp (insert_key member_cmp ks k)

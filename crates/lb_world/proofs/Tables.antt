@@ -7,7 +7,7 @@ use Rattle.lb_history.proofs.Counting.{one-extra}
 use Rattle.lb_history.proofs.Refusing.{alike-sym}
 use Rattle.lb_history.proofs.Runs.{reading}
 use Rattle.lb_history.proofs.Unrefused.{run-unrefused, told-unrefused}
-use Rattle.lb_history.specs.Answers.{VerdictAnswers, enter_answer, leave_answer}
+use Rattle.lb_history.specs.Answers.{enter_answer, leave_answer}
 use Rattle.lb_history.specs.History.{gate_in, gate_at, Entered, group_in}
 use Rattle.lb_history.specs.Refused.{TellsAlike}
 use Rattle.lb_history.specs.Shared.{started}
@@ -17,7 +17,7 @@ use Rattle.lb_registry.specs.RegistryEvents.{IsCellKept, Observed, cell_health}
 use Rattle.lb_registry.specs.Verdicts.{agree}
 use Rattle.lb_registry.specs.declared.targets.Target.{Target}
 use Rattle.lb_world.specs.Calls.{IsCounted}
-use Rattle.lb_world.specs.Stands.{IsFounded, OnSite}
+use Rattle.lb_world.specs.Stands.{OnSite}
 use Rattle.std.proofs.Common.{◌≢◌, get_or}
 use Rattle.std.proofs.lemmas.Bool.{lt-leb}
 use Rattle.std.proofs.lemmas.Grind.{common_steps}
@@ -32,14 +32,13 @@ use Rattle.lb_world.proofs.Words.{config_in, configs_of, entered_of, entries, En
 use Rattle.lb_world.proofs.Words.{gates, GateView, get-kept, get-pushed, group-of, group_at, group_events, held_of, HeldValue, History, inl}
 use Rattle.lb_world.proofs.Words.{inr, is_at, is_out, IsOwnReader, IsReady, IsRegistryAfter, IsRun, IsTrue, joined_events, Judges, key_at}
 use Rattle.lb_world.proofs.Words.{key_by, key_gives, key_in, key_of, length, length-map, length-set, length_push, List, load_of, lt-ltb}
-use Rattle.lb_world.proofs.Words.{made, Made, made_at, made_of, map, map-append, marks_start_none, MatchOption, Meaning, Member, nat_lt}
-use Rattle.lb_world.proofs.Words.{ne_eqb, no_number, None, none-some, not, Ok, Option, option_map, origin, others-stay, past, past_of}
-use Rattle.lb_world.proofs.Words.{permit_after, refl, Refusal, refuse, refused-alike, registries, registry_at, registry_events}
-use Rattle.lb_world.proofs.Words.{RegistryMade, RegistryValue, Result, same_member, same_Some, served, set_found, site, slice_get}
-use Rattle.lb_world.proofs.Words.{slice_get_past, slice_get_within, slice_set, Some, Stands, Step, subst, sym, there-at, true}
-use Rattle.lb_world.proofs.Words.{unless_refused, unrefused, views_of, where_, with_core, without_memory, work, worked, works_at, WorldRule}
-use Rattle.lb_world.proofs.Words.{WorldValue, ℕ}
-use Rattle.lb_world.proofs.Places.{at-place, each-push, each-set, get_last, get_other, get_set, set-same, still-there, there}
+use Rattle.lb_world.proofs.Words.{made, Made, made_at, made_of, map, map-append, marks_start_none, Meaning, Member, nat_lt, ne_eqb}
+use Rattle.lb_world.proofs.Words.{no_number, None, none-some, not, Ok, Option, option_map, origin, others-stay, past, past_of, permit_after}
+use Rattle.lb_world.proofs.Words.{refl, Refusal, refused-alike, registries, registry_at, registry_events, RegistryMade, RegistryValue}
+use Rattle.lb_world.proofs.Words.{Result, same_member, same_Some, served, set_found, site, slice_get, slice_get_past, slice_get_within}
+use Rattle.lb_world.proofs.Words.{slice_set, Some, Stands, Step, subst, sym, there-at, true, unrefused, views_of, where_, with_core}
+use Rattle.lb_world.proofs.Words.{without_memory, work, worked, works_at, WorldRule, WorldValue, ℕ, at-place, each-push, each-set, get_last}
+use Rattle.lb_world.proofs.Words.{get_other, get_set, set-same, still-there, there}
 use Rattle.lb_world.proofs.Entries.{at-group, gate-here, key-here, next, registry-here, taken, config-here, Moves, next-core, next-refused}
 use Rattle.lb_world.proofs.Entries.{reading-told, unshared, views-are}
 
@@ -137,15 +136,6 @@ empty M =
       each = λ g e at. absurd (none-some e at);
       on_site = λ g e at. absurd (none-some e at);
       own = λ t r at e in_. absurd (none-some _ at);
-    }
-
--- some history stands behind the world after a step, too
-pub founded-by : {C : Type 0} {M : Meaning C} {v w x : WorldValue C} {st : Step C} {a : Answer} → v ≡ w → IsFounded M v
-    → ((h : History C) → Stands M w h → Stands M x ((st, a) ∷ h)) → IsFounded M x
-founded-by {C = C} {M = M} {st = st} {a = a} same was then_ =
-    record {
-      history = (st, a) ∷ was.history;
-      stands = then_ was.history (subst (λ u. Stands M u was.history) same was.stands);
     }
 
 module _ {C : Type 0} {M : Meaning C} {w : WorldValue C} {h : History C} (s : Stands M w h) where
@@ -323,29 +313,6 @@ pub marks-fit : (key_of : Member → Member) (events : List Event) (u : Registry
     → cells_given key_of (Applied ∷ events) < 2 ^ 64
 marks-fit key_of events u now = omega (arith, marks_start_none key_of events now.state.sets, now.state.fits)
 
-verdict-told : (o : Option RegistryMade) (m : RegistryMade) (events : List Event) (c threshold : ℕ) (ok b : Bool) → o ≡ Some m
-    → IsCellKept (key_in o) c events
-    → (IsTrue b ↔
-    (cell_health (key_in o) c (Observed c (record { ok = ok; threshold = threshold }) ∷ events) ≢ cell_health (key_in o) c events))
-    → MatchOption o (Answer.Flipped b ≡ refuse Refusal.NoSuch)
-    (λ m. VerdictAnswers (key_by m.rule) events c ok threshold (Answer.Flipped b))
-verdict-told None m events c threshold ok b there kept flips = absurd (none-some m there)
-verdict-told (Some x) m events c threshold ok b there kept flips = inl (kept, ap Answer.Flipped (flip-told b _ _ flips))
-
-verdict-missed : (o : Option RegistryMade) (events : List Event) (c threshold : ℕ) (ok : Bool) → (IsCellKept (key_in o) c events → ⊥)
-    → MatchOption o (Answer.Refused Refusal.NoSuch ≡ refuse Refusal.NoSuch)
-    (λ m. VerdictAnswers (key_by m.rule) events c ok threshold (Answer.Refused Refusal.NoSuch))
-verdict-missed None events c threshold ok off = refl
-verdict-missed (Some m) events c threshold ok off = inr (off, refl)
-
-targets-of : (o : Option RegistryMade) (m : RegistryMade) (events : List Event) → o ≡ Some m
-    → cells_given (key_in o) (Applied ∷ events) < 2 ^ 64
-    → at_one o (λ m. unless_refused (no_number (cells_given (key_by m.rule) (Applied ∷ events)))
-    (Answer.Targets (targets_after (key_by m.rule) (Applied ∷ events)))) ≡ Answer.Targets (targets_after (key_in o) (Applied ∷ events))
-targets-of None m events there few = absurd (none-some m there)
-targets-of (Some x) m events there few =
-    ap (λ o. unless_refused o (Answer.Targets (targets_after (key_by x.rule) (Applied ∷ events)))) (number-left _ few)
-
 slot-on : {C : Type 0} (s x : ℕ) (o : Option (Made C)) → gate_at s o ≡ Some x → (m : Made C) × ((o ≡ Some m) × (m.gate ≡ x))
 slot-on s x None e = absurd (none-some x e)
 slot-on {C} s x (Some m) e = (m, (refl, on (slice_get m.configs s) e)) where
@@ -367,30 +334,29 @@ module _ {C : Type 0} {M : Meaning C} {w : WorldValue C} {h : History C} (s : St
       → Tells u (λ k es. IsCellKept k c es)
       → Stands M (record w { registries = slice_set w.registries r v }) ((Step.verdict r c ok threshold, Answer.Flipped b) ∷ h)
   verdict-next r c threshold ok b u v there after flips kept =
-      let now = s.kept r u there in
-      let m = made-there r u there in
+      let m = (made-there r u there).1 in
+      let now = rw m at (s.kept r u there) in
       let st : Step C = Step.verdict r c ok threshold in
       registry-set s ((st, Answer.Flipped b) ∷ h) r u v
-      (s.run, verdict-told (slice_get (registries h) r) m.0 (registry_events r h) c threshold ok b m.1 (kept _ _ now) (flips _ _ now)) refl
+      (s.run, rw m (inl (kept _ _ now, ap Answer.Flipped (flip-told b _ _ (flips _ _ now))))) refl
       refl refl refl
       (λ i off. (others-stay h st (Answer.Flipped b)).registries i (ne_eqb r i (λ q. off (sym q)))) (λ g. refl) (λ g. refl) (λ g i. refl)
-      (λ g b. refl) (λ x. refl) there (rw (eq-eqb r r refl) (after _ _ now))
+      (λ g b. refl) (λ x. refl) there (rw (eq-eqb r r refl) (after _ _ (s.kept r u there)))
 
   pub verdict-refused : (r c threshold : ℕ) (ok : Bool) (u v : RegistryValue WorldRule) → slice_get w.registries r ≡ Some u → v ≡ u
       → Tells u (λ k es. IsCellKept k c es → ⊥)
       → Stands M (record w { registries = slice_set w.registries r v }) ((Step.verdict r c ok threshold, Answer.Refused Refusal.NoSuch) ∷ h)
   verdict-refused r c threshold ok u v there same off =
-      let after =
-      world-refused s {st = Step.verdict r c ok threshold}
-      (verdict-missed (slice_get (registries h) r) (registry_events r h) c threshold ok (off _ _ (s.kept r u there))) in
+      let m = (made-there r u there).1 in
+      let after = world-refused s {st = Step.verdict r c ok threshold} (rw m (inr (rw m at (off _ _ (s.kept r u there)), refl))) in
       registry-lent after r u v there (rw same (after.kept r u there))
 
   -- marks that are applied start no cell, so a number is left
   targets-told : (r : ℕ) (u : RegistryValue WorldRule) → slice_get w.registries r ≡ Some u
       → answer_after M h (Step.targets r) ≡ Answer.Targets (targets_after (key_at r h) (Applied ∷ registry_events r h))
   targets-told r u there =
-      let m = made-there r u there in
-      targets-of (slice_get (registries h) r) m.0 (registry_events r h) m.1 (marks-fit _ _ u (s.kept r u there))
+      let m = (made-there r u there).1 in
+      rw m (rw (number-left _ (marks-fit _ _ u (rw m at (s.kept r u there)))) refl)
 
   pub targets-next : (r : ℕ) (ts : List Target) (u v : RegistryValue WorldRule) → slice_get w.registries r ≡ Some u
       → Tells u (λ k es. IsRegistryAfter key_gives k (Applied ∷ es) v) → Tells u (λ k es. ts ≡ targets_after k (Applied ∷ es))
@@ -482,12 +448,6 @@ module _ {C : Type 0} (M : Meaning C) where
   entered-there ((Step.leave u, Answer.Left n) ∷ h) run t e at = entered-there h run.0 t e (still-there (entries h) u t e at)
   entered-there ((st, a) ∷ h) run t e at = entered-there h run.0 t e at
 
-full-told : (x n a : ℕ) → (n ≡ 18446744073709551615) ⊎ (x ≡ 18446744073709551615) → enter_answer x n a ≡ refuse Refusal.NumbersExhausted
-full-told x n a many = grind (arith, common_steps, many)
-
-free-told : (x n a : ℕ) → ¬ (n ≡ 18446744073709551615) → ¬ (x ≡ 18446744073709551615) → enter_answer x n a ≡ Answer.Reader n a
-free-told x n a few left = rw (ne_eqb x 18446744073709551615 left, ne_eqb n 18446744073709551615 few) refl
-
 module _ {C : Type 0} {M : Meaning C} {w : WorldValue C} {h : History C} (s : Stands M w h) where
   pub entered-in : (t : ℕ) (x : Option (HeldValue C)) → slice_get w.readers t ≡ Some x
       → slice_get (entries h) t ≡ Some (option_map entered_of x)
@@ -532,11 +492,11 @@ module _ {C : Type 0} {M : Meaning C} {w : WorldValue C} {h : History C} (s : St
           → Refuses Refusal.NumbersExhausted
       enter-full x some many =
           enter-refused Refusal.NumbersExhausted
-          (inl (sym (enter-told ∙ rw some (full-told x (length w.readers) (served (past g slot h)) many))))
+          (inl (sym (enter-told ∙ rw some (grind (arith, common_steps, many)))))
 
       module _ (x : ℕ) (some : r ≡ Some x) (few : ¬ (length w.readers ≡ 18446744073709551615)) (left : ¬ (x ≡ 18446744073709551615)) where
         enters-as : answer_after M h (Step.enter g slot) ≡ Answer.Reader (length w.readers) (served (past g slot h))
-        enters-as = enter-told ∙ rw some (free-told x (length w.readers) (served (past g slot h)) few left)
+        enters-as = enter-told ∙ rw (some, ne_eqb x 18446744073709551615 left, ne_eqb (length w.readers) 18446744073709551615 few) refl
 
         memory-right : Answers M h (Step.enter g slot) (Answer.Refused Refusal.OutOfMemory)
         memory-right = inr (sym (ap (without_memory {C = C} (Step.enter g slot)) enters-as))

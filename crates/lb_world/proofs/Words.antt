@@ -1,4 +1,5 @@
--- The names that the proofs of this crate share, passed on from one place. Declares nothing.
+-- The names that the proofs of this crate share, passed on from one place; and lemmas on the elements of a list after one of them
+-- was written, and after one was added at the end.
 pub use Rattle.lb_group.proofs.Pasts.{members-past, newest-past, past-other, past-same}
 pub use Rattle.lb_group.specs.Flights.{flight_after}
 pub use Rattle.lb_group.specs.GroupCalls.{at_slot}
@@ -6,7 +7,6 @@ pub use Rattle.lb_group.specs.GroupHistory.{At, granted, granted_members, member
 pub use Rattle.lb_group.specs.SlotCalls.{ask_told}
 pub use Rattle.lb_group.specs.Values.{Task, configs_of}
 pub use Rattle.lb_health.specs.Joined.{IsReady, settings_of}
-pub use Rattle.lb_health.specs.ViewEvents.{ViewEvent}
 pub use Rattle.lb_history.proofs.Absent.{absent}
 pub use Rattle.lb_history.proofs.Counting.{there-at}
 pub use Rattle.lb_history.proofs.Extras.{get-kept}
@@ -19,7 +19,7 @@ pub use Rattle.lb_history.proofs.Steps.{others-stay}
 pub use Rattle.lb_history.proofs.Together.{get-pushed, group-of}
 pub use Rattle.lb_history.specs.Answers.{Answers, IsRun, Judges, answer_after, at_one, has_refused, no_number, no_such, refuse}
 pub use Rattle.lb_history.specs.Answers.{unless_refused, where_, without_memory}
-pub use Rattle.lb_history.specs.History.{History, Made, RegistryMade, Work, after, config, config_in, ended, entries, gates, group_at}
+pub use Rattle.lb_history.specs.History.{History, Made, RegistryMade, Work, after, config, config_in, entries, gates, group_at}
 pub use Rattle.lb_history.specs.History.{group_events, happened, is_at, is_out, load_of, made, made_at, members_in, past, registries}
 pub use Rattle.lb_history.specs.History.{registry_of, work, worked, works_at}
 pub use Rattle.lb_history.specs.Joined.{joined_after, joined_events}
@@ -53,8 +53,8 @@ pub use Rattle.lb_world.specs.Stands.{Before, EntryIs, EntryNext, Stands, made_o
 pub use Rattle.lb_world.specs.Views.{EntryValue, HeldValue, IsOwnReader, Origin, WorkValue, WorldValue, entered_of, origin, site}
 pub use Rattle.lb_world.specs.Works.{held_of}
 pub use Rattle.std.proofs.Common.{Bool, Equal, Greater, IsTrue, Less, List, Ordering, [], ap, arith, cond, drop, false, inl, inr, length}
-pub use Rattle.std.proofs.Common.{map, nat_le, nat_lt, not, refl, slice_get, subst, sym, take, true, true≢false, ℕ, if◌then◌else◌, ◌&&◌}
-pub use Rattle.std.proofs.Common.{◌++◌, ◌+◌, ◌<◌, ◌==◌, ◌^◌, ◌||◌, ◌↔◌, ◌∙◌, ◌∷◌, ◌≡◌, ◌≤◌, ◌⊎◌}
+pub use Rattle.std.proofs.Common.{map, nat_le, nat_lt, not, refl, slice_get, subst, sym, take, true, true≢false, ℕ, ◌&&◌, ◌++◌, ◌+◌, ◌<◌}
+pub use Rattle.std.proofs.Common.{◌==◌, ◌^◌, ◌||◌, ◌↔◌, ◌∙◌, ◌∷◌, ◌≡◌, ◌≤◌, ◌⊎◌}
 pub use Rattle.std.proofs.lemmas.Bool.{and_parts, cases_eq, eq-eqb, false≢true, le-leb, lt-ltb, ltb-true, ne_eqb}
 pub use Rattle.std.proofs.lemmas.Bool.Decides.{leb_tells}
 pub use Rattle.std.proofs.lemmas.Iterator.Adapters.{YieldsList-from_vec}
@@ -66,5 +66,74 @@ pub use Rattle.std.specs.BTreeSet.{insert_key}
 pub use Rattle.std.specs.Cmp.{IsEquivalence}
 pub use Rattle.std.specs.List.{cons_option, list_all, list_any}
 pub use Rattle.std.specs.Option.{option_map}
-pub use Rattle.std.specs.Ordering.{is_eq, match_ordering, nat_cmp, ordering_then}
+pub use Rattle.std.specs.Ordering.{match_ordering, nat_cmp, ordering_then}
 pub use Rattle.std.specs.Prelude.{Err, MatchOption, None, Ok, Option, Result, Some, fold, slice_set}
+use Rattle.std.proofs.Common.{get_or, replicate, suc, zero}
+use Rattle.std.proofs.lemmas.List.{set-get_or}
+use Rattle.std.proofs.lemmas.Option.{get_or_from_slice_get, slice_get-get_or, slice_get_cases}
+
+module _ {X : Type 0} where
+  -- elsewhere nothing changed
+  pub get_other : (xs : List X) (i j : ℕ) (y : X) → (j ≡ i → ⊥) → slice_get (slice_set xs i y) j ≡ slice_get xs j
+  get_other (a ∷ xs) zero zero y n = absurd (n refl)
+  get_other (a ∷ xs) (suc i) (suc j) y n = get_other xs i j y (λ e. n (ap suc e))
+  get_other xs i j y n = refl
+
+  -- an element after a write is the one that was written, or an old one elsewhere
+  pub get_set :
+      (xs : List X) (i j : ℕ) (x y z : X) → slice_get xs i ≡ Some x → slice_get (slice_set xs i y) j ≡ Some z
+      → ((j ≡ i) × (z ≡ y)) ⊎ ((j ≡ i → ⊥) × (slice_get xs j ≡ Some z))
+  get_set xs i j x y z h r =
+      elim (cases_eq j i) [
+        | inl e ↦ inl (e, same_Some z y (sym r ∙ ap (slice_get (slice_set xs i y)) e ∙ set_found xs i x y h))
+        | inr n ↦ inr (n, sym (get_other xs i j y n) ∙ r)
+      ]
+
+  -- what is written as it was
+  pub set-same : (xs : List X) (i : ℕ) (x : X) → slice_get xs i ≡ Some x → slice_set xs i x ≡ xs
+  set-same xs i x at = ap (slice_set xs i) (sym (get_or_from_slice_get xs i x x at)) ∙ set-get_or xs i x
+
+  -- an element is there, or not, and it is exactly within the length
+  pub there : (xs : List X) (i : ℕ) → ((slice_get xs i ≡ None) × (length xs ≤ i)) ⊎ ((x : X) × (slice_get xs i ≡ Some x))
+  there xs i = elim (slice_get_cases xs i).1 [ inl p ↦ inr (p.0, p.2) | inr p ↦ inl (p.1, p.0) ]
+
+  -- the one that was added at the end is there
+  pub get_last : (xs : List X) (y : X) → slice_get (xs ++ y ∷ []) (length xs) ≡ Some y
+  get_last [] y = refl
+  get_last (a ∷ xs) y = get_last xs y
+
+  -- what holds of each element of a table, after one was written, or added
+  pub each-set : {Q : ℕ → X → Type 0} (xs : List X) (i : ℕ) (x y : X) → slice_get xs i ≡ Some x → Q i y
+      → ((j : ℕ) (z : X) → (j ≡ i → ⊥) → slice_get xs j ≡ Some z → Q j z)
+      → (j : ℕ) (z : X) → slice_get (slice_set xs i y) j ≡ Some z → Q j z
+  each-set {Q} xs i x y was new old j z at =
+      elim (get_set xs i j x y z was at) [
+        | inl p ↦ subst (λ k. Q k z) (sym p.0) (subst (Q i) (sym p.1) new)
+        | inr p ↦ old j z p.0 p.1
+      ]
+
+  pub each-push : {Q : ℕ → X → Type 0} (xs : List X) (y : X) → Q (length xs) y
+      → ((j : ℕ) (z : X) → j < length xs → slice_get xs j ≡ Some z → Q j z)
+      → (j : ℕ) (z : X) → slice_get (xs ++ y ∷ []) j ≡ Some z → Q j z
+  each-push {Q} xs y new old j z at =
+      elim (get-pushed xs y z j at) [
+        | inl p ↦ subst (λ k. Q k z) (sym p.0) (subst (Q (length xs)) (sym p.1) new)
+        | inr p ↦ old j z p.0 p.1
+      ]
+
+-- what is in a list after a place was emptied was there before
+pub still-there : {X : Type 0} (xs : List (Option X)) (i j : ℕ) (x : X) → slice_get (slice_set xs i None) j ≡ Some (Some x)
+    → slice_get xs j ≡ Some (Some x)
+still-there {X} (y ∷ xs) zero zero x at = absurd (none-some x (same_Some _ _ at))
+still-there (y ∷ xs) (suc i) (suc j) x at = still-there xs i j x at
+still-there xs i j x at = at
+
+-- one of a list of equal elements
+pub get_replicate : {X : Type 0} (n : ℕ) (x : X) (i : ℕ) (y : X) → slice_get (replicate n x) i ≡ Some y → y ≡ x
+get_replicate zero x i y h = absurd (none-some y h)
+get_replicate (suc n) x zero y h = sym (same_Some x y h)
+get_replicate (suc n) x (suc i) y h = get_replicate n x i y h
+
+-- a place that is read
+pub at-place : {X : Type 0} (xs : List X) (i : ℕ) (x : X) → i < length xs → x ≡ get_or xs i x → slice_get xs i ≡ Some x
+at-place xs i x within is = slice_get-get_or xs i x within ∙ ap Some (sym is)

@@ -95,10 +95,8 @@ impl<S: BackendSelection> Entry<S> {
         if self.lacks_numbers(registry, &listings) {
             return Answer::Refused(Refusal::NumbersExhausted);
         }
-        let Ok(settings) = settings_from(alloc, &listings) else {
-            return Answer::Refused(Refusal::OutOfMemory);
-        };
-        let Ok(members) = members_from(alloc, listings) else {
+        let settings = settings_from(alloc, &listings);
+        let (Ok(settings), Ok(members)) = (settings, members_from(alloc, listings)) else {
             return Answer::Refused(Refusal::OutOfMemory);
         };
         match self.core.schedule(alloc, registry, members, settings, now) {

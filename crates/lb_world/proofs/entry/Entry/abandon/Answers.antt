@@ -1,6 +1,5 @@
 -- What is held built is the last job, so it is awaited.
-use Rattle.lb_world.proofs.Words.{◌∙◌, ap, arith, inl, meaning_of, refl, Some, Work}
-use Rattle.lb_world.proofs.Places.{at-place}
+use Rattle.lb_world.proofs.Words.{◌∙◌, ap, arith, inl, meaning_of, refl, Some, Work, at-place}
 use Rattle.lb_world.proofs.Entries.{next-refused, stays, beyond, does-abandon, holds, left-so, own-task, unawaited, unbuilt}
 use Rattle.lb_world.proofs.entry.Entry.abandon.Goals as goal
 

@@ -1,6 +1,5 @@
 -- What the slot answers, and the job that goes to its place.
-use Rattle.lb_world.proofs.Words.{ap, arith, ask_told, meaning_of, refl}
-use Rattle.lb_world.proofs.Places.{at-place}
+use Rattle.lb_world.proofs.Words.{ap, arith, ask_told, meaning_of, refl, at-place}
 use Rattle.lb_world.proofs.Entries.{does-grant, free-place, next-asked, next-unasked}
 use Rattle.lb_world.proofs.entry.Entry.ask.Goals as goal
 

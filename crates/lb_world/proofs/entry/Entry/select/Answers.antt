@@ -25,8 +25,7 @@ use Rattle.lb_world.proofs.Words.{happened, History, inl, inr, joined_after, joi
 use Rattle.lb_world.proofs.Words.{list_all, load_in, load_of, lt-ltb, made, MatchOption, Meaning, Member, members-past, members_of, nat_le}
 use Rattle.lb_world.proofs.Words.{nat_lt, None, Ok, Option, past, past-other, past-same, past_of, permit_after, promised, refl, Refusal}
 use Rattle.lb_world.proofs.Words.{registry_events, RegistryValue, Result, same_member, served, shares, site, slice_get, slice_get_within}
-use Rattle.lb_world.proofs.Words.{Some, Step, subst, sym, true, with_core, Work, worked, WorldRule, ℕ}
-use Rattle.lb_world.proofs.Places.{there}
+use Rattle.lb_world.proofs.Words.{Some, Step, subst, sym, true, with_core, Work, worked, WorldRule, ℕ, there}
 use Rattle.lb_world.proofs.Entries.{config-here, Moves, next-core, next-refused, no_grant, registry-here, slot-or, unshared, views-are}
 use Rattle.lb_world.proofs.entry.Entry.select.Goals as goal
 
@@ -36,11 +35,9 @@ undrawn-slot : {C : Type 0} (id : GateId) (i s t : ℕ) (c : C) (k : group.Histo
 undrawn-slot {C = C} id i s t c k is =
     elim (cases_eq s i) [
       | inl same ↦
-          ap (λ j. slot_after id c (past_of j (At s (Drew t) ∷ k))) (sym same)
-          ∙ ap (slot_after id c) (past-same s (Drew t) k)
-          ∙ sym (drew-step id c s t (past_of s k))
-          ∙ ap (λ n. drawn_slot n (slot_after id c (past_of s k))) is
-          ∙ ap (λ j. slot_after id c (past_of j k)) same
+          subst (λ j. slot_after id c (past_of j (At s (Drew t) ∷ k)) ≡ slot_after id c (past_of j k)) same
+          (ap (slot_after id c) (past-same s (Drew t) k) ∙ sym (drew-step id c s t (past_of s k))
+          ∙ ap (λ n. drawn_slot n (slot_after id c (past_of s k))) is)
       | inr off ↦ ap (slot_after id c) (past-other i s (Drew t) k off)
     ]
 
@@ -49,11 +46,6 @@ undrawn-slots : {C : Type 0} (id : GateId) (i s t : ℕ) (cs : List C) (k : grou
 undrawn-slots id i s t [] k is = refl
 undrawn-slots {C = C} id i s t (c ∷ cs) k is =
     ap2 ◌∷◌ (undrawn-slot id i s t c k is) (undrawn-slots id (i + 1) s t cs k is)
-
-undrawn-group : {C : Type 0} (made : group-made.Made C) (s t : ℕ) (k : group.History) → t ≡ drawn (past_of s k)
-    → group_after made (At s (Drew t) ∷ k) ≡ group_after made k
-undrawn-group {C = C} made s t k is =
-    ap (λ xs. record (group_after made k) { slots = xs }) (undrawn-slots made.gate 0 s t made.configs k is)
 
 undrawn : {C : Type 0} (made : group-made.Made C) (s t : ℕ) (e : joined.History) (v : JoinedValue C)
     → t ≡ drawn (past_of s (joined.group_events e))
@@ -68,7 +60,9 @@ undrawn made s t e v is was =
                 (elim (s == i) as (λ b. IsPast (cond b (At s (Drew t) ∷ p) p) → IsPast p) [ true ↦ λ may. may.0 | false ↦ λ may. may ])
                 (was.group.possible i);
             bounded = was.group.bounded;
-            shows = was.group.shows ∙ undrawn-group made s t (joined.group_events e) is;
+            shows = was.group.shows ∙ (λ i. record (group_after made (joined.group_events e)) {
+              slots = undrawn-slots made.gate 0 s t made.configs (joined.group_events e) is i;
+            });
           };
       view = was.view;
     }

@@ -3,7 +3,6 @@ use Rattle.lb_group.specs.GroupCalls.{is_change, schedule_refusal}
 use Rattle.lb_group.specs.GroupHistory.{is_cancelled}
 use Rattle.lb_group.specs.declared.schedule.Scheduled.{Scheduled}
 use Rattle.lb_health.specs.Joined.{registry_updated}
-use Rattle.lb_health.specs.ViewEvents.{membership_after}
 use Rattle.lb_history.proofs.Joining.{follows}
 use Rattle.lb_history.proofs.Registered.{is-registered}
 use Rattle.lb_history.proofs.Together.{schedules-alike}
@@ -11,17 +10,19 @@ use Rattle.lb_history.specs.Answers.{update_answer}
 use Rattle.lb_history.specs.Joined.{Updated}
 use Rattle.lb_joined.specs.JoinedCalls.{after_schedule, IsRefusedFor, Schedules}
 use Rattle.lb_world.specs.Calls.{scheduled_as}
-use Rattle.std.proofs.lemmas.Bool.{false_from_ne_true, leb-true, not-false}
+use Rattle.std.proofs.lemmas.Bool.{not-false}
 use Rattle.lb_joined.specs.Stands as stands
 use Rattle.lb_joined.specs.JoinedHistory as joined
 use Rattle.lb_registry.specs.RegistryEvents as registry
-use Rattle.lb_world.proofs.Words.{◌&&◌, ◌+◌, ◌==◌, ◌^◌, ◌↔◌, ◌∙◌, ◌∷◌, ◌≡◌, ◌≤◌, absent, Answer, answer_after, Answers, ap, ap2, at_one}
-use Rattle.lb_world.proofs.Words.{Before, Bool, changed, cond, earlier, EntryNext, EntryValue, Err, events_in, false, GateView, group-of}
-use Rattle.lb_world.proofs.Words.{group_events, has_refused, History, inl, inr, IsRegistryAfter, IsTrue, joined_after, joined_events}
-use Rattle.lb_world.proofs.Words.{JoinedValue, key_gives, key_of, le-leb, List, Listing, Made, made_at, made_of, Meaning, members_in}
-use Rattle.lb_world.proofs.Words.{members_of, nat_le, newest, no_number, None, numbered, Ok, Option, refl, Refusal, refuse, registry_events}
-use Rattle.lb_world.proofs.Words.{RegistryValue, Result, same_members, settings_in, shares, site, Some, Step, subst, sym, true, true≢false}
-use Rattle.lb_world.proofs.Words.{unless_refused, view_events, view_in, views_of, where_, with_core, without_memory, WorldRule, ℕ}
+use Rattle.lb_world.proofs.Words.{◌<◌, arith, ◌&&◌, ◌+◌, ◌==◌, ◌^◌, ◌↔◌, ◌∙◌, ◌∷◌, ◌≡◌, ◌≤◌, absent, Answer, answer_after, Answers, ap, ap2}
+use Rattle.lb_world.proofs.Words.{at_one, Before, Bool, changed, cond, earlier, EntryNext, EntryValue, Err, events_in, false, GateView}
+use Rattle.lb_world.proofs.Words.{group-of, group_events, has_refused, History, inl, inr, IsRegistryAfter, IsTrue, joined_after}
+use Rattle.lb_world.proofs.Words.{joined_events, JoinedValue, key_gives, key_of, le-leb, List, Listing, Made, made_at, made_of, Meaning}
+use Rattle.lb_world.proofs.Words.{members_in, members_of, nat_le, newest, no_number, None, numbered, Ok, Option, refl, Refusal, refuse}
+use Rattle.lb_world.proofs.Words.{registry_events, RegistryValue, Result, same_members, settings_in, shares, site, Some, Step, subst, sym}
+use Rattle.lb_world.proofs.Words.{true, true≢false, unless_refused, view_events, view_in, views_of, where_, with_core, without_memory}
+use Rattle.lb_world.proofs.Words.{WorldRule, ℕ}
+use Rattle.lb_world.proofs.Tables.{number-left}
 use Rattle.lb_world.proofs.Entries.{joined-here, Moves, next-core, next-refused, registry-here, shared, stays, views-are}
 use Rattle.lb_world.proofs.entry.Entry.update.Goals as goal
 
@@ -35,27 +36,20 @@ first-cause false false c d r is = absurd (cc)
 first-cause a b true true r is = is
 first-cause a b c d r is = is
 
-left-false : (a b : ℕ) → (a ≤ b → ⊥) → nat_le a b ≡ false
-left-false a b off = false_from_ne_true (nat_le a b) (λ e. off (leb-true a b e))
-
 uncancelled : (a b : Bool) → cause a b ≡ None → b ≡ false
 uncancelled false false is = refl
 uncancelled a b is = absurd (cc)
 
-unlacked : (c d : Bool) → (c ≡ true → d ≡ false) → cond c (where_ d Refusal.NumbersExhausted) None ≡ None
-unlacked true d is = rw (is refl) refl
-unlacked false d is = refl
-
-same-events : (es fs : List registry.Event) (t : Bool) → t ≡ true → cond t es fs ≡ es
-same-events es fs t is = rw is refl
+unlacked : (c : Bool) (n : ℕ) → (c ≡ true → n < 2 ^ 64) → cond c (no_number n) None ≡ None
+unlacked true n left = number-left n (left refl)
+unlacked false n left = refl
 
 memory-told : {C : Type 0} (st : Step C) (n : ℕ) (c : Bool) → without_memory st (update_answer n c) ≡ Answer.Refused Refusal.OutOfMemory
 memory-told st n true = refl
 memory-told st n false = refl
 
 scheduled-told : (c : Bool) (n : ℕ) (s : Scheduled) → s.changed ≡ c → s.generation ≡ cond c (n + 1) n → scheduled_as s ≡ update_answer n c
-scheduled-told true n s changed number = rw (changed, number) refl
-scheduled-told false n s changed number = rw (changed, number) refl
+scheduled-told c n s changed number = grind (arith, changed, number)
 
 module _ {C : Type 0} {M : Meaning C} {h : History C} {g : ℕ} {e : EntryValue C} {z : GateView} {v : RegistryValue WorldRule}
     (b : Before M h g e z v) (now : ℕ) (ls : List Listing) (whole : has_refused ls ≡ false) where
@@ -72,6 +66,9 @@ module _ {C : Type 0} {M : Meaning C} {h : History C} {g : ℕ} {e : EntryValue 
 
   abbrev causes : Option Refusal
   causes = schedule_refusal (members_in ls) (group_events g h)
+
+  below : (2 ^ 64 ≤ cells → ⊥) → cells < 2 ^ 64
+  below few = omega (arith, few)
 
   -- the group's cause, as its core knows it
   caused : (r : Option Refusal) → schedule_refusal (members_in ls) (joined.group_events (joined_events g h)) ≡ r → causes ≡ r
@@ -91,10 +88,9 @@ module _ {C : Type 0} {M : Meaning C} {h : History C} {g : ℕ} {e : EntryValue 
       ∙ ap (λ o. unless_refused o (update_answer (newest (group_events g h)) change)) is
 
   -- where the group has no cause and a number is left
-  fits : causes ≡ None → (change ≡ true → nat_le (2 ^ 64) cells ≡ false)
+  fits : causes ≡ None → (change ≡ true → cells < 2 ^ 64)
       → answer_after M h st ≡ update_answer (newest (group_events g h)) change
-  fits none enough =
-      told-so None (rw none (unlacked change (nat_le (2 ^ 64) cells) enough))
+  fits none enough = told-so None (rw none (unlacked change cells enough))
 
   -- refused for a cause of the group's, for numbers, and for memory
   cause-right : (r : Refusal) → schedule_refusal (members_in ls) (joined.group_events (joined_events g h)) ≡ Some r
@@ -108,7 +104,7 @@ module _ {C : Type 0} {M : Meaning C} {h : History C} {g : ℕ} {e : EntryValue 
   numbers-right none is more =
       inl (sym (told-so (Some Refusal.NumbersExhausted) (rw (none, is, le-leb (2 ^ 64) cells more) refl)))
 
-  memory-right : causes ≡ None → (change ≡ true → nat_le (2 ^ 64) cells ≡ false) → Answers M h st (Answer.Refused Refusal.OutOfMemory)
+  memory-right : causes ≡ None → (change ≡ true → cells < 2 ^ 64) → Answers M h st (Answer.Refused Refusal.OutOfMemory)
   memory-right none enough =
       inr (sym (ap (without_memory {C = C} st) (fits none enough) ∙ memory-told {C = C} st (newest (group_events g h)) change))
 
@@ -137,7 +133,7 @@ module _ {C : Type 0} {M : Meaning C} {h : History C} {g : ℕ} {e : EntryValue 
       → Counted lacking → lacking ≡ false → EntryNext M h g st (Answer.Refused Refusal.OutOfMemory) e z e z v
   lacks-memory lacking own told is =
       let none = caused None own in
-      let fit = λ (c : change ≡ true). left-false (2 ^ 64) cells (λ m. true≢false (sym ((counted lacking none told).1 (c, m)) ∙ is)) in
+      let fit = λ (c : change ≡ true). below (λ m. true≢false (sym ((counted lacking none told).1 (c, m)) ∙ is)) in
       next-refused b refl (memory-right none fit) (stays b.is)
 
   -- what the core tells of a change for which no number is left
@@ -169,8 +165,7 @@ module _ {C : Type 0} {M : Meaning C} {h : History C} {g : ℕ} {e : EntryValue 
             elim group-fits.2 [
               | inl memory ↦
                   rw memory
-                  (memory-right none (λ t. left-false (2 ^ 64) cells
-                  (λ more. absurd (let clash = lacks (Err r) lacking none c more in cc))))
+                  (memory-right none (λ t. below (λ more. absurd (let clash = lacks (Err r) lacking none c more in cc))))
               | inr (inl numbered) ↦ rw numbered (numbers-right none c (numbers numbered))
               | inr (inr absent) ↦ absurd (true≢false (sym (view-there none) ∙ unknown absent))
             ]
@@ -197,8 +192,7 @@ module _ {C : Type 0} {M : Meaning C} {h : History C} {g : ℕ} {e : EntryValue 
 
       told : answer_after M h st ≡ update_answer N change
       told =
-          fits (caused None own.0)
-          (λ c. left-false (2 ^ 64) cells (λ more. absurd (let clash = lacks (Ok s) lacking (caused None own.0) c more in cc)))
+          fits (caused None own.0) (λ c. below (λ more. absurd (let clash = lacks (Ok s) lacking (caused None own.0) c more in cc)))
 
       -- what the core stands for is what the step did to the group, and the registry's events are those of the view
       becomes : (a : Answer) → Updated h g now ls a → Moves e (joined_after h (group_events g h) (joined_events g h) st a) core
@@ -230,9 +224,8 @@ module _ {C : Type 0} {M : Meaning C} {h : History C} {g : ℕ} {e : EntryValue 
           next-core b refl right (becomes a (schedules-alike M h st a (b.run, right))) refl (λ s. refl) (λ m. refl) refl
           (shared b st a refl refl
           (kept-as (registry_events e.registry h)
-          (same-events (registry_events e.registry h) _ (same_members (members_in ls) (membership_after (view_events g h)))
-          (ap (same_members (members_in ls)) (follows M h b.run g).membership
-          ∙ not-false (same_members (members_in ls) (members_of N (group_events g h))) is))))
+          (rw (ap (same_members (members_in ls)) (follows M h b.run g).membership
+          ∙ not-false (same_members (members_in ls) (members_of N (group_events g h))) is) refl)))
 
 pub returns-in-Some : goal.returns-in-Some
 returns-in-Some g c =
@@ -248,7 +241,7 @@ returns g c =
     rw (← c.self.view_is)
     (λ z h n b.
     let ls = c.args.listings.items in
-    let set = c.in-Ok-members_from.ensures.set in
+    let set = rw c.in-Ok-Ok.is-1 at c.members_from.ensures.set in
     elim c.match-schedule.branch [
       | goal.in-Err w ↦
           rw w.result-is
@@ -257,13 +250,13 @@ returns g c =
           (rw set at (w.in-Err.ensures.lacking _ _ b.kept _ _ b.is.core_is))
           (c.schedule.ensures.site, w.in-Err.ensures.err _ _ b.is.core_is)
           (w.in-Err.ensures.registry_err _ _ b.kept))
-      | goal.in-Ok-schedule w ↦
-          let flags = c.in-Ok.ensures.settings ∙ ap settings_in c.deref-3.ensures.value in
+      | goal.in-Ok w ↦
+          let flags = rw c.in-Ok-Ok.is-0 at c.settings_from-settings.ensures.settings ∙ ap settings_in c.deref-3.ensures.value in
           rw (w.result-is, w.generation_of.ensures)
-          (does-update b c.args.now ls c.requires.whole _ (rw set at (w.in-Ok-schedule.ensures.answers _ _ b.is.core_is))
-          (rw set at (w.in-Ok-schedule.ensures.lacking _ _ b.kept _ _ b.is.core_is))
-          (c.schedule.ensures.site, rw (set, flags) at (w.in-Ok-schedule.ensures.stands _ _ b.kept _ _ b.is.core_is))
-          (rw set at (w.in-Ok-schedule.ensures.registry _ _ b.kept _ _ b.is.core_is)))
+          (does-update b c.args.now ls c.requires.whole _ (rw set at (w.in-Ok.ensures.answers _ _ b.is.core_is))
+          (rw set at (w.in-Ok.ensures.lacking _ _ b.kept _ _ b.is.core_is))
+          (c.schedule.ensures.site, rw (set, flags) at (w.in-Ok.ensures.stands _ _ b.kept _ _ b.is.core_is))
+          (rw set at (w.in-Ok.ensures.registry _ _ b.kept _ _ b.is.core_is)))
     ])
 
 pub returns-then-lacks_numbers : goal.returns-then-lacks_numbers
@@ -275,17 +268,8 @@ returns-then-lacks_numbers g c =
     (λ there. rw c.deref-2.ensures.value at ((rw (← c.self.view_is) at c.lacks_numbers.ensures) _ _ b.kept there _ _ b.is.core_is))
     c.if-lacks_numbers.true)
 
-pub returns-in_default-settings_from : goal.returns-in_default-settings_from
-returns-in_default-settings_from g c =
-    rw (← c.self.view_is)
-    (λ z h n b.
-    lacks-memory b c.args.now c.args.listings.items c.requires.whole _
-    (sym (rw c.deref.ensures.value at ((rw (← c.self.view_is) at c.refusal.ensures) _ _ b.is.core_is)) ∙ c.in_default.is)
-    (λ there. rw c.deref-2.ensures.value at ((rw (← c.self.view_is) at c.lacks_numbers.ensures) _ _ b.kept there _ _ b.is.core_is))
-    c.if-lacks_numbers.false)
-
-pub returns-in_default-members_from : goal.returns-in_default-members_from
-returns-in_default-members_from g c =
+pub returns-in_default-2 : goal.returns-in_default-2
+returns-in_default-2 g c =
     rw (← c.self.view_is)
     (λ z h n b.
     lacks-memory b c.args.now c.args.listings.items c.requires.whole _

@@ -4,8 +4,7 @@ use Rattle.lb_world.specs.Stands.{Does}
 use Rattle.lb_world.specs.declared.local.Local.{Local}
 use Rattle.lb_world.proofs.Words.{◌∷◌, ◌∙◌, ◌≡◌, Answer, Answers, ap, arith, entries, EntryValue, GateView, group_at, History, inl, made_at}
 use Rattle.lb_world.proofs.Words.{Meaning, meaning_of, None, refl, Refusal, RegistryValue, same_Some, slice_get, slice_get_within}
-use Rattle.lb_world.proofs.Words.{slice_set, Some, Stands, sym, WorldRule, WorldValue, ℕ}
-use Rattle.lb_world.proofs.Places.{at-place}
+use Rattle.lb_world.proofs.Words.{slice_set, Some, Stands, sym, WorldRule, WorldValue, ℕ, at-place}
 use Rattle.lb_world.proofs.Tables.{before, no-group, own-kept, world-moves, world-refused}
 use Rattle.lb_world.proofs.world.Tables.at_group.Goals as goal
 

@@ -1,6 +1,5 @@
 -- The group's core lets the reader enter; the reader's number is that of its place.
-use Rattle.lb_world.proofs.Words.{◌∷◌, ◌∙◌, ◌≡◌, ◌++◌, [], ap, arith, inl, inr, length, refl, Some}
-use Rattle.lb_world.proofs.Places.{at-place}
+use Rattle.lb_world.proofs.Words.{◌∷◌, ◌∙◌, ◌≡◌, ◌++◌, [], ap, arith, inl, inr, length, refl, Some, at-place}
 use Rattle.lb_world.proofs.Tables.{no-group, world-refused, enter-absent, enter-full, enter-memory, entered-now, refused-now}
 use Rattle.lb_world.proofs.world.Tables.enter.Goals as goal
 

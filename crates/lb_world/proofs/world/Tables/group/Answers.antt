@@ -2,7 +2,6 @@
 use Rattle.lb_group.proofs.GroupSteps.{configs-after}
 use Rattle.lb_history.proofs.Absent.{found as found-of, get-front}
 use Rattle.lb_history.proofs.Together.{nothing-joined}
-use Rattle.lb_history.specs.History.{over}
 use Rattle.lb_select.specs.Refusals.{memory_apart, refusal_number}
 use Rattle.lb_world.specs.Calls.{IsNewEntry}
 use Rattle.lb_world.specs.Views.{nothing}
@@ -18,8 +17,7 @@ use Rattle.lb_world.proofs.Words.{length_push, List, load_of, lt-ltb, ltb-true, 
 use Rattle.lb_world.proofs.Words.{Member, nat_le, nat_lt, ne_eqb, no_number, no_such, None, none-some, numbered, Option, origin, past, refl}
 use Rattle.lb_world.proofs.Words.{Refusal, registries, registry_events, RegistryValue, slice_get, slice_get_past, slice_get_within}
 use Rattle.lb_world.proofs.Words.{slice_set, Some, Stands, Step, sym, true, unless_refused, where_, without_memory, WorldRule, WorldValue}
-use Rattle.lb_world.proofs.Words.{ℕ}
-use Rattle.lb_world.proofs.Places.{at-place, each-push, each-set, get_last, get_replicate}
+use Rattle.lb_world.proofs.Words.{ℕ, at-place, each-push, each-set, get_last, get_replicate}
 use Rattle.lb_world.proofs.Tables.{entry-moves, registry-lent, world-refused, number-left, refused-so, Tells, group-there}
 use Rattle.lb_world.proofs.world.Tables.group.Goals as goal
 
@@ -95,8 +93,12 @@ module _ {C : Type 0} (M : Meaning C) where
       let configs : cs ≡ configs_of e.core.group =
       sym (ap (λ w. configs_of w) new.core_is.group.shows ∙ configs-after id 0 cs []) in
       record {
-        made_is = get_last (made h) _
-            ∙ ap Some (same-made new.registry_is new.gate_is (new.view_is ∙ ap (λ k. k + 1) (numbered M h run r within)) configs);
+        made_is = get_last (made h) _ ∙ (λ i. Some (record {
+          registry = sym new.registry_is i;
+          gate = sym new.gate_is i;
+          view = (ap (λ k. k + 1) (sym (numbered M h run r within)) ∙ sym new.view_is) i;
+          configs = configs i;
+        }));
         core_is = rw (← nothing-joined M h run (length (made h)) none, ← new.id_is, configs) at new.core_is;
         works_in = ap length new.works_are ∙ length-replicate (length cs) nothing ∙ ap length configs;
         works_are = λ s c k at in_.
@@ -104,10 +106,6 @@ module _ {C : Type 0} (M : Meaning C) where
             ∙ sym (ap (held_of (origin e.core) s c (past (length (made h)) s h)) (was.works s));
         loads_are = λ b. new.loads_are b ∙ sym (nothing-loaded h run (length (made h)) none b);
       }
-    where
-      same-made : e.registry ≡ r → e.gate ≡ a → e.core.view.id ≡ over r (made h) + 1 → cs ≡ configs_of e.core.group
-          → record { registry = r; gate = a; view = over r (made h) + 1; configs = cs } ≡ made_of e
-      same-made f g v c = cc
 
 module _ {C : Type 0} {M : Meaning C} {w : WorldValue C} {h : History C} (s : Stands M w h) (r a : ℕ) (cs : List C) where
   abbrev given : ℕ

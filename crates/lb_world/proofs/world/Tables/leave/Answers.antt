@@ -1,6 +1,5 @@
 -- A reader comes back to the group that it entered, whose slot counts it.
-use Rattle.lb_world.proofs.Words.{◌∙◌, ap, arith, refl, Some, sym}
-use Rattle.lb_world.proofs.Places.{at-place}
+use Rattle.lb_world.proofs.Words.{◌∙◌, ap, arith, refl, Some, sym, at-place}
 use Rattle.lb_world.proofs.Tables.{entry-of, counted, group-there, leave-gone, leave-nowhere, left-now}
 use Rattle.lb_world.proofs.world.Tables.leave.Goals as goal
 

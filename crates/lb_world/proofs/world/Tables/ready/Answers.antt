@@ -1,6 +1,5 @@
 -- Readiness is asked of the group that the reader is in, with the group's registry.
-use Rattle.lb_world.proofs.Words.{◌∙◌, ap, arith, inl, inr, None, refl, Some, Step}
-use Rattle.lb_world.proofs.Places.{at-place}
+use Rattle.lb_world.proofs.Words.{◌∙◌, ap, arith, inl, inr, None, refl, Some, Step, at-place}
 use Rattle.lb_world.proofs.Tables.{world-refused, entered-in, entered-past, entry-of, group-there, ready-next, ready-none}
 use Rattle.lb_world.proofs.world.Tables.ready.Goals as goal
 

@@ -1,6 +1,5 @@
 -- The registry's own targets, at the registry that the step names.
-use Rattle.lb_world.proofs.Words.{ap, arith, Err, inl, refl}
-use Rattle.lb_world.proofs.Places.{at-place}
+use Rattle.lb_world.proofs.Words.{ap, arith, Err, inl, refl, at-place}
 use Rattle.lb_world.proofs.Tables.{no-registry, world-refused, growth-told, targets-next, targets-refused}
 use Rattle.lb_world.proofs.world.Tables.targets.Goals as goal
 

@@ -1,6 +1,5 @@
 -- The registry's own verdict, at the registry that the step names.
-use Rattle.lb_world.proofs.Words.{arith, false≢true, refl, Refusal, Step}
-use Rattle.lb_world.proofs.Places.{at-place}
+use Rattle.lb_world.proofs.Words.{arith, false≢true, refl, Refusal, Step, at-place}
 use Rattle.lb_world.proofs.Tables.{no-registry, world-refused, refused-so, verdict-next, verdict-refused}
 use Rattle.lb_world.proofs.world.Tables.verdict.Goals as goal
 

@@ -2,8 +2,8 @@
 use Rattle.lb_registry.specs.Targets.{ViewValue}
 use Rattle.std.proofs.Common.{◌-◌, get_or}
 use Rattle.std.proofs.lemmas.List.{length-drop, take_all}
-use Rattle.lb_world.proofs.Words.{◌∷◌, ◌+◌, ◌∙◌, ◌≡◌, ◌<◌, ap, arith, at_drop_more, Bool, cond, drop, length, List, Listing, live, Member}
-use Rattle.lb_world.proofs.Words.{new_keys, starts_cell, sym, take, views_after, ℕ}
+use Rattle.lb_world.proofs.Words.{◌∷◌, ◌+◌, ◌∙◌, ◌≡◌, ◌<◌, ◌≤◌, ap, arith, at_drop_more, Bool, cond, drop, length, List, Listing, live}
+use Rattle.lb_world.proofs.Words.{Member, new_keys, starts_cell, sym, take, views_after, ℕ}
 use Rattle.lb_world.proofs.Listed.{keys-more}
 use Rattle.lb_world.proofs.entry.membership.cells.starting_count.Goals as goal
 
@@ -17,6 +17,9 @@ more key_of views ls i item b low is starts =
     ∙ keys-more key_of views item rest
     ∙ ap (λ b. cond b 1 0 + new_keys key_of views rest) (sym (starts ∙ ap (starts_cell key_of views item) whole))
 
+at_most : (b : Bool) → cond b 1 0 ≤ 1
+at_most b = grind arith
+
 pub loop-place-preserved : goal.loop-place-preserved
 loop-place-preserved c =
     let ls = c.args.listings.now in
@@ -24,18 +27,13 @@ loop-place-preserved c =
     let item = c.index-listings-place.result in
     let low = c.loop-place-test.true in
     let is = c.index-listings-place.is in
-    let keys = λ (key_of : Member → Member) (views : List ViewValue). more key_of views ls i item c.starts.result low is in
+    let one : c.if-starts.count ≡ c.loop-place.count + cond c.starts.result 1 0 =
     elim c.if-starts.branch [
-      | goal.then-starts w ↦ (
-        omega (arith, w.count-is, c.loop-place.invariant.0),
-        λ key_of events r.
-            let one = keys key_of (live (views_after events)) (c.starts.ensures key_of events r) in
-            omega (arith, w.count-is, c.loop-place.invariant.1 key_of events r, one, ap {B = ℕ} (λ b. cond b 1 0) w.if-starts.true),
-      )
-      | goal.else-starts w ↦ (
-        omega (arith, w.count-is, c.loop-place.invariant.0),
-        λ key_of events r.
-            let none = keys key_of (live (views_after events)) (c.starts.ensures key_of events r) in
-            omega (arith, w.count-is, c.loop-place.invariant.1 key_of events r, none, ap {B = ℕ} (λ b. cond b 1 0) w.if-starts.false),
-      )
-    ]
+      | goal.then-starts w ↦ rw w.if-starts.true (omega (arith, w.count-is))
+      | goal.else-starts w ↦ rw w.if-starts.false (omega (arith, w.count-is))
+    ] in (
+      omega (arith, one, at_most c.starts.result, c.loop-place.invariant.0),
+      λ key_of events r.
+          let keys = more key_of (live (views_after events)) ls i item c.starts.result low is (c.starts.ensures key_of events r) in
+          omega (arith, one, c.loop-place.invariant.1 key_of events r, keys),
+    )
