@@ -130,21 +130,54 @@ impl<
         let view = register(rt, alloc, shared)?;
         let id = view.id();
         match locks_over(rt, alloc, shared, Serving::new(view, built), &config) {
-            Ok((serving, shown)) => Ok(Balancing {
-                discovery,
-                config,
-                registry,
-                updates: Mutex::new(()),
-                serving,
-                shown,
-                timing: Mutex::new(None),
-                changes: AtomicU64::new(0),
-                seeds: AtomicU64::new(1),
-            }),
+            Ok(locks) => Ok(Balancing::behind(discovery, config, registry, locks, None)),
             Err(refusal) => {
                 shared.lock(rt).remove_view(id);
                 Err(refusal)
             }
+        }
+    }
+
+    // A balancer that serves this at first, over this registry, whose selectors are built with the default configuration.
+    pub(crate) fn begun<W: Wait>(
+        rt: &W,
+        alloc: Global,
+        discovery: DiscoverySource<D>,
+        registry: Registry<R>,
+        serving: Serving<S>,
+        timing: UpdateTimings,
+    ) -> Result<Balancing<S, D, R, C>, Refusal>
+        requires { serving.config ≡ S.default_config }
+        ensures made { IfOk result (λ b. (b.discovery ≡ discovery) × (b.config ≡ S.default_config)) }
+        ensures refused { IfErr result (λ e. e ≡ Refusal.OutOfMemory) }
+    {
+        let shared = Arc::new(alloc, HealthRegistry::new(registry))?;
+        let locks = locks_over(rt, alloc, &*shared, serving, &None)?;
+        Ok(Balancing::behind(discovery, None, shared, locks, Some(timing)))
+    }
+
+    // The balancer behind these locks.
+    fn behind(
+        discovery: DiscoverySource<D>,
+        config: Option<S::Config>,
+        registry: Arc<HealthRegistry<R, C>>,
+        locks: (ServingLock<S>, ShownLock<S>),
+        timing: Option<UpdateTimings>,
+    ) -> Balancing<S, D, R, C>
+        requires { (locks.0.table.shared.key.value ≡ config) × (locks.1.table.shared.key.value ≡ config) }
+        ensures { (result.discovery ≡ discovery) × (result.config ≡ unwrap_or config S.default_config) }
+    {
+        let (serving, shown) = locks;
+        Balancing {
+            discovery,
+            config,
+            registry,
+            updates: Mutex::new(()),
+            serving,
+            shown,
+            timing: Mutex::new(timing),
+            changes: AtomicU64::new(0),
+            seeds: AtomicU64::new(1),
         }
     }
 

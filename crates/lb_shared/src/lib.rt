@@ -6,6 +6,7 @@ pub mod backends;
 pub mod balancing;
 pub mod drive;
 pub mod load_balancer;
+pub mod making;
 pub mod port;
 pub mod reader;
 pub mod run;
