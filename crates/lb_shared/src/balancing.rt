@@ -1,5 +1,6 @@
 //! A balancer that threads share: an update discovers and builds under a lock of its own, and then what is served is exchanged.
-//! Locks are taken in the order update, served, registry, shown; the last is held for a copy of a pointer.
+//! Locks are taken in the order update, served, registry, shown; the last is held for a copy of a pointer. That of the loads is held
+//! for one load, beside no other.
 ghost use Rattle.std.specs.Prelude.{◌≡◌, ◌⊎◌, ◌∷◌, [], ℕ, List, IfOk, IfErr, OnOk, OnErr, Ok, Err};
 ghost use Rattle.std.specs.Prelude.{Some, None, unwrap_or, false, IfSome, MatchOption};
 ghost use Rattle.std.specs.Arc.{arc_value};
@@ -27,6 +28,7 @@ use lb_probe::health_check::HealthCheck;
 use lb_registry::keys::KeyRule;
 use lb_registry::registry::Registry;
 use lb_select::backend::Backend;
+use lb_select::loads::Loads;
 use lb_select::refusal::Refusal;
 use lb_select::walk::BackendSelection;
 use log::Log;
@@ -82,6 +84,7 @@ pub struct Balancing<S: BackendSelection, D, R, C> {
     serving: ServingLock<S>,
     shown: ShownLock<S>,
     timing: Mutex<Option<UpdateTimings>>,
+    loads: Arc<Mutex<Loads>>,
     // Counts what may have changed what is ready, but for the registry's own changes.
     changes: AtomicU64,
     seeds: AtomicU64,
@@ -130,21 +133,55 @@ impl<
         let view = register(rt, alloc, shared)?;
         let id = view.id();
         match locks_over(rt, alloc, shared, Serving::new(view, built), &config) {
-            Ok((serving, shown)) => Ok(Balancing {
-                discovery,
-                config,
-                registry,
-                updates: Mutex::new(()),
-                serving,
-                shown,
-                timing: Mutex::new(None),
-                changes: AtomicU64::new(0),
-                seeds: AtomicU64::new(1),
-            }),
+            Ok(locks) => Ok(Balancing::behind(discovery, config, registry, locks, None)),
             Err(refusal) => {
                 shared.lock(rt).remove_view(id);
                 Err(refusal)
             }
+        }
+    }
+
+    // A balancer that serves this at first, over this registry, whose selectors are built with the default configuration.
+    pub(crate) fn begun<W: Wait>(
+        rt: &W,
+        alloc: Global,
+        discovery: DiscoverySource<D>,
+        registry: Registry<R>,
+        serving: Serving<S>,
+        timing: UpdateTimings,
+    ) -> Result<Balancing<S, D, R, C>, Refusal>
+        requires { serving.config ≡ S.default_config }
+        ensures made { IfOk result (λ b. (b.discovery ≡ discovery) × (b.config ≡ S.default_config)) }
+        ensures refused { IfErr result (λ e. e ≡ Refusal.OutOfMemory) }
+    {
+        let shared = Arc::new(alloc, HealthRegistry::new(registry))?;
+        let locks = locks_over(rt, alloc, &*shared, serving, &None)?;
+        Ok(Balancing::behind(discovery, None, shared, locks, Some(timing)))
+    }
+
+    // The balancer behind these locks.
+    fn behind(
+        discovery: DiscoverySource<D>,
+        config: Option<S::Config>,
+        registry: Arc<HealthRegistry<R, C>>,
+        locks: (ServingLock<S>, ShownLock<S>, Arc<Mutex<Loads>>),
+        timing: Option<UpdateTimings>,
+    ) -> Balancing<S, D, R, C>
+        requires { (locks.0.table.shared.key.value ≡ config) × (locks.1.table.shared.key.value ≡ config) }
+        ensures { (result.discovery ≡ discovery) × (result.config ≡ unwrap_or config S.default_config) }
+    {
+        let (serving, shown, loads) = locks;
+        Balancing {
+            discovery,
+            config,
+            registry,
+            updates: Mutex::new(()),
+            serving,
+            shown,
+            timing: Mutex::new(timing),
+            loads,
+            changes: AtomicU64::new(0),
+            seeds: AtomicU64::new(1),
         }
     }
 
@@ -295,7 +332,7 @@ impl<
             balancer: self.changes.load(SeqCst).wrapping_add(1),
             registry: self.registry.changes(),
         };
-        let gone = match serving.show(alloc, registry, version) {
+        let gone = match serving.show(alloc, registry, &self.loads, version) {
             Ok(shown) => match Arc::new(alloc, shown) {
                 Ok(shown) => Some(self.swap(rt, shown)),
                 Err(_) => None,
@@ -375,6 +412,30 @@ impl<
         drop(gone);
     }
 
+    /// Sets the load of a backend's identity, which outlives each update. Refused `OutOfMemory` where memory is refused; nothing is set
+    /// then.
+    pub fn set_load<W: Wait>(
+        &self,
+        rt: &W,
+        alloc: Global,
+        backend: &Backend,
+        load: u64,
+    ) -> Result<(), Refusal>
+        ensures { IfErr result (λ e. e ≡ Refusal.OutOfMemory) }
+    {
+        let _key = &self.config;
+        self.loads.lock(rt).set(alloc, backend, load)
+    }
+
+    /// Marks the view for removal from the registry: from the next call on that applies marks its backends are no targets, none of them
+    /// is ready, and another membership is refused `NoSuch`. It takes no memory.
+    pub fn leave<W: Wait>(&self, rt: &W) {
+        let _key = &self.config;
+        let held = self.serving.take(rt);
+        held.value.leave(&mut *self.registry.lock(rt));
+        self.serving.put(held);
+    }
+
     /// Sets the check of the registry. Refused `HealthCheckSet` where one is set, which stays.
     pub fn set_health_check<W: Wait>(&self, rt: &W, check: C) -> Result<(), Refusal>
         ensures { IfErr result (λ e. e ≡ Refusal.HealthCheckSet) }
@@ -417,7 +478,7 @@ impl<
             let again = Arc::try_clone(&latest)?;
             return Ok((again, latest));
         }
-        let shown = serving.show(alloc, &*self.registry.lock(rt), version)?;
+        let shown = serving.show(alloc, &*self.registry.lock(rt), &self.loads, version)?;
         let shown = Arc::new(alloc, shown)?;
         let again = Arc::try_clone(&shown)?;
         Ok((again, self.swap(rt, shown)))
@@ -480,14 +541,14 @@ fn register<R: KeyRule + Drop, C: HealthCheck + Drop, W: Wait>(
     ViewCore::register(alloc, &mut *registry.lock(rt))
 }
 
-// The locks of what is served first, and of what is shown of it.
+// The locks of what is served first, and of what is shown of it, and the loads, which are all 0.
 fn locks_over<S: BackendSelection, R: KeyRule + Drop, C: HealthCheck + Drop, W: Wait>(
     rt: &W,
     alloc: Global,
     registry: &HealthRegistry<R, C>,
     serving: Serving<S>,
     config: &Option<S::Config>,
-) -> Result<(ServingLock<S>, ShownLock<S>), Refusal>
+) -> Result<(ServingLock<S>, ShownLock<S>, Arc<Mutex<Loads>>), Refusal>
     requires { serving.config ≡ unwrap_or config.now S.default_config }
     ensures made { IfOk result (λ l. (l.0.table.shared.key.value ≡ config.now) × (l.1.table.shared.key.value ≡ config.now)) }
     ensures refused { IfErr result (λ e. e ≡ Refusal.OutOfMemory) }
@@ -496,11 +557,13 @@ fn locks_over<S: BackendSelection, R: KeyRule + Drop, C: HealthCheck + Drop, W: 
         balancer: 0,
         registry: registry.changes(),
     };
-    let shown = serving.show(alloc, &*registry.lock(rt), version)?;
+    let loads = Arc::new(alloc, Mutex::new(Loads::new()))?;
+    let shown = serving.show(alloc, &*registry.lock(rt), &loads, version)?;
     let shown = Arc::new(alloc, shown)?;
     let key = Snapshot::of(config);
     Ok((
         KeyedLock::new(alloc, serving, &key)?,
         KeyedLock::new(alloc, shown, &key)?,
+        loads,
     ))
 }

@@ -167,6 +167,26 @@ impl<
         shown.select_with(rt, alloc, key, max_iterations, accept)
     }
 
+    /// Sets the load of a backend's identity, which outlives each update; a selector that goes by loads reads it from then on. Refused
+    /// `OutOfMemory` where memory is refused; nothing is set then.
+    pub fn set_load<W: Wait>(
+        &self,
+        rt: &W,
+        alloc: Global,
+        backend: &Backend,
+        load: u64,
+    ) -> Result<(), Refusal>
+        ensures { IfErr result (λ e. e ≡ Refusal.OutOfMemory) }
+    {
+        self.shared.set_load(rt, alloc, backend, load)
+    }
+
+    /// Leaves the registry, which others may share: the view is marked for removal, as by `Balancing::leave`. It is for a balancer that
+    /// is to be dropped; `OwnedBalancer` calls it then.
+    pub fn leave<W: Wait>(&self, rt: &W) {
+        self.shared.leave(rt);
+    }
+
     /// Sets the check of the registry. Refused `HealthCheckSet` where one is set, which stays.
     pub fn set_health_check<W: Wait>(&self, rt: &W, check: C) -> Result<(), Refusal>
         ensures { IfErr result (λ e. e ≡ Refusal.HealthCheckSet) }

@@ -6,7 +6,7 @@ ghost use Rattle.lb_select.specs.Backends.{Member};
 ghost use Rattle.lb_select.specs.Memberships.{same_members};
 ghost use Rattle.lb_select.specs.Refusals.{Refuses};
 ghost use Rattle.lb_registry.specs.Registry.{IsRegistryAfter};
-ghost use Rattle.lb_registry.specs.RegistryEvents.{Event};
+ghost use Rattle.lb_registry.specs.RegistryEvents.{Event, Marked};
 ghost use Rattle.lb_health.specs.Joined.{registry_updated, settings_of, view_updated};
 ghost use Rattle.lb_health.specs.ViewEvents.{ViewEvent, Set, generation_after, membership_after};
 ghost use Rattle.lb_health.specs.Views.{IsViewAfter, IsViewRefusal};
@@ -19,6 +19,7 @@ use lb_health::view::{Settings, ViewCore};
 use lb_registry::keys::KeyRule;
 use lb_registry::registry::Registry;
 use lb_select::backend::Backend;
+use lb_select::loads::Loads;
 use lb_select::refusal::Refusal;
 use lb_select::walk::BackendSelection;
 use lb_select::words::SharedWords;
@@ -27,7 +28,7 @@ use std::alloc::Global;
 use std::collections::BTreeSet;
 use std::marker::Model;
 use std::mem;
-use std::sync::Arc;
+use std::sync::{Arc, Mutex};
 
 /// A selector with a source of words of its own.
 #[derive(Drop)]
@@ -188,11 +189,21 @@ impl<S: BackendSelection> Serving<S> {
         self.view.set_enable(backend, enabled);
     }
 
-    /// What is served now: each member that isn't ready, by the registry as it is. Refused `OutOfMemory` where memory is.
+    /// Marks the view for removal from the registry. It takes no memory.
+    pub fn leave<R: KeyRule + Drop>(&self, registry: &mut Registry<R>)
+        ensures { (key_of : Member → Member) (events : List Event) → IsRegistryAfter R.gives key_of events registry.old
+            → IsRegistryAfter R.gives key_of (Marked self.now.view.id ∷ events) registry.new }
+    {
+        registry.remove_view(self.view.id());
+    }
+
+    /// What is served now, with these loads: each member that isn't ready, by the registry as it is. Refused `OutOfMemory` where
+    /// memory is.
     pub fn show<R: KeyRule + Drop>(
         &self,
         alloc: Global,
         registry: &Registry<R>,
+        loads: &Arc<Mutex<Loads>>,
         version: Version,
     ) -> Result<Shown<S>, Refusal>
         ensures shows { IfOk result (λ s. ShowsView self.now.view s) }
@@ -205,6 +216,7 @@ impl<S: BackendSelection> Serving<S> {
             members: self.view.get_backend()?,
             selector: Arc::try_clone(&self.built.selector)?,
             words: Arc::try_clone(&self.built.words)?,
+            loads: Arc::try_clone(loads)?,
             unready: unready_of(&self.view, registry)?,
             version,
         })
