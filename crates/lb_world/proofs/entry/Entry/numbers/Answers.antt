@@ -2,7 +2,7 @@
 use Rattle.lb_group.specs.GroupHistory as group
 use Rattle.lb_joined.specs.JoinedHistory as joined
 use Rattle.std.proofs.lemmas.Grind.{common_steps}
-use Rattle.lb_world.proofs.Words.{◌∙◌, arith, newest-past, past_of, sym}
+use Rattle.lb_world.proofs.Words.{arith, newest-past, past_of}
 use Rattle.lb_world.proofs.Entries.{same-flight}
 use Rattle.lb_world.proofs.entry.Entry.numbers.Goals as goal
 
@@ -10,10 +10,6 @@ pub returns : goal.returns
 returns g c =
     rw (← c.self.view_is)
     (λ made e s.
-    let k = joined.group_events e in
-    let served = sym c.in_ok-served.was ∙ c.served.ensures made e s in
-    let flight = sym c.in_ok-flight.was ∙ c.flight.ensures made e s in
-    let waiting = sym c.in_ok-is_waiting.was ∙ c.is_waiting.ensures made e s in
-    let counts = sym c.in_ok-counts.was ∙ c.counts.ensures made e s in
-    let newest = c.newest.ensures made e s ∙ sym (newest-past c.args.slot k) in
-    grind (arith, common_steps, served, flight, waiting, counts, newest, same-flight (group.extra (past_of c.args.slot k))))
+    grind (arith, common_steps, c.newest.ensures made e s, c.served.ensures made e s, c.in_ok-served.was, c.flight.ensures made e s,
+    c.in_ok-flight.was, c.is_waiting.ensures made e s, c.in_ok-is_waiting.was, c.counts.ensures made e s, c.in_ok-counts.was,
+    newest-past c.args.slot (joined.group_events e), same-flight (group.extra (past_of c.args.slot (joined.group_events e)))))

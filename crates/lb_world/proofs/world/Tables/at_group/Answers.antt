@@ -1,10 +1,8 @@
 -- The group with its gate and its registry, lent to the entry's call.
 use Rattle.lb_world.specs.Locals.{IsWhole, local_seen}
-use Rattle.lb_world.specs.Stands.{Does}
 use Rattle.lb_world.specs.declared.local.Local.{Local}
-use Rattle.lb_world.proofs.Words.{◌∷◌, ◌∙◌, ◌≡◌, Answer, Answers, ap, arith, entries, EntryValue, GateView, group_at, History, inl, made_at}
-use Rattle.lb_world.proofs.Words.{Meaning, meaning_of, None, refl, Refusal, RegistryValue, same_Some, slice_get, slice_get_within}
-use Rattle.lb_world.proofs.Words.{slice_set, Some, Stands, sym, WorldRule, WorldValue, ℕ, at-place}
+use Rattle.lb_world.proofs.Words.{◌∷◌, ◌∙◌, ◌≡◌, Answer, Answers, ap, arith, entries, group_at, History, inl, made_at, Meaning, meaning_of}
+use Rattle.lb_world.proofs.Words.{None, refl, Refusal, same_Some, slice_get_within, Some, sym, ℕ, at-place}
 use Rattle.lb_world.proofs.Tables.{before, no-group, own-kept, world-moves, world-refused}
 use Rattle.lb_world.proofs.world.Tables.at_group.Goals as goal
 
@@ -22,22 +20,6 @@ local-at h g l = refl
 local-entries : {C : Type 0} (h : History C) (g : ℕ) (l : Local) (a : Answer) → entries ((local_seen g l, a) ∷ h) ≡ entries h
 local-entries h g Local.Cancel a = refl
 local-entries h g l a = refl
-
-module _ {C : Type 0} {M : Meaning C} {w : WorldValue C} {h : History C} (s : Stands M w h) where
-  does : (g : ℕ) (l : Local) (a : Answer) (e d : EntryValue C) (z y : GateView) (u v : RegistryValue WorldRule)
-      → slice_get w.groups g ≡ Some e → slice_get w.gates e.gate ≡ Some z → slice_get w.registries e.registry ≡ Some u
-      → Does M (λ n. local_seen n l) e z u a d y v
-      → Stands M
-      (record w {
-        registries = slice_set w.registries e.registry v;
-        gates = slice_set w.gates e.gate y;
-        groups = slice_set w.groups g d;
-      })
-      ((local_seen g l, a) ∷ h)
-  does g l a e d z y u v there_ gate-there registry-there call =
-      let next_ = call h g (before s g e z u there_ gate-there registry-there) in
-      world-moves s g (local_seen g l) a e d z y u v w.readers (local-at h g l) (s.readers_are ∙ sym (local-entries h g l a))
-      (own-kept s g e d there_ (ap (λ o. o.id) next_.origin_is)) there_ gate-there registry-there next_
 
 pub returns-then-group-len : goal.returns-then-group-len
 returns-then-group-len g c =
@@ -85,4 +67,9 @@ returns g c =
     at (at-place c.args.self.now.registries.items c.registry.result _ (omega (arith, c.registry.ensures, on.registry))
     c.index_mut-registry.ensures.value) in
     rw (c.gate.ensures, c.registry.ensures)
-    (λ h s. does s c.args.group c.args.local c.take.result _ _ _ _ _ _ at at_gate at_registry c.take.ensures)
+    (λ h s.
+    let l = c.args.local in
+    let next_ = c.take.ensures h c.args.group (before s c.args.group _ _ _ at at_gate at_registry) in
+    world-moves s c.args.group (local_seen c.args.group l) c.take.result _ _ _ _ _ _ _ (local-at h c.args.group l)
+    (s.readers_are ∙ sym (local-entries h c.args.group l c.take.result)) (own-kept s c.args.group _ _ at (ap (λ o. o.id) next_.origin_is)) at
+    at_gate at_registry next_)
