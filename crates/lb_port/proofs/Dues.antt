@@ -24,6 +24,7 @@ use Rattle.lb_port.specs.Due.{IsDue, IsLate, EndsTurn}
 use Rattle.lb_port.specs.Plain.{IsTaken, IsAsked, IsPublished}
 use Rattle.lb_port.specs.Through.{Publishes, Fails, Answered, Asks, Clears, Turned, turn_of}
 use Rattle.lb_port.specs.declared.turn.Turn.{Turn}
+use Rattle.lb_port.specs.declared.turn.Turn.TheVariants as turn
 
 job-if : (ca fl w d o : Bool) (m : ℕ) → ca ≡ false → fl ≡ false → w ≡ true → d ≡ false → o ≡ false
     → cond ca cancelled (cond fl building (cond (not w) up_to_date (cond d (not_due m) (cond o busy job)))) ≡ job
@@ -90,7 +91,11 @@ module _ {S I C W K P : Type 0} (refuses : List Member → C → Option Refusal)
           At slot (core.Failed end j.members) ∷ At slot (Granted now) ∷ e,
           subst (λ (x : ℕ). Stands made (At x (core.Failed end j.members) ∷ At slot (Granted now) ∷ e) (core_of q)) is.place stands,
           refl,
-          inr (ap (λ (x : Turn). Ok x) what, rw (past-same slot (core.Failed end j.members) h, past-same slot (Granted now) Events) refl),
+          inr (
+            r.refusal,
+            ap (λ (x : Turn). Ok x) (what ∙ ap (λ (n : ℕ). turn.Failed n r.refusal) is.generation),
+            rw (past-same slot (core.Failed end j.members) h, past-same slot (Granted now) Events) refl,
+          ),
         )
 
     -- a slot that is due answers a job at a free gate

@@ -70,11 +70,11 @@ module _ {S I C W K P : Type 0} (refuses : List Member → C → Option Refusal)
       (refuses j.members j.config ≡ None) × (end : ℕ) × reads k end l
       × (u : Told) × published p (record { task = j; ended = end }) u q × (t ≡ turn_of u)
 
-  -- its build was refused, and the job failed at the next reading
+  -- its build was refused, and the job failed at the next reading; the turn tells its generation and the cause
   abbrev pub Fails : Task C → P → K → Turn → P → K → Type 0
   Fails j p k t q l =
       (end : ℕ) × reads k end l × (r : RefusedValue C) × failed p r end q
-      × (r.task ≡ j) × IsCauseOf refuses j r.refusal × (t ≡ turn.Failed)
+      × (r.task ≡ j) × IsCauseOf refuses j r.refusal × (t ≡ turn.Failed j.generation r.refusal)
 
   -- the turn ends as it stood
   abbrev pub Ends : Result Turn Refusal → P → K → Result Turn Refusal → P → K → Type 0

@@ -30,7 +30,7 @@ const WITHOUT_NOTIFIER: u128 = 1_000_000_000;
 
 impl<
     S: BackendSelection + Send + Sync + 'static,
-    W: Threads + Wait + Copy + Send + 'static,
+    W: Log + Threads + Wait + Copy + Send + 'static,
     D: ServiceDiscovery + Drop,
     R: KeyRule + Drop + Send + Sync + 'static,
     C: HealthCheck + Drop + Send + Sync + 'static,

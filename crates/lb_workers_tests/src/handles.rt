@@ -7,6 +7,7 @@ use lb_registry::registry::RegistryCore;
 use lb_select::backend::Backend;
 use lb_select::refusal::Refusal;
 use lb_workers::start::start_workers_by;
+use log::Log;
 use std::alloc::Global;
 use std::sync::atomic::AtomicU64;
 use std::sync::atomic::Ordering::SeqCst;
@@ -21,7 +22,7 @@ const TURNS: u64 = 1000;
 
 // Updates a group and lets go of its handle, with workers that serve the update or without any: whether it was cancelled then, and its
 // workers ended.
-fn is_cancelled_by_drop<W: Threads + Wait + Clock + Copy + Send + Sync + Drop + 'static>(
+fn is_cancelled_by_drop<W: Log + Threads + Wait + Clock + Copy + Send + Sync + Drop + 'static>(
     rt: &W,
     alloc: Global,
     site: &Site<W>,
@@ -98,7 +99,7 @@ fn becomes_ready<W: Wait + Clock + Copy + Drop>(rt: &W, group: &Handle<W>) -> bo
 }
 
 // What a handle answers once its workers served an update: what it selects from each slot and from one that isn't there, and its timings.
-fn served<W: Threads + Wait + Clock + Copy + Send + Sync + Drop + 'static>(
+fn served<W: Log + Threads + Wait + Clock + Copy + Send + Sync + Drop + 'static>(
     rt: &W,
     alloc: Global,
     group: &Handle<W>,
@@ -134,7 +135,7 @@ fn a_handle_serves_what_it_found(rt: HostRuntime) -> Result<(), Fail> {
 }
 
 // Starts the workers of a group, but not the first one that is asked for, and then again: how many couldn't be started.
-fn starts_but_one<W: Threads + Wait + Clock + Copy + Send + Sync + Drop + 'static>(
+fn starts_but_one<W: Log + Threads + Wait + Clock + Copy + Send + Sync + Drop + 'static>(
     rt: &W,
     alloc: Global,
     group: &Handle<W>,
