@@ -30,7 +30,10 @@ fn shows_the_update<R: Wait + Abort>(
     clock: &mut Ticks,
 ) -> Result<(), Refusal> {
     let mut pass = group.pass();
-    assert_eq!(rt; updated(rt, alloc, group, "1.0.0.1:80", clock, &mut pass)?, 1);
+    assert_eq!(rt;
+        updated(rt, alloc, group, "1.0.0.1:80", clock, &mut pass)?,
+        1
+    );
     assert_eq!(rt; group.backend_generation_as(&mut pass), 1);
     assert_eq!(rt; group.selector_generation_as(0, &mut pass), Some(0));
     assert!(rt; !group.selectors_ready_for_as(1, &mut pass));
@@ -92,10 +95,22 @@ fn counts_updates<R: Wait + Abort>(
     clock: &mut Ticks,
 ) -> Result<(), Refusal> {
     let mut pass = group.pass();
-    assert_eq!(rt; updated(rt, alloc, group, "1.0.0.1:80", clock, &mut pass)?, 1);
-    assert_eq!(rt; updated(rt, alloc, group, "1.0.0.1:80", clock, &mut pass)?, 1);
-    assert_eq!(rt; updated(rt, alloc, group, "1.0.0.2:80", clock, &mut pass)?, 2);
-    assert_eq!(rt; updated(rt, alloc, group, "1.0.0.2:80", clock, &mut pass)?, 2);
+    assert_eq!(rt;
+        updated(rt, alloc, group, "1.0.0.1:80", clock, &mut pass)?,
+        1
+    );
+    assert_eq!(rt;
+        updated(rt, alloc, group, "1.0.0.1:80", clock, &mut pass)?,
+        1
+    );
+    assert_eq!(rt;
+        updated(rt, alloc, group, "1.0.0.2:80", clock, &mut pass)?,
+        2
+    );
+    assert_eq!(rt;
+        updated(rt, alloc, group, "1.0.0.2:80", clock, &mut pass)?,
+        2
+    );
     assert_eq!(rt; group.backend_generation_as(&mut pass), 2);
     Ok(())
 }

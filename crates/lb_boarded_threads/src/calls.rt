@@ -106,11 +106,12 @@ pub fn never_falls<S: BackendSelection, K: KeyRule + Drop, C: HealthCheck + Drop
 }
 
 /// Has two passes meet so many times, the one after a reading; whether no reading of the other then was below that one.
-pub fn never_below_a_met_pass<S: BackendSelection, K: KeyRule + Drop, C: HealthCheck + Drop, R: Wait>(
-    rt: &R,
-    group: &SharedGroup<S, K, C>,
-    times: u64,
-) -> bool {
+pub fn never_below_a_met_pass<
+    S: BackendSelection,
+    K: KeyRule + Drop,
+    C: HealthCheck + Drop,
+    R: Wait,
+>(rt: &R, group: &SharedGroup<S, K, C>, times: u64) -> bool {
     let mut pass = group.pass();
     let mut other = group.pass();
     for _ in 0..times {

@@ -70,12 +70,12 @@ fn shared(
 }
 
 // Two threads that read, each by a pass of its own.
-fn two_read<S: BackendSelection + Send + Sync, K: KeyRule + Drop + Send + Sync, C: HealthCheck + Drop + Send + Sync, R: Threads + Sync>(
-    rt: &R,
-    group: &SharedGroup<S, K, C>,
-    one: GroupPass,
-    two: GroupPass,
-) -> bool
+fn two_read<
+    S: BackendSelection + Send + Sync,
+    K: KeyRule + Drop + Send + Sync,
+    C: HealthCheck + Drop + Send + Sync,
+    R: Threads + Sync,
+>(rt: &R, group: &SharedGroup<S, K, C>, one: GroupPass, two: GroupPass) -> bool
 where
     S::Iter: Send + Sync,
     S::Config: Send + Sync,
@@ -94,10 +94,12 @@ where
 }
 
 // Four threads that read, each by a pass of its own.
-fn four_read<S: BackendSelection + Send + Sync, K: KeyRule + Drop + Send + Sync, C: HealthCheck + Drop + Send + Sync, R: Threads + Sync>(
-    rt: &R,
-    group: &SharedGroup<S, K, C>,
-) -> bool
+fn four_read<
+    S: BackendSelection + Send + Sync,
+    K: KeyRule + Drop + Send + Sync,
+    C: HealthCheck + Drop + Send + Sync,
+    R: Threads + Sync,
+>(rt: &R, group: &SharedGroup<S, K, C>) -> bool
 where
     S::Iter: Send + Sync,
     S::Config: Send + Sync,
