@@ -21,11 +21,14 @@ use lb_registry::registry::RegistryCore;
 use lb_select::backend::Backend;
 use lb_select::refusal::Refusal;
 use lb_weighted::selection::RoundRobin;
+use log::sink::Locked;
+use log::{Level, Log, Logged};
 use rand_pcg::Pcg64;
 use std::alloc::Global;
 use std::collections::BTreeSet;
 use std::process::Abort;
 use std::sync::{Arc, Wait};
+use std::test::Fail;
 
 type Group = SharedGroup<RoundRobin, Rule<ByNumber>, BoxedCheck>;
 
@@ -214,7 +217,7 @@ fn turns_on_one_gate<W: Wait + Abort>(
 }
 
 // A worker of a group that is let go cancels it, and ends; what it was to build is not built. A slot that isn't there has no worker.
-fn worker_of_one_let_go<W: Wait + Abort>(
+fn worker_of_one_let_go<W: Log + Wait + Abort>(
     alloc: Global,
     group: &Group,
     rt: &W,
@@ -240,7 +243,7 @@ enum Row {
 }
 
 // Plays a row on two new groups.
-fn played<W: Wait + Abort>(alloc: Global, rt: &W, row: Row) -> Result<(), Refusal> {
+fn played<W: Log + Wait + Abort>(alloc: Global, rt: &W, row: Row) -> Result<(), Refusal> {
     let groups = two_groups(alloc, RegistryCore::new(alloc))?;
     let mut clock = Ticks { next: 10 };
     match row {
@@ -263,4 +266,56 @@ fn one_gate_for_two_groups(rt: HostRuntime) {
 #[test]
 fn a_worker_of_a_group_that_is_let_go(rt: HostRuntime) {
     assert_eq!(rt; played(rt.alloc(), &rt, Row::WorkerOfOneLetGo), Ok(()));
+}
+
+// Two backends whose weights have no sum of 64 bits, always.
+fn too_heavy(alloc: Global) -> Result<DiscoverySource<Static>, Refusal> {
+    let mut backends = BTreeSet::new(alloc);
+    backends.insert(Backend::new_with_weight(alloc, "1.0.0.1:80", usize::MAX)?)?;
+    backends.insert(Backend::new(alloc, "1.0.0.2:80")?)?;
+    Ok(DiscoverySource::Static(Static::new(backends)))
+}
+
+// A clock at whose second reading a group is let go.
+#[derive(Drop)]
+struct LettingGo<'g> {
+    group: &'g Group,
+    reading: u64,
+}
+
+impl<'g> MomentSource for LettingGo<'g> {
+    ghost use Rattle.std.specs.Prelude.{⊤};
+
+    ghost reads = { λ s m t. ⊤ };
+
+    fn now(&mut self) -> u128 {
+        self.reading = self.reading.saturating_add(1);
+        if self.reading == 2 {
+            let group = self.group;
+            group.let_go();
+        }
+        10
+    }
+}
+
+// A worker whose first build is refused, and whose group is let go then.
+fn refused_once<W: Log + Wait>(alloc: Global, group: &Group, rt: &W) -> Result<bool, Refusal> {
+    let heavy = too_heavy(alloc)?;
+    update_through(alloc, &mut port_to(group, rt), &heavy, &mut Ticks { next: 1 })?;
+    Ok(work(rt, alloc, group, 0, &mut LettingGo { group, reading: 0 }))
+}
+
+// A build that is refused is logged, with its generation and the cause.
+#[test]
+fn a_refused_build_is_logged(rt: HostRuntime) -> Result<(), Fail> {
+    let alloc = rt.alloc();
+    let sink = Locked::new(rt, Vec::new(alloc));
+    let logged = Logged::new(rt, Level::Debug, &sink);
+    let groups = two_groups(alloc, RegistryCore::new(alloc))?;
+    assert!(rt; refused_once(alloc, &groups.first, &logged)?);
+    drop(groups);
+    let text = sink.into_inner();
+    let said = "[ERROR lb_locked::workers] load-balancing selector rebuild failed for generation 1: WeightTooLarge\n";
+    assert_eq!(rt; text.as_slice(), said.as_bytes());
+    Ok(())
 }

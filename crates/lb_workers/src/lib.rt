@@ -2,6 +2,7 @@
 //! it.
 #![tactic(auto)]
 
+pub mod backends;
 pub mod drive;
 pub mod group;
 mod making;
