@@ -93,8 +93,10 @@ module _ {S I C W K P : Type 0} (refuses : List Member → C → Option Refusal)
           refl,
           inr (
             r.refusal,
-            ap (λ (x : Turn). Ok x) (what ∙ ap (λ (n : ℕ). turn.Failed n r.refusal) is.generation),
-            rw (past-same slot (core.Failed end j.members) h, past-same slot (Granted now) Events) refl,
+            (
+              ap (λ (x : Turn). Ok x) (what ∙ ap (λ (n : ℕ). turn.Failed n r.refusal) is.generation),
+              rw (past-same slot (core.Failed end j.members) h, past-same slot (Granted now) Events) refl,
+            ),
           ),
         )
 
