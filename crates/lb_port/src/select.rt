@@ -93,7 +93,7 @@ fn first_accepted<'p, 'r, S: BackendSelection, P: GroupPort<S>, F: Fn(&Backend, 
         if seen.contains(candidate) {
             continue;
         }
-        let ready = words.port.ready(reader, candidate);
+        let ready = words.port.ready(words.reader, candidate);
         if accept(candidate, ready) {
             let answer = candidate.copied(alloc)?;
             return Ok(Some(answer));
