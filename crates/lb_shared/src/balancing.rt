@@ -427,8 +427,8 @@ impl<
         self.loads.lock(rt).set(alloc, backend, load)
     }
 
-    /// Marks the view for removal from the registry: from the next call on that applies marks its backends are no targets, none of them
-    /// is ready, and another membership is refused `NoSuch`. It takes no memory.
+    /// Marks the view for removal from the registry, and lets its cells go: from the next call on that applies marks its backends are
+    /// no targets, a backend whose cell nobody else keeps isn't ready, and another membership is refused `NoSuch`. It takes no memory.
     pub fn leave<W: Wait>(&self, rt: &W) {
         let _key = &self.config;
         let held = self.serving.take(rt);

@@ -6,7 +6,7 @@ ghost use Rattle.lb_select.specs.Backends.{Member};
 ghost use Rattle.lb_select.specs.Memberships.{same_members};
 ghost use Rattle.lb_select.specs.Refusals.{Refuses};
 ghost use Rattle.lb_registry.specs.Registry.{IsRegistryAfter};
-ghost use Rattle.lb_registry.specs.RegistryEvents.{Event, Marked};
+ghost use Rattle.lb_registry.specs.RegistryEvents.{Event, Marked, Released};
 ghost use Rattle.lb_health.specs.Joined.{registry_updated, settings_of, view_updated};
 ghost use Rattle.lb_health.specs.ViewEvents.{ViewEvent, Set, generation_after, membership_after};
 ghost use Rattle.lb_health.specs.Views.{IsViewAfter, IsViewRefusal};
@@ -189,12 +189,15 @@ impl<S: BackendSelection> Serving<S> {
         self.view.set_enable(backend, enabled);
     }
 
-    /// Marks the view for removal from the registry. It takes no memory.
+    /// Marks the view for removal from the registry, and lets the cells of its newest generation go. It takes no memory.
     pub fn leave<R: KeyRule + Drop>(&self, registry: &mut Registry<R>)
-        ensures { (key_of : Member → Member) (events : List Event) → IsRegistryAfter R.gives key_of events registry.old
-            → IsRegistryAfter R.gives key_of (Marked self.now.view.id ∷ events) registry.new }
+        ensures { (key_of : Member → Member) (views : List ViewEvent) (events : List Event) → IsViewAfter views self.now.view
+            → IsRegistryAfter R.gives key_of events registry.old
+            → IsRegistryAfter R.gives key_of (Released self.now.view.id (generation_after views) ∷ Marked self.now.view.id ∷ events)
+            registry.new }
     {
         registry.remove_view(self.view.id());
+        registry.release(self.view.id(), self.view.generation());
     }
 
     /// What is served now, with these loads: each member that isn't ready, by the registry as it is. Refused `OutOfMemory` where
