@@ -1,6 +1,5 @@
 -- The load that was set is the one that the history tells; where memory was refused, nothing is set.
 use Rattle.lb_select.specs.Loads.{SetsLoad}
-use Rattle.lb_group.specs.GroupHistory as group
 use Rattle.lb_world.proofs.Words.{◌∷◌, ◌∙◌, ◌≡◌, ◌++◌, ◌&&◌, [], Answer, Answers, ap, Before, cond, EntryNext, EntryValue, eq-eqb, gate}
 use Rattle.lb_world.proofs.Words.{GateView, group_events, happened, held_of, History, inl, inr, joined_after, joined_events, List, load_in}
 use Rattle.lb_world.proofs.Words.{load_of, Meaning, Member, origin, past_of, permit_after, refl, Refusal, RegistryValue, same_member, Some}

@@ -10,6 +10,10 @@ pub returns : goal.returns
 returns g c =
     rw (← c.self.view_is)
     (λ made e s.
-    grind (arith, common_steps, c.newest.ensures made e s, c.served.ensures made e s, c.in_ok-served.was, c.flight.ensures made e s,
-    c.in_ok-flight.was, c.is_waiting.ensures made e s, c.in_ok-is_waiting.was, c.counts.ensures made e s, c.in_ok-counts.was,
-    newest-past c.args.slot (joined.group_events e), same-flight (group.extra (past_of c.args.slot (joined.group_events e)))))
+    let p = past_of c.args.slot (joined.group_events e) in
+    let newest = c.newest.ensures made e s in
+    let served = rw c.in_ok-served.was at (c.served.ensures made e s) in
+    let flight = rw c.in_ok-flight.was at (c.flight.ensures made e s) in
+    let waiting = rw c.in_ok-is_waiting.was at (c.is_waiting.ensures made e s) in
+    let counts = rw c.in_ok-counts.was at (c.counts.ensures made e s) in
+    grind (arith, common_steps, newest, served, flight, waiting, counts, newest-past c.args.slot, same-flight (group.extra p)))
