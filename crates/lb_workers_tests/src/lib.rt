@@ -7,6 +7,8 @@ pub mod crowd;
 #[cfg(test)]
 mod handles;
 #[cfg(test)]
+mod passes;
+#[cfg(test)]
 mod runs;
 #[cfg(test)]
 mod workers;
