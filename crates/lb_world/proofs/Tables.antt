@@ -338,8 +338,7 @@ module _ {C : Type 0} {M : Meaning C} {w : WorldValue C} {h : History C} (s : St
       let now = rw m at (s.kept r u there) in
       let st : Step C = Step.verdict r c ok threshold in
       registry-set s ((st, Answer.Flipped b) ∷ h) r u v
-      (s.run, rw m (inl (kept _ _ now, ap Answer.Flipped (flip-told b _ _ (flips _ _ now))))) refl
-      refl refl refl
+      (s.run, rw m (inl (kept _ _ now, ap Answer.Flipped (flip-told b _ _ (flips _ _ now))))) refl refl refl refl
       (λ i off. (others-stay h st (Answer.Flipped b)).registries i (ne_eqb r i (λ q. off (sym q)))) (λ g. refl) (λ g. refl) (λ g i. refl)
       (λ g b. refl) (λ x. refl) there (rw (eq-eqb r r refl) (after _ _ (s.kept r u there)))
 

@@ -71,5 +71,5 @@ returns g c =
     let l = c.args.local in
     let next_ = c.take.ensures h c.args.group (before s c.args.group _ _ _ at at_gate at_registry) in
     world-moves s c.args.group (local_seen c.args.group l) c.take.result _ _ _ _ _ _ _ (local-at h c.args.group l)
-    (s.readers_are ∙ sym (local-entries h c.args.group l c.take.result)) (own-kept s c.args.group _ _ at (ap (λ o. o.id) next_.origin_is)) at
-    at_gate at_registry next_)
+    (s.readers_are ∙ sym (local-entries h c.args.group l c.take.result))
+    (own-kept s c.args.group _ _ at (ap (λ o. o.id) next_.origin_is)) at at_gate at_registry next_)
