@@ -58,11 +58,7 @@ fn told_without_workers<W: Wait + Clock + Copy>(
 }
 
 // Whether a reading of slot 0 answers 1 within a thousand turns of ten milliseconds.
-fn comes_to_serve<W: Wait + Clock + Copy>(
-    rt: &W,
-    group: &Handle<W>,
-    pass: &mut GroupPass,
-) -> bool
+fn comes_to_serve<W: Wait + Clock + Copy>(rt: &W, group: &Handle<W>, pass: &mut GroupPass) -> bool
     requires { pass.old.board ≡ (arc_value group.now.shared).board }
     ensures { pass.new.board ≡ (arc_value group.now.shared).board }
 {
