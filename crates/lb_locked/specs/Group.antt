@@ -1,6 +1,6 @@
 -- What is known of a group that threads share: which one it is, its gate and its configurations stay; between two calls of a thread
 -- others may have changed the rest. So a call is one of the plain group at some state of this group, the one that its lock gave.
-use Rattle.std.specs.Prelude.{◌≡◌, ◌↔◌, ℕ, Bool, List, Option, Some, Result, Ok, Err, IsTrue, slice_get}
+use Rattle.std.specs.Prelude.{◌≡◌, ℕ, Bool, List, Option, Some, Result, Ok, Err, slice_get}
 use Rattle.lb_select.specs.Backends.{Member}
 use Rattle.lb_select.specs.Draws.{Draw}
 use Rattle.lb_select.specs.declared.refusal.Refusal.{Refusal}
@@ -8,8 +8,7 @@ use Rattle.lb_rebuild.specs.Gate.{GateView}
 use Rattle.lb_registry.specs.Registry.{RegistryValue, IsRegistryAfter}
 use Rattle.lb_registry.specs.RegistryEvents.{Event}
 use Rattle.lb_group.specs.GroupCalls.{Fails, fail_events, Publishes, publish_events, Leaves, Reports, done_at, gate_back}
-use Rattle.lb_health.specs.Joined.{IsReady}
-use Rattle.lb_group.specs.GroupHistory.{Left, Destroyed, newest}
+use Rattle.lb_group.specs.GroupHistory.{Left, Destroyed}
 use Rattle.lb_group.specs.Values.{Task, BuiltValue, RetiredValue, PermitValue, ReaderValue, configs_of}
 use Rattle.lb_group.specs.declared.answers.Ask.{Ask}
 use Rattle.lb_group.specs.declared.answers.Told.{Told}
@@ -107,13 +106,6 @@ module _ {C R : Type 0} (gives : R → Member → Member → Type 0) where
   abbrev pub ReadyUnder : JoinedValue C → ReaderValue C → Member → Bool → Type 0
   ReadyUnder site r b a =
       (v : JoinedValue C) × ((x : RegistryValue R) × (IsState site v × IsReadyFor gives v x r b a))
-
-  -- whether a backend is ready in the newest membership, at some state of the group
-  abbrev pub NewestReadyUnder : JoinedValue C → Member → Bool → Type 0
-  NewestReadyUnder site b a =
-      (v : JoinedValue C) × ((x : RegistryValue R) × (IsState site v × ((key_of : Member → Member) (events : List Event)
-      → IsRegistryAfter gives key_of events x
-      → After v (λ made e. IsTrue a ↔ IsReady key_of (views_of made e) events (newest (group_events e)) b))))
 
   abbrev pub ScheduledUnder : JoinedValue C → List Member → List (Member × Bool) → ℕ → Result Scheduled Refusal → Type 0
   ScheduledUnder site members settings now r =

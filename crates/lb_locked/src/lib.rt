@@ -2,7 +2,6 @@
 //! A thread that waits for a lock sleeps; a lock is held for one call of the plain state.
 #![tactic(auto)]
 
-mod backends;
 pub mod clock;
 pub mod gate;
 pub mod group;

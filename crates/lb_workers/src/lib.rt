@@ -2,7 +2,6 @@
 //! it.
 #![tactic(auto)]
 
-pub mod backends;
 pub mod drive;
 pub mod group;
 mod making;

@@ -134,42 +134,6 @@ fn a_handle_serves_what_it_found(rt: HostRuntime) -> Result<(), Fail> {
     Ok(())
 }
 
-// What the lent backends of a handle tell before its first update, after it, and once a flag is set.
-fn lent<W: Wait + Clock + Copy + Drop>(
-    rt: &W,
-    alloc: Global,
-    group: &Handle<W>,
-) -> Result<[bool; 7], Refusal> {
-    let backends = group.backends();
-    let one = Backend::new(alloc, "1.0.0.1:80")?;
-    let other = Backend::new(alloc, "1.0.0.2:80")?;
-    let [before, was_ready] = [backends.generation(), backends.ready(&one)];
-    group.update(alloc, &mut RuntimeClock::new(*rt))?;
-    let members = backends.get_backend()?;
-    let is_ready = backends.ready(&one);
-    backends.set_enable(&one, false);
-    Ok([
-        before == 0 && !was_ready,
-        backends.generation() == 1,
-        members.len() == 1 && members.contains(&one),
-        is_ready,
-        !backends.ready(&one),
-        !backends.ready(&other),
-        group.select(alloc, 0, b"k", 4)?.is_none(),
-    ])
-}
-
-// The backends of a handle are read and marked without its workers.
-#[test]
-fn a_handle_lends_its_backends(rt: HostRuntime) -> Result<(), Fail> {
-    let alloc = rt.alloc();
-    let registry = Arc::new(alloc, HealthRegistry::new(RegistryCore::new(alloc)))?;
-    let site = Site::new(rt, alloc, &registry)?;
-    let group = site.group(rt, alloc)?;
-    assert_eq!(rt; lent(&rt, alloc, &group)?, [true; 7]);
-    Ok(())
-}
-
 // Starts the workers of a group, but not the first one that is asked for, and then again: how many couldn't be started.
 fn starts_but_one<W: Log + Threads + Wait + Clock + Copy + Send + Sync + Drop + 'static>(
     rt: &W,
