@@ -2,7 +2,8 @@
 """Prints docs/LEMMAS.md: for each crate, its lemma files, and the functions whose proofs stand on each.
 
 A function stands on a file that its answers or invariants cite, and on the lemma files that this one cites. A file that a source
-file itself cites, in an attribute or a ghost item, has that file's name.
+file itself cites, in an attribute or a ghost item, has that file's name. Of a file under no function of its crate, the crates above whose
+proofs cite it.
 """
 import os
 import re
@@ -11,8 +12,8 @@ import textwrap
 TOP = os.path.dirname(os.path.dirname(os.path.realpath(__file__)))
 HEAD = """# Lemma files
 
-Under which functions each lemma file of a crate stands (`proofs/FILE.antt`), as `docs/lemma_files.py` prints it. An edit of a file checks
-these functions again.
+Under which functions each lemma file of a crate stands (`proofs/FILE.antt`), as `docs/lemma_files.py` prints it; of a file that is for
+crates above alone, which these are. An edit of a file checks these functions again.
 """
 
 
@@ -61,8 +62,20 @@ def functions_over(crate):
     return over
 
 
-def shown(name, functions):
-    listed = ", ".join(sorted(functions)) if functions else "no function"
+def crates_over(crate, name):
+    """The other crates whose proofs cite this lemma file."""
+    found = []
+    for other in crates():
+        folders = os.walk(f"{TOP}/crates/{other}/proofs") if other != crate else ()
+        texts = (read(f"{folder}/{file}") for folder, _, files in folders for file in files)
+        if any(f"Rattle.{crate}.proofs.{name}." in text for text in texts):
+            found.append(other)
+    return found
+
+
+def shown(crate, name, functions):
+    above = [] if functions else crates_over(crate, name)
+    listed = ", ".join(sorted(functions)) or (f"functions of {', '.join(above)}" if above else "no function")
     return textwrap.fill(f"- `{name}`: {listed}", 136, subsequent_indent="  ", break_long_words=False, break_on_hyphens=False)
 
 
@@ -74,7 +87,7 @@ def main():
             if over:
                 print(f"## {crate}\n")
                 for name in sorted(over):
-                    print(shown(name, over[name]))
+                    print(shown(crate, name, over[name]))
                 print()
 
 

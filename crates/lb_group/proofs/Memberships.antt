@@ -52,9 +52,9 @@ module _ {C : Type 0} where
       ap (λ (t : SlotTurn). t ∷ map (λ (z : SlotValue C). turn_of n z) (slots_after gate (k + 1) cs h)) (ap (λ (m : ℕ). turn_of m (slot_after gate c (past_of k h))) count)
       ∙ ap (λ (l : List SlotTurn). turn_after (past_of k h) ∷ l) (turns-shown gate (k + 1) n cs h is)
 
-module _ {S I C : Type 0} where
+module _ {S I C W : Type 0} where
   -- slots at their start
-  pub starts : (own : GroupId) (id gate : GateId) (ms : List Member) (xs : List (Slot S I C)) (configs : List C) → id ≡ gate → ms ≡ [] → map slot_value xs ≡ map fresh_slot configs
+  pub starts : (own : GroupId) (id gate : GateId) (ms : List Member) (xs : List (Slot S I C W)) (configs : List C) → id ≡ gate → ms ≡ [] → map slot_value xs ≡ map fresh_slot configs
       → StandsFor (record { id = own; gate = gate; configs = configs }) [] (group_of own id 0 ms 0 false xs)
   starts own id gate ms xs configs is none fresh = record {
     possible = λ i. tt;
@@ -62,7 +62,7 @@ module _ {S I C : Type 0} where
     shows = same-group refl is refl none refl refl (fresh ∙ fresh-slots gate 0 configs);
   }
 
-  pub stops : (made : Made C) (h : History) (own : GroupId) (id : GateId) (n : ℕ) (ms : List Member) (at : ℕ) (st : Bool) (xs : List (Slot S I C)) (v : GroupValue C)
+  pub stops : (made : Made C) (h : History) (own : GroupId) (id : GateId) (n : ℕ) (ms : List Member) (at : ℕ) (st : Bool) (xs : List (Slot S I C W)) (v : GroupValue C)
       → group_of own id n ms at st xs ≡ v → StandsFor made h v → StandsFor made (Cancelled ∷ h) (group_of own id n ms at true xs)
   stops made h own id n ms at st xs v e s =
       let all : group_of own id n ms at st xs ≡ group_after made h = e ∙ s.shows in
@@ -75,7 +75,7 @@ module _ {S I C : Type 0} where
       }
 
   -- what contracts see of slots that were handed their orders
-  ordered-values : (xs ys : List (Slot S I C)) (n : ℕ) (ms : List Member) → AreOrdered n xs (map (λ (x : Slot S I C). order_for (n + 1) ms (slot_value x)) xs) ys
+  ordered-values : (xs ys : List (Slot S I C W)) (n : ℕ) (ms : List Member) → AreOrdered n xs (map (λ (x : Slot S I C W). order_for (n + 1) ms (slot_value x)) xs) ys
       → map slot_value ys ≡ map (ordered n ms) (map slot_value xs)
   ordered-values [] [] n ms all = refl
   ordered-values [] (y ∷ ys) n ms all = let none : suc (length ys) ≡ 0 = all.count in absurd (omega arith)
@@ -83,12 +83,12 @@ module _ {S I C : Type 0} where
   ordered-values (x ∷ xs) (y ∷ ys) n ms all =
       let count : suc (length ys) ≡ suc (length xs) = all.count in
       let first : slot_value y ≡ ordered n ms (slot_value x) = all.each 0 x (order_for (n + 1) ms (slot_value x)) (omega arith) in
-      let others : AreOrdered n xs (map (λ (z : Slot S I C). order_for (n + 1) ms (slot_value z)) xs) ys = record { count = omega arith; each = λ k d o h. all.each (suc k) d o (omega arith) } in
+      let others : AreOrdered n xs (map (λ (z : Slot S I C W). order_for (n + 1) ms (slot_value z)) xs) ys = record { count = omega arith; each = λ k d o h. all.each (suc k) d o (omega arith) } in
       ap (λ (v : SlotValue C). v ∷ map slot_value ys) first ∙ ap (λ (l : List (SlotValue C)). ordered n ms (slot_value x) ∷ l) (ordered-values xs ys n ms others)
 
-  pub schedules : (made : Made C) (h : History) (own : GroupId) (id : GateId) (n m : ℕ) (old ms os : List Member) (at now : ℕ) (st : Bool) (xs ys : List (Slot S I C)) (v : GroupValue C)
+  pub schedules : (made : Made C) (h : History) (own : GroupId) (id : GateId) (n m : ℕ) (old ms os : List Member) (at now : ℕ) (st : Bool) (xs ys : List (Slot S I C W)) (v : GroupValue C)
       → group_of own id n old at st xs ≡ v → StandsFor made h v → m ≡ n + 1 → n + 1 < 2 ^ 64 → st ≡ false → os ≡ ms
-      → AreOrdered n xs (map (λ (x : Slot S I C). order_for (n + 1) ms (slot_value x)) xs) ys
+      → AreOrdered n xs (map (λ (x : Slot S I C W). order_for (n + 1) ms (slot_value x)) xs) ys
       → StandsFor made (Scheduled ms now ∷ h) (group_of own id m os now st ys)
   schedules made h own id n m old ms os at now st xs ys v e s next fits live from are =
       let all : group_of own id n old at st xs ≡ group_after made h = e ∙ s.shows in
@@ -103,22 +103,22 @@ module _ {S I C : Type 0} where
             (ordered-values xs ys n ms are ∙ ap (map (ordered n ms)) (ap (λ (w : GroupValue C). w.slots) all) ∙ ordered-slots made.gate 0 n made.configs ms now h s.possible goes is fits);
       }
 
-  turns-map : (n : ℕ) (xs : List (Slot S I C)) → map (λ (x : Slot S I C). turn_of n (slot_value x)) xs ≡ map (λ (z : SlotValue C). turn_of n z) (map slot_value xs)
+  turns-map : (n : ℕ) (xs : List (Slot S I C W)) → map (λ (x : Slot S I C W). turn_of n (slot_value x)) xs ≡ map (λ (z : SlotValue C). turn_of n z) (map slot_value xs)
   turns-map n [] = refl
   turns-map n (x ∷ xs) = ap (λ (l : List SlotTurn). turn_of n (slot_value x) ∷ l) (turns-map n xs)
 
   -- what the answer to a membership says of each slot
-  pub turns-are : (made : Made C) (h : History) (own : GroupId) (id : GateId) (n : ℕ) (ms : List Member) (at : ℕ) (st : Bool) (xs : List (Slot S I C)) (v : GroupValue C)
-      → group_of own id n ms at st xs ≡ v → StandsFor made h v → map (λ (x : Slot S I C). turn_of n (slot_value x)) xs ≡ turns_after 0 made.configs h
+  pub turns-are : (made : Made C) (h : History) (own : GroupId) (id : GateId) (n : ℕ) (ms : List Member) (at : ℕ) (st : Bool) (xs : List (Slot S I C W)) (v : GroupValue C)
+      → group_of own id n ms at st xs ≡ v → StandsFor made h v → map (λ (x : Slot S I C W). turn_of n (slot_value x)) xs ≡ turns_after 0 made.configs h
   turns-are made h own id n ms at st xs v e s =
       let all : group_of own id n ms at st xs ≡ group_after made h = e ∙ s.shows in
       turns-map n xs ∙ ap (map (λ (z : SlotValue C). turn_of n z)) (ap (λ (w : GroupValue C). w.slots) all)
       ∙ turns-shown made.gate 0 n made.configs h (ap (λ (w : GroupValue C). w.newest) all)
 
   -- the answer to another membership than the newest one
-  pub changes : (made : Made C) (h : History) (own : GroupId) (id : GateId) (n m : ℕ) (old members : List Member) (at : ℕ) (st : Bool) (xs : List (Slot S I C)) (v : GroupValue C) (turns : List SlotTurn)
+  pub changes : (made : Made C) (h : History) (own : GroupId) (id : GateId) (n m : ℕ) (old members : List Member) (at : ℕ) (st : Bool) (xs : List (Slot S I C W)) (v : GroupValue C) (turns : List SlotTurn)
       → group_of own id n old at st xs ≡ v → StandsFor made h v → m ≡ n + 1 → n + 1 < 2 ^ 64 → st ≡ false → same_members members old ≡ false
-      → turns ≡ map (λ (x : Slot S I C). turn_of n (slot_value x)) xs
+      → turns ≡ map (λ (x : Slot S I C W). turn_of n (slot_value x)) xs
       → (schedule_refusal members h ≡ None) × (true ≡ is_change members h) × (m ≡ cond (is_change members h) (newest h + 1) (newest h))
       × (turns ≡ cond (is_change members h) (turns_after 0 made.configs h) [])
   changes made h own id n m old members at st xs v turns e s next fits live other are =
@@ -134,13 +134,13 @@ module _ {S I C : Type 0} where
       )
 
   -- what a prepared membership has for each slot
-  pub orders-map : (n : ℕ) (ms : List Member) (xs : List (Slot S I C))
-      → map (λ (x : Slot S I C). order_for (n + 1) ms (slot_value x)) xs ≡ map (λ (z : SlotValue C). order_for (n + 1) ms z) (map slot_value xs)
+  pub orders-map : (n : ℕ) (ms : List Member) (xs : List (Slot S I C W))
+      → map (λ (x : Slot S I C W). order_for (n + 1) ms (slot_value x)) xs ≡ map (λ (z : SlotValue C). order_for (n + 1) ms z) (map slot_value xs)
   orders-map n ms [] = refl
   orders-map n ms (x ∷ xs) = ap (λ (l : List (OrderValue C)). order_for (n + 1) ms (slot_value x) ∷ l) (orders-map n ms xs)
 
   -- a membership that was prepared is the newest
-  pub commits : (made : Made C) (h : History) (own : GroupId) (id : GateId) (n m : ℕ) (old ms : List Member) (at now : ℕ) (st : Bool) (xs ys : List (Slot S I C)) (turns : List SlotTurn) (os : List (OrderValue C))
+  pub commits : (made : Made C) (h : History) (own : GroupId) (id : GateId) (n m : ℕ) (old ms : List Member) (at now : ℕ) (st : Bool) (xs ys : List (Slot S I C W)) (turns : List SlotTurn) (os : List (OrderValue C))
       (v : GroupValue C) (p : PreparedValue C)
       → group_of own id n old at st xs ≡ v → (let one : PreparedValue C = record { generation = m; members = ms; turns = turns; orders = os } in one ≡ p) → Fits v p → StandsFor made h v → AreOrdered n xs os ys
       → StandsFor made (Scheduled p.members now ∷ h) (group_of own id m ms now st ys)
@@ -148,7 +148,7 @@ module _ {S I C : Type 0} where
       let next : m ≡ n + 1 = ap (λ (z : PreparedValue C). z.generation) q ∙ f.generation ∙ ap (λ (w : GroupValue C). w.newest + 1) (sym e) in
       let fits : n + 1 < 2 ^ 64 = subst (λ (w : GroupValue C). w.newest + 1 < 2 ^ 64) (sym e) f.bounded in
       let live : st ≡ false = ap (λ (w : GroupValue C). w.cancelled) e ∙ f.live in
-      let orders : os ≡ map (λ (x : Slot S I C). order_for (n + 1) p.members (slot_value x)) xs =
+      let orders : os ≡ map (λ (x : Slot S I C W). order_for (n + 1) p.members (slot_value x)) xs =
       ap (λ (z : PreparedValue C). z.orders) q ∙ f.orders
       ∙ ap (λ (w : GroupValue C). map (λ (x : SlotValue C). order_for (w.newest + 1) p.members x) w.slots) (sym e) ∙ sym (orders-map n p.members xs) in
       schedules made h own id n m old p.members ms at now st xs ys v e s next fits live (ap (λ (z : PreparedValue C). z.members) q)

@@ -8,7 +8,7 @@ use Rattle.lb_group.specs.declared.slot.Slot.{Slot}
 use Rattle.lb_group.specs.declared.slot.Stage.{Stage}
 use Rattle.lb_group.specs.declared.slot.Stage.TheVariants as stage
 
-abbrev pub extra_of : {S I C : Type 0} → Stage S I C → Extra
+abbrev pub extra_of : {S I C W : Type 0} → Stage S I C W → Extra
 extra_of stage.Free = nothing
 extra_of (stage.Flight n) = flight n
 extra_of (stage.Lost n) = lost n
@@ -16,14 +16,14 @@ extra_of (stage.Retired r) = retired r.generation
 extra_of (stage.TakenOut n) = taken_out n
 
 -- the permit of a retired selector
-abbrev pub permit_of : {S I C : Type 0} → Stage S I C → Option GateId
+abbrev pub permit_of : {S I C W : Type 0} → Stage S I C W → Option GateId
 permit_of stage.Free = None
 permit_of (stage.Flight n) = None
 permit_of (stage.Lost n) = None
 permit_of (stage.Retired r) = Some r.permit
 permit_of (stage.TakenOut n) = None
 
-abbrev pub slot_value : {S I C : Type 0} → Slot S I C → SlotValue C
+abbrev pub slot_value : {S I C W : Type 0} → Slot S I C W → SlotValue C
 slot_value x =
     record {
       serving = x.serving;

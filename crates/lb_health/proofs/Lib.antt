@@ -1,4 +1,5 @@
 pub mod FlagLemmas
+pub mod HintLemmas
 pub mod LookupLemmas
 pub mod OwnCellLemmas
 pub mod SnapshotLemmas

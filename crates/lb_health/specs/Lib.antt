@@ -1,5 +1,6 @@
 pub mod Discoveries
 pub mod Founded
+pub mod Hints
 pub mod Joined
 pub mod Kept
 pub mod Lookups

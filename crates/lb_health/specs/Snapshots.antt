@@ -22,7 +22,7 @@ pub record ViewValue : Type 0 where
 
 -- how a snapshot is seen
 abbrev pub snapshot_of : ViewSnapshot → SnapshotValue
-snapshot_of s = record { generation = s.generation; members = (arc_value s.members).keys; cells = s.cells.entries; holds = s.holds }
+snapshot_of s = record { generation = s.generation; members = (arc_value s.members).keys; cells = s.cells; holds = s.holds }
 
 -- a snapshot that is held once more, and once less
 abbrev pub held_more : SnapshotValue → SnapshotValue

@@ -3,6 +3,7 @@
 #![tactic(auto)]
 
 pub mod backends;
+mod cells;
 pub mod discovery;
 pub mod laws;
 mod lookup;

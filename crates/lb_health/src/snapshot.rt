@@ -5,8 +5,9 @@ ghost use Rattle.std.specs.List.{list_all, list_any, position};
 ghost use Rattle.lb_select.specs.Backends.{same_member};
 ghost use Rattle.lb_health.specs.Snapshots.{snapshot_of, can_hold, lists_in};
 
+use crate::cells::Cells;
 use lb_select::backend::Backend;
-use std::collections::{BTreeMap, BTreeSet};
+use std::collections::BTreeSet;
 use std::sync::Arc;
 
 /// A generation of a view, with its members and the cells of their keys when the membership was shown.
@@ -14,7 +15,7 @@ use std::sync::Arc;
 pub(crate) struct ViewSnapshot {
     pub(crate) generation: u64,
     pub(crate) members: Arc<BTreeSet<Backend>>,
-    pub(crate) cells: BTreeMap<Backend, u64>,
+    pub(crate) cells: Cells,
     pub(crate) holds: u64,
 }
 

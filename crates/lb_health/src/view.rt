@@ -20,6 +20,7 @@ ghost use Rattle.lb_registry.specs.Registry.{IsRegistryAfter, IsGrowthRefusal};
 ghost use Rattle.lb_registry.specs.RegistryEvents.{Event, Registered, Updated, Applied, registered_after, has_view, views_after};
 ghost use Rattle.lb_registry.specs.RegistryEvents.{cells_given};
 
+use crate::cells::Cells;
 use crate::snapshot::{ViewSnapshot, have_room, is_among, lists, place_of};
 use lb_registry::keys::KeyRule;
 use lb_registry::registry::Registry;
@@ -78,7 +79,7 @@ impl ViewCore {
             current: ViewSnapshot {
                 generation: 0,
                 members,
-                cells: BTreeMap::new(alloc),
+                cells: Cells::new(alloc, BTreeMap::new(alloc)),
                 holds: 0,
             },
             earlier: Vec::new(alloc),
@@ -422,10 +423,11 @@ impl ViewCore {
         let members = Arc::new(alloc, members)?;
         // The last that may be refused.
         let cells = registry.show_view(alloc, self.id, next, copy)?;
+        let hinted = Cells::new(alloc, cells);
         let snapshot = ViewSnapshot {
             generation: next,
             members,
-            cells,
+            cells: hinted,
             holds: 0,
         };
         self.earlier
@@ -521,7 +523,7 @@ fn is_healthy<R: KeyRule + Drop>(
         → (IsTrue result ↔ IsHealthyIn key_of events backend.now (snapshot_of snapshot.now)) }
 {
     match snapshot.cells.get(backend) {
-        Some(cell) => registry.cell_ready(*cell),
+        Some(cell) => registry.cell_ready(cell),
         None => false,
     }
 }

@@ -155,7 +155,7 @@ earlier-none (Some r) (Some q) e = absurd (lesser (nat_lt (refusal_number q) (re
     lesser true e = absurd (cc)
     lesser false e = absurd (cc)
 
-goes-on : (a c : Bool) → cond a (Some refusal.GenerationsExhausted) (cond c (Some refusal.GroupCancelled) None) ≡ None → c ≡ false
+pub goes-on : (a c : Bool) → cond a (Some refusal.GenerationsExhausted) (cond c (Some refusal.GroupCancelled) None) ≡ None → c ≡ false
 goes-on true c e = absurd (cc)
 goes-on false true e = absurd (cc)
 goes-on false false e = refl

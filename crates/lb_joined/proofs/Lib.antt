@@ -6,3 +6,4 @@ pub mod Histories
 pub mod Holds
 pub mod Joins
 pub mod Judging
+pub mod Undrawn

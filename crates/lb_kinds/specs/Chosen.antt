@@ -39,23 +39,23 @@ members_walked (walked.Least i) = arc_value i.backend
 
 -- what is left of a walk
 abbrev pub chosen_walk : ChosenIterator → List Draw → List Member → Bool → Type 0
-chosen_walk (walked.Fnv i) = IsWeightedRest hash_word i.first (arc_value i.backend) i.word
-chosen_walk (walked.RoundRobin i) = IsWeightedRest ticket_word i.first (arc_value i.backend) i.word
-chosen_walk (walked.Ketama i) = IsWalkFrom (arc_value i.ring) i.at
-chosen_walk (walked.Least i) = IsLeastRest (arc_value i.backend) i.order.items i.at
+chosen_walk (walked.Fnv i) = IsWeightedRest hash_word i.walk.first (arc_value i.backend) i.walk.word
+chosen_walk (walked.RoundRobin i) = IsWeightedRest ticket_word i.walk.first (arc_value i.backend) i.walk.word
+chosen_walk (walked.Ketama i) = IsWalkFrom (arc_value i.ring) i.walk.at
+chosen_walk (walked.Least i) = IsLeastRest (arc_value i.backend) i.walk.order.items i.walk.at
 
 -- a walk that has given nothing yet
 pub chosen_starts : (i : ChosenIterator) → chosen_walk i [] [] false
-chosen_starts (walked.Fnv i) = rest_none hash_word i.first (arc_value i.backend) i.word
-chosen_starts (walked.RoundRobin i) = rest_none ticket_word i.first (arc_value i.backend) i.word
-chosen_starts (walked.Ketama i) = walk_starts (arc_value i.ring) i.at
-chosen_starts (walked.Least i) = least_starts (arc_value i.backend) i.order.items i.at
+chosen_starts (walked.Fnv i) = rest_none hash_word i.walk.first (arc_value i.backend) i.walk.word
+chosen_starts (walked.RoundRobin i) = rest_none ticket_word i.walk.first (arc_value i.backend) i.walk.word
+chosen_starts (walked.Ketama i) = walk_starts (arc_value i.ring) i.walk.at
+chosen_starts (walked.Least i) = least_starts (arc_value i.backend) i.walk.order.items i.walk.at
 
 -- a walk that is over gives nothing more
 pub chosen_ends :
     (i : ChosenIterator) (ds : List Draw) (cs : List Member) (e : Bool)
     → chosen_walk i [] [] true → chosen_walk i ds cs e → (ds ≡ []) × (cs ≡ [])
-chosen_ends (walked.Fnv i) ds cs e over h = rest_ends hash_word i.first (arc_value i.backend) i.word ds cs e over h
-chosen_ends (walked.RoundRobin i) ds cs e over h = rest_ends ticket_word i.first (arc_value i.backend) i.word ds cs e over h
-chosen_ends (walked.Ketama i) ds cs e over h = walk_ends (arc_value i.ring) i.at ds cs e over h
-chosen_ends (walked.Least i) ds cs e over h = least_ends (arc_value i.backend) i.order.items i.at ds cs e over h
+chosen_ends (walked.Fnv i) ds cs e over h = rest_ends hash_word i.walk.first (arc_value i.backend) i.walk.word ds cs e over h
+chosen_ends (walked.RoundRobin i) ds cs e over h = rest_ends ticket_word i.walk.first (arc_value i.backend) i.walk.word ds cs e over h
+chosen_ends (walked.Ketama i) ds cs e over h = walk_ends (arc_value i.ring) i.walk.at ds cs e over h
+chosen_ends (walked.Least i) ds cs e over h = least_ends (arc_value i.backend) i.walk.order.items i.walk.at ds cs e over h

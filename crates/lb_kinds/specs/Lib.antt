@@ -1,2 +1,3 @@
 pub mod Chosen
 pub mod Kinds
+pub mod Lent

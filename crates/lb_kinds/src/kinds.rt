@@ -9,17 +9,18 @@ ghost use Rattle.lb_select.specs.Walks.{IsStep};
 ghost use Rattle.lb_weighted.specs.Weights.{weighted_refusal};
 ghost use Rattle.lb_kinds.specs.Kinds.{kind_walks, kind_refusal, kind_undrawn, kind_few_words};
 ghost use Rattle.lb_kinds.specs.Chosen.{members_chosen, kind_chosen, chosen_walk, members_walked, chosen_starts, chosen_ends};
+ghost use Rattle.lb_kinds.specs.Lent.{chosen_fits, chosen_rest, chosen_rest_starts, chosen_rest_ends};
 
-use lb_ring::ketama::{KetamaHashing, OwnedNodeIterator};
+use lb_ring::ketama::{KetamaHashing, OwnedNodeIterator, RingWalk};
 use lb_select::algorithms;
 use lb_select::algorithms::FnvHasher;
 use lb_select::backend::Backend;
 use lb_select::refusal::Refusal;
 use lb_select::walk::{BackendIter, BackendSelection};
 use lb_select::words::WordSource;
-use lb_weighted::least::{LeastConnections, LeastIterator};
+use lb_weighted::least::{LeastConnections, LeastIterator, LeastWalk};
 use lb_weighted::selection::{FNVHash, RoundRobin};
-use lb_weighted::weighted::WeightedIterator;
+use lb_weighted::weighted::{WeightedIterator, WeightedWalk};
 use std::alloc::Global;
 use std::collections::BTreeSet;
 use std::sync::Arc;
@@ -46,7 +47,15 @@ pub enum Chosen {
     Least(Arc<LeastConnections>),
 }
 
-/// A walk of a selector of one of the kinds.
+/// What a walk over a lent selector of one of the kinds keeps. The two weighted kinds keep the same.
+#[derive(Drop)]
+pub enum ChosenWalk {
+    Weighted(WeightedWalk),
+    Ketama(RingWalk),
+    Least(LeastWalk),
+}
+
+/// A walk of a selector of one of the kinds, which it holds.
 #[derive(Drop)]
 pub enum ChosenIterator {
     Fnv(WeightedIterator<FnvHasher>),
@@ -101,6 +110,8 @@ impl BackendSelection for Chosen {
 
     type Config = Kind;
 
+    type Walk = ChosenWalk;
+
     ghost use Rattle.lb_kinds.specs.declared.kinds.Kind.TheVariants.{Fnv};
 
     ghost walks = { kind_walks };
@@ -115,9 +126,17 @@ impl BackendSelection for Chosen {
 
     ghost may_draw_random = { λ ms kind. false };
 
+    ghost fits = { chosen_fits };
+
+    ghost rest = { chosen_rest };
+
     ghost undrawn = { kind_undrawn };
 
     ghost few_words = { kind_few_words };
+
+    ghost rest_starts = { chosen_rest_starts };
+
+    ghost rest_ends = { chosen_rest_ends };
 
     fn build(alloc: Global, backends: &BTreeSet<Backend>) -> Result<Chosen, Refusal> {
         Chosen::build_with_config(alloc, backends, &Kind::Fnv)
@@ -175,6 +194,44 @@ impl BackendSelection for Chosen {
                 let walk = LeastConnections::iter(selector, key, words)?;
                 Ok(ChosenIterator::Least(walk))
             }
+        }
+    }
+
+    fn start<W: WordSource>(&self, key: &[u8], words: &mut W) -> Result<ChosenWalk, Refusal> {
+        match self {
+            Chosen::Fnv(selector) => {
+                let walk = selector.start(key, words)?;
+                Ok(ChosenWalk::Weighted(walk))
+            }
+            Chosen::RoundRobin(selector) => {
+                let walk = selector.start(key, words)?;
+                Ok(ChosenWalk::Weighted(walk))
+            }
+            Chosen::Ketama(selector) => {
+                let walk = selector.start(key, words)?;
+                Ok(ChosenWalk::Ketama(walk))
+            }
+            Chosen::Least(selector) => {
+                let walk = selector.start(key, words)?;
+                Ok(ChosenWalk::Least(walk))
+            }
+        }
+    }
+
+    fn step<'s, W: WordSource>(
+        &'s self,
+        walk: &mut ChosenWalk,
+        words: &mut W,
+    ) -> Option<&'s Backend> {
+        match (self, walk) {
+            (Chosen::Fnv(selector), ChosenWalk::Weighted(walk)) => selector.step(walk, words),
+            (Chosen::RoundRobin(selector), ChosenWalk::Weighted(walk)) => selector.step(
+                walk, words,
+            ),
+            (Chosen::Ketama(selector), ChosenWalk::Ketama(walk)) => selector.step(walk, words),
+            (Chosen::Least(selector), ChosenWalk::Least(walk)) => selector.step(walk, words),
+            // No walk of another kind fits.
+            _ => None,
         }
     }
 

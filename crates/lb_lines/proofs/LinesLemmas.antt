@@ -248,3 +248,22 @@ first_of_none xs none long =
 pub first_of_stream : (stream line rest : List ℕ) → HasNoFeed line → stream ≡ line ++ 10 ∷ rest → (stream ≢ []) × (first_line stream ≡ line)
 first_of_stream stream line rest clear is =
     ((λ none. feed_some line rest (sym is ∙ none)), ap first_line is ∙ first_line-feed_after line rest clear)
+
+-- the line that a search finds in the bytes that are held
+pub held_line : (held shown : List ℕ) (place : ℕ) → shown ≡ held → length shown ≤ 8192 → IsFirstByte (is_byte 10) shown (Some place)
+    → IsLine (take place shown) × (held ≡ take place shown ++ 10 ∷ drop (length (take place shown) + 1) held)
+held_line held shown place same few found =
+    let at : place ≡ length (first_line shown) = feed_found shown place found in
+    let part : take place shown ≡ first_line shown = ap (λ n. take n shown) at ∙ first_line_is shown in
+    let within : place < length shown = found.0.high in
+    let cut : shown ≡ first_line shown ++ 10 ∷ drop (length (first_line shown) + 1) shown = ended_at_feed shown (omega arith) in
+    let short : length (first_line shown) ≤ 16777216 = omega arith in (
+      rw part (record { no_feed = first_line-twice shown; short = short }),
+      rw part (sym same ∙ cut ∙ ap (λ l. first_line shown ++ 10 ∷ drop (length (first_line shown) + 1) l) same),
+    )
+
+-- where it finds none they have no line feed
+pub no_line_held : (held shown : List ℕ) → shown ≡ held → IsFirstByte (is_byte 10) shown None → HasNoFeed held
+no_line_held held shown same none =
+    let all : length shown ≤ length (first_line shown) = omega (arith, feed_missing shown none) in
+    subst HasNoFeed same (front_clear shown (open_front shown all))

@@ -1,9 +1,9 @@
 //! One line of a stream, up to its line feed and within a limit.
 //! What came instead of a line is told apart: the end, a line too long, a stream that failed, no memory.
-ghost use Rattle.std.specs.Prelude.{◌≡◌, ◌≢◌, ◌≤◌, true, [], length};
+ghost use Rattle.std.specs.Prelude.{◌≡◌, ◌≢◌, ◌+◌, ◌≤◌, true, [], ◌∷◌, ◌++◌, drop, length, IfSome};
 ghost use Rattle.std.specs.Io.KnownBytes.{Keeps, prepend_known};
 ghost use Rattle.lb_counted.specs.Counted.{inner_of, has_failed};
-ghost use Rattle.lb_lines.specs.Lines.{Finds, first_line};
+ghost use Rattle.lb_lines.specs.Lines.{Finds, HasNoFeed, IsLine, first_line};
 ghost use Rattle.lb_counted.specs.Stream.{OnBytes};
 
 use crate::read_ahead::{ReadAhead, StreamError};
@@ -76,6 +76,20 @@ pub fn read_line<R: Read, W: Write>(
             return LineRead::Line;
         }
         ahead.consume(count);
+    }
+}
+
+/// The next line, without its line feed, where all of it and its line feed were read ahead. It is lent and not copied.
+///
+/// To go on after it, consume its bytes and one more.
+pub fn line_ahead(ahead: &ReadAhead) -> Option<&[u8]>
+    ensures line { IfSome result (λ line. IsLine line.now × (ahead.now ≡ line.now ++ 10 ∷ drop (length line.now + 1) ahead.now)) }
+    ensures none { result ≡ None → HasNoFeed ahead.now }
+{
+    let bytes = ahead.bytes();
+    match memchr(b'\n', bytes) {
+        Some(place) => Some(&bytes[..place]),
+        None => None,
     }
 }
 

@@ -49,9 +49,10 @@ impl ReadAhead {
         }
     }
 
-    /// The bytes.
+    /// The bytes, 8192 at most.
     pub fn bytes(&self) -> &[u8]
-        ensures { result.now ≡ self.now }
+        ensures value { result.now ≡ self.now }
+        ensures few { length result.now ≤ 8192 }
     {
         &self.bytes[self.start..self.end]
     }

@@ -1,1 +1,4 @@
 pub mod Sites
+pub mod Entries
+pub mod Crossings
+pub mod Histories

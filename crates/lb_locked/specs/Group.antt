@@ -1,6 +1,6 @@
 -- What is known of a group that threads share: which one it is, its gate and its configurations stay; between two calls of a thread
 -- others may have changed the rest. So a call is one of the plain group at some state of this group, the one that its lock gave.
-use Rattle.std.specs.Prelude.{◌≡◌, ℕ, Bool, List, Option, Some, Result, Ok, Err, slice_get}
+use Rattle.std.specs.Prelude.{◌≡◌, ◌↔◌, ℕ, Bool, List, Option, Some, Result, Ok, Err, IsTrue, slice_get}
 use Rattle.lb_select.specs.Backends.{Member}
 use Rattle.lb_select.specs.Draws.{Draw}
 use Rattle.lb_select.specs.declared.refusal.Refusal.{Refusal}
@@ -8,7 +8,8 @@ use Rattle.lb_rebuild.specs.Gate.{GateView}
 use Rattle.lb_registry.specs.Registry.{RegistryValue, IsRegistryAfter}
 use Rattle.lb_registry.specs.RegistryEvents.{Event}
 use Rattle.lb_group.specs.GroupCalls.{Fails, fail_events, Publishes, publish_events, Leaves, Reports, done_at, gate_back}
-use Rattle.lb_group.specs.GroupHistory.{Left, Destroyed}
+use Rattle.lb_health.specs.Joined.{IsReady}
+use Rattle.lb_group.specs.GroupHistory.{Left, Destroyed, newest}
 use Rattle.lb_group.specs.Values.{Task, BuiltValue, RetiredValue, PermitValue, ReaderValue, configs_of}
 use Rattle.lb_group.specs.declared.answers.Ask.{Ask}
 use Rattle.lb_group.specs.declared.answers.Told.{Told}
@@ -21,6 +22,8 @@ use Rattle.lb_joined.specs.Stands.{JoinedValue, After, Becomes, IsFounded, SameS
 use Rattle.lb_port.specs.Looks.{SelectedThrough}
 use Rattle.lb_port.specs.Through.{UpdatedThrough}
 use Rattle.lb_port.specs.Plain.{IsAsked, IsEntered, IsTaken, IsScheduled, IsReadyFor}
+use Rattle.lb_locked.specs.Registry.{IsRegistryOf, UnderRegistry}
+use Rattle.lb_locked.specs.Shared.{SharedValue}
 
 module _ {C : Type 0} where
   -- a job of this group and gate, with its slot's configuration
@@ -73,11 +76,16 @@ module _ {C : Type 0} where
       × ((t ≡ told_of b a) × Under site (λ v w. After v (λ made e. Publishes (group_events e) b a)
       × Becomes v (in_group (publish_events b a)) w × SameSite v w))
 
-module _ {S I C : Type 0} where
-  abbrev pub AskedUnder : JoinedValue C → ℕ → ℕ → Result (Ask S I C) Refusal → Type 0
+module _ {S I C W : Type 0} where
+  abbrev pub AskedUnder : JoinedValue C → ℕ → ℕ → Result (Ask S I C W) Refusal → Type 0
   AskedUnder site slot now r = UnderGate site (λ v g w k. IsAsked v g slot now r w k)
 
 module _ {C R : Type 0} (gives : R → Member → Member → Type 0) where
+  -- what was read at some state of this group, beside some state of its registry
+  abbrev pub SeenBeside : SharedValue C R → (JoinedValue C → RegistryValue R → Type 0) → Type 0
+  SeenBeside site Told =
+      (v : JoinedValue C) × ((x : RegistryValue R) × (IsState site.core v × (IsRegistryOf gives site.registry x × Told v x)))
+
   -- the snapshot of that generation is let go where something was taken back
   abbrev pub IsReleasedWhere :
       {A B : Type 0} → Result A B → JoinedValue C → (Made C → History → ℕ) → RegistryValue R → RegistryValue R → Type 0
@@ -87,42 +95,45 @@ module _ {C R : Type 0} (gives : R → Member → Member → Type 0) where
       (released_where a v.view.id (generation made e) (views_of made e) events) y)
 
   -- a job whose flight is over, or nothing where none is awaited
-  abbrev pub FailedUnder : JoinedValue C → Task C → ℕ → Type 0
+  abbrev pub FailedUnder : SharedValue C R → Task C → ℕ → Type 0
   FailedUnder site j now =
       (a : Result (Unit {0}) (Task C))
-      × ((x : RegistryValue R) × ((y : RegistryValue R)
-      × UnderGate site (λ v g w k. After v (λ made e. Fails (group_events e) j a)
+      × UnderRegistry gives site.registry (λ x y. UnderGate site.core (λ v g w k. After v (λ made e. Fails (group_events e) j a)
       × Becomes v (in_group (fail_events j now a)) w × SameSite v w × (k ≡ gate_back a g)
-      × IsReleasedWhere a v (λ made e. j.generation) x y)))
+      × IsReleasedWhere a v (λ made e. j.generation) x y))
 
-  abbrev pub ReportedUnder : JoinedValue C → ℕ → PermitValue → Type 0
+  abbrev pub ReportedUnder : SharedValue C R → ℕ → PermitValue → Type 0
   ReportedUnder site slot p =
       (a : Result (Unit {0}) PermitValue)
-      × ((x : RegistryValue R) × ((y : RegistryValue R)
-      × UnderGate site (λ v g w k. After v (λ made e. Reports made (group_events e) slot p a)
+      × UnderRegistry gives site.registry (λ x y. UnderGate site.core (λ v g w k. After v (λ made e. Reports made (group_events e) slot p a)
       × Becomes v (in_group (done_at slot Destroyed a)) w × SameSite v w × (k ≡ gate_back a g)
-      × IsReleasedWhere a v (λ made e. generation_at slot e) x y)))
+      × IsReleasedWhere a v (λ made e. generation_at slot e) x y))
 
-  abbrev pub ReadyUnder : JoinedValue C → ReaderValue C → Member → Bool → Type 0
-  ReadyUnder site r b a =
-      (v : JoinedValue C) × ((x : RegistryValue R) × (IsState site v × IsReadyFor gives v x r b a))
+  abbrev pub ReadyUnder : SharedValue C R → ReaderValue C → Member → Bool → Type 0
+  ReadyUnder site r b a = SeenBeside site (λ v x. IsReadyFor gives v x r b a)
 
-  abbrev pub ScheduledUnder : JoinedValue C → List Member → List (Member × Bool) → ℕ → Result Scheduled Refusal → Type 0
+  -- whether a backend is ready in the newest membership, at some state of the group
+  abbrev pub NewestReadyUnder : SharedValue C R → Member → Bool → Type 0
+  NewestReadyUnder site b a =
+      SeenBeside site (λ v x. (key_of : Member → Member) (events : List Event)
+      → IsRegistryAfter gives key_of events x
+      → After v (λ made e. IsTrue a ↔ IsReady key_of (views_of made e) events (newest (group_events e)) b))
+
+  abbrev pub ScheduledUnder : SharedValue C R → List Member → List (Member × Bool) → ℕ → Result Scheduled Refusal → Type 0
   ScheduledUnder site members settings now r =
-      (x : RegistryValue R) × ((y : RegistryValue R)
-      × Under site (λ v w. IsScheduled gives v x members settings now r w y))
+      UnderRegistry gives site.registry (λ x y. Under site.core (λ v w. IsScheduled gives v x members settings now r w y))
 
   -- an update whose membership was scheduled at some state of the group
   abbrev pub UpdatedUnder :
       {K D : Type 0} → (K → ℕ → K → Type 0) → (D → Result (List Member × List (Member × Bool)) Refusal → Type 0)
-      → D → K → JoinedValue C → Result ℕ Refusal → K → Type 0
+      → D → K → SharedValue C R → Result ℕ Refusal → K → Type 0
   UpdatedUnder reads finds d k site r l =
       UpdatedThrough reads finds (λ v members settings now a w. ScheduledUnder v members settings now a × (w ≡ v)) d k site r l site
 
   -- a selection: the reader entered, what readiness was told, and the reader left, each at some state of the group
   abbrev pub SelectedUnder :
       (Member → Bool → Bool → Type 0) → ℕ → (List Member → C → List ℕ → List Draw → List Member → Bool → Type 0)
-      → List ℕ → JoinedValue C → ℕ → Result (Option Member) Refusal → Type 0
+      → List ℕ → SharedValue C R → ℕ → Result (Option Member) Refusal → Type 0
   SelectedUnder accepts limit walks key site slot r =
       SelectedThrough accepts limit (λ v r d w. w ≡ v) (λ v r b a w. ReadyUnder v r b a × (w ≡ v))
-      (λ v slot a w. EnteredUnder v slot a × (w ≡ v)) (λ v r w. LeftUnder v r × (w ≡ v)) walks key site slot r site
+      (λ v slot a w. EnteredUnder v.core slot a × (w ≡ v)) (λ v r w. LeftUnder v.core r × (w ≡ v)) walks key site slot r site

@@ -1,2 +1,4 @@
 pub mod Gate
 pub mod Group
+pub mod Registry
+pub mod Shared

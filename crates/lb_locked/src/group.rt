@@ -2,14 +2,15 @@
 //! Locks are taken in the order update, group, registry, gate, and but for that of an update none is held between two calls.
 ghost use Rattle.std.specs.Prelude.{◌≡◌, IfErr, IfOk};
 ghost use Rattle.std.specs.Arc.{arc_value};
-ghost use Rattle.lb_joined.specs.Stands.{SameSite};
 ghost use Rattle.lb_locked.specs.Group.{UpdatedUnder};
+ghost use Rattle.lb_locked.specs.Shared.{IsSame};
 
 use crate::gate::SelectorRebuildGate;
 use crate::port::LockedPort;
 use crate::registry::HealthRegistry;
 use crate::wakes::Wakes;
 use lb_balance::moments::MomentSource;
+use lb_board::board::Board;
 use lb_joined::group::GroupCore;
 use lb_lock::lock::KeyedLock;
 use lb_lock::rule::LockRule;
@@ -21,6 +22,7 @@ use lb_select::backend::Backend;
 use lb_select::loads::Loads;
 use lb_select::refusal::Refusal;
 use lb_select::walk::BackendSelection;
+use lb_watched::watched::Watched;
 use rand_pcg::Pcg64;
 use std::alloc::Global;
 use std::marker::Model;
@@ -29,11 +31,12 @@ use std::sync::atomic::Ordering::SeqCst;
 use std::sync::atomic::{AtomicBool, AtomicU64};
 use std::sync::{Arc, Mutex, Wait};
 
-/// The group under the lock is the one that the lock was made with: its identity, its gate and its configurations stay.
+/// The group under the lock is the one that the lock was made with, on the same board: its identity, its gate and its configurations
+/// stay.
 pub struct OfGroup {}
 
-impl<S: BackendSelection> LockRule<GroupCore<S>, Snapshot<GroupCore<S>>> for OfGroup {
-    ghost holds = { λ key group. SameSite key.value group };
+impl<S: BackendSelection> LockRule<Watched<S>, Snapshot<Watched<S>>> for OfGroup {
+    ghost holds = { λ key group. IsSame key.value group };
 }
 
 // What threads share of a slot beside the group.
@@ -44,11 +47,12 @@ struct Line {
     has_worker: AtomicBool,
 }
 
-/// A group behind a lock, with its registry and its gate, which other groups may share. Contracts see the group as it was made:
-/// which one it is, its gate and its configurations.
+/// A group behind a lock, with its registry and its gate, which other groups may share, and its board beside the lock. Contracts see
+/// the board, the group as it was made (which one it is, its gate and its configurations), and the registry as it was made.
 #[derive(Drop)]
-pub struct SharedGroup<S: BackendSelection, R, C> {
-    pub(crate) lock: KeyedLock<GroupCore<S>, Snapshot<GroupCore<S>>, OfGroup>,
+pub struct SharedGroup<S: BackendSelection, R: KeyRule + Drop, C> {
+    pub(crate) lock: KeyedLock<Watched<S>, Snapshot<Watched<S>>, OfGroup>,
+    pub(crate) board: Arc<Board>,
     pub(crate) registry: Arc<HealthRegistry<R, C>>,
     pub(crate) gate: Arc<SelectorRebuildGate>,
     pub(crate) generator: Mutex<Pcg64>,
@@ -60,20 +64,26 @@ pub struct SharedGroup<S: BackendSelection, R, C> {
     let_go: AtomicBool,
 }
 
-impl<S: BackendSelection, R, C> Model for SharedGroup<S, R, C> {
+impl<S: BackendSelection, R: KeyRule + Drop, C> Model for SharedGroup<S, R, C> {
     ghost use Rattle.std.specs.Prelude.{◌≡◌};
     ghost use Rattle.std.specs.Arc.{arc_value};
-    ghost use Rattle.lb_joined.specs.Stands.{JoinedValue};
+    ghost use Rattle.lb_locked.specs.Shared.{SharedValue};
 
-    ghost Value = { JoinedValue S.Config };
+    ghost Value = { SharedValue S.Config R };
 
-    ghost view = { λ g. g.lock.table.shared.key.value };
+    ghost view = { λ g. record {
+      board = arc_value g.board;
+      core = g.lock.table.shared.key.value.core;
+      registry = (arc_value g.registry).start;
+    } };
 
-    ghost invariant = { λ g. (arc_value g.gate).id ≡ g.lock.table.shared.key.value.group.gate };
+    ghost invariant = { λ g. ((arc_value g.gate).id ≡ g.lock.table.shared.key.value.core.group.gate)
+        × (g.lock.table.shared.key.value.board ≡ arc_value g.board) };
 }
 
 impl<S: BackendSelection, R: KeyRule + Drop, C: HealthCheck + Drop> SharedGroup<S, R, C> {
-    /// This group, for threads. Random words are those of one generator for all its readers, and all loads are 0.
+    /// This group, for threads, on a board of its own. Random words are those of one generator for all its readers, and all loads are
+    /// 0.
     ///
     /// # Errors
     ///
@@ -86,14 +96,16 @@ impl<S: BackendSelection, R: KeyRule + Drop, C: HealthCheck + Drop> SharedGroup<
         generator: Pcg64,
     ) -> Result<SharedGroup<S, R, C>, Refusal>
         requires { (arc_value gate).id ≡ core.group.gate }
-        ensures made { IfOk result (λ g. g ≡ core) }
+        ensures made { IfOk result (λ g. (g.core ≡ core) × (g.registry ≡ (arc_value registry).start)) }
         ensures refused { IfErr result (λ e. e ≡ Refusal.OutOfMemory) }
     {
-        let key = Snapshot::of(&core);
         let lines = lines_of(alloc, &core)?;
-        let lock = KeyedLock::new(alloc, core, &key)?;
+        let (watched, board) = Watched::new(alloc, core)?;
+        let key = Snapshot::of(&watched);
+        let lock = KeyedLock::new(alloc, watched, &key)?;
         Ok(SharedGroup {
             lock,
+            board,
             registry,
             gate,
             generator: Mutex::new(generator),
@@ -107,10 +119,11 @@ impl<S: BackendSelection, R: KeyRule + Drop, C: HealthCheck + Drop> SharedGroup<
     /// Stops the rebuilds for good, and marks the group's view for removal. It takes no memory.
     pub fn cancel<W: Wait>(&self, rt: &W) {
         let _gate = &self.gate;
+        let registries: &HealthRegistry<R, C> = &*self.registry;
         let mut held = self.lock.take(rt);
-        let mut registry = self.registry.lock(rt);
-        held.value.cancel(&mut *registry);
-        drop(registry);
+        let mut registry = registries.take(rt);
+        held.value.cancel(&mut registry.value);
+        registries.put(registry);
         self.lock.put(held);
         self.gate.wakes().wake();
     }
@@ -174,7 +187,7 @@ impl<S: BackendSelection, R: KeyRule + Drop, C: HealthCheck + Drop> SharedGroup<
     pub(crate) fn is_building<W: Wait>(&self, rt: &W, slot: usize) -> bool {
         let _gate = &self.gate;
         let held = self.lock.take(rt);
-        let flight = held.value.flight(slot);
+        let flight = held.value.core().flight(slot);
         self.lock.put(held);
         matches!(flight, Some(Some(_)))
     }

@@ -2,9 +2,12 @@
 //! A thread that waits for a lock sleeps; a lock is held for one call of the plain state.
 #![tactic(auto)]
 
+mod backends;
 pub mod clock;
 pub mod gate;
 pub mod group;
+pub mod keyed;
+pub mod passes;
 pub mod port;
 mod reading;
 pub mod registry;

@@ -7,6 +7,7 @@ ghost use Rattle.lb_locked.specs.Group.{FailedUnder, ReportedUnder, ReadyUnder, 
 
 use crate::gate::SelectorRebuildGate;
 use crate::group::SharedGroup;
+use crate::registry::HealthRegistry;
 use lb_group::answers::{Ask, Told};
 use lb_group::job::Built;
 use lb_group::retired::{OwedPermit, Reader, Retired};
@@ -26,7 +27,7 @@ use std::sync::Wait;
 
 /// One thread's way to a group that threads share.
 #[derive(Drop)]
-pub struct LockedPort<'g, 'r, S: BackendSelection, R, C, W> {
+pub struct LockedPort<'g, 'r, S: BackendSelection, R: KeyRule + Drop, C, W> {
     pub group: &'g SharedGroup<S, R, C>,
     pub rt: &'r W,
 }
@@ -36,29 +37,30 @@ impl<'g, 'r, S: BackendSelection, R: KeyRule + Drop, C: HealthCheck + Drop, W: W
     Built<S>,
     Reader<S>,
 > for LockedPort<'g, 'r, S, R, C, W> {
-    ghost owns_refused = { λ p r. OwnsJob p.group.now r.task };
+    ghost owns_refused = { λ p r. OwnsJob p.group.now.core r.task };
 
-    ghost owns_built = { λ p b. OwnsJob p.group.now b.task };
+    ghost owns_built = { λ p b. OwnsJob p.group.now.core b.task };
 
-    ghost owns_reader = { λ p r. r.group ≡ p.group.now.group.id };
+    ghost owns_reader = { λ p r. r.group ≡ p.group.now.core.group.id };
 
     ghost failed = { λ p r now q. FailedUnder R.gives p.group.now r.task now × (q.group.now ≡ p.group.now) };
 
-    ghost published = { λ p b t q. PublishedUnder p.group.now b t × (q.group.now ≡ p.group.now) };
+    ghost published = { λ p b t q. PublishedUnder p.group.now.core b t × (q.group.now ≡ p.group.now) };
 
-    ghost left = { λ p r q. LeftUnder p.group.now r × (q.group.now ≡ p.group.now) };
+    ghost left = { λ p r q. LeftUnder p.group.now.core r × (q.group.now ≡ p.group.now) };
 
     fn fail(&mut self, refused: RefusedJob<S>, now: u128) {
         let group = self.group;
+        let registries: &HealthRegistry<R, C> = &*group.registry;
         let job = refused.into_job();
         let gates: &SelectorRebuildGate = &*group.gate;
         let mut held = group.lock.take(self.rt);
         held.value.founded();
-        let mut registry = group.registry.lock(self.rt);
+        let mut cells = registries.take(self.rt);
         let mut gate = gates.take(self.rt);
-        let told = held.value.fail(job, &mut *registry, &mut gate.value, now);
+        let told = held.value.fail(job, &mut cells.value, &mut gate.value, now);
         gates.put(gate);
-        drop(registry);
+        registries.put(cells);
         group.lock.put(held);
         gates.wakes().wake();
         match told {
@@ -100,24 +102,24 @@ impl<'g, 'r, S: BackendSelection, R: KeyRule + Drop, C: HealthCheck + Drop, W: W
 
 impl<'g, 'r, S: BackendSelection, R: KeyRule + Drop, C: HealthCheck + Drop, W: Wait> GroupPort<S>
     for LockedPort<'g, 'r, S, R, C, W> {
-    ghost owns_job = { λ p t. OwnsJob p.group.now t };
+    ghost owns_job = { λ p t. OwnsJob p.group.now.core t };
 
     ghost scheduled = { λ p ms settings now r q. ScheduledUnder R.gives p.group.now ms settings now r × (q.group.now ≡ p.group.now) };
 
-    ghost asked = { λ p slot now r q. AskedUnder p.group.now slot now r × (q.group.now ≡ p.group.now) };
+    ghost asked = { λ p slot now r q. AskedUnder p.group.now.core slot now r × (q.group.now ≡ p.group.now) };
 
-    ghost entered = { λ p slot r q. EnteredUnder p.group.now slot r × (q.group.now ≡ p.group.now) };
+    ghost entered = { λ p slot r q. EnteredUnder p.group.now.core slot r × (q.group.now ≡ p.group.now) };
 
     ghost readies = { λ p r b a q. ReadyUnder R.gives p.group.now r b a × (q.group.now ≡ p.group.now) };
 
     // Of which words others' draws leave nothing is said.
     ghost draws = { λ p r d q. q.group.now ≡ p.group.now };
 
-    ghost taken = { λ p slot r q. TakenUnder p.group.now slot r × (q.group.now ≡ p.group.now) };
+    ghost taken = { λ p slot r q. TakenUnder p.group.now.core slot r × (q.group.now ≡ p.group.now) };
 
     ghost reported = { λ p slot permit q. ReportedUnder R.gives p.group.now slot permit × (q.group.now ≡ p.group.now) };
 
-    ghost owns_permit = { λ p slot permit. OwnsPermit p.group.now slot permit };
+    ghost owns_permit = { λ p slot permit. OwnsPermit p.group.now.core slot permit };
 
     fn schedule(
         &mut self,
@@ -127,14 +129,15 @@ impl<'g, 'r, S: BackendSelection, R: KeyRule + Drop, C: HealthCheck + Drop, W: W
         now: u128,
     ) -> Result<Scheduled, Refusal> {
         let group = self.group;
+        let registries: &HealthRegistry<R, C> = &*group.registry;
         let _gate = &group.gate;
         let mut held = group.lock.take(self.rt);
         held.value.founded();
-        let mut registry = group.registry.lock(self.rt);
+        let mut cells = registries.take(self.rt);
         let told = held
             .value
-            .schedule(alloc, &mut *registry, discovered, settings, now);
-        drop(registry);
+            .schedule(alloc, &mut cells.value, discovered, settings, now);
+        registries.put(cells);
         group.lock.put(held);
         group.wakes().wake();
         told
@@ -164,12 +167,13 @@ impl<'g, 'r, S: BackendSelection, R: KeyRule + Drop, C: HealthCheck + Drop, W: W
 
     fn ready(&mut self, reader: &Reader<S>, backend: &Backend) -> bool {
         let group = self.group;
+        let registries: &HealthRegistry<R, C> = &*group.registry;
         let _gate = &group.gate;
         let held = group.lock.take(self.rt);
         held.value.founded();
-        let registry = group.registry.lock(self.rt);
-        let told = held.value.ready(reader, &*registry, backend);
-        drop(registry);
+        let cells = registries.take(self.rt);
+        let told = held.value.core().ready(reader, &cells.value, backend);
+        registries.put(cells);
         group.lock.put(held);
         told
     }
@@ -201,16 +205,17 @@ impl<'g, 'r, S: BackendSelection, R: KeyRule + Drop, C: HealthCheck + Drop, W: W
 
     fn destroyed(&mut self, slot: usize, permit: OwedPermit) {
         let group = self.group;
+        let registries: &HealthRegistry<R, C> = &*group.registry;
         let gates: &SelectorRebuildGate = &*group.gate;
         let mut held = group.lock.take(self.rt);
         held.value.founded();
-        let mut registry = group.registry.lock(self.rt);
+        let mut cells = registries.take(self.rt);
         let mut gate = gates.take(self.rt);
         let told = held
             .value
-            .destroyed(slot, permit, &mut *registry, &mut gate.value);
+            .destroyed(slot, permit, &mut cells.value, &mut gate.value);
         gates.put(gate);
-        drop(registry);
+        registries.put(cells);
         group.lock.put(held);
         gates.wakes().wake();
         match told {
@@ -219,9 +224,9 @@ impl<'g, 'r, S: BackendSelection, R: KeyRule + Drop, C: HealthCheck + Drop, W: W
         }
     }
 
-    ghost draws_keep = { λ p r d q same own. subst (λ v. r.group ≡ v.group.id) (sym same) own };
+    ghost draws_keep = { λ p r d q same own. subst (λ v. r.group ≡ v.core.group.id) (sym same) own };
 
-    ghost readies_keep = { λ p r b a q told own. subst (λ v. r.group ≡ v.group.id) (sym told.1) own };
+    ghost readies_keep = { λ p r b a q told own. subst (λ v. r.group ≡ v.core.group.id) (sym told.1) own };
 
     ghost built_of = { λ p t ended own. own };
 

@@ -17,60 +17,65 @@ use std::sync::Wait;
 impl<S: BackendSelection, R: KeyRule + Drop, C: HealthCheck + Drop> SharedGroup<S, R, C> {
     /// The newest generation of the backends; 0 before the first membership.
     pub fn backend_generation<W: Wait>(&self, rt: &W) -> u64
-        ensures { Seen self.now (λ v. After v (λ made e. result ≡ newest (group_events e))) }
+        ensures { Seen self.now.core (λ v. After v (λ made e. result ≡ newest (group_events e))) }
     {
         let _gate = &self.gate;
         let held = self.lock.take(rt);
-        held.value.founded();
-        let generation = held.value.newest();
+        let group = held.value.core();
+        group.founded();
+        let generation = group.newest();
         self.lock.put(held);
         generation
     }
 
     /// Whether the group is cancelled.
     pub fn is_cancelled<W: Wait>(&self, rt: &W) -> bool
-        ensures { Seen self.now (λ v. After v (λ made e. result ≡ is_cancelled (group_events e))) }
+        ensures { Seen self.now.core (λ v. After v (λ made e. result ≡ is_cancelled (group_events e))) }
     {
         let _gate = &self.gate;
         let held = self.lock.take(rt);
-        held.value.founded();
-        let told = held.value.is_cancelled();
+        let group = held.value.core();
+        group.founded();
+        let told = group.is_cancelled();
         self.lock.put(held);
         told
     }
 
     /// The generation that a slot serves, or `None` where no such slot is there.
     pub fn selector_generation<W: Wait>(&self, rt: &W, slot: usize) -> Option<u64>
-        ensures { Seen self.now (λ v. After v (λ made e. result ≡ at_slot made slot (served (past_of slot (group_events e))))) }
+        ensures { Seen self.now.core (λ v. After v (λ made e. result ≡ at_slot made slot (served (past_of slot (group_events e))))) }
     {
         let _gate = &self.gate;
         let held = self.lock.take(rt);
-        held.value.founded();
-        let generation = held.value.served(slot);
+        let group = held.value.core();
+        group.founded();
+        let generation = group.served(slot);
         self.lock.put(held);
         generation
     }
 
     /// The counts of a slot, or `None` where no such slot is there.
     pub fn selector_counts<W: Wait>(&self, rt: &W, slot: usize) -> Option<Counts>
-        ensures { Seen self.now (λ v. After v (λ made e. result ≡ at_slot made slot (counts_after (past_of slot (group_events e))))) }
+        ensures { Seen self.now.core (λ v. After v (λ made e. result ≡ at_slot made slot (counts_after (past_of slot (group_events e))))) }
     {
         let _gate = &self.gate;
         let held = self.lock.take(rt);
-        held.value.founded();
-        let counts = held.value.counts(slot);
+        let group = held.value.core();
+        group.founded();
+        let counts = group.counts(slot);
         self.lock.put(held);
         counts
     }
 
     /// The timing of a slot's last publication: `None` where no such slot is there, and none in it before the first.
     pub fn selector_timing<W: Wait>(&self, rt: &W, slot: usize) -> Option<Option<Timing>>
-        ensures { Seen self.now (λ v. After v (λ made e. result ≡ at_slot made slot (timing_after (past_of slot (group_events e))))) }
+        ensures { Seen self.now.core (λ v. After v (λ made e. result ≡ at_slot made slot (timing_after (past_of slot (group_events e))))) }
     {
         let _gate = &self.gate;
         let held = self.lock.take(rt);
-        held.value.founded();
-        let timing = held.value.timing(slot);
+        let group = held.value.core();
+        group.founded();
+        let timing = group.timing(slot);
         self.lock.put(held);
         timing
     }

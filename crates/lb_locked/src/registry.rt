@@ -1,45 +1,92 @@
 //! A registry of health that threads share, and the passes that check its targets, one after another or beside each other.
 //! No check runs under the registry's lock: a pass copies its targets, and each verdict takes the lock for one call.
-ghost use Rattle.std.specs.Prelude.{◌≡◌, Err, IfErr, OnErr};
-ghost use Rattle.lb_registry.specs.Registry.{IsGrowthRefusal};
+ghost use Rattle.std.specs.Prelude.{◌≡◌, ◌∷◌, length, Err, IfErr, IfOk, OnErr};
+ghost use Rattle.lb_registry.specs.Registry.{IsGrowthRefusal, IsUpdateRefusal, targets_after};
+ghost use Rattle.lb_registry.specs.RegistryEvents.{Marked, views_after};
+ghost use Rattle.lb_registry.specs.Targets.{target_keys};
+ghost use Rattle.lb_registry.specs.Verdicts.{Verdict};
+ghost use Rattle.lb_locked.specs.Registry.{Becomes, IsApplied, IsCellReady, IsObserved, IsRegistryOf, IsUpdated, SeenIn, UnderRegistry};
 
 use lb_health::registry::tell;
+use lb_lock::lock::{Held, KeyedLock};
+use lb_lock::rule::LockRule;
 use lb_probe::health_check::HealthCheck;
 use lb_registry::keys::KeyRule;
 use lb_registry::registry::Registry;
 use lb_registry::targets::Target;
+use lb_select::backend::Backend;
 use lb_select::refusal::Refusal;
 use log::Log;
 use std::alloc::Global;
+use std::collections::BTreeSet;
+use std::marker::Model;
+use std::snapshot::Snapshot;
 use std::sync::atomic::AtomicU64;
 use std::sync::atomic::Ordering::SeqCst;
-use std::sync::{Mutex, MutexGuard, OnceLock, Wait};
+use std::sync::{OnceLock, Wait};
 use std::thread;
 use std::thread::Threads;
 
-/// A registry of health behind a lock, and the check of its targets, which is set once.
+/// The registry under the lock is the one that the lock was made with, after what calls have made of it since.
+pub struct OfRegistry {}
+
+impl<R: KeyRule> LockRule<Registry<R>, Snapshot<Registry<R>>> for OfRegistry {
+    ghost use Rattle.lb_locked.specs.Registry.{IsRegistryOf};
+
+    ghost holds = { λ key registry. IsRegistryOf R.gives key.value registry };
+}
+
+/// A registry that was taken from its lock.
+pub type HeldRegistry<R> = Held<Registry<R>, Snapshot<Registry<R>>>;
+
+/// A registry of health behind a lock, and the check of its targets, which is set once. Contracts see the registry as it was when it
+/// came under the lock, and which lock.
 #[derive(Drop)]
-pub struct HealthRegistry<R, C> {
-    registry: Mutex<Registry<R>>,
+pub struct HealthRegistry<R: KeyRule + Drop, C> {
+    lock: KeyedLock<Registry<R>, Snapshot<Registry<R>>, OfRegistry>,
     check: OnceLock<C>,
     // Counts the cells that flipped.
     changes: AtomicU64,
 }
 
+impl<R: KeyRule + Drop, C> Model for HealthRegistry<R, C> {
+    ghost use Rattle.lb_locked.specs.Registry.{RegistryHandle};
+
+    ghost Value = { RegistryHandle R };
+
+    ghost view = { λ h. record { start = h.lock.table.shared.key.value; lock = h.lock.table.shared.table_id } };
+}
+
 impl<R: KeyRule + Drop, C: HealthCheck + Drop> HealthRegistry<R, C> {
-    /// This registry, without a check.
-    pub fn new(registry: Registry<R>) -> HealthRegistry<R, C> {
-        HealthRegistry {
-            registry: Mutex::new(registry),
+    /// This registry, without a check. Refused `OutOfMemory` where memory for the lock is refused.
+    pub fn new(alloc: Global, registry: Registry<R>) -> Result<HealthRegistry<R, C>, Refusal>
+        ensures made { IfOk result (λ h. h.start ≡ registry) }
+        ensures refused { IfErr result (λ e. e ≡ Refusal.OutOfMemory) }
+    {
+        let key = Snapshot::of(&registry);
+        let lock = KeyedLock::new(alloc, registry, &key)?;
+        Ok(HealthRegistry {
+            lock,
             check: OnceLock::new(),
             changes: AtomicU64::new(0),
-        }
+        })
     }
 
-    /// The registry itself, for one call of a view or a group, until the guard is dropped. The thread sleeps while another one has it.
-    /// A verdict goes through `observe`, which counts it where it flips a cell.
-    pub fn lock<'a, W: Wait>(&'a self, rt: &W) -> MutexGuard<'a, Registry<R>> {
-        self.registry.lock(rt)
+    /// The registry itself, for one call of a view or a group; `put` ends it. The thread sleeps while another one has it. A verdict goes
+    /// through `observe`, which counts it where it flips a cell.
+    pub fn take<W: Wait>(&self, rt: &W) -> HeldRegistry<R>
+        ensures registry { IsRegistryOf R.gives self.now.start result.value }
+        ensures here { result.seat.table_id ≡ self.now.lock }
+    {
+        self.lock.take(rt)
+    }
+
+    /// Puts this registry back.
+    pub fn put(&self, held: HeldRegistry<R>)
+        requires registry { IsRegistryOf R.gives self.now.start held.value }
+        requires here { held.seat.table_id ≡ self.now.lock }
+    {
+        self.lock.put(held);
     }
 
     /// Sets the check. Refused `HealthCheckSet` where one is set, which stays; the one handed in is dropped then.
@@ -63,9 +110,14 @@ impl<R: KeyRule + Drop, C: HealthCheck + Drop> HealthRegistry<R, C> {
     ///
     /// `NumbersExhausted` where no number is left for a cell; `OutOfMemory` where memory is refused.
     pub fn target_count<W: Wait>(&self, rt: &W, alloc: Global) -> Result<usize, Refusal>
-        ensures { OnErr result (IsGrowthRefusal result) }
+        ensures counted { UnderRegistry R.gives self.now.start (λ x y. IsApplied R.gives
+            (λ key_of events count. count ≡ length (target_keys key_of (views_after events))) x result y) }
+        ensures refused { OnErr result (IsGrowthRefusal result) }
     {
-        self.registry.lock(rt).target_count(alloc)
+        let mut held = self.take(rt);
+        let told = held.value.target_count(alloc);
+        self.put(held);
+        told
     }
 
     /// The targets with their cells, by identity and then by view, after the marks that wait are applied.
@@ -74,9 +126,14 @@ impl<R: KeyRule + Drop, C: HealthCheck + Drop> HealthRegistry<R, C> {
     ///
     /// As `target_count`.
     pub fn targets<W: Wait>(&self, rt: &W, alloc: Global) -> Result<Vec<Target>, Refusal>
-        ensures { OnErr result (IsGrowthRefusal result) }
+        ensures told { UnderRegistry R.gives self.now.start (λ x y. IsApplied R.gives
+            (λ key_of events targets. targets.items ≡ targets_after key_of events) x result y) }
+        ensures refused { OnErr result (IsGrowthRefusal result) }
     {
-        self.registry.lock(rt).targets(alloc)
+        let mut held = self.take(rt);
+        let told = held.value.targets(alloc);
+        self.put(held);
+        told
     }
 
     /// Hands a verdict to a cell; whether its health flipped. Refused `NoSuch` where the cell is kept no longer. It takes no memory.
@@ -87,12 +144,32 @@ impl<R: KeyRule + Drop, C: HealthCheck + Drop> HealthRegistry<R, C> {
         verdict: bool,
         threshold: usize,
     ) -> Result<bool, Refusal>
-        ensures { OnErr result (result ≡ Err Refusal.NoSuch) }
+        ensures observed { UnderRegistry R.gives self.now.start (λ x y. IsObserved R.gives x cell
+            (record { ok = verdict; threshold = threshold }) result y) }
+        ensures refused { OnErr result (result ≡ Err Refusal.NoSuch) }
     {
-        let answer = self.registry.lock(rt).observe(cell, verdict, threshold);
+        let answer = self.hand_over(rt, cell, verdict, threshold);
         if let Ok(true) = answer {
             self.changes.fetch_add(1, SeqCst);
         }
+        answer
+    }
+
+    // Hands a verdict to a cell, which is all that the lock is taken for.
+    fn hand_over<W: Wait>(
+        &self,
+        rt: &W,
+        cell: u64,
+        verdict: bool,
+        threshold: usize,
+    ) -> Result<bool, Refusal>
+        ensures observed { UnderRegistry R.gives self.now.start (λ x y. IsObserved R.gives x cell
+            (record { ok = verdict; threshold = threshold }) result y) }
+        ensures refused { OnErr result (result ≡ Err Refusal.NoSuch) }
+    {
+        let mut held = self.take(rt);
+        let answer = held.value.observe(cell, verdict, threshold);
+        self.put(held);
         answer
     }
 
@@ -102,8 +179,44 @@ impl<R: KeyRule + Drop, C: HealthCheck + Drop> HealthRegistry<R, C> {
     }
 
     /// Whether a cell is kept and healthy. It takes no memory.
-    pub fn cell_ready<W: Wait>(&self, rt: &W, cell: u64) -> bool {
-        self.registry.lock(rt).cell_ready(cell)
+    pub fn cell_ready<W: Wait>(&self, rt: &W, cell: u64) -> bool
+        ensures { SeenIn R.gives self.now.start (λ x. IsCellReady R.gives x cell result) }
+    {
+        let held = self.take(rt);
+        let told = held.value.cell_ready(cell);
+        self.put(held);
+        told
+    }
+
+    /// Gives a view another membership, after the marks that wait are applied, as `Registry::update_view`.
+    ///
+    /// # Errors
+    ///
+    /// `NoSuch` where no view has this number, or its removal waits; `NumbersExhausted` where no number is left for a cell;
+    /// `OutOfMemory` where memory is refused.
+    pub fn update_view<W: Wait>(
+        &self,
+        rt: &W,
+        alloc: Global,
+        id: u64,
+        members: BTreeSet<Backend>,
+    ) -> Result<(), Refusal>
+        ensures updated { UnderRegistry R.gives self.now.start (λ x y. IsUpdated R.gives x id members.keys result y) }
+        ensures refused { OnErr result (IsUpdateRefusal result) }
+    {
+        let mut held = self.take(rt);
+        let told = held.value.update_view(alloc, id, members);
+        self.put(held);
+        told
+    }
+
+    /// Marks a view for removal: the next call that applies marks removes it. It takes no memory.
+    pub fn remove_view<W: Wait>(&self, rt: &W, id: u64)
+        ensures { UnderRegistry R.gives self.now.start (λ x y. Becomes R.gives x (λ events. Marked id ∷ events) y) }
+    {
+        let mut held = self.take(rt);
+        held.value.remove_view(id);
+        self.put(held);
     }
 }
 

@@ -10,6 +10,7 @@ use lb_probe::health_check::HealthCheck;
 use lb_registry::keys::KeyRule;
 use lb_select::refusal::Refusal;
 use lb_select::walk::BackendSelection;
+use log::{Log, error};
 use std::alloc::Global;
 use std::sync::Wait;
 
@@ -30,7 +31,7 @@ pub fn work<
     S: BackendSelection,
     R: KeyRule + Drop,
     C: HealthCheck + Drop,
-    W: Wait,
+    W: Log + Wait,
     K: MomentSource,
 >(rt: &W, alloc: Global, group: &SharedGroup<S, R, C>, slot: usize, clock: &mut K) -> bool {
     if !group.claim_slot(slot) {
@@ -46,7 +47,7 @@ pub fn take_turns<
     S: BackendSelection,
     R: KeyRule + Drop,
     C: HealthCheck + Drop,
-    W: Wait,
+    W: Log + Wait,
     K: MomentSource,
 >(rt: &W, alloc: Global, group: &SharedGroup<S, R, C>, slot: usize, clock: &mut K) {
     for _ in rt.forever() {
@@ -63,29 +64,33 @@ pub fn take_turns<
     }
 }
 
-fn turn_of<S: BackendSelection, R: KeyRule + Drop, C: HealthCheck + Drop, W: Wait, K: MomentSource>(
-    rt: &W,
-    alloc: Global,
-    group: &SharedGroup<S, R, C>,
-    slot: usize,
-    clock: &mut K,
-) -> Next {
+fn turn_of<
+    S: BackendSelection,
+    R: KeyRule + Drop,
+    C: HealthCheck + Drop,
+    W: Log + Wait,
+    K: MomentSource,
+>(rt: &W, alloc: Global, group: &SharedGroup<S, R, C>, slot: usize, clock: &mut K) -> Next {
     let mut port = LockedPort { group, rt };
     turn_on(alloc, &mut port, slot, clock)
 }
 
-// A turn, and what comes after it.
+// A turn, and what comes after it. Of a build that failed a line of the log tells.
 fn turn_on<
     'g,
     'r,
     S: BackendSelection,
     R: KeyRule + Drop,
     C: HealthCheck + Drop,
-    W: Wait,
+    W: Log + Wait,
     K: MomentSource,
 >(alloc: Global, port: &mut LockedPort<'g, 'r, S, R, C, W>, slot: usize, clock: &mut K) -> Next {
     match worker_turn(alloc, port, slot, clock) {
-        Ok(Turn::Published(_) | Turn::Abandoned(_) | Turn::Failed) => Next::Turn,
+        Ok(Turn::Published(_) | Turn::Abandoned(_)) => Next::Turn,
+        Ok(Turn::Failed(generation, refusal)) => {
+            error!(port.rt; "load-balancing selector rebuild failed for generation {generation}: {refusal}");
+            Next::Turn
+        }
         Ok(Turn::NotDue(moment)) => Next::Sleep(moment.saturating_sub(clock.now())),
         Ok(Turn::Building | Turn::Nothing | Turn::Busy) => Next::Sleep(LONGEST),
         Ok(Turn::Cancelled) => last_turn(port, slot),

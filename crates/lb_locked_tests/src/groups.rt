@@ -8,6 +8,7 @@ use lb_health::discovery::{DiscoverySource, Static};
 use lb_joined::group::GroupCore;
 use lb_locked::gate::SelectorRebuildGate;
 use lb_locked::group::SharedGroup;
+use lb_locked::keyed::{KeyedRegistry, NoRule, keyed_by_identity};
 use lb_locked::port::LockedPort;
 use lb_locked::registry::HealthRegistry;
 use lb_locked::workers::work;
@@ -16,20 +17,22 @@ use lb_port::turn::{Turn, worker_turn};
 use lb_port::update::update_through;
 use lb_probe::health_check::BoxedCheck;
 use lb_rebuild::gate::GateCore;
-use lb_registry::keys::{ByNumber, Rule};
-use lb_registry::registry::RegistryCore;
+use lb_registry::keys::Rule;
 use lb_select::backend::Backend;
 use lb_select::refusal::Refusal;
 use lb_weighted::selection::RoundRobin;
+use log::sink::Locked;
+use log::{Level, Log, Logged};
 use rand_pcg::Pcg64;
 use std::alloc::Global;
 use std::collections::BTreeSet;
 use std::process::Abort;
 use std::sync::{Arc, Wait};
+use std::test::Fail;
 
-type Group = SharedGroup<RoundRobin, Rule<ByNumber>, BoxedCheck>;
+type Group = SharedGroup<RoundRobin, Rule<NoRule>, BoxedCheck>;
 
-type Port<'g, 'r, W> = LockedPort<'g, 'r, RoundRobin, Rule<ByNumber>, BoxedCheck, W>;
+type Port<'g, 'r, W> = LockedPort<'g, 'r, RoundRobin, Rule<NoRule>, BoxedCheck, W>;
 
 #[derive(Drop)]
 struct Ticks {
@@ -92,7 +95,7 @@ impl Cores {
 
 fn one_slot(
     alloc: Global,
-    registry: &mut RegistryCore,
+    registry: &mut KeyedRegistry,
     gate: &GateCore,
 ) -> Result<GroupCore<RoundRobin>, Refusal>
     ensures { IfOk result (λ g. g.group.gate ≡ gate.now.id) }
@@ -102,7 +105,7 @@ fn one_slot(
     GroupCore::new(alloc, registry, gate, configs)
 }
 
-fn two_cores(alloc: Global, registry: &mut RegistryCore, gate: &GateCore) -> Result<Cores, Refusal>
+fn two_cores(alloc: Global, registry: &mut KeyedRegistry, gate: &GateCore) -> Result<Cores, Refusal>
     ensures first { IfOk result (λ c. c.first.group.gate ≡ gate.now.id) }
     ensures second { IfOk result (λ c. c.second.group.gate ≡ gate.now.id) }
 {
@@ -114,7 +117,7 @@ fn two_cores(alloc: Global, registry: &mut RegistryCore, gate: &GateCore) -> Res
 fn shared(
     alloc: Global,
     core: GroupCore<RoundRobin>,
-    registry: &Arc<HealthRegistry<Rule<ByNumber>, BoxedCheck>>,
+    registry: &Arc<HealthRegistry<Rule<NoRule>, BoxedCheck>>,
     gate: &Arc<SelectorRebuildGate>,
 ) -> Result<Group, Refusal>
     requires { (arc_value gate.now).id ≡ core.group.gate }
@@ -127,7 +130,7 @@ fn shared(
 fn two_shared(
     alloc: Global,
     cores: Cores,
-    registry: &Arc<HealthRegistry<Rule<ByNumber>, BoxedCheck>>,
+    registry: &Arc<HealthRegistry<Rule<NoRule>, BoxedCheck>>,
     gate: &Arc<SelectorRebuildGate>,
 ) -> Result<Groups, Refusal>
     requires first { (arc_value gate.now).id ≡ cores.first.group.gate }
@@ -140,10 +143,10 @@ fn two_shared(
 }
 
 // The registry is the caller's: who makes one hands out no value of a rule's type.
-fn two_groups(alloc: Global, mut registry: RegistryCore) -> Result<Groups, Refusal> {
+fn two_groups(alloc: Global, mut registry: KeyedRegistry) -> Result<Groups, Refusal> {
     let gate = GateCore::new(alloc)?;
     let cores = two_cores(alloc, &mut registry, &gate)?;
-    let registry = Arc::new(alloc, HealthRegistry::new(registry))?;
+    let registry = Arc::new(alloc, HealthRegistry::new(alloc, registry)?)?;
     let gate = Arc::new(alloc, SelectorRebuildGate::of(alloc, gate)?)?;
     two_shared(alloc, cores, &registry, &gate)
 }
@@ -214,7 +217,7 @@ fn turns_on_one_gate<W: Wait + Abort>(
 }
 
 // A worker of a group that is let go cancels it, and ends; what it was to build is not built. A slot that isn't there has no worker.
-fn worker_of_one_let_go<W: Wait + Abort>(
+fn worker_of_one_let_go<W: Log + Wait + Abort>(
     alloc: Global,
     group: &Group,
     rt: &W,
@@ -240,8 +243,8 @@ enum Row {
 }
 
 // Plays a row on two new groups.
-fn played<W: Wait + Abort>(alloc: Global, rt: &W, row: Row) -> Result<(), Refusal> {
-    let groups = two_groups(alloc, RegistryCore::new(alloc))?;
+fn played<W: Log + Wait + Abort>(alloc: Global, rt: &W, row: Row) -> Result<(), Refusal> {
+    let groups = two_groups(alloc, keyed_by_identity(alloc))?;
     let mut clock = Ticks { next: 10 };
     match row {
         Row::Turns => turns(alloc, &groups.first, rt, &mut clock),
@@ -263,4 +266,62 @@ fn one_gate_for_two_groups(rt: HostRuntime) {
 #[test]
 fn a_worker_of_a_group_that_is_let_go(rt: HostRuntime) {
     assert_eq!(rt; played(rt.alloc(), &rt, Row::WorkerOfOneLetGo), Ok(()));
+}
+
+// Two backends whose weights have no sum of 64 bits, always.
+fn too_heavy(alloc: Global) -> Result<DiscoverySource<Static>, Refusal> {
+    let mut backends = BTreeSet::new(alloc);
+    backends.insert(Backend::new_with_weight(alloc, "1.0.0.1:80", usize::MAX)?)?;
+    backends.insert(Backend::new(alloc, "1.0.0.2:80")?)?;
+    Ok(DiscoverySource::Static(Static::new(backends)))
+}
+
+// A clock at whose second reading a group is let go.
+#[derive(Drop)]
+struct LettingGo<'g> {
+    group: &'g Group,
+    reading: u64,
+}
+
+impl<'g> MomentSource for LettingGo<'g> {
+    ghost use Rattle.std.specs.Prelude.{⊤};
+
+    ghost reads = { λ s m t. ⊤ };
+
+    fn now(&mut self) -> u128 {
+        self.reading = self.reading.saturating_add(1);
+        if self.reading == 2 {
+            let group = self.group;
+            group.let_go();
+        }
+        10
+    }
+}
+
+// A worker whose first build is refused, and whose group is let go then.
+fn refused_once<W: Log + Wait>(alloc: Global, group: &Group, rt: &W) -> Result<bool, Refusal> {
+    let heavy = too_heavy(alloc)?;
+    update_through(
+        alloc,
+        &mut port_to(group, rt),
+        &heavy,
+        &mut Ticks { next: 1 },
+    )?;
+    Ok(work(rt, alloc, group, 0, &mut LettingGo { group, reading: 0 }))
+}
+
+// A build that is refused is logged, with its generation and the cause.
+#[test]
+fn a_refused_build_is_logged(rt: HostRuntime) -> Result<(), Fail> {
+    let alloc = rt.alloc();
+    let sink = Locked::new(rt, Vec::new(alloc));
+    let logged = Logged::new(rt, Level::Debug, &sink);
+    let groups = two_groups(alloc, keyed_by_identity(alloc))?;
+    assert!(rt; refused_once(alloc, &groups.first, &logged)?);
+    drop(groups);
+    let text = sink.into_inner();
+    let said =
+        "[ERROR lb_locked::workers] load-balancing selector rebuild failed for generation 1: WeightTooLarge\n";
+    assert_eq!(rt; text.as_slice(), said.as_bytes());
+    Ok(())
 }

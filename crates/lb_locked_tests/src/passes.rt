@@ -1,9 +1,9 @@
 //! Passes of checks over a registry that threads share.
+use lb_locked::keyed::{KeyedRegistry, NoRule, keyed_by_identity};
 use lb_locked::registry::HealthRegistry;
 use lb_probe::error::CheckError;
 use lb_probe::health_check::HealthCheck;
-use lb_registry::keys::{ByNumber, Rule};
-use lb_registry::registry::RegistryCore;
+use lb_registry::keys::Rule;
 use lb_select::backend::Backend;
 use lb_select::refusal::Refusal;
 use log::Log;
@@ -60,7 +60,7 @@ impl<R: Clock> HealthCheck for Meeting<R> {
 }
 
 // The registry with a view of three backends, of weights 1 to 3.
-fn three_targets(alloc: Global, registry: RegistryCore) -> Result<RegistryCore, Refusal> {
+fn three_targets(alloc: Global, registry: KeyedRegistry) -> Result<KeyedRegistry, Refusal> {
     let mut registry = registry;
     let id = registry.register_view(alloc)?;
     let mut set = BTreeSet::new(alloc);
@@ -86,10 +86,8 @@ fn pass<R: Log + Threads + Wait + Clock + Copy + Send + Sync>(
             most: AtomicU64::new(0),
         },
     )?;
-    let registry: HealthRegistry<Rule<ByNumber>, Meeting<R>> = HealthRegistry::new(three_targets(
-        alloc,
-        RegistryCore::new(alloc),
-    )?);
+    let registry = three_targets(alloc, keyed_by_identity(alloc))?;
+    let registry: HealthRegistry<Rule<NoRule>, Meeting<R>> = HealthRegistry::new(alloc, registry)?;
     let check = Meeting {
         rt,
         turns,
@@ -132,9 +130,10 @@ fn checks_run_one_by_one(rt: HostRuntime) -> Result<(), Fail> {
 #[test]
 fn one_check_is_set(rt: HostRuntime) -> Result<(), Fail> {
     let alloc = rt.alloc();
-    let registry: HealthRegistry<Rule<ByNumber>, Meeting<HostRuntime>> = HealthRegistry::new(
-        three_targets(alloc, RegistryCore::new(alloc))?,
-    );
+    let registry = three_targets(alloc, keyed_by_identity(alloc))?;
+    let registry: HealthRegistry<Rule<NoRule>, Meeting<HostRuntime>> = HealthRegistry::new(
+        alloc, registry,
+    )?;
     let seen = Arc::new(
         alloc,
         Seen {

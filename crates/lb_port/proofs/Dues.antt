@@ -24,6 +24,7 @@ use Rattle.lb_port.specs.Due.{IsDue, IsLate, EndsTurn}
 use Rattle.lb_port.specs.Plain.{IsTaken, IsAsked, IsPublished}
 use Rattle.lb_port.specs.Through.{Publishes, Fails, Answered, Asks, Clears, Turned, turn_of}
 use Rattle.lb_port.specs.declared.turn.Turn.{Turn}
+use Rattle.lb_port.specs.declared.turn.Turn.TheVariants as turn
 
 job-if : (ca fl w d o : Bool) (m : ℕ) → ca ≡ false → fl ≡ false → w ≡ true → d ≡ false → o ≡ false
     → cond ca cancelled (cond fl building (cond (not w) up_to_date (cond d (not_due m) (cond o busy job)))) ≡ job
@@ -40,13 +41,13 @@ taken-none made slot h there bare = rw (lt-ltb slot (length made.configs) there,
 cause-is : (a b : Refusal) → (let x : Option Refusal = Some a in let y : Option Refusal = Some b in x ≡ y) → a ≡ b
 cause-is a b e = cc
 
-module _ {S I C K P : Type 0} (refuses : List Member → C → Option Refusal) (reads : K → ℕ → K → Type 0)
+module _ {S I C W K P : Type 0} (refuses : List Member → C → Option Refusal) (reads : K → ℕ → K → Type 0)
     (core_of : P → JoinedValue C) (gate_of : P → GateView)
     (taken : P → ℕ → Result RetiredValue Refusal → P → Type 0) (reported : P → ℕ → PermitValue → P → Type 0)
-    (asked : P → ℕ → ℕ → Result (Ask S I C) Refusal → P → Type 0)
+    (asked : P → ℕ → ℕ → Result (Ask S I C W) Refusal → P → Type 0)
     (published : P → BuiltValue C → Told → P → Type 0) (failed : P → RefusedValue C → ℕ → P → Type 0)
     (taken_is : (p : P) (s : ℕ) (a : Result RetiredValue Refusal) (q : P) → taken p s a q → IsTaken (core_of p) s a (core_of q) × (gate_of q ≡ gate_of p))
-    (asked_is : (p : P) (s now : ℕ) (a : Result (Ask S I C) Refusal) (q : P) → asked p s now a q
+    (asked_is : (p : P) (s now : ℕ) (a : Result (Ask S I C W) Refusal) (q : P) → asked p s now a q
     → IsAsked (core_of p) (gate_of p) s now a (core_of q) (gate_of q))
     (published_is : (p : P) (b : BuiltValue C) (u : Told) (q : P) → published p b u q → IsPublished (core_of p) b u (core_of q))
     (failed_is : (p : P) (r : RefusedValue C) (now : ℕ) (q : P) → failed p r now q
@@ -90,7 +91,13 @@ module _ {S I C K P : Type 0} (refuses : List Member → C → Option Refusal) (
           At slot (core.Failed end j.members) ∷ At slot (Granted now) ∷ e,
           subst (λ (x : ℕ). Stands made (At x (core.Failed end j.members) ∷ At slot (Granted now) ∷ e) (core_of q)) is.place stands,
           refl,
-          inr (ap (λ (x : Turn). Ok x) what, rw (past-same slot (core.Failed end j.members) h, past-same slot (Granted now) Events) refl),
+          inr (
+            r.refusal,
+            (
+              ap (λ (x : Turn). Ok x) (what ∙ ap (λ (n : ℕ). turn.Failed n r.refusal) is.generation),
+              rw (past-same slot (core.Failed end j.members) h, past-same slot (Granted now) Events) refl,
+            ),
+          ),
         )
 
     -- a slot that is due answers a job at a free gate
@@ -100,7 +107,7 @@ module _ {S I C K P : Type 0} (refuses : List Member → C → Option Refusal) (
         (cancelled-past slot Events ∙ due.live) (ap is_flight due.bare) due.waits (lt-false now (due_moment Before) late)
         (or-neither out (is_extra (extra Before)) free (ap is_extra due.bare))
 
-    answered : (now : ℕ) (m n q : P) (k l : K) (a : Result (Ask S I C) Refusal) (r : Result Turn Refusal) → Stands made e (core_of m)
+    answered : (now : ℕ) (m n q : P) (k l : K) (a : Result (Ask S I C W) Refusal) (r : Result Turn Refusal) → Stands made e (core_of m)
         → ask_answer Before (gate_of m).out now ≡ job → IsAsked (core_of m) (gate_of m) slot now a (core_of n) (gate_of n)
         → Answered refuses reads taken reported asked published failed slot a n k r q l → EndsTurn made e slot r (core_of q)
     answered now m n q k l (Err x) r s is_job given next = let past = (given.0 made e s).1 in let there = due.there in absurd (omega (arith, past, there))

@@ -16,14 +16,14 @@ module _ {C : Type 0} where
     pub bare : core.extra (core.past_of slot (group_events e)) ≡ core.nothing
     pub waits : core.waits (core.past_of slot (group_events e)) ≡ true
 
-  -- The slot serves the newest generation, which the turn answered, or one more of its builds has failed.
+  -- The slot serves the newest generation, which the turn answered, or one more of its builds has failed, that of the newest one.
   abbrev pub EndsTurn : Made C → History → ℕ → Result Turn Refusal → JoinedValue C → Type 0
   EndsTurn made e slot r w =
       (f : History) × Stands made f w × (core.newest (group_events f) ≡ core.newest (group_events e))
       × (((r ≡ Ok (turn.Published (core.newest (group_events f))))
       × (core.served (core.past_of slot (group_events f)) ≡ core.newest (group_events f)))
-      ⊎ ((r ≡ Ok turn.Failed)
-      × (core.all_failures (core.past_of slot (group_events f)) ≡ core.all_failures (core.past_of slot (group_events e)) + 1)))
+      ⊎ ((c : Refusal) × ((r ≡ Ok (turn.Failed (core.newest (group_events f)) c))
+      × (core.all_failures (core.past_of slot (group_events f)) ≡ core.all_failures (core.past_of slot (group_events e)) + 1))))
 
 -- every moment that the clock may read is late enough for the slot's next build
 abbrev pub IsLate : {K : Type 0} → (K → ℕ → K → Type 0) → K → History → ℕ → Type 0

@@ -9,7 +9,7 @@ use lb_group::retired::Reader;
 use lb_select::backend::Backend;
 use lb_select::refusal::Refusal;
 use lb_select::seen::SeenBackends;
-use lb_select::walk::{BackendIter, BackendSelection};
+use lb_select::walk::BackendSelection;
 use std::alloc::Global;
 
 /// The first that `accept` accepts of the distinct backends among the first `max_iterations` candidates of what the slot serves,
@@ -59,6 +59,14 @@ fn select_for<S: BackendSelection, P: GroupPort<S>, F: Fn(&Backend, bool) -> boo
     first_accepted(alloc, &mut words, key, limit, accept)
 }
 
+// A reader's selector, lent for as long as the reader: the walk then stands beside the words, and counts no `Arc`.
+fn lent_by<'r, S: BackendSelection>(reader: &'r Reader<S>) -> &'r S
+    ensures members { S.members result.now ≡ reader.now.members }
+    ensures config { S.built_with result.now ≡ reader.now.config }
+{
+    &**reader.selector()
+}
+
 // The first of the walk that is accepted. What is refused is not copied.
 fn first_accepted<'p, 'r, S: BackendSelection, P: GroupPort<S>, F: Fn(&Backend, bool) -> bool>(
     alloc: Global,
@@ -74,10 +82,12 @@ fn first_accepted<'p, 'r, S: BackendSelection, P: GroupPort<S>, F: Fn(&Backend, 
         result words.new.port.now }
     ensures same_reference { words.new.port.ghost_name ≡ words.old.port.ghost_name }
 {
-    let mut iter = S::iter(words.reader.selector(), key, words)?;
+    let reader: &'r Reader<S> = words.reader;
+    let of = lent_by(reader);
+    let mut walk = of.start(key, words)?;
     let mut seen = SeenBackends::new(alloc);
     for _ in 0..limit {
-        let Some(candidate) = iter.next(words) else {
+        let Some(candidate) = of.step(&mut walk, words) else {
             return Ok(None);
         };
         if seen.contains(candidate) {
@@ -91,6 +101,6 @@ fn first_accepted<'p, 'r, S: BackendSelection, P: GroupPort<S>, F: Fn(&Backend, 
         seen.remember(candidate)?;
     }
     // The candidate past the limit is drawn too, and not looked at.
-    let _past = iter.next(words);
+    let _past = of.step(&mut walk, words);
     Ok(None)
 }

@@ -16,8 +16,8 @@ pub enum Turn {
     Published(u64),
     /// A selector of this generation was built, and is retired unserved.
     Abandoned(u64),
-    /// A build failed.
-    Failed,
+    /// A build of this generation failed, for this cause.
+    Failed(u64, Refusal),
     /// The group is cancelled.
     Cancelled,
     /// A build of the slot is in flight elsewhere.
@@ -71,8 +71,9 @@ pub fn worker_turn<S: BackendSelection, P: GroupPort<S>, K: MomentSource>(
             }
             Err(refused) => {
                 let end = clock.now();
+                let failed = Turn::Failed(refused.generation(), refused.refusal());
                 port.fail(refused, end);
-                Ok(Turn::Failed)
+                Ok(failed)
             }
         },
     }

@@ -136,7 +136,10 @@ fn refused_turns<'c, 'x, 'g, 'w, 'l>(
 ) -> Result<(), Refusal> {
     let heavy = too_heavy(alloc)?;
     assert_eq!(rt; update_through(alloc, port, &heavy, clock)?, 1);
-    assert_eq!(rt; turn(alloc, port, 0, clock)?, Turn::Failed);
+    assert_eq!(rt;
+        turn(alloc, port, 0, clock)?,
+        Turn::Failed(1, Refusal::WeightTooLarge)
+    );
     assert_eq!(rt; turn(alloc, port, 0, clock)?, Turn::NotDue(10_000_025));
     Ok(())
 }

@@ -1,6 +1,6 @@
 //! The selector of consistent hashing: the points of all backends on one ring, and walks over their owners.
 //! It stands on points in order, with numbers in the place of addresses.
-ghost use Rattle.std.specs.Prelude.{◌≡◌, ◌+◌, ◌^◌, ◌<◌, length, [], MatchOption, option_and_then, slice_get, false, Some, None};
+ghost use Rattle.std.specs.Prelude.{◌≡◌, ◌+◌, ◌^◌, ◌<◌, length, [], MatchOption, option_and_then, slice_get, false, Some, None, ⊤};
 ghost use Rattle.std.specs.Option.{option_copied};
 ghost use Rattle.std.specs.Arc.{arc_value};
 ghost use Rattle.lb_select.specs.Backends.{Member};
@@ -55,12 +55,18 @@ impl Model for KetamaHashing {
     ghost invariant = { IsPlacedSeen };
 }
 
-/// A walk over the owners of a ring's points, from a key's place upwards and round for ever.
+/// What a walk over a ring keeps from candidate to candidate.
 #[derive(Drop)]
-pub struct OwnedNodeIterator {
+pub struct RingWalk {
     // the index of the next point; past the last one it stands for the first
     at: usize,
+}
+
+/// A walk over the owners of a ring's points, from a key's place upwards and round for ever. It holds the ring.
+#[derive(Drop)]
+pub struct OwnedNodeIterator {
     ring: Arc<KetamaHashing>,
+    walk: RingWalk,
 }
 
 impl KetamaHashing {
@@ -118,19 +124,27 @@ impl KetamaHashing {
     {
         self.backends.get(index?)
     }
+
+    /// Goes one point on, for a walk of several kinds; the index in the set's order of its backend, `None` on a ring without points.
+    pub fn advance(&self, walk: &mut RingWalk) -> Option<usize>
+        ensures inside { MatchOption result (self.now.points ≡ []) (λ i. i < length self.now.members) }
+        ensures step { IsMove self.now walk.old.at (option_and_then (slice_get self.now.members) result) walk.new.at }
+    {
+        let index = self.owner_at(walk.at)?;
+        walk.at = self.index_of(walk.at) + 1;
+        Some(index)
+    }
 }
 
 impl OwnedNodeIterator {
-    /// Goes one point on, for a walk of several kinds; the index in the set's order of its backend, `None` on a ring without points.
+    /// Goes one point on, as the selector's `advance`.
     pub fn advance(&mut self) -> Option<usize>
         ensures inside { MatchOption result ((arc_value self.old.ring).points ≡ []) (λ i. i < length (arc_value self.old.ring).members) }
-        ensures step { IsMove (arc_value self.old.ring) self.old.at
-            (option_and_then (slice_get (arc_value self.old.ring).members) result) self.new.at }
+        ensures step { IsMove (arc_value self.old.ring) self.old.walk.at
+            (option_and_then (slice_get (arc_value self.old.ring).members) result) self.new.walk.at }
         ensures ring { arc_value self.new.ring ≡ arc_value self.old.ring }
     {
-        let index = self.ring.owner_at(self.at)?;
-        self.at = self.ring.index_of(self.at) + 1;
-        Some(index)
+        self.ring.advance(&mut self.walk)
     }
 
     /// The backend of that index in the set's order.
@@ -142,11 +156,11 @@ impl OwnedNodeIterator {
 }
 
 impl BackendIter for OwnedNodeIterator {
-    ghost walk = { λ i. IsWalkFrom (arc_value i.ring) i.at };
+    ghost walk = { λ i. IsWalkFrom (arc_value i.ring) i.walk.at };
 
-    ghost starts = { λ i. walk_starts (arc_value i.ring) i.at };
+    ghost starts = { λ i. walk_starts (arc_value i.ring) i.walk.at };
 
-    ghost ends = { λ i. walk_ends (arc_value i.ring) i.at };
+    ghost ends = { λ i. walk_ends (arc_value i.ring) i.walk.at };
 
     fn next<W: WordSource>(&mut self, _words: &mut W) -> Option<&Backend> {
         let index = self.advance();
@@ -158,6 +172,8 @@ impl BackendSelection for KetamaHashing {
     type Iter = OwnedNodeIterator;
 
     type Config = KetamaConfig;
+
+    type Walk = RingWalk;
 
     ghost walks = { λ ms config. IsRingWalk ms };
 
@@ -171,9 +187,17 @@ impl BackendSelection for KetamaHashing {
 
     ghost may_draw_random = { λ ms config. false };
 
+    ghost fits = { λ r w. ⊤ };
+
+    ghost rest = { λ r w. IsWalkFrom r w.at };
+
     ghost undrawn = { λ ms config h. walk_undrawn ms };
 
     ghost few_words = { λ ms config. walk_few_words ms };
+
+    ghost rest_starts = { λ r w. walk_starts r w.at };
+
+    ghost rest_ends = { λ r w. walk_ends r w.at };
 
     fn build(alloc: Global, backends: &BTreeSet<Backend>) -> Result<Self, Refusal> {
         let config = KetamaConfig {
@@ -193,11 +217,25 @@ impl BackendSelection for KetamaHashing {
     fn iter<W: WordSource>(
         of: &Arc<Self>,
         key: &[u8],
-        _words: &mut W,
+        words: &mut W,
     ) -> Result<OwnedNodeIterator, Refusal> {
-        let at = of.start_of(key);
         let ring = of.clone()?;
-        Ok(OwnedNodeIterator { at, ring })
+        let walk = ring.start(key, words)?;
+        Ok(OwnedNodeIterator { ring, walk })
+    }
+
+    fn start<W: WordSource>(&self, key: &[u8], _words: &mut W) -> Result<RingWalk, Refusal> {
+        let at = self.start_of(key);
+        Ok(RingWalk { at })
+    }
+
+    fn step<'s, W: WordSource>(
+        &'s self,
+        walk: &mut RingWalk,
+        _words: &mut W,
+    ) -> Option<&'s Backend> {
+        let index = self.advance(walk);
+        self.get(index)
     }
 
     fn draws_random(&self) -> bool {

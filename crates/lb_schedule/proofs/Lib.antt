@@ -1,3 +1,4 @@
+pub mod DrivenLemmas
 pub mod LawLemmas
 pub mod RunLemmas
 pub mod ScheduleLemmas

@@ -1,3 +1,4 @@
+pub mod Driven
 pub mod History
 pub mod Laws
 pub mod Runs

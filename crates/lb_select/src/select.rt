@@ -8,7 +8,7 @@ ghost use Rattle.lb_select.specs.Selections.{Selects, walks_of};
 use crate::backend::Backend;
 use crate::refusal::Refusal;
 use crate::seen::SeenBackends;
-use crate::walk::{BackendIter, BackendSelection};
+use crate::walk::BackendSelection;
 use crate::words::WordSource;
 use std::alloc::Global;
 use std::sync::Arc;
@@ -28,10 +28,12 @@ pub fn select<S: BackendSelection, W: WordSource, F: Fn(&Backend) -> bool>(
     ensures { Selects same_member (λ b r. FnReturnsAt F.Fn accept.now b r) limit W.gives
         (walks_of S.BackendSelection (arc_value selector.now) key.now) words.old result words.new }
 {
-    let mut iter = S::iter(selector, key, words)?;
+    // The walk borrows the selector: to count its `Arc` would be a write to a word that all threads share.
+    let of: &S = &**selector;
+    let mut walk = of.start(key, words)?;
     let mut seen = SeenBackends::new(alloc);
     for _ in 0..limit {
-        let Some(candidate) = iter.next(words) else {
+        let Some(candidate) = of.step(&mut walk, words) else {
             return Ok(None);
         };
         if seen.contains(candidate) {
@@ -44,6 +46,6 @@ pub fn select<S: BackendSelection, W: WordSource, F: Fn(&Backend) -> bool>(
         seen.remember(candidate)?;
     }
     // The candidate past the limit is drawn too, and not looked at.
-    let _past = iter.next(words);
+    let _past = of.step(&mut walk, words);
     Ok(None)
 }

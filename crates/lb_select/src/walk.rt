@@ -1,6 +1,6 @@
 //! The traits of selection: an algorithm that draws words, an iterator over candidates, and a selector that is built from a set.
 //! Each says by one relation what it means, so that the unique walk and the selection are proved once for every selector.
-ghost use Rattle.std.specs.Prelude.{◌≡◌, ◌≤◌, ℕ, max, Bool, true, false, List, [], Option, length};
+ghost use Rattle.std.specs.Prelude.{◌≡◌, ◌≤◌, ℕ, max, Bool, true, false, List, [], Option, IfOk, length};
 ghost use Rattle.std.specs.List.{AllByRecursion as Each};
 ghost use Rattle.std.specs.Option.{option_copied};
 ghost use Rattle.std.specs.Borrow.{sem};
@@ -70,6 +70,9 @@ pub trait BackendSelection: Drop {
     /// What a selector is built with beside its set.
     type Config: Drop;
 
+    /// What a walk over a lent selector keeps from candidate to candidate. The selector itself is no part of it.
+    type Walk: Drop;
+
     // The walks over a set: set, configuration and key, then the draws, the first candidates, whether the walk then ended.
     ghost walks: { List Member → Self.Config → List ℕ → List Draw → List Member → Bool → Type 0 };
 
@@ -108,6 +111,29 @@ pub trait BackendSelection: Drop {
         ensures { Begins W.gives Self.Iter.walk
             (walks (members (arc_value of.now)) (built_with (arc_value of.now)) key.now) words.old result words.new };
 
+    // Whether a walk was begun over this selector, or over one that it can't be told from.
+    ghost fits: { Self → Self.Walk → Type 0 };
+
+    // What the rest of a walk over a lent selector may be, told as a `BackendIter` tells its walk.
+    ghost rest: { Self → Self.Walk → List Draw → List Member → Bool → Type 0 };
+
+    /// A walk for `key` over this selector, which is lent for each step: no `Arc` is counted for it. Refused as `iter`.
+    fn start<W: WordSource>(&self, key: &[u8], words: &mut W) -> Result<Self::Walk, Refusal>
+        ensures begins { Begins W.gives (rest self.now)
+            (walks (members self.now) (built_with self.now) key.now) words.old result words.new }
+        ensures fitting { IfOk result (λ w. fits self.now w) };
+
+    /// The next candidate of such a walk, which stays readable while the walk goes on; `None` once it has ended, and from
+    /// then on.
+    fn step<'s, W: WordSource>(
+        &'s self,
+        walk: &mut Self::Walk,
+        words: &mut W,
+    ) -> Option<&'s Backend>
+        requires { fits self.now walk.old }
+        ensures step { IsStep W.gives (rest self.now) walk.old words.old (option_copied result) walk.new words.new }
+        ensures fitting { fits self.now walk.new };
+
     /// Whether its walks may draw random words.
     fn draws_random(&self) -> bool
         ensures { result ≡ may_draw_random (members self.now) (built_with self.now) };
@@ -119,4 +145,11 @@ pub trait BackendSelection: Drop {
     // A walk draws at most one word for each candidate, and one where no candidate comes; loads are no words.
     ghost few_words: { (ms : List Member) (config : Self.Config) (key : List ℕ) (ds : List Draw) (cs : List Member) (e : Bool)
         → walks ms config key ds cs e → words_in ds ≤ max 1 (length cs) };
+
+    // Before anything is drawn the rest of a walk over a lent selector is there, with no candidate yet.
+    ghost rest_starts: { (s : Self) (w : Self.Walk) → rest s w [] [] false };
+
+    // Such a walk that has ended draws nothing more and gives nothing more.
+    ghost rest_ends: { (s : Self) (w : Self.Walk) (ds : List Draw) (cs : List Member) (e : Bool)
+        → rest s w [] [] true → rest s w ds cs e → (ds ≡ []) × (cs ≡ []) };
 }

@@ -1,7 +1,8 @@
 //! Drives the run of a service over a port, from its start to its end.
 ghost use Rattle.std.specs.Prelude.{◌≡◌, [], true};
-ghost use Rattle.lb_schedule.specs.Services.{IsServiceAfter};
-ghost use Rattle.lb_service.specs.Driven.{Does, Served, is_asked};
+ghost use Rattle.lb_schedule.specs.Driven.{Does, DrivenToEnd, Reads};
+ghost use Rattle.lb_schedule.specs.Services.{IsServiceAfter, IsServiceRun};
+ghost use Rattle.lb_service.specs.Driven.{Acts, is_asked};
 
 use crate::port::ServicePort;
 use lb_schedule::event::{Action, Event};
@@ -13,7 +14,8 @@ use std::sync::Wait;
 pub fn drive<R: Wait, P: ServicePort>(rt: &R, run: ServiceRun, port: &mut P)
     requires fresh { IsServiceAfter run [] }
     requires checks { P.can_check }
-    ensures { Served P.moments P.counts P.looks P.checks P.tells P.sleeps P.awaits P.holds run.plan port.old port.new }
+    ensures { DrivenToEnd (Reads P.moments P.counts) (Does P.looks (Acts P.checks P.tells P.sleeps P.awaits P.holds))
+        (IsServiceRun run.plan) port.old port.new }
 {
     let mut run = run;
     let mut event = Event::Start;
@@ -33,7 +35,7 @@ pub fn drive<R: Wait, P: ServicePort>(rt: &R, run: ServiceRun, port: &mut P)
 fn act<P: ServicePort>(port: &mut P, action: Action) -> Event
     requires asked { is_asked action ≡ true }
     requires checks { P.can_check }
-    ensures { Does P.moments P.counts P.looks P.checks P.tells P.sleeps P.awaits P.holds port.old action result port.new }
+    ensures { Does P.looks (Acts P.checks P.tells P.sleeps P.awaits P.holds) port.old action result port.new }
 {
     if port.is_shut() {
         return Event::Shutdown;

@@ -24,7 +24,7 @@ const WITHOUT_TARGETS: u128 = 100_000_000;
 
 /// A service that checks the targets of one registry, for all the views that share it.
 #[derive(Drop)]
-pub struct HealthCheckService<R, C> {
+pub struct HealthCheckService<R: KeyRule + Drop, C> {
     registry: Arc<HealthRegistry<R, C>>,
     /// How long after a pass of checks the next one begins, in nanoseconds. Without it the targets are checked once, as soon as there
     /// are some.
@@ -100,7 +100,7 @@ fn run_over<F: Fn(), R: KeyRule + Drop, C: HealthCheck + Drop, W: Wait, K: Momen
 
 // A service that runs, as the port that drives it. A pass of checks is a closure, since it starts threads.
 #[derive(Drop)]
-struct LockedService<'g, 'p, 'r, 'c, 'w, F, R, C, W, K> {
+struct LockedService<'g, 'p, 'r, 'c, 'w, F, R: KeyRule + Drop, C, W, K> {
     registry: &'g HealthRegistry<R, C>,
     pass: &'p F,
     rt: &'r W,

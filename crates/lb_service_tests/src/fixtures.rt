@@ -2,11 +2,11 @@
 ghost use Rattle.std.specs.Prelude.{◌≡◌};
 
 use lb_balance::moments::MomentSource;
+use lb_locked::keyed::{KeyedRegistry, NoRule, keyed_by_identity};
 use lb_locked::registry::HealthRegistry;
 use lb_probe::error::CheckError;
 use lb_probe::health_check::HealthCheck;
-use lb_registry::keys::{ByNumber, Rule};
-use lb_registry::registry::RegistryCore;
+use lb_registry::keys::Rule;
 use lb_select::backend::Backend;
 use lb_select::refusal::Refusal;
 use lb_service::shutdown::ShutdownWatch;
@@ -66,11 +66,11 @@ impl<R: Clock> HealthCheck for Down<R> {
 }
 
 /// A registry with a check of this type.
-pub type Checked<R> = HealthRegistry<Rule<ByNumber>, Down<R>>;
+pub type Checked<R> = HealthRegistry<Rule<NoRule>, Down<R>>;
 
 /// A registry with a view, its first, of the backend 1.0.0.1:80/1 or of none.
-pub fn registry_of(alloc: Global, is_empty: bool) -> Result<RegistryCore, Refusal> {
-    let mut registry = RegistryCore::new(alloc);
+pub fn registry_of(alloc: Global, is_empty: bool) -> Result<KeyedRegistry, Refusal> {
+    let mut registry = keyed_by_identity(alloc);
     let id = registry.register_view(alloc)?;
     if !is_empty {
         registry.update_view(alloc, id, one_backend(alloc)?)?;

@@ -35,7 +35,7 @@ fn targets_are_checked_once(rt: HostRuntime) -> Result<(), Fail> {
     let checks = Arc::new(alloc, AtomicU64::new(0))?;
     let registry: Arc<Checked<HostRuntime>> = Arc::new(
         alloc,
-        HealthRegistry::new(registry_of(alloc, false)?),
+        HealthRegistry::new(alloc, registry_of(alloc, false)?)?,
     )?;
     registry.set_health_check(
         &rt,
@@ -63,7 +63,7 @@ fn targets_are_checked_again(rt: HostRuntime) -> Result<(), Fail> {
     let checks = Arc::new(alloc, AtomicU64::new(0))?;
     let registry: Arc<Checked<HostRuntime>> = Arc::new(
         alloc,
-        HealthRegistry::new(registry_of(alloc, false)?),
+        HealthRegistry::new(alloc, registry_of(alloc, false)?)?,
     )?;
     registry.set_health_check(
         &rt,
@@ -96,7 +96,7 @@ fn check_is_let_end(rt: HostRuntime) -> Result<(), Fail> {
     let checks = Arc::new(alloc, AtomicU64::new(0))?;
     let registry: Arc<Checked<HostRuntime>> = Arc::new(
         alloc,
-        HealthRegistry::new(registry_of(alloc, false)?),
+        HealthRegistry::new(alloc, registry_of(alloc, false)?)?,
     )?;
     let (mut signal, watch) = shutdown_pair(alloc)?;
     registry.set_health_check(
@@ -132,7 +132,7 @@ fn publish_later<R: Wait + Clock + Drop>(
     registry: &Checked<R>,
 ) -> Result<(), Refusal> {
     thread::sleep(rt, Duration::from_millis(20));
-    registry.lock(rt).update_view(alloc, 1, one_backend(alloc)?)
+    registry.update_view(rt, alloc, 1, one_backend(alloc)?)
 }
 
 // A signal that is gone doesn't end a service that waits for targets; the first one wakes it.
@@ -142,7 +142,7 @@ fn first_target_wakes_a_service(rt: HostRuntime) -> Result<(), Fail> {
     let checks = Arc::new(alloc, AtomicU64::new(0))?;
     let registry: Arc<Checked<HostRuntime>> = Arc::new(
         alloc,
-        HealthRegistry::new(registry_of(alloc, true)?),
+        HealthRegistry::new(alloc, registry_of(alloc, true)?)?,
     )?;
     registry.set_health_check(
         &rt,
@@ -176,7 +176,7 @@ fn service_wants_a_check(rt: HostRuntime) -> Result<(), Fail> {
     let alloc = rt.alloc();
     let registry: Arc<Checked<HostRuntime>> = Arc::new(
         alloc,
-        HealthRegistry::new(registry_of(alloc, false)?),
+        HealthRegistry::new(alloc, registry_of(alloc, false)?)?,
     )?;
     let service = HealthCheckService::new(registry);
     let sink = Locked::new(rt, Vec::new(alloc));
@@ -203,7 +203,7 @@ fn ended_service_checks_nothing(rt: HostRuntime) -> Result<(), Fail> {
     let checks = Arc::new(alloc, AtomicU64::new(0))?;
     let registry: Arc<Checked<HostRuntime>> = Arc::new(
         alloc,
-        HealthRegistry::new(registry_of(alloc, false)?),
+        HealthRegistry::new(alloc, registry_of(alloc, false)?)?,
     )?;
     registry.set_health_check(
         &rt,

@@ -1,4 +1,6 @@
-mod Drives
+mod FirstViews
 mod Judged
 mod Memberships
+mod OfTexts
 mod Readings
+mod Renewals

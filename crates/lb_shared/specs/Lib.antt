@@ -1,3 +1,4 @@
 pub mod Driven
 pub mod SharedUpdates
 pub mod Shown
+pub mod Texts

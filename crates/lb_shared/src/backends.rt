@@ -13,7 +13,7 @@ use std::sync::Arc;
 
 /// A discovery, and the registry of health that its backends are to have a view of.
 #[derive(Drop)]
-pub struct Backends<D, R, C> {
+pub struct Backends<D, R: KeyRule + Drop, C> {
     pub(crate) discovery: DiscoverySource<D>,
     pub(crate) registry: Arc<HealthRegistry<R, C>>,
     pub(crate) owns_checks: bool,
@@ -28,7 +28,7 @@ impl<D: Drop, N: KeyRule + Drop, C: HealthCheck + Drop> Backends<D, Rule<N>, C> 
         ensures parts { IfOk result (λ b. (b.discovery ≡ discovery) × (b.owns_checks ≡ true)) }
         ensures refused { IfErr result (λ e. e ≡ Refusal.OutOfMemory) }
     {
-        let registry = HealthRegistry::new(Registry::with_rule(alloc, Rule::Identity));
+        let registry = HealthRegistry::new(alloc, Registry::with_rule(alloc, Rule::Identity))?;
         Ok(Backends {
             discovery,
             registry: Arc::new(alloc, registry)?,

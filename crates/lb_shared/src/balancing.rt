@@ -1,5 +1,6 @@
 //! A balancer that threads share: an update discovers and builds under a lock of its own, and then what is served is exchanged.
-//! Locks are taken in the order update, served, registry, shown; the last is held for a copy of a pointer.
+//! Locks are taken in the order update, served, registry, shown; the last is held for a copy of a pointer. That of the loads is held
+//! for one load, beside no other.
 ghost use Rattle.std.specs.Prelude.{◌≡◌, ◌⊎◌, ◌∷◌, [], ℕ, List, IfOk, IfErr, OnOk, OnErr, Ok, Err};
 ghost use Rattle.std.specs.Prelude.{Some, None, unwrap_or, false, IfSome, MatchOption};
 ghost use Rattle.std.specs.Arc.{arc_value};
@@ -27,6 +28,7 @@ use lb_probe::health_check::HealthCheck;
 use lb_registry::keys::KeyRule;
 use lb_registry::registry::Registry;
 use lb_select::backend::Backend;
+use lb_select::loads::Loads;
 use lb_select::refusal::Refusal;
 use lb_select::walk::BackendSelection;
 use log::Log;
@@ -74,7 +76,7 @@ type ShownLock<S> = KeyedLock<
 /// A balancer with one selector. Contracts see its discovery, and what its selectors are built with; what it serves changes under
 /// the hands of other threads.
 #[derive(Drop)]
-pub struct Balancing<S: BackendSelection, D, R, C> {
+pub struct Balancing<S: BackendSelection, D, R: KeyRule + Drop, C> {
     discovery: DiscoverySource<D>,
     config: Option<S::Config>,
     registry: Arc<HealthRegistry<R, C>>,
@@ -82,12 +84,13 @@ pub struct Balancing<S: BackendSelection, D, R, C> {
     serving: ServingLock<S>,
     shown: ShownLock<S>,
     timing: Mutex<Option<UpdateTimings>>,
+    loads: Arc<Mutex<Loads>>,
     // Counts what may have changed what is ready, but for the registry's own changes.
     changes: AtomicU64,
     seeds: AtomicU64,
 }
 
-impl<S: BackendSelection, D, R, C> Model for Balancing<S, D, R, C> {
+impl<S: BackendSelection, D, R: KeyRule + Drop, C> Model for Balancing<S, D, R, C> {
     ghost use Rattle.std.specs.Prelude.{◌≡◌, unwrap_or};
     ghost use Rattle.lb_shared.specs.SharedUpdates.{BalancerValue};
 
@@ -130,21 +133,55 @@ impl<
         let view = register(rt, alloc, shared)?;
         let id = view.id();
         match locks_over(rt, alloc, shared, Serving::new(view, built), &config) {
-            Ok((serving, shown)) => Ok(Balancing {
-                discovery,
-                config,
-                registry,
-                updates: Mutex::new(()),
-                serving,
-                shown,
-                timing: Mutex::new(None),
-                changes: AtomicU64::new(0),
-                seeds: AtomicU64::new(1),
-            }),
+            Ok(locks) => Ok(Balancing::behind(discovery, config, registry, locks, None)),
             Err(refusal) => {
-                shared.lock(rt).remove_view(id);
+                shared.remove_view(rt, id);
                 Err(refusal)
             }
+        }
+    }
+
+    // A balancer that serves this at first, over this registry, whose selectors are built with the default configuration.
+    pub(crate) fn begun<W: Wait>(
+        rt: &W,
+        alloc: Global,
+        discovery: DiscoverySource<D>,
+        registry: Registry<R>,
+        serving: Serving<S>,
+        timing: UpdateTimings,
+    ) -> Result<Balancing<S, D, R, C>, Refusal>
+        requires { serving.config ≡ S.default_config }
+        ensures made { IfOk result (λ b. (b.discovery ≡ discovery) × (b.config ≡ S.default_config)) }
+        ensures refused { IfErr result (λ e. e ≡ Refusal.OutOfMemory) }
+    {
+        let shared = Arc::new(alloc, HealthRegistry::new(alloc, registry)?)?;
+        let locks = locks_over(rt, alloc, &*shared, serving, &None)?;
+        Ok(Balancing::behind(discovery, None, shared, locks, Some(timing)))
+    }
+
+    // The balancer behind these locks.
+    fn behind(
+        discovery: DiscoverySource<D>,
+        config: Option<S::Config>,
+        registry: Arc<HealthRegistry<R, C>>,
+        locks: (ServingLock<S>, ShownLock<S>, Arc<Mutex<Loads>>),
+        timing: Option<UpdateTimings>,
+    ) -> Balancing<S, D, R, C>
+        requires { (locks.0.table.shared.key.value ≡ config) × (locks.1.table.shared.key.value ≡ config) }
+        ensures { (result.discovery ≡ discovery) × (result.config ≡ unwrap_or config S.default_config) }
+    {
+        let (serving, shown, loads) = locks;
+        Balancing {
+            discovery,
+            config,
+            registry,
+            updates: Mutex::new(()),
+            serving,
+            shown,
+            timing: Mutex::new(timing),
+            loads,
+            changes: AtomicU64::new(0),
+            seeds: AtomicU64::new(1),
         }
     }
 
@@ -218,10 +255,11 @@ impl<
             self.serving.put(held);
             return Some((members, settings));
         }
-        let mut registry = self.registry.lock(rt);
-        held.value.keep(alloc, &mut *registry, members, settings);
-        let gone = self.exchange(rt, alloc, &held.value, &*registry);
-        drop(registry);
+        let registries: &HealthRegistry<R, C> = &*self.registry;
+        let mut cells = registries.take(rt);
+        held.value.keep(alloc, &mut cells.value, members, settings);
+        let gone = self.exchange(rt, alloc, &held.value, &cells.value);
+        registries.put(cells);
         self.serving.put(held);
         drop(gone);
         None
@@ -242,8 +280,11 @@ impl<
         match built_of(alloc, members, &self.config, seed) {
             Ok(built) => Ok(built),
             Err(Refusal::OutOfMemory) => {
+                let registries: &HealthRegistry<R, C> = &*self.registry;
                 let held = self.serving.take(rt);
-                let cause = held.value.cause(&*self.registry.lock(rt), members);
+                let cells = registries.take(rt);
+                let cause = held.value.cause(&cells.value, members);
+                registries.put(cells);
                 self.serving.put(held);
                 Err(cause)
             }
@@ -266,15 +307,17 @@ impl<
     {
         let _key = &self.config;
         let mut held = self.serving.take(rt);
-        let mut registry = self.registry.lock(rt);
+        held.value.founded();
+        let registries: &HealthRegistry<R, C> = &*self.registry;
+        let mut cells = registries.take(rt);
         let (unserved, answer) = held
             .value
-            .renew(alloc, &mut *registry, members, settings, built);
+            .renew(alloc, &mut cells.value, members, settings, built);
         let unshown = match answer {
-            Ok(()) => self.exchange(rt, alloc, &held.value, &*registry),
+            Ok(()) => self.exchange(rt, alloc, &held.value, &cells.value),
             Err(_) => None,
         };
-        drop(registry);
+        registries.put(cells);
         self.serving.put(held);
         drop((unserved, unshown));
         answer
@@ -295,7 +338,7 @@ impl<
             balancer: self.changes.load(SeqCst).wrapping_add(1),
             registry: self.registry.changes(),
         };
-        let gone = match serving.show(alloc, registry, version) {
+        let gone = match serving.show(alloc, registry, &self.loads, version) {
             Ok(shown) => match Arc::new(alloc, shown) {
                 Ok(shown) => Some(self.swap(rt, shown)),
                 Err(_) => None,
@@ -356,8 +399,11 @@ impl<
     /// Whether a backend is ready in the newest membership. It takes no memory.
     pub fn ready<W: Wait>(&self, rt: &W, backend: &Backend) -> bool {
         let _key = &self.config;
+        let registries: &HealthRegistry<R, C> = &*self.registry;
         let held = self.serving.take(rt);
-        let ready = held.value.ready(&*self.registry.lock(rt), backend);
+        let cells = registries.take(rt);
+        let ready = held.value.ready(&cells.value, backend);
+        registries.put(cells);
         self.serving.put(held);
         ready
     }
@@ -368,11 +414,40 @@ impl<
         let _key = &self.config;
         let mut held = self.serving.take(rt);
         held.value.set_enable(backend, enabled);
-        let registry = self.registry.lock(rt);
-        let gone = self.exchange(rt, alloc, &held.value, &*registry);
-        drop(registry);
+        let registries: &HealthRegistry<R, C> = &*self.registry;
+        let cells = registries.take(rt);
+        let gone = self.exchange(rt, alloc, &held.value, &cells.value);
+        registries.put(cells);
         self.serving.put(held);
         drop(gone);
+    }
+
+    /// Sets the load of a backend's identity, which outlives each update. Refused `OutOfMemory` where memory is refused; nothing is set
+    /// then.
+    pub fn set_load<W: Wait>(
+        &self,
+        rt: &W,
+        alloc: Global,
+        backend: &Backend,
+        load: u64,
+    ) -> Result<(), Refusal>
+        ensures { IfErr result (λ e. e ≡ Refusal.OutOfMemory) }
+    {
+        let _key = &self.config;
+        self.loads.lock(rt).set(alloc, backend, load)
+    }
+
+    /// Marks the view for removal from the registry, and lets its cells go: from the next call on that applies marks its backends are
+    /// no targets, a backend whose cell nobody else keeps isn't ready, and another membership is refused `NoSuch`. It takes no memory.
+    pub fn leave<W: Wait>(&self, rt: &W) {
+        let _key = &self.config;
+        let registries: &HealthRegistry<R, C> = &*self.registry;
+        let held = self.serving.take(rt);
+        held.value.founded();
+        let mut cells = registries.take(rt);
+        held.value.leave(&mut cells.value);
+        registries.put(cells);
+        self.serving.put(held);
     }
 
     /// Sets the check of the registry. Refused `HealthCheckSet` where one is set, which stays.
@@ -417,8 +492,11 @@ impl<
             let again = Arc::try_clone(&latest)?;
             return Ok((again, latest));
         }
-        let shown = serving.show(alloc, &*self.registry.lock(rt), version)?;
-        let shown = Arc::new(alloc, shown)?;
+        let registries: &HealthRegistry<R, C> = &*self.registry;
+        let cells = registries.take(rt);
+        let told = serving.show(alloc, &cells.value, &self.loads, version);
+        registries.put(cells);
+        let shown = Arc::new(alloc, told?)?;
         let again = Arc::try_clone(&shown)?;
         Ok((again, self.swap(rt, shown)))
     }
@@ -461,11 +539,20 @@ fn first_built<S: BackendSelection, R: KeyRule + Drop, C: HealthCheck + Drop, W:
 {
     match built_of(alloc, &BTreeSet::new(alloc), config, 0) {
         Ok(built) => Ok(built),
-        Err(Refusal::OutOfMemory) if registry.lock(rt).is_full() => {
-            Err(Refusal::NumbersExhausted)
-        }
+        Err(Refusal::OutOfMemory) if is_full(rt, registry) => Err(Refusal::NumbersExhausted),
         Err(refusal) => Err(refusal),
     }
+}
+
+// Whether no number is left for one more view.
+fn is_full<R: KeyRule + Drop, C: HealthCheck + Drop, W: Wait>(
+    rt: &W,
+    registry: &HealthRegistry<R, C>,
+) -> bool {
+    let cells = registry.take(rt);
+    let full = cells.value.is_full();
+    registry.put(cells);
+    full
 }
 
 // A view of its own in the registry.
@@ -477,17 +564,20 @@ fn register<R: KeyRule + Drop, C: HealthCheck + Drop, W: Wait>(
     ensures made { IfOk result (λ v. IsViewAfter [] v) }
     ensures refused { OnErr result (IsGrowthRefusal result) }
 {
-    ViewCore::register(alloc, &mut *registry.lock(rt))
+    let mut cells = registry.take(rt);
+    let told = ViewCore::register(alloc, &mut cells.value);
+    registry.put(cells);
+    told
 }
 
-// The locks of what is served first, and of what is shown of it.
+// The locks of what is served first, and of what is shown of it, and the loads, which are all 0.
 fn locks_over<S: BackendSelection, R: KeyRule + Drop, C: HealthCheck + Drop, W: Wait>(
     rt: &W,
     alloc: Global,
     registry: &HealthRegistry<R, C>,
     serving: Serving<S>,
     config: &Option<S::Config>,
-) -> Result<(ServingLock<S>, ShownLock<S>), Refusal>
+) -> Result<(ServingLock<S>, ShownLock<S>, Arc<Mutex<Loads>>), Refusal>
     requires { serving.config ≡ unwrap_or config.now S.default_config }
     ensures made { IfOk result (λ l. (l.0.table.shared.key.value ≡ config.now) × (l.1.table.shared.key.value ≡ config.now)) }
     ensures refused { IfErr result (λ e. e ≡ Refusal.OutOfMemory) }
@@ -496,11 +586,15 @@ fn locks_over<S: BackendSelection, R: KeyRule + Drop, C: HealthCheck + Drop, W: 
         balancer: 0,
         registry: registry.changes(),
     };
-    let shown = serving.show(alloc, &*registry.lock(rt), version)?;
-    let shown = Arc::new(alloc, shown)?;
+    let loads = Arc::new(alloc, Mutex::new(Loads::new()))?;
+    let cells = registry.take(rt);
+    let told = serving.show(alloc, &cells.value, &loads, version);
+    registry.put(cells);
+    let shown = Arc::new(alloc, told?)?;
     let key = Snapshot::of(config);
     Ok((
         KeyedLock::new(alloc, serving, &key)?,
         KeyedLock::new(alloc, shown, &key)?,
+        loads,
     ))
 }

@@ -1,7 +1,7 @@
 //! Drives the run of a balancer over a port, from its start to its end.
 ghost use Rattle.std.specs.Prelude.{◌≡◌, [], true};
-ghost use Rattle.lb_schedule.specs.History.{IsAfter};
-ghost use Rattle.lb_shared.specs.Driven.{Does, Ran, is_asked};
+ghost use Rattle.lb_schedule.specs.Driven.{Does, DrivenToEnd, ReadsMoment, TakesTurn, is_turn};
+ghost use Rattle.lb_schedule.specs.History.{IsAfter, IsRun};
 
 use crate::port::BalancerPort;
 use lb_schedule::balancer_run::LoadBalancerRun;
@@ -13,7 +13,8 @@ use std::sync::Wait;
 pub fn drive<R: Wait, P: BalancerPort>(rt: &R, run: LoadBalancerRun, port: &mut P)
     requires fresh { IsAfter run [] }
     requires checks { P.can_check }
-    ensures { Ran P.moments P.looks P.updates P.checks P.tells P.sleeps run.plan port.old port.new }
+    ensures { DrivenToEnd (ReadsMoment P.moments) (Does P.looks (TakesTurn P.updates P.checks P.tells P.sleeps))
+        (IsRun run.plan) port.old port.new }
 {
     let mut run = run;
     let mut event = Event::Start;
@@ -30,9 +31,9 @@ pub fn drive<R: Wait, P: BalancerPort>(rt: &R, run: LoadBalancerRun, port: &mut 
 
 // Does what a run asks for, unless the balancer is to end; the event that came of it.
 fn act<P: BalancerPort>(port: &mut P, action: Action) -> Event
-    requires asked { is_asked action ≡ true }
+    requires asked { is_turn action ≡ true }
     requires checks { P.can_check }
-    ensures { Does P.moments P.looks P.updates P.checks P.tells P.sleeps port.old action result port.new }
+    ensures { Does P.looks (TakesTurn P.updates P.checks P.tells P.sleeps) port.old action result port.new }
 {
     if port.is_shut() {
         return Event::Shutdown;

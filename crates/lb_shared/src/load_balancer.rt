@@ -14,8 +14,9 @@ use crate::shown::Shown;
 use lb_balance::moments::MomentSource;
 use lb_balance::timings::UpdateTimings;
 use lb_health::discovery::{BoxedDiscovery, ServiceDiscovery};
+use lb_locked::keyed::NoRule;
 use lb_probe::health_check::{BoxedCheck, HealthCheck};
-use lb_registry::keys::{ByNumber, KeyRule, Rule};
+use lb_registry::keys::{KeyRule, Rule};
 use lb_select::backend::Backend;
 use lb_select::refusal::Refusal;
 use lb_select::walk::BackendSelection;
@@ -31,7 +32,7 @@ use std::thread::Threads;
 pub struct LoadBalancer<
     S: BackendSelection,
     D = BoxedDiscovery,
-    R = Rule<ByNumber>,
+    R: KeyRule + Drop = Rule<NoRule>,
     C = BoxedCheck,
 > {
     pub(crate) shared: Balancing<S, D, R, C>,
@@ -165,6 +166,26 @@ impl<
         let shown = self.shared.shown(rt, alloc)?;
         let shown: &Shown<S> = &*shown;
         shown.select_with(rt, alloc, key, max_iterations, accept)
+    }
+
+    /// Sets the load of a backend's identity, which outlives each update; a selector that goes by loads reads it from then on. Refused
+    /// `OutOfMemory` where memory is refused; nothing is set then.
+    pub fn set_load<W: Wait>(
+        &self,
+        rt: &W,
+        alloc: Global,
+        backend: &Backend,
+        load: u64,
+    ) -> Result<(), Refusal>
+        ensures { IfErr result (λ e. e ≡ Refusal.OutOfMemory) }
+    {
+        self.shared.set_load(rt, alloc, backend, load)
+    }
+
+    /// Leaves the registry, which others may share: the view is marked for removal, as by `Balancing::leave`. It is for a balancer that
+    /// is to be dropped; `OwnedBalancer` calls it then.
+    pub fn leave<W: Wait>(&self, rt: &W) {
+        self.shared.leave(rt);
     }
 
     /// Sets the check of the registry. Refused `HealthCheckSet` where one is set, which stays.

@@ -17,10 +17,11 @@ use lb_select::walk::BackendSelection;
 use std::alloc::Global;
 use std::sync::{Arc, Wait};
 
-/// A balancer with what it served last. While that is still served a selection takes no lock, and writes nothing that another thread
-/// reads but the words it draws. What is served no longer is kept until the next selection.
+/// A balancer with what it served last. While that is still served a selection takes no lock but that of random words or of loads, where
+/// the selector goes by these, and writes nothing that another thread reads but the words it draws. What is served no longer is kept
+/// until the next selection.
 #[derive(Drop)]
-pub struct BalancerReader<'b, S: BackendSelection, D, R, C> {
+pub struct BalancerReader<'b, S: BackendSelection, D, R: KeyRule + Drop, C> {
     balancing: &'b Balancing<S, D, R, C>,
     seen: Arc<Shown<S>>,
     ghost own: { (arc_value seen).config ≡ balancing.now.config },

@@ -89,7 +89,7 @@ fn run_over<
 
 // A balancer that runs, as the port that drives it. A pass of checks is a closure, since it starts threads.
 #[derive(Drop)]
-struct SharedPort<'b, 'p, 'r, 'c, 'w, F, S: BackendSelection, D, R, C, W, K> {
+struct SharedPort<'b, 'p, 'r, 'c, 'w, F, S: BackendSelection, D, R: KeyRule + Drop, C, W, K> {
     balancing: &'b Balancing<S, D, R, C>,
     pass: &'p F,
     rt: &'r W,

@@ -6,7 +6,8 @@ ghost use Rattle.lb_select.specs.Backends.{Member};
 ghost use Rattle.lb_select.specs.Memberships.{same_members};
 ghost use Rattle.lb_select.specs.Refusals.{Refuses};
 ghost use Rattle.lb_registry.specs.Registry.{IsRegistryAfter};
-ghost use Rattle.lb_registry.specs.RegistryEvents.{Event};
+ghost use Rattle.lb_registry.specs.RegistryEvents.{Event, Marked, Released};
+ghost use Rattle.lb_health.specs.Founded.{IsFounded};
 ghost use Rattle.lb_health.specs.Joined.{registry_updated, settings_of, view_updated};
 ghost use Rattle.lb_health.specs.ViewEvents.{ViewEvent, Set, generation_after, membership_after};
 ghost use Rattle.lb_health.specs.Views.{IsViewAfter, IsViewRefusal};
@@ -19,6 +20,7 @@ use lb_health::view::{Settings, ViewCore};
 use lb_registry::keys::KeyRule;
 use lb_registry::registry::Registry;
 use lb_select::backend::Backend;
+use lb_select::loads::Loads;
 use lb_select::refusal::Refusal;
 use lb_select::walk::BackendSelection;
 use lb_select::words::SharedWords;
@@ -27,7 +29,7 @@ use std::alloc::Global;
 use std::collections::BTreeSet;
 use std::marker::Model;
 use std::mem;
-use std::sync::Arc;
+use std::sync::{Arc, Mutex};
 
 /// A selector with a source of words of its own.
 #[derive(Drop)]
@@ -74,6 +76,13 @@ impl<S: BackendSelection> Serving<S> {
         } }
     {
         Serving { view, built }
+    }
+
+    /// Some history stands behind the view, so that what holds after each of its histories holds after one. It does nothing.
+    pub fn founded(&self)
+        ensures { IsFounded self.now.view }
+    {
+        let _view = &self.view;
     }
 
     /// The newest generation; 0 before the first membership.
@@ -188,11 +197,24 @@ impl<S: BackendSelection> Serving<S> {
         self.view.set_enable(backend, enabled);
     }
 
-    /// What is served now: each member that isn't ready, by the registry as it is. Refused `OutOfMemory` where memory is.
+    /// Marks the view for removal from the registry, and lets the cells of its newest generation go. It takes no memory.
+    pub fn leave<R: KeyRule + Drop>(&self, registry: &mut Registry<R>)
+        ensures { (key_of : Member → Member) (views : List ViewEvent) (events : List Event) → IsViewAfter views self.now.view
+            → IsRegistryAfter R.gives key_of events registry.old
+            → IsRegistryAfter R.gives key_of (Released self.now.view.id (generation_after views) ∷ Marked self.now.view.id ∷ events)
+            registry.new }
+    {
+        registry.remove_view(self.view.id());
+        registry.release(self.view.id(), self.view.generation());
+    }
+
+    /// What is served now, with these loads: each member that isn't ready, by the registry as it is. Refused `OutOfMemory` where
+    /// memory is.
     pub fn show<R: KeyRule + Drop>(
         &self,
         alloc: Global,
         registry: &Registry<R>,
+        loads: &Arc<Mutex<Loads>>,
         version: Version,
     ) -> Result<Shown<S>, Refusal>
         ensures shows { IfOk result (λ s. ShowsView self.now.view s) }
@@ -205,6 +227,7 @@ impl<S: BackendSelection> Serving<S> {
             members: self.view.get_backend()?,
             selector: Arc::try_clone(&self.built.selector)?,
             words: Arc::try_clone(&self.built.words)?,
+            loads: Arc::try_clone(loads)?,
             unready: unready_of(&self.view, registry)?,
             version,
         })

@@ -6,7 +6,9 @@ ghost use Rattle.lb_select.specs.Backends.{Member, same_member};
 ghost use Rattle.lb_joined.specs.JoinedCalls.{AcceptsBy};
 ghost use Rattle.lb_shared.specs.Shown.{SelectsOf, is_ready, is_up};
 
+use crate::words::LoadedWords;
 use lb_select::backend::Backend;
+use lb_select::loads::Loads;
 use lb_select::refusal::Refusal;
 use lb_select::select::select;
 use lb_select::walk::BackendSelection;
@@ -14,7 +16,7 @@ use lb_select::words::SharedWords;
 use std::alloc::Global;
 use std::collections::BTreeSet;
 use std::marker::Model;
-use std::sync::{Arc, Wait};
+use std::sync::{Arc, Mutex, Wait};
 
 /// How often balancer and registry had changed.
 #[derive(Clone, Copy, PartialEq, Eq)]
@@ -25,13 +27,14 @@ pub struct Version {
 
 /// A generation with its members, the selector that is built of them, and which of them were not ready then.
 ///
-/// Contracts see all but the selector's words, which other threads draw too.
+/// Contracts see all but the selector's words, which other threads draw too, and the loads of the balancer, which they set.
 #[derive(Drop)]
 pub struct Shown<S: BackendSelection> {
     pub(crate) generation: u64,
     pub(crate) members: Arc<BTreeSet<Backend>>,
     pub(crate) selector: Arc<S>,
     pub(crate) words: Arc<SharedWords>,
+    pub(crate) loads: Arc<Mutex<Loads>>,
     pub(crate) unready: BTreeSet<Backend>,
     pub(crate) version: Version,
 }
@@ -83,7 +86,8 @@ impl<S: BackendSelection> Shown<S> {
     }
 
     /// Selects the first for which `accept` answers true, when it is asked with a backend and whether it was ready, of the distinct
-    /// backends among the first `max_iterations` candidates of the walk for `key`. Refused for memory alone.
+    /// backends among the first `max_iterations` candidates of the walk for `key`. No lock is held while it is asked. Refused for
+    /// memory alone.
     pub fn select_with<W: Wait, F: Fn(&Backend, bool) -> bool>(
         &self,
         rt: &W,
@@ -102,7 +106,11 @@ impl<S: BackendSelection> Shown<S> {
             ensures { AcceptsBy F.Fn accept.entry.now (λ b ready. ready ≡ is_up unready.entry.now.keys b) backend.entry.now result }
         { accept(backend, !unready.contains(backend)) };
         let shared: &SharedWords = &*self.words;
-        let mut words = shared.lend(rt);
+        let mut words = LoadedWords {
+            words: shared.lend(rt),
+            loads: &*self.loads,
+            rt,
+        };
         select(
             alloc,
             &self.selector,

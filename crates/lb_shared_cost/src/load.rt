@@ -4,9 +4,10 @@ use lb_balance::moments::MomentSource;
 use lb_health::discovery::{Discovered, ServiceDiscovery};
 use lb_health::view::Settings;
 use lb_locked::clock::RuntimeClock;
+use lb_locked::keyed::NoRule;
 use lb_probe::error::CheckError;
 use lb_probe::health_check::HealthCheck;
-use lb_registry::keys::{ByNumber, Rule};
+use lb_registry::keys::Rule;
 use lb_select::backend::{Backend, Ext, InetAddr, SocketAddr};
 use lb_select::refusal::Refusal;
 use lb_select::walk::BackendSelection;
@@ -69,7 +70,7 @@ impl HealthCheck for Unchecked {
 }
 
 /// The balancer that is measured.
-pub type Shared<S> = LoadBalancer<S, Halves, Rule<ByNumber>, Unchecked>;
+pub type Shared<S> = LoadBalancer<S, Halves, Rule<NoRule>, Unchecked>;
 
 /// What a thread of a number does, and how much of it.
 pub trait Work {

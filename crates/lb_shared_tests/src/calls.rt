@@ -1,6 +1,7 @@
 //! A shared balancer in one thread: what its calls do to what is served. What was seen is noted as a text.
 use crate::fixtures::{DownAt, FAULT, HEAVY, InTurn, Line, ROWS, Tested, Ticks, balancer};
-use lb_registry::keys::{ByNumber, Rule};
+use lb_locked::keyed::NoRule;
+use lb_registry::keys::Rule;
 use lb_select::backend::Backend;
 use lb_select::refusal::Refusal;
 use lb_shared::reader::BalancerReader;
@@ -130,7 +131,7 @@ fn refused_updates_leave_all(rt: HostRuntime) -> Result<(), Fail> {
 fn sees<R: Wait + Clock + Copy + Drop>(
     rt: &R,
     alloc: Global,
-    reader: &mut BalancerReader<'_, RoundRobin, InTurn<R>, Rule<ByNumber>, DownAt<R>>,
+    reader: &mut BalancerReader<'_, RoundRobin, InTurn<R>, Rule<NoRule>, DownAt<R>>,
 ) -> Result<String, Refusal> {
     let mut text = String::new(alloc);
     for _ in 0..3 {

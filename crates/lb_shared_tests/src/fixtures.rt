@@ -4,9 +4,10 @@ ghost use Rattle.std.specs.Prelude.{◌≡◌};
 use lb_balance::moments::MomentSource;
 use lb_health::discovery::{Discovered, DiscoverySource, ServiceDiscovery};
 use lb_health::view::Settings;
+use lb_locked::keyed::NoRule;
 use lb_probe::error::CheckError;
 use lb_probe::health_check::HealthCheck;
-use lb_registry::keys::{ByNumber, Rule};
+use lb_registry::keys::Rule;
 use lb_select::backend::Backend;
 use lb_select::refusal::Refusal;
 use lb_shared::backends::Backends;
@@ -146,7 +147,7 @@ impl<R: Clock> HealthCheck for DownAt<R> {
 }
 
 /// The balancer of the tests.
-pub type Tested<R> = LoadBalancer<RoundRobin, InTurn<R>, Rule<ByNumber>, DownAt<R>>;
+pub type Tested<R> = LoadBalancer<RoundRobin, InTurn<R>, Rule<NoRule>, DownAt<R>>;
 
 /// A balancer over the discovery in turn by this line.
 pub fn balancer<R: Wait + Clock + Copy + Drop>(

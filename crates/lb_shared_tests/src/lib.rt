@@ -9,4 +9,10 @@ mod calls;
 #[cfg(test)]
 mod fixtures;
 #[cfg(test)]
+mod leaving;
+#[cfg(test)]
+mod loads;
+#[cfg(test)]
 mod running;
+#[cfg(test)]
+mod texts;

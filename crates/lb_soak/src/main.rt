@@ -4,10 +4,11 @@
 #![tactic(auto)]
 
 use lb_locked::clock::RuntimeClock;
+use lb_locked::keyed::keyed_by_identity;
 use lb_locked::registry::HealthRegistry;
-use lb_registry::registry::RegistryCore;
 use lb_select::refusal::Refusal;
 use lb_workers_tests::crowd::{Crowd, Group, Site, crowd_in, ends, is_free};
+use log::Log;
 use std::alloc::Global;
 use std::process::ExitCode;
 use std::sync::atomic::Ordering::SeqCst;
@@ -39,7 +40,7 @@ enum Ending {
 }
 
 // Starts the workers of both groups, and has threads use them; they are cancelled then, or are left to the drop of their handles.
-fn used<W: Threads + Wait + Clock + Copy + Send + Sync + Drop + 'static>(
+fn used<W: Log + Threads + Wait + Clock + Copy + Send + Sync + Drop + 'static>(
     rt: &W,
     alloc: Global,
     crowd: &Crowd<W>,
@@ -62,7 +63,7 @@ fn used<W: Threads + Wait + Clock + Copy + Send + Sync + Drop + 'static>(
 }
 
 // What the groups left, whose handles are gone.
-fn left<W: Threads + Wait + Clock + Copy + Send + Sync + Drop + 'static>(
+fn left<W: Log + Threads + Wait + Clock + Copy + Send + Sync + Drop + 'static>(
     rt: &W,
     site: &Site<W>,
     first: Arc<Group<W>>,
@@ -96,12 +97,12 @@ fn lives_none<W: Clock>(rt: &W, site: &Site<W>) -> bool {
 }
 
 // Two groups of a registry of their own, with their workers, threads that use them, and their end.
-fn round<W: Threads + Wait + Clock + Copy + Send + Sync + Drop + 'static>(
+fn round<W: Log + Threads + Wait + Clock + Copy + Send + Sync + Drop + 'static>(
     rt: &W,
     alloc: Global,
     is_cancelled: bool,
 ) -> Result<Ending, Refusal> {
-    let registry = Arc::new(alloc, HealthRegistry::new(RegistryCore::new(alloc)))?;
+    let registry = Arc::new(alloc, HealthRegistry::new(alloc, keyed_by_identity(alloc))?)?;
     let crowd = Crowd::new(*rt, alloc, &registry, false)?;
     let told = used(rt, alloc, &crowd, is_cancelled);
     let Crowd {
@@ -126,7 +127,7 @@ fn seconds_since<W: Clock>(rt: &W, begun: Duration) -> u64 {
 }
 
 // Rounds until so many seconds are over, or one isn't good; what the last one came to.
-fn soak<W: Threads + Wait + Clock + Print + Copy + Send + Sync + Drop + 'static>(
+fn soak<W: Log + Threads + Wait + Clock + Print + Copy + Send + Sync + Drop + 'static>(
     rt: &W,
     alloc: Global,
     seconds: u64,

@@ -3,3 +3,4 @@ pub mod FiguresLemmas
 pub mod NumbersLemmas
 pub mod ParseLemmas
 pub mod WordsLemmas
+pub mod SelectionLemmas

@@ -4,7 +4,6 @@ use Rattle.std.specs.Str.{IsUtf8}
 use Rattle.std.proofs.lemmas.Bool.{false_from_ne_true}
 use Rattle.std.proofs.lemmas.Str.{is_utf8-from_IsUtf8, IsUtf8-from_is_utf8}
 use Rattle.std.specs.Str.{is_utf8}
-use Rattle.std.specs.Str.Pattern.{StripsPrefix, FindsTextPrefix}
 use Rattle.lb_history.specs.Steps.{Step, step_seen}
 use Rattle.std.specs.Prelude.{Option, Result, Err}
 use Rattle.lb_step_text.specs.declared.error.ScriptError.{ScriptError}
@@ -12,7 +11,7 @@ use Rattle.lb_step_text.specs.declared.error.ScriptError.TheVariants.{BadLine, L
 use Rattle.lb_step_text.specs.declared.parse.LineStep.{LineStep}
 use Rattle.lb_step_text.specs.LineSteps.{line_step_seen}
 use Rattle.lb_kinds.specs.declared.kinds.Kind.{Kind}
-use Rattle.lb_step_text.specs.StepLines.{Reads, select_of, step_of, step_of_words}
+use Rattle.lb_step_text.specs.StepLines.{Reads, step_of, step_of_words}
 use Rattle.lb_step_text.specs.Words.{words_of}
 
 -- a text asks for what its words ask for
@@ -36,12 +35,3 @@ read_error meaning OutOfMemory h = h
 -- what is no text asks for nothing
 pub step_of-no_text : (line : List ℕ) → ¬ (IsUtf8 line) → step_of line ≡ None
 step_of-no_text line h = rw (false_from_ne_true (is_utf8 line) (λ is. h (IsUtf8-from_is_utf8 line is))) refl
-
--- what follows `select ` in a text
-select_split : (text rest : List ℕ) → StripsPrefix (FindsTextPrefix (codes "select ")) text rest → text ≡ codes "select " ++ rest
-select_split text rest h = h.1.1 ∙ ap (λ t. codes "select " ++ t) (sym h.2)
-
--- a text with `select ` in front asks for the selection of the words after it
-pub select_words : (text rest : List ℕ) → StripsPrefix (FindsTextPrefix (codes "select ")) text rest
-    → select_of (words_of rest) ≡ step_of_words (words_of text)
-select_words text rest h = rw (select_split text rest h) refl

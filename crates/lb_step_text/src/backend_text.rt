@@ -1,6 +1,6 @@
 //! The text of a backend as bytes, written from its end to its front.
 //! Most answers are a backend at an IPv4 address: that text takes no formatter, and is copied once.
-ghost use Rattle.std.specs.Prelude.{◌≡◌, ◌+◌, ◌<◌, ◌≤◌, ◌∷◌, ◌++◌, codes, decimal, drop, length, OnOk};
+ghost use Rattle.std.specs.Prelude.{◌≡◌, ◌+◌, ◌<◌, ◌≤◌, ◌∷◌, ◌++◌, codes, decimal, drop, length, OnErr, OnOk};
 ghost use Rattle.lb_select.specs.AddressText.{address_text, member_text};
 ghost use Rattle.lb_select.specs.Backends.{ipv4};
 
@@ -8,8 +8,8 @@ use itoa::write_digits;
 use lb_select::backend::{Backend, InetAddr, SocketAddr};
 use std::alloc::{AllocError, Global};
 
-/// How many bytes a text that grows at its front may have: six numbers, five bytes between them, and some.
-const CAPACITY: usize = 128;
+/// How many bytes a text that grows at its front may have: six numbers, five bytes between them, a name, a line feed and some.
+const CAPACITY: usize = 144;
 
 /// Appends the text of a backend: its address, a slash and its weight.
 pub fn push_backend(alloc: Global, text: &mut Vec<u8>, backend: &Backend) -> Result<(), AllocError>
@@ -19,7 +19,7 @@ pub fn push_backend(alloc: Global, text: &mut Vec<u8>, backend: &Backend) -> Res
     match address {
         SocketAddr::Inet(InetAddr::V4(octets, port)) => {
             let mut bytes = [0; CAPACITY];
-            let start = put_ipv4(&mut bytes, octets, *port, weight as u64);
+            let start = put_ipv4(&mut bytes, CAPACITY, octets, *port, weight as u64);
             text.extend_from_slice(&bytes[start..])
         }
         _ => {
@@ -29,10 +29,36 @@ pub fn push_backend(alloc: Global, text: &mut Vec<u8>, backend: &Backend) -> Res
     }
 }
 
+/// Appends the answer that is a backend and a line feed, or nothing where memory is refused. Most answers are this one, and it is
+/// copied once.
+pub fn push_backend_line(
+    alloc: Global,
+    text: &mut Vec<u8>,
+    backend: &Backend,
+) -> Result<(), AllocError>
+    ensures ok { OnOk result (text.new.items ≡ text.old.items ++ (codes "backend " ++ member_text backend.now ++ codes "\n")) }
+    ensures none { OnErr result (text.new.items ≡ text.old.items) }
+{
+    let (address, weight) = backend.identity();
+    match address {
+        SocketAddr::Inet(InetAddr::V4(octets, port)) => {
+            let mut bytes = [0; CAPACITY];
+            let end = put_byte(&mut bytes, CAPACITY, b'\n');
+            let address = put_ipv4(&mut bytes, end, octets, *port, weight as u64);
+            let start = put_name(&mut bytes, address);
+            text.extend_from_slice(&bytes[start..])
+        }
+        _ => {
+            let spelled = format!(in alloc; "backend {backend}\n")?;
+            text.extend_from_slice(spelled.as_bytes())
+        }
+    }
+}
+
 // Puts a byte before the text that begins at `start`, and answers where the longer text begins. A place that is no field beside
 // the bytes stays in a register.
 fn put_byte(bytes: &mut [u8; CAPACITY], start: usize, byte: u8) -> usize
-    requires { (0 < start) × (start ≤ 128) }
+    requires { (0 < start) × (start ≤ 144) }
     ensures text { drop result bytes.new ≡ byte ∷ drop start bytes.old }
     ensures place { result + 1 ≡ start }
 {
@@ -42,20 +68,42 @@ fn put_byte(bytes: &mut [u8; CAPACITY], start: usize, byte: u8) -> usize
 
 // Puts a number before the text that begins at `start`, and answers where the longer text begins.
 fn put_number(bytes: &mut [u8; CAPACITY], start: usize, n: u64) -> usize
-    requires { (20 ≤ start) × (start ≤ 128) }
+    requires { (20 ≤ start) × (start ≤ 144) }
     ensures text { drop result bytes.new ≡ decimal n ++ drop start bytes.old }
     ensures place { (result ≤ start) × (start ≤ result + 20) }
 {
     write_digits(n, bytes, start)
 }
 
-// Puts an IPv4 address, its port and a weight at the end of the bytes, and answers where they begin.
-fn put_ipv4(bytes: &mut [u8; CAPACITY], octets: &[u8], port: u16, weight: u64) -> usize
-    requires { length octets.now ≡ 4 }
-    ensures text { drop result bytes.new ≡ address_text (ipv4 octets.now port) ++ codes "/" ++ decimal weight }
-    ensures place { result ≤ 128 }
+// Puts the name of the answer before the text that begins at `start`, and answers where the longer text begins.
+fn put_name(bytes: &mut [u8; CAPACITY], start: usize) -> usize
+    requires { (8 ≤ start) × (start ≤ 144) }
+    ensures text { drop result bytes.new ≡ codes "backend " ++ drop start bytes.old }
+    ensures place { result + 8 ≡ start }
 {
-    let mut at = put_number(bytes, CAPACITY, weight);
+    let mut at = put_byte(bytes, start, b' ');
+    at = put_byte(bytes, at, b'd');
+    at = put_byte(bytes, at, b'n');
+    at = put_byte(bytes, at, b'e');
+    at = put_byte(bytes, at, b'k');
+    at = put_byte(bytes, at, b'c');
+    at = put_byte(bytes, at, b'a');
+    put_byte(bytes, at, b'b')
+}
+
+// Puts an IPv4 address, its port and a weight before the text that begins at `start`, and answers where the longer text begins.
+fn put_ipv4(
+    bytes: &mut [u8; CAPACITY],
+    start: usize,
+    octets: &[u8],
+    port: u16,
+    weight: u64,
+) -> usize
+    requires { (length octets.now ≡ 4) × ((125 ≤ start) × (start ≤ 144)) }
+    ensures text { drop result bytes.new ≡ (address_text (ipv4 octets.now port) ++ codes "/" ++ decimal weight) ++ drop start bytes.old }
+    ensures place { (result ≤ start) × (start ≤ result + 125) }
+{
+    let mut at = put_number(bytes, start, weight);
     at = put_byte(bytes, at, b'/');
     at = put_number(bytes, at, u64::from(port));
     at = put_byte(bytes, at, b':');

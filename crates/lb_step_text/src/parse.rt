@@ -3,12 +3,12 @@
 ghost use Rattle.std.specs.Prelude.{◌≡◌, option_map, IfOk};
 ghost use Rattle.lb_step_text.specs.StepLines.{Reads, select_parts_of, select_of, other_step_of, step_of_words, step_of};
 ghost use Rattle.lb_step_text.specs.LineSteps.{line_step_seen};
-ghost use Rattle.lb_step_text.specs.Words.{words_of};
 ghost use Rattle.lb_history.specs.Steps.{step_seen};
 
 use crate::error::ScriptError;
 use crate::listed::{backend_step, group, update};
 use crate::numbers::number;
+use crate::selection::plain_selection;
 use crate::words::Words;
 use lb_history::step::Step;
 use lb_kinds::kinds::Kind;
@@ -57,27 +57,13 @@ impl<'a> LineStep<'a> {
 pub fn parse(alloc: Global, line: &[u8]) -> Result<LineStep<'_>, ScriptError>
     ensures { Reads line_step_seen (step_of line.now) result }
 {
+    if let Some(selection) = plain_selection(line) {
+        return Ok(selection);
+    }
     match str::from_utf8(line) {
-        Ok(text) => text_step(alloc, text),
+        Ok(text) => step(alloc, Words::of(text)),
         Err(_) => Err(ScriptError::BadLine),
     }
-}
-
-// The step that the text asks for. The first word of most lines is told without a search for its end.
-fn text_step(alloc: Global, text: &str) -> Result<LineStep<'_>, ScriptError>
-    ensures { Reads line_step_seen (step_of_words (words_of text.now)) result }
-{
-    match text.strip_prefix("select ") {
-        Some(rest) => selection(rest),
-        None => step(alloc, Words::of(text)),
-    }
-}
-
-// The selection that the words after the first ask for.
-fn selection(rest: &str) -> Result<LineStep<'_>, ScriptError>
-    ensures { Reads line_step_seen (select_of (words_of rest.now)) result }
-{
-    select(Words::of(rest)).ok_or(ScriptError::BadLine)
 }
 
 // The step that these words ask for.

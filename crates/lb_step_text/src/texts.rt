@@ -1,15 +1,36 @@
 //! The texts of answers, and of the last line of a script that ends early.
 //! Texts are appended to bytes that are used again, so that a line takes no memory once these have grown.
-ghost use Rattle.std.specs.Prelude.{◌≡◌, ◌++◌, codes, decimal, OnOk};
+ghost use Rattle.std.specs.Prelude.{◌≡◌, ◌++◌, codes, decimal, OnErr, OnOk};
 ghost use Rattle.lb_select.specs.AddressText.{member_text};
 ghost use Rattle.lb_step_text.specs.Texts.{readers_text, refusal_text, answer_text};
 
-use crate::backend_text::push_backend;
+use crate::backend_text::{push_backend, push_backend_line};
 use crate::figures::{push_counts, push_flag, push_numbered, push_targets, push_timing, push_wide};
 use lb_history::answer::Answer;
 use lb_select::backend::Backend;
 use lb_select::refusal::Refusal;
 use std::alloc::{AllocError, Global};
+
+/// Appends the text of an answer and a line feed, or nothing where memory is refused. What `spare` holds has no meaning.
+pub fn push_line(
+    alloc: Global,
+    text: &mut Vec<u8>,
+    spare: &mut Vec<u8>,
+    answer: &Answer,
+) -> Result<(), AllocError>
+    ensures ok { OnOk result (text.new.items ≡ text.old.items ++ (answer_text answer.now ++ codes "\n")) }
+    ensures none { OnErr result (text.new.items ≡ text.old.items) }
+{
+    match answer {
+        Answer::Backend(backend, _) => push_backend_line(alloc, text, backend),
+        _ => {
+            spare.clear();
+            push_answer(alloc, spare, answer)?;
+            spare.extend_from_slice(b"\n")?;
+            text.extend_from_slice(spare)
+        }
+    }
+}
 
 /// Appends the text of an answer, without a line feed.
 pub fn push_answer(alloc: Global, text: &mut Vec<u8>, answer: &Answer) -> Result<(), AllocError>

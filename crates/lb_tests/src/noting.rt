@@ -1,7 +1,10 @@
 //! A selector that notes when it is gone, in the order of a destruction: it is gone before that is reported to the gate.
 //! It walks as a selector in turn does.
-ghost use Rattle.std.specs.Prelude.{false};
+ghost use Rattle.std.specs.Prelude.{false, ⊤};
 ghost use Rattle.std.specs.Arc.{arc_value};
+ghost use Rattle.lb_select.specs.Algorithms.{ticket_word};
+ghost use Rattle.lb_weighted.specs.Weights.{IsWeightedRest};
+ghost use Rattle.lb_weighted.specs.WeightLaws.{rest_none, rest_ends};
 ghost use Rattle.lb_kinds.specs.Kinds.{kind_walks, kind_refusal, kind_undrawn, kind_few_words};
 ghost use Rattle.lb_kinds.specs.declared.kinds.Kind.TheVariants.{RoundRobin as in_turn};
 
@@ -11,7 +14,7 @@ use lb_select::refusal::Refusal;
 use lb_select::walk::BackendSelection;
 use lb_select::words::WordSource;
 use lb_weighted::selection::RoundRobin;
-use lb_weighted::weighted::WeightedIterator;
+use lb_weighted::weighted::{WeightedIterator, WeightedWalk};
 use std::alloc::Global;
 use std::collections::BTreeSet;
 use std::marker::Model;
@@ -48,6 +51,8 @@ impl BackendSelection for Noting {
 
     type Config = Gone;
 
+    type Walk = WeightedWalk;
+
     ghost walks = { λ ms gone. kind_walks ms in_turn };
 
     ghost members = { λ s. arc_value s.selector };
@@ -60,9 +65,17 @@ impl BackendSelection for Noting {
 
     ghost may_draw_random = { λ ms gone. false };
 
+    ghost fits = { λ s w. ⊤ };
+
+    ghost rest = { λ s w. IsWeightedRest ticket_word w.first (arc_value s.selector) w.word };
+
     ghost undrawn = { λ ms gone. kind_undrawn ms in_turn };
 
     ghost few_words = { λ ms gone. kind_few_words ms in_turn };
+
+    ghost rest_starts = { λ s w. rest_none ticket_word w.first (arc_value s.selector) w.word };
+
+    ghost rest_ends = { λ s w. rest_ends ticket_word w.first (arc_value s.selector) w.word };
 
     fn build(alloc: Global, backends: &BTreeSet<Backend>) -> Result<Noting, Refusal> {
         Noting::build_with_config(alloc, backends, &Gone(None))
@@ -92,6 +105,18 @@ impl BackendSelection for Noting {
     ) -> Result<WeightedIterator<algorithms::RoundRobin>, Refusal> {
         let noting: &Noting = &**of;
         RoundRobin::iter(&noting.selector, key, words)
+    }
+
+    fn start<W: WordSource>(&self, key: &[u8], words: &mut W) -> Result<WeightedWalk, Refusal> {
+        self.selector.start(key, words)
+    }
+
+    fn step<'s, W: WordSource>(
+        &'s self,
+        walk: &mut WeightedWalk,
+        words: &mut W,
+    ) -> Option<&'s Backend> {
+        self.selector.step(walk, words)
     }
 
     fn draws_random(&self) -> bool {

@@ -1,2 +1,3 @@
 pub mod Words
 pub mod Shown
+pub mod Crossings

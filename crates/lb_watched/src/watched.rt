@@ -17,7 +17,7 @@ ghost use Rattle.lb_registry.specs.RegistryEvents.{Event, Applied, Updated, Mark
 ghost use Rattle.lb_registry.specs.RegistryEvents.{cells_given};
 ghost use Rattle.lb_joined.specs.JoinedCalls.{Schedules, after_schedule, released_where, generation_at};
 ghost use Rattle.lb_joined.specs.JoinedHistory.{Set, group_events, in_group};
-ghost use Rattle.lb_joined.specs.Stands.{Stands, After, Becomes, SameSite, views_of};
+ghost use Rattle.lb_joined.specs.Stands.{Stands, After, Becomes, IsFounded, SameSite, views_of};
 ghost use Rattle.lb_watched.specs.Watched.{words_of};
 
 use lb_board::board::{Board, WritingPass};
@@ -93,6 +93,13 @@ impl<S: BackendSelection> Watched<S> {
         ensures { result.now ≡ self.now.core }
     {
         &self.core
+    }
+
+    /// Some history stands behind the group, so that what holds after each of its histories holds after one. It does nothing.
+    pub fn founded(&self)
+        ensures { IsFounded self.now.core }
+    {
+        self.core.founded();
     }
 
     /// What was written on the board is the group's newest generation and what its slots serve, for whoever needs to know it.

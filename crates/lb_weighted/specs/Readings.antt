@@ -1,8 +1,8 @@
 -- What a walk by least connections keeps: for each backend of weight above 0 its index and the load that was read for it, in
 -- the order of the candidates.
-use Rattle.std.specs.Prelude.{◌≡◌, ℕ, ◌+◌, ◌*◌, ◌≤◌, ◌==◌, Bool, true, List, [], ◌∷◌, map, length, take, Option, Some}
+use Rattle.std.specs.Prelude.{◌≡◌, ℕ, ◌+◌, ◌*◌, ◌<◌, ◌≤◌, ◌==◌, Bool, true, List, [], ◌∷◌, map, length, take, Option, Some}
 use Rattle.std.specs.Prelude.{MatchOption, count_by}
-use Rattle.std.specs.List.{filter, slice_get, AllZip, AllByRecursion as Each}
+use Rattle.std.specs.List.{All, filter, slice_get, AllZip, AllByRecursion as Each}
 use Rattle.std.specs.List.Sorted.{IsPermutation, IsSortedBy, IsStrictlySortedBy}
 use Rattle.std.specs.declared.cmp.Ordering.{Ordering}
 use Rattle.std.specs.Ordering.{nat_cmp, ordering_then, is_lt}
@@ -37,6 +37,10 @@ pub record IsArranged (may_give : Draw → Type 0) (ms : List Member) (order : L
   pub given : AreRead may_give ms (length ms) readings
   pub same : IsPermutation readings order
   pub sorted : IsSortedBy (λ a b. is_lt (reading_cmp a b)) order
+
+-- each reading of an order is of a backend of the set
+abbrev pub IsInside : List Member → List Reading → Type 0
+IsInside ms order = All (λ r. r.index < length ms) order
 
 -- what is left of a walk that stands at a place of the order
 pub record IsLeastRest

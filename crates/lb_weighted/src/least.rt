@@ -2,7 +2,7 @@
 //! Loads are read once, when a walk begins; from then on it reads nothing and takes no memory.
 ghost use Rattle.std.specs.Prelude.{◌≡◌, ◌+◌, ◌<◌, ◌≤◌, length, false, Some, None, IfOk, MatchOption};
 ghost use Rattle.std.specs.Option.{option_and_then, option_copied};
-ghost use Rattle.std.specs.List.{All, slice_get};
+ghost use Rattle.std.specs.List.{slice_get};
 ghost use Rattle.std.specs.List.Sorted.{IsPermutation, IsSortedBy, IsStrictlySortedBy};
 ghost use Rattle.std.specs.Ordering.{is_lt};
 ghost use Rattle.std.specs.Arc.{arc_value};
@@ -10,7 +10,7 @@ ghost use Rattle.lb_select.specs.Backends.{Member, member_cmp};
 ghost use Rattle.lb_select.specs.Refusals.{Refuses};
 ghost use Rattle.lb_weighted.specs.LeastLoads.{IsLeastWalk};
 ghost use Rattle.lb_weighted.specs.LeastLaws.{least_undrawn, least_few_words, rest_starts, rest_ends};
-ghost use Rattle.lb_weighted.specs.Readings.{reading_cmp, AreRead, IsArranged, IsLeastRest, IsLeastStep};
+ghost use Rattle.lb_weighted.specs.Readings.{reading_cmp, AreRead, IsArranged, IsInside, IsLeastRest, IsLeastStep};
 
 use crate::reading::Reading;
 use lb_select::backend::Backend;
@@ -62,16 +62,22 @@ fn arrange(readings: &mut Vec<Reading>)
     readings.sort_unstable_by(|a, b| a.compare(b));
 }
 
-/// A walk over the candidates of a selector by least connections, in the order of the loads at its beginning. It ends after
-/// each backend of weight above 0.
+/// What a walk by least connections keeps from candidate to candidate.
 #[derive(Drop)]
-pub struct LeastIterator {
-    backend: Arc<LeastConnections>,
+pub struct LeastWalk {
     // what was read, in order
     order: Vec<Reading>,
     // how many came already
     at: usize,
-    ghost inside: { All (λ r. r.index < length (arc_value backend)) order.items },
+}
+
+/// A walk over the candidates of a selector by least connections, which it holds, in the order of the loads at its beginning.
+/// It ends after each backend of weight above 0.
+#[derive(Drop)]
+pub struct LeastIterator {
+    backend: Arc<LeastConnections>,
+    walk: LeastWalk,
+    ghost inside: { IsInside (arc_value backend) walk.order.items },
 }
 
 impl LeastConnections {
@@ -114,7 +120,7 @@ impl LeastConnections {
 
     // What is read for the backends of weight above 0, in the order of the candidates. Memory is taken before the first load.
     fn readings<W: WordSource>(&self, words: &W) -> Result<Vec<Reading>, AllocError>
-        ensures inside { IfOk result (λ order. All (λ r. r.index < length self.now) order.items) }
+        ensures inside { IfOk result (λ order. IsInside self.now order.items) }
         ensures order { IfOk result (λ order. IsArranged (λ d. W.gives words.now d words.now) self.now order.items) }
     {
         let count = self.backends.as_slice().len();
@@ -132,20 +138,31 @@ impl LeastConnections {
     {
         self.backends.get(index?)
     }
+
+    /// The index of the next candidate in the set's order, for a walk of several kinds; `None` after the last.
+    pub fn advance(&self, walk: &mut LeastWalk) -> Option<usize>
+        requires { IsInside self.now walk.old.order.items }
+        ensures inside { MatchOption result (length walk.old.order.items ≤ walk.old.at) (λ i. i < length self.now) }
+        ensures step { IsLeastStep self.now walk.old.order.items walk.old.at (option_and_then (slice_get self.now) result) walk.new.at }
+        ensures order { walk.new.order.items ≡ walk.old.order.items }
+    {
+        let reading = *walk.order.get(walk.at)?;
+        walk.at += 1;
+        Some(reading.index)
+    }
 }
 
 impl LeastIterator {
-    /// The index of the next candidate in the set's order, for a walk of several kinds; `None` after the last.
+    /// The index of the next candidate in the set's order, as the selector's `advance`.
     pub fn advance(&mut self) -> Option<usize>
-        ensures inside { MatchOption result (length self.old.order.items ≤ self.old.at) (λ i. i < length (arc_value self.old.backend)) }
-        ensures step { IsLeastStep (arc_value self.old.backend) self.old.order.items self.old.at
-            (option_and_then (slice_get (arc_value self.old.backend)) result) self.new.at }
-        ensures order { self.new.order.items ≡ self.old.order.items }
+        ensures inside { MatchOption result (length self.old.walk.order.items ≤ self.old.walk.at)
+            (λ i. i < length (arc_value self.old.backend)) }
+        ensures step { IsLeastStep (arc_value self.old.backend) self.old.walk.order.items self.old.walk.at
+            (option_and_then (slice_get (arc_value self.old.backend)) result) self.new.walk.at }
+        ensures order { self.new.walk.order.items ≡ self.old.walk.order.items }
         ensures backend { arc_value self.new.backend ≡ arc_value self.old.backend }
     {
-        let reading = *self.order.get(self.at)?;
-        self.at += 1;
-        Some(reading.index)
+        self.backend.advance(&mut self.walk)
     }
 
     /// The backend of that index in the set's order.
@@ -157,11 +174,11 @@ impl LeastIterator {
 }
 
 impl BackendIter for LeastIterator {
-    ghost walk = { λ i. IsLeastRest (arc_value i.backend) i.order.items i.at };
+    ghost walk = { λ i. IsLeastRest (arc_value i.backend) i.walk.order.items i.walk.at };
 
-    ghost starts = { λ i. rest_starts (arc_value i.backend) i.order.items i.at };
+    ghost starts = { λ i. rest_starts (arc_value i.backend) i.walk.order.items i.walk.at };
 
-    ghost ends = { λ i. rest_ends (arc_value i.backend) i.order.items i.at };
+    ghost ends = { λ i. rest_ends (arc_value i.backend) i.walk.order.items i.walk.at };
 
     fn next<W: WordSource>(&mut self, _words: &mut W) -> Option<&Backend> {
         let index = self.advance();
@@ -173,6 +190,8 @@ impl BackendSelection for LeastConnections {
     type Iter = LeastIterator;
 
     type Config = ();
+
+    type Walk = LeastWalk;
 
     ghost walks = { λ ms config key. IsLeastWalk ms };
 
@@ -186,9 +205,17 @@ impl BackendSelection for LeastConnections {
 
     ghost may_draw_random = { λ ms config. false };
 
+    ghost fits = { λ s w. IsInside s w.order.items };
+
+    ghost rest = { λ s w. IsLeastRest s w.order.items w.at };
+
     ghost undrawn = { λ ms config never key. least_undrawn ms };
 
     ghost few_words = { λ ms config key. least_few_words ms };
+
+    ghost rest_starts = { λ s w. rest_starts s w.order.items w.at };
+
+    ghost rest_ends = { λ s w. rest_ends s w.order.items w.at };
 
     fn build(alloc: Global, backends: &BTreeSet<Backend>) -> Result<Self, Refusal> {
         LeastConnections::of_set(alloc, backends)
@@ -204,16 +231,26 @@ impl BackendSelection for LeastConnections {
 
     fn iter<W: WordSource>(
         of: &Arc<Self>,
-        _key: &[u8],
+        key: &[u8],
         words: &mut W,
     ) -> Result<LeastIterator, Refusal> {
         let backend = of.clone()?;
-        let order = of.readings(words)?;
-        Ok(LeastIterator {
-            backend,
-            order,
-            at: 0,
-        })
+        let walk = backend.start(key, words)?;
+        Ok(LeastIterator { backend, walk })
+    }
+
+    fn start<W: WordSource>(&self, _key: &[u8], words: &mut W) -> Result<LeastWalk, Refusal> {
+        let order = self.readings(words)?;
+        Ok(LeastWalk { order, at: 0 })
+    }
+
+    fn step<'s, W: WordSource>(
+        &'s self,
+        walk: &mut LeastWalk,
+        _words: &mut W,
+    ) -> Option<&'s Backend> {
+        let index = self.advance(walk);
+        self.get(index)
     }
 
     fn draws_random(&self) -> bool {

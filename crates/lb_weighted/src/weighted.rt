@@ -1,6 +1,6 @@
 //! Weighted selection: each backend gets a share of the first choices that is its weight against the sum of all weights.
 //! A word chooses by the partial sums of the weights; fallbacks disregard weights.
-ghost use Rattle.std.specs.Prelude.{◌≡◌, ℕ, ◌<◌, ◌≤◌, ◌^◌, ◌++◌, ◌∷◌, [], ◌+◌, ◌-◌, List, length, Some, IfOk, MatchOption};
+ghost use Rattle.std.specs.Prelude.{◌≡◌, ℕ, ◌<◌, ◌≤◌, ◌^◌, ◌++◌, ◌∷◌, [], ◌+◌, ◌-◌, List, length, Some, IfOk, MatchOption, ⊤};
 ghost use Rattle.std.specs.Option.{option_and_then, option_copied};
 ghost use Rattle.std.specs.List.{slice_get};
 ghost use Rattle.std.specs.Arc.{arc_value};
@@ -51,15 +51,21 @@ impl<H> Model for Weighted<H> {
     ghost invariant = { λ w. IsSummed w.backends.items w.sums.items w.total };
 }
 
-/// A walk over the candidates of a weighted selector. It never ends where the total weight is above 0, and is over at once
-/// where it is 0.
+/// What a walk over a weighted selector keeps from candidate to candidate.
 #[derive(Drop)]
-pub struct WeightedIterator<H> {
+pub struct WeightedWalk {
     // the word that was drawn last
     word: u64,
-    backend: Arc<Weighted<H>>,
     // whether the first choice is still to come
     first: bool,
+}
+
+/// A walk over the candidates of a weighted selector, which it holds. It never ends where the total weight is above 0, and is
+/// over at once where it is 0.
+#[derive(Drop)]
+pub struct WeightedIterator<H> {
+    backend: Arc<Weighted<H>>,
+    walk: WeightedWalk,
 }
 
 /// Where the interval of a place is, and what it took to find it.
@@ -182,26 +188,35 @@ impl<H: SelectionAlgorithm> Weighted<H> {
         let list = self.backends.as_slice();
         word as usize % list.len()
     }
+
+    /// The index of the next candidate in the set's order, for a walk of several kinds; `None` where no backend has a weight.
+    pub fn advance<W: WordSource>(&self, walk: &mut WeightedWalk, words: &mut W) -> Option<usize>
+        ensures inside { MatchOption result (total_weight self.now ≡ 0) (λ i. i < length self.now) }
+        ensures step { IsStep W.gives (λ w. IsWeightedRest H.gives_word w.first self.now w.word)
+            walk.old words.old (option_and_then (slice_get self.now) result) walk.new words.new }
+    {
+        if self.total() == 0 {
+            return None;
+        }
+        if walk.first {
+            walk.first = false;
+            return Some(self.first_choice(walk.word));
+        }
+        walk.word = self.draw(words, &walk.word.to_le_bytes());
+        Some(self.fallback(walk.word))
+    }
 }
 
 impl<H: SelectionAlgorithm> WeightedIterator<H> {
-    /// The index of the next candidate in the set's order, for a walk of several kinds; `None` where no backend has a weight.
+    /// The index of the next candidate in the set's order, as the selector's `advance`.
     pub fn advance<W: WordSource>(&mut self, words: &mut W) -> Option<usize>
         ensures inside { MatchOption result (total_weight (arc_value self.old.backend) ≡ 0)
             (λ i. i < length (arc_value self.old.backend)) }
-        ensures step { IsStep W.gives (λ i. IsWeightedRest H.gives_word i.first (arc_value i.backend) i.word)
+        ensures step { IsStep W.gives (λ i. IsWeightedRest H.gives_word i.walk.first (arc_value i.backend) i.walk.word)
             self.old words.old (option_and_then (slice_get (arc_value self.old.backend)) result) self.new words.new }
         ensures backend { arc_value self.new.backend ≡ arc_value self.old.backend }
     {
-        if self.backend.total() == 0 {
-            return None;
-        }
-        if self.first {
-            self.first = false;
-            return Some(self.backend.first_choice(self.word));
-        }
-        self.word = self.backend.draw(words, &self.word.to_le_bytes());
-        Some(self.backend.fallback(self.word))
+        self.backend.advance(&mut self.walk, words)
     }
 
     /// The backend of that index in the set's order.
@@ -213,11 +228,11 @@ impl<H: SelectionAlgorithm> WeightedIterator<H> {
 }
 
 impl<H: SelectionAlgorithm> BackendIter for WeightedIterator<H> {
-    ghost walk = { λ i. IsWeightedRest H.gives_word i.first (arc_value i.backend) i.word };
+    ghost walk = { λ i. IsWeightedRest H.gives_word i.walk.first (arc_value i.backend) i.walk.word };
 
-    ghost starts = { λ i. rest_none _ i.first (arc_value i.backend) i.word };
+    ghost starts = { λ i. rest_none _ i.walk.first (arc_value i.backend) i.walk.word };
 
-    ghost ends = { λ i ds cs e over h. rest_ends _ i.first (arc_value i.backend) i.word ds cs e over h };
+    ghost ends = { λ i ds cs e over h. rest_ends _ i.walk.first (arc_value i.backend) i.walk.word ds cs e over h };
 
     fn next<W: WordSource>(&mut self, words: &mut W) -> Option<&Backend> {
         let index = self.advance(words);
@@ -229,6 +244,8 @@ impl<H: SelectionAlgorithm> BackendSelection for Weighted<H> {
     type Iter = WeightedIterator<H>;
 
     type Config = ();
+
+    type Walk = WeightedWalk;
 
     ghost walks = { λ ms config. IsWeightedWalk H.gives_word ms };
 
@@ -242,10 +259,18 @@ impl<H: SelectionAlgorithm> BackendSelection for Weighted<H> {
 
     ghost may_draw_random = { λ ms config. H.may_draw_random };
 
+    ghost fits = { λ s w. ⊤ };
+
+    ghost rest = { λ s w. IsWeightedRest H.gives_word w.first s w.word };
+
     ghost undrawn = { λ ms config never key ds cs e h.
         Each-words H.gives_word IsNotRandom (H.undrawn never) key (h.word ∷ h.later) ds h.drawn };
 
     ghost few_words = { λ ms config key ds cs e h. few_words H.gives_word H.one_word ms key ds cs e h };
+
+    ghost rest_starts = { λ s w. rest_none _ w.first s w.word };
+
+    ghost rest_ends = { λ s w ds cs e over h. rest_ends _ w.first s w.word ds cs e over h };
 
     fn build(alloc: Global, backends: &BTreeSet<Backend>) -> Result<Self, Refusal> {
         Weighted::of_set(alloc, backends)
@@ -265,12 +290,22 @@ impl<H: SelectionAlgorithm> BackendSelection for Weighted<H> {
         words: &mut W,
     ) -> Result<WeightedIterator<H>, Refusal> {
         let backend = of.clone()?;
-        let word = backend.draw(words, key);
-        Ok(WeightedIterator {
-            word,
-            backend,
-            first: true,
-        })
+        let walk = backend.start(key, words)?;
+        Ok(WeightedIterator { backend, walk })
+    }
+
+    fn start<W: WordSource>(&self, key: &[u8], words: &mut W) -> Result<WeightedWalk, Refusal> {
+        let word = self.draw(words, key);
+        Ok(WeightedWalk { word, first: true })
+    }
+
+    fn step<'s, W: WordSource>(
+        &'s self,
+        walk: &mut WeightedWalk,
+        words: &mut W,
+    ) -> Option<&'s Backend> {
+        let index = self.advance(walk, words);
+        self.get(index)
     }
 
     fn draws_random(&self) -> bool {

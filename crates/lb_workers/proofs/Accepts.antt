@@ -6,8 +6,8 @@ use Rattle.lb_select.specs.Backends.{Member}
 use Rattle.lb_select.specs.Draws.{Draw}
 use Rattle.lb_select.specs.declared.refusal.Refusal.{Refusal}
 use Rattle.lb_group.specs.Values.{ReaderValue}
-use Rattle.lb_joined.specs.Stands.{JoinedValue}
 use Rattle.lb_locked.specs.Group.{EnteredUnder, LeftUnder, ReadyUnder, SelectedUnder}
+use Rattle.lb_locked.specs.Shared.{SharedValue}
 use Rattle.lb_port.specs.Looks.{Answers, told_of, AreRefused, IsTold, SelectsBy, Inside}
 
 module _ (accepts other : Member → Bool → Bool → Type 0) (more : (b : Member) (ready a : Bool) → accepts b ready a → other b ready a) (limit : ℕ) where
@@ -39,7 +39,7 @@ module _ (accepts other : Member → Bool → Bool → Type 0) (more : (b : Memb
 
 selected : {C R : Type 0} (gives : R → Member → Member → Type 0) (accepts other : Member → Bool → Bool → Type 0)
     → ((b : Member) (ready a : Bool) → accepts b ready a → other b ready a) → (limit : ℕ)
-    (walks : List Member → C → List ℕ → List Draw → List Member → Bool → Type 0) (key : List ℕ) (site : JoinedValue C) (slot : ℕ)
+    (walks : List Member → C → List ℕ → List Draw → List Member → Bool → Type 0) (key : List ℕ) (site : SharedValue C R) (slot : ℕ)
     (r : Result (Option Member) Refusal)
     → SelectedUnder gives accepts limit walks key site slot r → SelectedUnder gives other limit walks key site slot r
 selected gives accepts other more limit walks key site slot r (a, m, enters, is) = (
@@ -47,12 +47,12 @@ selected gives accepts other more limit walks key site slot r (a, m, enters, is)
   m,
   enters,
   inside accepts other more limit (λ v r d w. w ≡ v) (λ v r b a w. ReadyUnder gives v r b a × (w ≡ v))
-      (λ v slot a w. EnteredUnder v slot a × (w ≡ v)) (λ v r w. LeftUnder v r × (w ≡ v)) walks key a m r site is,
+      (λ v slot a w. EnteredUnder v.core slot a × (w ≡ v)) (λ v r w. LeftUnder v.core r × (w ≡ v)) walks key a m r site is,
 )
 
 -- where what was asked answers as it is told, the ready ones are selected
 pub selected-ready : {C R F : Type 0} {g : Shared F (Bor Member × (Bool × Unit {0})) Bool} {f : F} (gives : R → Member → Member → Type 0)
-    (limit : ℕ) (walks : List Member → C → List ℕ → List Draw → List Member → Bool → Type 0) (key : List ℕ) (site : JoinedValue C) (slot : ℕ)
+    (limit : ℕ) (walks : List Member → C → List ℕ → List Draw → List Member → Bool → Type 0) (key : List ℕ) (site : SharedValue C R) (slot : ℕ)
     (r : Result (Option Member) Refusal)
     → SelectedUnder gives (λ b ready a. Answers g f b ready a) limit walks key site slot r
     → ((p : Bor Member) (ready a : Bool) → FnReturns g f (p, (ready, tt)) a → a ≡ ready)

@@ -1,3 +1,2 @@
 pub mod Accepts
 pub mod Crossings
-pub mod Drives

@@ -1,7 +1,7 @@
 //! Drives the run of a group over a port, from its start to its end.
 ghost use Rattle.std.specs.Prelude.{◌≡◌, [], true};
-ghost use Rattle.lb_schedule.specs.History.{IsAfter};
-ghost use Rattle.lb_workers.specs.Driven.{Does, Ran, is_asked};
+ghost use Rattle.lb_schedule.specs.Driven.{Does, DrivenToEnd, Reads, TakesTurn, is_turn};
+ghost use Rattle.lb_schedule.specs.History.{IsAfter, IsRun};
 
 use crate::port::RunPort;
 use lb_schedule::event::{Action, Event};
@@ -13,7 +13,8 @@ use std::sync::Wait;
 pub fn drive<R: Wait, P: RunPort>(rt: &R, run: GroupRun, port: &mut P)
     requires fresh { IsAfter run [] }
     requires can { P.can_run }
-    ensures { Ran P.moments P.leasts P.looks P.updates P.checks P.tells P.sleeps run.plan port.old port.new }
+    ensures { DrivenToEnd (Reads P.moments P.leasts) (Does P.looks (TakesTurn P.updates P.checks P.tells P.sleeps))
+        (IsRun run.plan) port.old port.new }
 {
     let mut run = run;
     let mut event = Event::Start;
@@ -31,9 +32,9 @@ pub fn drive<R: Wait, P: RunPort>(rt: &R, run: GroupRun, port: &mut P)
 
 // Does what a run asks for, unless the run is to end; the event that came of it.
 fn act<P: RunPort>(port: &mut P, action: Action) -> Event
-    requires asked { is_asked action ≡ true }
+    requires asked { is_turn action ≡ true }
     requires can { P.can_run }
-    ensures { Does P.moments P.leasts P.looks P.updates P.checks P.tells P.sleeps port.old action result port.new }
+    ensures { Does P.looks (TakesTurn P.updates P.checks P.tells P.sleeps) port.old action result port.new }
 {
     if port.is_shut() {
         return Event::Shutdown;

@@ -21,9 +21,10 @@ use lb_balance::moments::MomentSource;
 use lb_balance::timings::{SelectorUpdateTimings, UpdateTimings};
 use lb_health::discovery::{BoxedDiscovery, DiscoverySource, ServiceDiscovery};
 use lb_locked::group::SharedGroup;
+use lb_locked::keyed::NoRule;
 use lb_locked::registry::HealthRegistry;
 use lb_probe::health_check::{BoxedCheck, HealthCheck};
-use lb_registry::keys::{ByNumber, KeyRule, Rule};
+use lb_registry::keys::{KeyRule, Rule};
 use lb_select::backend::Backend;
 use lb_select::refusal::Refusal;
 use lb_select::walk::BackendSelection;
@@ -38,7 +39,7 @@ pub struct LoadBalancerGroup<
     S: BackendSelection,
     W: Wait + Copy,
     D: Drop = BoxedDiscovery,
-    R: KeyRule + Drop = Rule<ByNumber>,
+    R: KeyRule + Drop = Rule<NoRule>,
     C: HealthCheck + Drop = BoxedCheck,
 > {
     pub(crate) rt: W,
@@ -97,8 +98,9 @@ impl<
         configs: Vec<S::Config>,
     ) -> Result<LoadBalancerGroup<S, W, D, R, C>, Refusal>
         ensures made { IfOk result (λ g. Stands
-            (record { id = (arc_value g.shared).group.id; gate = (arc_value parts.gate).id; configs = configs.items }) []
-            (arc_value g.shared)) }
+            (record { id = (arc_value g.shared).core.group.id; gate = (arc_value parts.gate).id; configs = configs.items }) []
+            (arc_value g.shared).core) }
+        ensures registry { IfOk result (λ g. (arc_value g.shared).registry ≡ (arc_value parts.registry).start) }
         ensures parts { IfOk result (λ g. (g.discovery ≡ parts.discovery) × (g.owns_checks ≡ parts.owns_checks)
             × (g.health_check_frequency ≡ None) × (g.update_frequency ≡ None) × (g.parallel_health_check ≡ false)) }
         ensures refused { IsMakingRefusal (least (map (S.refusal []) configs.items)) result }
@@ -125,7 +127,7 @@ impl<
                 parallel_health_check: false,
             }),
             Err(refusal) => {
-                registry.lock(&rt).remove_view(id);
+                registry.remove_view(&rt, id);
                 Err(refusal)
             }
         }
@@ -170,7 +172,8 @@ impl<
         key: &[u8],
         max_iterations: usize,
     ) -> Result<Option<Backend>, Refusal>
-        ensures { SelectedUnder R.gives (λ b ready a. a ≡ ready) max_iterations S.walks key.now (arc_value self.now.shared) slot result }
+        ensures { SelectedUnder R.gives (λ b ready a. a ≡ ready) max_iterations S.walks key.now (arc_value self.now.shared) slot
+            result }
     {
         self.select_with(alloc, slot, key, max_iterations, &ready_ones)
     }

@@ -2,11 +2,13 @@
 //! it.
 #![tactic(auto)]
 
+pub mod backends;
 pub mod drive;
 pub mod group;
 mod making;
 mod noting;
 pub mod parts;
+mod passes;
 pub mod port;
 mod readings;
 mod running;

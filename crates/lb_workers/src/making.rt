@@ -34,11 +34,11 @@ pub(crate) fn make<S: BackendSelection, R: KeyRule + Drop, C: HealthCheck + Drop
     ensures gate { IfOk result (λ g. g.group.gate ≡ gate.now.id) }
     ensures refused { IsMakingRefusal (least (map (S.refusal []) configs.items)) result }
 {
-    let mut registry = registry.lock(rt);
+    let mut cells = registry.take(rt);
     let held = gate.take(rt);
-    let made = GroupCore::new(alloc, &mut *registry, &held.value, configs);
+    let made = GroupCore::new(alloc, &mut cells.value, &held.value, configs);
     gate.put(held);
-    drop(registry);
+    registry.put(cells);
     made
 }
 
@@ -50,7 +50,8 @@ pub(crate) fn share<S: BackendSelection, R: KeyRule + Drop, C: HealthCheck + Dro
     gate: Arc<SelectorRebuildGate>,
 ) -> Result<Arc<SharedGroup<S, R, C>>, Refusal>
     requires { (arc_value gate).id ≡ core.group.gate }
-    ensures made { IfOk result (λ g. arc_value g ≡ core) }
+    ensures made { IfOk result (λ g. ((arc_value g).core ≡ core)
+        × ((arc_value g).registry ≡ (arc_value registry.now).start)) }
     ensures refused { IfErr result (λ e. e ≡ Refusal.OutOfMemory) }
 {
     let generator = Pcg64::new(0, u128::from(core.id()));

@@ -1,5 +1,8 @@
 //! What a group is made of beside the configurations of its slots.
-ghost use Rattle.std.specs.Prelude.{◌≡◌, IfErr, IfOk, true, false};
+ghost use Rattle.std.specs.Prelude.{◌≡◌, [], IfErr, IfOk, true, false};
+ghost use Rattle.std.specs.Arc.{arc_value};
+ghost use Rattle.lb_registry.specs.Keys.{by_identity, rule_gives};
+ghost use Rattle.lb_registry.specs.Registry.{IsRegistryAfter};
 
 use lb_health::discovery::DiscoverySource;
 use lb_locked::gate::SelectorRebuildGate;
@@ -13,7 +16,7 @@ use std::sync::Arc;
 
 /// A discovery, the registry of health that a group is to have a view of, and the gate that its rebuilds go through.
 #[derive(Drop)]
-pub struct GroupParts<D, R, C> {
+pub struct GroupParts<D, R: KeyRule + Drop, C> {
     /// Where the backends come from.
     pub discovery: DiscoverySource<D>,
     /// The registry of health, which other groups may share.
@@ -32,9 +35,10 @@ impl<D: Drop, N: KeyRule + Drop, C: HealthCheck + Drop> GroupParts<D, Rule<N>, C
         discovery: DiscoverySource<D>,
     ) -> Result<GroupParts<D, Rule<N>, C>, Refusal>
         ensures parts { IfOk result (λ p. (p.discovery ≡ discovery) × (p.owns_checks ≡ true)) }
+        ensures registry { IfOk result (λ p. IsRegistryAfter (rule_gives N.gives) by_identity [] (arc_value p.registry).start) }
         ensures refused { IfErr result (λ e. e ≡ Refusal.OutOfMemory) }
     {
-        let registry = HealthRegistry::new(Registry::with_rule(alloc, Rule::Identity));
+        let registry = HealthRegistry::new(alloc, Registry::with_rule(alloc, Rule::Identity))?;
         let registry = Arc::new(alloc, registry)?;
         let gate = Arc::new(alloc, SelectorRebuildGate::new(alloc)?)?;
         Ok(GroupParts {
@@ -53,7 +57,7 @@ impl<D: Drop, R: KeyRule + Drop, C: HealthCheck + Drop> GroupParts<D, R, C> {
         registry: Arc<HealthRegistry<R, C>>,
         gate: Arc<SelectorRebuildGate>,
     ) -> GroupParts<D, R, C>
-        ensures { (result.discovery ≡ discovery) × (result.gate ≡ gate) × (result.owns_checks ≡ false) }
+        ensures { (result.discovery ≡ discovery) × (result.registry ≡ registry) × (result.gate ≡ gate) × (result.owns_checks ≡ false) }
     {
         GroupParts {
             discovery,

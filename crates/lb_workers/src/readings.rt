@@ -37,7 +37,7 @@ impl<
 
     /// The newest generation of the backends; 0 before the first membership.
     pub fn backend_generation(&self) -> u64
-        ensures { Seen (arc_value self.now.shared) (λ v. After v (λ made e. result ≡ newest (group_events e))) }
+        ensures { Seen (arc_value self.now.shared).core (λ v. After v (λ made e. result ≡ newest (group_events e))) }
     {
         let shared: &SharedGroup<S, R, C> = &*self.shared;
         shared.backend_generation(&self.rt)
@@ -45,7 +45,7 @@ impl<
 
     /// Whether the group is cancelled.
     pub fn is_cancelled(&self) -> bool
-        ensures { Seen (arc_value self.now.shared) (λ v. After v (λ made e. result ≡ is_cancelled (group_events e))) }
+        ensures { Seen (arc_value self.now.shared).core (λ v. After v (λ made e. result ≡ is_cancelled (group_events e))) }
     {
         let shared: &SharedGroup<S, R, C> = &*self.shared;
         shared.is_cancelled(&self.rt)
@@ -53,7 +53,7 @@ impl<
 
     /// The generation that a slot serves, or `None` where no such slot is there.
     pub fn selector_generation(&self, slot: usize) -> Option<u64>
-        ensures { SawServed (arc_value self.now.shared) slot result }
+        ensures { SawServed (arc_value self.now.shared).core slot result }
     {
         let shared: &SharedGroup<S, R, C> = &*self.shared;
         shared.selector_generation(&self.rt, slot)
@@ -61,7 +61,8 @@ impl<
 
     /// Whether each slot serves this generation or a newer one; true without slots. The slots are read one after another.
     pub fn selectors_ready_for(&self, generation: u64) -> bool
-        ensures { MatchBool result (AllServe (arc_value self.now.shared) generation) (OneLags (arc_value self.now.shared) generation) }
+        ensures { MatchBool result (AllServe (arc_value self.now.shared).core generation)
+            (OneLags (arc_value self.now.shared).core generation) }
     {
         for slot in 0..usize::MAX {
             match self.selector_generation(slot) {
@@ -86,7 +87,7 @@ impl<
 
     /// The timing of a slot's last publication: `None` where no such slot is there, and none in it before the first.
     pub fn selector_last_update_timing(&self, slot: usize) -> Option<Option<SelectorUpdateTimings>>
-        ensures { Seen (arc_value self.now.shared) (λ v. After v (λ made e. result
+        ensures { Seen (arc_value self.now.shared).core (λ v. After v (λ made e. result
             ≡ at_slot made slot (option_map selector_timings (timing_after (past_of slot (group_events e)))))) }
     {
         let shared: &SharedGroup<S, R, C> = &*self.shared;
@@ -99,7 +100,7 @@ impl<
 
     /// How many memberships came while an earlier one waited in a slot, or `None` where no such slot is there.
     pub fn selector_coalesced_rebuilds(&self, slot: usize) -> Option<u64>
-        ensures { Seen (arc_value self.now.shared) (λ v. After v
+        ensures { Seen (arc_value self.now.shared).core (λ v. After v
             (λ made e. result ≡ at_slot made slot (coalesced (past_of slot (group_events e))))) }
     {
         let shared: &SharedGroup<S, R, C> = &*self.shared;
@@ -109,7 +110,7 @@ impl<
 
     /// How many builds of a slot failed, up to 18446744073709551615, or `None` where no such slot is there.
     pub fn selector_failed_rebuilds(&self, slot: usize) -> Option<u64>
-        ensures { Seen (arc_value self.now.shared) (λ v. After v
+        ensures { Seen (arc_value self.now.shared).core (λ v. After v
             (λ made e. result ≡ at_slot made slot (failed (past_of slot (group_events e))))) }
     {
         let shared: &SharedGroup<S, R, C> = &*self.shared;

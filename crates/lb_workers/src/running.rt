@@ -30,7 +30,7 @@ const WITHOUT_NOTIFIER: u128 = 1_000_000_000;
 
 impl<
     S: BackendSelection + Send + Sync + 'static,
-    W: Threads + Wait + Copy + Send + 'static,
+    W: Log + Threads + Wait + Copy + Send + 'static,
     D: ServiceDiscovery + Drop,
     R: KeyRule + Drop + Send + Sync + 'static,
     C: HealthCheck + Drop + Send + Sync + 'static,
@@ -38,6 +38,7 @@ impl<
 where
     S::Iter: Send + Sync + 'static,
     S::Config: Send + Sync + 'static,
+    S::Walk: Send + Sync + 'static,
 {
     /// Starts a worker for each slot that has none, and answers how many couldn't be started; their slots wait for the next call. Each
     /// worker reads a copy of the clock, and ends once the group is cancelled and what its slot retired is destroyed and reported.
@@ -60,6 +61,7 @@ impl<
 where
     S::Iter: Send + Sync + 'static,
     S::Config: Send + Sync + 'static,
+    S::Walk: Send + Sync + 'static,
 {
     /// Applies the marks that wait in the registry, and then checks each of its targets once, if a check is set; beside each other where
     /// `parallel_health_check` says so.

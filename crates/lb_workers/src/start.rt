@@ -6,6 +6,7 @@ use lb_locked::workers::take_turns;
 use lb_probe::health_check::HealthCheck;
 use lb_registry::keys::KeyRule;
 use lb_select::walk::BackendSelection;
+use log::Log;
 use std::alloc::Global;
 use std::sync::{Arc, Wait};
 use std::thread;
@@ -16,12 +17,13 @@ pub fn start_workers<
     S: BackendSelection + Send + Sync + 'static,
     R: KeyRule + Drop + Send + Sync + 'static,
     C: HealthCheck + Drop + Send + Sync + 'static,
-    W: Threads + Wait + Copy + Send + 'static,
+    W: Log + Threads + Wait + Copy + Send + 'static,
     K: MomentSource + Copy + Send + 'static,
 >(rt: &W, alloc: Global, group: &Arc<SharedGroup<S, R, C>>, clock: K) -> usize
 where
     S::Iter: Send + Sync + 'static,
     S::Config: Send + Sync + 'static,
+    S::Walk: Send + Sync + 'static,
 {
     let shared: &SharedGroup<S, R, C> = &**group;
     start_workers_by(
@@ -55,12 +57,13 @@ fn starts_worker<
     S: BackendSelection + Send + Sync + 'static,
     R: KeyRule + Drop + Send + Sync + 'static,
     C: HealthCheck + Drop + Send + Sync + 'static,
-    W: Threads + Wait + Copy + Send + 'static,
+    W: Log + Threads + Wait + Copy + Send + 'static,
     K: MomentSource + Copy + Send + 'static,
 >(rt: &W, alloc: Global, group: &Arc<SharedGroup<S, R, C>>, slot: usize, clock: K) -> bool
 where
     S::Iter: Send + Sync + 'static,
     S::Config: Send + Sync + 'static,
+    S::Walk: Send + Sync + 'static,
 {
     let Ok(shared) = Arc::try_clone(group) else {
         return false;

@@ -1,6 +1,9 @@
 //! A selector in turn that is counted while it lives, and whose build can be held. It walks as a selector in turn does.
-ghost use Rattle.std.specs.Prelude.{false};
+ghost use Rattle.std.specs.Prelude.{false, ⊤};
 ghost use Rattle.std.specs.Arc.{arc_value};
+ghost use Rattle.lb_select.specs.Algorithms.{ticket_word};
+ghost use Rattle.lb_weighted.specs.Weights.{IsWeightedRest};
+ghost use Rattle.lb_weighted.specs.WeightLaws.{rest_none, rest_ends};
 ghost use Rattle.lb_kinds.specs.Kinds.{kind_walks, kind_refusal, kind_undrawn, kind_few_words};
 ghost use Rattle.lb_kinds.specs.declared.kinds.Kind.TheVariants.{RoundRobin as in_turn};
 
@@ -10,7 +13,7 @@ use lb_select::refusal::Refusal;
 use lb_select::walk::BackendSelection;
 use lb_select::words::WordSource;
 use lb_weighted::selection::RoundRobin;
-use lb_weighted::weighted::WeightedIterator;
+use lb_weighted::weighted::{WeightedIterator, WeightedWalk};
 use std::alloc::Global;
 use std::collections::BTreeSet;
 use std::marker::Model;
@@ -95,6 +98,8 @@ impl<W: Clock + Drop> BackendSelection for Counted<W> {
 
     type Config = Counting<W>;
 
+    type Walk = WeightedWalk;
+
     ghost walks = { λ ms counting. kind_walks ms in_turn };
 
     ghost members = { λ s. arc_value s.selector };
@@ -107,9 +112,17 @@ impl<W: Clock + Drop> BackendSelection for Counted<W> {
 
     ghost may_draw_random = { λ ms counting. false };
 
+    ghost fits = { λ s w. ⊤ };
+
+    ghost rest = { λ s w. IsWeightedRest ticket_word w.first (arc_value s.selector) w.word };
+
     ghost undrawn = { λ ms counting. kind_undrawn ms in_turn };
 
     ghost few_words = { λ ms counting. kind_few_words ms in_turn };
+
+    ghost rest_starts = { λ s w. rest_none ticket_word w.first (arc_value s.selector) w.word };
+
+    ghost rest_ends = { λ s w. rest_ends ticket_word w.first (arc_value s.selector) w.word };
 
     fn build(alloc: Global, backends: &BTreeSet<Backend>) -> Result<Counted<W>, Refusal> {
         Counted::build_with_config(alloc, backends, &Counting(None))
@@ -142,6 +155,18 @@ impl<W: Clock + Drop> BackendSelection for Counted<W> {
     ) -> Result<WeightedIterator<algorithms::RoundRobin>, Refusal> {
         let counted: &Counted<W> = &**of;
         RoundRobin::iter(&counted.selector, key, words)
+    }
+
+    fn start<W2: WordSource>(&self, key: &[u8], words: &mut W2) -> Result<WeightedWalk, Refusal> {
+        self.selector.start(key, words)
+    }
+
+    fn step<'s, W2: WordSource>(
+        &'s self,
+        walk: &mut WeightedWalk,
+        words: &mut W2,
+    ) -> Option<&'s Backend> {
+        self.selector.step(walk, words)
     }
 
     fn draws_random(&self) -> bool {

@@ -4,10 +4,11 @@ use lb_balance::moments::MomentSource;
 use lb_health::discovery::{DiscoverySource, Static};
 use lb_locked::gate::SelectorRebuildGate;
 use lb_locked::group::SharedGroup;
+use lb_locked::keyed::NoRule;
 use lb_locked::registry::HealthRegistry;
 use lb_probe::error::CheckError;
 use lb_probe::health_check::HealthCheck;
-use lb_registry::keys::{ByNumber, KeyRule, Rule};
+use lb_registry::keys::{KeyRule, Rule};
 use lb_select::backend::Backend;
 use lb_select::refusal::Refusal;
 use lb_select::walk::BackendSelection;
@@ -37,13 +38,13 @@ impl HealthCheck for NoCheck {
 }
 
 /// A group whose selectors are counted.
-pub type Group<W> = SharedGroup<Counted<W>, Rule<ByNumber>, NoCheck>;
+pub type Group<W> = SharedGroup<Counted<W>, Rule<NoRule>, NoCheck>;
 
 /// The handle of such a group.
-pub type Handle<W> = LoadBalancerGroup<Counted<W>, W, Static, Rule<ByNumber>, NoCheck>;
+pub type Handle<W> = LoadBalancerGroup<Counted<W>, W, Static, Rule<NoRule>, NoCheck>;
 
 /// The registry of such groups. Whoever makes a site hands it in, since a function that made one would hide its boxed rule.
-pub type Registry = HealthRegistry<Rule<ByNumber>, NoCheck>;
+pub type Registry = HealthRegistry<Rule<NoRule>, NoCheck>;
 
 /// What groups share: the counts of their selectors, a registry and a gate.
 #[derive(Drop)]
@@ -230,6 +231,7 @@ fn starts_reader<
 where
     S::Iter: Send + Sync + 'static,
     S::Config: Send + Sync + 'static,
+    S::Walk: Send + Sync + 'static,
 {
     let shared = Arc::try_clone(group).ok()?;
     let own = *rt;
@@ -240,8 +242,8 @@ where
     started.ok()
 }
 
-// What a thread answered that selected; `false` where none was started.
-fn joined<W: Threads>(rt: &W, reader: Option<JoinHandle<bool>>) -> bool {
+/// What a thread answered; `false` where none was started.
+pub fn joined<W: Threads>(rt: &W, reader: Option<JoinHandle<bool>>) -> bool {
     match reader {
         Some(reader) => reader.join(rt),
         None => false,
@@ -267,6 +269,7 @@ pub fn crowd_in<
 where
     S::Iter: Send + Sync + 'static,
     S::Config: Send + Sync + 'static,
+    S::Walk: Send + Sync + 'static,
 {
     let one = starts_reader(rt, alloc, first, selections);
     let two = starts_reader(rt, alloc, second, selections);

@@ -2,11 +2,12 @@
 use crate::counted::Counts;
 use crate::crowd::{Group, Handle, Site, ends, is_free, serves};
 use lb_locked::clock::RuntimeClock;
+use lb_locked::keyed::keyed_by_identity;
 use lb_locked::registry::HealthRegistry;
-use lb_registry::registry::RegistryCore;
 use lb_select::backend::Backend;
 use lb_select::refusal::Refusal;
 use lb_workers::start::start_workers_by;
+use log::Log;
 use std::alloc::Global;
 use std::sync::atomic::AtomicU64;
 use std::sync::atomic::Ordering::SeqCst;
@@ -21,7 +22,7 @@ const TURNS: u64 = 1000;
 
 // Updates a group and lets go of its handle, with workers that serve the update or without any: whether it was cancelled then, and its
 // workers ended.
-fn is_cancelled_by_drop<W: Threads + Wait + Clock + Copy + Send + Sync + Drop + 'static>(
+fn is_cancelled_by_drop<W: Log + Threads + Wait + Clock + Copy + Send + Sync + Drop + 'static>(
     rt: &W,
     alloc: Global,
     site: &Site<W>,
@@ -45,7 +46,7 @@ fn is_cancelled_by_drop<W: Threads + Wait + Clock + Copy + Send + Sync + Drop + 
 #[test]
 fn a_dropped_handle_cancels_its_group(rt: HostRuntime) -> Result<(), Fail> {
     let alloc = rt.alloc();
-    let registry = Arc::new(alloc, HealthRegistry::new(RegistryCore::new(alloc)))?;
+    let registry = Arc::new(alloc, HealthRegistry::new(alloc, keyed_by_identity(alloc))?)?;
     let site = Site::new(rt, alloc, &registry)?;
     assert!(rt; is_cancelled_by_drop(&rt, alloc, &site, true)?);
     assert!(rt; is_cancelled_by_drop(&rt, alloc, &site, false)?);
@@ -69,7 +70,7 @@ fn lives_none<W: Clock>(counts: &Counts<W>) -> bool {
 #[test]
 fn a_fresh_handle(rt: HostRuntime) -> Result<(), Fail> {
     let alloc = rt.alloc();
-    let registry = Arc::new(alloc, HealthRegistry::new(RegistryCore::new(alloc)))?;
+    let registry = Arc::new(alloc, HealthRegistry::new(alloc, keyed_by_identity(alloc))?)?;
     let site = Site::new(rt, alloc, &registry)?;
     let group = site.group(rt, alloc)?;
     let fresh = [
@@ -98,7 +99,7 @@ fn becomes_ready<W: Wait + Clock + Copy + Drop>(rt: &W, group: &Handle<W>) -> bo
 }
 
 // What a handle answers once its workers served an update: what it selects from each slot and from one that isn't there, and its timings.
-fn served<W: Threads + Wait + Clock + Copy + Send + Sync + Drop + 'static>(
+fn served<W: Log + Threads + Wait + Clock + Copy + Send + Sync + Drop + 'static>(
     rt: &W,
     alloc: Global,
     group: &Handle<W>,
@@ -126,15 +127,52 @@ fn served<W: Threads + Wait + Clock + Copy + Send + Sync + Drop + 'static>(
 #[test]
 fn a_handle_serves_what_it_found(rt: HostRuntime) -> Result<(), Fail> {
     let alloc = rt.alloc();
-    let registry = Arc::new(alloc, HealthRegistry::new(RegistryCore::new(alloc)))?;
+    let registry = Arc::new(alloc, HealthRegistry::new(alloc, keyed_by_identity(alloc))?)?;
     let site = Site::new(rt, alloc, &registry)?;
     let group = site.group(rt, alloc)?;
     assert_eq!(rt; served(&rt, alloc, &group)?, [true; 8]);
     Ok(())
 }
 
+// What the lent backends of a handle tell before its first update, after it, and once a flag is set.
+fn lent<W: Wait + Clock + Copy + Drop>(
+    rt: &W,
+    alloc: Global,
+    group: &Handle<W>,
+) -> Result<[bool; 7], Refusal> {
+    let backends = group.backends();
+    let one = Backend::new(alloc, "1.0.0.1:80")?;
+    let other = Backend::new(alloc, "1.0.0.2:80")?;
+    let before = backends.generation();
+    let was_ready = backends.ready(&one);
+    group.update(alloc, &mut RuntimeClock::new(*rt))?;
+    let members = backends.get_backend()?;
+    let is_ready = backends.ready(&one);
+    backends.set_enable(&one, false);
+    Ok([
+        before == 0 && !was_ready,
+        backends.generation() == 1,
+        members.len() == 1 && members.contains(&one),
+        is_ready,
+        !backends.ready(&one),
+        !backends.ready(&other),
+        group.select(alloc, 0, b"k", 4)?.is_none(),
+    ])
+}
+
+// The backends of a handle are read and marked without its workers.
+#[test]
+fn a_handle_lends_its_backends(rt: HostRuntime) -> Result<(), Fail> {
+    let alloc = rt.alloc();
+    let registry = Arc::new(alloc, HealthRegistry::new(alloc, keyed_by_identity(alloc))?)?;
+    let site = Site::new(rt, alloc, &registry)?;
+    let group = site.group(rt, alloc)?;
+    assert_eq!(rt; lent(&rt, alloc, &group)?, [true; 7]);
+    Ok(())
+}
+
 // Starts the workers of a group, but not the first one that is asked for, and then again: how many couldn't be started.
-fn starts_but_one<W: Threads + Wait + Clock + Copy + Send + Sync + Drop + 'static>(
+fn starts_but_one<W: Log + Threads + Wait + Clock + Copy + Send + Sync + Drop + 'static>(
     rt: &W,
     alloc: Global,
     group: &Handle<W>,
@@ -152,7 +190,7 @@ fn starts_but_one<W: Threads + Wait + Clock + Copy + Send + Sync + Drop + 'stati
 #[test]
 fn a_worker_that_cannot_be_started(rt: HostRuntime) -> Result<(), Fail> {
     let alloc = rt.alloc();
-    let registry = Arc::new(alloc, HealthRegistry::new(RegistryCore::new(alloc)))?;
+    let registry = Arc::new(alloc, HealthRegistry::new(alloc, keyed_by_identity(alloc))?)?;
     let site = Site::new(rt, alloc, &registry)?;
     let group = site.group(rt, alloc)?;
     group.update(alloc, &mut RuntimeClock::new(rt))?;

@@ -7,6 +7,10 @@ pub mod crowd;
 #[cfg(test)]
 mod handles;
 #[cfg(test)]
+mod passes;
+#[cfg(test)]
+mod reading;
+#[cfg(test)]
 mod runs;
 #[cfg(test)]
 mod workers;

@@ -6,11 +6,11 @@ use crate::crowd::{Site, serves};
 use lb_health::discovery::{Discovered, DiscoverySource, ServiceDiscovery};
 use lb_health::view::Settings;
 use lb_locked::clock::RuntimeClock;
+use lb_locked::keyed::{NoRule, keyed_by_identity};
 use lb_locked::registry::HealthRegistry;
 use lb_probe::error::CheckError;
 use lb_probe::health_check::HealthCheck;
-use lb_registry::keys::{ByNumber, Rule};
-use lb_registry::registry::RegistryCore;
+use lb_registry::keys::Rule;
 use lb_select::backend::Backend;
 use lb_select::refusal::Refusal;
 use lb_service::ready::ready_pair;
@@ -74,9 +74,9 @@ impl<W: Clock> HealthCheck for Slow<W> {
     }
 }
 
-type Parts<W> = GroupParts<Slow<W>, Rule<ByNumber>, Slow<W>>;
+type Parts<W> = GroupParts<Slow<W>, Rule<NoRule>, Slow<W>>;
 
-type Group<W> = LoadBalancerGroup<RoundRobin, W, Slow<W>, Rule<ByNumber>, Slow<W>>;
+type Group<W> = LoadBalancerGroup<RoundRobin, W, Slow<W>, Rule<NoRule>, Slow<W>>;
 
 // A group of one slot with a registry of its own, which is answered beside it; its calls are counted in two counts.
 fn group_of<W: Wait + Clock + Copy + Drop>(
@@ -84,7 +84,7 @@ fn group_of<W: Wait + Clock + Copy + Drop>(
     alloc: Global,
     updates: Slow<W>,
     checks: Slow<W>,
-) -> Result<(Group<W>, Arc<HealthRegistry<Rule<ByNumber>, Slow<W>>>), Refusal> {
+) -> Result<(Group<W>, Arc<HealthRegistry<Rule<NoRule>, Slow<W>>>), Refusal> {
     let parts: Parts<W> = GroupParts::new(alloc, DiscoverySource::Boxed(updates))?;
     let registry = Arc::try_clone(&parts.registry)?;
     registry.set_health_check(&rt, checks)?;
@@ -183,7 +183,7 @@ fn a_build_is_let_end(rt: HostRuntime) -> Result<(), Fail> {
     let alloc = rt.alloc();
     let (mut signal, watch) = shutdown_pair(alloc)?;
     let (notifier, ready) = ready_pair(alloc)?;
-    let registry = Arc::new(alloc, HealthRegistry::new(RegistryCore::new(alloc)))?;
+    let registry = Arc::new(alloc, HealthRegistry::new(alloc, keyed_by_identity(alloc))?)?;
     let site = Site::new(rt, alloc, &registry)?;
     let group = site.group(rt, alloc)?;
     let counts: &Counts<HostRuntime> = &*site.counts;

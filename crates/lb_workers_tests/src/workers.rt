@@ -4,9 +4,10 @@
 use crate::counted::Counts;
 use crate::crowd::{Crowd, crowd_in, ends, is_free, select_one, serves};
 use lb_locked::clock::RuntimeClock;
+use lb_locked::keyed::keyed_by_identity;
 use lb_locked::registry::HealthRegistry;
-use lb_registry::registry::RegistryCore;
 use lb_select::refusal::Refusal;
+use log::Log;
 use std::alloc::Global;
 use std::sync::atomic::Ordering::SeqCst;
 use std::sync::{Arc, Wait};
@@ -19,7 +20,7 @@ use std::time::{Clock, Duration};
 const TURNS: u64 = 1000;
 
 // Starts the workers of both groups; how many couldn't be started, and then again.
-fn start<W: Threads + Wait + Clock + Copy + Send + Sync + Drop + 'static>(
+fn start<W: Log + Threads + Wait + Clock + Copy + Send + Sync + Drop + 'static>(
     rt: &W,
     alloc: Global,
     crowd: &Crowd<W>,
@@ -46,7 +47,7 @@ fn begins<W: Clock>(counts: &Counts<W>, builds: u64) -> bool {
 
 // Four workers build what updates bring while three threads select, and then both groups are cancelled: whether no call was refused, each
 // slot came to serve the newest, and the workers ended.
-fn is_served_in_a_crowd<W: Threads + Wait + Clock + Copy + Send + Sync + Drop + 'static>(
+fn is_served_in_a_crowd<W: Log + Threads + Wait + Clock + Copy + Send + Sync + Drop + 'static>(
     rt: &W,
     alloc: Global,
     crowd: &Crowd<W>,
@@ -70,7 +71,7 @@ fn is_served_in_a_crowd<W: Threads + Wait + Clock + Copy + Send + Sync + Drop + 
 #[test]
 fn never_more_than_the_slots_and_one(rt: HostRuntime) -> Result<(), Fail> {
     let alloc = rt.alloc();
-    let registry = Arc::new(alloc, HealthRegistry::new(RegistryCore::new(alloc)))?;
+    let registry = Arc::new(alloc, HealthRegistry::new(alloc, keyed_by_identity(alloc))?)?;
     let crowd = Crowd::new(rt, alloc, &registry, false)?;
     assert_eq!(rt; start(&rt, alloc, &crowd), [0, 0, 0, 0]);
     assert!(rt; is_served_in_a_crowd(&rt, alloc, &crowd));
@@ -80,7 +81,7 @@ fn never_more_than_the_slots_and_one(rt: HostRuntime) -> Result<(), Fail> {
 }
 
 // Updates the first group, whose build is held, and selects beside it; once it goes on, selects what it built, and lets both groups go.
-fn selects_beside_a_build<W: Threads + Wait + Clock + Copy + Send + Sync + Drop + 'static>(
+fn selects_beside_a_build<W: Log + Threads + Wait + Clock + Copy + Send + Sync + Drop + 'static>(
     rt: &W,
     alloc: Global,
     crowd: &Crowd<W>,
@@ -109,7 +110,7 @@ fn selects_beside_a_build<W: Threads + Wait + Clock + Copy + Send + Sync + Drop 
 #[test]
 fn selections_beside_a_build(rt: HostRuntime) -> Result<(), Fail> {
     let alloc = rt.alloc();
-    let registry = Arc::new(alloc, HealthRegistry::new(RegistryCore::new(alloc)))?;
+    let registry = Arc::new(alloc, HealthRegistry::new(alloc, keyed_by_identity(alloc))?)?;
     let crowd = Crowd::new(rt, alloc, &registry, true)?;
     assert_eq!(rt; start(&rt, alloc, &crowd), [0, 0, 0, 0]);
     assert_eq!(rt; selects_beside_a_build(&rt, alloc, &crowd)?, [true; 7]);
@@ -118,7 +119,7 @@ fn selections_beside_a_build(rt: HostRuntime) -> Result<(), Fail> {
 }
 
 // Cancels both groups while a build of the first is held, and then lets it go on.
-fn cancels_a_build<W: Threads + Wait + Clock + Copy + Send + Sync + Drop + 'static>(
+fn cancels_a_build<W: Log + Threads + Wait + Clock + Copy + Send + Sync + Drop + 'static>(
     rt: &W,
     alloc: Global,
     crowd: &Crowd<W>,
@@ -148,7 +149,7 @@ fn cancels_a_build<W: Threads + Wait + Clock + Copy + Send + Sync + Drop + 'stat
 #[test]
 fn cancelled_in_the_middle_of_a_build(rt: HostRuntime) -> Result<(), Fail> {
     let alloc = rt.alloc();
-    let registry = Arc::new(alloc, HealthRegistry::new(RegistryCore::new(alloc)))?;
+    let registry = Arc::new(alloc, HealthRegistry::new(alloc, keyed_by_identity(alloc))?)?;
     let crowd = Crowd::new(rt, alloc, &registry, true)?;
     assert_eq!(rt; start(&rt, alloc, &crowd), [0, 0, 0, 0]);
     assert_eq!(rt; cancels_a_build(&rt, alloc, &crowd)?, [true; 7]);

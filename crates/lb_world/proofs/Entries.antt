@@ -14,7 +14,7 @@ use Rattle.lb_history.proofs.Placing.{here, same-either}
 use Rattle.lb_history.proofs.Runs.{aloft}
 use Rattle.lb_history.proofs.Together.{joins-alike}
 use Rattle.lb_history.specs.Answers.{flight_of, asked, built_or_failed, destroy_refusal, of_built, of_job}
-use Rattle.lb_history.specs.History.{gate_of, is_held}
+use Rattle.lb_history.specs.History.{drew, gate_of, is_grant, is_held}
 use Rattle.lb_history.specs.Shared.{registry_in, registry_made, extra_at}
 use Rattle.lb_world.specs.Calls.{IsUngranted, told_as}
 use Rattle.lb_world.specs.Stands.{AreHeld}
@@ -41,7 +41,7 @@ use Rattle.lb_world.proofs.Words.{unless_refused, view_events, views_of, with_co
 use Rattle.lb_world.proofs.Words.{WorldRule, ℕ, get_set, set-same, there}
 
 -- an event that is no grant leaves the last job
-abbrev pub no_grant : group.GroupEvent → Bool
+abbrev no_grant : group.GroupEvent → Bool
 no_grant (At i (group.Granted now)) = false
 no_grant e = true
 
@@ -51,6 +51,19 @@ last p = (granted p, granted_members p)
 one-kept : (e : group.GroupEvent) (p : group.History) → no_grant e ≡ true → last (e ∷ p) ≡ last p
 one-kept (At i (group.Granted now)) p free = absurd (cc)
 one-kept e p free = refl
+
+no-draws : {C : Type 0} (o : Option C) (s t : ℕ) → list_all no_grant (drew o s t) ≡ true
+no-draws None s t = refl
+no-draws (Some c) s t = refl
+
+no-grants : {C : Type 0} (h : History C) (k : group.History) (st : Step C) (a : Answer) → is_grant st a ≡ false
+    → list_all no_grant (happened h k st a) ≡ true
+no-grants h k (Step.ask g s now) (Answer.Build n) free = absurd (cc)
+no-grants h k (Step.select g s key limit words) (Answer.Backend b t) free = no-draws (config g s h) s t
+no-grants h k (Step.select g s key limit words) (Answer.NoBackend t) free = no-draws (config g s h) s t
+no-grants h k (Step.select g s key limit words) (Answer.NotSelected t) free = no-draws (config g s h) s t
+no-grants h k st (Answer.Refused r) free = refl
+no-grants h k st a free = refl
 
 jobs-kept : (s : ℕ) (es k : group.History) → list_all no_grant es ≡ true → last (past_of s (es ++ k)) ≡ last (past_of s k)
 jobs-kept s [] k free = refl
@@ -203,7 +216,7 @@ module _ {C : Type 0} {M : Meaning C} {h : History C} {g : ℕ} {e : EntryValue 
   -- one that moves the core, and none of the works
   pub next-core : {st : Step C} {a : Answer} {core : JoinedValue C} {y : GateView} {u : RegistryValue WorldRule} → group_at h st ≡ Some g
       → Answers M h st a → Moves e (joined_after h (group_events g h) (joined_events g h) st a) core
-      → list_all no_grant (happened h (group_events g h) st a) ≡ true → ((x : Work) → worked st a x ≡ x)
+      → is_grant st a ≡ false → ((x : Work) → worked st a x ≡ x)
       → ((m : Member) → load_of g m ((st, a) ∷ h) ≡ load_of g m h) → y ≡ gate z.id (permit_after st a z.out)
       → IsRegistryAfter key_gives (key_of g h) (registry_events e.registry ((st, a) ∷ h)) u
       → EntryNext M h g st a e z (with_core core e) y u
@@ -212,7 +225,7 @@ module _ {C : Type 0} {M : Meaning C} {h : History C} {g : ℕ} {e : EntryValue 
       (λ s c k cs ks.
       b.is.works_are s c k cs ks
       ∙ held-by (origin e.core) s c (past g s h) (past_of s (happened h (group_events g h) st a ++ group_events g h)) (work g s h)
-      (sym (jobs-kept s (happened h (group_events g h) st a) (group_events g h) free))
+      (sym (jobs-kept s (happened h (group_events g h) st a) (group_events g h) (no-grants h (group_events g h) st a free)))
       ∙ ap2 (held_of (origin e.core) s c) (ap (past_of s) (sym (events-here h st a g at)))
       (sym (ap (λ x. cond (works_at g s st) x (work g s h)) (stay (work g s h)) ∙ same-either (works_at g s st) (work g s h))))
       (λ m. b.is.loads_are m ∙ sym (loads m)) out kept
@@ -399,7 +412,7 @@ module _ {C : Type 0} {M : Meaning C} {h : History C} {g : ℕ} {e : EntryValue 
       inl (rw (b.is.made_is, (there-at (configs_of e.core.group) s within).1)
       (ap (asked (group.newest (group_events g h))) (rw (group-of g h, b.out) at to)))
 
-  pub next-asked : {S I : Type 0} {s now : ℕ} (a : Ask S I C) (t : AskAnswer) {x : Answer} {core : JoinedValue C} {y : GateView}
+  pub next-asked : {S I W : Type 0} {s now : ℕ} (a : Ask S I C W) (t : AskAnswer) {x : Answer} {core : JoinedValue C} {y : GateView}
       → ask_told a ≡ t → IsUngranted t x → Asks (site e.core) (joined.group_events (joined_events g h)) s z.out now (Ok a)
       → Moves e (joined.in_group (asked_events s now (ask_told a)) ++ joined_events g h) core → y ≡ asked_gate (ask_told a) z
       → EntryNext M h g (Step.ask g s now) x e z (with_core core e) y v
@@ -414,7 +427,7 @@ module _ {C : Type 0} {M : Meaning C} {h : History C} {g : ℕ} {e : EntryValue 
   next-unasked {s = s} r no_such past moves =
       next-refused b refl (inl (rw (b.is.made_is, slice_get_past (configs_of e.core.group) s past) (ap Answer.Refused no_such))) moves
 
-  pub does-grant : {S I : Type 0} {s now : ℕ} (a : Ask S I C) (j : Task C) {core : JoinedValue C} {old : WorkValue C} {y : GateView}
+  pub does-grant : {S I W : Type 0} {s now : ℕ} (a : Ask S I C W) (j : Task C) {core : JoinedValue C} {old : WorkValue C} {y : GateView}
       → ask_told a ≡ job → Asks (site e.core) (joined.group_events (joined_events g h)) s z.out now (Ok a)
       → IsJob (site e.core) (joined.group_events (joined_events g h)) s j
       → Moves e (joined.in_group (asked_events s now (ask_told a)) ++ joined_events g h) core

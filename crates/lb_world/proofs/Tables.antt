@@ -2,13 +2,14 @@
 -- of readers. A world stands for each run that tells the same as its history.
 use Rattle.lb_group.specs.GroupCalls.{Enters, enter_refusal}
 use Rattle.lb_group.specs.Values.{ReaderValue}
-use Rattle.lb_history.proofs.Absent.{config-made, found as found-of}
-use Rattle.lb_history.proofs.Counting.{one-extra}
+use Rattle.lb_history.proofs.Absent.{config-made}
+use Rattle.lb_history.proofs.Causes.{number-left}
+use Rattle.lb_history.proofs.Makings.{entered-there, gate-unmade, get_last, still-there}
 use Rattle.lb_history.proofs.Refusing.{alike-sym}
 use Rattle.lb_history.proofs.Runs.{reading}
 use Rattle.lb_history.proofs.Unrefused.{run-unrefused, told-unrefused}
 use Rattle.lb_history.specs.Answers.{enter_answer, leave_answer}
-use Rattle.lb_history.specs.History.{gate_in, gate_at, Entered, group_in}
+use Rattle.lb_history.specs.History.{Made, gate_in, group_in}
 use Rattle.lb_history.specs.Refused.{TellsAlike}
 use Rattle.lb_history.specs.Shared.{started}
 use Rattle.lb_history.specs.declared.step.CellKey.{CellKey}
@@ -19,7 +20,6 @@ use Rattle.lb_registry.specs.declared.targets.Target.{Target}
 use Rattle.lb_world.specs.Calls.{IsCounted}
 use Rattle.lb_world.specs.Stands.{OnSite}
 use Rattle.std.proofs.Common.{◌≢◌, get_or}
-use Rattle.std.proofs.lemmas.Bool.{lt-leb}
 use Rattle.std.proofs.lemmas.Grind.{common_steps}
 use Rattle.std.proofs.lemmas.List.{map-set}
 use Rattle.std.proofs.lemmas.Option.{slice_get-map}
@@ -28,17 +28,17 @@ use Rattle.lb_joined.specs.JoinedHistory as joined
 use Rattle.lb_group.specs.GroupHistory as group
 use Rattle.lb_world.proofs.Words.{◌∙◌, ◌≡◌, ◌&&◌, ◌∷◌, ◌<◌, ◌==◌, ◌≤◌, [], ◌+◌, ◌↔◌, ◌^◌, ◌⊎◌, ◌++◌, after, Answer, answer_after, Answers}
 use Rattle.lb_world.proofs.Words.{ap, ap2, Applied, arith, at_one, at_slot, Before, Bool, cases_eq, cells_given, cond, cond_some, config}
-use Rattle.lb_world.proofs.Words.{config_in, configs_of, entered_of, entries, EntryIs, EntryNext, EntryValue, eq-eqb, Err, Event, false}
+use Rattle.lb_world.proofs.Words.{configs_of, entered_of, entries, EntryIs, EntryNext, EntryValue, eq-eqb, Err, Event, false}
 use Rattle.lb_world.proofs.Words.{gates, GateView, get-kept, get-pushed, group-of, group_at, group_events, held_of, HeldValue, History, inl}
 use Rattle.lb_world.proofs.Words.{inr, is_at, is_out, IsOwnReader, IsReady, IsRegistryAfter, IsRun, IsTrue, joined_events, Judges, key_at}
 use Rattle.lb_world.proofs.Words.{key_by, key_gives, key_in, key_of, length, length-map, length-set, length_push, List, load_of, lt-ltb}
-use Rattle.lb_world.proofs.Words.{made, Made, made_at, made_of, map, map-append, marks_start_none, Meaning, Member, nat_lt, ne_eqb}
-use Rattle.lb_world.proofs.Words.{no_number, None, none-some, not, Ok, Option, option_map, origin, others-stay, past, past_of, permit_after}
+use Rattle.lb_world.proofs.Words.{made, made_at, made_of, map, map-append, marks_start_none, Meaning, Member, nat_lt, ne_eqb}
+use Rattle.lb_world.proofs.Words.{None, none-some, not, Ok, Option, option_map, origin, others-stay, past, past_of, permit_after}
 use Rattle.lb_world.proofs.Words.{refl, Refusal, refused-alike, registries, registry_at, registry_events, RegistryMade, RegistryValue}
 use Rattle.lb_world.proofs.Words.{Result, same_member, same_Some, served, set_found, site, slice_get, slice_get_past, slice_get_within}
-use Rattle.lb_world.proofs.Words.{slice_set, Some, Stands, Step, subst, sym, there-at, true, unrefused, views_of, where_, with_core}
-use Rattle.lb_world.proofs.Words.{without_memory, work, worked, works_at, WorldRule, WorldValue, ℕ, at-place, each-push, each-set, get_last}
-use Rattle.lb_world.proofs.Words.{get_other, get_set, set-same, still-there, there}
+use Rattle.lb_world.proofs.Words.{slice_set, Some, Stands, Step, subst, sym, there-at, true, unrefused, views_of, with_core}
+use Rattle.lb_world.proofs.Words.{without_memory, work, worked, works_at, WorldRule, WorldValue, ℕ, at-place, each-push, each-set}
+use Rattle.lb_world.proofs.Words.{get_other, get_set, set-same, there}
 use Rattle.lb_world.proofs.Entries.{at-group, gate-here, key-here, next, registry-here, taken, config-here, Moves, next-core, next-refused}
 use Rattle.lb_world.proofs.Entries.{reading-told, unshared, views-are}
 
@@ -85,7 +85,66 @@ module _ {C : Type 0} where
       (λ b. loads-else h st a g i b at off) is
 
 module _ {C : Type 0} {M : Meaning C} {w : WorldValue C} {h : History C} (s : Stands M w h) where
-  -- the registries are others, after a history that tells the same of all else
+  pub entered-in : (t : ℕ) (x : Option (HeldValue C)) → slice_get w.readers t ≡ Some x
+      → slice_get (entries h) t ≡ Some (option_map entered_of x)
+  entered-in t x there_ = ap (λ es. slice_get es t) (sym s.readers_are) ∙ slice_get-map (option_map entered_of) w.readers t
+      ∙ ap (option_map (option_map entered_of)) there_
+
+  -- the group of a reader is there
+  pub group-there : (t : ℕ) (r : HeldValue C) → slice_get w.readers t ≡ Some (Some r) → r.group < length w.groups
+  group-there t r there_ =
+      let c = entered-there M h s.run t (entered_of r) (entered-in t (Some r) there_) in
+      let m = config-made r.reader.slot (made_at r.group h) c.0 c.1 in
+      omega (arith, slice_get_within (made h) r.group m.0 m.1, s.groups_are)
+
+  -- The tables of registries, gates and groups are others, after a history that tells the same of what was there: the gates and the groups
+  -- that were there are there still, and a group that is new is what the history tells.
+  pub tables-set : (k : History C) (vs : List (RegistryValue WorldRule)) (zs : List GateView) (gs : List (EntryValue C)) → IsRun M k
+      → length vs ≡ length (registries k) → length w.registries ≤ length vs → length zs ≡ gates k → length gs ≡ length (made k)
+      → entries k ≡ entries h
+      → ((r : ℕ) (v : RegistryValue WorldRule) → slice_get vs r ≡ Some v → IsRegistryAfter key_gives (key_at r k) (registry_events r k) v)
+      → ((x : ℕ) (z : GateView) → slice_get zs x ≡ Some z → z.out ≡ is_out x k)
+      → ((x : ℕ) (z : GateView) → slice_get w.gates x ≡ Some z → slice_get zs x ≡ Some z)
+      → ((g : ℕ) (m : Made C) → made_at g h ≡ Some m → made_at g k ≡ Some m)
+      → ((g : ℕ) → joined_events g k ≡ joined_events g h) → ((g : ℕ) → group_events g k ≡ group_events g h)
+      → ((g i : ℕ) → work g i k ≡ work g i h) → ((g : ℕ) (b : Member) → load_of g b k ≡ load_of g b h)
+      → ((g : ℕ) (e : EntryValue C) → slice_get gs g ≡ Some e → (slice_get w.groups g ≡ Some e)
+      ⊎ ((length w.groups ≤ g) × EntryIs k g e × OnSite (record w { registries = vs; gates = zs; groups = gs }) e))
+      → Stands M (record w { registries = vs; gates = zs; groups = gs }) k
+  tables-set k vs zs gs run rs more zs_are gs_are es kept outs stay made_stay joins groups works loads there =
+      record {
+        run = run;
+        registries_are = rs;
+        gates_are = zs_are;
+        groups_are = gs_are;
+        readers_are = s.readers_are ∙ sym es;
+        kept = kept;
+        outs = outs;
+        each = λ g e in_.
+            elim (there g e in_) [
+              | inl was ↦ let is = s.each g e was in entry-moves (made_stay g _ is.made_is) (joins g) (groups g) (works g) (loads g) is
+              | inr new ↦ new.1
+            ];
+        on_site = λ g e in_.
+            elim (there g e in_) [
+              | inl was ↦
+                  let on = s.on_site g e was in
+                  record {
+                    view = on.view;
+                    gate = stay e.gate on.view on.gate;
+                    id = on.id;
+                    registry = omega (arith, more, on.registry);
+                  }
+              | inr new ↦ new.2
+            ];
+        own = λ t r held e in_.
+            elim (there r.group e in_) [
+              | inl was ↦ s.own t r held e was
+              | inr new ↦ absurd (omega (arith, new.0, group-there t r held))
+            ];
+      }
+
+  -- the registries alone are others
   registries-set : (k : History C) (vs : List (RegistryValue WorldRule)) → IsRun M k → length vs ≡ length (registries k)
       → length w.registries ≤ length vs → gates k ≡ gates h → made k ≡ made h → entries k ≡ entries h
       → ((r : ℕ) (v : RegistryValue WorldRule) → slice_get vs r ≡ Some v → IsRegistryAfter key_gives (key_at r k) (registry_events r k) v)
@@ -93,22 +152,9 @@ module _ {C : Type 0} {M : Meaning C} {w : WorldValue C} {h : History C} (s : St
       → ((g i : ℕ) → work g i k ≡ work g i h) → ((g : ℕ) (b : Member) → load_of g b k ≡ load_of g b h)
       → ((x : ℕ) → is_out x k ≡ is_out x h) → Stands M (record w { registries = vs }) k
   registries-set k vs run rs more zs ms es kept joins groups works loads outs =
-      record {
-        run = run;
-        registries_are = rs;
-        gates_are = s.gates_are ∙ sym zs;
-        groups_are = s.groups_are ∙ ap length (sym ms);
-        readers_are = s.readers_are ∙ sym es;
-        kept = kept;
-        outs = λ x z in_. s.outs x z in_ ∙ sym (outs x);
-        each = λ g e in_.
-            let is = s.each g e in_ in
-            entry-moves (ap (λ xs. slice_get xs g) ms ∙ is.made_is) (joins g) (groups g) (works g) (loads g) is;
-        on_site = λ g e in_.
-            let on = s.on_site g e in_ in
-            record { view = on.view; gate = on.gate; id = on.id; registry = omega (arith, more, on.registry) };
-        own = s.own;
-      }
+      tables-set k vs w.gates w.groups run rs more (s.gates_are ∙ sym zs) (s.groups_are ∙ ap length (sym ms)) es kept
+      (λ x z in_. s.outs x z in_ ∙ sym (outs x)) (λ x z in_. in_) (λ g m at. ap (λ xs. slice_get xs g) ms ∙ at) joins groups works loads
+      (λ g e in_. inl in_)
 
   pub stands-alike : (k : History C) → TellsAlike h k → IsRun M k → Stands M w k
   stands-alike k e run =
@@ -137,6 +183,10 @@ empty M =
       on_site = λ g e at. absurd (none-some e at);
       own = λ t r at e in_. absurd (none-some _ at);
     }
+
+-- what a registry's calls tell, after each history that it may have
+abbrev pub Tells : RegistryValue WorldRule → ((Member → Member) → List Event → Type 0) → Type 0
+Tells u P = (key_of : Member → Member) (events : List Event) → IsRegistryAfter key_gives key_of events u → P key_of events
 
 module _ {C : Type 0} {M : Meaning C} {w : WorldValue C} {h : History C} (s : Stands M w h) where
   -- a right refusal, of a world that stays as it is
@@ -279,7 +329,7 @@ module _ {C : Type 0} {M : Meaning C} {w : WorldValue C} {h : History C} (s : St
       joins groups works loads outs
 
   -- and one that was lent stands for the same history
-  pub registry-lent : (r : ℕ) (u v : RegistryValue WorldRule) → slice_get w.registries r ≡ Some u
+  registry-lent : (r : ℕ) (u v : RegistryValue WorldRule) → slice_get w.registries r ≡ Some u
       → IsRegistryAfter key_gives (key_at r h) (registry_events r h) v → Stands M (record w { registries = slice_set w.registries r v }) h
   registry-lent r u v there now =
       registry-set h r u v s.run refl refl refl refl (λ i off. refl) (λ g. refl) (λ g. refl) (λ g i. refl) (λ g b. refl) (λ x. refl) there
@@ -293,14 +343,6 @@ flip-told false true false p = p.1 (λ e. absurd (cc))
 flip-told false false true p = p.1 (λ e. absurd (cc))
 flip-told b new old p = refl
 
--- what a registry's calls tell, after each history that it may have
-abbrev pub Tells : RegistryValue WorldRule → ((Member → Member) → List Event → Type 0) → Type 0
-Tells u P = (key_of : Member → Member) (events : List Event) → IsRegistryAfter key_gives key_of events u → P key_of events
-
--- a number is left
-pub number-left : (n : ℕ) → n < 2 ^ 64 → no_number n ≡ None
-number-left n few = ap (λ b. where_ b Refusal.NumbersExhausted) (lt-leb (2 ^ 64) n few)
-
 -- what a refused call says, of the refusal itself
 pub refused-so : {A : Type 0} {e f : Refusal} → (let r : Result A Refusal = Err e in r ≡ Err f) → e ≡ f
 refused-so is = cc
@@ -313,14 +355,14 @@ pub marks-fit : (key_of : Member → Member) (events : List Event) (u : Registry
     → cells_given key_of (Applied ∷ events) < 2 ^ 64
 marks-fit key_of events u now = omega (arith, marks_start_none key_of events now.state.sets, now.state.fits)
 
-slot-on : {C : Type 0} (s x : ℕ) (o : Option (Made C)) → gate_at s o ≡ Some x → (m : Made C) × ((o ≡ Some m) × (m.gate ≡ x))
-slot-on s x None e = absurd (none-some x e)
-slot-on {C} s x (Some m) e = (m, (refl, on (slice_get m.configs s) e)) where
-  on : (c : Option C) → option_map (λ c. m.gate) c ≡ Some x → m.gate ≡ x
-  on None e = absurd (none-some x e)
-  on (Some c) e = same_Some m.gate x e
-
 module _ {C : Type 0} {M : Meaning C} {w : WorldValue C} {h : History C} (s : Stands M w h) where
+  -- a right refusal, of a world whose registry was lent
+  pub lent-refused : {st : Step C} {f : Refusal} (r : ℕ) {u v : RegistryValue WorldRule} → slice_get w.registries r ≡ Some u
+      → Answers M h st (Answer.Refused f) → Tells u (λ k es. IsRegistryAfter key_gives k es v)
+      → Stands M (record w { registries = slice_set w.registries r v }) ((st, Answer.Refused f) ∷ h)
+  lent-refused {st} {f} r {u} {v} there right after =
+      let refused = world-refused s {st = st} {r = f} right in registry-lent refused r u v there (after _ _ (refused.kept r u there))
+
   -- what a registry was made with
   made-there : (r : ℕ) (u : RegistryValue WorldRule) → slice_get w.registries r ≡ Some u → (m : RegistryMade)
       × (slice_get (registries h) r ≡ Some m)
@@ -347,8 +389,7 @@ module _ {C : Type 0} {M : Meaning C} {w : WorldValue C} {h : History C} (s : St
       → Stands M (record w { registries = slice_set w.registries r v }) ((Step.verdict r c ok threshold, Answer.Refused Refusal.NoSuch) ∷ h)
   verdict-refused r c threshold ok u v there same off =
       let m = (made-there r u there).1 in
-      let after = world-refused s {st = Step.verdict r c ok threshold} (rw m (inr (rw m at (off _ _ (s.kept r u there)), refl))) in
-      registry-lent after r u v there (rw same (after.kept r u there))
+      lent-refused r there (rw m (inr (rw m at (off _ _ (s.kept r u there)), refl))) (λ k es now. rw same now)
 
   -- marks that are applied start no cell, so a number is left
   targets-told : (r : ℕ) (u : RegistryValue WorldRule) → slice_get w.registries r ≡ Some u
@@ -376,10 +417,7 @@ module _ {C : Type 0} {M : Meaning C} {w : WorldValue C} {h : History C} (s : St
       let now = s.kept r u there in
       let memory : e ≡ Refusal.OutOfMemory =
       elim cause [ inl is ↦ is | inr is ↦ absurd (omega (arith, many _ _ now is, marks-fit _ _ u now)) ] in
-      let refused =
-      world-refused s {st = Step.targets r} {r = e}
-      (inr (ap Answer.Refused memory ∙ sym (ap (without_memory {C = C} (Step.targets r)) (targets-told r u there)))) in
-      registry-lent refused r u v there (after _ _ (refused.kept r u there))
+      lent-refused r there (rw memory (inr (sym (ap (without_memory {C = C} (Step.targets r)) (targets-told r u there))))) after
 
   pub registry-made : (rule : CellKey) (healthy : Bool) (n : ℕ) (v : RegistryValue WorldRule) → n ≡ length w.registries
       → IsRegistryAfter key_gives (key_by rule) (started healthy) v
@@ -396,63 +434,15 @@ module _ {C : Type 0} {M : Meaning C} {w : WorldValue C} {h : History C} (s : St
       (rw m.1 at (s.kept i x was))))
       (λ g. refl) (λ g. refl) (λ g i. refl) (λ g b. refl) (λ x. refl)
 
-  -- the permit of a gate that isn't there is not out
-  in-place : (b : Bool) → is_out (length w.gates) h ≡ b → b ≡ false
-  in-place false is = refl
-  in-place true is =
-      let whose = (one-extra M h s.run).whose (length w.gates) is in
-      let m = slot-on whose.1 (length w.gates) (made_at whose.0 h) whose.2 in
-      let e = there-at w.groups whose.0 (omega (arith, slice_get_within (made h) whose.0 m.0 m.1.0, s.groups_are)) in
-      let on = s.on_site whose.0 e.0 e.1 in
-      let gate_is : e.0.gate ≡ length w.gates =
-      ap (λ t. t.gate) (same_Some (made_of e.0) m.0 (sym (s.each whose.0 e.0 e.1).made_is ∙ m.1.0)) ∙ m.1.1 in
-      absurd (omega (arith, slice_get_within w.gates e.0.gate on.view on.gate, gate_is))
-
   pub gate-made : (n : ℕ) (z : GateView) → n ≡ length w.gates → z.out ≡ false
       → Stands M (record w { gates = w.gates ++ z ∷ [] }) ((Step.gate, Answer.Gate n) ∷ h)
   gate-made n z number free =
-      record {
-        run = (s.run, inl (ap Answer.Gate (number ∙ s.gates_are)));
-        registries_are = s.registries_are;
-        gates_are = length_push w.gates z ∙ ap (λ k. k + 1) s.gates_are;
-        groups_are = s.groups_are;
-        readers_are = s.readers_are;
-        kept = s.kept;
-        outs = each-push w.gates z (free ∙ sym (in-place (is_out (length w.gates) h) refl)) (λ x y low was. s.outs x y was);
-        each = λ g e in_.
-            entry-moves (s.each g e in_).made_is refl refl (λ r. refl) (λ b. refl) (s.each g e in_);
-        on_site = λ g e in_.
-            let on = s.on_site g e in_ in
-            record { view = on.view; gate = get-kept w.gates z on.view e.gate on.gate; id = on.id; registry = on.registry };
-        own = s.own;
-      }
-
-module _ {C : Type 0} (M : Meaning C) where
-  -- the slot that a reader entered is there
-  pub entered-there : (h : History C) → IsRun M h → (t : ℕ) (e : Entered) → slice_get (entries h) t ≡ Some (Some e) → (c : C)
-      × (config e.group e.slot h ≡ Some c)
-  entered-there [] run t e at = absurd (none-some (Some e) at)
-  entered-there ((Step.group r a cs, Answer.Group n) ∷ h) run t e at =
-      let c = entered-there h run.0 t e at in
-      let m = config-made e.slot (made_at e.group h) c.0 c.1 in
-      (c.0, ap (config_in e.slot) (get-kept (made h) _ m.0 e.group m.1) ∙ sym (ap (config_in e.slot) m.1) ∙ c.1)
-  entered-there ((Step.enter g s, Answer.Reader u n) ∷ h) run t e at =
-      elim (get-pushed (entries h) _ (Some e) t at) [
-        | inl p ↦
-            let c = found-of {C = C} (Step.enter g s) (config g s h) _ (Answer.Reader u n) refl run.1 in
-            let same : e ≡ record { group = g; slot = s; generation = n } = same_Some _ _ p.1 in
-            (c.0, ap (λ x. config x.group x.slot h) same ∙ c.1)
-        | inr p ↦ entered-there h run.0 t e p.1
-      ]
-  entered-there ((Step.leave u, Answer.Left n) ∷ h) run t e at = entered-there h run.0 t e (still-there (entries h) u t e at)
-  entered-there ((st, a) ∷ h) run t e at = entered-there h run.0 t e at
+      tables-set s ((Step.gate, Answer.Gate n) ∷ h) w.registries (w.gates ++ z ∷ []) w.groups (s.run, inl (ap Answer.Gate (number ∙ s.gates_are)))
+      s.registries_are (omega arith) (length_push w.gates z ∙ ap (λ k. k + 1) s.gates_are) s.groups_are refl s.kept
+      (each-push w.gates z (free ∙ sym (ap (λ i. is_out i h) s.gates_are ∙ gate-unmade M h s.run)) (λ x y low was. s.outs x y was))
+      (λ x y was. get-kept w.gates z y x was) (λ g m at. at) (λ g. refl) (λ g. refl) (λ g i. refl) (λ g b. refl) (λ g e in_. inl in_)
 
 module _ {C : Type 0} {M : Meaning C} {w : WorldValue C} {h : History C} (s : Stands M w h) where
-  pub entered-in : (t : ℕ) (x : Option (HeldValue C)) → slice_get w.readers t ≡ Some x
-      → slice_get (entries h) t ≡ Some (option_map entered_of x)
-  entered-in t x there_ = ap (λ es. slice_get es t) (sym s.readers_are) ∙ slice_get-map (option_map entered_of) w.readers t
-      ∙ ap (option_map (option_map entered_of)) there_
-
   entries-count : length (entries h) ≡ length w.readers
   entries-count = ap length (sym s.readers_are) ∙ length-map w.readers (option_map entered_of)
 
@@ -560,25 +550,18 @@ module _ {C : Type 0} {M : Meaning C} {w : WorldValue C} {h : History C} (s : St
       → Stands M (record w { readers = slice_set w.readers t None }) ((Step.leave t, Answer.Refused Refusal.NoSuchReader) ∷ h)
   leave-gone t there_ =
       rw (set-same w.readers t None there_)
-      (world-refused s (inl (sym (ap leave_answer (entered-in t None there_)))))
-
-  -- its group is there, and the slot counts it
-  pub group-there : (t : ℕ) (r : HeldValue C) → slice_get w.readers t ≡ Some (Some r) → r.group < length w.groups
-  group-there t r there_ =
-      let c = entered-there M h s.run t (entered_of r) (entered-in t (Some r) there_) in
-      let m = config-made r.reader.slot (made_at r.group h) c.0 c.1 in
-      omega (arith, slice_get_within (made h) r.group m.0 m.1, s.groups_are)
+      (world-refused s (inl (sym (ap leave_answer (entered-in s t None there_)))))
 
   -- the entry of its group, as it is read
   pub entry-of : (t : ℕ) (r : HeldValue C) {k : ℕ} {e : EntryValue C} → slice_get w.readers t ≡ Some (Some r) → k ≡ r.group
       → e ≡ get_or w.groups k e → slice_get w.groups r.group ≡ Some e
-  entry-of t r {k} {e} there_ is read = rw is at (at-place w.groups k e (omega (arith, is, group-there t r there_)) read)
+  entry-of t r {k} {e} there_ is read = rw is at (at-place w.groups k e (omega (arith, is, group-there s t r there_)) read)
 
   pub counted : (t : ℕ) (r : HeldValue C) (e : EntryValue C) → slice_get w.readers t ≡ Some (Some r) → slice_get w.groups r.group ≡ Some e
       → IsCounted e.core r.reader.slot r.reader.generation
   counted t r e there_ in_ =
       let is = s.each r.group e in_ in
-      let at = entered-in t (Some r) there_ in
+      let at = entered-in s t (Some r) there_ in
       let c = entered-there M h s.run t (entered_of r) at in
       let config-is : slice_get (configs_of e.core.group) r.reader.slot ≡ Some c.0 = sym (config-here is r.reader.slot) ∙ c.1 in
       record {
@@ -598,7 +581,7 @@ module _ {C : Type 0} {M : Meaning C} {w : WorldValue C} {h : History C} (s : St
       → Stands M (record w { groups = slice_set w.groups r.group d; readers = slice_set w.readers t None })
       ((Step.leave t, Answer.Left r.reader.generation) ∷ h)
   left-now t r e d there_ in_ rest moves =
-      let at = entered-in t (Some r) there_ in
+      let at = entered-in s t (Some r) there_ in
       let st : Step C = Step.leave t in
       let a = Answer.Left r.reader.generation in
       let here_ : group_at h st ≡ Some r.group = ap group_in at in
@@ -627,6 +610,6 @@ module _ {C : Type 0} {M : Meaning C} {w : WorldValue C} {h : History C} (s : St
       (told (key_at e.registry h) (registry_events e.registry h) (s.kept e.registry u registry-there) _ _ own.core_is) in
       rw (set-same w.registries e.registry u registry-there)
       at (registry-set s ((Step.ready t (Some b), Answer.Ready is) ∷ h) e.registry u u
-      (s.run, rw (entered-in t (Some r) there_) (is, refl, judged)) refl refl refl refl (λ i off. refl) (λ g. refl) (λ g. refl)
+      (s.run, rw (entered-in s t (Some r) there_) (is, refl, judged)) refl refl refl refl (λ i off. refl) (λ g. refl) (λ g. refl)
       (λ g i. refl)
       (λ g b. refl) (λ x. refl) registry-there (s.kept e.registry u registry-there))

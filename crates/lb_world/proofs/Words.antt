@@ -7,10 +7,8 @@ pub use Rattle.lb_group.specs.GroupHistory.{At, granted, granted_members, member
 pub use Rattle.lb_group.specs.SlotCalls.{ask_told}
 pub use Rattle.lb_group.specs.Values.{Task, configs_of}
 pub use Rattle.lb_health.specs.Joined.{IsReady, settings_of}
-pub use Rattle.lb_history.proofs.Absent.{absent}
 pub use Rattle.lb_history.proofs.Counting.{there-at}
 pub use Rattle.lb_history.proofs.Extras.{get-kept}
-pub use Rattle.lb_history.proofs.Numbering.{numbered}
 pub use Rattle.lb_history.proofs.Promised.{promised}
 pub use Rattle.lb_history.proofs.Refusing.{ap2, refused-alike}
 pub use Rattle.lb_history.proofs.Runs.{slots}
@@ -97,11 +95,6 @@ module _ {X : Type 0} where
   pub there : (xs : List X) (i : ℕ) → ((slice_get xs i ≡ None) × (length xs ≤ i)) ⊎ ((x : X) × (slice_get xs i ≡ Some x))
   there xs i = elim (slice_get_cases xs i).1 [ inl p ↦ inr (p.0, p.2) | inr p ↦ inl (p.1, p.0) ]
 
-  -- the one that was added at the end is there
-  pub get_last : (xs : List X) (y : X) → slice_get (xs ++ y ∷ []) (length xs) ≡ Some y
-  get_last [] y = refl
-  get_last (a ∷ xs) y = get_last xs y
-
   -- what holds of each element of a table, after one was written, or added
   pub each-set : {Q : ℕ → X → Type 0} (xs : List X) (i : ℕ) (x y : X) → slice_get xs i ≡ Some x → Q i y
       → ((j : ℕ) (z : X) → (j ≡ i → ⊥) → slice_get xs j ≡ Some z → Q j z)
@@ -120,13 +113,6 @@ module _ {X : Type 0} where
         | inl p ↦ subst (λ k. Q k z) (sym p.0) (subst (Q (length xs)) (sym p.1) new)
         | inr p ↦ old j z p.0 p.1
       ]
-
--- what is in a list after a place was emptied was there before
-pub still-there : {X : Type 0} (xs : List (Option X)) (i j : ℕ) (x : X) → slice_get (slice_set xs i None) j ≡ Some (Some x)
-    → slice_get xs j ≡ Some (Some x)
-still-there {X} (y ∷ xs) zero zero x at = absurd (none-some x (same_Some _ _ at))
-still-there (y ∷ xs) (suc i) (suc j) x at = still-there xs i j x at
-still-there xs i j x at = at
 
 -- one of a list of equal elements
 pub get_replicate : {X : Type 0} (n : ℕ) (x : X) (i : ℕ) (y : X) → slice_get (replicate n x) i ≡ Some y → y ≡ x

@@ -8,7 +8,7 @@ use Rattle.lb_world.specs.Views.{WorkValue, nothing, building, ready, Origin}
 use Rattle.lb_world.specs.declared.held.Work as declared
 use Rattle.lb_world.specs.declared.held.Work.TheVariants as is
 
-abbrev pub work_value : {S I C : Type 0} → declared.Work S I C → WorkValue C
+abbrev pub work_value : {S I C W : Type 0} → declared.Work S I C W → WorkValue C
 work_value is.Nothing = nothing
 work_value (is.Building j) = building j
 work_value (is.Ready b) = ready b

@@ -1,3 +1,3 @@
-//! Groups behind a lock whose generations passes read: a reading takes no lock, an update or an entry agrees with the pass that made it.
+//! Passes over a group that threads share: what one reader has seen of its generations. The calls that take one are those of
+//! `LoadBalancerGroup` and of `threads::SharedGroup`.
 pub use lb_board::board::GroupPass;
-pub use lb_pass::boarded::BoardedGroup;

@@ -10,6 +10,7 @@ pub use lb_shared::backends::Backends;
 pub use lb_shared::balancing::Balancing;
 pub use lb_shared::drive::drive;
 pub use lb_shared::load_balancer::LoadBalancer;
+pub use lb_shared::owned::OwnedBalancer;
 pub use lb_shared::port::BalancerPort;
 pub use lb_shared::reader::BalancerReader;
 pub use lb_shared::shown::Shown;

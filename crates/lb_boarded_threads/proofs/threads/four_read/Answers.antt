@@ -2,11 +2,12 @@
 use denote.Param.{param}
 use denote.Param.Send.{sendable}
 use Rattle.lb_board.proofs.board.GroupPass.TheSendSync as pass
-use Rattle.lb_boarded_threads.proofs.Crossings.{boarded_sync}
+use Rattle.lb_locked.proofs.Crossings.{shared_sync}
 use Rattle.lb_boarded_threads.proofs.threads.four_read.Goals as goal
 
 pub join-left-requires-send-F : goal.join-left-requires-send-F
 join-left-requires-send-F g c κs within =
     let b = c.type_bounds in
-    let y = boarded_sync (param 0 g.row.S) (param 1 g.row.K) (param 3 g.row.S-Iter) (param 4 g.row.S-Config) g.S.BackendSelection g.S.Iter.BackendIter b.send-S b.send-S-Config b.sync-S b.sync-S-Config b.send-K in
+    let y = shared_sync (param 0 g.row.S) (param 1 g.row.K) (param 2 g.row.C) (param 4 g.row.S-Iter) (param 5 g.row.S-Config) (param 6 g.row.S-Walk) g.S.BackendSelection g.S.Iter.BackendIter g.K.KeyRule
+    b.send-S b.send-S-Config b.sync-S b.sync-S-Config b.send-K b.sync-K b.send-C b.sync-C in
     search (sendable, y, pass.the_send, b.sync-R) depth 30

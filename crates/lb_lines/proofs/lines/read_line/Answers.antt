@@ -20,7 +20,7 @@ returns-then-count-len-clause-found g c =
     let line = c.loop-line.line.items in
     let held = c.fill.new.self in
     let place : c.feed_place-count.result ≡ length (first_line held) =
-    c.feed_place-count.ensures.place ∙ ap (λ bytes. length (first_line bytes)) c.bytes-bytes.ensures in
+    c.feed_place-count.ensures.place ∙ ap (λ bytes. length (first_line bytes)) c.bytes-bytes.ensures.value in
     line_too_long whole (g.R.Read.remaining (inner_of c.fill.new.reader)) line held c.loop-line.invariant.front
     (OnBytes-kept (λ stream rest. stream ≡ line ++ rest) whole _ _ c.loop-line.invariant.read c.fill.ensures.bytes)
     (let len = c.loop-line.line.ok in omega arith)
@@ -31,7 +31,7 @@ returns-in-Err-clause-found g c =
     let line = c.loop-line.line.items in
     let held = c.fill.new.self in
     let place : c.feed_place-count.result ≡ length (first_line held) =
-    c.feed_place-count.ensures.place ∙ ap (λ bytes. length (first_line bytes)) c.bytes-bytes.ensures in
+    c.feed_place-count.ensures.place ∙ ap (λ bytes. length (first_line bytes)) c.bytes-bytes.ensures.value in
     line_has_byte whole (g.R.Read.remaining (inner_of c.fill.new.reader)) line held c.loop-line.invariant.front
     (OnBytes-kept (λ stream rest. stream ≡ line ++ rest) whole _ _ c.loop-line.invariant.read c.fill.ensures.bytes)
     (let full = c.in-Err.ensures.full in let room = c.loop-line.line.ok in
@@ -45,11 +45,11 @@ returns-then-count-bytes-clause-found g c =
     let held = c.fill.new.self in
     let count = c.feed_place-count.result in
     let place : count ≡ length (first_line held) =
-    c.feed_place-count.ensures.place ∙ ap (λ bytes. length (first_line bytes)) c.bytes-bytes.ensures in
-    let less : count < length held = subst (λ (bytes : List ℕ). count < length bytes) c.bytes-bytes.ensures c.if-count-bytes.true in
+    c.feed_place-count.ensures.place ∙ ap (λ bytes. length (first_line bytes)) c.bytes-bytes.ensures.value in
+    let less : count < length held = subst (λ (bytes : List ℕ). count < length bytes) c.bytes-bytes.ensures.value c.if-count-bytes.true in
     let left : c.consume.new.self ≡ drop (count + 1) held = c.consume.ensures in
     let grown : c.extend_from_slice.new.self.items ≡ line ++ take count held =
-    grown_by c.extend_from_slice.new.self.items line held c.bytes-bytes.result.now count c.in-Ok.ensures.items c.bytes-bytes.ensures in
+    grown_by c.extend_from_slice.new.self.items line held c.bytes-bytes.result.now count c.in-Ok.ensures.items c.bytes-bytes.ensures.value in
     let short : length (line ++ take count held) ≤ 16777216 =
     (let len = c.loop-line.line.ok in omega (arith, length-append line (take count held), length-take count held)) in
     rw (left, grown) (line_ends whole known line held count c.loop-line.invariant.front
@@ -64,11 +64,11 @@ loop-line-preserved g c =
     let held = c.fill.new.self in
     let count = c.feed_place-count.result in
     let place : count ≡ length (first_line held) =
-    c.feed_place-count.ensures.place ∙ ap (λ bytes. length (first_line bytes)) c.bytes-bytes.ensures in
-    let all : length held ≤ count = subst (λ (bytes : List ℕ). length bytes ≤ count) c.bytes-bytes.ensures c.if-count-bytes.false in
+    c.feed_place-count.ensures.place ∙ ap (λ bytes. length (first_line bytes)) c.bytes-bytes.ensures.value in
+    let all : length held ≤ count = subst (λ (bytes : List ℕ). length bytes ≤ count) c.bytes-bytes.ensures.value c.if-count-bytes.false in
     let left : c.consume-in-loop-line.new.self ≡ drop count held = c.consume-in-loop-line.ensures in
     let grown : c.extend_from_slice.new.self.items ≡ line ++ take count held =
-    grown_by c.extend_from_slice.new.self.items line held c.bytes-bytes.result.now count c.in-Ok.ensures.items c.bytes-bytes.ensures in
+    grown_by c.extend_from_slice.new.self.items line held c.bytes-bytes.result.now count c.in-Ok.ensures.items c.bytes-bytes.ensures.value in
     record {
       read = rw (left, grown) (line_goes_on whole known line held count c.loop-line.invariant.front
           (OnBytes-kept (λ stream rest. stream ≡ line ++ rest) whole _ _ c.loop-line.invariant.read c.fill.ensures.bytes));

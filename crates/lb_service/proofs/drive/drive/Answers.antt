@@ -16,7 +16,7 @@ returns-in-Return g c =
       h,
       subst (λ p. IsServiceRun p h) (c.step-action.ensures.plan ∙ i.2) after.run,
       c.in-Return.is,
-      (i.3, c.loop.port, c.now-now.new.self, i.4, i.5, c.now-now.ensures, c.target_count-count.ensures),
+      (i.3, c.loop.port, i.4, i.5, (c.now-now.new.self, c.now-now.ensures, c.target_count-count.ensures)),
     )
 
 pub act-event-requires : goal.act-event-requires
@@ -36,6 +36,6 @@ loop-preserved g c =
       c.step-action.ensures.history i.0 i.1,
       c.step-action.ensures.plan ∙ i.2,
       c.target_count-count.new.self,
-      (i.3, c.loop.port, c.now-now.new.self, i.4, i.5, c.now-now.ensures, c.target_count-count.ensures),
+      (i.3, c.loop.port, i.4, i.5, (c.now-now.new.self, c.now-now.ensures, c.target_count-count.ensures)),
       c.act-event.ensures,
     )

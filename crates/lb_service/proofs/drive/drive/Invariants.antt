@@ -2,12 +2,14 @@
 use Rattle.std.proofs.Common.{◌≡◌, List}
 use Rattle.lb_schedule.specs.History.{Heard}
 use Rattle.lb_schedule.specs.Services.{IsServiceAfter}
-use Rattle.lb_service.specs.Driven.{Driven, Told}
+use Rattle.lb_schedule.specs.Driven.{Does, Driven, Reads, Told}
+use Rattle.lb_service.specs.Driven.{Acts}
 use Rattle.lb_service.proofs.drive.drive.Given as goal
 
 abbrev pub invariant-loop : goal.invariant-loop
 invariant-loop g l =
     let p = g.P.ServicePort in
+    let reads = Reads p.moments p.counts in
+    let does = Does p.looks (Acts p.checks p.tells p.sleeps p.awaits p.holds) in
     (h : List Heard) × IsServiceAfter l.run h × (l.run.plan ≡ l.fn.run.plan) × (a : g.row.P.Denot)
-    × Driven p.moments p.counts p.looks p.checks p.tells p.sleeps p.awaits p.holds l.fn.port h a
-    × Told p.moments p.counts p.looks p.checks p.tells p.sleeps p.awaits p.holds a h l.event l.port
+    × Driven reads does l.fn.port h a × Told reads does a h l.event l.port

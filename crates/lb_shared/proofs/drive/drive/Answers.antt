@@ -1,7 +1,8 @@
 -- Each round adds an event to the run's history.
 use Rattle.std.proofs.Common.{◌∙◌, [], ◌∷◌, refl, subst}
 use Rattle.lb_schedule.specs.History.{heard, IsRun}
-use Rattle.lb_shared.proofs.Drives.{asks_port, has_begun}
+use Rattle.lb_schedule.specs.Driven.{Does, ReadsMoment, TakesTurn}
+use Rattle.lb_schedule.proofs.DrivenLemmas.{asks_port, has_begun}
 use Rattle.lb_shared.proofs.drive.drive.Goals as goal
 
 pub loop-init : goal.loop-init
@@ -23,7 +24,8 @@ act-event-requires g c =
     let i = c.loop.invariant in
     let p = g.P.BalancerPort in
     let h = heard c.now-now.result 0 c.loop.event c.step-action.result ∷ i.0 in
-    let begun = has_begun p.moments p.looks p.updates p.checks p.tells p.sleeps _ i.3 c.loop.port i.0 c.loop.event i.4 i.5 in
+    let begun = has_begun (ReadsMoment p.moments) (Does p.looks (TakesTurn p.updates p.checks p.tells p.sleeps))
+    _ i.3 c.loop.port i.0 c.loop.event i.4 i.5 in
     record {
       asked = asks_port c.step-action.new.self h c.step-action.result (c.step-action.ensures.history i.0 i.1) begun refl c.in_default.not-Return;
       checks = c.requires.checks;

@@ -1,7 +1,8 @@
 -- Each round adds an event to the run's history.
 use Rattle.std.proofs.Common.{◌∙◌, [], ◌∷◌, refl, subst}
 use Rattle.lb_schedule.specs.History.{heard, IsRun}
-use Rattle.lb_workers.proofs.Drives.{asks_port}
+use Rattle.lb_schedule.specs.Driven.{Does, Reads, TakesTurn}
+use Rattle.lb_schedule.proofs.DrivenLemmas.{asks_port, has_begun}
 use Rattle.lb_workers.proofs.drive.drive.Goals as goal
 
 pub loop-init : goal.loop-init
@@ -15,18 +16,18 @@ returns-in-Return g c =
       h,
       subst (λ p. IsRun p h) (c.step-action.ensures.plan ∙ i.2) after.run,
       c.in-Return.is,
-      (i.3, c.loop.port, c.now-now.new.self, i.4, i.5, c.now-now.ensures, c.least-least.ensures),
+      (i.3, c.loop.port, i.4, i.5, (c.now-now.new.self, c.now-now.ensures, c.least-least.ensures)),
     )
 
 pub act-event-requires : goal.act-event-requires
 act-event-requires g c =
     let i = c.loop.invariant in
     let p = g.P.RunPort in
-    let x = heard c.now-now.result c.least-least.result c.loop.event c.step-action.result in
+    let h = heard c.now-now.result c.least-least.result c.loop.event c.step-action.result ∷ i.0 in
+    let begun = has_begun (Reads p.moments p.leasts) (Does p.looks (TakesTurn p.updates p.checks p.tells p.sleeps))
+    _ i.3 c.loop.port i.0 c.loop.event i.4 i.5 in
     record {
-      asked = asks_port p.moments p.leasts p.looks p.updates p.checks p.tells p.sleeps c.step-action.new.self c.args.port.now
-          c.least-least.new.self x i.0 (i.3, c.loop.port, c.now-now.new.self, i.4, i.5, c.now-now.ensures, c.least-least.ensures)
-          (c.step-action.ensures.history i.0 i.1) c.in_default.not-Return;
+      asked = asks_port c.step-action.new.self h c.step-action.result (c.step-action.ensures.history i.0 i.1) begun refl c.in_default.not-Return;
       can = c.requires.can;
     }
 
@@ -38,6 +39,6 @@ loop-preserved g c =
       c.step-action.ensures.history i.0 i.1,
       c.step-action.ensures.plan ∙ i.2,
       c.least-least.new.self,
-      (i.3, c.loop.port, c.now-now.new.self, i.4, i.5, c.now-now.ensures, c.least-least.ensures),
+      (i.3, c.loop.port, i.4, i.5, (c.now-now.new.self, c.now-now.ensures, c.least-least.ensures)),
       c.act-event.ensures,
     )

@@ -1,5 +1,6 @@
 -- What was looked up is what the one update is to.
 use Rattle.std.proofs.Common.{◌≡◌, ◌∙◌, ap, sym, subst, rules, Err, []}
+use Rattle.std.proofs.lemmas.Result.{err_from_is_err_and}
 use Rattle.lb_registry.specs.Keys.{by_identity, rule_gives}
 use Rattle.lb_registry.specs.Registry.{IsRegistryAfter}
 use Rattle.lb_balance.specs.Texts.{one_view}
@@ -24,7 +25,8 @@ returns-in_err-update-clause-refused g c =
     let parts = c.in_ok-balancer.ensures.parts in
     let registry = subst (λ h. IsRegistryAfter (rule_gives g.N.KeyRule.gives) by_identity one_view h.registry) (sym parts.4) c.in_ok-backends.ensures.ok.1 in
     let r = c.in_err-update.field-0.0 in
-    let is : c.from_residual-in_err-update.result ≡ Err r = search rules in
+    let out = err_from_is_err_and _ c.from_residual-in_err-update.ensures.1 in
+    let is : c.from_residual-in_err-update.result ≡ Err r = out.1 ∙ ap Err out.2 in
     rw is (
       looked.0,
       looked.1,

@@ -60,8 +60,8 @@ returns-clause-some g c = (
       before refl (ap (λ (ss : List ViewSnapshot). snapshot_of c.self.inside.current ∷ map snapshot_of ss) c.reserve.ensures.items) c.flag_all.ensures.flags in
       let n : ℕ = c.in-Some.next in
       let next : n ≡ c.self.inside.current.generation + 1 = c.in-Some.ensures.1 in
-      let new : ViewSnapshot = record { generation = n; members = c.in_ok-members.members; cells = c.in_ok-cells.cells; holds = 0 } in
-      let after : c.replace.new.dest ≡ new = c.replace.ensures.after in
+      let new : ViewSnapshot = record { generation = n; members = c.in_ok-members.members; cells = c.in_ok-cells.cells.entries; holds = 0 } in
+      let after : c.replace.new.dest ≡ new = c.replace.ensures.after ∙ ap (λ (cs : List (Member × ℕ)). record new { cells = cs }) c.new-hinted.ensures in
       let items : c.push_reserved.new.self.items ≡ c.reserve.new.self.items ++ c.self.inside.current ∷ [] = c.push_reserved.ensures.items
       ∙ ap (λ (s : ViewSnapshot). c.reserve.new.self.items ++ s ∷ []) c.replace.ensures.value in
       let members : (arc_value c.in_ok-members.members).keys ≡ c.args.members.keys = ap (λ s. s.keys) c.in_ok-members.ensures.ok in
@@ -120,13 +120,15 @@ returns-clause-next g c =
 pub invariant_of-self-2 : goal.invariant_of-self-2
 invariant_of-self-2 g c =
     let current : ViewSnapshot = c.self.inside.current in
+    let new : ViewSnapshot = record { generation = c.in-Some.next; members = c.in_ok-members.members; cells = c.in_ok-cells.cells.entries; holds = 0 } in
+    let after : c.replace.new.dest ≡ new = c.replace.ensures.after ∙ ap (λ (cs : List (Member × ℕ)). record new { cells = cs }) c.new-hinted.ensures in
     let members : (arc_value c.in_ok-members.members).keys ≡ c.args.members.keys = ap (λ s. s.keys) c.in_ok-members.ensures.ok in
     let items : c.push_reserved.new.self.items ≡ c.self.inside.earlier.items ++ current ∷ [] = c.push_reserved.ensures.items
     ∙ ap (λ (s : ViewSnapshot). c.reserve.new.self.items ++ s ∷ []) c.replace.ensures.value
     ∙ ap (λ (ss : List ViewSnapshot). ss ++ current ∷ []) c.reserve.ensures.items in (
       flags-more c.self.inside.disabled c.self.inside.flags.entries _ c.self.invariant.0 c.flag_all.ensures.flags,
       (
-        subst (λ (s : ViewSnapshot). HasOwnCells (snapshot_of s).members (snapshot_of s).cells) (sym c.replace.ensures.after)
+        subst (λ (s : ViewSnapshot). HasOwnCells (snapshot_of s).members (snapshot_of s).cells) (sym after)
             (subst (λ (ms : List Member). HasOwnCells ms c.in_ok-cells.cells.entries) (c.in_ok-copy.ensures.ok ∙ sym members) c.in_ok-cells.ensures.own),
         subst (λ (ss : List ViewSnapshot). HaveOwnCells (map snapshot_of ss)) (sym items)
             (own-behind c.self.inside.earlier.items current c.self.invariant.1.1 c.self.invariant.1.0),

@@ -1,23 +1,40 @@
-use Rattle.std.specs.Prelude.{Ok, Err, refl}
+-- Where the report is taken, the registry lets the selector's snapshot go; some history stands behind the group that its lock gave.
+use Rattle.std.specs.Prelude.{Ok, Err, Result, refl}
 use Rattle.std.proofs.Common.{rules}
+use Rattle.lb_group.specs.Values.{PermitValue}
+use Rattle.lb_joined.specs.JoinedCalls.{generation_at}
+use Rattle.lb_locked.proofs.Histories.{at_site, later, released_later}
 use Rattle.lb_locked.proofs.port.LockedPortGroupPort.destroyed.Goals as goal
+
+pub put-requires-2-clause-registry : goal.put-requires-2-clause-registry
+put-requires-2-clause-registry g c =
+    later c.take-cells.ensures.registry (released_later c.destroyed-told.result c.take-held.result.value.core
+    (λ made e. generation_at c.args.slot e) c.founded.ensures c.destroyed-told.ensures.registry)
 
 pub returns-in-Ok : goal.returns-in-Ok
 returns-in-Ok g c =
-    let is = c.in-Ok.ensures in (
+    let is = c.in-Ok.ensures in
+    let told : Result (Unit {0}) PermitValue = Ok tt in
+    let v = c.take-held.result.value.core in (
       (
-        Ok tt,
+        told,
         (
-          c.deref_mut.result.now,
+          c.take-cells.result.value,
           (
             c.destroyed-told.new.registry,
             (
-              c.take-gate.result.value,
+              at_site (search rules) c.take-cells.ensures.registry,
               (
-                c.destroyed-told.new.gate,
+                released_later told v (λ made e. generation_at c.args.slot e) c.founded.ensures is.registry,
                 (
-                  search rules,
-                  (c.take-held.result.value, (c.destroyed-told.new.self, ((search rules, c.founded.ensures), (is.answers, is.stands, is.site, is.gate, is.registry)))),
+                  c.take-gate.result.value,
+                  (
+                    c.destroyed-told.new.gate,
+                    (
+                      search rules,
+                      (v, (c.destroyed-told.new.self.core, ((search rules, c.founded.ensures), (is.answers, is.stands, is.site, is.gate, is.registry)))),
+                    ),
+                  ),
                 ),
               ),
             ),
@@ -29,20 +46,28 @@ returns-in-Ok g c =
 
 pub returns-in-Err : goal.returns-in-Err
 returns-in-Err g c =
-    let is = c.in-Err.ensures in (
+    let is = c.in-Err.ensures in
+    let told : Result (Unit {0}) PermitValue = Err c.in-Err.permit in
+    let v = c.take-held.result.value.core in (
       (
-        Err c.in-Err.permit,
+        told,
         (
-          c.deref_mut.result.now,
+          c.take-cells.result.value,
           (
             c.destroyed-told.new.registry,
             (
-              c.take-gate.result.value,
+              at_site (search rules) c.take-cells.ensures.registry,
               (
-                c.destroyed-told.new.gate,
+                released_later told v (λ made e. generation_at c.args.slot e) c.founded.ensures is.registry,
                 (
-                  search rules,
-                  (c.take-held.result.value, (c.destroyed-told.new.self, ((search rules, c.founded.ensures), (is.answers, is.stands, is.site, is.gate, is.registry)))),
+                  c.take-gate.result.value,
+                  (
+                    c.destroyed-told.new.gate,
+                    (
+                      search rules,
+                      (v, (c.destroyed-told.new.self.core, ((search rules, c.founded.ensures), (is.answers, is.stands, is.site, is.gate, is.registry)))),
+                    ),
+                  ),
                 ),
               ),
             ),

@@ -1,24 +1,40 @@
-use Rattle.std.specs.Prelude.{Ok, Err, refl}
+-- Where the job is taken back, the registry lets its snapshot go; some history stands behind the group that its lock gave.
+use Rattle.std.specs.Prelude.{Ok, Err, Result, refl}
 use Rattle.std.proofs.Common.{sym, rules}
+use Rattle.lb_group.specs.Values.{Task}
+use Rattle.lb_locked.proofs.Histories.{at_site, later, released_later}
 use Rattle.lb_locked.proofs.port.LockedPortTakesBackRefusedJobBuiltReader.fail.Goals as goal
+
+pub put-requires-2-clause-registry : goal.put-requires-2-clause-registry
+put-requires-2-clause-registry g c =
+    later c.take-cells.ensures.registry (released_later c.fail-told.result c.take-held.result.value.core
+    (λ made e. c.into_job-job.result.generation) c.founded.ensures c.fail-told.ensures.registry)
 
 pub returns-in-Ok : goal.returns-in-Ok
 returns-in-Ok g c =
     let is = c.in-Ok.ensures in
+    let told : Result (Unit {0}) (Task g.row.S-Config.Denot) = Ok tt in
+    let v = c.take-held.result.value.core in
     rw (sym c.into_job-job.ensures) (
       (
-        Ok tt,
+        told,
         (
-          c.deref_mut.result.now,
+          c.take-cells.result.value,
           (
             c.fail-told.new.registry,
             (
-              c.take-gate.result.value,
+              at_site (search rules) c.take-cells.ensures.registry,
               (
-                c.fail-told.new.gate,
+                released_later told v (λ made e. c.into_job-job.result.generation) c.founded.ensures is.registry,
                 (
-                  search rules,
-                  (c.take-held.result.value, (c.fail-told.new.self, ((search rules, c.founded.ensures), (is.answers, is.stands, is.site, is.gate, is.registry)))),
+                  c.take-gate.result.value,
+                  (
+                    c.fail-told.new.gate,
+                    (
+                      search rules,
+                      (v, (c.fail-told.new.self.core, ((search rules, c.founded.ensures), (is.answers, is.stands, is.site, is.gate, is.registry)))),
+                    ),
+                  ),
                 ),
               ),
             ),
@@ -31,20 +47,28 @@ returns-in-Ok g c =
 pub returns-in-Err : goal.returns-in-Err
 returns-in-Err g c =
     let is = c.in-Err.ensures in
+    let told : Result (Unit {0}) (Task g.row.S-Config.Denot) = Err c.in-Err.job in
+    let v = c.take-held.result.value.core in
     rw (sym c.into_job-job.ensures) (
       (
-        Err c.in-Err.job,
+        told,
         (
-          c.deref_mut.result.now,
+          c.take-cells.result.value,
           (
             c.fail-told.new.registry,
             (
-              c.take-gate.result.value,
+              at_site (search rules) c.take-cells.ensures.registry,
               (
-                c.fail-told.new.gate,
+                released_later told v (λ made e. c.into_job-job.result.generation) c.founded.ensures is.registry,
                 (
-                  search rules,
-                  (c.take-held.result.value, (c.fail-told.new.self, ((search rules, c.founded.ensures), (is.answers, is.stands, is.site, is.gate, is.registry)))),
+                  c.take-gate.result.value,
+                  (
+                    c.fail-told.new.gate,
+                    (
+                      search rules,
+                      (v, (c.fail-told.new.self.core, ((search rules, c.founded.ensures), (is.answers, is.stands, is.site, is.gate, is.registry)))),
+                    ),
+                  ),
                 ),
               ),
             ),

@@ -1,8 +1,11 @@
--- The group's call is of the job whose build was refused.
-use Rattle.std.proofs.Common.{sym, refl}
+use Rattle.std.proofs.Common.{rules, refl}
 use Rattle.lb_port.proofs.plain_calls.PlainPortTakesBackRefusedJobBuiltReader.fail.Goals as goal
+
+pub unreachable-requires : goal.unreachable-requires
+unreachable-requires g c = search rules
 
 pub returns : goal.returns
 returns g c =
-    let is = c.in-Ok.ensures in
-    rw (sym c.into_job.ensures) ((is.stands, is.site, is.registry, is.gate), refl, (refl, refl, refl, refl, refl))
+    let stands = rw c.into_job.ensures at c.in-Ok.ensures.stands in
+    let registry = rw c.into_job.ensures at c.in-Ok.ensures.registry in
+    ((stands, c.in-Ok.ensures.site, registry, c.in-Ok.ensures.gate), refl, (refl, refl, refl, refl, refl))

@@ -4,4 +4,4 @@ use Rattle.lb_workers.specs.Readiness.{ServeFrom}
 use Rattle.lb_workers.proofs.group.LoadBalancerGroup.selectors_ready_for.Given as goal
 
 abbrev pub invariant-loop-slot : goal.invariant-loop-slot
-invariant-loop-slot g l = ServeFrom (arc_value l.self.shared) l.slot l.generation
+invariant-loop-slot g l = ServeFrom (arc_value l.self.shared).core l.slot l.generation

@@ -1,0 +1,47 @@
+//! Registries for threads that are keyed by identity or by address: no rule of a caller's.
+//! A locked registry's type rests on its rule's contract, which a boxed function, as in `ByNumber`, has only as a parameter's.
+ghost use Rattle.std.specs.Prelude.{◌≡◌, []};
+ghost use Rattle.lb_registry.specs.Keys.{by_address, by_identity};
+ghost use Rattle.lb_registry.specs.Registry.{IsRegistryAfter};
+
+use lb_registry::keys::{KeyRule, Rule};
+use lb_registry::registry::Registry;
+use lb_select::backend::Backend;
+use lb_select::refusal::Refusal;
+use std::alloc::Global;
+
+/// No rule of a caller's: it has no value. A caller's own rule for a locked registry is a type with `KeyRule`; what holds one with
+/// `ByNumber` has to be generic over its rule.
+#[derive(Drop)]
+pub enum NoRule {}
+
+impl KeyRule for NoRule {
+    ghost use Rattle.std.specs.Prelude.{◌≡◌};
+
+    ghost gives = { λ rule backend key. key ≡ backend };
+
+    fn key(&self, _alloc: Global, _backend: &Backend) -> Result<Backend, Refusal> {
+        match *self {}
+    }
+
+    fn same(&self, _backend: &Backend, _other: &Backend) -> bool {
+        match *self {}
+    }
+}
+
+/// A registry that is keyed by identity or by address.
+pub type KeyedRegistry = Registry<Rule<NoRule>>;
+
+/// A registry without views, whose backends share a cell where their address and weight are the same: `RegistryCore::new` for threads.
+pub fn keyed_by_identity(alloc: Global) -> KeyedRegistry
+    ensures { IsRegistryAfter ⟦<Rule<NoRule> as KeyRule>⟧.gives by_identity [] result }
+{
+    Registry::with_rule(alloc, Rule::Identity)
+}
+
+/// A registry without views, whose backends share a cell where their address is the same: `RegistryCore::by_address` for threads.
+pub fn keyed_by_address(alloc: Global) -> KeyedRegistry
+    ensures { IsRegistryAfter ⟦<Rule<NoRule> as KeyRule>⟧.gives by_address [] result }
+{
+    Registry::with_rule(alloc, Rule::Address)
+}

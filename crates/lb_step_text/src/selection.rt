@@ -1,0 +1,95 @@
+//! A selection whose line has the plain form, read straight from the line's bytes.
+//! Most lines of a script are these: no word is cut twice, and the bytes needn't be told to be text first.
+ghost use Rattle.std.specs.Prelude.{◌≡◌, ◌≤◌, Some, length, take, IfSome};
+ghost use Rattle.std.specs.Str.{IsAscii};
+ghost use Rattle.lb_step_text.specs.LineSteps.{line_step_seen};
+ghost use Rattle.lb_step_text.specs.StepLines.{small, select_of, step_of};
+ghost use Rattle.lb_step_text.specs.Words.{BeginsWith, IsPlainWord, words_of};
+
+use crate::parse::LineStep;
+
+// A number below this one may be followed by another digit, and the number that they spell has 64 bits.
+const SHORT_NUMBER: u64 = 1_000_000_000_000_000_000;
+
+// The selection that the line asks for, if the line has the plain form: four words of ASCII after `select`, each after one space,
+// and no number of more than 19 digits. A line that it answers nothing to may still ask for a selection, or for another step.
+pub(crate) fn plain_selection(line: &[u8]) -> Option<LineStep<'_>>
+    ensures { IfSome result (λ step. step_of line.now ≡ Some (line_step_seen step)) }
+{
+    match line {
+        [b's', b'e', b'l', b'e', b'c', b't', b' ', rest @ ..] => selection(rest),
+        _ => None,
+    }
+}
+
+// The selection that the four words ask for.
+fn selection(words: &[u8]) -> Option<LineStep<'_>>
+    ensures { IfSome result (λ step. IsAscii words.now × (select_of (words_of words.now) ≡ Some (line_step_seen step))) }
+{
+    let (group, rest) = number_before_space(words)?;
+    let (slot, rest) = number_before_space(rest)?;
+    let (key, rest) = word_before_space(rest)?;
+    let (limit, count) = leading_number(rest)?;
+    if count < rest.len() {
+        return None;
+    }
+    Some(LineStep::Select {
+        group,
+        slot: slot as usize,
+        key,
+        limit: limit as usize,
+    })
+}
+
+// The number in front of the first space, and what follows the space.
+#[inline]
+fn number_before_space(bytes: &[u8]) -> Option<(u64, &[u8])>
+    ensures { IfSome result (λ p. BeginsWith bytes.now p.1.now (λ word. small word ≡ Some p.0)) }
+{
+    let (n, count) = leading_number(bytes)?;
+    if count < bytes.len() && bytes[count] == b' ' {
+        Some((n, &bytes[count + 1..]))
+    } else {
+        None
+    }
+}
+
+// The word in front of the first space, which has a byte and ASCII alone, and what follows the space.
+#[inline]
+fn word_before_space(bytes: &[u8]) -> Option<(&[u8], &[u8])>
+    ensures { IfSome result (λ p. BeginsWith bytes.now p.1.now (λ word. IsPlainWord word × (word ≡ p.0.now))) }
+{
+    let mut count = 0;
+    while count < bytes.len() && bytes[count] != b' ' {
+        if !bytes[count].is_ascii() {
+            return None;
+        }
+        count += 1;
+    }
+    if count > 0 && count < bytes.len() {
+        Some((&bytes[..count], &bytes[count + 1..]))
+    } else {
+        None
+    }
+}
+
+// The number that the digits in front spell, and how many they are.
+#[inline]
+fn leading_number(bytes: &[u8]) -> Option<(u64, usize)>
+    ensures { IfSome result (λ p. (p.1 ≤ length bytes.now) × (small (take p.1 bytes.now) ≡ Some p.0)) }
+{
+    let mut n = 0;
+    let mut count = 0;
+    while count < bytes.len() && bytes[count].is_ascii_digit() {
+        if n >= SHORT_NUMBER {
+            return None;
+        }
+        n = n * 10 + u64::from(bytes[count] - b'0');
+        count += 1;
+    }
+    if count == 1 || count > 1 && bytes[0] != b'0' {
+        Some((n, count))
+    } else {
+        None
+    }
+}
