@@ -13,12 +13,12 @@ ghost use Rattle.lb_script.specs.Session.{AnswersLine, TakesTurn};
 use lb_counted::counted::Counted;
 use lb_history::answer::Answer;
 use lb_kinds::kinds::Kind;
-use lb_lines::lines::{LineRead, read_line};
+use lb_lines::lines::{LineRead, line_ahead, read_line};
 use lb_lines::read_ahead::ReadAhead;
 use lb_select::walk::BackendSelection;
 use lb_step_text::error::ScriptError;
 use lb_step_text::parse::{LineStep, parse};
-use lb_step_text::texts::push_answer;
+use lb_step_text::texts::push_line;
 use lb_world::world::World;
 use std::alloc::Global;
 use std::io::{Read, Write};
@@ -45,6 +45,7 @@ pub(crate) struct Session<S: BackendSelection> {
     ahead: ReadAhead,
     line: Vec<u8>,
     pub(crate) text: Vec<u8>,
+    spare: Vec<u8>,
 }
 
 impl<S: BackendSelection<Config = Kind>> Session<S> {
@@ -58,10 +59,12 @@ impl<S: BackendSelection<Config = Kind>> Session<S> {
             ahead: ReadAhead::new(),
             line: Vec::new(alloc),
             text: Vec::new(alloc),
+            spare: Vec::new(alloc),
         }
     }
 
-    /// Reads the next line and answers it. Before a read, what was written is flushed.
+    /// Answers the next line: one that was read ahead as it lies there, else one that is read first. Before a read, what was
+    /// written is flushed.
     pub(crate) fn take_turn<R: Read, W: Write>(
         &mut self,
         alloc: Global,
@@ -80,12 +83,27 @@ impl<S: BackendSelection<Config = Kind>> Session<S> {
         ensures writer_failed { result ≡ Turn.WriteFailed → has_failed writer.new ≡ true }
         ensures writer_kept { result ≢ Turn.WriteFailed → has_failed writer.new ≡ has_failed writer.old }
     {
+        if let Some(line) = line_ahead(&self.ahead) {
+            let count = line.len() + 1;
+            let answered = answer(
+                alloc,
+                &mut self.world,
+                line,
+                &mut self.text,
+                &mut self.spare,
+            );
+            self.ahead.consume(count);
+            return match answered {
+                Ok(()) => Turn::Answered,
+                Err(error) => Turn::Failed(error),
+            };
+        }
         match read_line(reader, writer, &mut self.ahead, &mut self.line) {
-            LineRead::Line => match self.answer(alloc) {
+            LineRead::Line => match self.answer_read(alloc) {
                 Ok(()) => Turn::Answered,
                 Err(error) => Turn::Failed(error),
             },
-            LineRead::LastLine => match self.answer(alloc) {
+            LineRead::LastLine => match self.answer_read(alloc) {
                 Ok(()) => Turn::LastAnswered,
                 Err(error) => Turn::Failed(error),
             },
@@ -97,21 +115,41 @@ impl<S: BackendSelection<Config = Kind>> Session<S> {
         }
     }
 
-    // Takes the step that the line asks for, and makes the text that of its answer and a line feed.
-    fn answer(&mut self, alloc: Global) -> Result<(), ScriptError>
+    // Answers the line that was read and copied.
+    fn answer_read(&mut self, alloc: Global) -> Result<(), ScriptError>
         ensures line { let M = meaning_of S.BackendSelection in
             (h : History Kind) → Stands M self.old.world h
             → AnswersLine M h self.old.line.items self.new.world (self.new.text.items) result }
         ensures own { result ≢ Err ScriptError.Read }
         ensures ahead { self.new.ahead ≡ self.old.ahead }
     {
-        let step = parse(alloc, &self.line)?;
-        let answer = take_step(&mut self.world, step);
-        self.text.clear();
-        push_answer(alloc, &mut self.text, &answer)?;
-        self.text.push(b'\n')?;
-        Ok(())
+        answer(
+            alloc,
+            &mut self.world,
+            &self.line,
+            &mut self.text,
+            &mut self.spare,
+        )
     }
+}
+
+// Takes the step that the line asks for, and makes `text` that of its answer and a line feed.
+fn answer<S: BackendSelection<Config = Kind>>(
+    alloc: Global,
+    world: &mut World<S>,
+    line: &[u8],
+    text: &mut Vec<u8>,
+    spare: &mut Vec<u8>,
+) -> Result<(), ScriptError>
+    ensures line { let M = meaning_of S.BackendSelection in
+        (h : History Kind) → Stands M world.old h → AnswersLine M h line.now world.new text.new.items result }
+    ensures own { result ≢ Err ScriptError.Read }
+{
+    let step = parse(alloc, line)?;
+    let answer = take_step(world, step);
+    text.clear();
+    push_line(alloc, text, spare, &answer)?;
+    Ok(())
 }
 
 // Takes the step of a line.
