@@ -6,26 +6,31 @@ ghost use Rattle.lb_registry.specs.Registry.{IsRegistryAfter};
 
 use lb_registry::keys::{KeyRule, Rule};
 use lb_registry::registry::Registry;
-use lb_select::backend::Backend;
+use lb_select::backend::{Backend, Ext};
 use lb_select::refusal::Refusal;
 use std::alloc::Global;
 
-/// No rule of a caller's: it has no value. A caller's own rule for a locked registry is a type with `KeyRule`; what holds one with
-/// `ByNumber` has to be generic over its rule.
+/// The rule where a caller gives none: the key of a backend is its address and weight, as by `Rule::Identity`. A caller's own rule for
+/// a locked registry is a type with `KeyRule`; what holds one with `ByNumber` has to be generic over its rule.
 #[derive(Drop)]
-pub enum NoRule {}
+pub struct NoRule;
 
 impl KeyRule for NoRule {
     ghost use Rattle.std.specs.Prelude.{◌≡◌};
+    ghost use Rattle.lb_registry.specs.Keys.{by_identity};
 
-    ghost gives = { λ rule backend key. key ≡ backend };
+    ghost gives = { λ rule backend key. key ≡ by_identity backend };
 
-    fn key(&self, _alloc: Global, _backend: &Backend) -> Result<Backend, Refusal> {
-        match *self {}
+    fn key(&self, alloc: Global, backend: &Backend) -> Result<Backend, Refusal> {
+        Ok(Backend {
+            addr: backend.addr.clone()?,
+            weight: backend.weight,
+            ext: Ext::new(alloc),
+        })
     }
 
-    fn same(&self, _backend: &Backend, _other: &Backend) -> bool {
-        match *self {}
+    fn same(&self, backend: &Backend, other: &Backend) -> bool {
+        backend == other
     }
 }
 
