@@ -9,3 +9,4 @@ pub mod StateLemmas
 pub mod LawLemmas
 pub mod KeptLemmas
 pub mod MarkLemmas
+pub mod RowLemmas

@@ -1,5 +1,5 @@
 -- The numbering of a change's keys, one by one, with the cells that it stores; and how many keys start.
-use Rattle.std.proofs.Common.{◌≡◌, ◌<◌, ◌≤◌, ◌+◌, ◌^◌, ℕ, Bool, true, false, cond, not, List, [], ◌∷◌, ◌++◌, length, reverse, filter, count_by, Option, Some, None, refl, sym, ap, subst, ◌∙◌, arith, length-append}
+use Rattle.std.proofs.Common.{◌≡◌, ◌<◌, ◌≤◌, ◌+◌, ◌^◌, ℕ, Bool, true, false, cond, not, List, [], ◌∷◌, ◌++◌, length, reverse, filter, count_by, Option, Some, None, refl, sym, ap, subst, ◌∙◌, arith, length-append, ◌≢◌}
 use Rattle.std.proofs.lemmas.List.{length-reverse}
 use Rattle.std.proofs.lemmas.List.Sums.{length-filter}
 use Rattle.std.proofs.lemmas.Option.{same_Some}
@@ -16,6 +16,9 @@ use Rattle.lb_registry.specs.Verdicts.{IsHealthAfter}
 use Rattle.lb_registry.proofs.CellLemmas.{either, cond_is, cell_now-same, cell_now-lt, cell_now-some, starts-push, starts-grow, cell_now-push, number_of}
 
 -- another number is at another place
+pub below_apart : (c d : ℕ) → d < c → d ≢ c
+below_apart c d l e = omega arith
+
 pub apart : (c d : ℕ) → d < c → is_at (nat_cmp c) d ≡ false
 apart c d l = let ne : c ≡ d → ⊥ = λ e. omega arith in unsigned_tied c d ∙ ne_eqb c d ne
 

@@ -5,6 +5,7 @@ pub mod Keys
 pub mod OwnCells
 pub mod Registry
 pub mod RegistryEvents
+pub mod Row
 pub mod Starts
 pub mod Table
 pub mod Targets

@@ -35,7 +35,7 @@ table_value t =
     record {
       by_key = t.numbering.by_key.entries;
       next = t.numbering.next;
-      cells = t.cells.entries;
+      cells = t.cells;
       held = map hold_of t.held.items;
       start = t.start;
     }

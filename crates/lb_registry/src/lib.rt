@@ -9,5 +9,7 @@ pub mod keys;
 pub mod laws;
 mod numbering;
 pub mod registry;
+mod row;
+mod stored;
 mod table;
 pub mod targets;

@@ -10,6 +10,7 @@ ghost use Rattle.lb_registry.specs.Starts.{starts, value_at, IsNumbered};
 
 use crate::health::Health;
 use crate::keys::HealthKey;
+use crate::stored::StoredCells;
 use crate::table::Cell;
 use lb_select::refusal::Refusal;
 use std::alloc::Global;
@@ -45,14 +46,14 @@ fn numbered<K: HealthKey>(
     before: &Numbering<K>,
     keys: &[K],
     start: bool,
-    cells: &mut BTreeMap<u64, Cell<K>>,
+    cells: &mut StoredCells<K>,
 ) -> Result<Numbering<K>, Refusal>
     ensures ok { IfOk result (λ after. (all : List (List K)) → IsNumbered K.cmp all before.now.by_key.entries before.now.next
         → IsNumbered K.cmp (keys.now ∷ all) after.by_key.entries after.next) }
     ensures stored { IfOk result (λ after. (all : List (List K)) (first : ℕ)
         → IsNumbered K.cmp all before.now.by_key.entries before.now.next
-        → AreStored K.cmp first start all cells.old.entries → AreStored K.cmp first start (keys.now ∷ all) cells.new.entries) }
-    ensures others { (c : ℕ) → c < before.now.next → value_at nat_cmp cells.new.entries c ≡ value_at nat_cmp cells.old.entries c }
+        → AreStored K.cmp first start all cells.old → AreStored K.cmp first start (keys.now ∷ all) cells.new) }
+    ensures others { (c : ℕ) → c < before.now.next → value_at nat_cmp cells.new c ≡ value_at nat_cmp cells.old c }
     ensures fits { IfOk result (λ after. after.next < 2 ^ 64) }
     ensures exhausted { IsErrOf result Refusal.NumbersExhausted
         → (all : List (List K)) → IsNumbered K.cmp all before.now.by_key.entries before.now.next
@@ -91,14 +92,14 @@ pub(crate) fn renumbered<K: HealthKey>(
     before: &Numbering<K>,
     keys: &[K],
     start: bool,
-    cells: &mut BTreeMap<u64, Cell<K>>,
+    cells: &mut StoredCells<K>,
 ) -> Result<Numbering<K>, Refusal>
     ensures ok { IfOk result (λ after. (all : List (List K)) → IsNumbered K.cmp all before.now.by_key.entries before.now.next
         → IsNumbered K.cmp (keys.now ∷ all) after.by_key.entries after.next) }
     ensures stored { IfOk result (λ after. (all : List (List K)) (first : ℕ)
         → IsNumbered K.cmp all before.now.by_key.entries before.now.next
-        → AreStored K.cmp first start all cells.old.entries → AreStored K.cmp first start (keys.now ∷ all) cells.new.entries) }
-    ensures others { (c : ℕ) → c < before.now.next → value_at nat_cmp cells.new.entries c ≡ value_at nat_cmp cells.old.entries c }
+        → AreStored K.cmp first start all cells.old → AreStored K.cmp first start (keys.now ∷ all) cells.new) }
+    ensures others { (c : ℕ) → c < before.now.next → value_at nat_cmp cells.new c ≡ value_at nat_cmp cells.old c }
     ensures exhausted { (all : List (List K)) → IsNumbered K.cmp all before.now.by_key.entries before.now.next
         → (IsErrOf result Refusal.NumbersExhausted ↔ (2 ^ 64 ≤ length (starts (eq_by_cmp K.cmp) (keys.now ∷ all)))) }
     ensures refused { OnErr result (IsGrowthRefusal result) }

@@ -15,6 +15,7 @@ ghost use Rattle.lb_registry.specs.Verdicts.{Verdict, IsHealthAfter};
 use crate::health::Health;
 use crate::keys::HealthKey;
 use crate::numbering::{Numbering, renumbered};
+use crate::stored::StoredCells;
 use lb_select::refusal::Refusal;
 use std::alloc::Global;
 use std::collections::{BTreeMap, BTreeSet};
@@ -38,7 +39,7 @@ pub struct Held {
 #[derive(Drop)]
 pub struct CellTable<K: Ord + Drop> {
     pub(crate) numbering: Numbering<K>,
-    pub(crate) cells: BTreeMap<u64, Cell<K>>,
+    pub(crate) cells: StoredCells<K>,
     pub(crate) held: Vec<Held>,
     pub(crate) start: bool,
 }
@@ -62,7 +63,12 @@ fn is_number(now: Option<u64>, cell: u64) -> bool
 
 // Whether a cell that is stored with this key is kept: the target of the key has it, or a live snapshot.
 #[tactic(auto, using(crate::proofs::TableLemmas::any_holds))]
-fn keeps<K: HealthKey>(numbering: &Numbering<K>, held: &[Held], cell: u64, key: &K) -> bool
+pub(crate) fn keeps<K: HealthKey>(
+    numbering: &Numbering<K>,
+    held: &[Held],
+    cell: u64,
+    key: &K,
+) -> bool
     ensures { result ≡ keeps_cell K.cmp numbering.now.by_key.entries (map hold_of held.now) cell key.now }
 {
     let now = numbering.by_key.get(key).copied();
@@ -83,7 +89,7 @@ impl<K: HealthKey> CellTable<K> {
                 by_key: BTreeMap::new(alloc),
                 next: 0,
             },
-            cells: BTreeMap::new(alloc),
+            cells: StoredCells::new(alloc),
             held: Vec::new(alloc),
             start: true,
         }
@@ -106,7 +112,7 @@ impl<K: HealthKey> CellTable<K> {
             (λ h. IsKept K.cmp events cell × IsHealthAfter (start_of (eq_by_cmp K.cmp) cell events) (verdicts_of cell events) h) }
         ensures stored { IsSome result → IsSome (value_at nat_cmp (table_value self.now).cells cell) }
     {
-        let stored = self.cells.get(&cell)?;
+        let stored = self.cells.get(cell)?;
         Some(stored.health)
     }
 
@@ -116,10 +122,7 @@ impl<K: HealthKey> CellTable<K> {
             → IsPruned K.cmp events (table_value self.now)
             → (IsTrue result ↔ (IsKept K.cmp events cell × (health_of (eq_by_cmp K.cmp) cell events ≡ true))) }
     {
-        match self.kept(cell) {
-            Some(health) => health.ready(),
-            None => false,
-        }
+        self.cells.is_healthy(cell).unwrap_or(false)
     }
 
     // Takes a verdict for a cell; whether its health flipped. Refused `NoSuch` where the cell isn't kept. It takes no memory.
@@ -146,9 +149,7 @@ impl<K: HealthKey> CellTable<K> {
             return Err(Refusal::NoSuch);
         };
         let flipped = health.observe_health(verdict, threshold);
-        if let Some(stored) = self.cells.get_mut(&cell) {
-            stored.health = health;
-        }
+        self.cells.set_health(cell, health);
         Ok(flipped)
     }
 
@@ -251,16 +252,6 @@ impl<K: HealthKey> CellTable<K> {
             → IsPruned K.cmp events (table_value self.new) }
         ensures held { self.new.held ≡ self.old.held }
     {
-        let numbering = &self.numbering;
-        let held = &self.held;
-        self.cells.retain(
-            |cell, stored|
-                ensures value { result ≡ keeps_cell K.cmp numbering.entry.now.by_key.entries (map hold_of held.entry.now.items)
-                    cell.now stored.old.key }
-                ensures same { stored.new ≡ stored.old }
-                ensures numbering_stays { numbering.exit ≡ numbering.entry }
-                ensures held_stays { held.exit ≡ held.entry }
-            { keeps(numbering, held, *cell, &stored.key) },
-        );
+        self.cells.retain(&self.numbering, &self.held);
     }
 }

@@ -96,22 +96,43 @@ where
     let mut session = Session::<S>::new(alloc);
     for number in 1..u64::MAX {
         match session.take_turn(alloc, reader, writer) {
-            Turn::Answered => writer.put(&session.text).ok()?,
+            Turn::Answered => {}
             Turn::LastAnswered => {
-                writer.put(&session.text).ok()?;
+                writer.put(&session.waiting).ok()?;
                 return Some(0);
             }
-            Turn::Ended => return Some(0),
+            Turn::Ended => {
+                writer.put(&session.waiting).ok()?;
+                return Some(0);
+            }
             Turn::Failed(error) => {
-                put_error(writer, number, error).ok()?;
+                put_last(writer, &session.waiting, number, error).ok()?;
                 return Some(1);
             }
             Turn::WriteFailed => return None,
         }
     }
     // A line past the last number counts as one that memory was refused at.
-    put_error(writer, u64::MAX, ScriptError::OutOfMemory).ok()?;
+    put_last(writer, &session.waiting, u64::MAX, ScriptError::OutOfMemory).ok()?;
     Some(1)
+}
+
+// Writes what waits and then the last line of a script that ends at that line. No memory is taken.
+fn put_last<W: Write>(
+    writer: &mut Counted<W>,
+    waiting: &[u8],
+    line: u64,
+    error: ScriptError,
+) -> io::Result<()>
+    ensures ok { OnOk result (Appends (W.contents (inner_of writer.old)) (W.contents (inner_of writer.new))
+        (waiting.now ++ (error_text line error ++ codes "\n"))) }
+    ensures part { OnErr result (AppendsFront (W.contents (inner_of writer.old)) (W.contents (inner_of writer.new))
+        (waiting.now ++ (error_text line error ++ codes "\n"))) }
+    ensures kept { OnOk result (has_failed writer.new ≡ has_failed writer.old) }
+    ensures noted { OnErr result (has_failed writer.new ≡ true) }
+{
+    writer.put(waiting)?;
+    put_error(writer, line, error)
 }
 
 // Writes the last line of a script that ends at that line. No memory is taken.

@@ -1,14 +1,14 @@
-//! One line of a script at a time: it is read, its step is taken, and the text of the answer is prepared.
+//! One line of a script at a time: it is read, its step is taken, and the text of the answer joins what waits to be written.
 //! What a run keeps between its lines stands here; the buffers are used again for each line.
-ghost use Rattle.std.specs.Prelude.{◌≡◌, ◌≢◌, [], ◌∷◌, Err, true};
-ghost use Rattle.std.specs.Io.KnownBytes.{Keeps, prepend_known};
+ghost use Rattle.std.specs.Prelude.{◌≡◌, ◌≢◌, [], ◌∷◌, ◌++◌, Err, true, OnOk, OnErr};
+ghost use Rattle.std.specs.Io.KnownBytes.{Appends, Keeps, prepend_known};
 ghost use Rattle.lb_history.specs.History.{History};
 ghost use Rattle.lb_history.specs.Meanings.{meaning_of};
 ghost use Rattle.lb_world.specs.Stands.{Stands};
 ghost use Rattle.lb_step_text.specs.LineSteps.{line_step_seen};
 ghost use Rattle.lb_counted.specs.Counted.{inner_of, has_failed};
-ghost use Rattle.lb_counted.specs.Stream.{OnBytes};
-ghost use Rattle.lb_script.specs.Session.{AnswersLine, TakesTurn};
+ghost use Rattle.lb_counted.specs.Stream.{OnBytes, AppendsFront};
+ghost use Rattle.lb_script.specs.Session.{AnswersLine, TakesTurn, Joins};
 
 use lb_counted::counted::Counted;
 use lb_history::answer::Answer;
@@ -18,15 +18,19 @@ use lb_lines::read_ahead::ReadAhead;
 use lb_select::walk::BackendSelection;
 use lb_step_text::error::ScriptError;
 use lb_step_text::parse::{LineStep, parse};
-use lb_step_text::texts::push_line;
+use lb_step_text::texts::{Scratch, push_line};
 use lb_world::world::World;
 use std::alloc::Global;
+use std::io;
 use std::io::{Read, Write};
+
+// Where so many bytes of answers wait, they are written before the next line is answered.
+const MOST_WAITING: usize = 32768;
 
 /// What came of a turn, which reads a line and answers it.
 #[derive(Clone, Copy, Debug, PartialEq, Eq)]
 pub(crate) enum Turn {
-    /// A line was answered. The session's text is the answer's and a line feed.
+    /// A line was answered: the text of the answer and a line feed wait to be written.
     Answered,
     /// The same, and the stream's end ended that line: nothing comes after it.
     LastAnswered,
@@ -34,7 +38,7 @@ pub(crate) enum Turn {
     Ended,
     /// There is no answer to the line.
     Failed(ScriptError),
-    /// The writer failed, as it was flushed before a read.
+    /// The writer failed, as what waited was written or flushed.
     WriteFailed,
 }
 
@@ -44,8 +48,9 @@ pub(crate) struct Session<S: BackendSelection> {
     world: World<S>,
     ahead: ReadAhead,
     line: Vec<u8>,
-    pub(crate) text: Vec<u8>,
-    spare: Vec<u8>,
+    // the answers that aren't written yet
+    pub(crate) waiting: Vec<u8>,
+    scratch: Scratch,
 }
 
 impl<S: BackendSelection<Config = Kind>> Session<S> {
@@ -53,18 +58,19 @@ impl<S: BackendSelection<Config = Kind>> Session<S> {
     pub(crate) fn new(alloc: Global) -> Session<S>
         ensures stands { Stands (meaning_of S.BackendSelection) result.world [] }
         ensures ahead { result.ahead ≡ [] }
+        ensures waiting { result.waiting.items ≡ [] }
     {
         Session {
             world: World::new(alloc),
             ahead: ReadAhead::new(),
             line: Vec::new(alloc),
-            text: Vec::new(alloc),
-            spare: Vec::new(alloc),
+            waiting: Vec::new(alloc),
+            scratch: Scratch::new(alloc),
         }
     }
 
-    /// Answers the next line: one that was read ahead as it lies there, else one that is read first. Before a read, what was
-    /// written is flushed.
+    /// Answers the next line: one that was read ahead as it lies there, else one that is read first. Before a read all that waits
+    /// is written and flushed; while lines were read ahead, their answers wait together, 32768 bytes and one answer at most.
     pub(crate) fn take_turn<R: Read, W: Write>(
         &mut self,
         alloc: Global,
@@ -75,7 +81,68 @@ impl<S: BackendSelection<Config = Kind>> Session<S> {
             (h : History Kind) → Stands M self.old.world h
             → OnBytes (prepend_known self.old.ahead (R.remaining (inner_of reader.old)))
             (prepend_known self.new.ahead (R.remaining (inner_of reader.new)))
-            (TakesTurn M h self.new.world (self.new.text.items) result) }
+            (TakesTurn M h self.new.world (Joins (W.contents (inner_of writer.old)) (W.contents (inner_of writer.new))
+            self.old.waiting.items self.new.waiting.items) result) }
+        ensures none { result ≡ Turn.Failed ScriptError.Read → self.new.ahead ≡ [] }
+        ensures part { result ≡ Turn.WriteFailed
+            → AppendsFront (W.contents (inner_of writer.old)) (W.contents (inner_of writer.new)) self.old.waiting.items }
+        ensures reader_failed { result ≡ Turn.Failed ScriptError.Read → has_failed reader.new ≡ true }
+        ensures reader_kept { result ≢ Turn.Failed ScriptError.Read → has_failed reader.new ≡ has_failed reader.old }
+        ensures writer_failed { result ≡ Turn.WriteFailed → has_failed writer.new ≡ true }
+        ensures writer_kept { result ≢ Turn.WriteFailed → has_failed writer.new ≡ has_failed writer.old }
+    {
+        if self.waiting.len() < MOST_WAITING {
+            if let Some(line) = line_ahead(&self.ahead) {
+                let count = line.len() + 1;
+                let answered = answer(
+                    alloc,
+                    &mut self.world,
+                    line,
+                    &mut self.waiting,
+                    &mut self.scratch,
+                );
+                self.ahead.consume(count);
+                return match answered {
+                    Ok(()) => Turn::Answered,
+                    Err(error) => Turn::Failed(error),
+                };
+            }
+        }
+        match self.write_waiting(writer) {
+            Ok(()) => self.take_read_turn(alloc, reader, writer),
+            Err(_) => Turn::WriteFailed,
+        }
+    }
+
+    // Writes what waits.
+    fn write_waiting<W: Write>(&mut self, writer: &mut Counted<W>) -> io::Result<()>
+        ensures ok { OnOk result (Appends (W.contents (inner_of writer.old)) (W.contents (inner_of writer.new)) self.old.waiting.items) }
+        ensures part { OnErr result
+            (AppendsFront (W.contents (inner_of writer.old)) (W.contents (inner_of writer.new)) self.old.waiting.items) }
+        ensures none { OnOk result (self.new.waiting.items ≡ []) }
+        ensures kept { OnOk result (has_failed writer.new ≡ has_failed writer.old) }
+        ensures noted { OnErr result (has_failed writer.new ≡ true) }
+        ensures world { self.new.world ≡ self.old.world }
+        ensures ahead { self.new.ahead ≡ self.old.ahead }
+    {
+        writer.put(&self.waiting)?;
+        self.waiting.clear();
+        Ok(())
+    }
+
+    // A turn in which the next line is read and copied. Nothing waits.
+    fn take_read_turn<R: Read, W: Write>(
+        &mut self,
+        alloc: Global,
+        reader: &mut Counted<R>,
+        writer: &mut Counted<W>,
+    ) -> Turn
+        requires none { self.old.waiting.items ≡ [] }
+        ensures turn { let M = meaning_of S.BackendSelection in
+            (h : History Kind) → Stands M self.old.world h
+            → OnBytes (prepend_known self.old.ahead (R.remaining (inner_of reader.old)))
+            (prepend_known self.new.ahead (R.remaining (inner_of reader.new)))
+            (TakesTurn M h self.new.world (λ text. self.new.waiting.items ≡ text) result) }
         ensures none { result ≡ Turn.Failed ScriptError.Read → self.new.ahead ≡ [] }
         ensures written { Keeps (W.contents (inner_of writer.old)) (W.contents (inner_of writer.new)) }
         ensures reader_failed { result ≡ Turn.Failed ScriptError.Read → has_failed reader.new ≡ true }
@@ -83,21 +150,6 @@ impl<S: BackendSelection<Config = Kind>> Session<S> {
         ensures writer_failed { result ≡ Turn.WriteFailed → has_failed writer.new ≡ true }
         ensures writer_kept { result ≢ Turn.WriteFailed → has_failed writer.new ≡ has_failed writer.old }
     {
-        if let Some(line) = line_ahead(&self.ahead) {
-            let count = line.len() + 1;
-            let answered = answer(
-                alloc,
-                &mut self.world,
-                line,
-                &mut self.text,
-                &mut self.spare,
-            );
-            self.ahead.consume(count);
-            return match answered {
-                Ok(()) => Turn::Answered,
-                Err(error) => Turn::Failed(error),
-            };
-        }
         match read_line(reader, writer, &mut self.ahead, &mut self.line) {
             LineRead::Line => match self.answer_read(alloc) {
                 Ok(()) => Turn::Answered,
@@ -119,7 +171,7 @@ impl<S: BackendSelection<Config = Kind>> Session<S> {
     fn answer_read(&mut self, alloc: Global) -> Result<(), ScriptError>
         ensures line { let M = meaning_of S.BackendSelection in
             (h : History Kind) → Stands M self.old.world h
-            → AnswersLine M h self.old.line.items self.new.world (self.new.text.items) result }
+            → AnswersLine M h self.old.line.items self.new.world (λ text. self.new.waiting.items ≡ self.old.waiting.items ++ text) result }
         ensures own { result ≢ Err ScriptError.Read }
         ensures ahead { self.new.ahead ≡ self.old.ahead }
     {
@@ -127,28 +179,28 @@ impl<S: BackendSelection<Config = Kind>> Session<S> {
             alloc,
             &mut self.world,
             &self.line,
-            &mut self.text,
-            &mut self.spare,
+            &mut self.waiting,
+            &mut self.scratch,
         )
     }
 }
 
-// Takes the step that the line asks for, and makes `text` that of its answer and a line feed.
+// Takes the step that the line asks for, and appends the text of its answer and a line feed; nothing where there is no answer.
 fn answer<S: BackendSelection<Config = Kind>>(
     alloc: Global,
     world: &mut World<S>,
     line: &[u8],
     text: &mut Vec<u8>,
-    spare: &mut Vec<u8>,
+    scratch: &mut Scratch,
 ) -> Result<(), ScriptError>
     ensures line { let M = meaning_of S.BackendSelection in
-        (h : History Kind) → Stands M world.old h → AnswersLine M h line.now world.new text.new.items result }
+        (h : History Kind) → Stands M world.old h
+        → AnswersLine M h line.now world.new (λ t. text.new.items ≡ text.old.items ++ t) result }
     ensures own { result ≢ Err ScriptError.Read }
 {
     let step = parse(alloc, line)?;
     let answer = take_step(world, step);
-    text.clear();
-    push_line(alloc, text, spare, &answer)?;
+    push_line(alloc, text, scratch, &answer)?;
     Ok(())
 }
 

@@ -9,7 +9,7 @@ use lb_select::backend::{Backend, InetAddr, SocketAddr};
 use std::alloc::{AllocError, Global};
 
 /// How many bytes a text that grows at its front may have: six numbers, five bytes between them, a name, a line feed and some.
-const CAPACITY: usize = 144;
+pub const CAPACITY: usize = 144;
 
 /// Appends the text of a backend: its address, a slash and its weight.
 pub fn push_backend(alloc: Global, text: &mut Vec<u8>, backend: &Backend) -> Result<(), AllocError>
@@ -29,11 +29,12 @@ pub fn push_backend(alloc: Global, text: &mut Vec<u8>, backend: &Backend) -> Res
     }
 }
 
-/// Appends the answer that is a backend and a line feed, or nothing where memory is refused. Most answers are this one, and it is
-/// copied once.
+/// Appends the answer that is a backend and a line feed, or nothing where memory is refused. Most answers are this one: it is spelled
+/// in `bytes`, whose content has no meaning before or after, and copied once.
 pub fn push_backend_line(
     alloc: Global,
     text: &mut Vec<u8>,
+    bytes: &mut [u8; CAPACITY],
     backend: &Backend,
 ) -> Result<(), AllocError>
     ensures ok { OnOk result (text.new.items ≡ text.old.items ++ (codes "backend " ++ member_text backend.now ++ codes "\n")) }
@@ -42,10 +43,9 @@ pub fn push_backend_line(
     let (address, weight) = backend.identity();
     match address {
         SocketAddr::Inet(InetAddr::V4(octets, port)) => {
-            let mut bytes = [0; CAPACITY];
-            let end = put_byte(&mut bytes, CAPACITY, b'\n');
-            let address = put_ipv4(&mut bytes, end, octets, *port, weight as u64);
-            let start = put_name(&mut bytes, address);
+            let end = put_byte(bytes, CAPACITY, b'\n');
+            let address = put_ipv4(bytes, end, octets, *port, weight as u64);
+            let start = put_name(bytes, address);
             text.extend_from_slice(&bytes[start..])
         }
         _ => {

@@ -4,32 +4,60 @@ ghost use Rattle.std.specs.Prelude.{◌≡◌, ◌++◌, codes, decimal, OnErr, 
 ghost use Rattle.lb_select.specs.AddressText.{member_text};
 ghost use Rattle.lb_step_text.specs.Texts.{readers_text, refusal_text, answer_text};
 
-use crate::backend_text::{push_backend, push_backend_line};
+use crate::backend_text::{CAPACITY, push_backend, push_backend_line};
 use crate::figures::{push_counts, push_flag, push_numbered, push_targets, push_timing, push_wide};
 use lb_history::answer::Answer;
 use lb_select::backend::Backend;
 use lb_select::refusal::Refusal;
 use std::alloc::{AllocError, Global};
 
-/// Appends the text of an answer and a line feed, or nothing where memory is refused. What `spare` holds has no meaning.
+/// Memory in which lines of answers are spelled before they are appended. It is used again for each; what it holds has no meaning.
+#[derive(Drop)]
+pub struct Scratch {
+    spelled: Vec<u8>,
+    bytes: [u8; CAPACITY],
+}
+
+impl Scratch {
+    /// Scratch that has taken no memory yet.
+    pub fn new(alloc: Global) -> Scratch {
+        Scratch {
+            spelled: Vec::new(alloc),
+            bytes: [0; CAPACITY],
+        }
+    }
+}
+
+/// Appends the text of an answer and a line feed, or nothing where memory is refused.
 pub fn push_line(
     alloc: Global,
     text: &mut Vec<u8>,
-    spare: &mut Vec<u8>,
+    scratch: &mut Scratch,
     answer: &Answer,
 ) -> Result<(), AllocError>
     ensures ok { OnOk result (text.new.items ≡ text.old.items ++ (answer_text answer.now ++ codes "\n")) }
     ensures none { OnErr result (text.new.items ≡ text.old.items) }
 {
     match answer {
-        Answer::Backend(backend, _) => push_backend_line(alloc, text, backend),
-        _ => {
-            spare.clear();
-            push_answer(alloc, spare, answer)?;
-            spare.extend_from_slice(b"\n")?;
-            text.extend_from_slice(spare)
-        }
+        Answer::Backend(backend, _) => push_backend_line(alloc, text, &mut scratch.bytes, backend),
+        _ => push_other_line(alloc, text, &mut scratch.spelled, answer),
     }
+}
+
+// The same for any answer. It is spelled apart, so that nothing of it is appended where memory is refused.
+fn push_other_line(
+    alloc: Global,
+    text: &mut Vec<u8>,
+    spelled: &mut Vec<u8>,
+    answer: &Answer,
+) -> Result<(), AllocError>
+    ensures ok { OnOk result (text.new.items ≡ text.old.items ++ (answer_text answer.now ++ codes "\n")) }
+    ensures none { OnErr result (text.new.items ≡ text.old.items) }
+{
+    spelled.clear();
+    push_answer(alloc, spelled, answer)?;
+    spelled.extend_from_slice(b"\n")?;
+    text.extend_from_slice(spelled)
 }
 
 /// Appends the text of an answer, without a line feed.

@@ -3,7 +3,7 @@ use Rattle.std.proofs.lemmas.Bool.{cases_lt}
 use Rattle.std.proofs.lemmas.List.{take_more, take-append-drop}
 use Rattle.std.specs.Ordering.{nat_cmp}
 use Rattle.lb_registry.specs.Starts.{value_at}
-use Rattle.lb_registry.proofs.NumberLemmas.{apart, numbered-had, numbered-new, stored-stays, stored-had, stored-new, untargeted, exhausted_by}
+use Rattle.lb_registry.proofs.NumberLemmas.{below_apart, numbered-had, numbered-new, stored-stays, stored-had, stored-new, untargeted, exhausted_by}
 use Rattle.lb_registry.proofs.numbering.numbered.Goals as goal
 use Rattle.lb_registry.proofs.numbering.numbered.Goals.{in-Some+in_ok-clone-in-Some+in_ok-insert-in-Some, in-None+in-Some-checked_add+in_ok-clone-in-None+in_ok-insert-in-None+in_ok-clone-in-None-2+in_ok-insert-in-None-2}
 
@@ -40,18 +40,18 @@ loop-key-preserved g c =
                 (sym (n.cells x) ∙ sym c.get.ensures.value ∙ sym c.copied-had.ensures ∙ w.in-Some.is)
                 (rw (g.met.K.HealthKey.clone_is _ _ w.in_ok-clone-in-Some.ensures.cases) at w.in_ok-insert-in-Some.ensures.updates).0;
             stored = λ all first n s.
-                stored-had total all (take i keys) x _ first c.args.start c.loop-key.cells.entries
+                stored-had total all (take i keys) x _ first c.args.start c.loop-key.cells
                 (sym (n.cells x) ∙ sym c.get.ensures.value ∙ sym c.copied-had.ensures ∙ w.in-Some.is)
-                (stored-stays total all first c.args.start c.args.cells.now.entries c.loop-key.cells.entries c.args.before.now.next (omega (arith, n.given)) c.loop-key.invariant.others s)
+                (stored-stays total all first c.args.start c.args.cells.now c.loop-key.cells c.args.before.now.next (omega (arith, n.given)) c.loop-key.invariant.others s)
                 (c.loop-key.invariant.stored all first n s);
           })
       | in-None+in-Some-checked_add+in_ok-clone-in-None+in_ok-insert-in-None+in_ok-clone-in-None-2+in_ok-insert-in-None-2 w ↦
           let none : value_at g.K.Ord.cmp c.args.before.now.by_key.entries x ≡ None
           = sym c.get.ensures.value ∙ sym c.copied-had.ensures ∙ w.in-None.is in
-          let cells = rw (g.met.K.HealthKey.clone_is _ _ w.in_ok-clone-in-None.ensures.cases) at w.in_ok-insert-in-None.ensures.updates in
+          let stored = rw (g.met.K.HealthKey.clone_is _ _ w.in_ok-clone-in-None.ensures.cases) at w.in_ok-insert-in-None.ensures.stored in
           let by_key = rw (g.met.K.HealthKey.clone_is _ _ w.in_ok-clone-in-None-2.ensures.cases) at w.in_ok-insert-in-None-2.ensures.updates in
-          let other : (d : ℕ) → d < c.loop-key.next → value_at nat_cmp w.insert-in-None.new.self.entries d ≡ value_at nat_cmp c.loop-key.cells.entries d
-          = λ d l. cells.2 d (apart c.loop-key.next d l) in
+          let other : (d : ℕ) → d < c.loop-key.next → value_at nat_cmp w.insert-in-None.new.self d ≡ value_at nat_cmp c.loop-key.cells d
+          = λ d l. w.in_ok-insert-in-None.ensures.others d (below_apart c.loop-key.next d l) in
           rw (one, w.by_key-is, w.next-is, w.cells-is, w.in-Some-checked_add.ensures.1) (record {
             bound = omega (arith, c.loop-key.invariant.bound);
             fits = w.in-Some-checked_add.ensures.0;
@@ -59,8 +59,8 @@ loop-key-preserved g c =
             numbered = λ all n.
                 numbered-new total all (take i keys) x _ _ _ (c.loop-key.invariant.numbered all n) (untargeted total all _ _ x n none) by_key.0;
             stored = λ all first n s.
-                stored-new total all (take i keys) x c.loop-key.next first c.args.start c.loop-key.cells.entries w.insert-in-None.new.self.entries _
-                (untargeted total all _ _ x n none) (c.loop-key.invariant.numbered all n).given refl w.starting.ensures cells.1 other
+                stored-new total all (take i keys) x c.loop-key.next first c.args.start c.loop-key.cells w.insert-in-None.new.self _
+                (untargeted total all _ _ x n none) (c.loop-key.invariant.numbered all n).given refl w.starting.ensures stored other
                 (c.loop-key.invariant.stored all first n s);
           })
     ]

@@ -9,12 +9,12 @@ invariant-loop-key g l =
     record {
       bound : l.before.next ≤ l.next;
       fits : l.next < 2 ^ 64;
-      others : (c : ℕ) → c < l.before.next → value_at nat_cmp l.cells.entries c ≡ value_at nat_cmp l.fn.cells.entries c;
+      others : (c : ℕ) → c < l.before.next → value_at nat_cmp l.cells c ≡ value_at nat_cmp l.fn.cells c;
       numbered :
           (all : List (List g.row.K.Denot)) → IsNumbered g.K.Ord.cmp all l.before.by_key.entries l.before.next
           → IsNumbered g.K.Ord.cmp (take l.key-index l.keys ∷ all) l.by_key.entries l.next;
       stored :
           (all : List (List g.row.K.Denot)) (first : ℕ) → IsNumbered g.K.Ord.cmp all l.before.by_key.entries l.before.next
-          → AreStored g.K.Ord.cmp first l.start all l.fn.cells.entries
-          → AreStored g.K.Ord.cmp first l.start (take l.key-index l.keys ∷ all) l.cells.entries;
+          → AreStored g.K.Ord.cmp first l.start all l.fn.cells
+          → AreStored g.K.Ord.cmp first l.start (take l.key-index l.keys ∷ all) l.cells;
     }

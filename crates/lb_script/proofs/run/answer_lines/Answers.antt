@@ -1,35 +1,20 @@
-use Rattle.std.proofs.Common.{◌∙◌, ap, subst, sym, arith}
+use Rattle.std.proofs.Common.{◌∙◌, ◌++◌, codes, ap, subst, sym, arith}
 use Rattle.std.specs.Io.KnownBytes.{Appends, prepend_known}
 use Rattle.lb_history.specs.Meanings.{meaning_of}
 use Rattle.lb_counted.specs.Counted.{inner_of, has_failed}
 use Rattle.lb_counted.specs.Stream.{AppendsFront}
+use Rattle.lb_step_text.specs.declared.error.ScriptError.TheVariants.{OutOfMemory}
+use Rattle.lb_step_text.specs.Texts.{error_text}
 use Rattle.lb_script.specs.declared.session.Turn.TheVariants.{Failed}
-use Rattle.lb_script.proofs.RunLemmas.{begins, flushed_so, goes_on, is_over, ends_with_line, stops_in_last, ends_early, ends_in_part, stops_in_line, stops_unflushed, runs_out, runs_out_in_part, where_some, where_none}
+use Rattle.lb_script.proofs.RunLemmas.{begins, goes_on, is_over, stops_at_end, ends_with_line, stops_in_last, ends_early, ends_in_part, stops_waiting, runs_out, runs_out_in_part, where_some, where_none}
 use Rattle.lb_script.proofs.run.answer_lines.Goals as goal
 
 pub loop-number-init : goal.loop-number-init
 loop-number-init g c = record {
   fresh_reader = c.requires.fresh_reader;
   fresh_writer = c.requires.fresh_writer;
-  so_far = begins (meaning_of g.S.BackendSelection) (g.R.Read.remaining (inner_of c.args.reader.now)) c.new-session.result.ahead (g.W.Write.contents (inner_of c.args.writer.now)) c.new-session.result.world c.new-session.ensures.ahead c.new-session.ensures.stands;
+  so_far = begins (meaning_of g.S.BackendSelection) (g.R.Read.remaining (inner_of c.args.reader.now)) c.new-session.result.ahead (g.W.Write.contents (inner_of c.args.writer.now)) c.new-session.result.waiting.items c.new-session.result.world c.new-session.ensures.ahead c.new-session.ensures.waiting c.new-session.ensures.stands;
 }
-
-pub returns-in_err-ok-in-Answered-clause-none : goal.returns-in_err-ok-in-Answered-clause-none
-returns-in_err-ok-in-Answered-clause-none g c =
-    let M = meaning_of g.S.BackendSelection in
-    let all = g.R.Read.remaining (inner_of c.args.reader.now) in
-    let left = prepend_known c.loop-number.session.ahead (g.R.Read.remaining (inner_of c.loop-number.reader)) in
-    let unread = g.R.Read.remaining (inner_of c.take_turn.new.reader) in
-    let now = prepend_known c.take_turn.new.self.ahead unread in
-    let old = g.W.Write.contents (inner_of c.args.writer.now) in
-    let new = g.W.Write.contents (inner_of c.take_turn.new.writer) in
-    let w = c.loop-number.session.world in
-    let v = c.take_turn.new.self.world in
-    let k = c.loop-number.number in
-    let text = c.take_turn.new.self.text.items in
-    let failed = has_failed c.take_turn.new.reader in
-    let so = flushed_so M all left old (g.W.Write.contents (inner_of c.loop-number.writer)) new w k c.loop-number.invariant.so_far c.take_turn.ensures.written in
-    λ _. stops_in_line M all left now unread old new (g.W.Write.contents (inner_of c.put.new.self)) w v k text failed so c.take_turn.result c.in-Answered.is c.take_turn.ensures.turn (c.take_turn.ensures.reader_kept (λ e. cc) ∙ c.loop-number.invariant.fresh_reader) (subst (AppendsFront new (g.W.Write.contents (inner_of c.put.new.self))) c.deref.ensures.value (where_none c.put.result (sym c.ok.ensures.value ∙ c.in_err-ok-in-Answered.was) c.put.ensures.part))
 
 pub returns-in_err-ok-in-LastAnswered-clause-none : goal.returns-in_err-ok-in-LastAnswered-clause-none
 returns-in_err-ok-in-LastAnswered-clause-none g c =
@@ -39,14 +24,16 @@ returns-in_err-ok-in-LastAnswered-clause-none g c =
     let unread = g.R.Read.remaining (inner_of c.take_turn.new.reader) in
     let now = prepend_known c.take_turn.new.self.ahead unread in
     let old = g.W.Write.contents (inner_of c.args.writer.now) in
-    let new = g.W.Write.contents (inner_of c.take_turn.new.writer) in
+    let new = g.W.Write.contents (inner_of c.loop-number.writer) in
+    let mid = g.W.Write.contents (inner_of c.take_turn.new.writer) in
+    let before = c.loop-number.session.waiting.items in
+    let after = c.take_turn.new.self.waiting.items in
     let w = c.loop-number.session.world in
     let v = c.take_turn.new.self.world in
     let k = c.loop-number.number in
-    let text = c.take_turn.new.self.text.items in
     let failed = has_failed c.take_turn.new.reader in
-    let so = flushed_so M all left old (g.W.Write.contents (inner_of c.loop-number.writer)) new w k c.loop-number.invariant.so_far c.take_turn.ensures.written in
-    λ _. stops_in_last M all left now unread old new (g.W.Write.contents (inner_of c.put-in-LastAnswered.new.self)) w v k text failed so c.take_turn.result c.in-LastAnswered.is c.take_turn.ensures.turn (c.take_turn.ensures.reader_kept (λ e. cc) ∙ c.loop-number.invariant.fresh_reader) (subst (AppendsFront new (g.W.Write.contents (inner_of c.put-in-LastAnswered.new.self))) c.deref-in-LastAnswered.ensures.value (where_none c.put-in-LastAnswered.result (sym c.ok-in-LastAnswered.ensures.value ∙ c.in_err-ok-in-LastAnswered.was) c.put-in-LastAnswered.ensures.part))
+    let so = c.loop-number.invariant.so_far in
+    λ _. stops_in_last M all left now unread old new mid (g.W.Write.contents (inner_of c.put.new.self)) before after w v k failed so c.take_turn.result c.in-LastAnswered.is c.take_turn.ensures.turn (c.take_turn.ensures.reader_kept (λ e. cc) ∙ c.loop-number.invariant.fresh_reader) (subst (AppendsFront mid (g.W.Write.contents (inner_of c.put.new.self))) c.deref.ensures.value (where_none c.put.result (sym c.ok.ensures.value ∙ c.in_err-ok-in-LastAnswered.was) c.put.ensures.part))
 
 pub returns-in-LastAnswered-clause-some : goal.returns-in-LastAnswered-clause-some
 returns-in-LastAnswered-clause-some g c =
@@ -56,14 +43,35 @@ returns-in-LastAnswered-clause-some g c =
     let unread = g.R.Read.remaining (inner_of c.take_turn.new.reader) in
     let now = prepend_known c.take_turn.new.self.ahead unread in
     let old = g.W.Write.contents (inner_of c.args.writer.now) in
-    let new = g.W.Write.contents (inner_of c.take_turn.new.writer) in
+    let new = g.W.Write.contents (inner_of c.loop-number.writer) in
+    let mid = g.W.Write.contents (inner_of c.take_turn.new.writer) in
+    let before = c.loop-number.session.waiting.items in
+    let after = c.take_turn.new.self.waiting.items in
     let w = c.loop-number.session.world in
     let v = c.take_turn.new.self.world in
     let k = c.loop-number.number in
-    let text = c.take_turn.new.self.text.items in
     let failed = has_failed c.take_turn.new.reader in
-    let so = flushed_so M all left old (g.W.Write.contents (inner_of c.loop-number.writer)) new w k c.loop-number.invariant.so_far c.take_turn.ensures.written in
-    ends_with_line M all left now unread old new (g.W.Write.contents (inner_of c.put-in-LastAnswered.new.self)) w v k text failed so c.take_turn.result c.in-LastAnswered.is c.take_turn.ensures.turn (c.take_turn.ensures.reader_kept (λ e. cc) ∙ c.loop-number.invariant.fresh_reader) (subst (Appends new (g.W.Write.contents (inner_of c.put-in-LastAnswered.new.self))) c.deref-in-LastAnswered.ensures.value (where_some c.put-in-LastAnswered.result _ (sym c.ok-in-LastAnswered.ensures.value ∙ c.in_ok-ok-in-LastAnswered.was) c.put-in-LastAnswered.ensures.ok))
+    let so = c.loop-number.invariant.so_far in
+    ends_with_line M all left now unread old new mid (g.W.Write.contents (inner_of c.put.new.self)) before after w v k failed so c.take_turn.result c.in-LastAnswered.is c.take_turn.ensures.turn (c.take_turn.ensures.reader_kept (λ e. cc) ∙ c.loop-number.invariant.fresh_reader) (subst (Appends mid (g.W.Write.contents (inner_of c.put.new.self))) c.deref.ensures.value (where_some c.put.result _ (sym c.ok.ensures.value ∙ c.in_ok-ok-in-LastAnswered.was) c.put.ensures.ok))
+
+pub returns-in_err-ok-in-Ended-clause-none : goal.returns-in_err-ok-in-Ended-clause-none
+returns-in_err-ok-in-Ended-clause-none g c =
+    let M = meaning_of g.S.BackendSelection in
+    let all = g.R.Read.remaining (inner_of c.args.reader.now) in
+    let left = prepend_known c.loop-number.session.ahead (g.R.Read.remaining (inner_of c.loop-number.reader)) in
+    let unread = g.R.Read.remaining (inner_of c.take_turn.new.reader) in
+    let now = prepend_known c.take_turn.new.self.ahead unread in
+    let old = g.W.Write.contents (inner_of c.args.writer.now) in
+    let new = g.W.Write.contents (inner_of c.loop-number.writer) in
+    let mid = g.W.Write.contents (inner_of c.take_turn.new.writer) in
+    let before = c.loop-number.session.waiting.items in
+    let after = c.take_turn.new.self.waiting.items in
+    let w = c.loop-number.session.world in
+    let v = c.take_turn.new.self.world in
+    let k = c.loop-number.number in
+    let failed = has_failed c.take_turn.new.reader in
+    let so = c.loop-number.invariant.so_far in
+    λ _. stops_at_end M all left now unread old new mid (g.W.Write.contents (inner_of c.put-in-Ended.new.self)) before after w v k failed so c.take_turn.result c.in-Ended.is c.take_turn.ensures.turn (c.take_turn.ensures.reader_kept (λ e. cc) ∙ c.loop-number.invariant.fresh_reader) (subst (AppendsFront mid (g.W.Write.contents (inner_of c.put-in-Ended.new.self))) c.deref-in-Ended.ensures.value (where_none c.put-in-Ended.result (sym c.ok-in-Ended.ensures.value ∙ c.in_err-ok-in-Ended.was) c.put-in-Ended.ensures.part))
 
 pub returns-in-Ended-clause-some : goal.returns-in-Ended-clause-some
 returns-in-Ended-clause-some g c =
@@ -73,14 +81,16 @@ returns-in-Ended-clause-some g c =
     let unread = g.R.Read.remaining (inner_of c.take_turn.new.reader) in
     let now = prepend_known c.take_turn.new.self.ahead unread in
     let old = g.W.Write.contents (inner_of c.args.writer.now) in
-    let new = g.W.Write.contents (inner_of c.take_turn.new.writer) in
+    let new = g.W.Write.contents (inner_of c.loop-number.writer) in
+    let mid = g.W.Write.contents (inner_of c.take_turn.new.writer) in
+    let before = c.loop-number.session.waiting.items in
+    let after = c.take_turn.new.self.waiting.items in
     let w = c.loop-number.session.world in
     let v = c.take_turn.new.self.world in
     let k = c.loop-number.number in
-    let text = c.take_turn.new.self.text.items in
     let failed = has_failed c.take_turn.new.reader in
-    let so = flushed_so M all left old (g.W.Write.contents (inner_of c.loop-number.writer)) new w k c.loop-number.invariant.so_far c.take_turn.ensures.written in
-    is_over M all left now unread old new w v k text failed so c.take_turn.result c.in-Ended.is c.take_turn.ensures.turn (c.take_turn.ensures.reader_kept (λ e. cc) ∙ c.loop-number.invariant.fresh_reader)
+    let so = c.loop-number.invariant.so_far in
+    is_over M all left now unread old new mid (g.W.Write.contents (inner_of c.put-in-Ended.new.self)) before after w v k failed so c.take_turn.result c.in-Ended.is c.take_turn.ensures.turn (c.take_turn.ensures.reader_kept (λ e. cc) ∙ c.loop-number.invariant.fresh_reader) (subst (Appends mid (g.W.Write.contents (inner_of c.put-in-Ended.new.self))) c.deref-in-Ended.ensures.value (where_some c.put-in-Ended.result _ (sym c.ok-in-Ended.ensures.value ∙ c.in_ok-ok-in-Ended.was) c.put-in-Ended.ensures.ok))
 
 pub returns-in_err-ok-in-Failed-clause-none : goal.returns-in_err-ok-in-Failed-clause-none
 returns-in_err-ok-in-Failed-clause-none g c =
@@ -90,14 +100,16 @@ returns-in_err-ok-in-Failed-clause-none g c =
     let unread = g.R.Read.remaining (inner_of c.take_turn.new.reader) in
     let now = prepend_known c.take_turn.new.self.ahead unread in
     let old = g.W.Write.contents (inner_of c.args.writer.now) in
-    let new = g.W.Write.contents (inner_of c.take_turn.new.writer) in
+    let new = g.W.Write.contents (inner_of c.loop-number.writer) in
+    let mid = g.W.Write.contents (inner_of c.take_turn.new.writer) in
+    let before = c.loop-number.session.waiting.items in
+    let after = c.take_turn.new.self.waiting.items in
     let w = c.loop-number.session.world in
     let v = c.take_turn.new.self.world in
     let k = c.loop-number.number in
-    let text = c.take_turn.new.self.text.items in
     let failed = has_failed c.take_turn.new.reader in
-    let so = flushed_so M all left old (g.W.Write.contents (inner_of c.loop-number.writer)) new w k c.loop-number.invariant.so_far c.take_turn.ensures.written in
-    λ _. ends_in_part M all left unread old new (g.W.Write.contents (inner_of c.put_error.new.writer)) c.take_turn.new.self.ahead w v k text c.in-Failed.error failed so c.take_turn.result c.in-Failed.is c.take_turn.ensures.turn (λ e. c.take_turn.ensures.reader_failed (c.in-Failed.is ∙ ap Failed e)) (λ other. c.take_turn.ensures.reader_kept (λ e. other (cc)) ∙ c.loop-number.invariant.fresh_reader) (λ e. c.take_turn.ensures.none (c.in-Failed.is ∙ ap Failed e)) (where_none c.put_error.result (sym c.ok-in-Failed.ensures.value ∙ c.in_err-ok-in-Failed.was) c.put_error.ensures.part)
+    let so = c.loop-number.invariant.so_far in
+    λ _. ends_in_part M all left unread old new mid (g.W.Write.contents (inner_of c.put_last.new.writer)) c.take_turn.new.self.ahead before after w v k c.in-Failed.error failed so c.take_turn.result c.in-Failed.is c.take_turn.ensures.turn (λ e. c.take_turn.ensures.reader_failed (c.in-Failed.is ∙ ap Failed e)) (λ other. c.take_turn.ensures.reader_kept (λ e. other (cc)) ∙ c.loop-number.invariant.fresh_reader) (λ e. c.take_turn.ensures.none (c.in-Failed.is ∙ ap Failed e)) (subst (λ t. AppendsFront mid (g.W.Write.contents (inner_of c.put_last.new.writer)) (t ++ (error_text k c.in-Failed.error ++ codes "\n"))) c.deref-in-Failed.ensures.value (where_none c.put_last.result (sym c.ok-in-Failed.ensures.value ∙ c.in_err-ok-in-Failed.was) c.put_last.ensures.part))
 
 pub returns-in-Failed-clause-some : goal.returns-in-Failed-clause-some
 returns-in-Failed-clause-some g c =
@@ -107,14 +119,16 @@ returns-in-Failed-clause-some g c =
     let unread = g.R.Read.remaining (inner_of c.take_turn.new.reader) in
     let now = prepend_known c.take_turn.new.self.ahead unread in
     let old = g.W.Write.contents (inner_of c.args.writer.now) in
-    let new = g.W.Write.contents (inner_of c.take_turn.new.writer) in
+    let new = g.W.Write.contents (inner_of c.loop-number.writer) in
+    let mid = g.W.Write.contents (inner_of c.take_turn.new.writer) in
+    let before = c.loop-number.session.waiting.items in
+    let after = c.take_turn.new.self.waiting.items in
     let w = c.loop-number.session.world in
     let v = c.take_turn.new.self.world in
     let k = c.loop-number.number in
-    let text = c.take_turn.new.self.text.items in
     let failed = has_failed c.take_turn.new.reader in
-    let so = flushed_so M all left old (g.W.Write.contents (inner_of c.loop-number.writer)) new w k c.loop-number.invariant.so_far c.take_turn.ensures.written in
-    ends_early M all left unread old new (g.W.Write.contents (inner_of c.put_error.new.writer)) c.take_turn.new.self.ahead w v k text c.in-Failed.error failed so c.take_turn.result c.in-Failed.is c.take_turn.ensures.turn (λ e. c.take_turn.ensures.reader_failed (c.in-Failed.is ∙ ap Failed e)) (λ other. c.take_turn.ensures.reader_kept (λ e. other (cc)) ∙ c.loop-number.invariant.fresh_reader) (λ e. c.take_turn.ensures.none (c.in-Failed.is ∙ ap Failed e)) (where_some c.put_error.result _ (sym c.ok-in-Failed.ensures.value ∙ c.in_ok-ok-in-Failed.was) c.put_error.ensures.ok)
+    let so = c.loop-number.invariant.so_far in
+    ends_early M all left unread old new mid (g.W.Write.contents (inner_of c.put_last.new.writer)) c.take_turn.new.self.ahead before after w v k c.in-Failed.error failed so c.take_turn.result c.in-Failed.is c.take_turn.ensures.turn (λ e. c.take_turn.ensures.reader_failed (c.in-Failed.is ∙ ap Failed e)) (λ other. c.take_turn.ensures.reader_kept (λ e. other (cc)) ∙ c.loop-number.invariant.fresh_reader) (λ e. c.take_turn.ensures.none (c.in-Failed.is ∙ ap Failed e)) (subst (λ t. Appends mid (g.W.Write.contents (inner_of c.put_last.new.writer)) (t ++ (error_text k c.in-Failed.error ++ codes "\n"))) c.deref-in-Failed.ensures.value (where_some c.put_last.result _ (sym c.ok-in-Failed.ensures.value ∙ c.in_ok-ok-in-Failed.was) c.put_last.ensures.ok))
 
 pub returns-in-WriteFailed-clause-none : goal.returns-in-WriteFailed-clause-none
 returns-in-WriteFailed-clause-none g c =
@@ -124,14 +138,16 @@ returns-in-WriteFailed-clause-none g c =
     let unread = g.R.Read.remaining (inner_of c.take_turn.new.reader) in
     let now = prepend_known c.take_turn.new.self.ahead unread in
     let old = g.W.Write.contents (inner_of c.args.writer.now) in
-    let new = g.W.Write.contents (inner_of c.take_turn.new.writer) in
+    let new = g.W.Write.contents (inner_of c.loop-number.writer) in
+    let mid = g.W.Write.contents (inner_of c.take_turn.new.writer) in
+    let before = c.loop-number.session.waiting.items in
+    let after = c.take_turn.new.self.waiting.items in
     let w = c.loop-number.session.world in
     let v = c.take_turn.new.self.world in
     let k = c.loop-number.number in
-    let text = c.take_turn.new.self.text.items in
     let failed = has_failed c.take_turn.new.reader in
-    let so = flushed_so M all left old (g.W.Write.contents (inner_of c.loop-number.writer)) new w k c.loop-number.invariant.so_far c.take_turn.ensures.written in
-    λ _. stops_unflushed M all left unread old new w k failed so (c.take_turn.ensures.reader_kept (λ e. cc) ∙ c.loop-number.invariant.fresh_reader)
+    let so = c.loop-number.invariant.so_far in
+    λ _. stops_waiting M all left unread old new mid before w k failed so (c.take_turn.ensures.reader_kept (λ e. cc) ∙ c.loop-number.invariant.fresh_reader) (c.take_turn.ensures.part c.in-WriteFailed.is)
 
 pub loop-number-preserved : goal.loop-number-preserved
 loop-number-preserved g c =
@@ -141,17 +157,19 @@ loop-number-preserved g c =
     let unread = g.R.Read.remaining (inner_of c.take_turn.new.reader) in
     let now = prepend_known c.take_turn.new.self.ahead unread in
     let old = g.W.Write.contents (inner_of c.args.writer.now) in
-    let new = g.W.Write.contents (inner_of c.take_turn.new.writer) in
+    let new = g.W.Write.contents (inner_of c.loop-number.writer) in
+    let mid = g.W.Write.contents (inner_of c.take_turn.new.writer) in
+    let before = c.loop-number.session.waiting.items in
+    let after = c.take_turn.new.self.waiting.items in
     let w = c.loop-number.session.world in
     let v = c.take_turn.new.self.world in
     let k = c.loop-number.number in
-    let text = c.take_turn.new.self.text.items in
     let failed = has_failed c.take_turn.new.reader in
-    let so = flushed_so M all left old (g.W.Write.contents (inner_of c.loop-number.writer)) new w k c.loop-number.invariant.so_far c.take_turn.ensures.written in
+    let so = c.loop-number.invariant.so_far in
     record {
       fresh_reader = c.take_turn.ensures.reader_kept (λ e. cc) ∙ c.loop-number.invariant.fresh_reader;
-      fresh_writer = where_some c.put.result _ (sym c.ok.ensures.value ∙ c.in_ok-ok-in-Answered.was) c.put.ensures.kept ∙ c.take_turn.ensures.writer_kept (λ e. cc) ∙ c.loop-number.invariant.fresh_writer;
-      so_far = goes_on M all left now old new (g.W.Write.contents (inner_of c.put.new.self)) w v k text so c.take_turn.result c.in-Answered.is c.take_turn.ensures.turn (subst (Appends new (g.W.Write.contents (inner_of c.put.new.self))) c.deref.ensures.value (where_some c.put.result _ (sym c.ok.ensures.value ∙ c.in_ok-ok-in-Answered.was) c.put.ensures.ok));
+      fresh_writer = c.take_turn.ensures.writer_kept (λ e. cc) ∙ c.loop-number.invariant.fresh_writer;
+      so_far = goes_on M all left now old new mid before after w v k so c.take_turn.result c.in-Answered.is c.take_turn.ensures.turn;
     }
 
 pub returns-in_err-ok-clause-none : goal.returns-in_err-ok-clause-none
@@ -162,7 +180,8 @@ returns-in_err-ok-clause-none g c =
     let left = prepend_known c.loop-number.session.ahead unread in
     let old = g.W.Write.contents (inner_of c.args.writer.now) in
     let new = g.W.Write.contents (inner_of c.loop-number.writer) in
-    λ _. runs_out_in_part M all left unread old new (g.W.Write.contents (inner_of c.put_error-2.new.writer)) c.loop-number.session.world c.loop-number.number (has_failed c.loop-number.reader) c.loop-number.invariant.so_far (omega arith) c.loop-number.invariant.fresh_reader (where_none c.put_error-2.result (sym c.ok-2.ensures.value ∙ c.in_err-ok.was) c.put_error-2.ensures.part)
+    let before = c.loop-number.session.waiting.items in
+    λ _. runs_out_in_part M all left unread old new (g.W.Write.contents (inner_of c.put_last-2.new.writer)) before c.loop-number.session.world c.loop-number.number (has_failed c.loop-number.reader) c.loop-number.invariant.so_far (omega arith) c.loop-number.invariant.fresh_reader (subst (λ t. AppendsFront new (g.W.Write.contents (inner_of c.put_last-2.new.writer)) (t ++ (error_text 18446744073709551615 OutOfMemory ++ codes "\n"))) c.deref-2.ensures.value (where_none c.put_last-2.result (sym c.ok-2.ensures.value ∙ c.in_err-ok.was) c.put_last-2.ensures.part))
 
 pub returns-clause-some : goal.returns-clause-some
 returns-clause-some g c =
@@ -172,4 +191,5 @@ returns-clause-some g c =
     let left = prepend_known c.loop-number.session.ahead unread in
     let old = g.W.Write.contents (inner_of c.args.writer.now) in
     let new = g.W.Write.contents (inner_of c.loop-number.writer) in
-    runs_out M all left unread old new (g.W.Write.contents (inner_of c.put_error-2.new.writer)) c.loop-number.session.world c.loop-number.number (has_failed c.loop-number.reader) c.loop-number.invariant.so_far (omega arith) c.loop-number.invariant.fresh_reader (where_some c.put_error-2.result _ (sym c.ok-2.ensures.value ∙ c.in_ok-ok.was) c.put_error-2.ensures.ok)
+    let before = c.loop-number.session.waiting.items in
+    runs_out M all left unread old new (g.W.Write.contents (inner_of c.put_last-2.new.writer)) before c.loop-number.session.world c.loop-number.number (has_failed c.loop-number.reader) c.loop-number.invariant.so_far (omega arith) c.loop-number.invariant.fresh_reader (subst (λ t. Appends new (g.W.Write.contents (inner_of c.put_last-2.new.writer)) (t ++ (error_text 18446744073709551615 OutOfMemory ++ codes "\n"))) c.deref-2.ensures.value (where_some c.put_last-2.result _ (sym c.ok-2.ensures.value ∙ c.in_ok-ok.was) c.put_last-2.ensures.ok))

@@ -13,5 +13,5 @@ invariant-loop-number g l = record {
       (λ script. SoFar (meaning_of g.S.BackendSelection) script
       (prepend_known l.session.ahead (g.R.Read.remaining (inner_of l.reader)))
       (g.W.Write.contents (inner_of l.fn.writer)) (g.W.Write.contents (inner_of l.writer))
-      l.session.world l.number);
+      l.session.waiting.items l.session.world l.number);
 }
