@@ -1,11 +1,12 @@
 //! One line of a script at a time: it is read, its step is taken, and the text of the answer joins what waits to be written.
 //! What a run keeps between its lines stands here; the buffers are used again for each line.
-ghost use Rattle.std.specs.Prelude.{◌≡◌, ◌≢◌, [], ◌∷◌, ◌++◌, Err, true, OnOk, OnErr};
+ghost use Rattle.std.specs.Prelude.{◌≡◌, ◌≢◌, ℕ, List, [], ◌∷◌, ◌++◌, Err, Some, true, OnOk, OnErr};
 ghost use Rattle.std.specs.Io.KnownBytes.{Appends, Keeps, prepend_known};
 ghost use Rattle.lb_history.specs.History.{History};
 ghost use Rattle.lb_history.specs.Meanings.{meaning_of};
 ghost use Rattle.lb_world.specs.Stands.{Stands};
-ghost use Rattle.lb_step_text.specs.LineSteps.{line_step_seen};
+ghost use Rattle.lb_step_text.specs.LineSteps.{line_step_seen, selection_seen};
+ghost use Rattle.lb_step_text.specs.StepLines.{step_of};
 ghost use Rattle.lb_counted.specs.Counted.{inner_of, has_failed};
 ghost use Rattle.lb_counted.specs.Stream.{OnBytes, AppendsFront};
 ghost use Rattle.lb_script.specs.Session.{AnswersLine, TakesTurn, Joins};
@@ -18,6 +19,7 @@ use lb_lines::read_ahead::ReadAhead;
 use lb_select::walk::BackendSelection;
 use lb_step_text::error::ScriptError;
 use lb_step_text::parse::{LineStep, parse};
+use lb_step_text::selection::{Selection, plain_selection};
 use lb_step_text::texts::{Scratch, push_line};
 use lb_world::world::World;
 use std::alloc::Global;
@@ -198,6 +200,50 @@ fn answer<S: BackendSelection<Config = Kind>>(
         → AnswersLine M h line.now world.new (λ t. text.new.items ≡ text.old.items ++ t) result }
     ensures own { result ≢ Err ScriptError.Read }
 {
+    match plain_selection(line) {
+        Some(selection) => answer_selection(alloc, world, selection, text, scratch),
+        None => answer_other(alloc, world, line, text, scratch),
+    }
+}
+
+// The same for a selection, read from its line already. Most lines are one.
+fn answer_selection<S: BackendSelection<Config = Kind>>(
+    alloc: Global,
+    world: &mut World<S>,
+    selection: Selection<'_>,
+    text: &mut Vec<u8>,
+    scratch: &mut Scratch,
+) -> Result<(), ScriptError>
+    ensures line { let M = meaning_of S.BackendSelection in
+        (h : History Kind) (line : List ℕ) → step_of line ≡ Some (selection_seen selection.entry) → Stands M world.old h
+        → AnswersLine M h line world.new (λ t. text.new.items ≡ text.old.items ++ t) result }
+    ensures own { result ≢ Err ScriptError.Read }
+{
+    let answer = world.select(
+        selection.group,
+        selection.slot,
+        selection.key,
+        selection.limit,
+        &[],
+    );
+    push_line(alloc, text, scratch, &answer)?;
+    Ok(())
+}
+
+// The same for any line. It stands apart, so that what other steps need is no part of a selection's time.
+#[inline(never)]
+fn answer_other<S: BackendSelection<Config = Kind>>(
+    alloc: Global,
+    world: &mut World<S>,
+    line: &[u8],
+    text: &mut Vec<u8>,
+    scratch: &mut Scratch,
+) -> Result<(), ScriptError>
+    ensures line { let M = meaning_of S.BackendSelection in
+        (h : History Kind) → Stands M world.old h
+        → AnswersLine M h line.now world.new (λ t. text.new.items ≡ text.old.items ++ t) result }
+    ensures own { result ≢ Err ScriptError.Read }
+{
     let step = parse(alloc, line)?;
     let answer = take_step(world, step);
     push_line(alloc, text, scratch, &answer)?;
@@ -210,12 +256,13 @@ fn take_step<S: BackendSelection<Config = Kind>>(world: &mut World<S>, step: Lin
         → Stands (meaning_of S.BackendSelection) world.new ((line_step_seen step.entry, result) ∷ h) }
 {
     match step {
-        LineStep::Select {
-            group,
-            slot,
-            key,
-            limit,
-        } => world.select(group, slot, key, limit, &[]),
+        LineStep::Select(selection) => world.select(
+            selection.group,
+            selection.slot,
+            selection.key,
+            selection.limit,
+            &[],
+        ),
         LineStep::Other(step) => world.step(step),
     }
 }

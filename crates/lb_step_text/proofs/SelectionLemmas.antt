@@ -18,8 +18,8 @@ use Rattle.std.proofs.lemmas.Str.Ascii.{IsAscii-from_reads}
 use Rattle.lb_history.specs.Steps.{Step}
 use Rattle.lb_history.specs.Steps as step
 use Rattle.lb_kinds.specs.declared.kinds.Kind.{Kind}
-use Rattle.lb_step_text.specs.declared.parse.LineStep.{LineStep}
-use Rattle.lb_step_text.specs.LineSteps.{line_step_seen}
+use Rattle.lb_step_text.specs.declared.selection.Selection.{Selection}
+use Rattle.lb_step_text.specs.LineSteps.{selection_seen}
 use Rattle.lb_step_text.specs.Numbers.{is_number_text, number_of}
 use Rattle.lb_step_text.specs.StepLines.{small, select_of, step_of}
 use Rattle.lb_step_text.specs.Words.{BeginsWith, IsPlainWord, words_of}
@@ -142,11 +142,11 @@ line_read line words st is ascii read =
     let whole : IsAscii (codes "select " ++ words) = IsAscii-append (codes "select ") words select_ascii ascii in
     ap step_of is ∙ rw (is_utf8-from_IsUtf8 (codes "select " ++ words) (IsUtf8-from_ascii (codes "select " ++ words) whole)) read
 
-pub read_line : (r : Option LineStep) (line words : List ℕ) → line ≡ codes "select " ++ words
-    → IfSome r (λ st. IsAscii words × (select_of (words_of words) ≡ Some (line_step_seen st)))
-    → IfSome r (λ st. step_of line ≡ Some (line_step_seen st))
+pub read_line : (r : Option Selection) (line words : List ℕ) → line ≡ codes "select " ++ words
+    → IfSome r (λ st. IsAscii words × (select_of (words_of words) ≡ Some (selection_seen st)))
+    → IfSome r (λ st. step_of line ≡ Some (selection_seen st))
 read_line None line words is read = tt
-read_line (Some st) line words is read = line_read line words (line_step_seen st) is read.0 read.1
+read_line (Some st) line words is read = line_read line words (selection_seen st) is read.0 read.1
 
 -- `select ` at the front of a line, byte by byte
 byte_is : (line : List ℕ) (k byte : ℕ) → k < length line → get_or line k 0 ≡ byte → drop k line ≡ byte ∷ drop (suc k) line

@@ -1,11 +1,15 @@
 -- The step that a line's step is: a selection has its key lent, and no random words.
 use Rattle.std.specs.Prelude.{[]}
 use Rattle.lb_kinds.specs.declared.kinds.Kind.{Kind}
+use Rattle.lb_step_text.specs.declared.selection.Selection.{Selection}
 use Rattle.lb_step_text.specs.declared.parse.LineStep.{LineStep}
 use Rattle.lb_step_text.specs.declared.parse.LineStep.TheVariants.{Select, Other}
 use Rattle.lb_history.specs.Steps.{Step, step_seen}
 use Rattle.lb_history.specs.Steps as step
 
+abbrev pub selection_seen : Selection → Step Kind
+selection_seen s = step.select s.group s.slot s.key.now s.limit []
+
 abbrev pub line_step_seen : LineStep → Step Kind
-line_step_seen (Select group slot key limit) = step.select group slot key.now limit []
+line_step_seen (Select s) = selection_seen s
 line_step_seen (Other st) = step_seen st

@@ -10,6 +10,6 @@ pub mod listed;
 pub mod numbers;
 pub mod parse;
 mod plain;
-mod selection;
+pub mod selection;
 pub mod texts;
 pub mod words;

@@ -8,7 +8,7 @@ ghost use Rattle.lb_history.specs.Steps.{step_seen};
 use crate::error::ScriptError;
 use crate::listed::{backend_step, group, update};
 use crate::numbers::number;
-use crate::selection::plain_selection;
+use crate::selection::Selection;
 use crate::words::Words;
 use lb_history::step::Step;
 use lb_kinds::kinds::Kind;
@@ -18,13 +18,8 @@ use std::str;
 /// A step that a line asks for.
 #[derive(Drop)]
 pub enum LineStep<'a> {
-    /// A selection, with no random words handed in. Its key is lent from the line, so that it takes no memory.
-    Select {
-        group: u64,
-        slot: usize,
-        key: &'a [u8],
-        limit: usize,
-    },
+    /// A selection.
+    Select(Selection<'a>),
     /// Any other step.
     Other(Step<Kind>),
 }
@@ -35,16 +30,11 @@ impl<'a> LineStep<'a> {
         ensures { IfOk result (λ step. step_seen step ≡ line_step_seen self.entry) }
     {
         match self {
-            LineStep::Select {
-                group,
-                slot,
-                key,
-                limit,
-            } => Ok(Step::Select {
-                group,
-                slot,
-                key: Vec::from_slice(alloc, key)?,
-                limit,
+            LineStep::Select(selection) => Ok(Step::Select {
+                group: selection.group,
+                slot: selection.slot,
+                key: Vec::from_slice(alloc, selection.key)?,
+                limit: selection.limit,
                 words: Vec::new(alloc),
             }),
             LineStep::Other(step) => Ok(step),
@@ -57,9 +47,6 @@ impl<'a> LineStep<'a> {
 pub fn parse(alloc: Global, line: &[u8]) -> Result<LineStep<'_>, ScriptError>
     ensures { Reads line_step_seen (step_of line.now) result }
 {
-    if let Some(selection) = plain_selection(line) {
-        return Ok(selection);
-    }
     match str::from_utf8(line) {
         Ok(text) => step(alloc, Words::of(text)),
         Err(_) => Err(ScriptError::BadLine),
@@ -99,12 +86,12 @@ fn select<'a>(words: Words<'a>) -> Option<LineStep<'a>>
     ensures { option_map line_step_seen result ≡ select_of words.entry }
 {
     let ((group, slot), (key, limit)) = select_parts(words)?;
-    Some(LineStep::Select {
+    Some(LineStep::Select(Selection {
         group,
         slot: slot as usize,
         key: key.as_bytes(),
         limit: limit as usize,
-    })
+    }))
 }
 
 // The group, the slot, the key and the limit.

@@ -2,38 +2,42 @@
 //! Most lines of a script are these: no word is cut twice, and the bytes needn't be told to be text first.
 ghost use Rattle.std.specs.Prelude.{◌≡◌, ◌≤◌, Some, length, take, IfSome};
 ghost use Rattle.std.specs.Str.{IsAscii};
-ghost use Rattle.lb_step_text.specs.LineSteps.{line_step_seen};
+ghost use Rattle.lb_step_text.specs.LineSteps.{selection_seen};
 ghost use Rattle.lb_step_text.specs.StepLines.{small, select_of, step_of};
 ghost use Rattle.lb_step_text.specs.Words.{BeginsWith, IsPlainWord, words_of};
-
-use crate::parse::LineStep;
 
 // A number below this one may be followed by another digit, and the number that they spell has 64 bits.
 const SHORT_NUMBER: u64 = 1_000_000_000_000_000_000;
 
-// The selection that the line asks for, if the line has the plain form: four words of ASCII after `select`, each after one space,
-// and no number of more than 19 digits. A line that it answers nothing to may still ask for a selection, or for another step.
-pub(crate) fn plain_selection(line: &[u8]) -> Option<LineStep<'_>>
-    ensures { IfSome result (λ step. step_of line.now ≡ Some (line_step_seen step)) }
+/// A selection that a line asks for, with no random words handed in. Its key is lent from the line, so that it takes no memory.
+#[derive(Clone, Copy)]
+pub struct Selection<'a> {
+    pub group: u64,
+    pub slot: usize,
+    pub key: &'a [u8],
+    pub limit: usize,
+}
+
+/// The selection that the line asks for, if the line has the plain form: four words of ASCII after `select`, each after one space,
+/// and no number of more than 19 digits. A line that it answers nothing to may still ask for a selection, or for another step.
+pub fn plain_selection(line: &[u8]) -> Option<Selection<'_>>
+    ensures { IfSome result (λ selection. step_of line.now ≡ Some (selection_seen selection)) }
 {
     match line {
-        [b's', b'e', b'l', b'e', b'c', b't', b' ', rest @ ..] => selection(rest),
+        [b's', b'e', b'l', b'e', b'c', b't', b' ', rest @ ..] => selection_of(rest),
         _ => None,
     }
 }
 
 // The selection that the four words ask for.
-fn selection(words: &[u8]) -> Option<LineStep<'_>>
-    ensures { IfSome result (λ step. IsAscii words.now × (select_of (words_of words.now) ≡ Some (line_step_seen step))) }
+fn selection_of(words: &[u8]) -> Option<Selection<'_>>
+    ensures { IfSome result (λ selection. IsAscii words.now × (select_of (words_of words.now) ≡ Some (selection_seen selection))) }
 {
     let (group, rest) = number_before_space(words)?;
     let (slot, rest) = number_before_space(rest)?;
     let (key, rest) = word_before_space(rest)?;
-    let (limit, count) = leading_number(rest)?;
-    if count < rest.len() {
-        return None;
-    }
-    Some(LineStep::Select {
+    let limit = whole_number(rest)?;
+    Some(Selection {
         group,
         slot: slot as usize,
         key,
@@ -41,9 +45,22 @@ fn selection(words: &[u8]) -> Option<LineStep<'_>>
     })
 }
 
-// The number in front of the first space, and what follows the space.
+// The number in front of the first space, and what follows the space. Most numbers have one digit.
 #[inline]
 fn number_before_space(bytes: &[u8]) -> Option<(u64, &[u8])>
+    ensures { IfSome result (λ p. BeginsWith bytes.now p.1.now (λ word. small word ≡ Some p.0)) }
+{
+    match bytes {
+        [digit, b' ', rest @ ..] if digit.is_ascii_digit() => Some((
+            u64::from(*digit - b'0'),
+            rest,
+        )),
+        _ => longer_before_space(bytes),
+    }
+}
+
+// The same for any number.
+fn longer_before_space(bytes: &[u8]) -> Option<(u64, &[u8])>
     ensures { IfSome result (λ p. BeginsWith bytes.now p.1.now (λ word. small word ≡ Some p.0)) }
 {
     let (n, count) = leading_number(bytes)?;
@@ -71,6 +88,25 @@ fn word_before_space(bytes: &[u8]) -> Option<(&[u8], &[u8])>
     } else {
         None
     }
+}
+
+// The number that all of the bytes spell.
+#[inline]
+fn whole_number(bytes: &[u8]) -> Option<u64>
+    ensures { IfSome result (λ n. small bytes.now ≡ Some n) }
+{
+    match bytes {
+        [digit] if digit.is_ascii_digit() => Some(u64::from(*digit - b'0')),
+        _ => longer_number(bytes),
+    }
+}
+
+// The same for any number.
+fn longer_number(bytes: &[u8]) -> Option<u64>
+    ensures { IfSome result (λ n. small bytes.now ≡ Some n) }
+{
+    let (n, count) = leading_number(bytes)?;
+    if count < bytes.len() { None } else { Some(n) }
 }
 
 // The number that the digits in front spell, and how many they are.

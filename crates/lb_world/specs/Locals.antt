@@ -1,7 +1,7 @@
 -- The steps at a group as histories have them, with the number of the group.
 use Rattle.std.specs.Prelude.{◌≡◌, ℕ, false, Some}
 use Rattle.lb_history.specs.Answers.{has_refused}
-use Rattle.lb_history.specs.Steps.{Step, update, ask, build, failbuild, lost, publish, abandon, destroy, select, enable, disable, cancel}
+use Rattle.lb_history.specs.Steps.{Step, update, ask, build, failbuild, lost, publish, abandon, destroy, enable, disable, cancel}
 use Rattle.lb_history.specs.Steps.{counts, timing, load}
 use Rattle.lb_world.specs.declared.local.Local.{Local}
 use Rattle.lb_world.specs.declared.local.Local.TheVariants as is
@@ -15,7 +15,6 @@ local_seen g (is.Lost s) = lost g s
 local_seen g (is.Publish s) = publish g s
 local_seen g (is.Abandon s) = abandon g s
 local_seen g (is.Destroy s) = destroy g s
-local_seen g (is.Select s key limit words) = select g s key.now limit words.now
 local_seen g (is.Enable b) = enable g (Some b.now)
 local_seen g (is.Disable b) = disable g (Some b.now)
 local_seen g is.Cancel = cancel g

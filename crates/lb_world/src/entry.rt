@@ -105,12 +105,6 @@ impl<S: BackendSelection> Entry<S> {
             Local::Publish { slot } => self.publish(slot),
             Local::Abandon { slot } => self.abandon(slot),
             Local::Destroy { slot } => self.destroy(slot, gate, registry),
-            Local::Select {
-                slot,
-                key,
-                limit,
-                words,
-            } => self.select(alloc, registry, slot, key, limit, words),
             Local::Enable { backend } => self.set_enable(backend, true),
             Local::Disable { backend } => self.set_enable(backend, false),
             Local::Cancel => self.cancel(registry),

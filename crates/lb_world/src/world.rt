@@ -236,19 +236,19 @@ impl<S: BackendSelection> Tables<S> {
         }
     }
 
+    // Selects at a group. Most steps do, so that this is no step among the others at a group.
     fn select(&mut self, group: u64, slot: usize, key: &[u8], limit: usize, words: &[u64]) -> Answer
         requires founded { IsFounded (meaning_of S.BackendSelection) (world_value self.old) }
         ensures { (h : History S.Config) → Stands (meaning_of S.BackendSelection) (world_value self.old) h
             → Stands (meaning_of S.BackendSelection) (world_value self.new)
             ((seen.select group slot key.now limit words.now, result) ∷ h) }
     {
-        let local = Local::Select {
-            slot,
-            key,
-            limit,
-            words,
-        };
-        self.at_group(group, local)
+        if group as usize >= self.groups.len() {
+            return Answer::Refused(Refusal::NoSuch);
+        }
+        let entry = &mut self.groups[group as usize];
+        let registry = &self.registries[entry.registry()];
+        entry.select(self.alloc, registry, slot, key, limit, words)
     }
 
     // Takes a step at a group, with the group's gate and registry.

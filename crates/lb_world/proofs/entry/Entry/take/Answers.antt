@@ -16,9 +16,6 @@ returns-in-Publish g c = rw c.in-Publish.is (c.publish.ensures _ _)
 pub returns-in-Abandon : goal.returns-in-Abandon
 returns-in-Abandon g c = rw c.in-Abandon.is (c.abandon.ensures _ _)
 
-pub returns-in-Select : goal.returns-in-Select
-returns-in-Select g c = rw c.in-Select.is (c.select.ensures _)
-
 pub returns-in-Enable : goal.returns-in-Enable
 returns-in-Enable g c = rw c.in-Enable.is (c.set_enable.ensures _ _)
 

@@ -10,7 +10,6 @@ use Rattle.lb_world.proofs.world.Tables.at_group.Goals as goal
 absent-right : {C : Type 0} (M : Meaning C) (h : History C) (g : ℕ) (l : Local) → made_at g h ≡ None → IsWhole l
     → Answers M h (local_seen g l) (Answer.Refused Refusal.NoSuch)
 absent-right M h g (Local.Update now listings) none whole = inl (rw (whole, none) refl)
-absent-right M h g (Local.Select s key limit words) none whole = rw none refl
 absent-right M h g l none whole = inl (rw none refl)
 
 local-at : {C : Type 0} (h : History C) (g : ℕ) (l : Local) → group_at h (local_seen g l) ≡ Some g
