@@ -180,11 +180,21 @@ pub(crate) enum Row {
     ServedGenerationJudges,
 }
 
-// Plays a row on a new group. It makes one call after the group is made, since each way out of here drops it.
+// Plays a row over a new registry. Whoever owns what a row works on makes one call, since each way out drops it.
 fn played(alloc: Global, rt: &impl Abort, row: Row) -> Result<(), Refusal> {
     let mut registry = RegistryCore::new(alloc);
-    let mut joined = Joined::new(alloc, &mut registry)?;
-    joined.play(alloc, &mut registry, rt, row);
+    played_over(alloc, &mut registry, rt, row)
+}
+
+// Plays a row on a new group over that registry.
+fn played_over(
+    alloc: Global,
+    registry: &mut RegistryCore,
+    rt: &impl Abort,
+    row: Row,
+) -> Result<(), Refusal> {
+    let mut joined = Joined::new(alloc, registry)?;
+    joined.play(alloc, registry, rt, row);
     Ok(())
 }
 
@@ -334,8 +344,10 @@ impl Joined {
         let shown = registry.target_count(alloc);
         self.group.cancel(registry);
         let removed = registry.target_count(alloc);
-        assert!(rt; (changed, told) == (Ok(true), Ok(Some(Told::Published(1)))));
-        assert!(rt; (shown, removed) == (Ok(1), Ok(0)));
+        assert!(rt;
+            (changed, told, shown, removed)
+                == (Ok(true), Ok(Some(Told::Published(1))), Ok(1), Ok(0))
+        );
         self.cancelled_group_answers_readers(alloc, registry, rt);
     }
 

@@ -1,6 +1,6 @@
 //! Worked rows of groups. Moments are handed in; each build's clock answers the moment that it is given.
-//! A row is a method on two groups that are lent, since whoever owns them drops them after each call that may be refused; and what
-//! a job in hand outlives stands in a method of its own, since each call that it is held over asks for its identity again.
+//! A row is a method on two groups that are lent, since whoever owns them drops them on each way out, and compares what a few calls
+//! answered at once. What a job in hand outlives stands in a method of its own: each call that it is held over asks whose it is.
 use crate::calls::{
     Pair, Word, abandoned, asked, built, failed, job_at, published, rebuilt, scheduled,
 };
@@ -127,6 +127,17 @@ impl Pair {
 }
 
 impl Pair {
+    // The slot is busy at the one moment, and gives a job at the other, after what it retired is destroyed.
+    fn slot_is_busy_until_destroyed(&mut self, moments: (u128, u128), rt: &impl Abort) {
+        let (before, after) = moments;
+        let busy = self.answers(before, "busy");
+        let destroyed = self.destroyed();
+        let job = self.answers(after, "job");
+        assert!(rt; (busy, destroyed, job) == (true, Ok(true), true));
+    }
+}
+
+impl Pair {
     fn nine_delays(&mut self, alloc: Global, rt: &impl Abort) {
         assert!(rt; self.scheduled(alloc, "1.0.0.1:80", 0) == Ok(1));
         let mut now: u128 = 0;
@@ -193,20 +204,25 @@ fn groups_of_one_gate_differ(rt: HostRuntime) {
 
 impl Pair {
     fn new_membership_is_due_at_once(&mut self, alloc: Global, rt: &impl Abort) {
-        let first = self.scheduled(alloc, "1.0.0.1:80", 0);
+        let scheduled = self.scheduled(alloc, "1.0.0.1:80", 0);
         let failed = self.failed(0);
         let asked = self.asked(9_000_000);
-        let second = self.scheduled(alloc, "1.0.0.2:80", 9_000_000);
+        assert!(rt; (scheduled, failed, asked) == (Ok(1), Ok(true), Ok(("wait", 10_000_000))));
+        self.second_membership_is_built(alloc, rt);
+    }
+
+    // Another membership comes before generation 1 is due again.
+    fn second_membership_is_built(&mut self, alloc: Global, rt: &impl Abort) {
+        let scheduled = self.scheduled(alloc, "1.0.0.2:80", 9_000_000);
         let told = self.rebuilt(alloc, 9_000_000, 9_000_005);
-        assert!(rt; (first, second, failed) == (Ok(1), Ok(2), Ok(true)));
-        assert!(rt; (asked, told) == (Ok(("wait", 10_000_000)), Ok(Some(Told::Published(2)))));
-        assert_eq!(rt;
-            self.timing(),
-            Some(Some(Timing {
-                generation: 2,
-                queue: 0,
-                build: 5
-            }))
+        let timing = Timing {
+            generation: 2,
+            queue: 0,
+            build: 5,
+        };
+        assert!(rt;
+            (scheduled, told, self.timing())
+                == (Ok(2), Ok(Some(Told::Published(2))), Some(Some(timing)))
         );
     }
 }
@@ -232,10 +248,7 @@ impl Pair {
                     Some(0),
                 )
         );
-        let busy = self.answers(2, "busy");
-        let destroyed = self.destroyed();
-        let job = self.answers(3, "job");
-        assert!(rt; (busy, destroyed, job) == (true, Ok(true), true));
+        self.slot_is_busy_until_destroyed((2, 3), rt);
     }
 }
 
@@ -253,10 +266,7 @@ impl Pair {
         assert!(rt;
             (scheduled, abandoned, timing) == (Ok(1), Ok((("building", 0), true)), Some(None))
         );
-        let busy = self.answers(1, "busy");
-        let destroyed = self.destroyed();
-        let job = self.answers(1, "job");
-        assert!(rt; (busy, destroyed, job) == (true, Ok(true), true));
+        self.slot_is_busy_until_destroyed((1, 1), rt);
     }
 }
 
