@@ -71,13 +71,13 @@ impl Pair {
     }
 
     /// Whether the first group answers this word, with no later moment.
-    pub(crate) fn answers(&mut self, now: u128, word: &str) -> Result<bool, Refusal> {
-        Ok(self.asked(now)? == (word, 0))
+    pub(crate) fn answers(&mut self, now: u128, word: &'static str) -> bool {
+        self.asked(now) == Ok((word, 0))
     }
 
     /// Whether the second group does.
-    pub(crate) fn other_answers(&mut self, now: u128, word: &str) -> Result<bool, Refusal> {
-        Ok(asked(&mut self.other, &mut self.gate, now)? == (word, 0))
+    pub(crate) fn other_answers(&mut self, now: u128, word: &'static str) -> bool {
+        asked(&mut self.other, &mut self.gate, now) == Ok((word, 0))
     }
 
     /// Lets a job of the first group fail at once; whether it was awaited.

@@ -40,9 +40,10 @@ impl Model for Joined {
 impl Joined {
     /// A group over that registry and a new gate.
     pub(crate) fn new(alloc: Global, registry: &mut RegistryCore) -> Result<Joined, Refusal> {
-        let gate = GateCore::new(alloc)?;
-        let group = GroupCore::new(alloc, registry, &gate, one_slot(alloc)?)?;
+        let configs = one_slot(alloc)?;
         let backend = Backend::new(alloc, "1.0.0.1:80")?;
+        let gate = GateCore::new(alloc)?;
+        let group = GroupCore::new(alloc, registry, &gate, configs)?;
         Ok(Joined {
             gate,
             group,
@@ -80,6 +81,32 @@ impl Joined {
             Settings::new(alloc),
             now,
         )
+    }
+
+    /// The same of no backends.
+    pub(crate) fn scheduled_none(
+        &mut self,
+        alloc: Global,
+        registry: &mut RegistryCore,
+        now: u128,
+    ) -> Result<bool, Refusal> {
+        self.scheduled(
+            alloc,
+            registry,
+            BTreeSet::new(alloc),
+            Settings::new(alloc),
+            now,
+        )
+    }
+
+    // The same of the one backend, with settings that disable it.
+    fn scheduled_disabled(
+        &mut self,
+        alloc: Global,
+        registry: &mut RegistryCore,
+    ) -> Result<bool, Refusal> {
+        let settings = disabled(alloc)?;
+        self.scheduled(alloc, registry, alone(alloc, "1.0.0.1:80")?, settings, 0)
     }
 
     /// Asks for a job, and publishes what is built at once; `None` where there is no job.
@@ -143,38 +170,62 @@ fn published(
     }
 }
 
-// The rows, each as the test of its name tells it.
+/// The rows, each as the test of its name tells it; the last two stand in `selections`.
 #[derive(Drop)]
-enum Row {
+pub(crate) enum Row {
     OldSnapshotKeepsItsCells,
     SettingsReachTheNewestMembership,
     CancelledViewIsRemoved,
+    ReadyOnesAreSelected,
+    ServedGenerationJudges,
 }
 
-// Plays a row on a new group.
+// Plays a row over a new registry. Whoever owns what a row works on makes one call, since each way out drops it.
 fn played(alloc: Global, rt: &impl Abort, row: Row) -> Result<(), Refusal> {
     let mut registry = RegistryCore::new(alloc);
-    let mut joined = Joined::new(alloc, &mut registry)?;
-    let registry = &mut registry;
-    match row {
-        Row::OldSnapshotKeepsItsCells => joined.old_snapshot_keeps_its_cells(alloc, registry, rt),
-        Row::SettingsReachTheNewestMembership => {
-            joined.settings_reach_the_newest_membership(alloc, registry, rt)
-        }
-        Row::CancelledViewIsRemoved => joined.cancelled_view_is_removed(alloc, registry, rt),
-    }
+    played_over(alloc, &mut registry, rt, row)
+}
+
+// Plays a row on a new group over that registry.
+fn played_over(
+    alloc: Global,
+    registry: &mut RegistryCore,
+    rt: &impl Abort,
+    row: Row,
+) -> Result<(), Refusal> {
+    let mut joined = Joined::new(alloc, registry)?;
+    joined.play(alloc, registry, rt, row);
+    Ok(())
+}
+
+/// Whether there was memory for the row; the row itself asserts what it sees.
+pub(crate) fn passes(alloc: Global, rt: &impl Abort, row: Row) {
+    assert_eq!(rt; played(alloc, rt, row), Ok(()));
 }
 
 impl Joined {
+    fn play(&mut self, alloc: Global, registry: &mut RegistryCore, rt: &impl Abort, row: Row) {
+        match row {
+            Row::OldSnapshotKeepsItsCells => self.old_snapshot_keeps_its_cells(alloc, registry, rt),
+            Row::SettingsReachTheNewestMembership => {
+                self.settings_reach_the_newest_membership(alloc, registry, rt)
+            }
+            Row::CancelledViewIsRemoved => self.cancelled_view_is_removed(alloc, registry, rt),
+            Row::ReadyOnesAreSelected => self.ready_ones_are_selected(alloc, registry, rt),
+            Row::ServedGenerationJudges => self.served_generation_judges(alloc, registry, rt),
+        }
+    }
+
     fn old_snapshot_keeps_its_cells(
         &mut self,
         alloc: Global,
         registry: &mut RegistryCore,
         rt: &impl Abort,
-    ) -> Result<(), Refusal> {
-        self.first_generation_fails(alloc, registry, rt)?;
-        self.third_generation_is_shown(alloc, registry, rt)?;
-        self.third_generation_is_served(alloc, registry, rt)
+    ) {
+        self.first_generation_fails(alloc, registry, rt);
+        self.third_generation_is_shown(alloc, registry, rt);
+        self.third_generation_has_its_own_cell(registry, rt);
+        self.third_generation_is_served(alloc, registry, rt);
     }
 
     // Generation 1 is served, and its cell is unhealthy then.
@@ -183,40 +234,42 @@ impl Joined {
         alloc: Global,
         registry: &mut RegistryCore,
         rt: &impl Abort,
-    ) -> Result<(), Refusal> {
-        assert_eq!(rt; self.group.id(), 1);
-        self.scheduled_alone(alloc, registry, "1.0.0.1:80", 0)?;
-        assert!(rt; self.rebuilt(alloc, 0)? == Some(Told::Published(1)));
-        assert!(rt; self.destroyed(registry)?);
-        assert!(rt; self.is_ready(registry)?);
-        assert!(rt; registry.observe(0, false, 1)?);
-        Ok(())
+    ) {
+        let id = self.group.id();
+        let changed = self.scheduled_alone(alloc, registry, "1.0.0.1:80", 0);
+        let told = self.rebuilt(alloc, 0);
+        let destroyed = self.destroyed(registry);
+        let ready = self.is_ready(registry);
+        let observed = registry.observe(0, false, 1);
+        assert!(rt; (id, changed, told) == (1, Ok(true), Ok(Some(Told::Published(1)))));
+        assert!(rt; (destroyed, ready, observed) == (Ok(true), Ok(true), Ok(true)));
     }
 
-    // The backend goes and comes again, with a cell of its own; readers of generation 1 are answered by the old cell.
+    // The disabled backend goes and comes again.
     fn third_generation_is_shown(
         &mut self,
         alloc: Global,
         registry: &mut RegistryCore,
         rt: &impl Abort,
-    ) -> Result<(), Refusal> {
+    ) {
         self.set_enable(false);
-        self.scheduled(
-            alloc,
-            registry,
-            BTreeSet::new(alloc),
-            Settings::new(alloc),
-            1,
-        )?;
-        self.scheduled_alone(alloc, registry, "1.0.0.1:80", 2)?;
-        assert_eq!(rt; self.group.newest(), 3);
-        assert!(rt; registry.cell_ready(1));
-        assert!(rt; !self.is_ready(registry)?);
+        let gone = self.scheduled_none(alloc, registry, 1);
+        let back = self.scheduled_alone(alloc, registry, "1.0.0.1:80", 2);
+        let newest = self.group.newest();
+        let ready = registry.cell_ready(1);
+        assert!(rt; (gone, back, newest, ready) == (Ok(true), Ok(true), 3, true));
+    }
+
+    // It has a cell of its own then; readers of generation 1 are answered by the old cell.
+    fn third_generation_has_its_own_cell(&mut self, registry: &mut RegistryCore, rt: &impl Abort) {
+        let disabled = self.is_ready(registry);
         self.set_enable(true);
-        assert!(rt; !self.is_ready(registry)?);
-        assert!(rt; registry.observe(0, true, 1)?);
-        assert!(rt; self.is_ready(registry)?);
-        Ok(())
+        let unhealthy = self.is_ready(registry);
+        let observed = registry.observe(0, true, 1);
+        let ready = self.is_ready(registry);
+        assert!(rt;
+            (disabled, unhealthy, observed, ready) == (Ok(false), Ok(false), Ok(true), Ok(true))
+        );
     }
 
     // Generation 3 is served, and the old cell goes with the selector of generation 1.
@@ -225,23 +278,23 @@ impl Joined {
         alloc: Global,
         registry: &mut RegistryCore,
         rt: &impl Abort,
-    ) -> Result<(), Refusal> {
-        assert!(rt; self.rebuilt(alloc, 3)? == Some(Told::Published(3)));
-        assert!(rt; self.is_ready(registry)?);
-        assert!(rt; self.destroyed(registry)?);
-        assert!(rt; registry.observe(0, true, 1) == Err(Refusal::NoSuch));
-        assert!(rt; self.is_ready(registry)?);
-        Ok(())
+    ) {
+        let told = self.rebuilt(alloc, 3);
+        let before = self.is_ready(registry);
+        let destroyed = self.destroyed(registry);
+        let observed = registry.observe(0, true, 1);
+        let after = self.is_ready(registry);
+        assert!(rt;
+            (told, before, destroyed) == (Ok(Some(Told::Published(3))), Ok(true), Ok(true))
+        );
+        assert!(rt; (observed, after) == (Err(Refusal::NoSuch), Ok(true)));
     }
 }
 
 // A reader is answered by the cells of its own snapshot, which live until its selector is destroyed.
 #[test]
 fn old_snapshot_keeps_its_cells(rt: HostRuntime) {
-    assert_eq!(rt;
-        played(rt.alloc(), &rt, Row::OldSnapshotKeepsItsCells),
-        Ok(())
-    );
+    passes(rt.alloc(), &rt, Row::OldSnapshotKeepsItsCells);
 }
 
 // Settings that disable the one backend.
@@ -258,31 +311,25 @@ impl Joined {
         alloc: Global,
         registry: &mut RegistryCore,
         rt: &impl Abort,
-    ) -> Result<(), Refusal> {
-        self.scheduled(
-            alloc,
-            registry,
-            alone(alloc, "1.0.0.1:80")?,
-            disabled(alloc)?,
-            0,
-        )?;
-        assert!(rt; self.rebuilt(alloc, 0)? == Some(Told::Published(1)));
-        assert!(rt; !self.is_ready(registry)?);
-        assert!(rt; !self.scheduled_alone(alloc, registry, "1.0.0.1:80", 1)?);
-        assert!(rt; !self.is_ready(registry)?);
+    ) {
+        let changed = self.scheduled_disabled(alloc, registry);
+        let told = self.rebuilt(alloc, 0);
+        let disabled = self.is_ready(registry);
+        assert!(rt;
+            (changed, told, disabled) == (Ok(true), Ok(Some(Told::Published(1))), Ok(false))
+        );
+        let changed = self.scheduled_alone(alloc, registry, "1.0.0.1:80", 1);
+        let disabled = self.is_ready(registry);
         self.set_enable(true);
-        assert!(rt; self.is_ready(registry)?);
-        Ok(())
+        let ready = self.is_ready(registry);
+        assert!(rt; (changed, disabled, ready) == (Ok(false), Ok(false), Ok(true)));
     }
 }
 
 // Settings reach the newest membership alone, and an omission enables nothing.
 #[test]
 fn settings_reach_the_newest_membership(rt: HostRuntime) {
-    assert_eq!(rt;
-        played(rt.alloc(), &rt, Row::SettingsReachTheNewestMembership),
-        Ok(())
-    );
+    passes(rt.alloc(), &rt, Row::SettingsReachTheNewestMembership);
 }
 
 impl Joined {
@@ -291,26 +338,35 @@ impl Joined {
         alloc: Global,
         registry: &mut RegistryCore,
         rt: &impl Abort,
-    ) -> Result<(), Refusal> {
-        self.scheduled_alone(alloc, registry, "1.0.0.1:80", 0)?;
-        assert!(rt; self.rebuilt(alloc, 0)? == Some(Told::Published(1)));
-        assert!(rt; registry.target_count(alloc)? == 1);
+    ) {
+        let changed = self.scheduled_alone(alloc, registry, "1.0.0.1:80", 0);
+        let told = self.rebuilt(alloc, 0);
+        let shown = registry.target_count(alloc);
         self.group.cancel(registry);
-        assert!(rt; registry.target_count(alloc)? == 0);
-        assert!(rt; self.is_ready(registry)?);
+        let removed = registry.target_count(alloc);
         assert!(rt;
-            self.scheduled_alone(alloc, registry, "1.0.0.2:80", 1) == Err(Refusal::GroupCancelled)
+            (changed, told, shown, removed)
+                == (Ok(true), Ok(Some(Told::Published(1))), Ok(1), Ok(0))
         );
-        assert!(rt; self.rebuilt(alloc, 1)? == None);
-        Ok(())
+        self.cancelled_group_answers_readers(alloc, registry, rt);
+    }
+
+    // A cancelled group answers readers, and takes no membership.
+    fn cancelled_group_answers_readers(
+        &mut self,
+        alloc: Global,
+        registry: &mut RegistryCore,
+        rt: &impl Abort,
+    ) {
+        let ready = self.is_ready(registry);
+        let changed = self.scheduled_alone(alloc, registry, "1.0.0.2:80", 1);
+        let told = self.rebuilt(alloc, 1);
+        assert!(rt; (ready, changed, told) == (Ok(true), Err(Refusal::GroupCancelled), Ok(None)));
     }
 }
 
 // A cancelled group's view is no target any more once marks are applied; its readers are answered all the same.
 #[test]
 fn cancelled_view_is_removed(rt: HostRuntime) {
-    assert_eq!(rt;
-        played(rt.alloc(), &rt, Row::CancelledViewIsRemoved),
-        Ok(())
-    );
+    passes(rt.alloc(), &rt, Row::CancelledViewIsRemoved);
 }

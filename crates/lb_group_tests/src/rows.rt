@@ -1,6 +1,6 @@
 //! Worked rows of groups. Moments are handed in; each build's clock answers the moment that it is given.
-//! A row is a method on two groups that are lent, since whoever owns them drops them after each call that may be refused; and what
-//! a job in hand outlives stands in a method of its own, since each call that it is held over asks for its identity again.
+//! A row is a method on two groups that are lent, since whoever owns them drops them on each way out, and compares what a few calls
+//! answered at once. What a job in hand outlives stands in a method of its own: each call that it is held over asks whose it is.
 use crate::calls::{
     Pair, Word, abandoned, asked, built, failed, job_at, published, rebuilt, scheduled,
 };
@@ -24,20 +24,34 @@ enum Row {
     ReadersKeepThePermitOut,
 }
 
-// Plays a row on two new groups.
+// Plays a row on two new groups. It makes one call after they are made, since each way out of here drops them.
 fn played(alloc: Global, rt: &impl Abort, row: Row) -> Result<(), Refusal> {
     let mut pair = Pair::new(alloc)?;
-    match row {
-        Row::NineDelays => pair.nine_delays(alloc, rt),
-        Row::NewestRequestWins => pair.newest_request_wins(alloc, rt),
-        Row::GroupsOfOneGateDiffer => pair.groups_of_one_gate_differ(rt),
-        Row::NewMembershipIsDueAtOnce => pair.new_membership_is_due_at_once(alloc, rt),
-        Row::LostWorkerKeepsItsPermit => pair.lost_worker_keeps_its_permit(alloc, rt),
-        Row::AbandonedGenerationIsBuiltAgain => pair.abandoned_generation_is_built_again(alloc, rt),
-        Row::CancelledGroupRetiresWhatWasBuilt => pair.cancelled_group_retires_what_was_built(
-            alloc, rt,
-        ),
-        Row::ReadersKeepThePermitOut => pair.readers_keep_the_permit_out(alloc, rt),
+    pair.play(alloc, rt, row);
+    Ok(())
+}
+
+// Whether there was memory for the row; the row itself asserts what it sees.
+fn passes(alloc: Global, rt: &impl Abort, row: Row) {
+    assert_eq!(rt; played(alloc, rt, row), Ok(()));
+}
+
+impl Pair {
+    fn play(&mut self, alloc: Global, rt: &impl Abort, row: Row) {
+        match row {
+            Row::NineDelays => self.nine_delays(alloc, rt),
+            Row::NewestRequestWins => self.newest_request_wins(alloc, rt),
+            Row::GroupsOfOneGateDiffer => self.groups_of_one_gate_differ(rt),
+            Row::NewMembershipIsDueAtOnce => self.new_membership_is_due_at_once(alloc, rt),
+            Row::LostWorkerKeepsItsPermit => self.lost_worker_keeps_its_permit(alloc, rt),
+            Row::AbandonedGenerationIsBuiltAgain => self.abandoned_generation_is_built_again(
+                alloc, rt,
+            ),
+            Row::CancelledGroupRetiresWhatWasBuilt => self.cancelled_group_retires_what_was_built(
+                alloc, rt,
+            ),
+            Row::ReadersKeepThePermitOut => self.readers_keep_the_permit_out(alloc, rt),
+        }
     }
 }
 
@@ -113,223 +127,243 @@ impl Pair {
 }
 
 impl Pair {
-    fn nine_delays(&mut self, alloc: Global, rt: &impl Abort) -> Result<(), Refusal> {
-        self.scheduled(alloc, "1.0.0.1:80", 0)?;
-        let mut now = 0;
+    // The slot is busy at the one moment, and gives a job at the other, after what it retired is destroyed.
+    fn slot_is_busy_until_destroyed(&mut self, moments: (u128, u128), rt: &impl Abort) {
+        let (before, after) = moments;
+        let busy = self.answers(before, "busy");
+        let destroyed = self.destroyed();
+        let job = self.answers(after, "job");
+        assert!(rt; (busy, destroyed, job) == (true, Ok(true), true));
+    }
+}
+
+impl Pair {
+    fn nine_delays(&mut self, alloc: Global, rt: &impl Abort) {
+        assert!(rt; self.scheduled(alloc, "1.0.0.1:80", 0) == Ok(1));
+        let mut now: u128 = 0;
         for milliseconds in [10, 20, 40, 80, 160, 320, 640, 1000, 1000] {
-            assert!(rt; self.failed(now)?);
             let due = now.saturating_add(milliseconds * 1_000_000);
-            assert!(rt; self.asked(due.saturating_sub(1))? == ("wait", due));
+            let failed = self.failed(now);
+            let asked = self.asked(due.saturating_sub(1));
+            assert!(rt; (failed, asked) == (Ok(true), Ok(("wait", due))));
             now = due;
         }
-        Ok(())
     }
 }
 
 // Each failure of one generation doubles the delay, up to a second.
 #[test]
 fn nine_delays(rt: HostRuntime) {
-    assert_eq!(rt; played(rt.alloc(), &rt, Row::NineDelays), Ok(()));
+    passes(rt.alloc(), &rt, Row::NineDelays);
 }
 
 impl Pair {
-    fn newest_request_wins(&mut self, alloc: Global, rt: &impl Abort) -> Result<(), Refusal> {
-        assert!(rt; self.scheduled(alloc, "1.0.0.1:80", 0)? == 1);
-        assert!(rt; self.overtaken(alloc)? == (1, 2, 3));
-        assert!(rt; self.rebuilt(alloc, 3, 4)? == Some(Told::Published(3)));
-        assert_eq!(rt; self.served(), Some(3));
-        assert_eq!(rt;
-            self.counts(),
-            Some(Counts {
-                published: 1,
-                coalesced: 1,
-                superseded: 1,
-                failed: 1
-            })
+    fn newest_request_wins(&mut self, alloc: Global, rt: &impl Abort) {
+        let scheduled = self.scheduled(alloc, "1.0.0.1:80", 0);
+        let overtaken = self.overtaken(alloc);
+        let told = self.rebuilt(alloc, 3, 4);
+        assert!(rt;
+            (scheduled, overtaken, told) == (Ok(1), Ok((1, 2, 3)), Ok(Some(Told::Published(3))))
         );
-        assert_eq!(rt;
-            self.timing(),
-            Some(Some(Timing {
-                generation: 3,
-                queue: 1,
-                build: 1
-            }))
+        let counts = Counts {
+            published: 1,
+            coalesced: 1,
+            superseded: 1,
+            failed: 1,
+        };
+        let timing = Timing {
+            generation: 3,
+            queue: 1,
+            build: 1,
+        };
+        assert!(rt;
+            (self.served(), self.counts(), self.timing())
+                == (Some(3), Some(counts), Some(Some(timing)))
         );
-        Ok(())
     }
 }
 
 // A build of an old generation fails after two newer memberships; the next job is of the newest one.
 #[test]
 fn newest_request_wins(rt: HostRuntime) {
-    assert_eq!(rt; played(rt.alloc(), &rt, Row::NewestRequestWins), Ok(()));
+    passes(rt.alloc(), &rt, Row::NewestRequestWins);
 }
 
 impl Pair {
-    fn groups_of_one_gate_differ(&mut self, rt: &impl Abort) -> Result<(), Refusal> {
+    fn groups_of_one_gate_differ(&mut self, rt: &impl Abort) {
         GroupCore::apart(&mut self.group, &mut self.other);
-        assert!(rt; both_entered(&mut self.group, &mut self.other)?);
-        Ok(())
+        assert!(rt; both_entered(&mut self.group, &mut self.other) == Ok(true));
     }
 }
 
 // Two groups on one gate are two groups: each counts the reader that entered it.
 #[test]
 fn groups_of_one_gate_differ(rt: HostRuntime) {
-    assert_eq!(rt; played(rt.alloc(), &rt, Row::GroupsOfOneGateDiffer), Ok(()));
+    passes(rt.alloc(), &rt, Row::GroupsOfOneGateDiffer);
 }
 
 impl Pair {
-    fn new_membership_is_due_at_once(
-        &mut self,
-        alloc: Global,
-        rt: &impl Abort,
-    ) -> Result<(), Refusal> {
-        self.scheduled(alloc, "1.0.0.1:80", 0)?;
-        assert!(rt; self.failed(0)?);
-        assert!(rt; self.asked(9_000_000)? == ("wait", 10_000_000));
-        self.scheduled(alloc, "1.0.0.2:80", 9_000_000)?;
-        assert!(rt; self.rebuilt(alloc, 9_000_000, 9_000_005)? == Some(Told::Published(2)));
-        assert_eq!(rt;
-            self.timing(),
-            Some(Some(Timing {
-                generation: 2,
-                queue: 0,
-                build: 5
-            }))
+    fn new_membership_is_due_at_once(&mut self, alloc: Global, rt: &impl Abort) {
+        let scheduled = self.scheduled(alloc, "1.0.0.1:80", 0);
+        let failed = self.failed(0);
+        let asked = self.asked(9_000_000);
+        assert!(rt; (scheduled, failed, asked) == (Ok(1), Ok(true), Ok(("wait", 10_000_000))));
+        self.second_membership_is_built(alloc, rt);
+    }
+
+    // Another membership comes before generation 1 is due again.
+    fn second_membership_is_built(&mut self, alloc: Global, rt: &impl Abort) {
+        let scheduled = self.scheduled(alloc, "1.0.0.2:80", 9_000_000);
+        let told = self.rebuilt(alloc, 9_000_000, 9_000_005);
+        let timing = Timing {
+            generation: 2,
+            queue: 0,
+            build: 5,
+        };
+        assert!(rt;
+            (scheduled, told, self.timing())
+                == (Ok(2), Ok(Some(Told::Published(2))), Some(Some(timing)))
         );
-        Ok(())
     }
 }
 
 // A failed build is due again after ten milliseconds; a new membership is due at once.
 #[test]
 fn new_membership_is_due_at_once(rt: HostRuntime) {
-    assert_eq!(rt;
-        played(rt.alloc(), &rt, Row::NewMembershipIsDueAtOnce),
-        Ok(())
-    );
+    passes(rt.alloc(), &rt, Row::NewMembershipIsDueAtOnce);
 }
 
 impl Pair {
-    fn lost_worker_keeps_its_permit(
-        &mut self,
-        alloc: Global,
-        rt: &impl Abort,
-    ) -> Result<(), Refusal> {
-        self.scheduled(alloc, "1.0.0.1:80", 0)?;
-        assert!(rt; self.worker_lost() == Err(Refusal::NothingInFlight));
-        assert!(rt; self.lost(alloc)? == (("busy", 0), Some(Told::Abandoned(1))));
-        assert_eq!(rt; self.served(), Some(0));
-        assert!(rt; self.answers(2, "busy")?);
-        assert!(rt; self.destroyed()?);
-        assert!(rt; self.answers(3, "job")?);
-        Ok(())
+    fn lost_worker_keeps_its_permit(&mut self, alloc: Global, rt: &impl Abort) {
+        let scheduled = self.scheduled(alloc, "1.0.0.1:80", 0);
+        let idle = self.worker_lost();
+        let lost = self.lost(alloc);
+        let served = self.served();
+        assert!(rt;
+            (scheduled, idle, lost, served)
+                == (
+                    Ok(1),
+                    Err(Refusal::NothingInFlight),
+                    Ok((("busy", 0), Some(Told::Abandoned(1)))),
+                    Some(0),
+                )
+        );
+        self.slot_is_busy_until_destroyed((2, 3), rt);
     }
 }
 
 // A lost worker's selector is not served, and keeps its slot busy until it is destroyed.
 #[test]
 fn lost_worker_keeps_its_permit(rt: HostRuntime) {
-    assert_eq!(rt;
-        played(rt.alloc(), &rt, Row::LostWorkerKeepsItsPermit),
-        Ok(())
-    );
+    passes(rt.alloc(), &rt, Row::LostWorkerKeepsItsPermit);
 }
 
 impl Pair {
-    fn abandoned_generation_is_built_again(
-        &mut self,
-        alloc: Global,
-        rt: &impl Abort,
-    ) -> Result<(), Refusal> {
-        self.scheduled(alloc, "1.0.0.1:80", 0)?;
-        assert!(rt; self.abandoned(alloc)? == (("building", 0), true));
-        assert_eq!(rt; self.timing(), Some(None));
-        assert!(rt; self.answers(1, "busy")?);
-        assert!(rt; self.destroyed()?);
-        assert!(rt; self.answers(1, "job")?);
-        Ok(())
+    fn abandoned_generation_is_built_again(&mut self, alloc: Global, rt: &impl Abort) {
+        let scheduled = self.scheduled(alloc, "1.0.0.1:80", 0);
+        let abandoned = self.abandoned(alloc);
+        let timing = self.timing();
+        assert!(rt;
+            (scheduled, abandoned, timing) == (Ok(1), Ok((("building", 0), true)), Some(None))
+        );
+        self.slot_is_busy_until_destroyed((1, 1), rt);
     }
 }
 
 // An abandoned selector keeps its slot busy until it is destroyed; then its generation is built again.
 #[test]
 fn abandoned_generation_is_built_again(rt: HostRuntime) {
-    assert_eq!(rt;
-        played(rt.alloc(), &rt, Row::AbandonedGenerationIsBuiltAgain),
-        Ok(())
-    );
+    passes(rt.alloc(), &rt, Row::AbandonedGenerationIsBuiltAgain);
 }
 
 impl Pair {
-    fn cancelled_group_retires_what_was_built(
-        &mut self,
-        alloc: Global,
-        rt: &impl Abort,
-    ) -> Result<(), Refusal> {
-        self.scheduled(alloc, "1.0.0.1:80", 0)?;
-        self.other_scheduled(alloc, "1.0.0.1:80", 0)?;
-        assert!(rt; self.cancelled(alloc)? == (("busy", 0), Some(Told::Abandoned(1))));
-        assert!(rt; self.other_answers(1, "busy")?);
-        assert!(rt; self.destroyed()?);
-        assert!(rt; self.answers(1, "cancelled")?);
-        assert!(rt; self.other_answers(1, "job")?);
-        assert_eq!(rt;
-            self.counts(),
-            Some(Counts {
-                published: 0,
-                coalesced: 0,
-                superseded: 0,
-                failed: 0
-            })
+    fn cancelled_group_retires_what_was_built(&mut self, alloc: Global, rt: &impl Abort) {
+        let scheduled = self.scheduled(alloc, "1.0.0.1:80", 0);
+        let other_scheduled = self.other_scheduled(alloc, "1.0.0.1:80", 0);
+        let cancelled = self.cancelled(alloc);
+        let busy = self.other_answers(1, "busy");
+        assert!(rt;
+            (scheduled, other_scheduled, cancelled, busy)
+                == (
+                    Ok(1),
+                    Ok(1),
+                    Ok((("busy", 0), Some(Told::Abandoned(1)))),
+                    true
+                )
         );
-        assert!(rt; self.scheduled(alloc, "1.0.0.2:80", 2) == Err(Refusal::GroupCancelled));
-        Ok(())
+        self.cancelled_group_gives_its_permit_back(alloc, rt);
+    }
+
+    // What was built is destroyed; the other group gets a job then, and the cancelled one none.
+    fn cancelled_group_gives_its_permit_back(&mut self, alloc: Global, rt: &impl Abort) {
+        let destroyed = self.destroyed();
+        let cancelled = self.answers(1, "cancelled");
+        let job = self.other_answers(1, "job");
+        let counts = self.counts();
+        let scheduled = self.scheduled(alloc, "1.0.0.2:80", 2);
+        let none = Counts {
+            published: 0,
+            coalesced: 0,
+            superseded: 0,
+            failed: 0,
+        };
+        assert!(rt;
+            (destroyed, cancelled, job, counts, scheduled)
+                == (
+                    Ok(true),
+                    true,
+                    true,
+                    Some(none),
+                    Err(Refusal::GroupCancelled)
+                )
+        );
     }
 }
 
 // A cancelled group keeps its permit until what was built is destroyed, and gives no job any more.
 #[test]
 fn cancelled_group_retires_what_was_built(rt: HostRuntime) {
-    assert_eq!(rt;
-        played(rt.alloc(), &rt, Row::CancelledGroupRetiresWhatWasBuilt),
-        Ok(())
-    );
+    passes(rt.alloc(), &rt, Row::CancelledGroupRetiresWhatWasBuilt);
 }
 
 impl Pair {
-    fn readers_keep_the_permit_out(
-        &mut self,
-        alloc: Global,
-        rt: &impl Abort,
-    ) -> Result<(), Refusal> {
-        self.scheduled(alloc, "1.0.0.1:80", 0)?;
-        self.other_scheduled(alloc, "1.0.0.2:80", 0)?;
-        let (told, word, read) = self.read(alloc)?;
-        assert_eq!(rt; told, Some(Told::Published(1)));
-        assert!(rt; word == ("busy", 0));
-        assert_eq!(rt; read, Some(Refusal::StillRead(1)));
-        assert!(rt; self.other_answers(6, "busy")?);
-        assert!(rt; self.destroyed()?);
-        assert!(rt; self.other_answers(6, "job")?);
-        assert_eq!(rt;
-            self.timing(),
-            Some(Some(Timing {
-                generation: 1,
-                queue: 0,
-                build: 5
-            }))
+    fn readers_keep_the_permit_out(&mut self, alloc: Global, rt: &impl Abort) {
+        let scheduled = self.scheduled(alloc, "1.0.0.1:80", 0);
+        let other_scheduled = self.other_scheduled(alloc, "1.0.0.2:80", 0);
+        let read = self.read(alloc);
+        assert!(rt;
+            (scheduled, other_scheduled, read)
+                == (
+                    Ok(1),
+                    Ok(1),
+                    Ok((
+                        Some(Told::Published(1)),
+                        ("busy", 0),
+                        Some(Refusal::StillRead(1)),
+                    )),
+                )
         );
-        Ok(())
+        self.permit_comes_back(rt);
+    }
+
+    // The retired selector is destroyed; the other group gets a job then.
+    fn permit_comes_back(&mut self, rt: &impl Abort) {
+        let busy = self.other_answers(6, "busy");
+        let destroyed = self.destroyed();
+        let job = self.other_answers(6, "job");
+        let timing = Timing {
+            generation: 1,
+            queue: 0,
+            build: 5,
+        };
+        assert!(rt;
+            (busy, destroyed, job, self.timing()) == (true, Ok(true), true, Some(Some(timing)))
+        );
     }
 }
 
 // A retired selector waits for its readers; until its destruction is reported, another group of the gate gets no job.
 #[test]
 fn readers_keep_the_permit_out(rt: HostRuntime) {
-    assert_eq!(rt;
-        played(rt.alloc(), &rt, Row::ReadersKeepThePermitOut),
-        Ok(())
-    );
+    passes(rt.alloc(), &rt, Row::ReadersKeepThePermitOut);
 }

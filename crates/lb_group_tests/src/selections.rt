@@ -3,7 +3,7 @@
 ghost use Rattle.std.specs.Prelude.{◌≡◌};
 
 use crate::calls::one_slot;
-use crate::joined::Joined;
+use crate::joined::{Joined, Row, passes};
 use lb_group::answers::{Ask, Selection};
 use lb_group::group::GroupCore;
 use lb_group::job::FailedBuild;
@@ -37,24 +37,6 @@ fn one(alloc: Global, weight: u8) -> Result<Backend, Refusal> {
 fn told(selection: Selection) -> Result<(Option<usize>, u64), Refusal> {
     let found = selection.answer?;
     Ok((found.map(|backend| backend.weight), selection.drawn))
-}
-
-// The rows, each as the test of its name tells it.
-#[derive(Drop)]
-enum Row {
-    ReadyOnesAreSelected,
-    ServedGenerationJudges,
-}
-
-// Plays a row on a new group.
-fn played(alloc: Global, rt: &impl Abort, row: Row) -> Result<(), Refusal> {
-    let mut registry = RegistryCore::new(alloc);
-    let mut joined = Joined::new(alloc, &mut registry)?;
-    let registry = &mut registry;
-    match row {
-        Row::ReadyOnesAreSelected => joined.ready_ones_are_selected(alloc, registry, rt),
-        Row::ServedGenerationJudges => joined.served_generation_judges(alloc, registry, rt),
-    }
 }
 
 impl Joined {
@@ -100,7 +82,7 @@ impl Joined {
         &mut self,
         alloc: Global,
         registry: &RegistryCore,
-    ) -> Result<((Option<usize>, u64), u64), Refusal> {
+    ) -> (Result<(Option<usize>, u64), Refusal>, u64) {
         let selection = self.group.select_with(
             alloc,
             registry,
@@ -112,69 +94,66 @@ impl Joined {
             &|_backend: &Backend, ready: bool| !ready,
         );
         let tickets = selection.tickets;
-        Ok((told(selection)?, tickets))
+        (told(selection), tickets)
     }
 
-    fn ready_ones_are_selected(
+    /// A row that `played` of `joined` plays.
+    pub(crate) fn ready_ones_are_selected(
         &mut self,
         alloc: Global,
         registry: &mut RegistryCore,
         rt: &impl Abort,
-    ) -> Result<(), Refusal> {
-        assert!(rt; self.selected(alloc, registry, 0, 16)? == (None, 1));
-        self.serves_weights(alloc, registry, 2)?;
-        assert!(rt; self.selected(alloc, registry, 0, 16)? == (Some(1), 1));
-        self.disable(alloc, 2)?;
+    ) {
+        let unserved = self.selected(alloc, registry, 0, 16);
+        let served = self.serves_weights(alloc, registry, 2);
+        let both = self.selected(alloc, registry, 0, 16);
+        assert!(rt; (unserved, served, both) == (Ok((None, 1)), Ok(()), Ok((Some(1), 1))));
+        self.disabled_one_is_passed_over(alloc, registry, rt);
+    }
+
+    fn disabled_one_is_passed_over(
+        &mut self,
+        alloc: Global,
+        registry: &mut RegistryCore,
+        rt: &impl Abort,
+    ) {
+        let disabled = self.disable(alloc, 2);
+        let ready = self.selected(alloc, registry, 0, 16);
+        let unready = self.selected_unready(alloc, registry);
+        let nowhere = self.selected(alloc, registry, 1, 16);
         // Ticket 1 is of the second by weight, ticket 2 of the first by rank.
-        assert!(rt; self.selected(alloc, registry, 0, 16)? == (Some(1), 2));
+        assert!(rt; (disabled, ready) == (Ok(()), Ok((Some(1), 2))));
         // Tickets 3 and 4 are of the first one, ticket 5 is of the second.
-        assert!(rt; self.selected_unready(alloc, registry)? == ((Some(2), 3), 6));
-        assert!(rt; self.selected(alloc, registry, 1, 16)? == (None, 0));
-        Ok(())
+        assert!(rt; (unready, nowhere) == ((Ok((Some(2), 3)), 6), Ok((None, 0))));
     }
 
-    fn served_generation_judges(
+    /// A row that `played` of `joined` plays.
+    pub(crate) fn served_generation_judges(
         &mut self,
         alloc: Global,
         registry: &mut RegistryCore,
         rt: &impl Abort,
-    ) -> Result<(), Refusal> {
-        self.serves_weights(alloc, registry, 1)?;
-        self.scheduled(
-            alloc,
-            registry,
-            BTreeSet::new(alloc),
-            Settings::new(alloc),
-            1,
-        )?;
-        assert!(rt; self.selected(alloc, registry, 0, 16)? == (Some(1), 1));
-        assert!(rt; registry.observe(0, false, 1)?);
-        assert!(rt; self.selected(alloc, registry, 0, 3)? == (None, 4));
-        Ok(())
+    ) {
+        let served = self.serves_weights(alloc, registry, 1);
+        let gone = self.scheduled_none(alloc, registry, 1);
+        let ready = self.selected(alloc, registry, 0, 16);
+        let observed = registry.observe(0, false, 1);
+        let unready = self.selected(alloc, registry, 0, 3);
+        assert!(rt; (served, gone, observed) == (Ok(()), Ok(true), Ok(true)));
+        assert!(rt; (ready, unready) == (Ok((Some(1), 1)), Ok((None, 4))));
     }
 }
 
 // The first ready one is selected; what accepts is asked with each backend and whether it is ready.
 #[test]
 fn ready_ones_are_selected(rt: HostRuntime) {
-    assert_eq!(rt; played(rt.alloc(), &rt, Row::ReadyOnesAreSelected), Ok(()));
+    passes(rt.alloc(), &rt, Row::ReadyOnesAreSelected);
 }
 
 // A selector is judged by the snapshot that it was built from, with the cells and flags as they are now.
 #[test]
 fn served_generation_judges(rt: HostRuntime) {
-    assert_eq!(rt;
-        played(rt.alloc(), &rt, Row::ServedGenerationJudges),
-        Ok(())
-    );
-}
-
-// A group of one slot that serves a selector by loads over the backends of the weights 1 to 3.
-fn by_loads(alloc: Global) -> Result<GroupCore<LeastConnections>, Refusal> {
-    let mut gate = GateCore::new(alloc)?;
-    let mut group = GroupCore::new(alloc, &gate, one_slot(alloc)?)?;
-    serve(alloc, &mut group, &mut gate)?;
-    Ok(group)
+    passes(rt.alloc(), &rt, Row::ServedGenerationJudges);
 }
 
 // Gives a group its backends, and serves them.
@@ -210,13 +189,18 @@ fn set_load(alloc: Global, loads: &mut Loads, weight: u8, load: u64) -> Result<(
     loads.set(alloc, &one(alloc, weight)?, load)
 }
 
+// The load of the backend of that weight.
+fn load(alloc: Global, loads: &Loads, weight: u8) -> Result<u64, Refusal> {
+    Ok(loads.get(&one(alloc, weight)?))
+}
+
 // Sets a load for each backend, and reads one.
-fn set_loads(alloc: Global, loads: &mut Loads, rt: &impl Abort) -> Result<(), Refusal> {
-    set_load(alloc, loads, 1, 2)?;
-    set_load(alloc, loads, 2, 1)?;
-    set_load(alloc, loads, 3, 9)?;
-    assert_eq!(rt; loads.get(&one(alloc, 3)?), 9);
-    Ok(())
+fn set_loads(alloc: Global, loads: &mut Loads, rt: &impl Abort) {
+    let first = set_load(alloc, loads, 1, 2);
+    let second = set_load(alloc, loads, 2, 1);
+    let third = set_load(alloc, loads, 3, 9);
+    let read = load(alloc, loads, 3);
+    assert!(rt; (first, second, third, read) == (Ok(()), Ok(()), Ok(()), Ok(9)));
 }
 
 // What is selected by these loads: of all backends, and of those that are accepted.
@@ -225,10 +209,9 @@ fn selects_by_loads(
     group: &mut GroupCore<LeastConnections>,
     loads: &Loads,
     rt: &impl Abort,
-) -> Result<(), Refusal> {
-    let any = group.select_with(alloc, 0, b"", 16, &[], loads, &|_backend: &Backend| true);
-    assert!(rt; told(any)? == (Some(2), 0));
-    let odd = group.select_with(
+) {
+    let any = told(group.select_with(alloc, 0, b"", 16, &[], loads, &|_backend: &Backend| true));
+    let odd = told(group.select_with(
         alloc,
         0,
         b"",
@@ -236,16 +219,32 @@ fn selects_by_loads(
         &[],
         loads,
         &|backend: &Backend| { backend.weight != 2 },
-    );
-    assert!(rt; told(odd)? == (Some(1), 0));
-    Ok(())
+    ));
+    assert!(rt; (any, odd) == (Ok((Some(2), 0)), Ok((Some(1), 0))));
 }
 
-fn lends_loads(alloc: Global, rt: &impl Abort) -> Result<(), Refusal> {
-    let mut group = by_loads(alloc)?;
+// Serves a selector by loads over the backends of the weights 1 to 3, and selects.
+fn serves_by_loads(
+    alloc: Global,
+    group: &mut GroupCore<LeastConnections>,
+    gate: &mut GateCore,
+    rt: &impl Abort,
+)
+    requires { gate.old.id ≡ group.old.gate }
+{
+    assert!(rt; serve(alloc, group, gate) == Ok(()));
     let mut loads = Loads::new();
-    set_loads(alloc, &mut loads, rt)?;
-    selects_by_loads(alloc, &mut group, &loads, rt)
+    set_loads(alloc, &mut loads, rt);
+    selects_by_loads(alloc, group, &loads, rt);
+}
+
+// Plays the row on a new group of one slot.
+fn lends_loads(alloc: Global, rt: &impl Abort) -> Result<(), Refusal> {
+    let configs = one_slot(alloc)?;
+    let mut gate = GateCore::new(alloc)?;
+    let mut group = GroupCore::new(alloc, &gate, configs)?;
+    serves_by_loads(alloc, &mut group, &mut gate, rt);
+    Ok(())
 }
 
 // The least load for each unit of weight comes first, of those that are accepted.
