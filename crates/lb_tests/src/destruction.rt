@@ -11,6 +11,7 @@ use lb_group::job::FailedBuild;
 use lb_rebuild::gate::GateCore;
 use lb_select::refusal::Refusal;
 use std::alloc::Global;
+use std::process::Abort;
 use std::sync::Arc;
 use std::sync::atomic::{AtomicU64, Ordering};
 use std::test::Fail;
@@ -55,17 +56,30 @@ fn gone_before_the_report(rt: HostRuntime) -> Result<(), Fail> {
     let mut configs = Vec::new(alloc);
     configs.push(Gone(Some(gone.clone()?)))?;
     let mut group: GroupCore<Noting> = GroupCore::new(alloc, &gate, configs)?;
+    retires_in_order(alloc, &rt, &mut group, &mut gate, &gone)
+}
+
+// Lends the group, since each way out of the function that owns it drops it.
+fn retires_in_order(
+    alloc: Global,
+    rt: &impl Abort,
+    group: &mut GroupCore<Noting>,
+    gate: &mut GateCore,
+    gone: &AtomicU64,
+) -> Result<(), Fail>
+    requires { gate.old.id ≡ group.old.gate }
+{
     // A new group builds a selector of each configuration to see whether it can, and may drop some.
     gone.store(0, Ordering::SeqCst);
     group.schedule(alloc, set_of(alloc, &[("1.0.0.1:80", 1)])?, 0)?;
-    assert!(rt; granted(alloc, &mut group, &mut gate)?);
+    assert!(rt; granted(alloc, group, gate)?);
     group.schedule(alloc, set_of(alloc, &[("1.0.0.2:80", 1)])?, 0)?;
     let retired = group.take_retired(0)?;
     assert_eq!(rt; gone.load(Ordering::SeqCst), 0);
     let permit = retired.destroy();
     assert_eq!(rt; gone.load(Ordering::SeqCst), 1);
-    let early = granted(alloc, &mut group, &mut gate);
-    let reported = match group.destroyed(0, permit, &mut gate) {
+    let early = granted(alloc, group, gate);
+    let reported = match group.destroyed(0, permit, gate) {
         Ok(()) => true,
         Err(permit) => {
             permit.spend();
@@ -74,7 +88,7 @@ fn gone_before_the_report(rt: HostRuntime) -> Result<(), Fail> {
     };
     assert_eq!(rt; early, Ok(false));
     assert!(rt; reported);
-    assert!(rt; granted(alloc, &mut group, &mut gate)?);
+    assert!(rt; granted(alloc, group, gate)?);
     assert_eq!(rt; gone.load(Ordering::SeqCst), 1);
     Ok(())
 }
