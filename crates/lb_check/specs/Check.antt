@@ -1,4 +1,4 @@
--- An HTTP message as a check takes it, and the cause of each fault.
+-- An HTTP message as a check takes it, the cause of each fault, and the address that a check connects to.
 use Rattle.std.specs.Prelude.{◌≡◌, ◌≢◌, ℕ, ◌<◌, ◌≤◌, ◌⊎◌, Bool, true, false, List, [], ⊤, Option, None, Some, Result, Ok, Err, ◌==◌}
 use Rattle.http.specs.declared.response.Parts.{Parts}
 use Rattle.httparse.specs.Grammar.{ResponseHead, status_code}
@@ -10,6 +10,8 @@ use Rattle.lb_check.specs.Head.{BeginsWithHead, HasBadHead, HasLargeHead, EndsIn
 use Rattle.lb_check.specs.Parts.{parts_of}
 use Rattle.lb_check.specs.Framing.{framing_of}
 use Rattle.lb_check.specs.Body.{HasBody, HasNoBody, NeverHasBody, IsLarge}
+use Rattle.lb_select.specs.declared.backend.InetAddr.{InetAddr}
+use Rattle.lb_select.specs.declared.backend.InetAddr.TheVariants.{V4, V6}
 
 -- what is accepted: what the validator accepts, and without one the status 200
 abbrev pub accepts_of : {V : Type 0} → (V → Parts → Bool) → Option V → Parts → Bool
@@ -103,3 +105,9 @@ IsOkOrFailed reader writer (Err Read) = reader ≡ true
 IsOkOrFailed reader writer (Err Write) = writer ≡ true
 IsOkOrFailed reader writer (Err OutOfMemory) = ⊤
 IsOkOrFailed reader writer (Err e) = ⊥
+
+-- the address with that port, if one is given
+abbrev pub at_port : InetAddr → Option ℕ → InetAddr
+at_port addr None = addr
+at_port (V4 octets own) (Some port) = V4 octets port
+at_port (V6 octets own) (Some port) = V6 octets port

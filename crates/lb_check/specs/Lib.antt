@@ -1,6 +1,5 @@
 pub mod Head
 pub mod Parts
-pub mod Ports
 pub mod Framing
 pub mod Body
 pub mod Chunked

@@ -2,7 +2,7 @@
 //! No name is looked up: a backend's address is where it is reached.
 ghost use Rattle.std.specs.Prelude.{◌≡◌, Some, None, ◌*◌, ◌^◌, ◌<◌, max, IfSome};
 ghost use Rattle.std.specs.Duration.{as_nanos};
-ghost use Rattle.lb_check.specs.Ports.{at_port};
+ghost use Rattle.lb_check.specs.Check.{at_port};
 
 use lb_probe::error::CheckError;
 use lb_select::backend::InetAddr;

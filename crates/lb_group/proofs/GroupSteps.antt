@@ -6,8 +6,7 @@ use Rattle.std.proofs.lemmas.Option.{slice_get-map, slice_get_within, slice_get-
 use mathlib.Core.Logic.{dite}
 use native.Mathlib.Decide.{ℕ_discrete}
 use Rattle.lb_select.specs.Backends.{Member}
-use Rattle.lb_rebuild.specs.Gate.{GateId}
-use Rattle.lb_rebuild.specs.Identity.{GroupId}
+use Rattle.lb_rebuild.specs.Gate.{GateId, GroupId}
 use Rattle.lb_group.specs.GroupHistory.{SlotEvent, At, History, past_of, newest, scheduled_at, is_cancelled, IsPast, IsGroupHistory, MayHappen}
 use Rattle.lb_group.specs.Values.{PlaceValue, SlotValue, GroupValue, configs_of}
 use Rattle.lb_group.specs.Stands.{Made, permit_in, slot_after, slots_after, group_after, StandsFor, IsFounded, SameSite}

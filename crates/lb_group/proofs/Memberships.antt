@@ -3,8 +3,7 @@ use Rattle.std.proofs.Common.{arith, ◌≡◌, ◌<◌, ◌+◌, ◌^◌, ◌�
 use Rattle.std.proofs.lemmas.Bool.{eq-eqb, ne_eqb}
 use Rattle.lb_select.specs.Backends.{Member}
 use Rattle.lb_select.specs.Memberships.{same_members}
-use Rattle.lb_rebuild.specs.Gate.{GateId}
-use Rattle.lb_rebuild.specs.Identity.{GroupId}
+use Rattle.lb_rebuild.specs.Gate.{GateId, GroupId}
 use Rattle.lb_group.specs.GroupHistory.{Scheduled, Cancelled, History, past_of, newest, members_of, is_cancelled, IsGroupHistory}
 use Rattle.lb_group.specs.Values.{OrderValue, PreparedValue, SlotValue, GroupValue}
 use Rattle.lb_group.specs.Stands.{Made, slot_after, slots_after, group_after, StandsFor}

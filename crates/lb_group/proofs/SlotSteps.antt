@@ -3,8 +3,7 @@ use Rattle.std.proofs.Common.{◌≡◌, ◌<◌, ◌≤◌, ◌+◌, ◌-◌, �
 use Rattle.std.proofs.lemmas.Bool.{ltb-true, lt-ltb, eqb-true, eq-eqb, ne_eqb}
 use Rattle.std.proofs.lemmas.Bool.Decides.{eqb_tells}
 use Rattle.lb_select.specs.Backends.{Member}
-use Rattle.lb_rebuild.specs.Gate.{GateId}
-use Rattle.lb_rebuild.specs.Identity.{GroupId}
+use Rattle.lb_rebuild.specs.Gate.{GateId, GroupId}
 use Rattle.lb_group.specs.declared.answers.Counts.{Counts}
 use Rattle.lb_group.specs.declared.answers.Timing.{Timing}
 use Rattle.lb_group.specs.GroupHistory.{Granted, Failed, Published, Abandoned, WorkerLost, TakenOut, Destroyed, Entered, Left, Drew, GroupEvent, Scheduled, Cancelled, At, History, newest, scheduled_at, is_cancelled, granted, served, order_members, Extra, nothing, flight, lost, retired, taken_out, is_flight, is_extra, is_aloft, is_retired_of, is_lost_of, is_taken_out, flight_number, generation_of, extra, waits, readers, published, coalesced, is_outdated, superseded, all_failures, failures, failed_at, later, due_after, AskAnswer, cancelled, building, up_to_date, not_due, busy, job, ask_answer, IsPast}

@@ -3,6 +3,7 @@ use Rattle.std.specs.Prelude.{◌≡◌, ◌==◌, ◌&&◌, ◌||◌, ◌+◌, 
 use Rattle.std.specs.Prelude.{filter, Option, Some, None, if◌then◌else◌}
 use Rattle.lb_select.specs.Backends.{Member}
 use Rattle.lb_group.specs.declared.answers.Timing.{Timing}
+use Rattle.std.specs.Prelude.{Option, Some, None, if◌then◌else◌}
 
 -- What happens at a slot. A moment is in nanoseconds; a list is the members of the job or of the selector that came back.
 pub data SlotEvent : Type 0 where
@@ -323,3 +324,7 @@ IsFaithful (At i (Failed now ms) ∷ h) = IsFaithful h × (ms ≡ granted_member
 IsFaithful (At i (Published ended ms) ∷ h) = IsFaithful h × (ms ≡ granted_members h)
 IsFaithful (At i (Abandoned ms) ∷ h) = IsFaithful h × (ms ≡ granted_members h)
 IsFaithful (e ∷ h) = IsFaithful h
+
+-- the generation of a slot's flight, if there is one
+abbrev pub flight_after : History → Option ℕ
+flight_after p = if is_flight (extra p) then Some (flight_number (extra p)) else None

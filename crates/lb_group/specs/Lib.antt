@@ -1,5 +1,4 @@
 pub mod Drawn
-pub mod Flights
 pub mod Fresh
 pub mod GroupCalls
 pub mod GroupHistory

@@ -1,14 +1,12 @@
 -- What contracts see of a group is a function of its history.
-use Rattle.std.specs.Prelude.{◌≡◌, ◌+◌, ◌^◌, ◌<◌, ◌&&◌, ℕ, not, List, [], ◌∷◌, ◌++◌, Option, Some, None, if◌then◌else◌}
-use Rattle.lb_rebuild.specs.Gate.{GateId}
-use Rattle.lb_rebuild.specs.Identity.{GroupId}
+use Rattle.std.specs.Prelude.{◌≡◌, ◌+◌, ◌^◌, ◌<◌, ◌&&◌, ℕ, not, List, [], ◌∷◌, ◌++◌, Option, Some, None, if◌then◌else◌, min}
+use Rattle.lb_rebuild.specs.Gate.{GateId, GroupId}
 use Rattle.lb_group.specs.GroupHistory.{History, Extra, nothing, flight, lost, retired, taken_out, past_of, newest, members_of}
 use Rattle.lb_group.specs.GroupHistory.{scheduled_at, is_cancelled, granted, asked_at, served, served_members, order_members, extra}
 use Rattle.lb_group.specs.GroupHistory.{is_lost_of, waits, readers, drawn, published, coalesced, superseded, failed, failures, failed_at}
 use Rattle.lb_group.specs.GroupHistory.{timing, IsGroupHistory}
 use Rattle.lb_group.specs.Values.{OrderValue, SlotValue, GroupValue, configs_of}
 use Rattle.lb_group.specs.declared.answers.Counts.{Counts}
-use Rattle.std.specs.Prelude.{min}
 
 -- what a group was made with: an identity, its gate, and a configuration for each slot
 pub record Made (C : Type 0) : Type 0 where

@@ -1,8 +1,7 @@
 -- What contracts see of a group, of its slots, and of the values that go through other hands.
 use Rattle.std.specs.Prelude.{ℕ, Bool, List, map, Option}
 use Rattle.lb_select.specs.Backends.{Member}
-use Rattle.lb_rebuild.specs.Gate.{GateId}
-use Rattle.lb_rebuild.specs.Identity.{GroupId}
+use Rattle.lb_rebuild.specs.Gate.{GateId, GroupId}
 use Rattle.lb_group.specs.GroupHistory.{Extra}
 use Rattle.lb_group.specs.declared.answers.Counts.{Counts}
 use Rattle.lb_group.specs.declared.answers.Timing.{Timing}

@@ -8,7 +8,7 @@ ghost use Rattle.lb_select.specs.Refusals.{Refuses, least};
 ghost use Rattle.lb_group.specs.GroupHistory.{History, Scheduled as ScheduledEvent, Cancelled, WorkerLost, Entered, Left, TakenOut};
 ghost use Rattle.lb_group.specs.GroupHistory.{Destroyed, past_of, newest as newest_after, served as served_after, is_cancelled, members_of};
 ghost use Rattle.lb_group.specs.GroupHistory.{waits as waits_after, readers as readers_after};
-ghost use Rattle.lb_group.specs.Flights.{flight_after};
+ghost use Rattle.lb_group.specs.GroupHistory.{flight_after};
 ghost use Rattle.lb_group.specs.GroupHistory.{timing as timing_after};
 ghost use Rattle.lb_group.specs.Fresh.{fresh_slot};
 ghost use Rattle.lb_group.specs.SlotSeen.{slot_value};

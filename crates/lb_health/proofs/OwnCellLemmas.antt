@@ -3,7 +3,7 @@ use Rattle.std.proofs.Common.{◌≡◌, ◌<◌, ℕ, zero, suc, Bool, true, fa
 use Rattle.std.proofs.lemmas.List.Quantifiers.{position-Some}
 use Rattle.std.specs.List.{position}
 use Rattle.std.specs.Prelude.{◌==◌, if◌then◌else◌}
-use Rattle.lb_registry.specs.OwnCells.{HasOwnCells}
+use Rattle.lb_registry.specs.Registry.{HasOwnCells}
 use Rattle.lb_health.specs.declared.snapshot.ViewSnapshot.{ViewSnapshot}
 use Rattle.lb_health.specs.Kept.{HaveOwnCells}
 use Rattle.lb_health.specs.Snapshots.{SnapshotValue, snapshot_of, at_generation}

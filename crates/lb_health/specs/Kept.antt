@@ -1,7 +1,7 @@
 -- What a view keeps beside what contracts see of it.
 use Rattle.std.specs.Prelude.{◌≡◌, Bool, true, false, List, [], ◌∷◌, Some}
 use Rattle.lb_select.specs.Backends.{Member}
-use Rattle.lb_registry.specs.OwnCells.{HasOwnCells}
+use Rattle.lb_registry.specs.Registry.{HasOwnCells}
 use Rattle.lb_health.specs.Snapshots.{SnapshotValue, value_at}
 
 -- its flags: where none is disabled, each enables

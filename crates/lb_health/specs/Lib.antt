@@ -1,5 +1,4 @@
 pub mod Discoveries
-pub mod Founded
 pub mod Hints
 pub mod Joined
 pub mod Kept

@@ -1,4 +1,4 @@
--- What it is for a view to be as its events left it.
+-- What it is for a view to be as its events left it, and that some events did.
 use Rattle.std.specs.Prelude.{◌≡◌, ◌⊎◌, Bool, true, List, IsSome, Some, None, Result, Err}
 use Rattle.lb_select.specs.declared.refusal.Refusal.{Refusal}
 use Rattle.lb_select.specs.declared.refusal.Refusal.TheVariants.{GenerationsExhausted}
@@ -22,3 +22,7 @@ Flags old new b = (value_at new b ≡ value_at old b) ⊎ ((value_at old b ≡ N
 -- has no such view
 abbrev pub IsViewRefusal : {A : Type 0} → Result A Refusal → Type 0
 IsViewRefusal r = (r ≡ Err GenerationsExhausted) ⊎ IsUpdateRefusal r
+
+-- some history stands behind the view
+abbrev pub IsFounded : ViewValue → Type 0
+IsFounded v = (views : List ViewEvent) × IsViewAfter views v

@@ -11,13 +11,12 @@ ghost use Rattle.lb_registry.specs.Keys.{by_identity, rule_gives};
 ghost use Rattle.lb_registry.specs.Registry.{IsRegistryAfter, IsGrowthRefusal};
 ghost use Rattle.lb_registry.specs.RegistryEvents.{Event, Applied, Registered, registered_after, views_after, has_view, cells_given};
 ghost use Rattle.lb_health.specs.Discoveries.{MayFault};
-ghost use Rattle.lb_health.specs.Founded.{IsFounded};
+ghost use Rattle.lb_health.specs.Views.{IsFounded, IsViewAfter};
 ghost use Rattle.lb_health.specs.Joined.{IsReady};
 ghost use Rattle.lb_health.specs.Snapshots.{IfHead};
 ghost use Rattle.lb_health.specs.Passes.{PassesWith, target_cells};
 ghost use Rattle.lb_health.specs.Updates.{IsUpdated, IsBackendsRefusal};
 ghost use Rattle.lb_health.specs.ViewEvents.{ViewEvent, Set, generation_after, membership_after};
-ghost use Rattle.lb_health.specs.Views.{IsViewAfter};
 
 use crate::discovery::{DiscoverySource, ServiceDiscovery};
 use crate::registry::HealthRegistry;
@@ -44,7 +43,7 @@ pub struct Backends<D, R, C> {
 pub type BackendView<D, R, C> = Backends<D, R, C>;
 
 impl<D, R, C> Model for Backends<D, R, C> {
-    ghost use Rattle.lb_health.specs.Founded.{IsFounded};
+    ghost use Rattle.lb_health.specs.Views.{IsFounded};
     ghost use Rattle.lb_health.specs.Updates.{BackendsValue};
 
     ghost Value = { BackendsValue D R C };

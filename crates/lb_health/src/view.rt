@@ -15,8 +15,7 @@ ghost use Rattle.lb_health.specs.Views.{IsViewAfter, Flags, IsViewRefusal};
 ghost use Rattle.lb_health.specs.Joined.{lives, registry_released, settings_of, after_settings, with_membership, view_changed};
 ghost use Rattle.lb_health.specs.Joined.{registry_changed};
 ghost use Rattle.lb_health.specs.Joined.{view_updated, registry_updated, IsHealthyIn, IsReadyIn, IsReady};
-ghost use Rattle.lb_registry.specs.OwnCells.{HasOwnCells};
-ghost use Rattle.lb_registry.specs.Registry.{IsRegistryAfter, IsGrowthRefusal};
+ghost use Rattle.lb_registry.specs.Registry.{HasOwnCells, IsRegistryAfter, IsGrowthRefusal};
 ghost use Rattle.lb_registry.specs.RegistryEvents.{Event, Registered, Updated, Applied, registered_after, has_view, views_after};
 ghost use Rattle.lb_registry.specs.RegistryEvents.{cells_given};
 

@@ -1,4 +1,3 @@
-pub mod Gate
 pub mod Group
 pub mod Registry
 pub mod Shared

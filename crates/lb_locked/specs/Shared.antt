@@ -1,4 +1,4 @@
--- What contracts see of a group that threads share, whose generations are read on its board.
+-- What contracts see of a gate that threads share, and of a group, whose generations are read on its board.
 use Rattle.std.specs.Prelude.{◌≡◌, ◌⊎◌, ◌≤◌, ◌+◌, ℕ, Bool, List, Option, Result}
 use Rattle.lb_board.specs.Pass.{BoardId}
 use Rattle.lb_joined.specs.Stands.{JoinedValue, SameSite}
@@ -9,6 +9,8 @@ use Rattle.lb_select.specs.Selections.{Selects}
 use Rattle.lb_select.specs.declared.refusal.Refusal.{Refusal}
 use Rattle.lb_select.specs.declared.refusal.Refusal.TheVariants as refusal
 use Rattle.lb_watched.specs.Watched.{WatchedValue}
+use Rattle.atomic_table.specs.Seated.{TableId}
+use Rattle.lb_rebuild.specs.Gate.{GateId}
 
 -- the board; the group as it was when it came under its lock, of which stays which one it is, its gate and its configurations; and the
 -- registry as it was when it came under its own, whose history others lengthen
@@ -30,3 +32,8 @@ IsEntryRefusal board slot e =
 -- A selection by the words that it drew, whichever they were: others draw from the same source.
 abbrev pub SelectsByAny : (Member → Bool → Type 0) → ℕ → (List Draw → List Member → Bool → Type 0) → Result (Option Member) Refusal → Type 0
 SelectsByAny accepts limit walks r = Selects {S = Unit {0}} same_member accepts limit (λ s d t. Unit {0}) walks tt r tt
+
+-- which gate it is, and which lock it is behind
+pub record GateHandle : Type 0 where
+  pub id : GateId
+  pub lock : TableId

@@ -27,7 +27,7 @@ pub struct SelectorRebuildGate {
 }
 
 impl Model for SelectorRebuildGate {
-    ghost use Rattle.lb_locked.specs.Gate.{GateHandle};
+    ghost use Rattle.lb_locked.specs.Shared.{GateHandle};
 
     ghost Value = { GateHandle };
 

@@ -1,4 +1,4 @@
--- What contracts see of a gate of rebuilds and of its permit.
+-- What contracts see of a gate of rebuilds, of its permit, and of a group's identity.
 use Rattle.std.specs.Prelude.{Bool, true, false, Option, Some, None}
 use Rattle.std.specs.Coded.{Coded}
 use Rattle.atomic_table.specs.Seated.{TableId, table_id_coded}
@@ -23,3 +23,10 @@ gate id out = record { id = id; out = out }
 abbrev pub is_absent : {A : Type 0} → Option A → Bool
 is_absent None = true
 is_absent (Some x) = false
+
+-- which group it is: no two groups have the same one. Clauses compare it and look at nothing inside
+abbrev pub GroupId : Type 0
+GroupId = TableId
+
+abbrev pub group_id_coded : Coded GroupId
+group_id_coded = table_id_coded

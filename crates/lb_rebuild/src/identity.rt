@@ -16,7 +16,7 @@ pub struct Identity {
 
 impl Model for Identity {
     ghost use Rattle.std.specs.Prelude.{◌≡◌};
-    ghost use Rattle.lb_rebuild.specs.Identity.{GroupId, group_id_coded};
+    ghost use Rattle.lb_rebuild.specs.Gate.{GroupId, group_id_coded};
 
     ghost Value = { GroupId };
 

@@ -10,8 +10,7 @@ use Rattle.std.specs.List.Sorted.{IsStrictlySortedBy}
 use borrow.Author.Tests.{eqb-true}
 use Rattle.lb_select.specs.Backends.{Member, member_cmp, same_member}
 use Rattle.lb_select.specs.Unique.{firsts, distinct}
-use Rattle.lb_registry.specs.Fresh.{has_key, is_fresh, fresh}
-use Rattle.lb_registry.specs.Internal.Fresh.{fresh_past}
+use Rattle.lb_registry.specs.Fresh.{has_key, is_fresh, fresh, fresh_past}
 use Rattle.lb_registry.specs.RegistryEvents.{Event, Registered, Applied, Updated, Marked, Observed, Held, Released, Configured, AreSets, is_view, has_view, at_view, with_members, with_mark, new_view, registered_after, views_after, changes_after, cells_given}
 use Rattle.lb_registry.specs.Starts.{is_target, starts}
 use Rattle.lb_registry.specs.Targets.{ViewValue, live, Candidate, same_key, candidates_of, candidates, target_keys}

@@ -2,7 +2,6 @@ pub mod CellEvents
 pub mod Fresh
 pub mod Internal
 pub mod Keys
-pub mod OwnCells
 pub mod Registry
 pub mod RegistryEvents
 pub mod Row

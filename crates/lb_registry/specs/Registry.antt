@@ -1,6 +1,6 @@
--- What contracts see of a registry, and what it is after a history.
-use Rattle.std.specs.Prelude.{◌≡◌, ◌⊎◌, ◌<◌, ◌^◌, ℕ, List, Option, Result, Err}
-use Rattle.std.specs.List.{filter_map}
+-- What contracts see of a registry and of a membership's own cells, and what a registry is after a history.
+use Rattle.std.specs.Prelude.{◌≡◌, ◌⊎◌, ◌<◌, ◌^◌, ℕ, List, Option, Result, Err, true, IsSome}
+use Rattle.std.specs.List.{filter_map, list_any}
 use Rattle.std.specs.Option.{option_map}
 use Rattle.lb_select.specs.Backends.{Member, member_cmp, same_member}
 use Rattle.lb_select.specs.declared.refusal.Refusal.{Refusal}
@@ -13,6 +13,7 @@ use Rattle.lb_registry.specs.RegistryEvents.{changes_after, cells_given, cell_he
 use Rattle.lb_registry.specs.Starts.{cell_now}
 use Rattle.lb_registry.specs.Table.{TableValue, IsTableAfter, IsPruned}
 use Rattle.lb_registry.specs.Targets.{ViewValue, targets_in}
+use Rattle.std.specs.Map.{lookup}
 
 -- what contracts see of a registry: plain lists, and its rule
 pub record RegistryValue (R : Type 0) : Type 0 where
@@ -56,3 +57,7 @@ IsGrowthRefusal r = (r ≡ Err OutOfMemory) ⊎ (r ≡ Err NumbersExhausted)
 -- the same, or because no such view is there
 abbrev pub IsUpdateRefusal : {A : Type 0} → Result A Refusal → Type 0
 IsUpdateRefusal r = (r ≡ Err OutOfMemory) ⊎ ((r ≡ Err NumbersExhausted) ⊎ (r ≡ Err NoSuch))
+
+-- each backend that has a cell is a member, by identity
+abbrev pub HasOwnCells : List Member → List (Member × ℕ) → Type 0
+HasOwnCells members cells = (b : Member) → IsSome (lookup (same_member b) cells) → list_any (same_member b) members ≡ true

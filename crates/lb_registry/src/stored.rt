@@ -89,6 +89,7 @@ impl<K: HealthKey> StoredCells<K> {
         ensures stored { OnOk result (value_at nat_cmp self.new cell ≡ Some stored) }
         ensures others { (d : ℕ) → d ≢ cell → value_at nat_cmp self.new d ≡ value_at nat_cmp self.old d }
         ensures refused { OnErr result (result ≡ Err Refusal.OutOfMemory) }
+        ensures stays { OnErr result (self.new ≡ self.old) }
     {
         let healthy = stored.health.ready();
         self.by_number.insert(cell, stored)?;

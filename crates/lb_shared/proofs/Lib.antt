@@ -2,5 +2,4 @@ mod FirstViews
 mod Judged
 mod Memberships
 mod OfTexts
-mod Readings
 mod Renewals

@@ -3,11 +3,10 @@ use Rattle.std.specs.Prelude.{Result, Ok, Err, OnOk, OnErr, List, ◌∷◌}
 use Rattle.lb_select.specs.Backends.{Member}
 use Rattle.lb_registry.specs.Registry.{RegistryValue, IsRegistryAfter}
 use Rattle.lb_registry.specs.RegistryEvents.{Event, Marked, Released}
-use Rattle.lb_health.specs.Founded.{IsFounded}
+use Rattle.lb_health.specs.Views.{IsFounded, IsViewAfter}
 use Rattle.lb_health.specs.Joined.{registry_updated}
 use Rattle.lb_health.specs.Snapshots.{ViewValue}
 use Rattle.lb_health.specs.ViewEvents.{ViewEvent, generation_after}
-use Rattle.lb_health.specs.Views.{IsViewAfter}
 use Rattle.lb_locked.specs.Registry.{Becomes, IsRegistryOf}
 use Rattle.lb_locked.proofs.Histories.{changed, lengthened, no_more, one_more, stays}
 

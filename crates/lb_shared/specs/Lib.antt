@@ -1,4 +1,3 @@
-pub mod Driven
 pub mod SharedUpdates
 pub mod Shown
 pub mod Texts

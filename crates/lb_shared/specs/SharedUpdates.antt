@@ -1,5 +1,6 @@
--- What the update of a balancer that threads share tells: what it read of the clock, and why it is refused.
-use Rattle.std.specs.Prelude.{◌≡◌, ◌⊎◌, ℕ, Bool, List, length, Option, Some}
+-- What the update of a balancer that threads share tells: what it read of the clock, and why it is refused; and how the sleep of one
+-- that is driven ends.
+use Rattle.std.specs.Prelude.{◌≡◌, ◌⊎◌, ℕ, Bool, List, length, Option, Some, ◌≤◌}
 use Rattle.lb_select.specs.Backends.{Member}
 use Rattle.lb_select.specs.Refusals.{memory_apart}
 use Rattle.lb_select.specs.declared.refusal.Refusal.{Refusal}
@@ -7,6 +8,8 @@ use Rattle.lb_select.specs.declared.refusal.Refusal.TheVariants.{Discovery, OutO
 use Rattle.lb_health.specs.Discoveries.{Discovers, MayFault}
 use Rattle.lb_health.specs.declared.discovery.DiscoverySource.{DiscoverySource}
 use Rattle.lb_balance.specs.Timings.{Reads}
+use Rattle.lb_schedule.specs.declared.event.Event.{Event}
+use Rattle.lb_schedule.specs.declared.event.Event.TheVariants as on
 
 -- what a caller knows of a balancer: its discovery, and what its selectors are built with
 pub record BalancerValue (D C : Type 0) : Type 0 where
@@ -32,3 +35,8 @@ IsSharedRefusal build b r =
     ⊎ ((r ≡ OutOfMemory)
     ⊎ ((members : List Member) × (settings : List (Member × Bool)) × Discovers b.discovery members settings
     × IsBuildRefusal (build members b.config) r))
+
+-- the sleep ends by the shutdown, or at a reading of the clock that had come to the moment
+abbrev pub EndsSleep : {K : Type 0} → (K → ℕ → K → Type 0) → ℕ → Event → K → Type 0
+EndsSleep {K} reads moment e after =
+    (e ≡ on.Shutdown) ⊎ ((e ≡ on.Woke) × (before : K) × (now : ℕ) × reads before now after × (moment ≤ now))

@@ -115,8 +115,7 @@ impl<
     K: MomentSource,
 > BalancerPort for SharedPort<'b, 'p, 'r, 'c, 'w, F, S, D, R, C, W, K> {
     ghost use Rattle.std.specs.Prelude.{◌≡◌, None, IfErr, OnOk};
-    ghost use Rattle.lb_shared.specs.Driven.{EndsSleep};
-    ghost use Rattle.lb_shared.specs.SharedUpdates.{IsSharedRefusal, ReadsUpdate};
+    ghost use Rattle.lb_shared.specs.SharedUpdates.{EndsSleep, IsSharedRefusal, ReadsUpdate};
 
     ghost moments = { λ p moment q. K.reads p.clock.now moment q.clock.now };
 

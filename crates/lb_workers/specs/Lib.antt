@@ -1,2 +1,1 @@
-pub mod Driven
 pub mod Readiness

@@ -1,10 +1,12 @@
--- What reading the slots of a group one after another tells, while others may publish.
+-- What reading the slots of a group one after another tells, while others may publish; and how the sleeps of a driven run end.
 use Rattle.std.specs.Prelude.{◌≡◌, ◌⊎◌, ◌<◌, ◌≤◌, ◌+◌, ◌^◌, ℕ, Option, Some, None}
 use Rattle.lb_group.specs.GroupCalls.{at_slot}
 use Rattle.lb_group.specs.GroupHistory.{past_of, served}
 use Rattle.lb_joined.specs.JoinedHistory.{group_events}
 use Rattle.lb_joined.specs.Stands.{JoinedValue, After}
 use Rattle.lb_locked.specs.Group.{Seen}
+use Rattle.lb_schedule.specs.declared.event.Event.{Event}
+use Rattle.lb_schedule.specs.declared.event.Event.TheVariants as on
 
 module _ {C : Type 0} (site : JoinedValue C) where
   -- the slot was read then: it served this generation, or no such slot was there
@@ -22,3 +24,6 @@ module _ {C : Type 0} (site : JoinedValue C) where
   -- a slot was seen to serve an older one
   abbrev pub OneLags : ℕ → Type 0
   OneLags generation = (slot : ℕ) × (g : ℕ) × SawServed slot (Some g) × (g < generation)
+
+abbrev pub EndsSleep : Event → Type 0
+EndsSleep e = (e ≡ on.Woke) ⊎ (e ≡ on.Rebuilt) ⊎ (e ≡ on.Shutdown)

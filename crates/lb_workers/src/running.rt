@@ -183,7 +183,7 @@ impl<
     ghost use Rattle.std.specs.Arc.{arc_value};
     ghost use Rattle.lb_locked.specs.Group.{UpdatedUnder};
     ghost use Rattle.lb_port.specs.Found.{FoundBy};
-    ghost use Rattle.lb_workers.specs.Driven.{EndsSleep};
+    ghost use Rattle.lb_workers.specs.Readiness.{EndsSleep};
 
     ghost moments = { λ p moment q. K.reads p.clock.now moment q.clock.now };
 

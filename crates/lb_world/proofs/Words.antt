@@ -1,7 +1,7 @@
 -- The names that the proofs of this crate share, passed on from one place; and lemmas on the elements of a list after one of them
 -- was written, and after one was added at the end.
 pub use Rattle.lb_group.proofs.Pasts.{members-past, newest-past, past-other, past-same}
-pub use Rattle.lb_group.specs.Flights.{flight_after}
+pub use Rattle.lb_group.specs.GroupHistory.{flight_after}
 pub use Rattle.lb_group.specs.GroupCalls.{at_slot}
 pub use Rattle.lb_group.specs.GroupHistory.{At, granted, granted_members, members_of, newest, past_of, served}
 pub use Rattle.lb_group.specs.SlotCalls.{ask_told}
@@ -30,7 +30,7 @@ pub use Rattle.lb_history.specs.declared.answer.Answer.{Answer}
 pub use Rattle.lb_history.specs.declared.step.Listing.{Listing}
 pub use Rattle.lb_joined.specs.Stands.{JoinedValue, views_of}
 pub use Rattle.lb_rebuild.specs.Gate.{GateId, GateView, gate}
-pub use Rattle.lb_rebuild.specs.Identity.{GroupId}
+pub use Rattle.lb_rebuild.specs.Gate.{GroupId}
 pub use Rattle.lb_registry.proofs.FreshLemmas.{marks_start_none}
 pub use Rattle.lb_registry.proofs.StateLemmas.{set_found}
 pub use Rattle.lb_registry.specs.Keys.{by_address, by_identity}
@@ -45,7 +45,7 @@ pub use Rattle.lb_select.specs.Refusals.{earlier, least}
 pub use Rattle.lb_select.specs.declared.refusal.Refusal.{Refusal}
 pub use Rattle.lb_world.specs.Calls.{in_tables, set_marked, with_core, with_key}
 pub use Rattle.lb_world.specs.Cells.{lists_key, new_keys, starts_cell}
-pub use Rattle.lb_world.specs.Listings.{some_and}
+pub use Rattle.lb_world.specs.Calls.{some_and}
 pub use Rattle.lb_world.specs.Rules.{WorldRule, key_gives}
 pub use Rattle.lb_world.specs.Stands.{Before, EntryIs, EntryNext, Stands, made_of, permit_after}
 pub use Rattle.lb_world.specs.Views.{EntryValue, HeldValue, IsOwnReader, Origin, WorkValue, WorldValue, entered_of, origin, site}

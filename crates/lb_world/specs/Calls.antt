@@ -1,5 +1,5 @@
--- Words for what small calls answer.
-use Rattle.std.specs.Prelude.{◌≡◌, ◌&&◌, ℕ, Bool, true, nat_lt, List, [], length, replicate, Option, Some, None, Result, Ok, Err}
+-- Words for what small calls answer, and for what is asked of a listing's backend, which may be none.
+use Rattle.std.specs.Prelude.{◌≡◌, ◌&&◌, ℕ, Bool, true, nat_lt, List, [], length, replicate, Option, Some, None, Result, Ok, Err, false}
 use Rattle.std.specs.Prelude.{if◌then◌else◌}
 use Rattle.lb_rebuild.specs.Gate.{GateId}
 use Rattle.std.specs.BTreeMap.{insert_entry}
@@ -85,3 +85,11 @@ pub record IsNewEntry {C : Type 0} (registry gate : ℕ) (id : GateId) (configs 
   pub view_is : e.core.view.id ≡ view
   pub works_are : e.works ≡ replicate (length configs) nothing
   pub loads_are : (b : Member) → load_in e.loads b ≡ 0
+
+abbrev pub none_or : (Member → Bool) → Option Member → Bool
+none_or f None = true
+none_or f (Some x) = f x
+
+abbrev pub some_and : (Member → Bool) → Option Member → Bool
+some_and f None = false
+some_and f (Some x) = f x

@@ -1,8 +1,6 @@
 pub mod Calls
 pub mod Cells
 pub mod Ever
-pub mod Founded
-pub mod Listings
 pub mod Locals
 pub mod Rules
 pub mod Stands

@@ -1,8 +1,7 @@
 -- A world as contracts see it: its tables as plain lists, with what is held for each slot and each reader.
 use Rattle.std.specs.Prelude.{◌≡◌, ℕ, List, Option}
 use Rattle.lb_select.specs.Backends.{Member}
-use Rattle.lb_rebuild.specs.Gate.{GateId, GateView}
-use Rattle.lb_rebuild.specs.Identity.{GroupId}
+use Rattle.lb_rebuild.specs.Gate.{GateId, GateView, GroupId}
 use Rattle.lb_registry.specs.Registry.{RegistryValue}
 use Rattle.lb_group.specs.Values.{Task, BuiltValue, ReaderValue, configs_of}
 use Rattle.lb_group.specs.Stands as group

@@ -1,12 +1,13 @@
--- What is held for a slot, of the program and as a history tells it.
+-- What is held for a slot, of the program and as a history tells it, and the tables of a world.
 use Rattle.std.specs.Prelude.{ℕ}
 use Rattle.lb_group.specs.GroupHistory.{History, granted, granted_members}
 use Rattle.lb_group.specs.Values.{Task}
 use Rattle.lb_history.specs.History.{Work, idle}
 use Rattle.lb_history.specs.History as work
-use Rattle.lb_world.specs.Views.{WorkValue, nothing, building, ready, Origin}
+use Rattle.lb_world.specs.Views.{WorkValue, nothing, building, ready, Origin, WorldValue}
 use Rattle.lb_world.specs.declared.held.Work as declared
 use Rattle.lb_world.specs.declared.held.Work.TheVariants as is
+use Rattle.lb_world.specs.declared.world.Tables.{Tables}
 
 abbrev pub work_value : {S I C W : Type 0} → declared.Work S I C W → WorkValue C
 work_value is.Nothing = nothing
@@ -29,3 +30,8 @@ abbrev pub held_of : {C : Type 0} → Origin → ℕ → C → History → Work 
 held_of o slot c p idle = nothing
 held_of o slot c p work.building = building (last_job o slot c p)
 held_of o slot c p (work.built now) = ready (record { task = last_job o slot c p; ended = now })
+
+-- the tables of a world
+abbrev pub world_value : {S I C W : Type 0} → Tables S I C W → WorldValue C
+world_value w =
+    record { registries = w.registries.items; gates = w.gates.items; groups = w.groups.items; readers = w.readers.items }

@@ -12,7 +12,7 @@ ghost use Rattle.lb_history.specs.Steps as seen;
 ghost use Rattle.lb_history.specs.Steps.{step_seen};
 ghost use Rattle.lb_world.specs.Ever.{Always, EachStep, JudgedByOwn};
 ghost use Rattle.lb_world.specs.Locals.{local_seen, IsWhole};
-ghost use Rattle.lb_world.specs.Founded.{world_value};
+ghost use Rattle.lb_world.specs.Works.{world_value};
 ghost use Rattle.lb_world.specs.Stands.{IsFounded, Stands};
 
 mod made;
@@ -50,7 +50,7 @@ pub(crate) struct Tables<S: BackendSelection> {
 
 impl<S: BackendSelection> Model for World<S> {
     ghost use Rattle.lb_world.specs.Views.{WorldValue};
-    ghost use Rattle.lb_world.specs.Founded.{world_value};
+    ghost use Rattle.lb_world.specs.Works.{world_value};
     ghost use Rattle.lb_world.specs.Stands.{IsFounded};
     ghost use Rattle.lb_history.specs.Meanings.{meaning_of};
 

@@ -6,11 +6,10 @@ ghost use Rattle.std.specs.BTreeMap.{insert_entry};
 ghost use Rattle.lb_select.specs.Backends.{member_cmp, same_member};
 ghost use Rattle.lb_registry.specs.Keys.{by_identity};
 ghost use Rattle.lb_select.specs.Memberships.{same_members};
-ghost use Rattle.lb_world.specs.Listings.{none_or, some_and};
+ghost use Rattle.lb_world.specs.Calls.{none_or, some_and, set_marked, with_key};
 ghost use Rattle.lb_health.specs.Joined.{settings_of};
 ghost use Rattle.lb_history.specs.History.{members_in};
 ghost use Rattle.lb_history.specs.Shared.{marked, settings_in};
-ghost use Rattle.lb_world.specs.Calls.{set_marked, with_key};
 
 use lb_health::view::Settings;
 use lb_history::step::Listing;

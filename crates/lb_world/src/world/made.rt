@@ -10,7 +10,7 @@ ghost use Rattle.lb_history.specs.Steps as seen;
 ghost use Rattle.lb_world.specs.Calls.{in_tables};
 ghost use Rattle.lb_world.specs.Rules.{key_gives};
 ghost use Rattle.lb_registry.specs.Registry.{IsRegistryAfter};
-ghost use Rattle.lb_world.specs.Founded.{world_value};
+ghost use Rattle.lb_world.specs.Works.{world_value};
 ghost use Rattle.lb_world.specs.Stands.{Stands};
 
 use super::Tables;

@@ -4,7 +4,7 @@ ghost use Rattle.std.specs.Prelude.{◌≡◌, ◌∷◌};
 ghost use Rattle.lb_history.specs.History.{History};
 ghost use Rattle.lb_history.specs.Meanings.{meaning_of};
 ghost use Rattle.lb_history.specs.Steps as seen;
-ghost use Rattle.lb_world.specs.Founded.{world_value};
+ghost use Rattle.lb_world.specs.Works.{world_value};
 ghost use Rattle.lb_world.specs.Stands.{IsFounded, Stands};
 
 use super::Tables;

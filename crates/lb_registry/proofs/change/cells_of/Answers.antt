@@ -6,7 +6,7 @@ use Rattle.std.specs.Map.{lookup}
 use Rattle.std.specs.Prelude.{IsSome, ◌||◌}
 use Rattle.lb_select.specs.Backends.{Member, member_cmp, same_member}
 use Rattle.lb_select.proofs.Turns.{same_equiv}
-use Rattle.lb_registry.specs.OwnCells.{HasOwnCells}
+use Rattle.lb_registry.specs.Registry.{HasOwnCells}
 use Rattle.lb_registry.specs.RegistryEvents.{cell_pair}
 use Rattle.lb_registry.specs.Starts.{cell_now}
 use Rattle.lb_registry.proofs.change.cells_of.Goals as goal

@@ -3,7 +3,7 @@ use Rattle.std.specs.BTreeMap.{insert_entry}
 use Rattle.std.specs.List.{filter_map, list_any}
 use Rattle.lb_select.specs.Backends.{Member, member_cmp, same_member}
 use Rattle.lb_registry.specs.Keys.{IsRuleOf}
-use Rattle.lb_registry.specs.OwnCells.{HasOwnCells}
+use Rattle.lb_registry.specs.Registry.{HasOwnCells}
 use Rattle.lb_registry.specs.RegistryEvents.{cell_pair, cells_by}
 use Rattle.lb_registry.specs.Starts.{IsNumbered}
 use Rattle.lb_registry.proofs.change.cells_of.Given as goal

@@ -1,7 +1,6 @@
 use Rattle.std.proofs.Common.{◌≡◌, ◌+◌, ◌≤◌, ◌<◌, ◌^◌, ℕ, List, ◌++◌, length, map}
 use Rattle.lb_select.specs.Backends.{Member}
-use Rattle.lb_registry.specs.Fresh.{fresh}
-use Rattle.lb_registry.specs.Internal.Fresh.{fresh_past}
+use Rattle.lb_registry.specs.Fresh.{fresh, fresh_past}
 use Rattle.lb_registry.specs.Keys.{IsRuleOf}
 use Rattle.lb_registry.specs.Targets.{view_value, live}
 use Rattle.lb_registry.proofs.fresh.fresh_count.Given as goal

@@ -4,7 +4,7 @@ ghost use Rattle.std.specs.Prelude.{◌≡◌, ◌↔◌, ◌≤◌, ◌^◌, �
 ghost use Rattle.lb_history.specs.History.{members_in};
 ghost use Rattle.lb_world.specs.Cells.{lists_key, new_keys, starts_cell};
 ghost use Rattle.lb_world.specs.Rules.{key_gives};
-ghost use Rattle.lb_world.specs.Listings.{some_and};
+ghost use Rattle.lb_world.specs.Calls.{some_and};
 ghost use Rattle.lb_registry.specs.Registry.{IsRegistryAfter};
 ghost use Rattle.lb_registry.specs.RegistryEvents.{Event, Applied, Updated, cells_given, has_view, views_after};
 ghost use Rattle.lb_registry.specs.Targets.{live};

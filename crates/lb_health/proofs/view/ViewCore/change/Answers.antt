@@ -2,14 +2,13 @@ use Rattle.std.proofs.Common.{◌≡◌, ap, sym, ◌∙◌, refl, subst, map, L
 use Rattle.std.specs.Arc.{arc_value}
 use Rattle.std.specs.Prelude.{Bool, true, false, if◌then◌else◌}
 use Rattle.lb_select.specs.Backends.{Member}
-use Rattle.lb_registry.specs.Registry.{IsRegistryAfter}
+use Rattle.lb_registry.specs.Registry.{IsRegistryAfter, HasOwnCells}
 use Rattle.lb_registry.specs.RegistryEvents.{shown_cells, Event, Released, after_show}
 use Rattle.lb_health.specs.Joined.{lives, view_changed}
 use Rattle.lb_health.specs.declared.snapshot.ViewSnapshot.{ViewSnapshot}
 use Rattle.lb_health.specs.Snapshots.{SnapshotValue, ViewValue, snapshot_of, living}
 use Rattle.lb_health.specs.ViewEvents.{ViewEvent, Shown, by_age, new_snapshot, snapshots_after, generation_after}
 use Rattle.lb_health.specs.Views.{IsViewAfter, Flags}
-use Rattle.lb_registry.specs.OwnCells.{HasOwnCells}
 use Rattle.lb_health.specs.Kept.{HaveOwnCells}
 use Rattle.lb_health.proofs.FlagLemmas.{flags-more}
 use Rattle.lb_health.proofs.OwnCellLemmas.{own-behind}

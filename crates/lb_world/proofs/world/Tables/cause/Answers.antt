@@ -1,5 +1,5 @@
 -- The tests of the two numbers, taken one after the other, are that both are there.
-use Rattle.lb_world.specs.Founded.{world_value}
+use Rattle.lb_world.specs.Works.{world_value}
 use Rattle.std.proofs.lemmas.Bool.{le-ltb}
 use Rattle.lb_world.proofs.Words.{◌<◌, ◌∙◌, ◌≡◌, ◌≤◌, ◌&&◌, [], ap, arith, Bool, earlier, in_tables, least, lt-ltb, map, nat_lt, no_such}
 use Rattle.lb_world.proofs.Words.{past, ℕ}
