@@ -1,4 +1,5 @@
-//! What the tests make again and again: sets of backends, settings, and a view of a registry that they made.
+//! What the tests make again and again: sets of backends, settings, and a view of a registry that is lent.
+//! Whoever owns such a value lends it to one call, since each way out drops it.
 use lb_health::view::{Settings, ViewCore};
 use lb_registry::registry::RegistryCore;
 use lb_select::backend::Backend;
@@ -12,22 +13,37 @@ pub(crate) type Members<'a> = &'a [(&'a str, usize)];
 /// The set of these backends.
 pub(crate) fn set_of(alloc: Global, members: Members) -> Result<BTreeSet<Backend>, Refusal> {
     let mut set = BTreeSet::new(alloc);
-    for member in members {
-        let backend = Backend::new_with_weight(alloc, member.0, member.1)?;
-        set.insert(backend)?;
-    }
+    fill(alloc, &mut set, members)?;
     Ok(set)
 }
 
-/// The registry with one view more.
-pub(crate) fn viewed(
-    alloc: Global,
-    registry: RegistryCore,
-) -> Result<(RegistryCore, ViewCore), Refusal> {
-    let mut registry = registry;
+// Puts these backends into the set.
+fn fill(alloc: Global, set: &mut BTreeSet<Backend>, members: Members) -> Result<(), Refusal> {
+    for member in members {
+        set.insert(Backend::new_with_weight(alloc, member.0, member.1)?)?;
+    }
+    Ok(())
+}
+
+// The settings that enable or disable the address of weight 1, if there is one.
+fn settings_of(alloc: Global, flagged: Option<(&str, bool)>) -> Result<Settings, Refusal> {
+    let mut settings = Settings::new(alloc);
+    if let Some((addr, enabled)) = flagged {
+        flag(alloc, &mut settings, addr, enabled)?;
+    }
+    Ok(settings)
+}
+
+fn flag(alloc: Global, settings: &mut Settings, addr: &str, enabled: bool) -> Result<(), Refusal> {
+    let Backend { addr, .. } = Backend::new(alloc, addr)?;
+    settings.insert((addr, 1), enabled)?;
+    Ok(())
+}
+
+/// One view more of the registry.
+pub(crate) fn viewed(alloc: Global, registry: &mut RegistryCore) -> Result<ViewCore, Refusal> {
     let id = registry.register_view(alloc)?;
-    let view = ViewCore::new(alloc, id)?;
-    Ok((registry, view))
+    ViewCore::new(alloc, id)
 }
 
 /// Updates the view by these members. `flagged` is an address of weight 1 that the discovery enables or disables.
@@ -39,11 +55,7 @@ pub(crate) fn update(
     members: Members,
     flagged: Option<(&str, bool)>,
 ) -> Result<Option<usize>, Refusal> {
-    let mut settings = Settings::new(alloc);
-    if let Some((addr, enabled)) = flagged {
-        let backend = Backend::new(alloc, addr)?;
-        settings.insert((backend.addr, 1), enabled)?;
-    }
+    let settings = settings_of(alloc, flagged)?;
     let set = set_of(alloc, members)?;
     view.update(alloc, registry, set, settings, |lent| lent.len())
 }

@@ -1,4 +1,5 @@
 //! Passes of checks: what a pass asks and tells a check, and what it writes to the log, which no contract sees.
+//! Whoever owns backends or a registry lends them to one call, since each way out drops them.
 use crate::fixtures::set_of;
 use lb_health::backends::Backends;
 use lb_health::discovery::{BoxedDiscovery, DiscoverySource, Static};
@@ -9,10 +10,11 @@ use lb_registry::keys::{ByNumber, Rule};
 use lb_select::backend::Backend;
 use lb_select::refusal::Refusal;
 use log::sink::Memory;
-use log::{Level, Logged};
+use log::{Level, Log, Logged};
 use std::alloc::Global;
 use std::cell::Cell;
 use std::collections::BTreeSet;
+use std::process::Abort;
 use std::rc::Rc;
 use std::test::Fail;
 
@@ -77,13 +79,52 @@ fn new_counts(alloc: Global, down: bool) -> Result<Rc<Counts>, Refusal> {
     Ok(counts)
 }
 
-/// The backends 1.0.0.1:80/1 and 1.0.0.2:80/1 with the check.
-fn pair_with(alloc: Global, check: Counting) -> Result<Counted, Refusal> {
+// A check that counts there.
+fn new_check(counts: &Rc<Counts>, silent: bool) -> Result<Counting, Refusal> {
+    let counts = counts.clone()?;
+    Ok(Counting { counts, silent })
+}
+
+/// The backends 1.0.0.1:80/1 and 1.0.0.2:80/1 with a check that counts there.
+fn pair(alloc: Global, counts: &Rc<Counts>, silent: bool) -> Result<Counted, Refusal> {
     let set = set_of(alloc, &[("1.0.0.1:80", 1), ("1.0.0.2:80", 1)])?;
     let mut backends = Backends::new(alloc, DiscoverySource::Static(Static::new(set)))?;
-    backends.update(alloc, |lent: &BTreeSet<Backend>| lent.len())?;
-    backends.set_health_check(check)?;
+    begin(alloc, &mut backends, counts, silent)?;
     Ok(backends)
+}
+
+// Updates the backends, and sets the check.
+fn begin(
+    alloc: Global,
+    backends: &mut Counted,
+    counts: &Rc<Counts>,
+    silent: bool,
+) -> Result<(), Refusal> {
+    backends.update(alloc, |lent: &BTreeSet<Backend>| lent.len())?;
+    backends.set_health_check(new_check(counts, silent)?)
+}
+
+// Whether 1.0.0.1:80/1 is ready.
+fn ready(alloc: Global, backends: &Counted) -> Result<bool, Refusal> {
+    Ok(backends.ready(&Backend::new(alloc, "1.0.0.1:80")?))
+}
+
+fn each_pass_asks_twice(
+    alloc: Global,
+    backends: &mut Counted,
+    counts: &Counts,
+    rt: &(impl Abort + Log),
+) {
+    for (asked, told, down, healthy) in [
+        (2, 0, true, true),
+        (4, 1, true, false),
+        (6, 2, false, true),
+    ] {
+        counts.down.set(down);
+        let passed = backends.run_health_check(rt, alloc);
+        assert_eq!(rt; (passed, ready(alloc, backends)), (Ok(()), Ok(healthy)));
+        assert_eq!(rt; (counts.asked.get(), counts.told.get()), (asked, told));
+    }
 }
 
 // The first pass finds the backend down for the first time, the second flips it, the third finds it up and flips it back.
@@ -91,95 +132,122 @@ fn pair_with(alloc: Global, check: Counting) -> Result<Counted, Refusal> {
 fn a_pass_checks_each_target_once(rt: HostRuntime) -> Result<(), Fail> {
     let alloc = rt.alloc();
     let counts = new_counts(alloc, true)?;
-    let mut backends = pair_with(
-        alloc,
-        Counting {
-            counts: counts.clone()?,
-            silent: false,
-        },
-    )?;
-    let backend = Backend::new(alloc, "1.0.0.1:80")?;
-    for (turn, told, down, ready) in [
-        (1, 0, true, true),
-        (2, 1, true, false),
-        (3, 2, false, true),
-    ] {
-        counts.down.set(down);
-        backends.run_health_check(&rt, alloc)?;
-        assert_eq!(rt; counts.asked.get(), 2 * turn);
-        assert_eq!(rt; counts.told.get(), told);
-        assert_eq!(rt; backends.ready(&backend), ready);
-    }
+    let mut backends = pair(alloc, &counts, false)?;
+    each_pass_asks_twice(alloc, &mut backends, &counts, &rt);
     Ok(())
+}
+
+// Two passes that find the backend down.
+fn pass_twice(alloc: Global, backends: &mut Counted, rt: &(impl Abort + Log)) {
+    let first = backends.run_health_check(rt, alloc);
+    let second = backends.run_health_check(rt, alloc);
+    assert_eq!(rt; (first, second), (Ok(()), Ok(())));
+}
+
+// Two passes that find the backend down, and one that finds it up.
+fn flip_twice(alloc: Global, backends: &mut Counted, counts: &Counts, rt: &(impl Abort + Log)) {
+    pass_twice(alloc, backends, rt);
+    counts.down.set(false);
+    let third = backends.run_health_check(rt, alloc);
+    assert_eq!(rt; third, Ok(()));
+}
+
+fn lines_are(lines: &[String], wanted: &[&str], rt: &impl Abort) {
+    assert_eq!(rt; lines.len(), wanted.len());
+    for (line, text) in lines.iter().zip(wanted) {
+        assert_eq!(rt; line.as_str(), *text);
+    }
+}
+
+fn two_flips_are_logged(
+    alloc: Global,
+    backends: &mut Counted,
+    counts: &Counts,
+    rt: &(impl Abort + Log),
+) {
+    let sink = Memory::new(alloc);
+    flip_twice(
+        alloc,
+        backends,
+        counts,
+        &Logged::new(rt, Level::Debug, &sink),
+    );
+    let wanted = [
+        "[WARN  lb_health::registry] 1.0.0.1:80/1 becomes unhealthy, Status",
+        "[INFO  lb_health::registry] 1.0.0.1:80/1 becomes healthy",
+    ];
+    lines_are(sink.into_lines().as_slice(), &wanted, rt);
 }
 
 #[test]
 fn flips_are_logged(rt: HostRuntime) -> Result<(), Fail> {
     let alloc = rt.alloc();
     let counts = new_counts(alloc, true)?;
-    let mut backends = pair_with(
-        alloc,
-        Counting {
-            counts: counts.clone()?,
-            silent: false,
-        },
-    )?;
-    let sink = Memory::new(alloc);
-    let logged = Logged::new(rt, Level::Debug, &sink);
-    backends.run_health_check(&logged, alloc)?;
-    backends.run_health_check(&logged, alloc)?;
-    counts.down.set(false);
-    backends.run_health_check(&logged, alloc)?;
-    let lines = sink.into_lines();
-    assert_eq!(rt; lines.len(), 2);
-    let wanted = [
-        "[WARN  lb_health::registry] 1.0.0.1:80/1 becomes unhealthy, Status",
-        "[INFO  lb_health::registry] 1.0.0.1:80/1 becomes healthy",
-    ];
-    for (line, text) in lines.as_slice().iter().zip(&wanted) {
-        assert_eq!(rt; line.as_str(), *text);
-    }
+    let mut backends = pair(alloc, &counts, false)?;
+    two_flips_are_logged(alloc, &mut backends, &counts, &rt);
     Ok(())
+}
+
+fn nothing_is_logged(
+    alloc: Global,
+    backends: &mut Counted,
+    counts: &Counts,
+    rt: &(impl Abort + Log),
+) {
+    let sink = Memory::new(alloc);
+    pass_twice(alloc, backends, &Logged::new(rt, Level::Debug, &sink));
+    assert_eq!(rt; (counts.told.get(), sink.into_lines().len()), (1, 0));
 }
 
 #[test]
 fn a_refused_summary_leaves_the_line_out(rt: HostRuntime) -> Result<(), Fail> {
     let alloc = rt.alloc();
     let counts = new_counts(alloc, true)?;
-    let mut backends = pair_with(
-        alloc,
-        Counting {
-            counts: counts.clone()?,
-            silent: true,
-        },
-    )?;
-    let sink = Memory::new(alloc);
-    let logged = Logged::new(rt, Level::Debug, &sink);
-    backends.run_health_check(&logged, alloc)?;
-    backends.run_health_check(&logged, alloc)?;
-    assert_eq!(rt; counts.told.get(), 1);
-    assert_eq!(rt; sink.into_lines().len(), 0);
+    let mut backends = pair(alloc, &counts, true)?;
+    nothing_is_logged(alloc, &mut backends, &counts, &rt);
     Ok(())
 }
 
 type Health = HealthRegistry<Rule<ByNumber>, Counting>;
 
+fn set_check(health: &mut Health, counts: &Rc<Counts>, silent: bool) -> Result<(), Refusal> {
+    health.set_health_check(new_check(counts, silent)?)
+}
+
+fn target_list_length(alloc: Global, health: &mut Health) -> Result<usize, Refusal> {
+    Ok(health.targets(alloc)?.len())
+}
+
+fn second_check_is_refused(
+    alloc: Global,
+    health: &mut Health,
+    counts: &Rc<Counts>,
+    rt: &(impl Abort + Log),
+) {
+    let first = set_check(health, counts, false);
+    let second = set_check(health, counts, true);
+    assert_eq!(rt; (first, second), (Ok(()), Err(Refusal::HealthCheckSet)));
+    no_target_is_checked(alloc, health, counts, rt);
+}
+
+fn no_target_is_checked(
+    alloc: Global,
+    health: &mut Health,
+    counts: &Counts,
+    rt: &(impl Abort + Log),
+) {
+    let passed = health.run_health_check(rt, alloc);
+    let asked = counts.asked.get();
+    let count = health.target_count(alloc);
+    let length = target_list_length(alloc, health);
+    assert_eq!(rt; (passed, asked, count, length), (Ok(()), 0, Ok(0), Ok(0)));
+}
+
 #[test]
 fn a_check_is_set_once(rt: HostRuntime) -> Result<(), Fail> {
     let alloc = rt.alloc();
-    let mut health: Health = HealthRegistry::by_address(alloc).start_unhealthy();
     let counts = new_counts(alloc, false)?;
-    for (silent, set) in [(false, Ok(())), (true, Err(Refusal::HealthCheckSet))] {
-        let check = Counting {
-            counts: counts.clone()?,
-            silent,
-        };
-        assert_eq!(rt; health.set_health_check(check), set);
-    }
-    // There is no target to check.
-    health.run_health_check(&rt, alloc)?;
-    assert_eq!(rt; counts.asked.get(), 0);
-    assert_eq!(rt; health.target_count(alloc)?, 0);
-    assert_eq!(rt; health.targets(alloc)?.len(), 0);
+    let mut health: Health = HealthRegistry::by_address(alloc).start_unhealthy();
+    second_check_is_refused(alloc, &mut health, &counts, &rt);
     Ok(())
 }
