@@ -1,5 +1,5 @@
 #!/bin/bash
-# Whether the documents fit the repository: crates that are named, the example as it stands, lines that are short.
+# Whether the documents fit the repository: crates and definitions that are named, the example as it stands, lines that are short.
 # A line for each case; the last line is 'N passed, M failed'.
 set -euo pipefail
 unset CDPATH
@@ -35,6 +35,13 @@ absent_crates() {
         crate_names | grep -qx "$name" || echo "$name isn't in crates.txt"
     done
 }
+# Files of definitions that a document names by crate and that aren't there.
+absent_specs() {
+    local file
+    grep -oh '\blb_[a-z_]*/specs/[A-Za-z/]*[A-Za-z]' README.md docs/*.md | sort -u | while read -r file; do
+        [ -e "crates/$file.antt" ] || echo "there is no crates/$file.antt"
+    done
+}
 example_of_readme() { diff <(awk '/^```rust$/ { on = 1; next } /^```$/ { on = 0 } on' README.md) crates/lb_example/src/main.rt; }
 long_lines() { LC_ALL=C.UTF-8 grep -nE '.{141}' README.md docs/*.md || true; }
 rows_without_answers() {
@@ -48,6 +55,7 @@ rows_without_answers() {
 silent 'README names each crate' unnamed_crates README.md
 silent 'docs/ARCHITECTURE.md names each crate' unnamed_crates docs/ARCHITECTURE.md
 silent 'no crate is named that is not there' absent_crates
+silent 'no file of definitions is named that is not there' absent_specs
 silent 'the example in README is the one that is proved' example_of_readme
 silent 'no line of a document is over 140 columns' long_lines
 silent 'each row has answers and is run' rows_without_answers
