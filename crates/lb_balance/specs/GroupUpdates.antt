@@ -6,7 +6,7 @@ use Rattle.lb_select.specs.declared.refusal.Refusal.TheVariants.{Discovery, OutO
 use Rattle.lb_registry.specs.Registry.{RegistryValue, IsRegistryAfter}
 use Rattle.lb_registry.specs.RegistryEvents.{Event, Applied, Updated, cells_given, has_view, views_after}
 use Rattle.lb_group.specs.GroupCalls.{is_change, schedule_refusal}
-use Rattle.lb_group.specs.declared.schedule.Scheduled.{Scheduled}
+use Rattle.lb_group.specs.declared.membership.Scheduled.{Scheduled}
 use Rattle.lb_health.specs.Discoveries.{Discovers, MayFault}
 use Rattle.lb_health.specs.Joined.{registry_updated}
 use Rattle.lb_health.specs.declared.discovery.DiscoverySource.{DiscoverySource}

@@ -18,7 +18,7 @@ use crate::lent::LentGroupBackends;
 use crate::moments::MomentSource;
 use crate::timings::{SelectorUpdateTimings, UpdateTimings};
 use lb_group::answers::Selection;
-use lb_group::schedule::Scheduled;
+use lb_group::membership::Scheduled;
 use lb_health::discovery::{DiscoverySource, ServiceDiscovery};
 use lb_health::registry::HealthRegistry;
 use lb_joined::group::GroupCore;

@@ -6,7 +6,7 @@ ghost use Rattle.lb_joined.specs.Stands.{SameSite};
 use lb_balance::group_core::LoadBalancerGroupCore;
 use lb_balance::moments::MomentSource;
 use lb_balance::timings::UpdateTimings;
-use lb_group::answers::{Ask, Selection, Told};
+use lb_group::answers::{Ask, Publication, Selection};
 use lb_group::job::FailedBuild;
 use lb_health::discovery::{DiscoverySource, Static};
 use lb_rebuild::gate::GateCore;
@@ -77,7 +77,7 @@ fn rebuilt<S: BackendSelection>(
     alloc: Global,
     balancer: &mut Balancer<S>,
     gate: &mut GateCore,
-) -> Result<Option<Told>, Refusal>
+) -> Result<Option<Publication>, Refusal>
     requires { gate.old.id ≡ balancer.old.group.group.gate }
 {
     let job = match balancer.group.ask(0, gate, 20)? {
@@ -153,7 +153,7 @@ fn its_build_is_served(
     let generation = balancer.selector_generation(0);
     let selected = selected(alloc, registry, balancer, 1, &[]);
     let count = balancer.selector_count();
-    assert!(rt; (told, served) == (Ok(Some(Told::Published(1))), true));
+    assert!(rt; (told, served) == (Ok(Some(Publication::Published(1))), true));
     assert!(rt; (generation, selected, count) == (Some(1), Ok(true), 1));
 }
 
@@ -192,7 +192,7 @@ fn four_words_are_taken(
     let told = rebuilt(alloc, balancer, gate);
     let few = selected(alloc, registry, balancer, 3, &[7, 8, 9]);
     let enough = selected(alloc, registry, balancer, 3, &[7, 8, 9, 10]);
-    assert!(rt; (generation, told) == (Ok(1), Ok(Some(Told::Published(1)))));
+    assert!(rt; (generation, told) == (Ok(1), Ok(Some(Publication::Published(1)))));
     assert!(rt; (few, enough) == (Err(Refusal::NotEnoughWords), Ok(true)));
 }
 

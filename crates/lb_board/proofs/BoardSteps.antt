@@ -10,7 +10,7 @@ use lib.ListN.{get_elem?}
 use Rattle.atomic_table.specs.Table.{Me, Allows, Enters, keeps}
 use Rattle.atomic_table.proofs.Lists.{at_set, at_snoc}
 use Rattle.lb_board.specs.BoardRule.{IsLed, Fits, Kept, Loaded, Raised, Came, blank, first_record, loaded, raised}
-use Rattle.lb_board.specs.Pass.{PassView, IsLoad}
+use Rattle.lb_board.specs.Pass.{PassValue, IsLoad}
 use Rattle.lb_board.specs.declared.board_rule.Record.{Record}
 
 -- what is found at a place, after one place was written
@@ -170,7 +170,7 @@ comes {S} slots homes i s h _ _ = (
 )
 
 -- what a load leaves of the pass
-pub loaded_pass : (p q : PassView) (i n : ℕ) → q.board ≡ p.board → q.values ≡ set p.values i n → q.loads ≡ set p.loads i (slice_index p.loads i + 1)
+pub loaded_pass : (p q : PassValue) (i n : ℕ) → q.board ≡ p.board → q.values ≡ set p.values i n → q.loads ≡ set p.loads i (slice_index p.loads i + 1)
     → i < length p.values → i < length p.loads → slice_index p.values i ≤ n → IsLoad p i n q
 loaded_pass p q i n board values loads few_values few_loads rises = record {
   board = board;

@@ -11,13 +11,13 @@ abbrev pub board_id_coded : Coded BoardId
 board_id_coded = table_id_coded
 
 -- A pass: of which board, and for each word the greatest number seen and how many loads were made, the newest generation's word first.
-pub record PassView : Type 0 where
+pub record PassValue : Type 0 where
   pub board : BoardId
   pub values : List ℕ
   pub loads : List ℕ
 
 -- The pass that writes: of which board, and what its words are, the newest generation's first.
-pub record WriterView : Type 0 where
+pub record WriterValue : Type 0 where
   pub board : BoardId
   pub words : List ℕ
 
@@ -26,15 +26,15 @@ abbrev pub raised_words : List ℕ → ℕ → ℕ → List ℕ
 raised_words words i g = slice_set words i (max (slice_index words i) g)
 
 -- the newest generation that the pass has seen
-abbrev pub newest_of : PassView → ℕ
+abbrev pub newest_of : PassValue → ℕ
 newest_of p = slice_index p.values 0
 
 -- the generation that the pass has last seen a slot serve
-abbrev pub served_of : PassView → ℕ → ℕ
+abbrev pub served_of : PassValue → ℕ → ℕ
 served_of p slot = slice_index p.values (slot + 1)
 
 -- exactly one load was made, of the word i, which found n
-pub record IsLoad (p : PassView) (i n : ℕ) (q : PassView) : Type 0 where
+pub record IsLoad (p : PassValue) (i n : ℕ) (q : PassValue) : Type 0 where
   pub board : q.board ≡ p.board
   pub value : slice_index q.values i ≡ n
   pub rises : slice_index p.values i ≤ n
@@ -42,20 +42,20 @@ pub record IsLoad (p : PassView) (i n : ℕ) (q : PassView) : Type 0 where
   pub others : (j : ℕ) → j ≢ i → (slice_index q.values j ≡ slice_index p.values j) × (slice_index q.loads j ≡ slice_index p.loads j)
 
 -- the same pass later: no value has fallen, and no load is forgotten
-pub record IsLater (p q : PassView) : Type 0 where
+pub record IsLater (p q : PassValue) : Type 0 where
   pub board : q.board ≡ p.board
   pub values : (i : ℕ) → slice_index p.values i ≤ slice_index q.values i
   pub loads : (i : ℕ) → slice_index p.loads i ≤ slice_index q.loads i
 
 -- the pass has seen each slot serve the generation g or a later one
-abbrev pub AreServed : BoardId → PassView → ℕ → Type 0
+abbrev pub AreServed : BoardId → PassValue → ℕ → Type 0
 AreServed board p g = (slot : ℕ) → slot + 1 < board.words → g ≤ served_of p slot
 
 -- between p and q some slot was seen to serve an earlier generation than g
-abbrev pub HasSeenBelow : BoardId → PassView → PassView → ℕ → Type 0
+abbrev pub HasSeenBelow : BoardId → PassValue → PassValue → ℕ → Type 0
 HasSeenBelow board p q g =
     (slot : ℕ) × (slot + 1 < board.words) × (served_of q slot < g) × (slice_index p.loads (slot + 1) < slice_index q.loads (slot + 1))
 
 -- the pass q has seen of each word at least what p had
-abbrev pub HasMet : BoardId → PassView → PassView → Type 0
+abbrev pub HasMet : BoardId → PassValue → PassValue → Type 0
 HasMet board p q = (i : ℕ) → i < board.words → slice_index p.values i ≤ slice_index q.values i

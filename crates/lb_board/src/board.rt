@@ -42,9 +42,9 @@ pub struct GroupPass {
 
 impl Model for GroupPass {
     ghost use Rattle.std.specs.Prelude.{◌≡◌, [], false, length};
-    ghost use Rattle.lb_board.specs.Pass.{PassView};
+    ghost use Rattle.lb_board.specs.Pass.{PassValue};
 
-    ghost Value = { PassView };
+    ghost Value = { PassValue };
 
     ghost view = { λ p. record { board = p.seat.table_id; values = p.seat.me.0.values; loads = p.seat.me.0.loads } };
 
@@ -62,9 +62,9 @@ pub struct WritingPass {
 
 impl Model for WritingPass {
     ghost use Rattle.std.specs.Prelude.{◌≡◌, [], true, length};
-    ghost use Rattle.lb_board.specs.Pass.{WriterView};
+    ghost use Rattle.lb_board.specs.Pass.{WriterValue};
 
-    ghost Value = { WriterView };
+    ghost Value = { WriterValue };
 
     ghost view = { λ p. record { board = p.seat.table_id; words = p.seat.me.0.values } };
 

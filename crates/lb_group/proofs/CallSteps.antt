@@ -5,7 +5,7 @@ use Rattle.lb_select.specs.Backends.{Member}
 use Rattle.lb_select.specs.Draws.{Draw}
 use Rattle.lb_select.specs.declared.refusal.Refusal.{Refusal}
 use Rattle.lb_select.specs.declared.refusal.Refusal.TheVariants as refusal
-use Rattle.lb_rebuild.specs.Gate.{GateId, GateView, GroupId}
+use Rattle.lb_rebuild.specs.Gate.{GateId, GateValue, GroupId}
 use Rattle.lb_group.specs.GroupHistory.{Granted, Failed, Published, Abandoned, WorkerLost, TakenOut, Destroyed, Entered, Left, Drew, At, History, past_of, newest, scheduled_at, is_cancelled, granted, served, order_members, Extra, nothing, flight, lost, retired, taken_out, is_flight, is_extra, is_aloft, is_retired_of, is_taken_out, generation_of, extra, waits, readers, due_moment, AskAnswer, cancelled, building, up_to_date, not_due, busy, job, ask_answer, MayHappen, drawn}
 use Rattle.lb_group.specs.Values.{OrderValue, PlaceValue, Task, BuiltValue, RetiredValue, ReaderValue, SlotValue, GroupValue, order_of, configs_of}
 use Rattle.lb_group.specs.Stands.{Made, order_due, left_readers, permit_in, slot_after, StandsFor}
@@ -14,8 +14,8 @@ use Rattle.lb_group.specs.SlotCalls.{slot_answer, ask_told, asked_slot, asked_ga
 use Rattle.lb_group.specs.GroupCalls.{JobIs, IsOwnJob, Asks, asked_events, is_awaited, is_served, Publishes, publish_events, Abandons, abandon_events, lose_refusal, Unless, done_at, enter_refusal, Enters, is_read, Leaves, Takes, is_owed, SelectsIn, select_events, IsTicket, ticket_events}
 use Rattle.lb_group.specs.declared.answers.Ask.{Ask}
 use Rattle.lb_group.specs.declared.answers.Ask.TheVariants as asked
-use Rattle.lb_group.specs.declared.answers.Told.{Told}
-use Rattle.lb_group.specs.declared.answers.Told.TheVariants as told
+use Rattle.lb_group.specs.declared.answers.Publication.{Publication}
+use Rattle.lb_group.specs.declared.answers.Publication.TheVariants as told
 use Rattle.lb_group.specs.declared.answers.Selection.{Selection}
 use Rattle.lb_group.specs.declared.slot.Slot.{Slot}
 use Rattle.lb_group.proofs.Pasts.{AloftFits, aloft-fits, newest-past}
@@ -84,13 +84,13 @@ module _ {C : Type 0} where
       b.task.generation g b.task.config c b.task.permit id p q r
 
 -- an ask leaves the gate the same one
-pub gate-stays : (a : AskAnswer) (g k : GateView) → k ≡ asked_gate a g → k.id ≡ g.id
-gate-stays cancelled g k e = ap (λ (v : GateView). v.id) e
-gate-stays building g k e = ap (λ (v : GateView). v.id) e
-gate-stays up_to_date g k e = ap (λ (v : GateView). v.id) e
-gate-stays (not_due m) g k e = ap (λ (v : GateView). v.id) e
-gate-stays busy g k e = ap (λ (v : GateView). v.id) e
-gate-stays job g k e = ap (λ (v : GateView). v.id) e
+pub gate-stays : (a : AskAnswer) (g k : GateValue) → k ≡ asked_gate a g → k.id ≡ g.id
+gate-stays cancelled g k e = ap (λ (v : GateValue). v.id) e
+gate-stays building g k e = ap (λ (v : GateValue). v.id) e
+gate-stays up_to_date g k e = ap (λ (v : GateValue). v.id) e
+gate-stays (not_due m) g k e = ap (λ (v : GateValue). v.id) e
+gate-stays busy g k e = ap (λ (v : GateValue). v.id) e
+gate-stays job g k e = ap (λ (v : GateValue). v.id) e
 
 module _ {S I C W : Type 0} where
   -- a job that goes out is the group's own
@@ -219,7 +219,7 @@ module _ {S I C W : Type 0} {made : Made C} {h : History} {own : GroupId} {id : 
       ap (λ (m : ℕ). is_served m h) (sym place)
       ∙ sym (cong2 (λ (z : SlotValue C) (q : Bool). is_flight z.extra && not q) (slot_value x) (slot_after made.gate f.config Past) st (is_cancelled h) f.slot f.stopped_of) ∙ e
 
-  pub publishes : (b : BuiltValue C) (r : Result Told (BuiltValue C)) → i ≡ b.task.slot → b.task.config ≡ f.config → b.task.permit ≡ made.gate
+  pub publishes : (b : BuiltValue C) (r : Result Publication (BuiltValue C)) → i ≡ b.task.slot → b.task.config ≡ f.config → b.task.permit ≡ made.gate
       → PublishesAt n st b (slot_value x) r (slot_value y)
       → Publishes h b r × StandsFor made (publish_events b r ++ h) (group_of own id n ms at st (set xs i y))
   publishes b (Ok (told.Published m)) place own permit is =

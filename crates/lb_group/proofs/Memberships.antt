@@ -12,7 +12,7 @@ use Rattle.lb_group.specs.SlotSeen.{slot_value}
 use Rattle.lb_group.specs.Fresh.{fresh_slot, turn_of}
 use Rattle.lb_group.specs.Orders.{order_for, AreOrdered}
 use Rattle.lb_group.specs.GroupCalls.{is_change, schedule_refusal, turn_after, turns_after, Fits}
-use Rattle.lb_group.specs.declared.schedule.SlotTurn.{SlotTurn}
+use Rattle.lb_group.specs.declared.membership.SlotTurn.{SlotTurn}
 use Rattle.lb_group.specs.declared.slot.Slot.{Slot}
 use Rattle.lb_group.proofs.Pasts.{newest-past, cancelled-past}
 use Rattle.lb_group.proofs.SlotSteps.{ordered-step, cancelled-step}

@@ -3,8 +3,8 @@ use Rattle.std.specs.Prelude.{ℕ, ◌||◌, [], None, if◌then◌else◌}
 use Rattle.lb_group.specs.GroupHistory.{nothing, is_flight}
 use Rattle.lb_group.specs.Values.{SlotValue}
 use Rattle.lb_group.specs.SlotCalls.{slot_waits}
-use Rattle.lb_group.specs.declared.schedule.SlotTurn.{SlotTurn}
-use Rattle.lb_group.specs.declared.schedule.SlotTurn.TheVariants.{Running, Start}
+use Rattle.lb_group.specs.declared.membership.SlotTurn.{SlotTurn}
+use Rattle.lb_group.specs.declared.membership.SlotTurn.TheVariants.{Running, Start}
 
 -- it serves a selector of no backends, of generation 0
 abbrev pub fresh_slot : {C : Type 0} → C → SlotValue C

@@ -7,7 +7,7 @@ use Rattle.lb_select.specs.Draws.{Draw}
 use Rattle.lb_select.specs.Memberships.{same_members}
 use Rattle.lb_select.specs.declared.refusal.Refusal.{Refusal}
 use Rattle.lb_select.specs.declared.refusal.Refusal.TheVariants as refusal
-use Rattle.lb_rebuild.specs.Gate.{GateView, gate}
+use Rattle.lb_rebuild.specs.Gate.{GateValue, gate}
 use Rattle.lb_group.specs.GroupHistory.{SlotEvent, Granted, Failed, Published, Abandoned, Drew, Scheduled, At, History, past_of, newest}
 use Rattle.lb_group.specs.GroupHistory.{members_of, is_cancelled, order_members, served, served_members, is_flight, is_aloft}
 use Rattle.lb_group.specs.GroupHistory.{is_taken_out, taken_out_number, generation_of, extra, waits, readers, drawn, AskAnswer, cancelled}
@@ -19,12 +19,12 @@ use Rattle.lb_group.specs.Stands.{Made, left_readers}
 use Rattle.lb_group.specs.SlotCalls.{ask_told, asked_gate, take_refusal, SelectsFrom}
 use Rattle.lb_group.specs.declared.answers.Ask.{Ask}
 use Rattle.lb_group.specs.declared.answers.Ask.TheVariants as asked
-use Rattle.lb_group.specs.declared.answers.Told.{Told}
-use Rattle.lb_group.specs.declared.answers.Told.TheVariants as told
+use Rattle.lb_group.specs.declared.answers.Publication.{Publication}
+use Rattle.lb_group.specs.declared.answers.Publication.TheVariants as told
 use Rattle.lb_group.specs.declared.answers.Selection.{Selection}
-use Rattle.lb_group.specs.declared.schedule.Scheduled as answer
-use Rattle.lb_group.specs.declared.schedule.SlotTurn.{SlotTurn}
-use Rattle.lb_group.specs.declared.schedule.SlotTurn.TheVariants.{Running, Start}
+use Rattle.lb_group.specs.declared.membership.Scheduled as answer
+use Rattle.lb_group.specs.declared.membership.SlotTurn.{SlotTurn}
+use Rattle.lb_group.specs.declared.membership.SlotTurn.TheVariants.{Running, Start}
 
 -- whether a membership is another one than the newest
 abbrev pub is_change : List Member → History → Bool
@@ -128,7 +128,7 @@ abbrev pub ask_events : {S I C W : Type 0} → ℕ → ℕ → Result (Ask S I C
 ask_events slot now (Ok a) = asked_events slot now (ask_told a)
 ask_events slot now (Err e) = []
 
-abbrev pub gate_after : {S I C W : Type 0} → Result (Ask S I C W) Refusal → GateView → GateView
+abbrev pub gate_after : {S I C W : Type 0} → Result (Ask S I C W) Refusal → GateValue → GateValue
 gate_after (Ok a) g = asked_gate (ask_told a) g
 gate_after (Err e) g = g
 
@@ -146,7 +146,7 @@ fail_events j now (Ok u) = At j.slot (Failed now j.members) ∷ []
 fail_events j now (Err k) = []
 
 -- a call that took a permit for its gate leaves the gate free; one that handed it back leaves it as it was
-abbrev pub gate_back : {A B : Type 0} → Result A B → GateView → GateView
+abbrev pub gate_back : {A B : Type 0} → Result A B → GateValue → GateValue
 gate_back (Ok a) g = gate g.id false
 gate_back (Err b) g = g
 
@@ -154,15 +154,15 @@ gate_back (Err b) g = g
 abbrev pub is_served : ℕ → History → Bool
 is_served slot h = is_flight (extra (past_of slot h)) && not (is_cancelled h)
 
-abbrev pub publish_answer : ℕ → ℕ → History → Told
+abbrev pub publish_answer : ℕ → ℕ → History → Publication
 publish_answer slot n h = if is_served slot h then told.Published n else told.Abandoned n
 
 -- a selector that is not awaited is handed back
-abbrev pub Publishes : {C : Type 0} → History → BuiltValue C → Result Told (BuiltValue C) → Type 0
+abbrev pub Publishes : {C : Type 0} → History → BuiltValue C → Result Publication (BuiltValue C) → Type 0
 Publishes h b (Ok t) = (is_awaited b.task.slot b.task.generation h ≡ true) × (t ≡ publish_answer b.task.slot b.task.generation h)
 Publishes h b (Err c) = (is_awaited b.task.slot b.task.generation h ≡ false) × (c ≡ b)
 
-abbrev pub publish_events : {C : Type 0} → BuiltValue C → Result Told (BuiltValue C) → History
+abbrev pub publish_events : {C : Type 0} → BuiltValue C → Result Publication (BuiltValue C) → History
 publish_events b (Ok (told.Published n)) = At b.task.slot (Published b.ended b.task.members) ∷ []
 publish_events b (Ok (told.Abandoned n)) = At b.task.slot (Abandoned b.task.members) ∷ []
 publish_events b (Err c) = []

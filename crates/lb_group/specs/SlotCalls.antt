@@ -7,7 +7,7 @@ use Rattle.lb_select.specs.Draws.{Draw}
 use Rattle.lb_select.specs.Selections.{Selects}
 use Rattle.lb_select.specs.declared.refusal.Refusal.{Refusal}
 use Rattle.lb_select.specs.declared.refusal.Refusal.TheVariants as refusal
-use Rattle.lb_rebuild.specs.Gate.{GateId, GateView, gate}
+use Rattle.lb_rebuild.specs.Gate.{GateId, GateValue, gate}
 use Rattle.lb_group.specs.Drawn.{DrawnValue, DrawnGives}
 use Rattle.lb_group.specs.GroupHistory.{Extra, nothing, flight, lost, retired, taken_out, is_flight, is_extra, is_aloft, is_retired_of}
 use Rattle.lb_group.specs.GroupHistory.{flight_number, generation_of, due_after, AskAnswer, cancelled, building, up_to_date, not_due}
@@ -16,8 +16,8 @@ use Rattle.lb_group.specs.Values.{OrderValue, PlaceValue, Task, BuiltValue, Reti
 use Rattle.lb_group.specs.declared.answers.Ask.{Ask}
 use Rattle.lb_group.specs.declared.answers.Ask.TheVariants as asked
 use Rattle.lb_group.specs.declared.answers.Selection.{Selection}
-use Rattle.lb_group.specs.declared.answers.Told.{Told}
-use Rattle.lb_group.specs.declared.answers.Told.TheVariants as told
+use Rattle.lb_group.specs.declared.answers.Publication.{Publication}
+use Rattle.lb_group.specs.declared.answers.Publication.TheVariants as told
 
 -- one more, up to the greatest number
 abbrev pub more : ℕ → ℕ
@@ -71,7 +71,7 @@ asked_slot busy newest at now x = x
 asked_slot job newest at now x = record x { waiting = None; extra = flight newest; asked = now; scheduled = at }
 
 -- a job takes the gate's permit
-abbrev pub asked_gate : AskAnswer → GateView → GateView
+abbrev pub asked_gate : AskAnswer → GateValue → GateValue
 asked_gate cancelled g = g
 asked_gate building g = g
 asked_gate up_to_date g = g
@@ -171,7 +171,7 @@ FailsAt newest now j x (Ok p) y =
     (is_aloft j.generation x.extra ≡ true) × (p ≡ j.permit) × (y ≡ failed_slot newest now (order_of j) x)
 FailsAt newest now j x (Err k) y = (is_aloft j.generation x.extra ≡ false) × (k ≡ j) × (y ≡ x)
 
-abbrev pub PublishesAt : {C : Type 0} → ℕ → Bool → BuiltValue C → SlotValue C → Result Told (BuiltValue C) → SlotValue C → Type 0
+abbrev pub PublishesAt : {C : Type 0} → ℕ → Bool → BuiltValue C → SlotValue C → Result Publication (BuiltValue C) → SlotValue C → Type 0
 PublishesAt newest stopped b x (Ok (told.Published n)) y =
     (is_aloft b.task.generation x.extra ≡ true) × ((is_flight x.extra && not stopped) ≡ true) × (n ≡ b.task.generation)
     × (y ≡ published_slot b x)

@@ -5,7 +5,7 @@ use Rattle.lb_rebuild.specs.Gate.{GateId, GroupId}
 use Rattle.lb_group.specs.GroupHistory.{Extra}
 use Rattle.lb_group.specs.declared.answers.Counts.{Counts}
 use Rattle.lb_group.specs.declared.answers.Timing.{Timing}
-use Rattle.lb_group.specs.declared.schedule.SlotTurn.{SlotTurn}
+use Rattle.lb_group.specs.declared.membership.SlotTurn.{SlotTurn}
 
 -- a slot's share of a membership and of its configuration, from which one selector can be built
 pub record OrderValue (C : Type 0) : Type 0 where

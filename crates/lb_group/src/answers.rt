@@ -23,7 +23,7 @@ pub enum Ask<S: BackendSelection> {
 
 /// What became of a selector that was built.
 #[derive(Clone, Copy, Debug, PartialEq, Eq)]
-pub enum Told {
+pub enum Publication {
     /// The slot serves it, and this is its generation.
     Published(u64),
     /// It is retired without having been served, and this is its generation.

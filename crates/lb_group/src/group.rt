@@ -19,11 +19,13 @@ ghost use Rattle.lb_group.specs.GroupCalls.{ask_events, gate_after, Fails, fail_
 ghost use Rattle.lb_group.specs.GroupCalls.{abandon_events, Unless, lose_refusal, done_at, Enters, Leaves, Takes, Reports, at_slot};
 ghost use Rattle.lb_group.specs.GroupCalls.{IsTicket, ticket_events, taken_out_at, SelectsIn, select_events};
 
-use crate::answers::{Ask, Counts, Selection, Timing, Told};
+use crate::answers::{Ask, Counts, Publication, Selection, Timing};
 use crate::job::{Built, Job};
+use crate::membership::{
+    Prepared, Scheduled, hand_out, orders_for, same_members, shared, turns_of,
+};
 use crate::place::Place;
 use crate::retired::{OwedPermit, Reader, Retired};
-use crate::schedule::{Prepared, Scheduled, hand_out, orders_for, same_members, shared, turns_of};
 use crate::slot::Slot;
 use lb_rebuild::gate::GateCore;
 use lb_rebuild::identity::Identity;
@@ -284,7 +286,7 @@ impl<S: BackendSelection> GroupCore<S> {
     /// # Errors
     ///
     /// The selector, where its slot has no flight and no lost flight of its generation. Nothing changes then.
-    pub fn publish(&mut self, built: Built<S>) -> Result<Told, Built<S>>
+    pub fn publish(&mut self, built: Built<S>) -> Result<Publication, Built<S>>
         requires own { built.task.group ≡ self.old.id }
         requires permit { built.task.permit ≡ self.old.gate }
         requires config { slice_get (configs_of self.old) built.task.slot ≡ Some built.task.config }

@@ -7,12 +7,12 @@ ghost use Rattle.lb_select.specs.Loads.{load_in};
 ghost use Rattle.lb_group.specs.SlotSeen.{permit_of};
 ghost use Rattle.lb_group.specs.GroupHistory.{is_flight, is_aloft as aloft, is_retired_of, is_taken_out, taken_out_number, flight_number};
 
-use crate::answers::{Ask, Counts, Selection, Timing, Told};
+use crate::answers::{Ask, Counts, Publication, Selection, Timing};
 use crate::job::{Built, Job, Order};
+use crate::membership::SlotTurn;
 use crate::place::Place;
 use crate::retired::{Reader, Retired, Serving};
 use crate::retry::due;
-use crate::schedule::SlotTurn;
 use crate::words::DrawnWords;
 use lb_rebuild::gate::{GateCore, Permit};
 use lb_select::backend::Backend;
@@ -247,16 +247,16 @@ impl<S: BackendSelection> Slot<S> {
         newest: u64,
         cancelled: bool,
         built: Built<S>,
-    ) -> Result<Told, Built<S>>
+    ) -> Result<Publication, Built<S>>
         ensures { PublishesAt newest cancelled built (slot_value self.old) result (slot_value self.new) }
     {
         if !self.is_aloft(built.generation()) {
             return Err(built);
         }
         if self.is_flying() && !cancelled {
-            return Ok(Told::Published(self.serve(built)));
+            return Ok(Publication::Published(self.serve(built)));
         }
-        Ok(Told::Abandoned(self.retire(newest, built)))
+        Ok(Publication::Abandoned(self.retire(newest, built)))
     }
 
     // Retires the selector of its flight or lost flight unserved; one that is not awaited is handed back.

@@ -4,7 +4,7 @@ ghost use Rattle.std.specs.Prelude.{◌≡◌, IfOk, Some, slice_get};
 ghost use Rattle.lb_group.specs.Stands.{SameSite};
 ghost use Rattle.lb_group.specs.Values.{configs_of};
 
-use lb_group::answers::{Ask, Counts, Timing, Told};
+use lb_group::answers::{Ask, Counts, Publication, Timing};
 use lb_group::group::GroupCore;
 use lb_group::job::{Built, FailedBuild, Job};
 use lb_rebuild::gate::GateCore;
@@ -92,7 +92,7 @@ impl Pair {
         alloc: Global,
         asked: u128,
         ended: u128,
-    ) -> Result<Option<Told>, Refusal> {
+    ) -> Result<Option<Publication>, Refusal> {
         rebuilt(alloc, &mut self.group, &mut self.gate, (asked, ended))
     }
 
@@ -236,7 +236,10 @@ pub(crate) fn built(
 }
 
 /// Publishes a selector; `None` where it was not awaited.
-pub(crate) fn published(group: &mut GroupCore<RoundRobin>, built: Built<RoundRobin>) -> Option<Told>
+pub(crate) fn published(
+    group: &mut GroupCore<RoundRobin>,
+    built: Built<RoundRobin>,
+) -> Option<Publication>
     requires own { built.task.group ≡ group.old.id }
     requires permit { built.task.permit ≡ group.old.gate }
     requires config { slice_get (configs_of group.old) built.task.slot ≡ Some built.task.config }
@@ -273,7 +276,7 @@ pub(crate) fn rebuilt(
     group: &mut GroupCore<RoundRobin>,
     gate: &mut GateCore,
     moments: (u128, u128),
-) -> Result<Option<Told>, Refusal>
+) -> Result<Option<Publication>, Refusal>
     requires { gate.old.id ≡ group.old.gate }
     ensures gate { gate.new.id ≡ gate.old.id }
     ensures site { SameSite group.old group.new }

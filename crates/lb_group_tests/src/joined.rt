@@ -5,7 +5,7 @@ ghost use Rattle.lb_group.specs.Values.{configs_of};
 ghost use Rattle.lb_joined.specs.Stands.{SameSite};
 
 use crate::calls::{alone, built, one_slot};
-use lb_group::answers::{Ask, Told};
+use lb_group::answers::{Ask, Publication};
 use lb_group::job::Job;
 use lb_health::view::Settings;
 use lb_joined::group::GroupCore;
@@ -110,7 +110,11 @@ impl Joined {
     }
 
     /// Asks for a job, and publishes what is built at once; `None` where there is no job.
-    pub(crate) fn rebuilt(&mut self, alloc: Global, now: u128) -> Result<Option<Told>, Refusal> {
+    pub(crate) fn rebuilt(
+        &mut self,
+        alloc: Global,
+        now: u128,
+    ) -> Result<Option<Publication>, Refusal> {
         match self.group.ask(0, &mut self.gate, now)? {
             Ask::Cancelled | Ask::Building | Ask::Nothing | Ask::NotDue(_) | Ask::Busy => Ok(None),
             Ask::Job(job) => published(alloc, &mut self.group, job, now),
@@ -154,7 +158,7 @@ fn published(
     group: &mut GroupCore<RoundRobin>,
     job: Job<RoundRobin>,
     now: u128,
-) -> Result<Option<Told>, Refusal>
+) -> Result<Option<Publication>, Refusal>
     requires own { job.group ≡ group.old.group.id }
     requires permit { job.permit ≡ group.old.group.gate }
     requires config { slice_get (configs_of group.old.group) job.slot ≡ Some job.config }
@@ -241,7 +245,7 @@ impl Joined {
         let destroyed = self.destroyed(registry);
         let ready = self.is_ready(registry);
         let observed = registry.observe(0, false, 1);
-        assert!(rt; (id, changed, told) == (1, Ok(true), Ok(Some(Told::Published(1)))));
+        assert!(rt; (id, changed, told) == (1, Ok(true), Ok(Some(Publication::Published(1)))));
         assert!(rt; (destroyed, ready, observed) == (Ok(true), Ok(true), Ok(true)));
     }
 
@@ -285,7 +289,7 @@ impl Joined {
         let observed = registry.observe(0, true, 1);
         let after = self.is_ready(registry);
         assert!(rt;
-            (told, before, destroyed) == (Ok(Some(Told::Published(3))), Ok(true), Ok(true))
+            (told, before, destroyed) == (Ok(Some(Publication::Published(3))), Ok(true), Ok(true))
         );
         assert!(rt; (observed, after) == (Err(Refusal::NoSuch), Ok(true)));
     }
@@ -316,7 +320,7 @@ impl Joined {
         let told = self.rebuilt(alloc, 0);
         let disabled = self.is_ready(registry);
         assert!(rt;
-            (changed, told, disabled) == (Ok(true), Ok(Some(Told::Published(1))), Ok(false))
+            (changed, told, disabled) == (Ok(true), Ok(Some(Publication::Published(1))), Ok(false))
         );
         let changed = self.scheduled_alone(alloc, registry, "1.0.0.1:80", 1);
         let disabled = self.is_ready(registry);
@@ -346,7 +350,7 @@ impl Joined {
         let removed = registry.target_count(alloc);
         assert!(rt;
             (changed, told, shown, removed)
-                == (Ok(true), Ok(Some(Told::Published(1))), Ok(1), Ok(0))
+                == (Ok(true), Ok(Some(Publication::Published(1))), Ok(1), Ok(0))
         );
         self.cancelled_group_answers_readers(alloc, registry, rt);
     }

@@ -5,7 +5,7 @@ use crate::calls::{
     Pair, Word, abandoned, asked, built, failed, job_at, published, rebuilt, scheduled,
 };
 use crate::sharing::both_entered;
-use lb_group::answers::{Counts, Timing, Told};
+use lb_group::answers::{Counts, Publication, Timing};
 use lb_group::group::GroupCore;
 use lb_select::refusal::Refusal;
 use std::alloc::Global;
@@ -74,7 +74,7 @@ impl Pair {
     }
 
     // What is asked at 1 and what is told of a selector whose worker was lost.
-    fn lost(&mut self, alloc: Global) -> Result<(Word, Option<Told>), Refusal> {
+    fn lost(&mut self, alloc: Global) -> Result<(Word, Option<Publication>), Refusal> {
         let job = job_at(&mut self.group, &mut self.gate, 0)?;
         let lost = self.group.worker_lost(0);
         let word = asked(&mut self.group, &mut self.gate, 1);
@@ -94,7 +94,7 @@ impl Pair {
     }
 
     // What the other group is answered while a job of the cancelled one is out, and what is told of its selector.
-    fn cancelled(&mut self, alloc: Global) -> Result<(Word, Option<Told>), Refusal> {
+    fn cancelled(&mut self, alloc: Global) -> Result<(Word, Option<Publication>), Refusal> {
         let job = job_at(&mut self.group, &mut self.gate, 0)?;
         self.group.cancel();
         let built = built(alloc, job, 1)?;
@@ -105,7 +105,10 @@ impl Pair {
 
     // What is told of generation 1 while a reader stays in generation 0, what the other group is answered then, and why the
     // retired selector isn't handed out; the reader has left at the end.
-    fn read(&mut self, alloc: Global) -> Result<(Option<Told>, Word, Option<Refusal>), Refusal> {
+    fn read(
+        &mut self,
+        alloc: Global,
+    ) -> Result<(Option<Publication>, Word, Option<Refusal>), Refusal> {
         let reader = self.group.enter(0)?;
         let told = rebuilt(alloc, &mut self.group, &mut self.gate, (0, 5));
         let word = asked(&mut self.other, &mut self.gate, 6);
@@ -163,7 +166,8 @@ impl Pair {
         let overtaken = self.overtaken(alloc);
         let told = self.rebuilt(alloc, 3, 4);
         assert!(rt;
-            (scheduled, overtaken, told) == (Ok(1), Ok((1, 2, 3)), Ok(Some(Told::Published(3))))
+            (scheduled, overtaken, told)
+                == (Ok(1), Ok((1, 2, 3)), Ok(Some(Publication::Published(3))))
         );
         let counts = Counts {
             published: 1,
@@ -222,7 +226,11 @@ impl Pair {
         };
         assert!(rt;
             (scheduled, told, self.timing())
-                == (Ok(2), Ok(Some(Told::Published(2))), Some(Some(timing)))
+                == (
+                    Ok(2),
+                    Ok(Some(Publication::Published(2))),
+                    Some(Some(timing))
+                )
         );
     }
 }
@@ -244,7 +252,7 @@ impl Pair {
                 == (
                     Ok(1),
                     Err(Refusal::NothingInFlight),
-                    Ok((("busy", 0), Some(Told::Abandoned(1)))),
+                    Ok((("busy", 0), Some(Publication::Abandoned(1)))),
                     Some(0),
                 )
         );
@@ -287,7 +295,7 @@ impl Pair {
                 == (
                     Ok(1),
                     Ok(1),
-                    Ok((("busy", 0), Some(Told::Abandoned(1)))),
+                    Ok((("busy", 0), Some(Publication::Abandoned(1)))),
                     true
                 )
         );
@@ -337,7 +345,7 @@ impl Pair {
                     Ok(1),
                     Ok(1),
                     Ok((
-                        Some(Told::Published(1)),
+                        Some(Publication::Published(1)),
                         ("busy", 0),
                         Some(Refusal::StillRead(1)),
                     )),

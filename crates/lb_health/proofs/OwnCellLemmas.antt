@@ -5,7 +5,7 @@ use Rattle.std.specs.List.{position}
 use Rattle.std.specs.Prelude.{◌==◌, if◌then◌else◌}
 use Rattle.lb_registry.specs.Registry.{HasOwnCells}
 use Rattle.lb_health.specs.declared.snapshot.ViewSnapshot.{ViewSnapshot}
-use Rattle.lb_health.specs.Kept.{HaveOwnCells}
+use Rattle.lb_health.specs.ViewInvariants.{HaveOwnCells}
 use Rattle.lb_health.specs.Snapshots.{SnapshotValue, snapshot_of, at_generation}
 
 -- a count of holds changes no cells

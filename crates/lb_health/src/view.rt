@@ -60,7 +60,7 @@ impl Model for ViewCore {
       flags = v.flags.entries;
     } };
 
-    ghost use Rattle.lb_health.specs.Kept.{AreFlagsOf, HaveOwnCells};
+    ghost use Rattle.lb_health.specs.ViewInvariants.{AreFlagsOf, HaveOwnCells};
 
     ghost invariant = { λ v. AreFlagsOf v.disabled v.flags.entries
         × HaveOwnCells (snapshot_of v.current ∷ map snapshot_of v.earlier.items) };

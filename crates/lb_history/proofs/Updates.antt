@@ -15,7 +15,7 @@ use Rattle.lb_group.specs.GroupHistory as group
 use Rattle.lb_group.specs.GroupHistory.{is_cancelled, newest}
 use Rattle.lb_group.specs.GroupCalls.{is_change, schedule_refusal}
 use Rattle.lb_group.specs.Stands as group-made
-use Rattle.lb_group.specs.declared.schedule.Scheduled.{Scheduled}
+use Rattle.lb_group.specs.declared.membership.Scheduled.{Scheduled}
 use Rattle.lb_joined.specs.JoinedCalls.{IsRefusedFor, Schedules, after_schedule}
 use Rattle.lb_joined.specs.JoinedHistory as joined
 use Rattle.lb_history.specs.Steps.{Step}

@@ -17,8 +17,8 @@ use Rattle.lb_group.specs.SlotCalls.{ask_told}
 use Rattle.lb_group.specs.declared.answers.Ask.{Ask}
 use Rattle.lb_group.specs.declared.answers.Ask.TheVariants as asked
 use Rattle.lb_group.specs.declared.answers.Selection.{Selection}
-use Rattle.lb_group.specs.declared.answers.Told.{Told}
-use Rattle.lb_group.specs.declared.answers.Told.TheVariants as told
+use Rattle.lb_group.specs.declared.answers.Publication.{Publication}
+use Rattle.lb_group.specs.declared.answers.Publication.TheVariants as told
 use Rattle.lb_group.proofs.GroupSteps.{configs-after}
 use Rattle.lb_group.proofs.Pasts.{AloftFits, aloft-fits, newest-past}
 use Rattle.lb_health.specs.Joined as health
@@ -152,7 +152,7 @@ still-done k slot x (Ok a) e none = ap (λ (l : List ViewEvent). l ++ view_event
 still-done k slot x (Err b) e none = refl
 
 module _ {C : Type 0} where
-  pub still-published : (k : ℕ) (b : BuiltValue C) (r : Result Told (BuiltValue C)) (e : History) → view_events k (in_group (publish_events b r) ++ e) ≡ view_events k e
+  pub still-published : (k : ℕ) (b : BuiltValue C) (r : Result Publication (BuiltValue C)) (e : History) → view_events k (in_group (publish_events b r) ++ e) ≡ view_events k e
   still-published k b (Ok (told.Published n)) e = refl
   still-published k b (Ok (told.Abandoned n)) e = refl
   still-published k b (Err c) e = refl

@@ -11,7 +11,7 @@ use Rattle.lb_group.specs.GroupHistory as core
 use Rattle.lb_group.specs.GroupHistory.{past_of, served, extra, generation_of}
 use Rattle.lb_group.specs.Stands.{Made}
 use Rattle.lb_group.specs.declared.answers.Selection.{Selection}
-use Rattle.lb_group.specs.declared.schedule.Scheduled.{Scheduled}
+use Rattle.lb_group.specs.declared.membership.Scheduled.{Scheduled}
 use Rattle.lb_health.specs.Joined.{registry_released, IsReady}
 use Rattle.lb_health.specs.Snapshots.{ViewValue}
 use Rattle.lb_health.specs.ViewEvents.{ViewEvent}

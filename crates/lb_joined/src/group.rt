@@ -27,11 +27,11 @@ ghost use Rattle.lb_joined.specs.JoinedCalls.{IsMakingRefusal, Schedules, after_
 ghost use Rattle.lb_joined.specs.JoinedHistory.{History, Set, group_events, in_group, members_now};
 ghost use Rattle.lb_joined.specs.Stands.{Stands, IsFounded, After, Becomes, SameSite, views_of};
 
-use lb_group::answers::{Ask, Counts, Selection, Timing, Told};
+use lb_group::answers::{Ask, Counts, Publication, Selection, Timing};
 use lb_group::group;
 use lb_group::job::{Built, Job};
+use lb_group::membership::{Prepared, Scheduled};
 use lb_group::retired::{OwedPermit, Reader, Retired};
-use lb_group::schedule::{Prepared, Scheduled};
 use lb_health::view::{Settings, ViewCore};
 use lb_rebuild::gate::GateCore;
 use lb_registry::keys::KeyRule;
@@ -266,7 +266,7 @@ impl<S: BackendSelection> GroupCore<S> {
     /// # Errors
     ///
     /// The selector, where its slot has no flight and no lost flight of its generation. Nothing changes then.
-    pub fn publish(&mut self, built: Built<S>) -> Result<Told, Built<S>>
+    pub fn publish(&mut self, built: Built<S>) -> Result<Publication, Built<S>>
         requires own { built.task.group ≡ self.old.group.id }
         requires permit { built.task.permit ≡ self.old.group.gate }
         requires config { slice_get (configs_of self.old.group) built.task.slot ≡ Some built.task.config }

@@ -5,7 +5,7 @@ use Rattle.lb_select.specs.Backends.{Member}
 use Rattle.lb_select.specs.Draws.{Draw}
 use Rattle.lb_select.specs.declared.refusal.Refusal.{Refusal}
 use Rattle.lb_group.specs.Values.{ReaderValue}
-use Rattle.lb_group.specs.declared.schedule.Scheduled.{Scheduled}
+use Rattle.lb_group.specs.declared.membership.Scheduled.{Scheduled}
 use Rattle.lb_port.specs.Looks.{Look, drew, told, Looks, SelectsBy, Inside, SelectedThrough}
 use Rattle.lb_port.specs.Through.{UpdatedBy, UpdatedThrough}
 

@@ -4,7 +4,7 @@ use Rattle.std.specs.Prelude.{◌≡◌, ◌↔◌, ℕ, Bool, List, Option, Som
 use Rattle.lb_select.specs.Backends.{Member}
 use Rattle.lb_select.specs.Draws.{Draw}
 use Rattle.lb_select.specs.declared.refusal.Refusal.{Refusal}
-use Rattle.lb_rebuild.specs.Gate.{GateView}
+use Rattle.lb_rebuild.specs.Gate.{GateValue}
 use Rattle.lb_registry.specs.Registry.{RegistryValue, IsRegistryAfter}
 use Rattle.lb_registry.specs.RegistryEvents.{Event}
 use Rattle.lb_group.specs.GroupCalls.{Fails, fail_events, Publishes, publish_events, Leaves, Reports, done_at, gate_back}
@@ -12,9 +12,9 @@ use Rattle.lb_health.specs.Joined.{IsReady}
 use Rattle.lb_group.specs.GroupHistory.{Left, Destroyed, newest}
 use Rattle.lb_group.specs.Values.{Task, BuiltValue, RetiredValue, PermitValue, ReaderValue, configs_of}
 use Rattle.lb_group.specs.declared.answers.Ask.{Ask}
-use Rattle.lb_group.specs.declared.answers.Told.{Told}
-use Rattle.lb_group.specs.declared.answers.Told.TheVariants as told
-use Rattle.lb_group.specs.declared.schedule.Scheduled.{Scheduled}
+use Rattle.lb_group.specs.declared.answers.Publication.{Publication}
+use Rattle.lb_group.specs.declared.answers.Publication.TheVariants as told
+use Rattle.lb_group.specs.declared.membership.Scheduled.{Scheduled}
 use Rattle.lb_joined.specs.JoinedCalls.{released_where, generation_at}
 use Rattle.lb_joined.specs.JoinedHistory.{History, group_events, in_group}
 use Rattle.lb_group.specs.Stands.{Made}
@@ -48,9 +48,9 @@ module _ {C : Type 0} where
   Under site Call = (v : JoinedValue C) × ((w : JoinedValue C) × (IsState site v × Call v w))
 
   -- the same with the group's gate
-  abbrev pub UnderGate : JoinedValue C → (JoinedValue C → GateView → JoinedValue C → GateView → Type 0) → Type 0
+  abbrev pub UnderGate : JoinedValue C → (JoinedValue C → GateValue → JoinedValue C → GateValue → Type 0) → Type 0
   UnderGate site Call =
-      (g : GateView) × ((k : GateView) × ((g.id ≡ site.group.gate) × Under site (λ v w. Call v g w k)))
+      (g : GateValue) × ((k : GateValue) × ((g.id ≡ site.group.gate) × Under site (λ v w. Call v g w k)))
 
   abbrev pub EnteredUnder : JoinedValue C → ℕ → Result (ReaderValue C) Refusal → Type 0
   EnteredUnder site slot r = Under site (λ v w. IsEntered v slot r w)
@@ -66,13 +66,13 @@ module _ {C : Type 0} where
       × Becomes v (in_group (done_at r.slot (Left r.generation) a)) w × SameSite v w)
 
   -- what was built of a job that is awaited no longer counts as abandoned
-  abbrev pub told_of : BuiltValue C → Result Told (BuiltValue C) → Told
+  abbrev pub told_of : BuiltValue C → Result Publication (BuiltValue C) → Publication
   told_of b (Ok t) = t
   told_of b (Err c) = told.Abandoned b.task.generation
 
-  abbrev pub PublishedUnder : JoinedValue C → BuiltValue C → Told → Type 0
+  abbrev pub PublishedUnder : JoinedValue C → BuiltValue C → Publication → Type 0
   PublishedUnder site b t =
-      (a : Result Told (BuiltValue C))
+      (a : Result Publication (BuiltValue C))
       × ((t ≡ told_of b a) × Under site (λ v w. After v (λ made e. Publishes (group_events e) b a)
       × Becomes v (in_group (publish_events b a)) w × SameSite v w))
 

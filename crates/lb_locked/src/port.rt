@@ -8,10 +8,10 @@ ghost use Rattle.lb_locked.specs.Group.{FailedUnder, ReportedUnder, ReadyUnder, 
 use crate::gate::SelectorRebuildGate;
 use crate::group::SharedGroup;
 use crate::registry::HealthRegistry;
-use lb_group::answers::{Ask, Told};
+use lb_group::answers::{Ask, Publication};
 use lb_group::job::Built;
+use lb_group::membership::Scheduled;
 use lb_group::retired::{OwedPermit, Reader, Retired};
-use lb_group::schedule::Scheduled;
 use lb_health::view::Settings;
 use lb_port::build::RefusedJob;
 use lb_port::port::{GroupPort, TakesBack};
@@ -69,7 +69,7 @@ impl<'g, 'r, S: BackendSelection, R: KeyRule + Drop, C: HealthCheck + Drop, W: W
         }
     }
 
-    fn publish(&mut self, built: Built<S>) -> Told {
+    fn publish(&mut self, built: Built<S>) -> Publication {
         let group = self.group;
         let _gate = &group.gate;
         let generation = built.generation();
@@ -81,7 +81,7 @@ impl<'g, 'r, S: BackendSelection, R: KeyRule + Drop, C: HealthCheck + Drop, W: W
             Ok(told) => told,
             Err(built) => {
                 built.close();
-                Told::Abandoned(generation)
+                Publication::Abandoned(generation)
             }
         }
     }

@@ -6,7 +6,7 @@ use Rattle.std.proofs.lemmas.Bool.{lt-ltb}
 use Rattle.lb_select.specs.Backends.{Member}
 use Rattle.lb_select.specs.declared.refusal.Refusal.{Refusal}
 use Rattle.lb_select.specs.declared.refusal.Refusal.TheVariants as refusal
-use Rattle.lb_rebuild.specs.Gate.{GateView}
+use Rattle.lb_rebuild.specs.Gate.{GateValue}
 use Rattle.lb_group.specs.GroupCalls.{IsJob, taken_refusal, publish_answer, publish_events}
 use Rattle.lb_group.specs.GroupHistory as core
 use Rattle.lb_group.specs.GroupHistory.{Granted, past_of, newest, served, extra, waits, is_extra, is_cancelled, is_flight, all_failures, due_moment, ask_answer, AskAnswer, cancelled, building, up_to_date, not_due, busy, job, Extra, nothing}
@@ -14,8 +14,8 @@ use Rattle.lb_group.specs.Stands.{Made}
 use Rattle.lb_group.specs.Values.{Task, BuiltValue, RetiredValue, PermitValue}
 use Rattle.lb_group.specs.declared.answers.Ask.{Ask}
 use Rattle.lb_group.specs.declared.answers.Ask.TheVariants as asks
-use Rattle.lb_group.specs.declared.answers.Told.{Told}
-use Rattle.lb_group.specs.declared.answers.Told.TheVariants as told
+use Rattle.lb_group.specs.declared.answers.Publication.{Publication}
+use Rattle.lb_group.specs.declared.answers.Publication.TheVariants as told
 use Rattle.lb_group.proofs.Pasts.{past-same, newest-past, cancelled-past, lt-false}
 use Rattle.lb_joined.specs.JoinedHistory.{History, At, group_events, in_group}
 use Rattle.lb_joined.specs.Stands.{JoinedValue, Stands, After, Becomes}
@@ -42,14 +42,14 @@ cause-is : (a b : Refusal) → (let x : Option Refusal = Some a in let y : Optio
 cause-is a b e = cc
 
 module _ {S I C W K P : Type 0} (refuses : List Member → C → Option Refusal) (reads : K → ℕ → K → Type 0)
-    (core_of : P → JoinedValue C) (gate_of : P → GateView)
+    (core_of : P → JoinedValue C) (gate_of : P → GateValue)
     (taken : P → ℕ → Result RetiredValue Refusal → P → Type 0) (reported : P → ℕ → PermitValue → P → Type 0)
     (asked : P → ℕ → ℕ → Result (Ask S I C W) Refusal → P → Type 0)
-    (published : P → BuiltValue C → Told → P → Type 0) (failed : P → RefusedValue C → ℕ → P → Type 0)
+    (published : P → BuiltValue C → Publication → P → Type 0) (failed : P → RefusedValue C → ℕ → P → Type 0)
     (taken_is : (p : P) (s : ℕ) (a : Result RetiredValue Refusal) (q : P) → taken p s a q → IsTaken (core_of p) s a (core_of q) × (gate_of q ≡ gate_of p))
     (asked_is : (p : P) (s now : ℕ) (a : Result (Ask S I C W) Refusal) (q : P) → asked p s now a q
     → IsAsked (core_of p) (gate_of p) s now a (core_of q) (gate_of q))
-    (published_is : (p : P) (b : BuiltValue C) (u : Told) (q : P) → published p b u q → IsPublished (core_of p) b u (core_of q))
+    (published_is : (p : P) (b : BuiltValue C) (u : Publication) (q : P) → published p b u q → IsPublished (core_of p) b u (core_of q))
     (failed_is : (p : P) (r : RefusedValue C) (now : ℕ) (q : P) → failed p r now q
     → Becomes (core_of p) (in_group (core.At r.task.slot (core.Failed now r.task.members) ∷ [])) (core_of q))
     (slot : ℕ) where
@@ -73,7 +73,7 @@ module _ {S I C W K P : Type 0} (refuses : List Member → C → Option Refusal)
         ∙ subst (λ (x : ℕ). publish_answer x j.generation h ≡ told.Published (newest Events)) (sym is.place)
         (subst (λ (x : ℕ). publish_answer slot x h ≡ told.Published (newest Events)) (sym is.generation) right) in
         let stands : Stands made (At j.slot (core.Published end j.members) ∷ At slot (Granted now) ∷ e) (core_of q) =
-        subst (λ (x : Told). Stands made (in_group (publish_events (record { task = j; ended = end }) (Ok x)) ++ (At slot (Granted now) ∷ e)) (core_of q)) answer
+        subst (λ (x : Publication). Stands made (in_group (publish_events (record { task = j; ended = end }) (Ok x)) ++ (At slot (Granted now) ∷ e)) (core_of q)) answer
         (given.1 made (At slot (Granted now) ∷ e) s) in (
           At slot (core.Published end j.members) ∷ At slot (Granted now) ∷ e,
           subst (λ (x : ℕ). Stands made (At x (core.Published end j.members) ∷ At slot (Granted now) ∷ e) (core_of q)) is.place stands,
@@ -136,7 +136,7 @@ module _ {S I C W K P : Type 0} (refuses : List Member → C → Option Refusal)
         cause-is x refusal.NothingRetired (sym (given.0.0 made e s) ∙ taken-none made slot Events due.there due.bare) in
         let asks_ : Clears refuses reads taken reported asked published failed slot (Err refusal.NothingRetired) m k r q l =
         subst (λ (y : Refusal). Clears refuses reads taken reported asked published failed slot (Err y) m k r q l) cause next in
-        asks_then m q k l r (given.0.1 made e s) (ap (λ (g : GateView). g.out) given.1 ∙ free) late asks_
+        asks_then m q k l r (given.0.1 made e s) (ap (λ (g : GateValue). g.out) given.1 ∙ free) late asks_
 
     turn_ends : (p q : P) (k l : K) (r : Result Turn Refusal) → Stands made e (core_of p) → (gate_of p).out ≡ false
         → ((now : ℕ) (z : K) → reads k now z → due_moment Before ≤ now)

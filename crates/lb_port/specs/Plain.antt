@@ -8,7 +8,7 @@ use Rattle.lb_select.specs.Draws as draws
 use Rattle.lb_select.specs.Draws.{Draw}
 use Rattle.lb_select.specs.declared.refusal.Refusal.{Refusal}
 use Rattle.lb_select.specs.declared.refusal.Refusal.TheVariants as refusal
-use Rattle.lb_rebuild.specs.Gate.{GateView, gate}
+use Rattle.lb_rebuild.specs.Gate.{GateValue, gate}
 use Rattle.lb_registry.specs.Registry.{RegistryValue, IsRegistryAfter}
 use Rattle.lb_registry.specs.RegistryEvents.{Event, Applied, Updated, cells_given, has_view, views_after}
 use Rattle.lb_group.specs.GroupCalls as group
@@ -18,8 +18,8 @@ use Rattle.lb_group.specs.GroupHistory as core
 use Rattle.lb_group.specs.Stands.{Made}
 use Rattle.lb_group.specs.Values.{Task, BuiltValue, RetiredValue, PermitValue, ReaderValue, configs_of}
 use Rattle.lb_group.specs.declared.answers.Ask.{Ask}
-use Rattle.lb_group.specs.declared.answers.Told.{Told}
-use Rattle.lb_group.specs.declared.schedule.Scheduled.{Scheduled}
+use Rattle.lb_group.specs.declared.answers.Publication.{Publication}
+use Rattle.lb_group.specs.declared.membership.Scheduled.{Scheduled}
 use Rattle.lb_health.specs.Joined.{registry_updated, registry_released, IsReady}
 use Rattle.lb_joined.specs.JoinedCalls.{Schedules, after_schedule, generation_at}
 use Rattle.lb_joined.specs.JoinedHistory.{History, group_events, in_group}
@@ -61,7 +61,7 @@ module _ {C : Type 0} where
       After v (λ made e. group.Takes made (group_events e) slot r)
       × Becomes v (in_group (done_at slot core.TakenOut r)) w × SameSite v w
 
-  abbrev pub IsPublished : JoinedValue C → BuiltValue C → Told → JoinedValue C → Type 0
+  abbrev pub IsPublished : JoinedValue C → BuiltValue C → Publication → JoinedValue C → Type 0
   IsPublished v b t w =
       After v (λ made e. group.Publishes (group_events e) b (Ok t)) × Becomes v (in_group (publish_events b (Ok t))) w × SameSite v w
 
@@ -75,7 +75,7 @@ module _ {C : Type 0} where
   IsDrawn v s load_by r (draws.load m l) w u = (l ≡ load_by m) × (w ≡ v) × (u ≡ s)
 
 module _ {S I C W : Type 0} where
-  abbrev pub IsAsked : JoinedValue C → GateView → ℕ → ℕ → Result (Ask S I C W) Refusal → JoinedValue C → GateView → Type 0
+  abbrev pub IsAsked : JoinedValue C → GateValue → ℕ → ℕ → Result (Ask S I C W) Refusal → JoinedValue C → GateValue → Type 0
   IsAsked v g slot now r w k =
       After v (λ made e. Asks made (group_events e) slot g.out now r)
       × Becomes v (in_group (ask_events slot now r)) w × SameSite v w × (k ≡ gate_after r g)
@@ -89,13 +89,13 @@ module _ {C R : Type 0} (gives : R → Member → Member → Type 0) where
       (registry_released v.view.id (generation made e) (views_of made e) events) y)
 
   -- the failure of a job
-  abbrev pub IsFailed : JoinedValue C → RegistryValue R → GateView → Task C → ℕ → JoinedValue C → RegistryValue R → GateView → Type 0
+  abbrev pub IsFailed : JoinedValue C → RegistryValue R → GateValue → Task C → ℕ → JoinedValue C → RegistryValue R → GateValue → Type 0
   IsFailed v x g j now w y k =
       Becomes v (in_group (core.At j.slot (core.Failed now j.members) ∷ [])) w × SameSite v w
       × IsReleased v (λ made e. j.generation) x y × (k ≡ gate g.id false)
 
   -- the report that a selector is destroyed
-  abbrev pub IsReported : JoinedValue C → RegistryValue R → GateView → ℕ → JoinedValue C → RegistryValue R → GateView → Type 0
+  abbrev pub IsReported : JoinedValue C → RegistryValue R → GateValue → ℕ → JoinedValue C → RegistryValue R → GateValue → Type 0
   IsReported v x g slot w y k =
       Becomes v (in_group (core.At slot core.Destroyed ∷ [])) w × SameSite v w
       × IsReleased v (λ made e. generation_at slot e) x y × (k ≡ gate g.id false)

@@ -7,9 +7,9 @@ use Rattle.lb_select.specs.declared.refusal.Refusal.TheVariants as refusal
 use Rattle.lb_group.specs.Values.{Task, BuiltValue, RetiredValue, PermitValue}
 use Rattle.lb_group.specs.declared.answers.Ask.{Ask}
 use Rattle.lb_group.specs.declared.answers.Ask.TheVariants as asks
-use Rattle.lb_group.specs.declared.answers.Told.{Told}
-use Rattle.lb_group.specs.declared.answers.Told.TheVariants as told
-use Rattle.lb_group.specs.declared.schedule.Scheduled.{Scheduled}
+use Rattle.lb_group.specs.declared.answers.Publication.{Publication}
+use Rattle.lb_group.specs.declared.answers.Publication.TheVariants as told
+use Rattle.lb_group.specs.declared.membership.Scheduled.{Scheduled}
 use Rattle.lb_port.specs.Builds.{RefusedValue, IsCauseOf}
 use Rattle.lb_port.specs.Calls.{owed_of}
 use Rattle.lb_port.specs.declared.turn.Turn.{Turn}
@@ -56,19 +56,19 @@ is_passed_over refusal.NotEnoughWords = false
 is_passed_over refusal.NumbersExhausted = false
 
 -- what a turn that published came to
-abbrev pub turn_of : Told → Turn
+abbrev pub turn_of : Publication → Turn
 turn_of (told.Published n) = turn.Published n
 turn_of (told.Abandoned n) = turn.Abandoned n
 
 module _ {S I C W K P : Type 0} (refuses : List Member → C → Option Refusal) (reads : K → ℕ → K → Type 0)
     (taken : P → ℕ → Result RetiredValue Refusal → P → Type 0) (reported : P → ℕ → PermitValue → P → Type 0)
     (asked : P → ℕ → ℕ → Result (Ask S I C W) Refusal → P → Type 0)
-    (published : P → BuiltValue C → Told → P → Type 0) (failed : P → RefusedValue C → ℕ → P → Type 0) (slot : ℕ) where
+    (published : P → BuiltValue C → Publication → P → Type 0) (failed : P → RefusedValue C → ℕ → P → Type 0) (slot : ℕ) where
   -- the job was built, which ended at the next reading, and was published
   abbrev pub Publishes : Task C → P → K → Turn → P → K → Type 0
   Publishes j p k t q l =
       (refuses j.members j.config ≡ None) × (end : ℕ) × reads k end l
-      × (u : Told) × published p (record { task = j; ended = end }) u q × (t ≡ turn_of u)
+      × (u : Publication) × published p (record { task = j; ended = end }) u q × (t ≡ turn_of u)
 
   -- its build was refused, and the job failed at the next reading; the turn tells its generation and the cause
   abbrev pub Fails : Task C → P → K → Turn → P → K → Type 0

@@ -15,10 +15,10 @@ use crate::plain::PlainPort;
 use crate::port::{GroupPort, TakesBack};
 use crate::turn::{Turn, worker_turn};
 use lb_balance::moments::MomentSource;
-use lb_group::answers::{Ask, Told};
+use lb_group::answers::{Ask, Publication};
 use lb_group::job::Built;
+use lb_group::membership::Scheduled;
 use lb_group::retired::{OwedPermit, Reader, Retired};
-use lb_group::schedule::Scheduled;
 use lb_health::view::Settings;
 use lb_registry::keys::KeyRule;
 use lb_select::backend::Backend;
@@ -86,7 +86,7 @@ impl<'c, 'x, 'g, 'w, 'l, S: BackendSelection, R: KeyRule + Drop, G: Rng> TakesBa
         }
     }
 
-    fn publish(&mut self, built: Built<S>) -> Told {
+    fn publish(&mut self, built: Built<S>) -> Publication {
         match self.core.publish(built) {
             Ok(told) => told,
             Err(_built) => unreachable!(),

@@ -7,16 +7,16 @@ ghost use Rattle.lb_select.specs.declared.refusal.Refusal.{Refusal};
 ghost use Rattle.lb_health.specs.Joined.{settings_of};
 ghost use Rattle.lb_group.specs.Values.{Task, BuiltValue, RetiredValue, PermitValue, ReaderValue};
 ghost use Rattle.lb_group.specs.declared.answers.Ask.{Ask};
-ghost use Rattle.lb_group.specs.declared.answers.Told.{Told};
-ghost use Rattle.lb_group.specs.declared.schedule.Scheduled.{Scheduled};
+ghost use Rattle.lb_group.specs.declared.answers.Publication.{Publication};
+ghost use Rattle.lb_group.specs.declared.membership.Scheduled.{Scheduled};
 ghost use Rattle.lb_port.specs.Builds.{refused_build};
 ghost use Rattle.lb_port.specs.Calls.{IfJob, owed_of, ticket_drawn, random_drawn, load_drawn};
 
 use crate::build::RefusedJob;
-use lb_group::answers::{Ask, Told};
+use lb_group::answers::{Ask, Publication};
 use lb_group::job::Built;
+use lb_group::membership::Scheduled;
 use lb_group::retired::{OwedPermit, Reader, Retired};
-use lb_group::schedule::Scheduled;
 use lb_health::view::Settings;
 use lb_select::backend::Backend;
 use lb_select::refusal::Refusal;
@@ -36,7 +36,7 @@ pub trait TakesBack<J, B, R> {
     // What taking one back leaves, and what it answers.
     ghost failed: { Self → J → ℕ → Self → Type 0 };
 
-    ghost published: { Self → B → Told → Self → Type 0 };
+    ghost published: { Self → B → Publication → Self → Type 0 };
 
     ghost left: { Self → R → Self → Type 0 };
 
@@ -46,7 +46,7 @@ pub trait TakesBack<J, B, R> {
         ensures { failed self.old refused now self.new };
 
     /// Takes a selector that was built, to be served where it is still wanted.
-    fn publish(&mut self, built: B) -> Told
+    fn publish(&mut self, built: B) -> Publication
         requires { owns_built self.old built }
         ensures { published self.old built result self.new };
 

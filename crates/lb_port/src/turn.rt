@@ -4,7 +4,7 @@ ghost use Rattle.lb_port.specs.Through.{Turned};
 use crate::build::build;
 use crate::port::GroupPort;
 use lb_balance::moments::MomentSource;
-use lb_group::answers::{Ask, Told};
+use lb_group::answers::{Ask, Publication};
 use lb_select::refusal::Refusal;
 use lb_select::walk::BackendSelection;
 use std::alloc::Global;
@@ -65,8 +65,8 @@ pub fn worker_turn<S: BackendSelection, P: GroupPort<S>, K: MomentSource>(
             Ok(built) => {
                 let end = clock.now();
                 match port.publish(built.ended_at(end)) {
-                    Told::Published(generation) => Ok(Turn::Published(generation)),
-                    Told::Abandoned(generation) => Ok(Turn::Abandoned(generation)),
+                    Publication::Published(generation) => Ok(Turn::Published(generation)),
+                    Publication::Abandoned(generation) => Ok(Turn::Abandoned(generation)),
                 }
             }
             Err(refused) => {

@@ -11,12 +11,12 @@ abbrev pub gate_id_coded : Coded GateId
 gate_id_coded = table_id_coded
 
 -- which gate it is, and whether its permit is out
-pub record GateView : Type 0 where
+pub record GateValue : Type 0 where
   pub id : GateId
   pub out : Bool
 
 -- the gate of that identity, with its permit out or not
-abbrev pub gate : GateId → Bool → GateView
+abbrev pub gate : GateId → Bool → GateValue
 gate id out = record { id = id; out = out }
 
 -- whether there is no value

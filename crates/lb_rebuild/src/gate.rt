@@ -43,9 +43,9 @@ pub struct GateCore {
 
 impl Model for GateCore {
     ghost use Rattle.std.specs.Prelude.{◌≡◌, [], IfSome};
-    ghost use Rattle.lb_rebuild.specs.Gate.{GateView, is_absent};
+    ghost use Rattle.lb_rebuild.specs.Gate.{GateValue, is_absent};
 
-    ghost Value = { GateView };
+    ghost Value = { GateValue };
 
     ghost use Rattle.lb_rebuild.specs.GateRule.{writer};
 

@@ -15,9 +15,9 @@ use Rattle.lb_group.specs.Stands.{Made, StandsFor, slots_after, slot_after, grou
 use Rattle.lb_group.specs.Values.{SlotValue, GroupValue, BuiltValue, Task, configs_of}
 use Rattle.lb_select.specs.Backends.{Member}
 use Rattle.lb_group.specs.declared.answers.Ask.{Ask}
-use Rattle.lb_group.specs.declared.schedule.Scheduled.{Scheduled}
-use Rattle.lb_group.specs.declared.answers.Told.{Told}
-use Rattle.lb_group.specs.declared.answers.Told.TheVariants as told
+use Rattle.lb_group.specs.declared.membership.Scheduled.{Scheduled}
+use Rattle.lb_group.specs.declared.answers.Publication.{Publication}
+use Rattle.lb_group.specs.declared.answers.Publication.TheVariants as told
 use Rattle.lb_group.proofs.GroupSteps.{event-slots, length-after, get-after, configs-after}
 use Rattle.lb_group.proofs.Pasts.{AloftFits, aloft-fits, newest-past, granted-newest, served-granted}
 use Rattle.lb_select.specs.declared.refusal.Refusal.{Refusal}

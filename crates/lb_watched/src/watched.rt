@@ -21,10 +21,10 @@ ghost use Rattle.lb_joined.specs.Stands.{Stands, After, Becomes, IsFounded, Same
 ghost use Rattle.lb_watched.specs.Watched.{words_of};
 
 use lb_board::board::{Board, WritingPass};
-use lb_group::answers::{Ask, Told};
+use lb_group::answers::{Ask, Publication};
 use lb_group::job::{Built, Job};
+use lb_group::membership::Scheduled;
 use lb_group::retired::{OwedPermit, Reader, Retired};
-use lb_group::schedule::Scheduled;
 use lb_health::view::Settings;
 use lb_joined::group::GroupCore;
 use lb_rebuild::gate::GateCore;
@@ -240,7 +240,7 @@ impl<S: BackendSelection> Watched<S> {
     /// # Errors
     ///
     /// The selector, where its slot has no flight and no lost flight of its generation. Nothing changes then.
-    pub fn publish(&mut self, built: Built<S>) -> Result<Told, Built<S>>
+    pub fn publish(&mut self, built: Built<S>) -> Result<Publication, Built<S>>
         requires own { built.task.group ≡ self.old.core.group.id }
         requires permit { built.task.permit ≡ self.old.core.group.gate }
         requires config { slice_get (configs_of self.old.core.group) built.task.slot ≡ Some built.task.config }
@@ -254,11 +254,11 @@ impl<S: BackendSelection> Watched<S> {
         let slot = built.slot();
         let generation = built.generation();
         match self.core.publish(built) {
-            Ok(Told::Published(told)) => {
+            Ok(Publication::Published(told)) => {
                 self.board.raise(&mut self.writer, slot + 1, generation);
-                Ok(Told::Published(told))
+                Ok(Publication::Published(told))
             }
-            Ok(Told::Abandoned(told)) => Ok(Told::Abandoned(told)),
+            Ok(Publication::Abandoned(told)) => Ok(Publication::Abandoned(told)),
             Err(built) => Err(built),
         }
     }

@@ -7,7 +7,7 @@ use Rattle.lb_group.specs.GroupHistory.{AskAnswer, ask_answer, extra, generation
 use Rattle.lb_group.specs.SlotCalls.{asked_gate}
 use Rattle.lb_group.specs.Values.{BuiltValue}
 use Rattle.lb_group.specs.declared.answers.Ask.{Ask}
-use Rattle.lb_group.specs.declared.answers.Told.{Told}
+use Rattle.lb_group.specs.declared.answers.Publication.{Publication}
 use Rattle.lb_health.specs.Joined.{registry_released}
 use Rattle.lb_history.proofs.Accepted.{job-may}
 use Rattle.lb_history.proofs.Placing.{here, same-either}
@@ -18,7 +18,7 @@ use Rattle.lb_history.specs.History.{drew, gate_of, is_grant, is_held}
 use Rattle.lb_history.specs.Shared.{registry_in, registry_made, extra_at}
 use Rattle.lb_world.specs.Calls.{IsUngranted, told_as}
 use Rattle.lb_world.specs.Stands.{AreHeld}
-use Rattle.lb_world.specs.Views.{NotBuilding, NotReady}
+use Rattle.lb_world.specs.Views.{NotBuilding, NotBuilt}
 use Rattle.lb_world.specs.Works.{last_job}
 use Rattle.std.proofs.lemmas.Bool.{eqb-true}
 use Rattle.std.proofs.lemmas.Grind.{common_steps}
@@ -29,7 +29,7 @@ use Rattle.lb_registry.specs.RegistryEvents as registry
 use Rattle.lb_group.specs.Stands as group-made
 use Rattle.lb_world.proofs.Words.{◌∙◌, ◌⊎◌, ◌++◌, ◌≡◌, ◌&&◌, ◌∷◌, ◌==◌, [], ◌<◌, ◌≤◌, and_parts, Answer, answer_after, Answers, ap, ap2}
 use Rattle.lb_world.proofs.Words.{arith, ask_told, At, at_one, at_slot, Before, Bool, changed, cond, config, config_in, configs_of, EntryIs}
-use Rattle.lb_world.proofs.Words.{EntryNext, EntryValue, eq-eqb, false, false≢true, gate, GateId, gates, GateView, granted, granted_members}
+use Rattle.lb_world.proofs.Words.{EntryNext, EntryValue, eq-eqb, false, false≢true, gate, GateId, gates, GateValue, granted, granted_members}
 use Rattle.lb_world.proofs.Words.{group-of, group_at, group_events, GroupId, happened, held_of, History, inl, inr, is_at, IsRegistryAfter}
 use Rattle.lb_world.proofs.Words.{IsRun, joined_after, joined_events, JoinedValue, key_at, key_gives, key_in, key_of, length, length-set}
 use Rattle.lb_world.proofs.Words.{List, list_all, load_in, load_of, lt-ltb, made, made_at, made_of, Meaning, Member, members-past}
@@ -78,7 +78,7 @@ held-by : {C : Type 0} (o : Origin) (s : ℕ) (c : C) (p q : group.History) (w :
     → held_of o s c p w ≡ held_of o s c q w
 held-by o s c p q Work.idle e = refl
 held-by o s c p q Work.building e = ap (λ j. WorkValue.building (job-of o s c j)) e
-held-by o s c p q (Work.built now) e = ap (λ j. WorkValue.ready (record { task = job-of o s c j; ended = now })) e
+held-by o s c p q (Work.built now) e = ap (λ j. WorkValue.built (record { task = job-of o s c j; ended = now })) e
 
 pub taken : {A : Type 0} (x y : A) (g : ℕ) (o : Option ℕ) → o ≡ Some g → cond (is_at g o) x y ≡ x
 taken x y g o at = ap (λ b. cond b x y) (ap (is_at g) at ∙ eq-eqb g g refl)
@@ -164,7 +164,7 @@ module _ {C : Type 0} {h : History C} {g : ℕ} {e : EntryValue C} (is : EntryIs
       rw (to, config-here s, ← group-of g h)
       (elim (slot-or (configs_of e.core.group) s) [ inl p ↦ rw (p.0, p.1) refl | inr p ↦ rw (p.1, p.2) refl ])
 
-module _ {C : Type 0} {M : Meaning C} {h : History C} {g : ℕ} {e : EntryValue C} {z : GateView} {v : RegistryValue WorldRule}
+module _ {C : Type 0} {M : Meaning C} {h : History C} {g : ℕ} {e : EntryValue C} {z : GateValue} {v : RegistryValue WorldRule}
     (b : Before M h g e z v) where
   -- the registry, by what happened to it
   pub shared : (st : Step C) (a : Answer) {es : List registry.Event} {u : RegistryValue WorldRule} → group_at h st ≡ Some g
@@ -182,7 +182,7 @@ module _ {C : Type 0} {M : Meaning C} {h : History C} {g : ℕ} {e : EntryValue 
   unshared st a at is = shared st a at is b.kept
 
   -- a right step, by the core, the works and the loads after it
-  pub next : {st : Step C} {a : Answer} {core : JoinedValue C} (ws : List (WorkValue C)) (ls : List (Member × ℕ)) {y : GateView}
+  pub next : {st : Step C} {a : Answer} {core : JoinedValue C} (ws : List (WorkValue C)) (ls : List (Member × ℕ)) {y : GateValue}
       {u : RegistryValue WorldRule} → group_at h st ≡ Some g → Answers M h st a
       → Moves e (joined_after h (group_events g h) (joined_events g h) st a) core → length ws ≡ length e.works
       → AreHeld ((st, a) ∷ h) g e ws → ((m : Member) → load_in ls m ≡ load_of g m ((st, a) ∷ h))
@@ -214,7 +214,7 @@ module _ {C : Type 0} {M : Meaning C} {h : History C} {g : ℕ} {e : EntryValue 
       }
 
   -- one that moves the core, and none of the works
-  pub next-core : {st : Step C} {a : Answer} {core : JoinedValue C} {y : GateView} {u : RegistryValue WorldRule} → group_at h st ≡ Some g
+  pub next-core : {st : Step C} {a : Answer} {core : JoinedValue C} {y : GateValue} {u : RegistryValue WorldRule} → group_at h st ≡ Some g
       → Answers M h st a → Moves e (joined_after h (group_events g h) (joined_events g h) st a) core
       → is_grant st a ≡ false → ((x : Work) → worked st a x ≡ x)
       → ((m : Member) → load_of g m ((st, a) ∷ h) ≡ load_of g m h) → y ≡ gate z.id (permit_after st a z.out)
@@ -247,7 +247,7 @@ module _ {C : Type 0} {M : Meaning C} {h : History C} {g : ℕ} {e : EntryValue 
       (subst (λ es. IsRegistryAfter key_gives (key_of g h) es v) (sym (told.rest.shared e.registry)) b.kept)
 
   -- one that writes the place of one slot, where no other slot saw an event
-  pub next-work : (s : ℕ) {st : Step C} {a : Answer} {core : JoinedValue C} {old new : WorkValue C} {y : GateView}
+  pub next-work : (s : ℕ) {st : Step C} {a : Answer} {core : JoinedValue C} {old new : WorkValue C} {y : GateValue}
       {u : RegistryValue WorldRule} → group_at h st ≡ Some g → Answers M h st a → slice_get e.works s ≡ Some old
       → Moves e (joined_after h (group_events g h) (joined_events g h) st a) core
       → ((r : ℕ) → ¬ (r ≡ s) → past_of r (happened h (group_events g h) st a ++ group_events g h) ≡ past g r h)
@@ -280,7 +280,7 @@ module _ {C : Type 0} {M : Meaning C} {h : History C} {g : ℕ} {e : EntryValue 
 abbrev pub shown : {C : Type 0} → WorkValue C → Option (Task C × Work)
 shown WorkValue.nothing = None
 shown (WorkValue.building t) = Some (t, Work.building)
-shown (WorkValue.ready b) = Some (b.task, Work.built b.ended)
+shown (WorkValue.built b) = Some (b.task, Work.built b.ended)
 
 is-held : {C : Type 0} (o : Origin) (s : ℕ) (c : C) (p : group.History) (w u : Work) (k : WorkValue C) (t : Task C)
     → k ≡ held_of o s c p w → shown k ≡ Some (t, u) → (w ≡ u) × (t ≡ last_job o s c p)
@@ -288,10 +288,10 @@ is-held o s c p Work.idle u k t e to = absurd (none-some (t, u) (sym (ap shown e
 is-held o s c p w u k t e to =
     let same = same_Some (last_job o s c p, w) (t, u) (sym (ap shown e) ∙ to) in (ap (λ x. x.1) same, sym (ap (λ x. x.0) same))
 
-not-ready : {C : Type 0} (o : Origin) (s : ℕ) (c : C) (p : group.History) (w : Work) (a : Answer) (k : WorkValue C)
-    → k ≡ held_of o s c p w → NotReady k → Answer.Refused Refusal.NothingBuilt ≡ of_built w a
-not-ready o s c p (Work.built now) a k e off = absurd (subst NotReady e off)
-not-ready o s c p w a k e off = refl
+not-built : {C : Type 0} (o : Origin) (s : ℕ) (c : C) (p : group.History) (w : Work) (a : Answer) (k : WorkValue C)
+    → k ≡ held_of o s c p w → NotBuilt k → Answer.Refused Refusal.NothingBuilt ≡ of_built w a
+not-built o s c p (Work.built now) a k e off = absurd (subst NotBuilt e off)
+not-built o s c p w a k e off = refl
 
 not-building : {C : Type 0} (o : Origin) (s : ℕ) (c : C) (p : group.History) (w : Work) (a : Answer) (k : WorkValue C)
     → k ≡ held_of o s c p w → NotBuilding k → Answer.Refused Refusal.NothingInFlight ≡ of_job w a
@@ -341,12 +341,12 @@ module _ {C : Type 0} {h : History C} {g : ℕ} {e : EntryValue C} (is : EntryIs
       let few : length (configs_of e.core.group) ≤ s = omega (arith, is.works_in, past) in
       sym (ap (λ o. at_one o f) (config-here is s ∙ slice_get_past (configs_of e.core.group) s few))
 
-  pub unbuilt : (s : ℕ) (k : WorkValue C) (a : Answer) → slice_get e.works s ≡ Some k → NotReady k
+  pub unbuilt : (s : ℕ) (k : WorkValue C) (a : Answer) → slice_get e.works s ≡ Some k → NotBuilt k
       → Answer.Refused Refusal.NothingBuilt ≡ at_one (config g s h) (λ c. of_built (work g s h) a)
   unbuilt s k a at off =
       let c = slot-there s k at in
       rw (config-here is s ∙ c.1)
-      (not-ready (origin e.core) s c.0 (past g s h) (work g s h) a k (is.works_are s c.0 k c.1 at) off)
+      (not-built (origin e.core) s c.0 (past g s h) (work g s h) a k (is.works_are s c.0 k c.1 at) off)
 
   pub unstarted : (s : ℕ) (k : WorkValue C) (a : C → Answer) → slice_get e.works s ≡ Some k → NotBuilding k
       → Answer.Refused Refusal.NothingInFlight ≡ at_one (config g s h) (λ c. of_job (work g s h) (a c))
@@ -384,7 +384,7 @@ module _ {C : Type 0} {h : History C} {g : ℕ} {e : EntryValue C} (is : EntryIs
 pub elsewhere : (s : ℕ) (v : group.SlotEvent) (k : group.History) (r : ℕ) → ¬ (r ≡ s) → past_of r (At s v ∷ k) ≡ past_of r k
 elsewhere s v k r off = past-other r s v k (λ p. off (sym p))
 
-module _ {C : Type 0} {M : Meaning C} {h : History C} {g : ℕ} {e : EntryValue C} {z : GateView} {v : RegistryValue WorldRule}
+module _ {C : Type 0} {M : Meaning C} {h : History C} {g : ℕ} {e : EntryValue C} {z : GateValue} {v : RegistryValue WorldRule}
     (b : Before M h g e z v) where
   -- a place written as it was
   pub left-so : (s : ℕ) {st : Step C} {r : Refusal} {x k : WorkValue C} → slice_get e.works s ≡ Some x → k ≡ x → group_at h st ≡ Some g
@@ -412,7 +412,7 @@ module _ {C : Type 0} {M : Meaning C} {h : History C} {g : ℕ} {e : EntryValue 
       inl (rw (b.is.made_is, (there-at (configs_of e.core.group) s within).1)
       (ap (asked (group.newest (group_events g h))) (rw (group-of g h, b.out) at to)))
 
-  pub next-asked : {S I W : Type 0} {s now : ℕ} (a : Ask S I C W) (t : AskAnswer) {x : Answer} {core : JoinedValue C} {y : GateView}
+  pub next-asked : {S I W : Type 0} {s now : ℕ} (a : Ask S I C W) (t : AskAnswer) {x : Answer} {core : JoinedValue C} {y : GateValue}
       → ask_told a ≡ t → IsUngranted t x → Asks (site e.core) (joined.group_events (joined_events g h)) s z.out now (Ok a)
       → Moves e (joined.in_group (asked_events s now (ask_told a)) ++ joined_events g h) core → y ≡ asked_gate (ask_told a) z
       → EntryNext M h g (Step.ask g s now) x e z (with_core core e) y v
@@ -427,7 +427,7 @@ module _ {C : Type 0} {M : Meaning C} {h : History C} {g : ℕ} {e : EntryValue 
   next-unasked {s = s} r no_such past moves =
       next-refused b refl (inl (rw (b.is.made_is, slice_get_past (configs_of e.core.group) s past) (ap Answer.Refused no_such))) moves
 
-  pub does-grant : {S I W : Type 0} {s now : ℕ} (a : Ask S I C W) (j : Task C) {core : JoinedValue C} {old : WorkValue C} {y : GateView}
+  pub does-grant : {S I W : Type 0} {s now : ℕ} (a : Ask S I C W) (j : Task C) {core : JoinedValue C} {old : WorkValue C} {y : GateValue}
       → ask_told a ≡ job → Asks (site e.core) (joined.group_events (joined_events g h)) s z.out now (Ok a)
       → IsJob (site e.core) (joined.group_events (joined_events g h)) s j
       → Moves e (joined.in_group (asked_events s now (ask_told a)) ++ joined_events g h) core
@@ -461,17 +461,17 @@ module _ {C : Type 0} {M : Meaning C} {h : History C} {g : ℕ} {e : EntryValue 
     pub does-build : (now : ℕ) (x : BuiltValue C) → slice_get e.works s ≡ Some (WorkValue.building j) → M.refusal j.members j.config ≡ None
         → x.task ≡ j → x.ended ≡ now
         → EntryNext M h g (Step.build g s now) (Answer.Built j.generation) e z
-        (record e { works = slice_set e.works s (WorkValue.ready x) }) z v
+        (record e { works = slice_set e.works s (WorkValue.built x) }) z v
     does-build now x held none task_is ended_is =
         next-work b s refl (inl (sym (build-told now None none))) held (stays b.is) (λ r off. refl) (λ r. refl)
         (λ c there.
-        ap2 (λ t n. WorkValue.ready (record { task = t; ended = n }))
+        ap2 (λ t n. WorkValue.built (record { task = t; ended = n }))
         (task_is ∙ has.is ∙ ap (λ d. last_job (origin e.core) s d (past g s h)) (same_Some has.config c (sym has.there ∙ there)))
         ended_is)
         (λ m. refl) refl (unshared b (Step.build g s now) (Answer.Built j.generation) refl refl)
 
     -- a build that failed: its permit comes back, and its snapshot is let go
-    module _ {now : ℕ} {core : JoinedValue C} {y : GateView} {u : RegistryValue WorldRule}
+    module _ {now : ℕ} {core : JoinedValue C} {y : GateValue} {u : RegistryValue WorldRule}
         (held : slice_get e.works s ≡ Some (WorkValue.building j))
         (moves : Moves e (joined.At j.slot (group.Failed now j.members) ∷ joined_events g h) core) (back : y ≡ gate z.id false)
         (lets-go : Releases j.generation u)
@@ -519,7 +519,7 @@ module _ {C : Type 0} {M : Meaning C} {h : History C} {g : ℕ} {e : EntryValue 
     built-told f =
         told-work b.is has (λ c w. of_built w (f (granted (past g s h)))) ∙ sym (ap (λ t. f t.generation) has.is)
 
-    pub does-abandon : {core : JoinedValue C} → slice_get e.works s ≡ Some (WorkValue.ready x)
+    pub does-abandon : {core : JoinedValue C} → slice_get e.works s ≡ Some (WorkValue.built x)
         → Moves e (joined.At x.task.slot (group.Abandoned x.task.members) ∷ joined_events g h) core
         → EntryNext M h g (Step.abandon g s) (Answer.Abandoned x.task.generation) e z
         (record e { core = core; works = slice_set e.works s WorkValue.nothing }) z v
@@ -528,7 +528,7 @@ module _ {C : Type 0} {M : Meaning C} {h : History C} {g : ℕ} {e : EntryValue 
         (λ i. refl)
         (λ c there. refl) (λ m. refl) refl (unshared b (Step.abandon g s) (Answer.Abandoned x.task.generation) refl refl)
 
-    pub does-publish : (t : Told) {core : JoinedValue C} → slice_get e.works s ≡ Some (WorkValue.ready x)
+    pub does-publish : (t : Publication) {core : JoinedValue C} → slice_get e.works s ≡ Some (WorkValue.built x)
         → Moves e (joined.in_group (publish_events x (Ok t)) ++ joined_events g h) core
         → t ≡ publish_answer x.task.slot x.task.generation (joined.group_events (joined_events g h))
         → EntryNext M h g (Step.publish g s) (told_as t) e z (record e { core = core; works = slice_set e.works s WorkValue.nothing }) z v
@@ -536,20 +536,20 @@ module _ {C : Type 0} {M : Meaning C} {h : History C} {g : ℕ} {e : EntryValue 
         by-told t moves (inl (ap told_as (rw (has.is, group-of g h) at to) ∙ tells (is_served s (group_events g h)) ∙ sym
         (built-told (λ n. cond (is_served s (group_events g h)) (Answer.Published n) (Answer.Abandoned n)))))
       where
-        tells : (b : Bool) → told_as (cond b (Told.Published (granted (past g s h))) (Told.Abandoned (granted (past g s h))))
+        tells : (b : Bool) → told_as (cond b (Publication.Published (granted (past g s h))) (Publication.Abandoned (granted (past g s h))))
             ≡ cond b (Answer.Published x.task.generation) (Answer.Abandoned x.task.generation)
         tells true = ap (λ t. Answer.Published t.generation) (sym has.is)
         tells false = ap (λ t. Answer.Abandoned t.generation) (sym has.is)
 
-        by-told : (t : Told) → Moves e (joined.in_group (publish_events x (Ok t)) ++ joined_events g h) core
+        by-told : (t : Publication) → Moves e (joined.in_group (publish_events x (Ok t)) ++ joined_events g h) core
             → Answers M h (Step.publish g s) (told_as t)
             → EntryNext M h g (Step.publish g s) (told_as t) e z
             (record e { core = core; works = slice_set e.works s WorkValue.nothing }) z v
-        by-told (Told.Published n) moves right =
+        by-told (Publication.Published n) moves right =
             next-work b s refl right held (rw has.work_is (rw has.is at moves)) (elsewhere s _ (group_events g h)) (λ i. refl)
             (λ c there. refl)
             (λ m. refl) refl (unshared b (Step.publish g s) (Answer.Published n) refl refl)
-        by-told (Told.Abandoned n) moves right =
+        by-told (Publication.Abandoned n) moves right =
             next-work b s refl right held (rw has.is at moves) (elsewhere s _ (group_events g h)) (λ i. refl) (λ c there. refl) (λ m. refl)
             refl
             (unshared b (Step.publish g s) (Answer.Abandoned n) refl refl)
@@ -571,7 +571,7 @@ module _ {C : Type 0} {M : Meaning C} {h : History C} {g : ℕ} {e : EntryValue 
       → EntryNext M h g (Step.destroy g s) (Answer.Refused r) e z (with_core core e) z v
   does-refuse-destruction {s = s} {r = r} moves is = next-refused b refl (inl (sym (destroy-told s (Some r) is))) moves
 
-  pub does-destroy : (s n : ℕ) {core : JoinedValue C} {y : GateView} {u : RegistryValue WorldRule}
+  pub does-destroy : (s n : ℕ) {core : JoinedValue C} {y : GateValue} {u : RegistryValue WorldRule}
       → Moves e (joined.At s group.Destroyed ∷ joined.At s group.TakenOut ∷ joined_events g h) core
       → taken_refusal (site e.core) s (joined.group_events (joined_events g h)) ≡ None
       → n ≡ generation_of (extra (past_of s (group.At s group.TakenOut ∷ joined.group_events (joined_events g h)))) → y ≡ gate z.id false

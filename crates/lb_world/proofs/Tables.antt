@@ -29,7 +29,7 @@ use Rattle.lb_group.specs.GroupHistory as group
 use Rattle.lb_world.proofs.Words.{◌∙◌, ◌≡◌, ◌&&◌, ◌∷◌, ◌<◌, ◌==◌, ◌≤◌, [], ◌+◌, ◌↔◌, ◌^◌, ◌⊎◌, ◌++◌, after, Answer, answer_after, Answers}
 use Rattle.lb_world.proofs.Words.{ap, ap2, Applied, arith, at_one, at_slot, Before, Bool, cases_eq, cells_given, cond, cond_some, config}
 use Rattle.lb_world.proofs.Words.{configs_of, entered_of, entries, EntryIs, EntryNext, EntryValue, eq-eqb, Err, Event, false}
-use Rattle.lb_world.proofs.Words.{gates, GateView, get-kept, get-pushed, group-of, group_at, group_events, held_of, HeldValue, History, inl}
+use Rattle.lb_world.proofs.Words.{gates, GateValue, get-kept, get-pushed, group-of, group_at, group_events, held_of, OpenReaderValue, History, inl}
 use Rattle.lb_world.proofs.Words.{inr, is_at, is_out, IsOwnReader, IsReady, IsRegistryAfter, IsRun, IsTrue, joined_events, Judges, key_at}
 use Rattle.lb_world.proofs.Words.{key_by, key_gives, key_in, key_of, length, length-map, length-set, length_push, List, load_of, lt-ltb}
 use Rattle.lb_world.proofs.Words.{made, made_at, made_of, map, map-append, marks_start_none, Meaning, Member, nat_lt, ne_eqb}
@@ -85,13 +85,13 @@ module _ {C : Type 0} where
       (λ b. loads-else h st a g i b at off) is
 
 module _ {C : Type 0} {M : Meaning C} {w : WorldValue C} {h : History C} (s : Stands M w h) where
-  pub entered-in : (t : ℕ) (x : Option (HeldValue C)) → slice_get w.readers t ≡ Some x
+  pub entered-in : (t : ℕ) (x : Option (OpenReaderValue C)) → slice_get w.readers t ≡ Some x
       → slice_get (entries h) t ≡ Some (option_map entered_of x)
   entered-in t x there_ = ap (λ es. slice_get es t) (sym s.readers_are) ∙ slice_get-map (option_map entered_of) w.readers t
       ∙ ap (option_map (option_map entered_of)) there_
 
   -- the group of a reader is there
-  pub group-there : (t : ℕ) (r : HeldValue C) → slice_get w.readers t ≡ Some (Some r) → r.group < length w.groups
+  pub group-there : (t : ℕ) (r : OpenReaderValue C) → slice_get w.readers t ≡ Some (Some r) → r.group < length w.groups
   group-there t r there_ =
       let c = entered-there M h s.run t (entered_of r) (entered-in t (Some r) there_) in
       let m = config-made r.reader.slot (made_at r.group h) c.0 c.1 in
@@ -99,12 +99,12 @@ module _ {C : Type 0} {M : Meaning C} {w : WorldValue C} {h : History C} (s : St
 
   -- The tables of registries, gates and groups are others, after a history that tells the same of what was there: the gates and the groups
   -- that were there are there still, and a group that is new is what the history tells.
-  pub tables-set : (k : History C) (vs : List (RegistryValue WorldRule)) (zs : List GateView) (gs : List (EntryValue C)) → IsRun M k
+  pub tables-set : (k : History C) (vs : List (RegistryValue WorldRule)) (zs : List GateValue) (gs : List (EntryValue C)) → IsRun M k
       → length vs ≡ length (registries k) → length w.registries ≤ length vs → length zs ≡ gates k → length gs ≡ length (made k)
       → entries k ≡ entries h
       → ((r : ℕ) (v : RegistryValue WorldRule) → slice_get vs r ≡ Some v → IsRegistryAfter key_gives (key_at r k) (registry_events r k) v)
-      → ((x : ℕ) (z : GateView) → slice_get zs x ≡ Some z → z.out ≡ is_out x k)
-      → ((x : ℕ) (z : GateView) → slice_get w.gates x ≡ Some z → slice_get zs x ≡ Some z)
+      → ((x : ℕ) (z : GateValue) → slice_get zs x ≡ Some z → z.out ≡ is_out x k)
+      → ((x : ℕ) (z : GateValue) → slice_get w.gates x ≡ Some z → slice_get zs x ≡ Some z)
       → ((g : ℕ) (m : Made C) → made_at g h ≡ Some m → made_at g k ≡ Some m)
       → ((g : ℕ) → joined_events g k ≡ joined_events g h) → ((g : ℕ) → group_events g k ≡ group_events g h)
       → ((g i : ℕ) → work g i k ≡ work g i h) → ((g : ℕ) (b : Member) → load_of g b k ≡ load_of g b h)
@@ -202,14 +202,14 @@ module _ {C : Type 0} {M : Meaning C} {w : WorldValue C} {h : History C} (s : St
   no-group g few = slice_get_past (made h) g (omega (arith, s.groups_are, few))
 
   -- a group with its gate and its registry
-  pub before : (g : ℕ) (e : EntryValue C) (z : GateView) (u : RegistryValue WorldRule) → slice_get w.groups g ≡ Some e
+  pub before : (g : ℕ) (e : EntryValue C) (z : GateValue) (u : RegistryValue WorldRule) → slice_get w.groups g ≡ Some e
       → slice_get w.gates e.gate ≡ Some z → slice_get w.registries e.registry ≡ Some u → Before M h g e z u
   before g e z u there gate-there registry-there =
       let is = s.each g e there in
       record { run = s.run; is = is; out = s.outs e.gate z gate-there; kept = rw (key-here is) (s.kept e.registry u registry-there) }
 
   -- the site of a group stays
-  placed : (gs : List (EntryValue C)) (rs : List (Option (HeldValue C))) (e x d : EntryValue C) (z y : GateView)
+  placed : (gs : List (EntryValue C)) (rs : List (Option (OpenReaderValue C))) (e x d : EntryValue C) (z y : GateValue)
       (v : RegistryValue WorldRule) → slice_get w.gates e.gate ≡ Some z → y.id ≡ z.id
       → d.registry ≡ x.registry → d.gate ≡ x.gate → d.core.group.gate ≡ x.core.group.gate → OnSite w x
       → OnSite
@@ -237,7 +237,7 @@ module _ {C : Type 0} {M : Meaning C} {w : WorldValue C} {h : History C} (s : St
 
   -- the readers of before stay in their groups
   pub own-kept : (g : ℕ) (e d : EntryValue C) → slice_get w.groups g ≡ Some e → d.core.group.id ≡ e.core.group.id
-      → (t : ℕ) (r : HeldValue C) → slice_get w.readers t ≡ Some (Some r) → (x : EntryValue C)
+      → (t : ℕ) (r : OpenReaderValue C) → slice_get w.readers t ≡ Some (Some r) → (x : EntryValue C)
       → slice_get (slice_set w.groups g d) r.group ≡ Some x → IsOwnReader x.core r.reader
   own-kept g e d there same t r held x in_ =
       elim (get_set w.groups g r.group e d x there in_) [
@@ -247,9 +247,9 @@ module _ {C : Type 0} {M : Meaning C} {w : WorldValue C} {h : History C} (s : St
       ]
 
   -- a step at a group, with its gate and its registry, and with the readers as they are after it
-  pub world-moves : (g : ℕ) (st : Step C) (a : Answer) (e d : EntryValue C) (z y : GateView) (u v : RegistryValue WorldRule)
-      (rs : List (Option (HeldValue C))) → group_at h st ≡ Some g → map (option_map entered_of) rs ≡ entries ((st, a) ∷ h)
-      → ((t : ℕ) (r : HeldValue C) → slice_get rs t ≡ Some (Some r) → (x : EntryValue C)
+  pub world-moves : (g : ℕ) (st : Step C) (a : Answer) (e d : EntryValue C) (z y : GateValue) (u v : RegistryValue WorldRule)
+      (rs : List (Option (OpenReaderValue C))) → group_at h st ≡ Some g → map (option_map entered_of) rs ≡ entries ((st, a) ∷ h)
+      → ((t : ℕ) (r : OpenReaderValue C) → slice_get rs t ≡ Some (Some r) → (x : EntryValue C)
       → slice_get (slice_set w.groups g d) r.group ≡ Some x → IsOwnReader x.core r.reader)
       → slice_get w.groups g ≡ Some e → slice_get w.gates e.gate ≡ Some z → slice_get w.registries e.registry ≡ Some u
       → EntryNext M h g st a e z d y v
@@ -298,12 +298,12 @@ module _ {C : Type 0} {M : Meaning C} {w : WorldValue C} {h : History C} (s : St
       }
 
   -- a step at a group that leaves its gate and its registry
-  pub group-moves : (g : ℕ) (st : Step C) (a : Answer) (e d : EntryValue C) (rs : List (Option (HeldValue C))) → group_at h st ≡ Some g
+  pub group-moves : (g : ℕ) (st : Step C) (a : Answer) (e d : EntryValue C) (rs : List (Option (OpenReaderValue C))) → group_at h st ≡ Some g
       → map (option_map entered_of) rs ≡ entries ((st, a) ∷ h)
-      → ((t : ℕ) (r : HeldValue C) → slice_get rs t ≡ Some (Some r) → (x : EntryValue C)
+      → ((t : ℕ) (r : OpenReaderValue C) → slice_get rs t ≡ Some (Some r) → (x : EntryValue C)
       → slice_get (slice_set w.groups g d) r.group ≡ Some x → IsOwnReader x.core r.reader)
       → slice_get w.groups g ≡ Some e
-      → ((z : GateView) (u : RegistryValue WorldRule) → Before M h g e z u → EntryNext M h g st a e z d z u)
+      → ((z : GateValue) (u : RegistryValue WorldRule) → Before M h g e z u → EntryNext M h g st a e z d z u)
       → Stands M (record w { groups = slice_set w.groups g d; readers = rs }) ((st, a) ∷ h)
   group-moves g st a e d rs at reads owns there next =
       let on = s.on_site g e there in
@@ -434,7 +434,7 @@ module _ {C : Type 0} {M : Meaning C} {w : WorldValue C} {h : History C} (s : St
       (rw m.1 at (s.kept i x was))))
       (λ g. refl) (λ g. refl) (λ g i. refl) (λ g b. refl) (λ x. refl)
 
-  pub gate-made : (n : ℕ) (z : GateView) → n ≡ length w.gates → z.out ≡ false
+  pub gate-made : (n : ℕ) (z : GateValue) → n ≡ length w.gates → z.out ≡ false
       → Stands M (record w { gates = w.gates ++ z ∷ [] }) ((Step.gate, Answer.Gate n) ∷ h)
   gate-made n z number free =
       tables-set s ((Step.gate, Answer.Gate n) ∷ h) w.registries (w.gates ++ z ∷ []) w.groups (s.run, inl (ap Answer.Gate (number ∙ s.gates_are)))
@@ -494,7 +494,7 @@ module _ {C : Type 0} {M : Meaning C} {w : WorldValue C} {h : History C} (s : St
         enter-memory = enter-refused Refusal.OutOfMemory memory-right
 
         -- a reader enters, with the group and the list of readers that the calls left
-        pub entered-now : (t : ℕ) (d : EntryValue C) (rs : List (Option (HeldValue C))) (q : ReaderValue C) → d ≡ with_core d.core e
+        pub entered-now : (t : ℕ) (d : EntryValue C) (rs : List (Option (OpenReaderValue C))) (q : ReaderValue C) → d ≡ with_core d.core e
             → rs ≡ w.readers ++ Some (record { group = g; reader = q }) ∷ [] → t ≡ length w.readers
             → Moves e (joined.At slot group.Entered ∷ joined_events g h) d.core
             → Enters (site e.core) (joined.group_events (joined_events g h)) slot (Ok q) → IsOwnReader d.core q
@@ -526,7 +526,7 @@ module _ {C : Type 0} {M : Meaning C} {w : WorldValue C} {h : History C} (s : St
             (next-core b refl right moves refl (λ i. refl) (λ m. refl) refl (unshared b st a refl refl)))
 
         -- the core refused it for memory
-        pub refused-now : (f : Refusal) (d : EntryValue C) (rs : List (Option (HeldValue C))) → d ≡ with_core d.core e → rs ≡ w.readers
+        pub refused-now : (f : Refusal) (d : EntryValue C) (rs : List (Option (OpenReaderValue C))) → d ≡ with_core d.core e → rs ≡ w.readers
             → Moves e (joined_events g h) d.core → Enters (site e.core) (joined.group_events (joined_events g h)) slot (Err f)
             → Stands M (record w { groups = slice_set w.groups g d; readers = rs }) ((Step.enter g slot, Answer.Refused f) ∷ h)
         refused-now f d rs rest kept moves refused =
@@ -553,11 +553,11 @@ module _ {C : Type 0} {M : Meaning C} {w : WorldValue C} {h : History C} (s : St
       (world-refused s (inl (sym (ap leave_answer (entered-in s t None there_)))))
 
   -- the entry of its group, as it is read
-  pub entry-of : (t : ℕ) (r : HeldValue C) {k : ℕ} {e : EntryValue C} → slice_get w.readers t ≡ Some (Some r) → k ≡ r.group
+  pub entry-of : (t : ℕ) (r : OpenReaderValue C) {k : ℕ} {e : EntryValue C} → slice_get w.readers t ≡ Some (Some r) → k ≡ r.group
       → e ≡ get_or w.groups k e → slice_get w.groups r.group ≡ Some e
   entry-of t r {k} {e} there_ is read = rw is at (at-place w.groups k e (omega (arith, is, group-there s t r there_)) read)
 
-  pub counted : (t : ℕ) (r : HeldValue C) (e : EntryValue C) → slice_get w.readers t ≡ Some (Some r) → slice_get w.groups r.group ≡ Some e
+  pub counted : (t : ℕ) (r : OpenReaderValue C) (e : EntryValue C) → slice_get w.readers t ≡ Some (Some r) → slice_get w.groups r.group ≡ Some e
       → IsCounted e.core r.reader.slot r.reader.generation
   counted t r e there_ in_ =
       let is = s.each r.group e in_ in
@@ -575,7 +575,7 @@ module _ {C : Type 0} {M : Meaning C} {w : WorldValue C} {h : History C} (s : St
       }
 
   -- a reader leaves
-  pub left-now : (t : ℕ) (r : HeldValue C) (e d : EntryValue C) → slice_get w.readers t ≡ Some (Some r)
+  pub left-now : (t : ℕ) (r : OpenReaderValue C) (e d : EntryValue C) → slice_get w.readers t ≡ Some (Some r)
       → slice_get w.groups r.group ≡ Some e → d ≡ with_core d.core e
       → Moves e (joined.At r.reader.slot (group.Left r.reader.generation) ∷ joined_events r.group h) d.core
       → Stands M (record w { groups = slice_set w.groups r.group d; readers = slice_set w.readers t None })
@@ -599,7 +599,7 @@ module _ {C : Type 0} {M : Meaning C} {w : WorldValue C} {h : History C} (s : St
       world-refused s {st = Step.ready t (Some b)} {r = Refusal.NoSuchReader} (elim none [ inl is ↦ rw is refl | inr is ↦ rw is refl ])
 
   -- readiness in the generation that a reader reads
-  pub ready-next : (t : ℕ) (b : Member) (is : Bool) (r : HeldValue C) (e : EntryValue C) (u : RegistryValue WorldRule)
+  pub ready-next : (t : ℕ) (b : Member) (is : Bool) (r : OpenReaderValue C) (e : EntryValue C) (u : RegistryValue WorldRule)
       → slice_get w.readers t ≡ Some (Some r) → slice_get w.groups r.group ≡ Some e → slice_get w.registries e.registry ≡ Some u
       → Tells u (λ k es. stands.After e.core (λ made joins. IsTrue is ↔ IsReady k (views_of made joins) es r.reader.generation b))
       → Stands M w ((Step.ready t (Some b), Answer.Ready is) ∷ h)

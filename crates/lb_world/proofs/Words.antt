@@ -29,7 +29,7 @@ pub use Rattle.lb_history.specs.Steps.{Step}
 pub use Rattle.lb_history.specs.declared.answer.Answer.{Answer}
 pub use Rattle.lb_history.specs.declared.step.Listing.{Listing}
 pub use Rattle.lb_joined.specs.Stands.{JoinedValue, views_of}
-pub use Rattle.lb_rebuild.specs.Gate.{GateId, GateView, gate}
+pub use Rattle.lb_rebuild.specs.Gate.{GateId, GateValue, gate}
 pub use Rattle.lb_rebuild.specs.Gate.{GroupId}
 pub use Rattle.lb_registry.proofs.FreshLemmas.{marks_start_none}
 pub use Rattle.lb_registry.proofs.StateLemmas.{set_found}
@@ -48,7 +48,7 @@ pub use Rattle.lb_world.specs.Cells.{lists_key, new_keys, starts_cell}
 pub use Rattle.lb_world.specs.Calls.{some_and}
 pub use Rattle.lb_world.specs.Rules.{WorldRule, key_gives}
 pub use Rattle.lb_world.specs.Stands.{Before, EntryIs, EntryNext, Stands, made_of, permit_after}
-pub use Rattle.lb_world.specs.Views.{EntryValue, HeldValue, IsOwnReader, Origin, WorkValue, WorldValue, entered_of, origin, site}
+pub use Rattle.lb_world.specs.Views.{EntryValue, OpenReaderValue, IsOwnReader, Origin, WorkValue, WorldValue, entered_of, origin, site}
 pub use Rattle.lb_world.specs.Works.{held_of}
 pub use Rattle.std.proofs.Common.{Bool, Equal, Greater, IsTrue, Less, List, Ordering, [], ap, arith, cond, drop, false, inl, inr, length}
 pub use Rattle.std.proofs.Common.{map, nat_le, nat_lt, not, refl, slice_get, subst, sym, take, true, true≢false, ℕ, ◌&&◌, ◌++◌, ◌+◌, ◌<◌}

@@ -12,9 +12,9 @@ use Rattle.lb_group.specs.GroupCalls.{is_read}
 use Rattle.lb_group.specs.GroupHistory.{AskAnswer, job}
 use Rattle.lb_group.specs.Stands.{Made}
 use Rattle.lb_group.specs.declared.answers.Selection.{Selection}
-use Rattle.lb_group.specs.declared.answers.Told.{Told}
-use Rattle.lb_group.specs.declared.schedule.Scheduled.{Scheduled}
-use Rattle.lb_group.specs.declared.answers.Told.TheVariants as told
+use Rattle.lb_group.specs.declared.answers.Publication.{Publication}
+use Rattle.lb_group.specs.declared.membership.Scheduled.{Scheduled}
+use Rattle.lb_group.specs.declared.answers.Publication.TheVariants as told
 use Rattle.lb_history.specs.Answers.{asked}
 use Rattle.lb_history.specs.declared.answer.Answer.{Answer}
 use Rattle.lb_history.specs.declared.answer.Answer.TheVariants as answer
@@ -32,7 +32,7 @@ number_of (Some None) = 0
 number_of (Some (Some n)) = n
 
 -- what became of a built selector, as an answer
-abbrev pub told_as : Told → Answer
+abbrev pub told_as : Publication → Answer
 told_as (told.Published n) = answer.Published n
 told_as (told.Abandoned n) = answer.Abandoned n
 

@@ -3,7 +3,7 @@ use Rattle.std.specs.Prelude.{◌≡◌, ◌<◌, ℕ, Bool, true, false, ◌||�
 use Rattle.std.specs.Option.{option_map}
 use Rattle.lb_select.specs.Backends.{Member}
 use Rattle.lb_select.specs.Loads.{load_in}
-use Rattle.lb_rebuild.specs.Gate.{GateView, gate}
+use Rattle.lb_rebuild.specs.Gate.{GateValue, gate}
 use Rattle.lb_registry.specs.Registry.{RegistryValue, IsRegistryAfter}
 use Rattle.lb_group.specs.Values.{configs_of}
 use Rattle.lb_joined.specs.Stands as joined
@@ -16,7 +16,7 @@ use Rattle.lb_history.specs.Shared.{key_at, key_of, registry_events}
 use Rattle.lb_history.specs.Answers.{IsRun, Answers}
 use Rattle.lb_history.specs.Joined.{joined_events}
 use Rattle.lb_world.specs.Rules.{WorldRule, key_gives}
-use Rattle.lb_world.specs.Views.{WorkValue, HeldValue, entered_of, EntryValue, WorldValue, site, origin, IsOwnReader}
+use Rattle.lb_world.specs.Views.{WorkValue, OpenReaderValue, entered_of, EntryValue, WorldValue, site, origin, IsOwnReader}
 use Rattle.lb_world.specs.Works.{held_of}
 
 -- the permit of a gate after a step at one of its groups
@@ -25,7 +25,7 @@ permit_after st a out = if is_grant st a then true else if is_failure st a || is
 
 -- the gate of a group is there, with the identity that the group has of it, and its registry is there
 pub record OnSite {C : Type 0} (w : WorldValue C) (e : EntryValue C) : Type 0 where
-  pub view : GateView
+  pub view : GateValue
   pub gate : slice_get w.gates e.gate ≡ Some view
   pub id : view.id ≡ e.core.group.gate
   pub registry : e.registry < length w.registries
@@ -58,10 +58,10 @@ module _ {C : Type 0} (M : Meaning C) where
     pub readers_are : map (option_map entered_of) w.readers ≡ entries h
     pub kept : (r : ℕ) (v : RegistryValue WorldRule) → slice_get w.registries r ≡ Some v
         → IsRegistryAfter key_gives (key_at r h) (registry_events r h) v
-    pub outs : (a : ℕ) (z : GateView) → slice_get w.gates a ≡ Some z → z.out ≡ is_out a h
+    pub outs : (a : ℕ) (z : GateValue) → slice_get w.gates a ≡ Some z → z.out ≡ is_out a h
     pub each : (g : ℕ) (e : EntryValue C) → slice_get w.groups g ≡ Some e → EntryIs h g e
     pub on_site : (g : ℕ) (e : EntryValue C) → slice_get w.groups g ≡ Some e → OnSite w e
-    pub own : (t : ℕ) (r : HeldValue C) → slice_get w.readers t ≡ Some (Some r) → (e : EntryValue C)
+    pub own : (t : ℕ) (r : OpenReaderValue C) → slice_get w.readers t ≡ Some (Some r) → (e : EntryValue C)
         → slice_get w.groups r.group ≡ Some e → IsOwnReader e.core r.reader
 
   -- some history stands behind it
@@ -70,15 +70,15 @@ module _ {C : Type 0} (M : Meaning C) where
     pub stands : Stands w history
 
   -- a group with its gate and its registry, before a step
-  pub record Before (h : History C) (g : ℕ) (e : EntryValue C) (z : GateView) (v : RegistryValue WorldRule) : Type 0 where
+  pub record Before (h : History C) (g : ℕ) (e : EntryValue C) (z : GateValue) (v : RegistryValue WorldRule) : Type 0 where
     pub run : IsRun M h
     pub is : EntryIs h g e
     pub out : z.out ≡ is_out e.gate h
     pub kept : IsRegistryAfter key_gives (key_of g h) (registry_events e.registry h) v
 
   -- a right step at a group: the group, its gate and its registry after it
-  pub record EntryNext (h : History C) (g : ℕ) (st : Step C) (a : Answer) (e : EntryValue C) (z : GateView) (e2 : EntryValue C)
-      (z2 : GateView) (v2 : RegistryValue WorldRule)
+  pub record EntryNext (h : History C) (g : ℕ) (st : Step C) (a : Answer) (e : EntryValue C) (z : GateValue) (e2 : EntryValue C)
+      (z2 : GateValue) (v2 : RegistryValue WorldRule)
       : Type 0 where
     pub right : Answers M h st a
     pub is : EntryIs ((st, a) ∷ h) g e2
@@ -89,20 +89,20 @@ module _ {C : Type 0} (M : Meaning C) where
     pub kept : IsRegistryAfter key_gives (key_of g h) (registry_events e.registry ((st, a) ∷ h)) v2
 
   -- what a call at an entry does, after each history and as each number
-  abbrev pub Does : (ℕ → Step C) → EntryValue C → GateView → RegistryValue WorldRule → Answer → EntryValue C → GateView
+  abbrev pub Does : (ℕ → Step C) → EntryValue C → GateValue → RegistryValue WorldRule → Answer → EntryValue C → GateValue
       → RegistryValue WorldRule → Type 0
   Does st e z v a e2 z2 v2 = (h : History C) (g : ℕ) → Before h g e z v → EntryNext h g (st g) a e z e2 z2 v2
 
   -- the same, where the gate or the registry is not at hand and stays as it is
-  abbrev pub DoesAtGate : (ℕ → Step C) → EntryValue C → GateView → Answer → EntryValue C → GateView → Type 0
+  abbrev pub DoesAtGate : (ℕ → Step C) → EntryValue C → GateValue → Answer → EntryValue C → GateValue → Type 0
   DoesAtGate st e z a e2 z2 = (v : RegistryValue WorldRule) → Does st e z v a e2 z2 v
 
   abbrev pub DoesAtRegistry : (ℕ → Step C) → EntryValue C → RegistryValue WorldRule → Answer → EntryValue C → RegistryValue WorldRule
       → Type 0
-  DoesAtRegistry st e v a e2 v2 = (z : GateView) → Does st e z v a e2 z v2
+  DoesAtRegistry st e v a e2 v2 = (z : GateValue) → Does st e z v a e2 z v2
 
   abbrev pub DoesAlone : (ℕ → Step C) → EntryValue C → Answer → EntryValue C → Type 0
-  DoesAlone st e a e2 = (z : GateView) (v : RegistryValue WorldRule) → Does st e z v a e2 z v
+  DoesAlone st e a e2 = (z : GateValue) (v : RegistryValue WorldRule) → Does st e z v a e2 z v
 
 -- some history stands behind the entry
 pub record IsEntry {C : Type 0} (M : Meaning C) (e : EntryValue C) : Type 0 where

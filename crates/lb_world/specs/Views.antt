@@ -1,7 +1,7 @@
 -- A world as contracts see it: its tables as plain lists, with what is held for each slot and each reader.
 use Rattle.std.specs.Prelude.{◌≡◌, ℕ, List, Option}
 use Rattle.lb_select.specs.Backends.{Member}
-use Rattle.lb_rebuild.specs.Gate.{GateId, GateView, GroupId}
+use Rattle.lb_rebuild.specs.Gate.{GateId, GateValue, GroupId}
 use Rattle.lb_registry.specs.Registry.{RegistryValue}
 use Rattle.lb_group.specs.Values.{Task, BuiltValue, ReaderValue, configs_of}
 use Rattle.lb_group.specs.Stands as group
@@ -13,24 +13,24 @@ use Rattle.lb_world.specs.Rules.{WorldRule}
 pub data WorkValue (C : Type 0) : Type 0 where
   nothing : WorkValue C
   building : Task C → WorkValue C
-  ready : BuiltValue C → WorkValue C
+  built : BuiltValue C → WorkValue C
 
 abbrev pub NotBuilding : {C : Type 0} → WorkValue C → Type 0
 NotBuilding nothing = Unit {0}
 NotBuilding (building t) = ⊥
-NotBuilding (ready b) = Unit {0}
+NotBuilding (built b) = Unit {0}
 
-abbrev pub NotReady : {C : Type 0} → WorkValue C → Type 0
-NotReady nothing = Unit {0}
-NotReady (building t) = Unit {0}
-NotReady (ready b) = ⊥
+abbrev pub NotBuilt : {C : Type 0} → WorkValue C → Type 0
+NotBuilt nothing = Unit {0}
+NotBuilt (building t) = Unit {0}
+NotBuilt (built b) = ⊥
 
 -- a reader with the number of its group
-pub record HeldValue (C : Type 0) : Type 0 where
+pub record OpenReaderValue (C : Type 0) : Type 0 where
   pub group : ℕ
   pub reader : ReaderValue C
 
-abbrev pub entered_of : {C : Type 0} → HeldValue C → Entered
+abbrev pub entered_of : {C : Type 0} → OpenReaderValue C → Entered
 entered_of r = record { group = r.group; slot = r.reader.slot; generation = r.reader.generation }
 
 -- a group with the numbers of its registry and its gate, what is held for its slots, and its loads
@@ -43,9 +43,9 @@ pub record EntryValue (C : Type 0) : Type 0 where
 
 pub record WorldValue (C : Type 0) : Type 0 where
   pub registries : List (RegistryValue WorldRule)
-  pub gates : List GateView
+  pub gates : List GateValue
   pub groups : List (EntryValue C)
-  pub readers : List (Option (HeldValue C))
+  pub readers : List (Option (OpenReaderValue C))
 
 -- what a group was made with, by its core
 abbrev pub site : {C : Type 0} → JoinedValue C → group.Made C

@@ -4,7 +4,7 @@ use Rattle.lb_group.specs.GroupHistory.{History, granted, granted_members}
 use Rattle.lb_group.specs.Values.{Task}
 use Rattle.lb_history.specs.History.{Work, idle}
 use Rattle.lb_history.specs.History as work
-use Rattle.lb_world.specs.Views.{WorkValue, nothing, building, ready, Origin, WorldValue}
+use Rattle.lb_world.specs.Views.{WorkValue, nothing, building, built, Origin, WorldValue}
 use Rattle.lb_world.specs.declared.held.Work as declared
 use Rattle.lb_world.specs.declared.held.Work.TheVariants as is
 use Rattle.lb_world.specs.declared.world.Tables.{Tables}
@@ -12,7 +12,7 @@ use Rattle.lb_world.specs.declared.world.Tables.{Tables}
 abbrev pub work_value : {S I C W : Type 0} → declared.Work S I C W → WorkValue C
 work_value is.Nothing = nothing
 work_value (is.Building j) = building j
-work_value (is.Ready b) = ready b
+work_value (is.Built b) = built b
 
 -- the last job of a slot, after its past
 abbrev pub last_job : {C : Type 0} → Origin → ℕ → C → History → Task C
@@ -29,7 +29,7 @@ last_job o slot c p =
 abbrev pub held_of : {C : Type 0} → Origin → ℕ → C → History → Work → WorkValue C
 held_of o slot c p idle = nothing
 held_of o slot c p work.building = building (last_job o slot c p)
-held_of o slot c p (work.built now) = ready (record { task = last_job o slot c p; ended = now })
+held_of o slot c p (work.built now) = built (record { task = last_job o slot c p; ended = now })
 
 -- the tables of a world
 abbrev pub world_value : {S I C W : Type 0} → Tables S I C W → WorldValue C

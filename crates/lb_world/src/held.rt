@@ -1,7 +1,7 @@
 //! What a world holds for others: the job or the built selector of each slot, and the readers.
 //! A job and a built selector lie here between the steps that ask, build and publish.
 ghost use Rattle.std.specs.Prelude.{◌≡◌, ◌≤◌, [], MatchOption, replicate, vec_capacity};
-ghost use Rattle.lb_world.specs.Views.{nothing, building, ready, NotBuilding, NotReady};
+ghost use Rattle.lb_world.specs.Views.{nothing, building, built, NotBuilding, NotBuilt};
 ghost use Rattle.lb_world.specs.Works.{work_value};
 
 use lb_group::job::{Built, Job};
@@ -14,7 +14,7 @@ use std::mem;
 pub(crate) enum Work<S: BackendSelection> {
     Nothing,
     Building(Job<S>),
-    Ready(Built<S>),
+    Built(Built<S>),
 }
 
 // One place for a slot's work, made with the group, so that asking takes no memory.
@@ -38,7 +38,7 @@ impl<S: BackendSelection> Place<S> {
         match work {
             Work::Nothing => {}
             Work::Building(job) => job.close(),
-            Work::Ready(built) => built.close(),
+            Work::Built(built) => built.close(),
         }
     }
 
@@ -50,7 +50,7 @@ impl<S: BackendSelection> Place<S> {
         match mem::replace(&mut self.work, work) {
             Work::Nothing => {}
             Work::Building(_job) => unreachable!(),
-            Work::Ready(_built) => unreachable!(),
+            Work::Built(_built) => unreachable!(),
         }
     }
 
@@ -62,8 +62,8 @@ impl<S: BackendSelection> Place<S> {
         match mem::replace(&mut self.work, Work::Nothing) {
             Work::Building(job) => Some(job),
             Work::Nothing => None,
-            Work::Ready(built) => {
-                self.hold(Work::Ready(built));
+            Work::Built(built) => {
+                self.hold(Work::Built(built));
                 None
             }
         }
@@ -71,10 +71,10 @@ impl<S: BackendSelection> Place<S> {
 
     // Takes the built selector that is held; a job stays.
     pub(crate) fn take_built(&mut self) -> Option<Built<S>>
-        ensures { MatchOption result (NotReady self.old × (self.new ≡ self.old)) (λ b. (self.old ≡ ready b) × (self.new ≡ nothing)) }
+        ensures { MatchOption result (NotBuilt self.old × (self.new ≡ self.old)) (λ b. (self.old ≡ built b) × (self.new ≡ nothing)) }
     {
         match mem::replace(&mut self.work, Work::Nothing) {
-            Work::Ready(built) => Some(built),
+            Work::Built(built) => Some(built),
             Work::Nothing => None,
             Work::Building(job) => {
                 self.hold(Work::Building(job));
@@ -102,20 +102,20 @@ pub(crate) fn with_places<S: BackendSelection>(
 }
 
 // A reader with the number of its group.
-pub(crate) struct Held<S: BackendSelection> {
+pub(crate) struct OpenReader<S: BackendSelection> {
     pub(crate) group: usize,
     pub(crate) reader: Reader<S>,
 }
 
-impl<S: BackendSelection> Model for Held<S> {
-    ghost use Rattle.lb_world.specs.Views.{HeldValue};
+impl<S: BackendSelection> Model for OpenReader<S> {
+    ghost use Rattle.lb_world.specs.Views.{OpenReaderValue};
 
-    ghost Value = { HeldValue S.Config };
+    ghost Value = { OpenReaderValue S.Config };
 
     ghost view = { λ r. record { group = r.group; reader = r.reader } };
 }
 
-impl<S: BackendSelection> Held<S> {
+impl<S: BackendSelection> OpenReader<S> {
     // The number of its group.
     pub(crate) fn group(&self) -> usize
         ensures { result ≡ self.now.group }
@@ -132,7 +132,7 @@ impl<S: BackendSelection> Held<S> {
 
     // Lets the reader go with the world.
     pub(crate) fn close(self) {
-        let Held { group: _, reader } = self;
+        let OpenReader { group: _, reader } = self;
         reader.close();
     }
 }

@@ -15,12 +15,12 @@ ghost use Rattle.lb_world.specs.Locals.{local_seen, IsWhole};
 ghost use Rattle.lb_world.specs.Works.{world_value};
 ghost use Rattle.lb_world.specs.Stands.{IsFounded, Stands};
 
-mod made;
+mod making;
 mod readers;
 mod registries;
 
 use crate::entry::Entry;
-use crate::held::Held;
+use crate::held::OpenReader;
 use crate::local::{Local, has_refused};
 use crate::rule::WorldRegistry;
 use lb_history::answer::Answer;
@@ -45,7 +45,7 @@ pub(crate) struct Tables<S: BackendSelection> {
     registries: Vec<WorldRegistry>,
     gates: Vec<GateCore>,
     groups: Vec<Entry<S>>,
-    readers: Vec<Option<Held<S>>>,
+    readers: Vec<Option<OpenReader<S>>>,
 }
 
 impl<S: BackendSelection> Model for World<S> {

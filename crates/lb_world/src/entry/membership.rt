@@ -11,7 +11,7 @@ ghost use Rattle.lb_history.specs.Steps as seen;
 ghost use Rattle.lb_world.specs.Rules.{key_gives};
 ghost use Rattle.lb_world.specs.Stands.{IsEntry, Does, DoesAtRegistry};
 ghost use Rattle.lb_world.specs.Calls.{IsNewEntry, scheduled_as, selection_as};
-ghost use Rattle.lb_rebuild.specs.Gate.{GateView};
+ghost use Rattle.lb_rebuild.specs.Gate.{GateValue};
 ghost use Rattle.lb_select.specs.Backends.{Member};
 ghost use Rattle.lb_select.specs.Refusals.{least};
 ghost use Rattle.lb_registry.specs.Registry.{IsRegistryAfter};
@@ -26,7 +26,7 @@ use super::listed::{differs, members_from, settings_from};
 use crate::held::with_places;
 use crate::rule::WorldRegistry;
 use lb_group::answers::Selection;
-use lb_group::schedule::Scheduled;
+use lb_group::membership::Scheduled;
 use lb_history::answer::Answer;
 use lb_history::step::Listing;
 use lb_joined::group::GroupCore;
@@ -115,7 +115,7 @@ impl<S: BackendSelection> Entry<S> {
         limit: usize,
         words: &[u64],
     ) -> Answer
-        ensures { (z : GateView) → Does (meaning_of S.BackendSelection)
+        ensures { (z : GateValue) → Does (meaning_of S.BackendSelection)
             (λ (g : ℕ). seen.select g slot key.now limit words.now) self.old z registry.now result self.new z registry.now }
     {
         let loads = &self.loads;

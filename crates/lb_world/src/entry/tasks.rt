@@ -10,7 +10,7 @@ ghost use Rattle.lb_world.specs.Stands.{IsEntry, Does, DoesAtGate, DoesAlone};
 use super::Entry;
 use crate::held::Work;
 use crate::rule::WorldRegistry;
-use lb_group::answers::{Ask, Told};
+use lb_group::answers::{Ask, Publication};
 use lb_group::job::{FailedBuild, Job};
 use lb_history::answer::Answer;
 use lb_rebuild::gate::GateCore;
@@ -67,7 +67,7 @@ impl<S: BackendSelection> Entry<S> {
         { now };
         match job.build(alloc, clock) {
             Ok(built) => {
-                place.hold(Work::Ready(built));
+                place.hold(Work::Built(built));
                 Answer::Built(generation)
             }
             Err(FailedBuild { job, refusal }) => match self.core.fail(job, registry, gate, now) {
@@ -195,12 +195,12 @@ fn granted<S: BackendSelection>(ask: Ask<S>) -> Result<Job<S>, Answer>
 }
 
 // What became of a built selector, as an answer.
-fn answer_to(told: Told) -> Answer
+fn answer_to(told: Publication) -> Answer
     ensures { result ≡ told_as told }
 {
     match told {
-        Told::Published(generation) => Answer::Published(generation),
-        Told::Abandoned(generation) => Answer::Abandoned(generation),
+        Publication::Published(generation) => Answer::Published(generation),
+        Publication::Abandoned(generation) => Answer::Abandoned(generation),
     }
 }
 

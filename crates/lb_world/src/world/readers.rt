@@ -8,7 +8,7 @@ ghost use Rattle.lb_world.specs.Works.{world_value};
 ghost use Rattle.lb_world.specs.Stands.{IsFounded, Stands};
 
 use super::Tables;
-use crate::held::Held;
+use crate::held::OpenReader;
 use lb_history::answer::Answer;
 use lb_select::backend::Backend;
 use lb_select::refusal::Refusal;
@@ -38,7 +38,7 @@ impl<S: BackendSelection> Tables<S> {
         match entry.enter(slot) {
             Ok(reader) => {
                 let generation = reader.generation();
-                let held = Held {
+                let held = OpenReader {
                     group: group as usize,
                     reader,
                 };
@@ -58,7 +58,7 @@ impl<S: BackendSelection> Tables<S> {
             return Answer::Refused(Refusal::NoSuchReader);
         }
         let place = &mut self.readers[reader as usize];
-        let Some(Held { group, reader }) = mem::replace(place, None) else {
+        let Some(OpenReader { group, reader }) = mem::replace(place, None) else {
             return Answer::Refused(Refusal::NoSuchReader);
         };
         let generation = reader.generation();

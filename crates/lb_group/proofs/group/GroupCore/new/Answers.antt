@@ -1,7 +1,7 @@
 -- The slots are at their start.
 use Rattle.std.proofs.Common.{◌≡◌, ◌∙◌, ap, refl, []}
 use Rattle.std.specs.Arc.{arc_value}
-use Rattle.lb_rebuild.specs.Gate.{GateView}
+use Rattle.lb_rebuild.specs.Gate.{GateValue}
 use Rattle.lb_group.proofs.Memberships.{starts}
 use Rattle.lb_group.proofs.group.GroupCore.new.Goals as goal
 
@@ -13,4 +13,4 @@ invariant_of-result g c =
 pub returns-clause-stands : goal.returns-clause-stands
 returns-clause-stands g c =
     let none : (arc_value c.in_ok-new.field-0).keys ≡ [] = ap (λ (t : _). t.keys) c.in_ok-new.ensures.ok ∙ c.new-2.ensures.empty in
-    (c.in_ok-slots.ensures.0, starts _ _ _ _ _ _ (ap (λ (v : GateView). v.id) c.of.ensures) none c.in_ok-slots.ensures.1)
+    (c.in_ok-slots.ensures.0, starts _ _ _ _ _ _ (ap (λ (v : GateValue). v.id) c.of.ensures) none c.in_ok-slots.ensures.1)

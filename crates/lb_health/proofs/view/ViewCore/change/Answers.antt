@@ -9,7 +9,7 @@ use Rattle.lb_health.specs.declared.snapshot.ViewSnapshot.{ViewSnapshot}
 use Rattle.lb_health.specs.Snapshots.{SnapshotValue, ViewValue, snapshot_of, living}
 use Rattle.lb_health.specs.ViewEvents.{ViewEvent, Shown, by_age, new_snapshot, snapshots_after, generation_after}
 use Rattle.lb_health.specs.Views.{IsViewAfter, Flags}
-use Rattle.lb_health.specs.Kept.{HaveOwnCells}
+use Rattle.lb_health.specs.ViewInvariants.{HaveOwnCells}
 use Rattle.lb_health.proofs.FlagLemmas.{flags-more}
 use Rattle.lb_health.proofs.OwnCellLemmas.{own-behind}
 use Rattle.lb_health.proofs.SnapshotLemmas.{shown_snapshots}

@@ -2,7 +2,7 @@ use Rattle.std.proofs.Common.{◌≡◌, ◌<◌, ◌+◌, sym, ◌∙◌, refl,
 use Rattle.std.specs.Prelude.{All, ◌^◌}
 use Rattle.lb_health.specs.Snapshots.{SnapshotValue, ViewValue, snapshot_of, held_more}
 use Rattle.lb_health.specs.Views.{IsViewAfter}
-use Rattle.lb_health.specs.Kept.{HaveOwnCells}
+use Rattle.lb_health.specs.ViewInvariants.{HaveOwnCells}
 use Rattle.lb_health.proofs.OwnCellLemmas.{own-at}
 use Rattle.lb_health.proofs.SnapshotLemmas.{at_current, at_found, at_none, count_at}
 use Rattle.lb_health.proofs.ViewLemmas.{held}

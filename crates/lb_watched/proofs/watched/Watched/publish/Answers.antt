@@ -3,11 +3,11 @@ use Rattle.std.proofs.Common.{◌≡◌, ◌≢◌, ◌≤◌, ◌+◌, ◌∙�
 use Rattle.std.specs.List.{slice_index}
 use Rattle.lb_group.specs.GroupCalls.{publish_events}
 use Rattle.lb_group.specs.Values.{configs_of}
-use Rattle.lb_group.specs.declared.answers.Told.{Told}
-use Rattle.lb_group.specs.declared.answers.Told.TheVariants as told
+use Rattle.lb_group.specs.declared.answers.Publication.{Publication}
+use Rattle.lb_group.specs.declared.answers.Publication.TheVariants as told
 use Rattle.lb_joined.specs.JoinedHistory.{in_group}
 use Rattle.lb_joined.specs.Stands.{JoinedValue, Becomes}
-use Rattle.lb_board.specs.Pass.{WriterView, raised_words}
+use Rattle.lb_board.specs.Pass.{WriterValue, raised_words}
 use Rattle.lb_watched.specs.Watched.{WatchedValue}
 use Rattle.lb_watched.proofs.Words.{published_call, raised_slot, quiet_call, quiet_publish}
 use Rattle.lb_watched.proofs.watched.Watched.publish.Goals as goal
@@ -18,21 +18,21 @@ raise-requires-clause-led g c _ =
     (subst (λ (v : JoinedValue g.row.S-Config.Denot). slice_get (configs_of v.group) c.args.built.task.slot ≡ Some c.args.built.task.config)
     (sym (ap (λ (w : WatchedValue g.row.S-Config.Denot). w.core) c.self.view_is)) c.requires.config)
     (λ made e s. (c.in-Ok-Published.ensures.answers made e s).0)
-    (subst (λ (t : Told). Becomes c.self.inside.core (in_group (publish_events c.args.built (Ok t))) c.publish.new.self)
+    (subst (λ (t : Publication). Becomes c.self.inside.core (in_group (publish_events c.args.built (Ok t))) c.publish.new.self)
     c.in-Ok-Published.field-0-is c.in-Ok-Published.ensures.stands) in
     subst (λ l. c.generation-generation.result ≤ slice_index l 0) (sym c.self.invariant.1) (omega (arith, r.led, c.generation-generation.ensures))
 
 pub invariant_of-self : goal.invariant_of-self
 invariant_of-self g c =
     let w = c.self.invariant in
-    let words = ap (λ (x : WriterView). x.words) c.raise.ensures in
+    let words = ap (λ (x : WriterValue). x.words) c.raise.ensures in
     let r = published_call c.args.built c.in-Ok-Published.told c.past.ensures refl
     (subst (λ (v : JoinedValue g.row.S-Config.Denot). slice_get (configs_of v.group) c.args.built.task.slot ≡ Some c.args.built.task.config)
     (sym (ap (λ (w : WatchedValue g.row.S-Config.Denot). w.core) c.self.view_is)) c.requires.config)
     (λ made e s. (c.in-Ok-Published.ensures.answers made e s).0)
-    (subst (λ (t : Told). Becomes c.self.inside.core (in_group (publish_events c.args.built (Ok t))) c.publish.new.self)
+    (subst (λ (t : Publication). Becomes c.self.inside.core (in_group (publish_events c.args.built (Ok t))) c.publish.new.self)
     c.in-Ok-Published.field-0-is c.in-Ok-Published.ensures.stands) in (
-      ap (λ (x : WriterView). x.board) c.raise.ensures ∙ w.0,
+      ap (λ (x : WriterValue). x.board) c.raise.ensures ∙ w.0,
       raised_slot c.self.inside.core.group c.publish.new.self.group c.self.inside.writer.words c.raise.new.pass.words c.args.built.task.slot c.args.built.task.generation r w.1
           (words ∙ ap (λ s. raised_words c.self.inside.writer.words (s + 1) c.generation-generation.result) c.slot-slot.ensures
           ∙ ap (λ n. raised_words c.self.inside.writer.words (c.args.built.task.slot + 1) n) c.generation-generation.ensures),
@@ -45,7 +45,7 @@ invariant_of-self-in-Ok-Abandoned g c =
       w.0,
       w.1 ∙ sym (quiet_call (λ made e. publish_events c.args.built (Ok (told.Abandoned c.in-Ok-Abandoned.told))) c.past.ensures refl
           (λ made e. quiet_publish c.args.built c.in-Ok-Abandoned.told)
-          (subst (λ (t : Told). Becomes c.self.inside.core (in_group (publish_events c.args.built (Ok t))) c.publish.new.self)
+          (subst (λ (t : Publication). Becomes c.self.inside.core (in_group (publish_events c.args.built (Ok t))) c.publish.new.self)
           c.in-Ok-Abandoned.field-0-is c.in-Ok-Abandoned.ensures.stands)),
       w.2,
     )

@@ -9,7 +9,7 @@ use Rattle.lb_registry.specs.RegistryEvents.{Event}
 use Rattle.lb_joined.specs.JoinedCalls.{after_schedule}
 use Rattle.lb_joined.specs.JoinedHistory.{group_events}
 use Rattle.lb_joined.specs.Stands.{JoinedValue, Stands, After}
-use Rattle.lb_board.specs.Pass.{WriterView}
+use Rattle.lb_board.specs.Pass.{WriterValue}
 use Rattle.lb_watched.specs.Watched.{WatchedValue}
 use Rattle.lb_watched.proofs.Words.{unscheduled, scheduled, raised_newest, quiet_call}
 use Rattle.lb_watched.proofs.watched.Watched.schedule.Goals as goal
@@ -45,10 +45,10 @@ returns-then-scheduled-clause-group g c =
 pub invariant_of-self-then-scheduled : goal.invariant_of-self-then-scheduled
 invariant_of-self-then-scheduled g c =
     let w = c.self.invariant in
-    let words = ap (λ (x : WriterView). x.words) c.raise.ensures in
+    let words = ap (λ (x : WriterValue). x.words) c.raise.ensures in
     let r = scheduled c.schedule.new.self c.args.discovered.keys c.args.now c.in_ok-scheduled.scheduled c.past.ensures refl c.if-scheduled.true
     c.in_ok-scheduled.ensures.answers c.in_ok-scheduled.ensures.group in (
-      ap (λ (x : WriterView). x.board) c.raise.ensures ∙ w.0,
+      ap (λ (x : WriterValue). x.board) c.raise.ensures ∙ w.0,
       raised_newest c.self.inside.core.group c.schedule.new.self.group c.self.inside.writer.words c.raise.new.pass.words c.in_ok-scheduled.scheduled.generation r w.1 words,
       w.2 ∙ sym (ap length words ∙ length-set c.self.inside.writer.words 0 _),
     )

@@ -1,13 +1,13 @@
 -- The load that was set is the one that the history tells; where memory was refused, nothing is set.
 use Rattle.lb_select.specs.Loads.{SetsLoad}
 use Rattle.lb_world.proofs.Words.{◌∷◌, ◌∙◌, ◌≡◌, ◌++◌, ◌&&◌, [], Answer, Answers, ap, Before, cond, EntryNext, EntryValue, eq-eqb, gate}
-use Rattle.lb_world.proofs.Words.{GateView, group_events, happened, held_of, History, inl, inr, joined_after, joined_events, List, load_in}
+use Rattle.lb_world.proofs.Words.{GateValue, group_events, happened, held_of, History, inl, inr, joined_after, joined_events, List, load_in}
 use Rattle.lb_world.proofs.Words.{load_of, Meaning, Member, origin, past_of, permit_after, refl, Refusal, RegistryValue, same_member, Some}
 use Rattle.lb_world.proofs.Words.{Step, sym, without_memory, work, WorldRule, ℕ}
 use Rattle.lb_world.proofs.Entries.{events-here, group-told, next, stays, unshared}
 use Rattle.lb_world.proofs.entry.Entry.load.Goals as goal
 
-module _ {C : Type 0} {M : Meaning C} {h : History C} {g : ℕ} {e : EntryValue C} {z : GateView} {v : RegistryValue WorldRule}
+module _ {C : Type 0} {M : Meaning C} {h : History C} {g : ℕ} {e : EntryValue C} {z : GateValue} {v : RegistryValue WorldRule}
     (b : Before M h g e z v) where
   -- loads that are what the history tells
   lent : {m : Member} {l : ℕ} {a : Answer} (new : List (Member × ℕ)) → Answers M h (Step.load g (Some m) l) a

@@ -5,7 +5,7 @@ use Rattle.lb_world.specs.Calls.{number_of}
 use Rattle.lb_group.specs.GroupHistory as group
 use Rattle.lb_joined.specs.JoinedHistory as joined
 use Rattle.lb_world.proofs.Words.{◌∙◌, ◌≡◌, Answer, answer_after, ap, at_one, at_slot, Before, Bool, cond, config, configs_of, EntryValue}
-use Rattle.lb_world.proofs.Words.{flight_after, GateView, History, inl, joined_events, length, Meaning, nat_lt, None, Option, past, past_of}
+use Rattle.lb_world.proofs.Words.{flight_after, GateValue, History, inl, joined_events, length, Meaning, nat_lt, None, Option, past, past_of}
 use Rattle.lb_world.proofs.Words.{refl, Refusal, RegistryValue, site, Some, Step, sym, true, unless_refused, WorldRule, ℕ}
 use Rattle.lb_world.proofs.Entries.{next-core, next-refused, reading-told, same-flight, unshared}
 use Rattle.lb_world.proofs.entry.Entry.lost.Goals as goal
@@ -18,7 +18,7 @@ told-flight : (there flies : Bool) (n : ℕ) (r : Option Refusal)
 told-flight true true n r is = rw (← is) refl
 told-flight there flies n r is = rw (← is) refl
 
-module _ {C : Type 0} {M : Meaning C} {h : History C} {g : ℕ} {e : EntryValue C} {z : GateView} {v : RegistryValue WorldRule}
+module _ {C : Type 0} {M : Meaning C} {h : History C} {g : ℕ} {e : EntryValue C} {z : GateValue} {v : RegistryValue WorldRule}
     (b : Before M h g e z v) where
   told-lost : (s : ℕ) (f : Option (Option ℕ)) (r : Option Refusal)
       → f ≡ at_slot (site e.core) s (flight_after (past_of s (joined.group_events (joined_events g h))))

@@ -7,7 +7,7 @@ use Rattle.lb_joined.specs.JoinedCalls.{after_select}
 use Rattle.lb_world.specs.Calls.{selected_as, selection_as}
 use Rattle.lb_joined.specs.JoinedHistory as joined
 use Rattle.lb_joined.specs.Stands as stands
-use Rattle.lb_world.proofs.Words.{◌≡◌, Before, EntryNext, EntryValue, Err, GateView, History, inl, inr, joined_events, JoinedValue, List}
+use Rattle.lb_world.proofs.Words.{◌≡◌, Before, EntryNext, EntryValue, Err, GateValue, History, inl, inr, joined_events, JoinedValue, List}
 use Rattle.lb_world.proofs.Words.{load_in, made_of, Meaning, Member, None, Ok, Option, refl, Refusal, RegistryValue, Result, site, Some}
 use Rattle.lb_world.proofs.Words.{Step, subst, sym, with_core, WorldRule, ℕ}
 use Rattle.lb_world.proofs.Entries.{Moves, next-core, next-refused, unshared}
@@ -20,7 +20,7 @@ told-selected (Ok None) t alone = refl
 told-selected (Ok (Some b)) t alone = refl
 told-selected (Err e) t alone = rw (alone e refl) refl
 
-module _ {C : Type 0} {M : Meaning C} {h : History C} {g : ℕ} {e : EntryValue C} {z : GateView} {v : RegistryValue WorldRule}
+module _ {C : Type 0} {M : Meaning C} {h : History C} {g : ℕ} {e : EntryValue C} {z : GateValue} {v : RegistryValue WorldRule}
     (b : Before M h g e z v) (s : ℕ) (key : List ℕ) (limit : ℕ) (words : List ℕ) (x : Selection) where
   does-select : {core : JoinedValue C}
       → Told M h g s key limit words (made_of e) (site e.core) (load_in e.loads) x (joined.group_events (joined_events g h))

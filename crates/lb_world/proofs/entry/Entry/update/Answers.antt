@@ -1,6 +1,6 @@
 -- Why it is refused, and what the core's call does, as the history tells it.
 use Rattle.lb_group.specs.GroupCalls.{is_change, schedule_refusal}
-use Rattle.lb_group.specs.declared.schedule.Scheduled.{Scheduled}
+use Rattle.lb_group.specs.declared.membership.Scheduled.{Scheduled}
 use Rattle.lb_health.specs.Joined.{registry_updated}
 use Rattle.lb_history.proofs.Updates.{Lacks, lacking, owned, refused, starved, updates, view-there}
 use Rattle.lb_joined.specs.JoinedCalls.{IsRefusedFor, Schedules, after_schedule}
@@ -8,14 +8,14 @@ use Rattle.lb_world.specs.Calls.{scheduled_as}
 use Rattle.lb_joined.specs.JoinedHistory as joined
 use Rattle.lb_joined.specs.Stands as stands
 use Rattle.lb_registry.specs.RegistryEvents as registry
-use Rattle.lb_world.proofs.Words.{◌^◌, ◌↔◌, ◌∙◌, ◌∷◌, ◌≡◌, ◌≤◌, Answer, ap, Before, Bool, EntryNext, EntryValue, Err, false, GateView}
+use Rattle.lb_world.proofs.Words.{◌^◌, ◌↔◌, ◌∙◌, ◌∷◌, ◌≡◌, ◌≤◌, Answer, ap, Before, Bool, EntryNext, EntryValue, Err, false, GateValue}
 use Rattle.lb_world.proofs.Words.{has_refused, History, IsRegistryAfter, IsTrue, joined_events, JoinedValue, key_gives, key_of, List, Listing}
 use Rattle.lb_world.proofs.Words.{made_of, Meaning, meaning_of, members_in, None, Ok, refl, Refusal, registry_events, RegistryValue}
 use Rattle.lb_world.proofs.Words.{settings_in, site, Step, subst, sym, true, true≢false, views_of, with_core, WorldRule, ℕ}
 use Rattle.lb_world.proofs.Entries.{Moves, next-core, next-refused, stays}
 use Rattle.lb_world.proofs.entry.Entry.update.Goals as goal
 
-module _ {C : Type 0} {M : Meaning C} {h : History C} {g : ℕ} {e : EntryValue C} {z : GateView} {v : RegistryValue WorldRule}
+module _ {C : Type 0} {M : Meaning C} {h : History C} {g : ℕ} {e : EntryValue C} {z : GateValue} {v : RegistryValue WorldRule}
     (b : Before M h g e z v) (now : ℕ) (ls : List Listing) (whole : has_refused ls ≡ false) where
   abbrev st : Step C
   st = Step.update g now ls

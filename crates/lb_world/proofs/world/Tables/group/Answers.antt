@@ -8,7 +8,7 @@ use Rattle.std.proofs.lemmas.List.{length-replicate}
 use Rattle.lb_registry.specs.RegistryEvents as registry
 use Rattle.lb_world.proofs.Words.{◌&&◌, ◌++◌, ◌+◌, ◌<◌, ◌^◌, ◌↔◌, ◌∙◌, ◌∷◌, ◌≡◌, ◌≤◌, [], after, Answer, ap, arith, at-place, Bool}
 use Rattle.lb_world.proofs.Words.{configs_of, each-push, each-set, earlier, EntryIs, EntryValue, eq-eqb, false, false≢true, GateId, gates}
-use Rattle.lb_world.proofs.Words.{GateView, get-kept, get_replicate, held_of, History, in_tables, inl, inr, IsRegistryAfter, IsRun, IsTrue}
+use Rattle.lb_world.proofs.Words.{GateValue, get-kept, get_replicate, held_of, History, in_tables, inl, inr, IsRegistryAfter, IsRun, IsTrue}
 use Rattle.lb_world.proofs.Words.{key_at, key_gives, least, length, length-set, length_push, List, made, map, marks_start_none, Meaning}
 use Rattle.lb_world.proofs.Words.{nat_lt, ne_eqb, no_such, None, Option, origin, past, refl, Refusal, registries, registry_events}
 use Rattle.lb_world.proofs.Words.{RegistryValue, slice_get, slice_set, Some, Stands, Step, sym, true, WorldRule, WorldValue, ℕ}
@@ -85,7 +85,7 @@ module _ {C : Type 0} {M : Meaning C} {w : WorldValue C} {h : History C} (s : St
             let now = s.kept r u in_ in
             lent-refused s r in_ (rw (memory _ _ now (few _ _ now)) (group-starved M h r a cs (as-told none) (few _ _ now) cells-fit)) after
 
-        joins : (n : ℕ) (z : GateView) (v : RegistryValue WorldRule) (e : EntryValue C) → n ≡ length w.groups → z ≡ get_or w.gates a z
+        joins : (n : ℕ) (z : GateValue) (v : RegistryValue WorldRule) (e : EntryValue C) → n ≡ length w.groups → z ≡ get_or w.gates a z
             → Tells u (λ k es. IsNewEntry r a z.id cs (registry.registered_after es + 1) e
             × IsRegistryAfter key_gives k (registry.Applied ∷ registry.Registered ∷ es) v)
             → Stands M (record w { registries = slice_set w.registries r v; groups = w.groups ++ e ∷ [] }) ((st, Answer.Group n) ∷ h)

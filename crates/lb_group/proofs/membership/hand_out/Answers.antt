@@ -1,7 +1,7 @@
 -- One order more goes to its slot.
 use Rattle.std.proofs.Common.{arith}
 use Rattle.lb_group.proofs.Handing.{hands_first, hands_on, hands_last}
-use Rattle.lb_group.proofs.schedule.hand_out.Goals as goal
+use Rattle.lb_group.proofs.membership.hand_out.Goals as goal
 
 pub loop-order-init : goal.loop-order-init
 loop-order-init g c = hands_first _ _ _ c.requires
