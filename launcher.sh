@@ -1,6 +1,7 @@
-# Builds a program of this repository where that is due; ./lbsim and ./lbcheck read it in. It wants `name`, the crate of the
-# program, `top`, the repository, and `trial`, the words after 'rt run' with which the program ends with status 0; it gives
-# `program`. Only the program itself is to write to standard output.
+# Runs a program of this repository: the proved one where it is newer than its sources, else a trial build. ./lbsim and
+# ./lbcheck read this in. It wants `name`, the crate of the program, `top`, the repository, `trial`, the words after 'rt run'
+# with which the program ends with status 0, and `minutes`, what proving takes. Only the program itself is to write to
+# standard output.
 out=$top/crates/$name/out
 program=$out/$name
 built_from=$out/$name.built-from # its time is the start of the build that made the program
@@ -9,6 +10,11 @@ log=$out/$name.log
 stop() {
     echo "$name: $1" >&2
     exit 2
+}
+
+need_rt() {
+    command -v rt >/dev/null || stop "it has to be built, and there is no 'rt' on the PATH: install the Rattle toolchain that
+README.md names (it needs Python 3.8 or later and no network), put the folder that holds 'rt' on the PATH, and run this again"
 }
 
 # The crates of this repository that $1 stands on, by crates.txt, and then $1 itself: lowest first, each once.
@@ -39,8 +45,7 @@ is_due() {
 # Proves and builds each crate, the program last.
 build() {
     local crate number=0 command=()
-    command -v rt >/dev/null || stop "it has to be built, and there is no 'rt' on the PATH: install the Rattle toolchain that
-README.md names (it needs Python 3.8 or later and no network), put the folder that holds 'rt' on the PATH, and run this again"
+    need_rt
     touch "$built_from.new"
     for crate in "${crates[@]}"; do
         number=$((number + 1))
@@ -55,18 +60,49 @@ README.md names (it needs Python 3.8 or later and no network), put the folder th
     mv "$built_from.new" "$built_from"
 }
 
-# Builds the program if it is missing or older than a source: a line on standard error for each crate.
-build_if_due() {
+# Proves and builds the program if it is missing or older than a source: a line on standard error for each crate.
+prove_if_due() {
     add_crates "$name"
     if is_due; then
         mkdir -p "$out"
         exec 9>"$out/$name.lock"
         flock 9 # one build at a time; who waited looks again
         if is_due; then
-            echo "$name: proving and building what is missing or older than its source; the first time this takes minutes" >&2
+            echo "$name: proving and building what is missing or older than its source; from nothing about $minutes minutes" >&2
             : >"$log"
             build
         fi
         exec 9>&-
     fi
+}
+
+# 'rt try' cuts what it reads at this many bytes.
+input_limit=67108864
+
+# Ends with the answers of a trial build, given these arguments and standard input. 'rt try' passes on what the program wrote
+# when that has ended, and behind what it wrote to standard error three lines of its own. Nothing is passed on in part.
+run_trial() {
+    local status=0
+    need_rt
+    room=$(mktemp -d)
+    trap 'rm -rf "$room"' EXIT
+    cat >"$room/input"
+    [ "$(wc -c <"$room/input")" -lt "$input_limit" ] ||
+        stop "a trial build reads less than $input_limit bytes: ./$name --prove builds the program without that limit"
+    (cd "$top/crates/$name" && rt try --seconds 3600 -- "$@") <"$room/input" >"$room/output" 2>"$room/said" || status=$?
+    if [[ $(tail -n 3 "$room/said") != 'checked: ended status='*$'\nraces: '*$'\nrun=ended status='"$status "* ]]; then
+        cat "$room/said" >&2
+        stop "the trial build gave no whole answer, which is at most 1 MiB: ./$name --prove builds the program without that limit"
+    fi
+    cat "$room/output"
+    head -n -3 "$room/said" >&2
+    exit "$status"
+}
+
+# Runs the program with these arguments, and ends with its status.
+run_program() {
+    add_crates "$name"
+    is_due || exec "$program" "$@"
+    echo "$name: a trial build, not proved: ./$name --prove builds the proved one, about $minutes minutes" >&2
+    run_trial "$@"
 }

@@ -1,7 +1,7 @@
 #!/usr/bin/env python3
-"""Prints docs/LEMMAS.md: for each crate, its lemma files, and the functions whose proofs stand on each.
+"""Prints, for each crate, its lemma files, and the functions whose proofs use each.
 
-A function stands on a file that its answers or invariants cite, and on the lemma files that this one cites. A file that a source
+A function uses a file that its answers or invariants cite, and the lemma files that this one cites. A file that a source
 file itself cites, in an attribute or a ghost item, has that file's name. Of a file under no function of its crate, the crates above whose
 proofs cite it.
 """
@@ -12,8 +12,8 @@ import textwrap
 TOP = os.path.dirname(os.path.dirname(os.path.realpath(__file__)))
 HEAD = """# Lemma files
 
-Under which functions each lemma file of a crate stands (`proofs/FILE.antt`), as `docs/lemma_files.py` prints it; of a file that is for
-crates above alone, which these are. An edit of a file checks these functions again.
+For each lemma file of a crate (`proofs/FILE.antt`), the functions whose proofs use it, or the crates above that use it alone. An edit
+of a file checks these functions again.
 """
 
 

@@ -43,19 +43,42 @@ absent_specs() {
     done
 }
 example_of_readme() { diff <(awk '/^```rust$/ { on = 1; next } /^```$/ { on = 0 } on' README.md) crates/lb_example/src/main.rt; }
-long_lines() { LC_ALL=C.UTF-8 grep -nE '.{141}' README.md docs/*.md || true; }
-rows_without_answers() {
-    local script
-    for script in crates/lb_conformance/data/*.script; do
-        [ -e "${script%.script}.answers" ] || echo "$script has no answers"
-        grep -q "\"$(basename "$script" .script)\"" crates/lb_conformance/src/main.rt || echo "$script isn't run"
+# Documents that a document names and that aren't there.
+absent_documents() {
+    local file
+    grep -oh '\bdocs/[A-Z_a-z]*\.[a-z]*' README.md docs/*.md lbsim lbcheck | sort -u | while read -r file; do
+        [ -e "$file" ] || echo "there is no $file"
     done
 }
+# Names under a module of the facade that a document has and the facade doesn't pass on.
+facade_modules='background|discovery|health_check|plain|port|prelude|schedule|selection|simulation'
+absent_names() {
+    local path
+    grep -ohE "\\b($facade_modules)::[A-Za-z_]+" README.md docs/DIFFERENCES.md | sort -u | while read -r path; do
+        grep -qE "\\b${path##*::}\\b" crates/pingora_load_balancing/src/"${path%%::*}".rt || echo "the facade has no $path"
+    done
+}
+long_lines() { LC_ALL=C.UTF-8 grep -nE '.{141}' README.md docs/*.md || true; }
+# FROM TO TABLE: each row in a file that ends in FROM has one that ends in TO, and its name is in the table and in what is written.
+rows_that_lack() {
+    local row name
+    for row in crates/lb_rows/data/*."$1"; do
+        name=$(basename "$row" ".$1")
+        [ -e "${row%."$1"}.$2" ] || echo "$row has no $2"
+        grep -qF "\"$name\"" "crates/lb_rows/src/$3" || echo "$row isn't run"
+        grep -qxF "$name: as it should be" crates/lb_rows/stdout || echo "$row has no line in stdout"
+    done
+}
+rows_without_answers() {
+    rows_that_lack script answers script_tables.rt
+    rows_that_lack stream answer check_tables.rt
+}
 
-silent 'README names each crate' unnamed_crates README.md
 silent 'docs/ARCHITECTURE.md names each crate' unnamed_crates docs/ARCHITECTURE.md
 silent 'no crate is named that is not there' absent_crates
 silent 'no file of definitions is named that is not there' absent_specs
+silent 'no document is named that is not there' absent_documents
+silent 'no name of the facade is named that is not there' absent_names
 silent 'the example in README is the one that is proved' example_of_readme
 silent 'no line of a document is over 140 columns' long_lines
 silent 'each row has answers and is run' rows_without_answers

@@ -55,6 +55,37 @@ asked no-path 2 '' '' http 127.0.0.1:1 --path index
 asked no-host 2 '' '' http 127.0.0.1:1 --host $'h\x01'
 asked no-field 2 '' '' http 127.0.0.1:1 --header 'name value'
 asked no-port 2 '' '' http 127.0.0.1:1 --port 65536
+asked help 0 "Checks a backend as a load balancer would: it prints 'ok' or a fault, and ends with status 0 or 1
+
+Usage: lbcheck <COMMAND>
+
+Commands:
+  tcp     Connects to a backend, and no more
+  http    Sends a request to a backend and reads its answer
+  replay  Checks an answer that stands on standard input
+  help    Print this message or the help of the given subcommand(s)
+
+Options:
+  -h, --help  Print help
+" '' --help
+asked help-of-http 0 "Sends a request to a backend and reads its answer
+
+Usage: lbcheck http [OPTIONS] <ADDR>
+
+Arguments:
+  <ADDR>  An address as 10.0.0.1:80 or [2001:db8::1]:80, or unix: and the path of a socket
+
+Options:
+      --host <HOST>       The host that is asked, else the address
+      --path <PATH>       The path that is asked for, else /
+      --method <METHOD>   The method of the request, else GET
+      --header <FIELD>    A field 'NAME: VALUE' more; may be given again
+      --accept <STATUS>   The one status that is accepted, else 200
+      --max-body <BYTES>  The most bytes of a body, else 1048576
+      --timeout <MS>      How long to wait to connect, for a read and for a write, else 1000, and any time for a write
+      --port <PORT>       The port that is checked, else the address's
+  -h, --help              Print help
+" '' http --help
 
 said=$room/said
 (cd "$here/../crates/lbcheck" && rt try --cases "$cases") >"$said" 2>&1 || true

@@ -79,6 +79,7 @@ pages() {
 }
 
 command -v nginx >/dev/null || { echo "nginx isn't installed: nothing to try"; exit 0; }
+[ -n "${LBCHECK-}" ] || "$lbcheck" --prove
 chmod 755 "$room"
 mkdir "$room/pages"
 echo 'a page' >"$room/pages/page.html"

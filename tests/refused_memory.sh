@@ -1,5 +1,5 @@
 #!/bin/bash
-# Each request for memory refused in turn: `lbsim` over the worked scripts of lb_conformance, once for each request that it
+# Each request for memory refused in turn: `lbsim` over the worked scripts of lb_rows, once for each request that it
 # makes. What it writes has to be a beginning of the worked answers, then `error LINE OutOfMemory`, or the answer of a step that
 # was refused 10 or whose build failed with 10, after which each line is answered as if that step had not been taken, or had
 # been ordered to fail. What comes after such a step is asked of bench/plain. The C library's calls are refused by refuse.c,
@@ -12,12 +12,12 @@ here=$(dirname "$(readlink -f "${BASH_SOURCE[0]}")")
 room=$(mktemp -d)
 trap 'rm -rf "$room"' EXIT
 if [ -z "${LBSIM-}" ]; then
-    "$here/../lbsim" /dev/null # builds it where that is due
+    "$here/../lbsim" --prove
     LBSIM=$here/../crates/lbsim/out/lbsim
 fi
 cc -O1 -shared -fPIC -o "$room/refuse.so" "$here/refuse.c"
 (cd "$here/../bench/plain" && cargo build --release --offline --quiet)
-ROOM=$room LBSIM=$LBSIM PLAIN=$here/../bench/plain/target/release/plainsim ROWS=$here/../crates/lb_conformance/data \
+ROOM=$room LBSIM=$LBSIM PLAIN=$here/../bench/plain/target/release/plainsim ROWS=$here/../crates/lb_rows/data \
     python3 - "$@" <<'END'
 import os
 import subprocess

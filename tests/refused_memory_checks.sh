@@ -1,5 +1,5 @@
 #!/bin/bash
-# Each request for memory refused in turn: `lbcheck replay` over the worked answers of lb_check_rows, once for each request that
+# Each request for memory refused in turn: `lbcheck replay` over the worked answers of lb_rows, once for each request that
 # it makes. It has to say OutOfMemory, or what it says with all memory. The C library's calls are refused by refuse.c,
 # which is compiled here by `cc` and stands before it. A line for each answer; the last line is 'N passed, M failed'.
 # LBCHECK names another program than the one that ./lbcheck builds.
@@ -7,11 +7,11 @@ set -euo pipefail
 unset CDPATH
 
 here=$(dirname "$(readlink -f "${BASH_SOURCE[0]}")")
-rows=$here/../crates/lb_check_rows/data
+rows=$here/../crates/lb_rows/data
 room=$(mktemp -d)
 trap 'rm -rf "$room"' EXIT
 if [ -z "${LBCHECK-}" ]; then
-    "$here/../lbcheck" --help >/dev/null # builds it where that is due
+    "$here/../lbcheck" --prove
     LBCHECK=$here/../crates/lbcheck/out/lbcheck
 fi
 

@@ -1,46 +1,46 @@
-//! The library in a few lines: backends, a selector that takes them in turn, and selections from it.
-//! A backend of weight 0 is drained. That none is chosen is proved, from the contract of `select` alone.
+//! A balancer over two backends, of which one listens. A check finds out which, and the requests go there.
 #![tactic(auto)]
 
-ghost use Rattle.std.specs.Prelude.{◌<◌, IfOk, IfSome};
+use pingora_load_balancing::Refusal;
+use pingora_load_balancing::background::RuntimeClock;
+use pingora_load_balancing::discovery::BoxedDiscovery;
+use pingora_load_balancing::health_check::{HealthCheck, NoRule, Rule, TcpHealthCheck};
+use pingora_load_balancing::prelude::{LoadBalancer, RoundRobin};
+use std::net::TcpListener;
+use std::sync::Wait;
 
-use pingora_load_balancing::selection::{BackendSelection, RoundRobin, select};
-use pingora_load_balancing::{Backend, CoreWords, Refusal};
-use rand_pcg::Pcg64;
-use std::alloc::Global;
-use std::collections::BTreeSet;
-use std::sync::Arc;
+// A balancer in turn, with checks of this type.
+type Balancer<C> = LoadBalancer<RoundRobin, BoxedDiscovery, Rule<NoRule>, C>;
 
-/// The next backend in turn that is not drained, among 16 candidates at most.
-fn choose(
-    alloc: Global,
-    selector: &Arc<RoundRobin>,
-    words: &mut CoreWords<Pcg64>,
-) -> Result<Option<Backend>, Refusal>
-    ensures { IfOk result (λ found. IfSome found (λ backend. 0 < backend.weight)) }
-{
-    select(
-        alloc,
-        selector,
-        b"",
-        words,
-        16,
-        &|backend: &Backend| backend.weight > 0,
-    )
+// Selects a backend for each of four requests. Returns how many found a backend.
+fn requests<R: Wait + AllocGlobal, C: HealthCheck + Drop>(
+    rt: &R,
+    balancer: &Balancer<C>,
+) -> Result<u32, Refusal> {
+    let mut found = 0u32;
+    for _ in 0..4 {
+        let backend = balancer.select(rt, rt.alloc(), b"", 16)?;
+        found = found.saturating_add(u32::from(backend.is_some()));
+    }
+    Ok(found)
 }
 
 fn main(rt: HostRuntime) -> Result<(), anyhow::Error> {
     let alloc = rt.alloc();
-    let mut backends = BTreeSet::new(alloc);
-    for (addr, weight) in [("10.0.0.1:80", 2), ("10.0.0.2:80", 1), ("10.0.0.3:80", 0)] {
-        backends.insert(Backend::new_with_weight(alloc, addr, weight)?)?;
-    }
-    let selector = Arc::new(alloc, RoundRobin::build(alloc, &backends)?)?;
-    let mut words = CoreWords::new(Pcg64::new(1, 2));
-    for _ in 0..4 {
-        if let Some(backend) = choose(alloc, &selector, &mut words)? {
-            println!(rt; "{backend}")?;
-        }
-    }
+    let server = TcpListener::bind(&rt, "127.0.0.1:0")?;
+    let listening = format!(in alloc; "{}", server.local_addr()?)?;
+    let texts = [listening.as_str(), "127.0.0.1:1"];
+    let mut clock = RuntimeClock::new(&rt);
+    let balancer: Balancer<TcpHealthCheck<HostRuntime>> = LoadBalancer::try_from_iter(
+        &rt,
+        alloc,
+        &rt,
+        texts.iter().copied(),
+        &mut clock,
+    )?;
+    balancer.set_health_check(&rt, TcpHealthCheck::new(rt))?;
+    balancer.backends().run_health_check(&rt, alloc, true)?;
+    let found = requests(&rt, &balancer)?;
+    println!(rt; "{found} of 4 requests found a backend")?;
     Ok(())
 }

@@ -1,12 +1,25 @@
-//! Views of backends and their health: discovery, memberships in numbered generations, flags, readiness, and passes of checks.
-//! A view is told by the history of its events, and a registry of cells by its own; a call says what it adds to each.
+//! Health of backends: what a check is, the checks over TCP and HTTP, the registry of cells, views with their discovery, and passes.
+//! Each part is a crate of its own (`lb_health_check`, `lb_health_http`, `lb_health_registry`, `lb_health_view`); this one passes them on.
 #![tactic(auto)]
 
-pub mod backends;
-mod cells;
-pub mod discovery;
-pub mod laws;
-mod lookup;
-pub mod registry;
-mod snapshot;
-pub mod view;
+pub use lb_health_check::error::CheckError;
+pub use lb_health_check::health_check::{
+    BackendSummary, BoxedCheck, HealthCheck, HealthObserve, HealthObserveCallback, IdentitySummary,
+    identity_summary,
+};
+pub use lb_health_http::{
+    AcceptStatus, BasicPeer, HttpHealthCheck, HttpPeer, MAX_BODY_BYTES, TcpHealthCheck, Validate,
+    check_over, request_for,
+};
+pub use lb_health_registry::health::Health;
+pub use lb_health_registry::keys::{ByNumber, KeyRule, Number, Rule};
+pub use lb_health_registry::laws as registry_laws;
+pub use lb_health_registry::registry::{Registry, RegistryCore};
+pub use lb_health_registry::targets::Target;
+pub use lb_health_view::backends::{BackendView, Backends, BackendsParts};
+pub use lb_health_view::discovery::{
+    BoxedDiscovery, Discovered, DiscoverySource, ServiceDiscovery, Static,
+};
+pub use lb_health_view::laws as view_laws;
+pub use lb_health_view::registry::HealthRegistry;
+pub use lb_health_view::view::{Settings, ViewCore};

@@ -1,2 +1,4 @@
-pub mod Apart
-pub mod GateStores
+pub mod BoardSteps
+pub mod Words
+pub mod Shown
+pub mod Crossings

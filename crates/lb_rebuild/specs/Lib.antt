@@ -1,2 +1,3 @@
-pub mod Gate
-pub mod GateRule
+pub mod BoardRule
+pub mod Pass
+pub mod Watched

@@ -1,7 +1,10 @@
-//! The gate of rebuilds, which lets at most one extra selector exist at a time, and identities that no two values share.
-//! Everything here is plain data and steps on it; threads and locks come above.
+//! The board of a group: its newest generation and what each slot serves, as words that are read in single loads, without a lock.
+//! It passes on the gate and the slots of `lb_rebuild_slots` and the group of `lb_rebuild_group`.
 #![tactic(auto)]
 
-pub mod gate;
-mod gate_rule;
-pub mod identity;
+pub mod board;
+pub mod board_rule;
+pub mod watched;
+
+pub use lb_rebuild_group::{group, laws as snapshot_laws};
+pub use lb_rebuild_slots::{answers, gate, identity, job, laws, membership, retired};

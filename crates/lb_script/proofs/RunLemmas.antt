@@ -3,22 +3,22 @@ use Rattle.std.proofs.Common.{◌≡◌, ◌≢◌, inl, inr, ℕ, ◌+◌, Bool
 use Rattle.std.specs.Io.KnownBytes.{Appends, prepend_known}
 use Rattle.std.specs.Result.{result_ok}
 use Rattle.std.proofs.KnownBytes.{Appends-nil, Appends-trans}
-use Rattle.lb_history.specs.History.{History}
-use Rattle.lb_history.specs.Meanings.{Meaning}
+use Rattle.lb_world.specs.History.{History}
+use Rattle.lb_world.specs.Meanings.{Meaning}
 use Rattle.lb_world.specs.Stands.{Stands}
 use Rattle.lb_world.specs.Views.{WorldValue}
-use Rattle.lb_step_text.specs.declared.error.ScriptError.{ScriptError}
-use Rattle.lb_step_text.specs.declared.error.ScriptError.TheVariants.{BadLine, LineTooLong, Read, OutOfMemory}
-use Rattle.lb_script.specs.declared.session.Turn.{Turn}
-use Rattle.lb_script.specs.declared.session.Turn.TheVariants.{Answered, LastAnswered, Ended, Failed}
-use Rattle.lb_kinds.specs.declared.kinds.Kind.{Kind}
-use Rattle.lb_lines.specs.Lines.{lines_of, whole_lines, first_line, IsLine}
+use Rattle.lb_script_text.specs.declared.error.ScriptError.{ScriptError}
+use Rattle.lb_script_text.specs.declared.error.ScriptError.TheVariants.{BadLine, LineTooLong, Read, OutOfMemory}
+use Rattle.lb_script.specs.declared.session.LineTurn.{LineTurn}
+use Rattle.lb_script.specs.declared.session.LineTurn.TheVariants.{Answered, LastAnswered, Ended, Failed}
+use Rattle.lb_script_text.specs.declared.kinds.Kind.{Kind}
+use Rattle.lb_stream.specs.Lines.{lines_of, whole_lines, first_line, IsLine}
 use Rattle.lb_script.specs.Output.{IsOutput, ends, answered, bad_line, too_long, no_memory, read_fails, IsToAnswer, Wrote, WroteFront}
 use Rattle.lb_script.specs.Session.{AnsweredLine, AnsweredRest, FailsFor, TakesTurn, Joins}
-use Rattle.lb_counted.specs.Stream.{OnBytes, AppendsFront}
-use Rattle.lb_step_text.specs.Texts.{answer_text, error_text}
-use Rattle.lb_lines.proofs.LinesLemmas.{lines_first, lines_feed, lines_last, whole_feed, whole_none, first_of_none}
-use Rattle.lb_counted.proofs.StreamLemmas.{front_more, front_after}
+use Rattle.lb_stream.specs.Stream.{OnBytes, AppendsFront}
+use Rattle.lb_script_text.specs.Texts.{answer_text, error_text}
+use Rattle.lb_stream.proofs.LinesLemmas.{lines_first, lines_feed, lines_last, whole_feed, whole_none, first_of_none}
+use Rattle.lb_stream.proofs.StreamLemmas.{front_more, front_after}
 
 -- the bytes that are known after a call
 known_after : (left now : Option (List ℕ)) (rest : List ℕ) (P : List ℕ → List ℕ → Type 0) → left ≡ Some rest → OnBytes left now P
@@ -93,13 +93,13 @@ module _ (M : Meaning Kind) where
     output : IsOutput M failed [] 1 lines (done ++ text) status
 
   -- what a turn gives, after each history that the world stands for
-  abbrev pub Gives : Option (List ℕ) → Option (List ℕ) → WorldValue Kind → WorldValue Kind → (List ℕ → Type 0) → Turn → Type 0
+  abbrev pub Gives : Option (List ℕ) → Option (List ℕ) → WorldValue Kind → WorldValue Kind → (List ℕ → Type 0) → LineTurn → Type 0
   Gives left now w v P r =
       (h : History Kind) → Stands M w h → OnBytes left now (TakesTurn M h v P r)
 
   -- what a turn took from the bytes that were left
   taken : {script : List ℕ} {left old new : Option (List ℕ)} {waiting : List ℕ} {w : WorldValue Kind} {k : ℕ} (s : SoFar script left old new waiting w k)
-      (now : Option (List ℕ)) (v : WorldValue Kind) (P : List ℕ → Type 0) (r t : Turn) → r ≡ t → Gives left now w v P r
+      (now : Option (List ℕ)) (v : WorldValue Kind) (P : List ℕ → Type 0) (r t : LineTurn) → r ≡ t → Gives left now w v P r
       → (more : List ℕ) × (now ≡ Some more) × TakesTurn M s.history v P t s.rest more
   taken {left = left} s now v P r t is next =
       known_after left now s.rest (TakesTurn M s.history v P t) s.left_is
@@ -175,7 +175,7 @@ module _ (M : Meaning Kind) where
 
   -- after a line that was answered
   one_more : {script : List ℕ} {left old new : Option (List ℕ)} {waiting : List ℕ} {w : WorldValue Kind} {k : ℕ} (s : SoFar script left old new waiting w k)
-      (now newer : Option (List ℕ)) (after : List ℕ) (v : WorldValue Kind) (r : Turn) → r ≡ Answered → Gives left now w v (Joins new newer waiting after) r
+      (now newer : Option (List ℕ)) (after : List ℕ) (v : WorldValue Kind) (r : LineTurn) → r ≡ Answered → Gives left now w v (Joins new newer waiting after) r
       → SoFar script now old newer after v (k + 1)
   one_more {script = script} {old = old} {new = new} {waiting = waiting} {k = k} s now newer after v r given next =
       let n = taken s now v (Joins new newer waiting after) r Answered given next in
@@ -213,7 +213,7 @@ module _ (M : Meaning Kind) where
 
   pub goes_on : (o left now old new newer : Option (List ℕ)) (waiting after : List ℕ) (w v : WorldValue Kind) (k : ℕ)
       → IfSome o (λ script. SoFar script left old new waiting w k)
-      → (r : Turn) → r ≡ Answered → Gives left now w v (Joins new newer waiting after) r
+      → (r : LineTurn) → r ≡ Answered → Gives left now w v (Joins new newer waiting after) r
       → IfSome o (λ script. SoFar script now old newer after v (k + 1))
   goes_on o left now old new newer waiting after w v k so r given next =
       on_script o (λ script. SoFar script left old new waiting w k) (λ script. SoFar script now old newer after v (k + 1)) so
@@ -233,7 +233,7 @@ module _ (M : Meaning Kind) where
 
   pub ends_with_line : (o left now unread old new mid newer : Option (List ℕ)) (waiting after : List ℕ) (w v : WorldValue Kind) (k : ℕ) (failed : Bool)
       → IfSome o (λ script. SoFar script left old new waiting w k)
-      → (r : Turn) → r ≡ LastAnswered → Gives left now w v (Joins new mid waiting after) r
+      → (r : LineTurn) → r ≡ LastAnswered → Gives left now w v (Joins new mid waiting after) r
       → failed ≡ false → Appends mid newer after → IfSome o (λ script. Wrote M failed script unread old newer 0)
   ends_with_line o left now unread old new mid newer waiting after w v k failed so r given next fine put =
       on_script o (λ script. SoFar script left old new waiting w k) (λ script. Wrote M failed script unread old newer 0) so
@@ -244,7 +244,7 @@ module _ (M : Meaning Kind) where
 
   pub stops_in_last : (o left now unread old new mid newer : Option (List ℕ)) (waiting after : List ℕ) (w v : WorldValue Kind) (k : ℕ) (failed : Bool)
       → IfSome o (λ script. SoFar script left old new waiting w k)
-      → (r : Turn) → r ≡ LastAnswered → Gives left now w v (Joins new mid waiting after) r
+      → (r : LineTurn) → r ≡ LastAnswered → Gives left now w v (Joins new mid waiting after) r
       → failed ≡ false → AppendsFront mid newer after → IfSome o (λ script. WroteFront M failed script unread old newer)
   stops_in_last o left now unread old new mid newer waiting after w v k failed so r given next fine put =
       on_script o (λ script. SoFar script left old new waiting w k) (λ script. WroteFront M failed script unread old newer) so
@@ -262,7 +262,7 @@ module _ (M : Meaning Kind) where
 
   pub is_over : (o left now unread old new mid newer : Option (List ℕ)) (waiting after : List ℕ) (w v : WorldValue Kind) (k : ℕ) (failed : Bool)
       → IfSome o (λ script. SoFar script left old new waiting w k)
-      → (r : Turn) → r ≡ Ended → Gives left now w v (Joins new mid waiting after) r
+      → (r : LineTurn) → r ≡ Ended → Gives left now w v (Joins new mid waiting after) r
       → failed ≡ false → Appends mid newer after → IfSome o (λ script. Wrote M failed script unread old newer 0)
   is_over o left now unread old new mid newer waiting after w v k failed so r given next fine put =
       on_script o (λ script. SoFar script left old new waiting w k) (λ script. Wrote M failed script unread old newer 0) so
@@ -272,7 +272,7 @@ module _ (M : Meaning Kind) where
 
   pub stops_at_end : (o left now unread old new mid newer : Option (List ℕ)) (waiting after : List ℕ) (w v : WorldValue Kind) (k : ℕ) (failed : Bool)
       → IfSome o (λ script. SoFar script left old new waiting w k)
-      → (r : Turn) → r ≡ Ended → Gives left now w v (Joins new mid waiting after) r
+      → (r : LineTurn) → r ≡ Ended → Gives left now w v (Joins new mid waiting after) r
       → failed ≡ false → AppendsFront mid newer after → IfSome o (λ script. WroteFront M failed script unread old newer)
   stops_at_end o left now unread old new mid newer waiting after w v k failed so r given next fine put =
       on_script o (λ script. SoFar script left old new waiting w k) (λ script. WroteFront M failed script unread old newer) so
@@ -328,7 +328,7 @@ module _ (M : Meaning Kind) where
     completes : Completes failed script unread done (error_text k e ++ codes "\n") 1
 
   failed_turn : {script : List ℕ} {left old new : Option (List ℕ)} {waiting : List ℕ} {w : WorldValue Kind} {k : ℕ} (s : SoFar script left old new waiting w k)
-      (ahead : List ℕ) (unread : Option (List ℕ)) (v : WorldValue Kind) (P : List ℕ → Type 0) (e : ScriptError) (failed : Bool) (r : Turn) → r ≡ Failed e
+      (ahead : List ℕ) (unread : Option (List ℕ)) (v : WorldValue Kind) (P : List ℕ → Type 0) (e : ScriptError) (failed : Bool) (r : LineTurn) → r ≡ Failed e
       → Gives left (prepend_known ahead unread) w v P r
       → (e ≡ Read → failed ≡ true) → (e ≢ Read → failed ≡ false) → (e ≡ Read → ahead ≡ [])
       → EndsFor failed script unread s.done P k e
@@ -343,7 +343,7 @@ module _ (M : Meaning Kind) where
   -- after a line that ended the script, with all that waited and the error written
   pub ends_early : (o left unread old new mid newer : Option (List ℕ)) (ahead waiting after : List ℕ) (w v : WorldValue Kind) (k : ℕ) (e : ScriptError) (failed : Bool)
       → IfSome o (λ script. SoFar script left old new waiting w k)
-      → (r : Turn) → r ≡ Failed e → Gives left (prepend_known ahead unread) w v (Joins new mid waiting after) r
+      → (r : LineTurn) → r ≡ Failed e → Gives left (prepend_known ahead unread) w v (Joins new mid waiting after) r
       → (e ≡ Read → failed ≡ true) → (e ≢ Read → failed ≡ false) → (e ≡ Read → ahead ≡ [])
       → Appends mid newer (after ++ (error_text k e ++ codes "\n")) → IfSome o (λ script. Wrote M failed script unread old newer 1)
   ends_early o left unread old new mid newer ahead waiting after w v k e failed so r given next read fine none put =
@@ -355,7 +355,7 @@ module _ (M : Meaning Kind) where
   -- the same where a front of that was written
   pub ends_in_part : (o left unread old new mid newer : Option (List ℕ)) (ahead waiting after : List ℕ) (w v : WorldValue Kind) (k : ℕ) (e : ScriptError) (failed : Bool)
       → IfSome o (λ script. SoFar script left old new waiting w k)
-      → (r : Turn) → r ≡ Failed e → Gives left (prepend_known ahead unread) w v (Joins new mid waiting after) r
+      → (r : LineTurn) → r ≡ Failed e → Gives left (prepend_known ahead unread) w v (Joins new mid waiting after) r
       → (e ≡ Read → failed ≡ true) → (e ≢ Read → failed ≡ false) → (e ≡ Read → ahead ≡ [])
       → AppendsFront mid newer (after ++ (error_text k e ++ codes "\n")) → IfSome o (λ script. WroteFront M failed script unread old newer)
   ends_in_part o left unread old new mid newer ahead waiting after w v k e failed so r given next read fine none put =

@@ -2,20 +2,20 @@
 use Rattle.std.proofs.Common.{◌≡◌, ℕ, ◌+◌, List, [], ◌∷◌, ◌++◌, drop, length, ◌≤◌, Option, Some, None, Result, Ok, Err, refl, ap, ◌∙◌, sym, subst, append_assoc}
 use Rattle.std.specs.Io.KnownBytes.{Appends, Keeps, prepend_known}
 use Rattle.std.proofs.KnownBytes.{Appends-nil, Appends-kept}
-use Rattle.lb_history.specs.History.{History}
-use Rattle.lb_history.specs.Meanings.{Meaning}
+use Rattle.lb_world.specs.History.{History}
+use Rattle.lb_world.specs.Meanings.{Meaning}
 use Rattle.lb_world.specs.Views.{WorldValue}
-use Rattle.lb_step_text.specs.declared.error.ScriptError.{ScriptError}
-use Rattle.lb_step_text.specs.declared.error.ScriptError.TheVariants.{BadLine, LineTooLong, Read, OutOfMemory}
-use Rattle.lb_lines.specs.declared.lines.LineRead.TheVariants.{Line, LastLine}
-use Rattle.lb_script.specs.declared.session.Turn.{Turn}
-use Rattle.lb_script.specs.declared.session.Turn.TheVariants.{Answered, LastAnswered, Ended, Failed, WriteFailed}
-use Rattle.lb_kinds.specs.declared.kinds.Kind.{Kind}
-use Rattle.lb_counted.specs.Stream.{OnBytes}
-use Rattle.lb_lines.specs.Lines.{Finds, IsLine}
-use Rattle.lb_step_text.specs.StepLines.{step_of}
+use Rattle.lb_script_text.specs.declared.error.ScriptError.{ScriptError}
+use Rattle.lb_script_text.specs.declared.error.ScriptError.TheVariants.{BadLine, LineTooLong, Read, OutOfMemory}
+use Rattle.lb_stream.specs.declared.lines.LineRead.TheVariants.{Line, LastLine}
+use Rattle.lb_script.specs.declared.session.LineTurn.{LineTurn}
+use Rattle.lb_script.specs.declared.session.LineTurn.TheVariants.{Answered, LastAnswered, Ended, Failed, WriteFailed}
+use Rattle.lb_script_text.specs.declared.kinds.Kind.{Kind}
+use Rattle.lb_stream.specs.Stream.{OnBytes}
+use Rattle.lb_stream.specs.Lines.{Finds, IsLine}
+use Rattle.lb_script_text.specs.StepLines.{step_of}
 use Rattle.lb_script.specs.Session.{AnsweredLine, AnsweredRest, AnswersLine, TakesTurn, Joins}
-use Rattle.lb_lines.proofs.LinesLemmas.{first_of_stream}
+use Rattle.lb_stream.proofs.LinesLemmas.{first_of_stream}
 
 -- a line that was read, and that has no answer
 pub failed_line : (M : Meaning Kind) (h : History Kind) (old new : Option (List ℕ)) (line : List ℕ) (w : WorldValue Kind) (P : List ℕ → Type 0) (e : ScriptError)
@@ -66,7 +66,7 @@ answers_told M h line w P Q f (Err Read) is = is
 answers_told M h line w P Q f (Err OutOfMemory) is = f [] is
 
 turn_on : (M : Meaning Kind) (h : History Kind) (w : WorldValue Kind) (P Q : List ℕ → Type 0) → ((text : List ℕ) → P text → Q text)
-    → (t : Turn) (stream rest : List ℕ) → TakesTurn M h w P t stream rest → TakesTurn M h w Q t stream rest
+    → (t : LineTurn) (stream rest : List ℕ) → TakesTurn M h w P t stream rest → TakesTurn M h w Q t stream rest
 turn_on M h w P Q f Answered stream rest is =
     record { line = is.line; is_line = is.is_line; is = is.is; answered = line_told M h is.line w P Q f is.answered }
 turn_on M h w P Q f LastAnswered stream rest is =
@@ -76,7 +76,7 @@ turn_on M h w P Q f (Failed e) stream rest is = (is.0, f [] is.1)
 turn_on M h w P Q f WriteFailed stream rest is = tt
 
 pub turn_told : (M : Meaning Kind) (h : History Kind) (w : WorldValue Kind) (P Q : List ℕ → Type 0) → ((text : List ℕ) → P text → Q text)
-    → (t : Turn) (old new : Option (List ℕ)) → OnBytes old new (TakesTurn M h w P t) → OnBytes old new (TakesTurn M h w Q t)
+    → (t : LineTurn) (old new : Option (List ℕ)) → OnBytes old new (TakesTurn M h w P t) → OnBytes old new (TakesTurn M h w Q t)
 turn_told M h w P Q f t None new is = tt
 turn_told M h w P Q f t (Some s) None is = absurd is
 turn_told M h w P Q f t (Some s) (Some rest) is = turn_on M h w P Q f t s rest is

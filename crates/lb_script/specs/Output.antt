@@ -3,17 +3,17 @@
 use Rattle.std.specs.Prelude.{◌≡◌, ◌≢◌, ◌⊎◌, ℕ, ◌+◌, ◌<◌, ◌≤◌, Bool, true, false, List}
 use Rattle.std.specs.Prelude.{[], ◌∷◌, ◌++◌, codes, length, Option, Some, None}
 use Rattle.std.specs.Io.KnownBytes.{Appends}
-use Rattle.lb_history.specs.Answers.{Answers}
-use Rattle.lb_history.specs.History.{History}
-use Rattle.lb_history.specs.Meanings.{Meaning}
-use Rattle.lb_history.specs.Steps.{Step}
-use Rattle.lb_history.specs.declared.answer.Answer.{Answer}
-use Rattle.lb_step_text.specs.declared.error.ScriptError.TheVariants as error
-use Rattle.lb_kinds.specs.declared.kinds.Kind.{Kind}
-use Rattle.lb_lines.specs.Lines.{lines_of, whole_lines}
-use Rattle.lb_step_text.specs.StepLines.{step_of}
-use Rattle.lb_counted.specs.Stream.{AppendsFront}
-use Rattle.lb_step_text.specs.Texts.{answer_text, error_text}
+use Rattle.lb_world.specs.Answers.{Answers}
+use Rattle.lb_world.specs.History.{History}
+use Rattle.lb_world.specs.Meanings.{Meaning}
+use Rattle.lb_world.specs.Steps.{Step}
+use Rattle.lb_world.specs.declared.answer.Answer.{Answer}
+use Rattle.lb_script_text.specs.declared.error.ScriptError.TheVariants as error
+use Rattle.lb_script_text.specs.declared.kinds.Kind.{Kind}
+use Rattle.lb_stream.specs.Lines.{lines_of, whole_lines}
+use Rattle.lb_script_text.specs.StepLines.{step_of}
+use Rattle.lb_stream.specs.Stream.{AppendsFront}
+use Rattle.lb_script_text.specs.Texts.{answer_text, error_text}
 
 -- a line is there, or its number is past the largest
 abbrev pub HasLine : ℕ → List (List ℕ) → Type 0

@@ -1,21 +1,21 @@
 -- What a script's run does for one line.
 use Rattle.std.specs.Prelude.{◌≡◌, ◌≢◌, ℕ, ◌<◌, ◌≤◌, List, [], ◌∷◌, ◌++◌, codes, length, Option, Some, None, Result, Ok, Err, ⊤}
 use Rattle.std.specs.Io.KnownBytes.{Appends}
-use Rattle.lb_history.specs.Answers.{Answers}
-use Rattle.lb_history.specs.History.{History}
-use Rattle.lb_history.specs.Meanings.{Meaning}
-use Rattle.lb_history.specs.Steps.{Step}
-use Rattle.lb_history.specs.declared.answer.Answer.{Answer}
+use Rattle.lb_world.specs.Answers.{Answers}
+use Rattle.lb_world.specs.History.{History}
+use Rattle.lb_world.specs.Meanings.{Meaning}
+use Rattle.lb_world.specs.Steps.{Step}
+use Rattle.lb_world.specs.declared.answer.Answer.{Answer}
 use Rattle.lb_world.specs.Stands.{Stands}
 use Rattle.lb_world.specs.Views.{WorldValue}
-use Rattle.lb_step_text.specs.declared.error.ScriptError.{ScriptError}
-use Rattle.lb_step_text.specs.declared.error.ScriptError.TheVariants.{BadLine, LineTooLong, Read, OutOfMemory}
-use Rattle.lb_script.specs.declared.session.Turn.{Turn}
-use Rattle.lb_script.specs.declared.session.Turn.TheVariants.{Answered, LastAnswered, Ended, Failed, WriteFailed}
-use Rattle.lb_kinds.specs.declared.kinds.Kind.{Kind}
-use Rattle.lb_lines.specs.Lines.{first_line, HasNoFeed, IsLine}
-use Rattle.lb_step_text.specs.StepLines.{step_of}
-use Rattle.lb_step_text.specs.Texts.{answer_text}
+use Rattle.lb_script_text.specs.declared.error.ScriptError.{ScriptError}
+use Rattle.lb_script_text.specs.declared.error.ScriptError.TheVariants.{BadLine, LineTooLong, Read, OutOfMemory}
+use Rattle.lb_script.specs.declared.session.LineTurn.{LineTurn}
+use Rattle.lb_script.specs.declared.session.LineTurn.TheVariants.{Answered, LastAnswered, Ended, Failed, WriteFailed}
+use Rattle.lb_script_text.specs.declared.kinds.Kind.{Kind}
+use Rattle.lb_stream.specs.Lines.{first_line, HasNoFeed, IsLine}
+use Rattle.lb_script_text.specs.StepLines.{step_of}
+use Rattle.lb_script_text.specs.Texts.{answer_text}
 
 -- a text joined what waited to be written: the front of both went to the writer, and the rest waits now
 abbrev pub Joins : (old new : Option (List ℕ)) (before after text : List ℕ) → Type 0
@@ -61,7 +61,7 @@ module _ (M : Meaning Kind) where
     pub answered : AnsweredLine h stream w P
 
   -- what a turn does, by what came of it
-  abbrev pub TakesTurn : History Kind → WorldValue Kind → (List ℕ → Type 0) → Turn → List ℕ → List ℕ → Type 0
+  abbrev pub TakesTurn : History Kind → WorldValue Kind → (List ℕ → Type 0) → LineTurn → List ℕ → List ℕ → Type 0
   TakesTurn h w P Answered stream rest = AnsweredFirst h w P stream rest
   TakesTurn h w P LastAnswered stream rest = AnsweredRest h w P stream
   TakesTurn h w P Ended stream rest = (stream ≡ []) × P []

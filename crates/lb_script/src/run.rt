@@ -2,18 +2,18 @@
 //! The text is that of a world's run, whatever reader and writer stand at the ends.
 ghost use Rattle.std.specs.Prelude.{◌≡◌, ℕ, ◌++◌, false, true, codes, OnOk, OnErr, IfSome, is_none};
 ghost use Rattle.std.specs.Io.KnownBytes.{Appends};
-ghost use Rattle.lb_history.specs.Meanings.{meaning_of};
-ghost use Rattle.lb_counted.specs.Counted.{inner_of, has_failed, is_flushed};
-ghost use Rattle.lb_counted.specs.Stream.{AppendsFront};
+ghost use Rattle.lb_world.specs.Meanings.{meaning_of};
+ghost use Rattle.lb_stream.specs.Counted.{inner_of, has_failed, is_flushed};
+ghost use Rattle.lb_stream.specs.Stream.{AppendsFront};
 ghost use Rattle.lb_script.specs.Output.{Wrote, WroteFront};
-ghost use Rattle.lb_step_text.specs.Texts.{error_text};
+ghost use Rattle.lb_script_text.specs.Texts.{error_text};
 
-use crate::session::{Session, Turn};
+use crate::session::{LineTurn, Session};
 use itoa::Buffer;
-use lb_counted::counted::Counted;
-use lb_kinds::kinds::{Chosen, Kind};
-use lb_select::walk::BackendSelection;
-use lb_step_text::error::ScriptError;
+use lb_script_text::error::ScriptError;
+use lb_script_text::kinds::{Chosen, Kind};
+use lb_select_base::walk::BackendSelection;
+use lb_stream::counted::Counted;
 use std::alloc::Global;
 use std::io;
 use std::io::{Read, Write};
@@ -96,20 +96,20 @@ where
     let mut session = Session::<S>::new(alloc);
     for number in 1..u64::MAX {
         match session.take_turn(alloc, reader, writer) {
-            Turn::Answered => {}
-            Turn::LastAnswered => {
+            LineTurn::Answered => {}
+            LineTurn::LastAnswered => {
                 writer.put(&session.waiting).ok()?;
                 return Some(0);
             }
-            Turn::Ended => {
+            LineTurn::Ended => {
                 writer.put(&session.waiting).ok()?;
                 return Some(0);
             }
-            Turn::Failed(error) => {
+            LineTurn::Failed(error) => {
                 put_last(writer, &session.waiting, number, error).ok()?;
                 return Some(1);
             }
-            Turn::WriteFailed => return None,
+            LineTurn::WriteFailed => return None,
         }
     }
     // A line past the last number counts as one that memory was refused at.

@@ -2,25 +2,25 @@
 //! What a run keeps between its lines stands here; the buffers are used again for each line.
 ghost use Rattle.std.specs.Prelude.{◌≡◌, ◌≢◌, ℕ, List, [], ◌∷◌, ◌++◌, Err, Some, true, OnOk, OnErr};
 ghost use Rattle.std.specs.Io.KnownBytes.{Appends, Keeps, prepend_known};
-ghost use Rattle.lb_history.specs.History.{History};
-ghost use Rattle.lb_history.specs.Meanings.{meaning_of};
+ghost use Rattle.lb_world.specs.History.{History};
+ghost use Rattle.lb_world.specs.Meanings.{meaning_of};
 ghost use Rattle.lb_world.specs.Stands.{Stands};
-ghost use Rattle.lb_step_text.specs.LineSteps.{line_step_seen, selection_seen};
-ghost use Rattle.lb_step_text.specs.StepLines.{step_of};
-ghost use Rattle.lb_counted.specs.Counted.{inner_of, has_failed};
-ghost use Rattle.lb_counted.specs.Stream.{OnBytes, AppendsFront};
+ghost use Rattle.lb_script_text.specs.LineSteps.{line_step_seen, selection_seen};
+ghost use Rattle.lb_script_text.specs.StepLines.{step_of};
+ghost use Rattle.lb_stream.specs.Counted.{inner_of, has_failed};
+ghost use Rattle.lb_stream.specs.Stream.{OnBytes, AppendsFront};
 ghost use Rattle.lb_script.specs.Session.{AnswersLine, TakesTurn, Joins};
 
-use lb_counted::counted::Counted;
-use lb_history::answer::Answer;
-use lb_kinds::kinds::Kind;
-use lb_lines::lines::{LineRead, line_ahead, read_line};
-use lb_lines::read_ahead::ReadAhead;
-use lb_select::walk::BackendSelection;
-use lb_step_text::error::ScriptError;
-use lb_step_text::parse::{LineStep, parse};
-use lb_step_text::selection::{Selection, plain_selection};
-use lb_step_text::texts::{Scratch, push_line};
+use lb_script_text::error::ScriptError;
+use lb_script_text::kinds::Kind;
+use lb_script_text::parse::{LineStep, parse};
+use lb_script_text::selection::{SelectionLine, plain_selection};
+use lb_script_text::texts::{Scratch, push_line};
+use lb_select_base::walk::BackendSelection;
+use lb_stream::counted::Counted;
+use lb_stream::lines::{LineRead, line_ahead, read_line};
+use lb_stream::read_ahead::ReadAhead;
+use lb_world::answer::Answer;
 use lb_world::world::World;
 use std::alloc::Global;
 use std::io;
@@ -31,7 +31,7 @@ const MOST_WAITING: usize = 32768;
 
 /// What came of a turn, which reads a line and answers it.
 #[derive(Clone, Copy, Debug, PartialEq, Eq)]
-pub(crate) enum Turn {
+pub(crate) enum LineTurn {
     /// A line was answered: the text of the answer and a line feed wait to be written.
     Answered,
     /// The same, and the stream's end ended that line: nothing comes after it.
@@ -78,20 +78,20 @@ impl<S: BackendSelection<Config = Kind>> Session<S> {
         alloc: Global,
         reader: &mut Counted<R>,
         writer: &mut Counted<W>,
-    ) -> Turn
+    ) -> LineTurn
         ensures turn { let M = meaning_of S.BackendSelection in
             (h : History Kind) → Stands M self.old.world h
             → OnBytes (prepend_known self.old.ahead (R.remaining (inner_of reader.old)))
             (prepend_known self.new.ahead (R.remaining (inner_of reader.new)))
             (TakesTurn M h self.new.world (Joins (W.contents (inner_of writer.old)) (W.contents (inner_of writer.new))
             self.old.waiting.items self.new.waiting.items) result) }
-        ensures none { result ≡ Turn.Failed ScriptError.Read → self.new.ahead ≡ [] }
-        ensures part { result ≡ Turn.WriteFailed
+        ensures none { result ≡ LineTurn.Failed ScriptError.Read → self.new.ahead ≡ [] }
+        ensures part { result ≡ LineTurn.WriteFailed
             → AppendsFront (W.contents (inner_of writer.old)) (W.contents (inner_of writer.new)) self.old.waiting.items }
-        ensures reader_failed { result ≡ Turn.Failed ScriptError.Read → has_failed reader.new ≡ true }
-        ensures reader_kept { result ≢ Turn.Failed ScriptError.Read → has_failed reader.new ≡ has_failed reader.old }
-        ensures writer_failed { result ≡ Turn.WriteFailed → has_failed writer.new ≡ true }
-        ensures writer_kept { result ≢ Turn.WriteFailed → has_failed writer.new ≡ has_failed writer.old }
+        ensures reader_failed { result ≡ LineTurn.Failed ScriptError.Read → has_failed reader.new ≡ true }
+        ensures reader_kept { result ≢ LineTurn.Failed ScriptError.Read → has_failed reader.new ≡ has_failed reader.old }
+        ensures writer_failed { result ≡ LineTurn.WriteFailed → has_failed writer.new ≡ true }
+        ensures writer_kept { result ≢ LineTurn.WriteFailed → has_failed writer.new ≡ has_failed writer.old }
     {
         if self.waiting.len() < MOST_WAITING {
             if let Some(line) = line_ahead(&self.ahead) {
@@ -105,14 +105,14 @@ impl<S: BackendSelection<Config = Kind>> Session<S> {
                 );
                 self.ahead.consume(count);
                 return match answered {
-                    Ok(()) => Turn::Answered,
-                    Err(error) => Turn::Failed(error),
+                    Ok(()) => LineTurn::Answered,
+                    Err(error) => LineTurn::Failed(error),
                 };
             }
         }
         match self.write_waiting(writer) {
             Ok(()) => self.take_read_turn(alloc, reader, writer),
-            Err(_) => Turn::WriteFailed,
+            Err(_) => LineTurn::WriteFailed,
         }
     }
 
@@ -138,34 +138,34 @@ impl<S: BackendSelection<Config = Kind>> Session<S> {
         alloc: Global,
         reader: &mut Counted<R>,
         writer: &mut Counted<W>,
-    ) -> Turn
+    ) -> LineTurn
         requires none { self.old.waiting.items ≡ [] }
         ensures turn { let M = meaning_of S.BackendSelection in
             (h : History Kind) → Stands M self.old.world h
             → OnBytes (prepend_known self.old.ahead (R.remaining (inner_of reader.old)))
             (prepend_known self.new.ahead (R.remaining (inner_of reader.new)))
             (TakesTurn M h self.new.world (λ text. self.new.waiting.items ≡ text) result) }
-        ensures none { result ≡ Turn.Failed ScriptError.Read → self.new.ahead ≡ [] }
+        ensures none { result ≡ LineTurn.Failed ScriptError.Read → self.new.ahead ≡ [] }
         ensures written { Keeps (W.contents (inner_of writer.old)) (W.contents (inner_of writer.new)) }
-        ensures reader_failed { result ≡ Turn.Failed ScriptError.Read → has_failed reader.new ≡ true }
-        ensures reader_kept { result ≢ Turn.Failed ScriptError.Read → has_failed reader.new ≡ has_failed reader.old }
-        ensures writer_failed { result ≡ Turn.WriteFailed → has_failed writer.new ≡ true }
-        ensures writer_kept { result ≢ Turn.WriteFailed → has_failed writer.new ≡ has_failed writer.old }
+        ensures reader_failed { result ≡ LineTurn.Failed ScriptError.Read → has_failed reader.new ≡ true }
+        ensures reader_kept { result ≢ LineTurn.Failed ScriptError.Read → has_failed reader.new ≡ has_failed reader.old }
+        ensures writer_failed { result ≡ LineTurn.WriteFailed → has_failed writer.new ≡ true }
+        ensures writer_kept { result ≢ LineTurn.WriteFailed → has_failed writer.new ≡ has_failed writer.old }
     {
         match read_line(reader, writer, &mut self.ahead, &mut self.line) {
             LineRead::Line => match self.answer_read(alloc) {
-                Ok(()) => Turn::Answered,
-                Err(error) => Turn::Failed(error),
+                Ok(()) => LineTurn::Answered,
+                Err(error) => LineTurn::Failed(error),
             },
             LineRead::LastLine => match self.answer_read(alloc) {
-                Ok(()) => Turn::LastAnswered,
-                Err(error) => Turn::Failed(error),
+                Ok(()) => LineTurn::LastAnswered,
+                Err(error) => LineTurn::Failed(error),
             },
-            LineRead::End => Turn::Ended,
-            LineRead::TooLong => Turn::Failed(ScriptError::LineTooLong),
-            LineRead::ReadFailed => Turn::Failed(ScriptError::Read),
-            LineRead::WriteFailed => Turn::WriteFailed,
-            LineRead::NoMemory => Turn::Failed(ScriptError::OutOfMemory),
+            LineRead::End => LineTurn::Ended,
+            LineRead::TooLong => LineTurn::Failed(ScriptError::LineTooLong),
+            LineRead::ReadFailed => LineTurn::Failed(ScriptError::Read),
+            LineRead::WriteFailed => LineTurn::WriteFailed,
+            LineRead::NoMemory => LineTurn::Failed(ScriptError::OutOfMemory),
         }
     }
 
@@ -210,7 +210,7 @@ fn answer<S: BackendSelection<Config = Kind>>(
 fn answer_selection<S: BackendSelection<Config = Kind>>(
     alloc: Global,
     world: &mut World<S>,
-    selection: Selection<'_>,
+    selection: SelectionLine<'_>,
     text: &mut Vec<u8>,
     scratch: &mut Scratch,
 ) -> Result<(), ScriptError>

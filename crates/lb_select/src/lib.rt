@@ -1,16 +1,23 @@
-//! Selection of backends: what a backend is, words that a walk draws, selectors that walk over a set, and the unique walk.
-//! A walk's meaning is one relation between the draws that were made and the first candidates that came.
+//! Selectors: by weight, by load, and consistent by a Ketama ring, with the laws of their shares and of removal.
+//! It passes on `lb_select_base`: backends, words, the traits of selection, the unique walk, and `select`.
 #![tactic(auto)]
 
-mod address;
-pub mod algorithms;
-pub mod backend;
-pub mod causes;
-pub mod laws;
-pub mod loads;
-pub mod refusal;
-pub mod seen;
-pub mod select;
-pub mod unique;
-pub mod walk;
-pub mod words;
+mod chain;
+pub mod crc;
+mod fill;
+mod index;
+pub mod ketama;
+pub mod least;
+mod points;
+mod reading;
+pub mod ring;
+pub mod ring_laws;
+pub mod selection;
+mod spread;
+mod sums;
+pub mod weight_laws;
+pub mod weighted;
+
+pub use lb_select_base::{
+    algorithms, backend, causes, laws, loads, moments, refusal, seen, select, unique, walk, words,
+};

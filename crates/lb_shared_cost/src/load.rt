@@ -1,17 +1,17 @@
 //! What the threads of a measurement do: one updates, the others select and count.
 
-use lb_balance::moments::MomentSource;
-use lb_health::discovery::{Discovered, ServiceDiscovery};
-use lb_health::view::Settings;
-use lb_locked::clock::RuntimeClock;
-use lb_locked::keyed::NoRule;
-use lb_probe::error::CheckError;
-use lb_probe::health_check::HealthCheck;
-use lb_registry::keys::Rule;
-use lb_select::backend::{Backend, Ext, InetAddr, SocketAddr};
-use lb_select::refusal::Refusal;
-use lb_select::walk::BackendSelection;
-use lb_shared::load_balancer::LoadBalancer;
+use lb_balancer::load_balancer::LoadBalancer;
+use lb_health_check::error::CheckError;
+use lb_health_check::health_check::HealthCheck;
+use lb_health_registry::keys::Rule;
+use lb_health_view::discovery::{Discovered, ServiceDiscovery};
+use lb_health_view::view::Settings;
+use lb_select_base::backend::{Backend, Ext, InetAddr, SocketAddr};
+use lb_select_base::moments::MomentSource;
+use lb_select_base::refusal::Refusal;
+use lb_select_base::walk::BackendSelection;
+use lb_threads_registry::clock::RuntimeClock;
+use lb_threads_registry::keyed::NoRule;
 use std::alloc::Global;
 use std::collections::BTreeSet;
 use std::sync::Wait;

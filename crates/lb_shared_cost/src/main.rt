@@ -6,12 +6,12 @@
 mod load;
 
 use anyhow::Error;
-use lb_health::discovery::DiscoverySource;
-use lb_select::refusal::Refusal;
-use lb_select::walk::BackendSelection;
-use lb_shared::backends::Backends;
-use lb_shared::load_balancer::LoadBalancer;
-use lb_weighted::selection::{FNVHash, RoundRobin};
+use lb_balancer::backends::Backends;
+use lb_balancer::load_balancer::LoadBalancer;
+use lb_health_view::discovery::DiscoverySource;
+use lb_select::selection::{FNVHash, RoundRobin};
+use lb_select_base::refusal::Refusal;
+use lb_select_base::walk::BackendSelection;
 use load::{Halves, Selections, Shared, spread, updated};
 use std::alloc::Global;
 use std::env;

@@ -3,11 +3,10 @@
 //! permit came back, the workers ended, and no selector lived on.
 #![tactic(auto)]
 
-use lb_locked::clock::RuntimeClock;
-use lb_locked::keyed::keyed_by_identity;
-use lb_locked::registry::HealthRegistry;
-use lb_select::refusal::Refusal;
-use lb_workers_tests::crowd::{Crowd, Group, Site, crowd_in, ends, is_free};
+use lb_select_base::refusal::Refusal;
+use lb_thread_tests::crowd::{Crowd, Group, Site, crowd_in, ends, is_free};
+use lb_threads_registry::clock::RuntimeClock;
+use lb_threads_registry::registry::HealthRegistry;
 use log::Log;
 use std::alloc::Global;
 use std::process::ExitCode;
@@ -102,7 +101,7 @@ fn round<W: Log + Threads + Wait + Clock + Copy + Send + Sync + Drop + 'static>(
     alloc: Global,
     is_cancelled: bool,
 ) -> Result<Ending, Refusal> {
-    let registry = Arc::new(alloc, HealthRegistry::new(alloc, keyed_by_identity(alloc))?)?;
+    let registry = Arc::new(alloc, HealthRegistry::new(alloc)?)?;
     let crowd = Crowd::new(*rt, alloc, &registry, false)?;
     let told = used(rt, alloc, &crowd, is_cancelled);
     let Crowd {

@@ -2,7 +2,7 @@
 use Rattle.std.proofs.Common.{◌≡◌, ℕ, ◌+◌, ◌<◌, ◌≤◌, suc, zero, true, List, [], ◌∷◌, length, drop, refl, ap, arith}
 use Rattle.std.proofs.lemmas.List.{drop_all}
 use Rattle.std.specs.List.{slice_get}
-use Rattle.lb_select.specs.Backends.{Member}
+use Rattle.lb_select_base.specs.Backends.{Member}
 use Rattle.lb_tests.specs.ListWalks.{IsListWalk, IsListStep}
 
 -- nothing is left of a list past its end

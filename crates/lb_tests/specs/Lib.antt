@@ -1,1 +1,2 @@
+pub mod Expanded
 pub mod ListWalks

@@ -1,8 +1,8 @@
 -- A walk over a list that is given: it draws nothing, gives the list's members in order, and ends after the last.
 use Rattle.std.specs.Prelude.{◌≡◌, ℕ, Bool, true, false, List, [], ◌∷◌, ◌++◌, drop, Option, MatchOption, refl}
 use Rattle.std.proofs.Common.{sym, ◌∙◌}
-use Rattle.lb_select.specs.Backends.{Member}
-use Rattle.lb_select.specs.Draws.{Draw}
+use Rattle.lb_select_base.specs.Backends.{Member}
+use Rattle.lb_select_base.specs.Draws.{Draw}
 
 -- nothing is drawn, the candidates are the list's first members, and the end comes only after the last
 pub record IsListWalk (ms : List Member) (draws : List Draw) (cs : List Member) (ended : Bool) : Type 0 where

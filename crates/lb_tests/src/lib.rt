@@ -3,16 +3,20 @@
 #![tactic(auto)]
 
 #[cfg(test)]
-mod destruction;
+mod balance;
 #[cfg(test)]
-mod fixtures;
+mod boards;
 #[cfg(test)]
-mod list_iterator;
+mod groups;
 #[cfg(test)]
-mod noting;
+mod health;
 #[cfg(test)]
-mod ring;
+mod ports;
+#[cfg(test)]
+mod schedules;
 #[cfg(test)]
 mod selection;
 #[cfg(test)]
-mod unique_walk;
+mod told;
+#[cfg(test)]
+mod weights;

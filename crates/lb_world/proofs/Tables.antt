@@ -1,36 +1,36 @@
 -- What a step leaves of a world, table by table; then the steps at a registry, those that make a registry or a gate, and those
 -- of readers. A world stands for each run that tells the same as its history.
-use Rattle.lb_group.specs.GroupCalls.{Enters, enter_refusal}
-use Rattle.lb_group.specs.Values.{ReaderValue}
-use Rattle.lb_history.proofs.Absent.{config-made}
-use Rattle.lb_history.proofs.Causes.{number-left}
-use Rattle.lb_history.proofs.Makings.{entered-there, gate-unmade, get_last, still-there}
-use Rattle.lb_history.proofs.Refusing.{alike-sym}
-use Rattle.lb_history.proofs.Runs.{reading}
-use Rattle.lb_history.proofs.Unrefused.{run-unrefused, told-unrefused}
-use Rattle.lb_history.specs.Answers.{enter_answer, leave_answer}
-use Rattle.lb_history.specs.History.{Made, gate_in, group_in}
-use Rattle.lb_history.specs.Refused.{TellsAlike}
-use Rattle.lb_history.specs.Shared.{started}
-use Rattle.lb_history.specs.declared.step.CellKey.{CellKey}
-use Rattle.lb_registry.specs.Registry.{IsGrowthRefusal, targets_after}
-use Rattle.lb_registry.specs.RegistryEvents.{IsCellKept, Observed, cell_health}
-use Rattle.lb_registry.specs.Verdicts.{agree}
-use Rattle.lb_registry.specs.declared.targets.Target.{Target}
+use Rattle.lb_rebuild_slots.specs.SlotsCalls.{Enters, enter_refusal}
+use Rattle.lb_rebuild_slots.specs.Values.{ReaderValue}
+use Rattle.lb_world.proofs.Absent.{config-made}
+use Rattle.lb_world.proofs.Causes.{number-left}
+use Rattle.lb_world.proofs.Makings.{entered-there, gate-unmade, get_last, still-there}
+use Rattle.lb_world.proofs.Refusing.{alike-sym}
+use Rattle.lb_world.proofs.Runs.{reading}
+use Rattle.lb_world.proofs.Unrefused.{run-unrefused, told-unrefused}
+use Rattle.lb_world.specs.Answers.{enter_answer, leave_answer}
+use Rattle.lb_world.specs.History.{Made, gate_in, group_in}
+use Rattle.lb_world.specs.Refused.{TellsAlike}
+use Rattle.lb_world.specs.Shared.{started}
+use Rattle.lb_world.specs.declared.step.CellKey.{CellKey}
+use Rattle.lb_health_registry.specs.Registry.{IsGrowthRefusal, targets_after}
+use Rattle.lb_health_registry.specs.RegistryEvents.{IsCellKept, Observed, cell_health}
+use Rattle.lb_health_registry.specs.Verdicts.{agree}
+use Rattle.lb_health_registry.specs.declared.targets.Target.{Target}
 use Rattle.lb_world.specs.Calls.{IsCounted}
 use Rattle.lb_world.specs.Stands.{OnSite}
 use Rattle.std.proofs.Common.{◌≢◌, get_or}
 use Rattle.std.proofs.lemmas.Grind.{common_steps}
 use Rattle.std.proofs.lemmas.List.{map-set}
 use Rattle.std.proofs.lemmas.Option.{slice_get-map}
-use Rattle.lb_joined.specs.Stands as stands
-use Rattle.lb_joined.specs.JoinedHistory as joined
-use Rattle.lb_group.specs.GroupHistory as group
+use Rattle.lb_rebuild_group.specs.Stands as stands
+use Rattle.lb_rebuild_group.specs.GroupHistory as group
+use Rattle.lb_rebuild_slots.specs.SlotsHistory as slots
 use Rattle.lb_world.proofs.Words.{◌∙◌, ◌≡◌, ◌&&◌, ◌∷◌, ◌<◌, ◌==◌, ◌≤◌, [], ◌+◌, ◌↔◌, ◌^◌, ◌⊎◌, ◌++◌, after, Answer, answer_after, Answers}
 use Rattle.lb_world.proofs.Words.{ap, ap2, Applied, arith, at_one, at_slot, Before, Bool, cases_eq, cells_given, cond, cond_some, config}
 use Rattle.lb_world.proofs.Words.{configs_of, entered_of, entries, EntryIs, EntryNext, EntryValue, eq-eqb, Err, Event, false}
-use Rattle.lb_world.proofs.Words.{gates, GateValue, get-kept, get-pushed, group-of, group_at, group_events, held_of, OpenReaderValue, History, inl}
-use Rattle.lb_world.proofs.Words.{inr, is_at, is_out, IsOwnReader, IsReady, IsRegistryAfter, IsRun, IsTrue, joined_events, Judges, key_at}
+use Rattle.lb_world.proofs.Words.{gates, GateValue, get-kept, get-pushed, group-of, group_at, slot_events, held_of, OpenReaderValue, History, inl}
+use Rattle.lb_world.proofs.Words.{inr, is_at, is_out, IsOwnReader, IsReady, IsRegistryAfter, IsRun, IsTrue, group_events, Judges, key_at}
 use Rattle.lb_world.proofs.Words.{key_by, key_gives, key_in, key_of, length, length-map, length-set, length_push, List, load_of, lt-ltb}
 use Rattle.lb_world.proofs.Words.{made, made_at, made_of, map, map-append, marks_start_none, Meaning, Member, nat_lt, ne_eqb}
 use Rattle.lb_world.proofs.Words.{None, none-some, not, Ok, Option, option_map, origin, others-stay, past, past_of, permit_after}
@@ -47,8 +47,8 @@ beside g i b off = rw (ne_eqb g i (λ e. off (sym e))) refl
 
 module _ {C : Type 0} where
   -- an entry stays right where what it rests on is as before
-  pub entry-moves : {h k : History C} {g : ℕ} {e : EntryValue C} → made_at g k ≡ Some (made_of e) → joined_events g k ≡ joined_events g h
-      → group_events g k ≡ group_events g h → ((s : ℕ) → work g s k ≡ work g s h) → ((b : Member) → load_of g b k ≡ load_of g b h)
+  pub entry-moves : {h k : History C} {g : ℕ} {e : EntryValue C} → made_at g k ≡ Some (made_of e) → group_events g k ≡ group_events g h
+      → slot_events g k ≡ slot_events g h → ((s : ℕ) → work g s k ≡ work g s h) → ((b : Member) → load_of g b k ≡ load_of g b h)
       → EntryIs h g e → EntryIs k g e
   entry-moves {e = e} m j p w l is =
       record {
@@ -106,7 +106,7 @@ module _ {C : Type 0} {M : Meaning C} {w : WorldValue C} {h : History C} (s : St
       → ((x : ℕ) (z : GateValue) → slice_get zs x ≡ Some z → z.out ≡ is_out x k)
       → ((x : ℕ) (z : GateValue) → slice_get w.gates x ≡ Some z → slice_get zs x ≡ Some z)
       → ((g : ℕ) (m : Made C) → made_at g h ≡ Some m → made_at g k ≡ Some m)
-      → ((g : ℕ) → joined_events g k ≡ joined_events g h) → ((g : ℕ) → group_events g k ≡ group_events g h)
+      → ((g : ℕ) → group_events g k ≡ group_events g h) → ((g : ℕ) → slot_events g k ≡ slot_events g h)
       → ((g i : ℕ) → work g i k ≡ work g i h) → ((g : ℕ) (b : Member) → load_of g b k ≡ load_of g b h)
       → ((g : ℕ) (e : EntryValue C) → slice_get gs g ≡ Some e → (slice_get w.groups g ≡ Some e)
       ⊎ ((length w.groups ≤ g) × EntryIs k g e × OnSite (record w { registries = vs; gates = zs; groups = gs }) e))
@@ -148,7 +148,7 @@ module _ {C : Type 0} {M : Meaning C} {w : WorldValue C} {h : History C} (s : St
   registries-set : (k : History C) (vs : List (RegistryValue WorldRule)) → IsRun M k → length vs ≡ length (registries k)
       → length w.registries ≤ length vs → gates k ≡ gates h → made k ≡ made h → entries k ≡ entries h
       → ((r : ℕ) (v : RegistryValue WorldRule) → slice_get vs r ≡ Some v → IsRegistryAfter key_gives (key_at r k) (registry_events r k) v)
-      → ((g : ℕ) → joined_events g k ≡ joined_events g h) → ((g : ℕ) → group_events g k ≡ group_events g h)
+      → ((g : ℕ) → group_events g k ≡ group_events g h) → ((g : ℕ) → slot_events g k ≡ slot_events g h)
       → ((g i : ℕ) → work g i k ≡ work g i h) → ((g : ℕ) (b : Member) → load_of g b k ≡ load_of g b h)
       → ((x : ℕ) → is_out x k ≡ is_out x h) → Stands M (record w { registries = vs }) k
   registries-set k vs run rs more zs ms es kept joins groups works loads outs =
@@ -315,7 +315,7 @@ module _ {C : Type 0} {M : Meaning C} {w : WorldValue C} {h : History C} (s : St
   -- one registry is another after a history that tells the same of all else
   pub registry-set : (k : History C) (r : ℕ) (u v : RegistryValue WorldRule) → IsRun M k → registries k ≡ registries h → gates k ≡ gates h
       → made k ≡ made h → entries k ≡ entries h → ((i : ℕ) → (i ≡ r → ⊥) → registry_events i k ≡ registry_events i h)
-      → ((g : ℕ) → joined_events g k ≡ joined_events g h) → ((g : ℕ) → group_events g k ≡ group_events g h)
+      → ((g : ℕ) → group_events g k ≡ group_events g h) → ((g : ℕ) → slot_events g k ≡ slot_events g h)
       → ((g i : ℕ) → work g i k ≡ work g i h) → ((g : ℕ) (b : Member) → load_of g b k ≡ load_of g b h)
       → ((x : ℕ) → is_out x k ≡ is_out x h) → slice_get w.registries r ≡ Some u
       → IsRegistryAfter key_gives (key_at r h) (registry_events r k) v → Stands M (record w { registries = slice_set w.registries r v }) k
@@ -451,19 +451,19 @@ module _ {C : Type 0} {M : Meaning C} {w : WorldValue C} {h : History C} (s : St
 
   module _ (g : ℕ) (e : EntryValue C) (there_ : slice_get w.groups g ≡ Some e) (slot : ℕ) (r : Option ℕ)
       (told : stands.After e.core (λ made es. r ≡ at_slot made slot
-      (group.readers (served (past_of slot (joined.group_events es))) (past_of slot (joined.group_events es)))))
+      (slots.readers (served (past_of slot (group.slot_events es))) (past_of slot (group.slot_events es)))))
     where
       to : r ≡ at_slot (site e.core) slot
-          (group.readers (served (past_of slot (joined.group_events (joined_events g h))))
-          (past_of slot (joined.group_events (joined_events g h))))
-      to = told (site e.core) (joined_events g h) (s.each g e there_).core_is
+          (slots.readers (served (past_of slot (group.slot_events (group_events g h))))
+          (past_of slot (group.slot_events (group_events g h))))
+      to = told (site e.core) (group_events g h) (s.each g e there_).core_is
 
       -- what is answered, by the number of readers that was read
       enter-told : answer_after M h (Step.enter g slot) ≡ at_one r (λ n. enter_answer n (length w.readers) (served (past g slot h)))
       enter-told =
           ap (λ m. at_one (config g slot h)
-          (λ c. enter_answer (group.readers (served (past g slot h)) (past g slot h)) m (served (past g slot h)))) entries-count
-          ∙ reading-told (s.each g e there_) slot (λ p. group.readers (served p) p)
+          (λ c. enter_answer (slots.readers (served (past g slot h)) (past g slot h)) m (served (past g slot h)))) entries-count
+          ∙ reading-told (s.each g e there_) slot (λ p. slots.readers (served p) p)
           (λ n. enter_answer n (length w.readers) (served (past g slot h))) r to
 
       -- a refusal of a world whose group was lent and stays as it was
@@ -496,8 +496,8 @@ module _ {C : Type 0} {M : Meaning C} {w : WorldValue C} {h : History C} (s : St
         -- a reader enters, with the group and the list of readers that the calls left
         pub entered-now : (t : ℕ) (d : EntryValue C) (rs : List (Option (OpenReaderValue C))) (q : ReaderValue C) → d ≡ with_core d.core e
             → rs ≡ w.readers ++ Some (record { group = g; reader = q }) ∷ [] → t ≡ length w.readers
-            → Moves e (joined.At slot group.Entered ∷ joined_events g h) d.core
-            → Enters (site e.core) (joined.group_events (joined_events g h)) slot (Ok q) → IsOwnReader d.core q
+            → Moves e (group.At slot slots.Entered ∷ group_events g h) d.core
+            → Enters (site e.core) (group.slot_events (group_events g h)) slot (Ok q) → IsOwnReader d.core q
             → Stands M (record w { groups = slice_set w.groups g d; readers = rs }) ((Step.enter g slot, Answer.Reader t q.generation) ∷ h)
         entered-now t d rs q rest grown number moves answers own =
             let st : Step C = Step.enter g slot in
@@ -527,12 +527,12 @@ module _ {C : Type 0} {M : Meaning C} {w : WorldValue C} {h : History C} (s : St
 
         -- the core refused it for memory
         pub refused-now : (f : Refusal) (d : EntryValue C) (rs : List (Option (OpenReaderValue C))) → d ≡ with_core d.core e → rs ≡ w.readers
-            → Moves e (joined_events g h) d.core → Enters (site e.core) (joined.group_events (joined_events g h)) slot (Err f)
+            → Moves e (group_events g h) d.core → Enters (site e.core) (group.slot_events (group_events g h)) slot (Err f)
             → Stands M (record w { groups = slice_set w.groups g d; readers = rs }) ((Step.enter g slot, Answer.Refused f) ∷ h)
         refused-now f d rs rest kept moves refused =
             let st : Step C = Step.enter g slot in
             let within = cond_some (nat_lt slot (length (configs_of e.core.group))) _ x (sym to ∙ some) in
-            let none : enter_refusal (site e.core) slot (joined.group_events (joined_events g h)) ≡ None =
+            let none : enter_refusal (site e.core) slot (group.slot_events (group_events g h)) ≡ None =
             rw (within.0, ne_eqb _ 18446744073709551615 (λ is. left (sym within.1 ∙ is))) refl in
             let memory : f ≡ Refusal.OutOfMemory = elim refused [ inl is ↦ absurd (none-some f (sym none ∙ is)) | inr p ↦ p.1 ] in
             let right : Answers M h st (Answer.Refused f) = rw memory memory-right in
@@ -566,7 +566,7 @@ module _ {C : Type 0} {M : Meaning C} {w : WorldValue C} {h : History C} (s : St
       let config-is : slice_get (configs_of e.core.group) r.reader.slot ≡ Some c.0 = sym (config-here is r.reader.slot) ∙ c.1 in
       record {
         made = site e.core;
-        events = joined_events r.group h;
+        events = group_events r.group h;
         stands = is.core_is;
         read =
             ap2 ◌&&◌ (lt-ltb r.reader.slot (length (configs_of e.core.group))
@@ -577,7 +577,7 @@ module _ {C : Type 0} {M : Meaning C} {w : WorldValue C} {h : History C} (s : St
   -- a reader leaves
   pub left-now : (t : ℕ) (r : OpenReaderValue C) (e d : EntryValue C) → slice_get w.readers t ≡ Some (Some r)
       → slice_get w.groups r.group ≡ Some e → d ≡ with_core d.core e
-      → Moves e (joined.At r.reader.slot (group.Left r.reader.generation) ∷ joined_events r.group h) d.core
+      → Moves e (group.At r.reader.slot (slots.Left r.reader.generation) ∷ group_events r.group h) d.core
       → Stands M (record w { groups = slice_set w.groups r.group d; readers = slice_set w.readers t None })
       ((Step.leave t, Answer.Left r.reader.generation) ∷ h)
   left-now t r e d there_ in_ rest moves =

@@ -1,48 +1,48 @@
 -- The names that the proofs of this crate share, passed on from one place; and lemmas on the elements of a list after one of them
 -- was written, and after one was added at the end.
-pub use Rattle.lb_group.proofs.Pasts.{members-past, newest-past, past-other, past-same}
-pub use Rattle.lb_group.specs.GroupHistory.{flight_after}
-pub use Rattle.lb_group.specs.GroupCalls.{at_slot}
-pub use Rattle.lb_group.specs.GroupHistory.{At, granted, granted_members, members_of, newest, past_of, served}
-pub use Rattle.lb_group.specs.SlotCalls.{ask_told}
-pub use Rattle.lb_group.specs.Values.{Task, configs_of}
-pub use Rattle.lb_health.specs.Joined.{IsReady, settings_of}
-pub use Rattle.lb_history.proofs.Counting.{there-at}
-pub use Rattle.lb_history.proofs.Extras.{get-kept}
-pub use Rattle.lb_history.proofs.Promised.{promised}
-pub use Rattle.lb_history.proofs.Refusing.{ap2, refused-alike}
-pub use Rattle.lb_history.proofs.Runs.{slots}
-pub use Rattle.lb_history.proofs.Sharing.{shares}
-pub use Rattle.lb_history.proofs.Steps.{others-stay}
-pub use Rattle.lb_history.proofs.Together.{get-pushed, group-of}
-pub use Rattle.lb_history.specs.Answers.{Answers, IsRun, Judges, answer_after, at_one, has_refused, no_number, no_such, refuse}
-pub use Rattle.lb_history.specs.Answers.{unless_refused, where_, without_memory}
-pub use Rattle.lb_history.specs.History.{History, Made, RegistryMade, Work, after, config, config_in, entries, gates, group_at}
-pub use Rattle.lb_history.specs.History.{group_events, happened, is_at, is_out, load_of, made, made_at, members_in, past, registries}
-pub use Rattle.lb_history.specs.History.{registry_of, work, worked, works_at}
-pub use Rattle.lb_history.specs.Joined.{joined_after, joined_events}
-pub use Rattle.lb_history.specs.Meanings.{Meaning, meaning_of}
-pub use Rattle.lb_history.specs.Refused.{unrefused}
-pub use Rattle.lb_history.specs.Shared.{changed, events_in, key_at, key_by, key_in, key_of, marked, registry_at, registry_events}
-pub use Rattle.lb_history.specs.Shared.{settings_in, view_events, view_in}
-pub use Rattle.lb_history.specs.Steps.{Step}
-pub use Rattle.lb_history.specs.declared.answer.Answer.{Answer}
-pub use Rattle.lb_history.specs.declared.step.Listing.{Listing}
-pub use Rattle.lb_joined.specs.Stands.{JoinedValue, views_of}
-pub use Rattle.lb_rebuild.specs.Gate.{GateId, GateValue, gate}
-pub use Rattle.lb_rebuild.specs.Gate.{GroupId}
-pub use Rattle.lb_registry.proofs.FreshLemmas.{marks_start_none}
-pub use Rattle.lb_registry.proofs.StateLemmas.{set_found}
-pub use Rattle.lb_registry.specs.Keys.{by_address, by_identity}
-pub use Rattle.lb_registry.specs.Registry.{IsRegistryAfter, RegistryValue}
-pub use Rattle.lb_registry.specs.RegistryEvents.{Applied, Event, cells_given, views_after}
-pub use Rattle.lb_registry.specs.Targets.{live}
-pub use Rattle.lb_select.specs.AddressText.{bare_member}
-pub use Rattle.lb_select.specs.Backends.{Member, member_cmp, same_member}
-pub use Rattle.lb_select.specs.Loads.{load_in}
-pub use Rattle.lb_select.specs.Memberships.{same_members, set_of}
-pub use Rattle.lb_select.specs.Refusals.{earlier, least}
-pub use Rattle.lb_select.specs.declared.refusal.Refusal.{Refusal}
+pub use Rattle.lb_rebuild_slots.proofs.Pasts.{members-past, newest-past, past-other, past-same}
+pub use Rattle.lb_rebuild_slots.specs.SlotsHistory.{flight_after}
+pub use Rattle.lb_rebuild_slots.specs.SlotsCalls.{at_slot}
+pub use Rattle.lb_rebuild_slots.specs.SlotsHistory.{At, granted, granted_members, members_of, newest, past_of, served}
+pub use Rattle.lb_rebuild_slots.specs.SlotCalls.{ask_told}
+pub use Rattle.lb_rebuild_slots.specs.Values.{Task, configs_of}
+pub use Rattle.lb_health_view.specs.RegistrySide.{IsReady, settings_of}
+pub use Rattle.lb_world.proofs.Counting.{there-at}
+pub use Rattle.lb_world.proofs.Extras.{get-kept}
+pub use Rattle.lb_world.proofs.Promised.{promised}
+pub use Rattle.lb_world.proofs.Refusing.{ap2, refused-alike}
+pub use Rattle.lb_world.proofs.Runs.{slots-fit}
+pub use Rattle.lb_world.proofs.Sharing.{shares}
+pub use Rattle.lb_world.proofs.Steps.{others-stay}
+pub use Rattle.lb_world.proofs.Together.{get-pushed, group-of}
+pub use Rattle.lb_world.specs.Answers.{Answers, IsRun, Judges, answer_after, at_one, has_refused, no_number, no_such, refuse}
+pub use Rattle.lb_world.specs.Answers.{unless_refused, where_, without_memory}
+pub use Rattle.lb_world.specs.History.{History, Made, RegistryMade, Work, after, config, config_in, entries, gates, group_at}
+pub use Rattle.lb_world.specs.History.{slot_events, happened, is_at, is_out, load_of, made, made_at, members_in, past, registries}
+pub use Rattle.lb_world.specs.History.{registry_of, work, worked, works_at}
+pub use Rattle.lb_world.specs.GroupEvents.{group_after_step, group_events}
+pub use Rattle.lb_world.specs.Meanings.{Meaning, meaning_of}
+pub use Rattle.lb_world.specs.Refused.{unrefused}
+pub use Rattle.lb_world.specs.Shared.{changed, events_in, key_at, key_by, key_in, key_of, marked, registry_at, registry_events}
+pub use Rattle.lb_world.specs.Shared.{settings_in, view_events, view_in}
+pub use Rattle.lb_world.specs.Steps.{Step}
+pub use Rattle.lb_world.specs.declared.answer.Answer.{Answer}
+pub use Rattle.lb_world.specs.declared.step.Listing.{Listing}
+pub use Rattle.lb_rebuild_group.specs.Stands.{GroupValue, views_of}
+pub use Rattle.lb_rebuild_slots.specs.Gate.{GateId, GateValue, gate}
+pub use Rattle.lb_rebuild_slots.specs.Gate.{GroupId}
+pub use Rattle.lb_health_registry.proofs.FreshLemmas.{marks_start_none}
+pub use Rattle.lb_health_registry.proofs.StateLemmas.{set_found}
+pub use Rattle.lb_health_registry.specs.Keys.{by_address, by_identity}
+pub use Rattle.lb_health_registry.specs.Registry.{IsRegistryAfter, RegistryValue}
+pub use Rattle.lb_health_registry.specs.RegistryEvents.{Applied, Event, cells_given, views_after}
+pub use Rattle.lb_health_registry.specs.Targets.{live}
+pub use Rattle.lb_select_base.specs.AddressText.{bare_member}
+pub use Rattle.lb_select_base.specs.Backends.{Member, member_cmp, same_member}
+pub use Rattle.lb_select_base.specs.Loads.{load_in}
+pub use Rattle.lb_select_base.specs.Memberships.{same_members, set_of}
+pub use Rattle.lb_select_base.specs.Refusals.{earlier, least}
+pub use Rattle.lb_select_base.specs.declared.refusal.Refusal.{Refusal}
 pub use Rattle.lb_world.specs.Calls.{in_tables, set_marked, with_core, with_key}
 pub use Rattle.lb_world.specs.Cells.{lists_key, new_keys, starts_cell}
 pub use Rattle.lb_world.specs.Calls.{some_and}

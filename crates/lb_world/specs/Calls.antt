@@ -1,25 +1,25 @@
 -- Words for what small calls answer, and for what is asked of a listing's backend, which may be none.
 use Rattle.std.specs.Prelude.{◌≡◌, ◌&&◌, ℕ, Bool, true, nat_lt, List, [], length, replicate, Option, Some, None, Result, Ok, Err, false}
 use Rattle.std.specs.Prelude.{if◌then◌else◌}
-use Rattle.lb_rebuild.specs.Gate.{GateId}
+use Rattle.lb_rebuild_slots.specs.Gate.{GateId}
 use Rattle.std.specs.BTreeMap.{insert_entry}
 use Rattle.std.specs.BTreeSet.{insert_key}
-use Rattle.lb_select.specs.Backends.{Member, member_cmp}
-use Rattle.lb_select.specs.Loads.{load_in}
-use Rattle.lb_select.specs.declared.refusal.Refusal.{Refusal}
-use Rattle.lb_select.specs.declared.refusal.Refusal.TheVariants as refusal
-use Rattle.lb_group.specs.GroupCalls.{is_read}
-use Rattle.lb_group.specs.GroupHistory.{AskAnswer, job}
-use Rattle.lb_group.specs.Stands.{Made}
-use Rattle.lb_group.specs.declared.answers.Selection.{Selection}
-use Rattle.lb_group.specs.declared.answers.Publication.{Publication}
-use Rattle.lb_group.specs.declared.membership.Scheduled.{Scheduled}
-use Rattle.lb_group.specs.declared.answers.Publication.TheVariants as told
-use Rattle.lb_history.specs.Answers.{asked}
-use Rattle.lb_history.specs.declared.answer.Answer.{Answer}
-use Rattle.lb_history.specs.declared.answer.Answer.TheVariants as answer
-use Rattle.lb_joined.specs.JoinedHistory.{History, group_events}
-use Rattle.lb_joined.specs.Stands.{JoinedValue, Stands}
+use Rattle.lb_select_base.specs.Backends.{Member, member_cmp}
+use Rattle.lb_select_base.specs.Loads.{load_in}
+use Rattle.lb_select_base.specs.declared.refusal.Refusal.{Refusal}
+use Rattle.lb_select_base.specs.declared.refusal.Refusal.TheVariants as refusal
+use Rattle.lb_rebuild_slots.specs.SlotsCalls.{is_read}
+use Rattle.lb_rebuild_slots.specs.SlotsHistory.{AskAnswer, job}
+use Rattle.lb_rebuild_slots.specs.Stands.{Made}
+use Rattle.lb_rebuild_slots.specs.declared.answers.Selection.{Selection}
+use Rattle.lb_rebuild_slots.specs.declared.answers.Publication.{Publication}
+use Rattle.lb_rebuild_slots.specs.declared.membership.Scheduled.{Scheduled}
+use Rattle.lb_rebuild_slots.specs.declared.answers.Publication.TheVariants as told
+use Rattle.lb_world.specs.Answers.{asked}
+use Rattle.lb_world.specs.declared.answer.Answer.{Answer}
+use Rattle.lb_world.specs.declared.answer.Answer.TheVariants as answer
+use Rattle.lb_rebuild_group.specs.GroupHistory.{History, slot_events}
+use Rattle.lb_rebuild_group.specs.Stands.{GroupValue, Stands}
 use Rattle.lb_world.specs.Views.{EntryValue, WorldValue, nothing}
 
 -- the registry and the gate of these numbers are there
@@ -66,15 +66,15 @@ set_marked None entries = entries
 set_marked (Some e) entries = insert_entry member_cmp entries e.0 e.1
 
 -- the entry with another core
-abbrev pub with_core : {C : Type 0} → JoinedValue C → EntryValue C → EntryValue C
+abbrev pub with_core : {C : Type 0} → GroupValue C → EntryValue C → EntryValue C
 with_core v e = record e { core = v }
 
 -- some history stands behind it in which the slot counts a reader of that generation
-pub record IsCounted {C : Type 0} (v : JoinedValue C) (slot generation : ℕ) : Type 0 where
+pub record IsCounted {C : Type 0} (v : GroupValue C) (slot generation : ℕ) : Type 0 where
   pub made : Made C
   pub events : History
   pub stands : Stands made events v
-  pub read : is_read made slot generation (group_events events) ≡ true
+  pub read : is_read made slot generation (slot_events events) ≡ true
 
 -- an entry that was made just now
 pub record IsNewEntry {C : Type 0} (registry gate : ℕ) (id : GateId) (configs : List C) (view : ℕ) (e : EntryValue C) : Type 0 where

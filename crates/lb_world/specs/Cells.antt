@@ -2,11 +2,11 @@
 use Rattle.std.specs.Prelude.{ℕ, Bool, not, ◌&&◌, List, map, filter}
 use Rattle.std.specs.List.{filter_map, list_any}
 use Rattle.std.specs.Set.{distinct_count}
-use Rattle.lb_select.specs.Backends.{Member, same_member}
+use Rattle.lb_select_base.specs.Backends.{Member, same_member}
 use Rattle.lb_world.specs.Calls.{some_and}
-use Rattle.lb_registry.specs.Fresh.{has_key}
-use Rattle.lb_registry.specs.Targets.{ViewValue}
-use Rattle.lb_history.specs.declared.step.Listing.{Listing}
+use Rattle.lb_health_registry.specs.Fresh.{has_key}
+use Rattle.lb_health_registry.specs.Targets.{ViewValue}
+use Rattle.lb_world.specs.declared.step.Listing.{Listing}
 
 module _ (key_of : Member → Member) where
   -- whether one of the listed backends has the key

@@ -1,12 +1,12 @@
 -- What holds of each step of a history, and what holds after each.
 use Rattle.std.specs.Prelude.{ℕ, [], ◌∷◌}
-use Rattle.lb_select.specs.Backends.{Member}
-use Rattle.lb_health.specs.Joined.{IsReady}
-use Rattle.lb_history.specs.Steps.{Step}
-use Rattle.lb_history.specs.declared.answer.Answer.{Answer}
-use Rattle.lb_history.specs.History.{History, registry_of}
-use Rattle.lb_history.specs.Shared.{key_of, events_in, view_events}
-use Rattle.lb_history.specs.Promises.{JudgedBy}
+use Rattle.lb_select_base.specs.Backends.{Member}
+use Rattle.lb_health_view.specs.RegistrySide.{IsReady}
+use Rattle.lb_world.specs.Steps.{Step}
+use Rattle.lb_world.specs.declared.answer.Answer.{Answer}
+use Rattle.lb_world.specs.History.{History, registry_of}
+use Rattle.lb_world.specs.Shared.{key_of, events_in, view_events}
+use Rattle.lb_world.specs.Promises.{JudgedBy}
 
 module _ {C : Type 0} where
   -- of each step with its answer, and what came before it

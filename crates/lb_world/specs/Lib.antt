@@ -1,7 +1,16 @@
+pub mod Answers
+pub mod History
+pub mod GroupEvents
+pub mod Meanings
+pub mod Promises
+pub mod Refused
+pub mod Selected
+pub mod Shared
+pub mod Steps
 pub mod Calls
 pub mod Cells
 pub mod Ever
-pub mod Locals
+pub mod GroupSteps
 pub mod Rules
 pub mod Stands
 pub mod Views

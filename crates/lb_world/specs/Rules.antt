@@ -1,8 +1,8 @@
 -- The keys that a registry of a world gives: by identity or by address. Where a caller's rule would stand there is identity.
 use Rattle.std.specs.Prelude.{◌≡◌}
-use Rattle.lb_select.specs.Backends.{Member}
-use Rattle.lb_registry.specs.Keys.{by_identity, rule_gives}
-use Rattle.lb_registry.specs.declared.keys.Rule.{Rule}
+use Rattle.lb_select_base.specs.Backends.{Member}
+use Rattle.lb_health_registry.specs.Keys.{by_identity, rule_gives}
+use Rattle.lb_health_registry.specs.declared.keys.Rule.{Rule}
 use Rattle.lb_world.specs.declared.rule.ByIdentity.{ByIdentity}
 
 abbrev pub identity_gives : ByIdentity → Member → Member → Type 0

@@ -1,20 +1,20 @@
 -- A world stands for a history: the answers are a run, and each table is what the history tells.
 use Rattle.std.specs.Prelude.{◌≡◌, ◌<◌, ℕ, Bool, true, false, ◌||◌, List, ◌∷◌, Some, length, map, slice_get, if◌then◌else◌}
 use Rattle.std.specs.Option.{option_map}
-use Rattle.lb_select.specs.Backends.{Member}
-use Rattle.lb_select.specs.Loads.{load_in}
-use Rattle.lb_rebuild.specs.Gate.{GateValue, gate}
-use Rattle.lb_registry.specs.Registry.{RegistryValue, IsRegistryAfter}
-use Rattle.lb_group.specs.Values.{configs_of}
-use Rattle.lb_joined.specs.Stands as joined
-use Rattle.lb_history.specs.Steps.{Step}
-use Rattle.lb_history.specs.declared.answer.Answer.{Answer}
-use Rattle.lb_history.specs.Meanings.{Meaning}
-use Rattle.lb_history.specs.History.{History, Made, registries, gates, made, made_at, entries, past, work, is_out, is_grant, is_failure}
-use Rattle.lb_history.specs.History.{is_destruction, load_of}
-use Rattle.lb_history.specs.Shared.{key_at, key_of, registry_events}
-use Rattle.lb_history.specs.Answers.{IsRun, Answers}
-use Rattle.lb_history.specs.Joined.{joined_events}
+use Rattle.lb_select_base.specs.Backends.{Member}
+use Rattle.lb_select_base.specs.Loads.{load_in}
+use Rattle.lb_rebuild_slots.specs.Gate.{GateValue, gate}
+use Rattle.lb_health_registry.specs.Registry.{RegistryValue, IsRegistryAfter}
+use Rattle.lb_rebuild_slots.specs.Values.{configs_of}
+use Rattle.lb_rebuild_group.specs.Stands as group
+use Rattle.lb_world.specs.Steps.{Step}
+use Rattle.lb_world.specs.declared.answer.Answer.{Answer}
+use Rattle.lb_world.specs.Meanings.{Meaning}
+use Rattle.lb_world.specs.History.{History, Made, registries, gates, made, made_at, entries, past, work, is_out, is_grant, is_failure}
+use Rattle.lb_world.specs.History.{is_destruction, load_of}
+use Rattle.lb_world.specs.Shared.{key_at, key_of, registry_events}
+use Rattle.lb_world.specs.Answers.{IsRun, Answers}
+use Rattle.lb_world.specs.GroupEvents.{group_events}
 use Rattle.lb_world.specs.Rules.{WorldRule, key_gives}
 use Rattle.lb_world.specs.Views.{WorkValue, OpenReaderValue, entered_of, EntryValue, WorldValue, site, origin, IsOwnReader}
 use Rattle.lb_world.specs.Works.{held_of}
@@ -44,7 +44,7 @@ module _ {C : Type 0} where
   -- the entry is what the history tells of the group
   pub record EntryIs (h : History C) (g : ℕ) (e : EntryValue C) : Type 0 where
     pub made_is : made_at g h ≡ Some (made_of e)
-    pub core_is : joined.Stands (site e.core) (joined_events g h) e.core
+    pub core_is : group.Stands (site e.core) (group_events g h) e.core
     pub works_in : length e.works ≡ length (configs_of e.core.group)
     pub works_are : AreHeld h g e e.works
     pub loads_are : (b : Member) → load_in e.loads b ≡ load_of g b h
@@ -89,20 +89,20 @@ module _ {C : Type 0} (M : Meaning C) where
     pub kept : IsRegistryAfter key_gives (key_of g h) (registry_events e.registry ((st, a) ∷ h)) v2
 
   -- what a call at an entry does, after each history and as each number
-  abbrev pub Does : (ℕ → Step C) → EntryValue C → GateValue → RegistryValue WorldRule → Answer → EntryValue C → GateValue
+  abbrev pub Performs : (ℕ → Step C) → EntryValue C → GateValue → RegistryValue WorldRule → Answer → EntryValue C → GateValue
       → RegistryValue WorldRule → Type 0
-  Does st e z v a e2 z2 v2 = (h : History C) (g : ℕ) → Before h g e z v → EntryNext h g (st g) a e z e2 z2 v2
+  Performs st e z v a e2 z2 v2 = (h : History C) (g : ℕ) → Before h g e z v → EntryNext h g (st g) a e z e2 z2 v2
 
   -- the same, where the gate or the registry is not at hand and stays as it is
-  abbrev pub DoesAtGate : (ℕ → Step C) → EntryValue C → GateValue → Answer → EntryValue C → GateValue → Type 0
-  DoesAtGate st e z a e2 z2 = (v : RegistryValue WorldRule) → Does st e z v a e2 z2 v
+  abbrev pub PerformsAtGate : (ℕ → Step C) → EntryValue C → GateValue → Answer → EntryValue C → GateValue → Type 0
+  PerformsAtGate st e z a e2 z2 = (v : RegistryValue WorldRule) → Performs st e z v a e2 z2 v
 
-  abbrev pub DoesAtRegistry : (ℕ → Step C) → EntryValue C → RegistryValue WorldRule → Answer → EntryValue C → RegistryValue WorldRule
+  abbrev pub PerformsAtRegistry : (ℕ → Step C) → EntryValue C → RegistryValue WorldRule → Answer → EntryValue C → RegistryValue WorldRule
       → Type 0
-  DoesAtRegistry st e v a e2 v2 = (z : GateValue) → Does st e z v a e2 z v2
+  PerformsAtRegistry st e v a e2 v2 = (z : GateValue) → Performs st e z v a e2 z v2
 
-  abbrev pub DoesAlone : (ℕ → Step C) → EntryValue C → Answer → EntryValue C → Type 0
-  DoesAlone st e a e2 = (z : GateValue) (v : RegistryValue WorldRule) → Does st e z v a e2 z v
+  abbrev pub PerformsAlone : (ℕ → Step C) → EntryValue C → Answer → EntryValue C → Type 0
+  PerformsAlone st e a e2 = (z : GateValue) (v : RegistryValue WorldRule) → Performs st e z v a e2 z v
 
 -- some history stands behind the entry
 pub record IsEntry {C : Type 0} (M : Meaning C) (e : EntryValue C) : Type 0 where

@@ -1,12 +1,12 @@
 -- A world as contracts see it: its tables as plain lists, with what is held for each slot and each reader.
 use Rattle.std.specs.Prelude.{◌≡◌, ℕ, List, Option}
-use Rattle.lb_select.specs.Backends.{Member}
-use Rattle.lb_rebuild.specs.Gate.{GateId, GateValue, GroupId}
-use Rattle.lb_registry.specs.Registry.{RegistryValue}
-use Rattle.lb_group.specs.Values.{Task, BuiltValue, ReaderValue, configs_of}
-use Rattle.lb_group.specs.Stands as group
-use Rattle.lb_joined.specs.Stands.{JoinedValue}
-use Rattle.lb_history.specs.History.{Entered}
+use Rattle.lb_select_base.specs.Backends.{Member}
+use Rattle.lb_rebuild_slots.specs.Gate.{GateId, GateValue, GroupId}
+use Rattle.lb_health_registry.specs.Registry.{RegistryValue}
+use Rattle.lb_rebuild_slots.specs.Values.{Task, BuiltValue, ReaderValue, configs_of}
+use Rattle.lb_rebuild_slots.specs.Stands as slots
+use Rattle.lb_rebuild_group.specs.Stands.{GroupValue}
+use Rattle.lb_world.specs.History.{Entered}
 use Rattle.lb_world.specs.Rules.{WorldRule}
 
 -- what is held for a slot: nothing, a job, or what was built of it
@@ -37,7 +37,7 @@ entered_of r = record { group = r.group; slot = r.reader.slot; generation = r.re
 pub record EntryValue (C : Type 0) : Type 0 where
   pub registry : ℕ
   pub gate : ℕ
-  pub core : JoinedValue C
+  pub core : GroupValue C
   pub works : List (WorkValue C)
   pub loads : List (Member × ℕ)
 
@@ -48,7 +48,7 @@ pub record WorldValue (C : Type 0) : Type 0 where
   pub readers : List (Option (OpenReaderValue C))
 
 -- what a group was made with, by its core
-abbrev pub site : {C : Type 0} → JoinedValue C → group.Made C
+abbrev pub site : {C : Type 0} → GroupValue C → slots.Made C
 site v = record { id = v.group.id; gate = v.group.gate; configs = configs_of v.group }
 
 -- whose a group's jobs are: which group it is, and the gate of their permits
@@ -56,9 +56,9 @@ pub record Origin : Type 0 where
   pub id : GroupId
   pub gate : GateId
 
-abbrev pub origin : {C : Type 0} → JoinedValue C → Origin
+abbrev pub origin : {C : Type 0} → GroupValue C → Origin
 origin v = record { id = v.group.id; gate = v.group.gate }
 
 -- a reader is one of this group
-abbrev pub IsOwnReader : {C : Type 0} → JoinedValue C → ReaderValue C → Type 0
+abbrev pub IsOwnReader : {C : Type 0} → GroupValue C → ReaderValue C → Type 0
 IsOwnReader v r = r.group ≡ v.group.id

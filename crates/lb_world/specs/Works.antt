@@ -1,9 +1,9 @@
 -- What is held for a slot, of the program and as a history tells it, and the tables of a world.
 use Rattle.std.specs.Prelude.{ℕ}
-use Rattle.lb_group.specs.GroupHistory.{History, granted, granted_members}
-use Rattle.lb_group.specs.Values.{Task}
-use Rattle.lb_history.specs.History.{Work, idle}
-use Rattle.lb_history.specs.History as work
+use Rattle.lb_rebuild_slots.specs.SlotsHistory.{History, granted, granted_members}
+use Rattle.lb_rebuild_slots.specs.Values.{Task}
+use Rattle.lb_world.specs.History.{Work, idle}
+use Rattle.lb_world.specs.History as work
 use Rattle.lb_world.specs.Views.{WorkValue, nothing, building, built, Origin, WorldValue}
 use Rattle.lb_world.specs.declared.held.Work as declared
 use Rattle.lb_world.specs.declared.held.Work.TheVariants as is

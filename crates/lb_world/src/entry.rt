@@ -1,31 +1,31 @@
 //! A group of a world: its core with the numbers of its registry and its gate, what is held for its slots, and its loads.
 //! Each call here is a step at the group; its contract is told by the world's history, with the group's number as a parameter.
 ghost use Rattle.std.specs.Prelude.{◌≡◌, ℕ, Some, if◌then◌else◌};
-ghost use Rattle.lb_group.specs.GroupCalls.{at_slot};
-ghost use Rattle.lb_group.specs.GroupHistory.{past_of};
-ghost use Rattle.lb_history.specs.Answers.{numbers_of};
-ghost use Rattle.lb_history.specs.Meanings.{meaning_of};
-ghost use Rattle.lb_history.specs.Steps as seen;
-ghost use Rattle.lb_joined.specs.JoinedHistory.{group_events};
-ghost use Rattle.lb_joined.specs.Stands.{After};
-ghost use Rattle.lb_world.specs.Locals.{local_seen, IsWhole};
-ghost use Rattle.lb_world.specs.Stands.{IsEntry, Does, DoesAtRegistry, DoesAlone};
+ghost use Rattle.lb_rebuild_slots.specs.SlotsCalls.{at_slot};
+ghost use Rattle.lb_rebuild_slots.specs.SlotsHistory.{past_of};
+ghost use Rattle.lb_world.specs.Answers.{numbers_of};
+ghost use Rattle.lb_world.specs.Meanings.{meaning_of};
+ghost use Rattle.lb_world.specs.Steps as seen;
+ghost use Rattle.lb_rebuild_group.specs.GroupHistory.{slot_events};
+ghost use Rattle.lb_rebuild_group.specs.Stands.{After};
+ghost use Rattle.lb_world.specs.GroupSteps.{group_step_seen, IsWhole};
+ghost use Rattle.lb_world.specs.Stands.{IsEntry, Performs, PerformsAtRegistry, PerformsAlone};
 
 mod listed;
 mod membership;
 mod readers;
 mod tasks;
 
-use crate::held::Place;
-use crate::local::Local;
+use crate::answer::{Answer, SlotCounts};
+use crate::group_step::GroupStep;
+use crate::held::InHand;
 use crate::rule::WorldRegistry;
-use lb_history::answer::{Answer, SlotCounts};
-use lb_joined::group::GroupCore;
-use lb_rebuild::gate::GateCore;
-use lb_select::backend::Backend;
-use lb_select::loads::Loads;
-use lb_select::refusal::Refusal;
-use lb_select::walk::BackendSelection;
+use lb_rebuild_group::group::GroupCore;
+use lb_rebuild_slots::gate::GateCore;
+use lb_select_base::backend::Backend;
+use lb_select_base::loads::Loads;
+use lb_select_base::refusal::Refusal;
+use lb_select_base::walk::BackendSelection;
 use std::alloc::Global;
 use std::marker::Model;
 
@@ -34,7 +34,7 @@ pub(crate) struct Entry<S: BackendSelection> {
     pub(crate) registry: usize,
     pub(crate) gate: usize,
     pub(crate) core: GroupCore<S>,
-    pub(crate) works: Vec<Place<S>>,
+    pub(crate) works: Vec<InHand<S>>,
     pub(crate) loads: Loads,
 }
 
@@ -88,35 +88,35 @@ impl<S: BackendSelection> Entry<S> {
         alloc: Global,
         gate: &mut GateCore,
         registry: &mut WorldRegistry,
-        local: Local<'_>,
+        local: GroupStep<'_>,
     ) -> Answer
         requires gate { gate.old.id ≡ self.old.core.group.gate }
         requires whole { IsWhole local }
         requires stands { IsEntry (meaning_of S.BackendSelection) self.old }
-        ensures { Does (meaning_of S.BackendSelection) (λ (g : ℕ). local_seen g local.entry)
+        ensures { Performs (meaning_of S.BackendSelection) (λ (g : ℕ). group_step_seen g local.entry)
             self.old gate.old registry.old result self.new gate.new registry.new }
     {
         match local {
-            Local::Update { now, listings } => self.update(alloc, registry, listings, now),
-            Local::Ask { slot, now } => self.ask(slot, gate, now),
-            Local::Build { slot, now } => self.build(alloc, slot, gate, registry, now),
-            Local::FailBuild { slot, now } => self.fail_build(slot, gate, registry, now),
-            Local::Lost { slot } => self.lost(slot),
-            Local::Publish { slot } => self.publish(slot),
-            Local::Abandon { slot } => self.abandon(slot),
-            Local::Destroy { slot } => self.destroy(slot, gate, registry),
-            Local::Enable { backend } => self.set_enable(backend, true),
-            Local::Disable { backend } => self.set_enable(backend, false),
-            Local::Cancel => self.cancel(registry),
-            Local::Counts { slot } => self.counts(slot),
-            Local::Timing { slot } => self.timing(slot),
-            Local::Load { backend, load } => self.load(alloc, backend, load),
+            GroupStep::Update { now, listings } => self.update(alloc, registry, listings, now),
+            GroupStep::Ask { slot, now } => self.ask(slot, gate, now),
+            GroupStep::Build { slot, now } => self.build(alloc, slot, gate, registry, now),
+            GroupStep::FailBuild { slot, now } => self.fail_build(slot, gate, registry, now),
+            GroupStep::Lost { slot } => self.lost(slot),
+            GroupStep::Publish { slot } => self.publish(slot),
+            GroupStep::Abandon { slot } => self.abandon(slot),
+            GroupStep::Destroy { slot } => self.destroy(slot, gate, registry),
+            GroupStep::Enable { backend } => self.set_enable(backend, true),
+            GroupStep::Disable { backend } => self.set_enable(backend, false),
+            GroupStep::Cancel => self.cancel(registry),
+            GroupStep::Counts { slot } => self.counts(slot),
+            GroupStep::Timing { slot } => self.timing(slot),
+            GroupStep::Load { backend, load } => self.load(alloc, backend, load),
         }
     }
 
     // The numbers of a slot.
     fn counts(&self, slot: usize) -> Answer
-        ensures { DoesAlone (meaning_of S.BackendSelection) (λ (g : ℕ). seen.counts g slot)
+        ensures { PerformsAlone (meaning_of S.BackendSelection) (λ (g : ℕ). seen.counts g slot)
             self.now result self.now }
     {
         match self.numbers(slot) {
@@ -127,7 +127,7 @@ impl<S: BackendSelection> Entry<S> {
 
     // What the core counts at a slot, if it is there.
     fn numbers(&self, slot: usize) -> Option<SlotCounts>
-        ensures { After self.now.core (λ made e. result ≡ at_slot made slot (numbers_of (past_of slot (group_events e)))) }
+        ensures { After self.now.core (λ made e. result ≡ at_slot made slot (numbers_of (past_of slot (slot_events e)))) }
     {
         let core = &self.core;
         Some(SlotCounts {
@@ -141,7 +141,7 @@ impl<S: BackendSelection> Entry<S> {
 
     // The timing of a slot's last publication.
     fn timing(&self, slot: usize) -> Answer
-        ensures { DoesAlone (meaning_of S.BackendSelection) (λ (g : ℕ). seen.timing g slot)
+        ensures { PerformsAlone (meaning_of S.BackendSelection) (λ (g : ℕ). seen.timing g slot)
             self.now result self.now }
     {
         match self.core.timing(slot) {
@@ -152,7 +152,7 @@ impl<S: BackendSelection> Entry<S> {
 
     // Stops the rebuilds for good.
     fn cancel(&mut self, registry: &mut WorldRegistry) -> Answer
-        ensures { DoesAtRegistry (meaning_of S.BackendSelection) (λ (g : ℕ). seen.cancel g)
+        ensures { PerformsAtRegistry (meaning_of S.BackendSelection) (λ (g : ℕ). seen.cancel g)
             self.old registry.old result self.new registry.new }
     {
         self.core.cancel(registry);
@@ -161,7 +161,7 @@ impl<S: BackendSelection> Entry<S> {
 
     // Enables or disables a backend.
     fn set_enable(&mut self, backend: &Backend, enabled: bool) -> Answer
-        ensures { DoesAlone (meaning_of S.BackendSelection)
+        ensures { PerformsAlone (meaning_of S.BackendSelection)
             (λ (g : ℕ). if enabled then seen.enable g (Some backend.now) else seen.disable g (Some backend.now)) self.old result self.new }
     {
         self.core.set_enable(backend, enabled);
@@ -170,7 +170,7 @@ impl<S: BackendSelection> Entry<S> {
 
     // Sets the load of a backend.
     fn load(&mut self, alloc: Global, backend: &Backend, load: u64) -> Answer
-        ensures { DoesAlone (meaning_of S.BackendSelection)
+        ensures { PerformsAlone (meaning_of S.BackendSelection)
             (λ (g : ℕ). seen.load g (Some backend.now) load) self.old result self.new }
     {
         match self.loads.set(alloc, backend, load) {

@@ -4,9 +4,9 @@ ghost use Rattle.std.specs.Prelude.{◌≡◌, ◌≤◌, [], MatchOption, repli
 ghost use Rattle.lb_world.specs.Views.{nothing, building, built, NotBuilding, NotBuilt};
 ghost use Rattle.lb_world.specs.Works.{work_value};
 
-use lb_group::job::{Built, Job};
-use lb_group::retired::Reader;
-use lb_select::walk::BackendSelection;
+use lb_rebuild_slots::job::{Built, Job};
+use lb_rebuild_slots::retired::Reader;
+use lb_select_base::walk::BackendSelection;
 use std::marker::Model;
 use std::mem;
 
@@ -18,11 +18,11 @@ pub(crate) enum Work<S: BackendSelection> {
 }
 
 // One place for a slot's work, made with the group, so that asking takes no memory.
-pub(crate) struct Place<S: BackendSelection> {
+pub(crate) struct InHand<S: BackendSelection> {
     pub(crate) work: Work<S>,
 }
 
-impl<S: BackendSelection> Model for Place<S> {
+impl<S: BackendSelection> Model for InHand<S> {
     ghost use Rattle.lb_world.specs.Views.{WorkValue};
     ghost use Rattle.lb_world.specs.Works.{work_value};
 
@@ -31,10 +31,10 @@ impl<S: BackendSelection> Model for Place<S> {
     ghost view = { λ p. work_value p.work };
 }
 
-impl<S: BackendSelection> Place<S> {
+impl<S: BackendSelection> InHand<S> {
     // Lets the work go with the world.
     pub(crate) fn close(self) {
-        let Place { work } = self;
+        let InHand { work } = self;
         match work {
             Work::Nothing => {}
             Work::Building(job) => job.close(),
@@ -86,15 +86,15 @@ impl<S: BackendSelection> Place<S> {
 
 // A place for each of so many slots, with nothing held, in a list that has room for them.
 pub(crate) fn with_places<S: BackendSelection>(
-    mut room: Vec<Place<S>>,
+    mut room: Vec<InHand<S>>,
     count: usize,
-) -> Vec<Place<S>>
+) -> Vec<InHand<S>>
     requires empty { room.items ≡ [] }
     requires fits { count ≤ vec_capacity room }
     ensures { result.items ≡ replicate count nothing }
 {
     for _ in 0..count {
-        room.push_reserved(Place {
+        room.push_reserved(InHand {
             work: Work::Nothing,
         });
     }

@@ -1,9 +1,12 @@
-//! A world of registries, gates and groups that takes one step at a time and answers each.
-//! Its contract is over histories: every answer is the one that the definitions give after what came before it.
+//! A world of registries, gates and groups: its steps and answers as types, and `World`, which takes them.
+//! What has to be answered is defined over the list of steps alone; the contracts of `World` cite that.
 #![tactic(auto)]
 
+pub mod answer;
 mod entry;
+mod group_step;
 mod held;
-mod local;
+pub mod laws;
 pub mod rule;
+pub mod step;
 pub mod world;

@@ -1,10 +1,10 @@
 //! The key rules of a world's registries: by identity or by address. No registry of a world has a caller's rule.
 ghost use Rattle.std.specs.Prelude.{◌≡◌};
 
-use lb_registry::keys::{KeyRule, Rule};
-use lb_registry::registry::Registry;
-use lb_select::backend::{Backend, Ext};
-use lb_select::refusal::Refusal;
+use lb_health_registry::keys::{KeyRule, Rule};
+use lb_health_registry::registry::Registry;
+use lb_select_base::backend::{Backend, Ext};
+use lb_select_base::refusal::Refusal;
 use std::alloc::Global;
 
 /// What stands where a caller's rule would: address and weight, as `Rule::Identity`. No step makes a registry of it.

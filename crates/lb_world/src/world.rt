@@ -2,16 +2,16 @@
 //! Its contract is over histories alone; what lies in the tables is no part of it. That some history stands behind them is told of the
 //! world once, and asked of the tables where a step needs it.
 ghost use Rattle.std.specs.Prelude.{◌≡◌, ◌∷◌, [], ℕ, map, IfOk, IfErr, vec_len};
-ghost use Rattle.lb_history.specs.Answers.{IsRun};
-ghost use Rattle.lb_history.specs.History.{History, after};
-ghost use Rattle.lb_history.specs.Meanings.{meaning_of};
-ghost use Rattle.lb_history.specs.Promises.{Promised, ViewFollows, LivesExactly, NeverFalls, Raises, DestroysExactly};
-ghost use Rattle.lb_history.specs.Refused.{RefusedStays, unrefused};
-ghost use Rattle.lb_history.specs.Selected.{FirstAccepted};
-ghost use Rattle.lb_history.specs.Steps as seen;
-ghost use Rattle.lb_history.specs.Steps.{step_seen};
+ghost use Rattle.lb_world.specs.Answers.{IsRun};
+ghost use Rattle.lb_world.specs.History.{History, after};
+ghost use Rattle.lb_world.specs.Meanings.{meaning_of};
+ghost use Rattle.lb_world.specs.Promises.{Promised, ViewFollows, LivesExactly, NeverFalls, Raises, DestroysExactly};
+ghost use Rattle.lb_world.specs.Refused.{RefusedStays, unrefused};
+ghost use Rattle.lb_world.specs.Selected.{FirstAccepted};
+ghost use Rattle.lb_world.specs.Steps as seen;
+ghost use Rattle.lb_world.specs.Steps.{step_seen};
 ghost use Rattle.lb_world.specs.Ever.{Always, EachStep, JudgedByOwn};
-ghost use Rattle.lb_world.specs.Locals.{local_seen, IsWhole};
+ghost use Rattle.lb_world.specs.GroupSteps.{group_step_seen, IsWhole};
 ghost use Rattle.lb_world.specs.Works.{world_value};
 ghost use Rattle.lb_world.specs.Stands.{IsFounded, Stands};
 
@@ -19,16 +19,16 @@ mod making;
 mod readers;
 mod registries;
 
+use crate::answer::Answer;
 use crate::entry::Entry;
+use crate::group_step::{GroupStep, has_refused};
 use crate::held::OpenReader;
-use crate::local::{Local, has_refused};
 use crate::rule::WorldRegistry;
-use lb_history::answer::Answer;
-use lb_history::step::{Listing, Step};
-use lb_rebuild::gate::GateCore;
-use lb_select::backend::Backend;
-use lb_select::refusal::Refusal;
-use lb_select::walk::BackendSelection;
+use crate::step::{Listing, Step};
+use lb_rebuild_slots::gate::GateCore;
+use lb_select_base::backend::Backend;
+use lb_select_base::refusal::Refusal;
+use lb_select_base::walk::BackendSelection;
 use std::alloc::Global;
 use std::marker::Model;
 
@@ -52,7 +52,7 @@ impl<S: BackendSelection> Model for World<S> {
     ghost use Rattle.lb_world.specs.Views.{WorldValue};
     ghost use Rattle.lb_world.specs.Works.{world_value};
     ghost use Rattle.lb_world.specs.Stands.{IsFounded};
-    ghost use Rattle.lb_history.specs.Meanings.{meaning_of};
+    ghost use Rattle.lb_world.specs.Meanings.{meaning_of};
 
     ghost Value = { WorldValue S.Config };
 
@@ -197,18 +197,21 @@ impl<S: BackendSelection> Tables<S> {
                 now,
                 listings,
             } => self.update(group, now, listings),
-            Step::Ask { group, slot, now } => self.at_group(group, Local::Ask { slot, now }),
-            Step::Build { group, slot, now } => self.at_group(group, Local::Build { slot, now }),
+            Step::Ask { group, slot, now } => self.at_group(group, GroupStep::Ask { slot, now }),
+            Step::Build { group, slot, now } => self.at_group(
+                group,
+                GroupStep::Build { slot, now },
+            ),
             Step::FailBuild { group, slot, now } => {
-                self.at_group(group, Local::FailBuild { slot, now })
+                self.at_group(group, GroupStep::FailBuild { slot, now })
             }
-            Step::Lost { group, slot } => self.at_group(group, Local::Lost { slot }),
-            Step::Publish { group, slot } => self.at_group(group, Local::Publish { slot }),
-            Step::Abandon { group, slot } => self.at_group(group, Local::Abandon { slot }),
+            Step::Lost { group, slot } => self.at_group(group, GroupStep::Lost { slot }),
+            Step::Publish { group, slot } => self.at_group(group, GroupStep::Publish { slot }),
+            Step::Abandon { group, slot } => self.at_group(group, GroupStep::Abandon { slot }),
             Step::Enter { group, slot } => self.enter(group, slot),
             Step::Ready { reader, backend } => self.ready(reader, backend),
             Step::Leave { reader } => self.leave(reader),
-            Step::Destroy { group, slot } => self.at_group(group, Local::Destroy { slot }),
+            Step::Destroy { group, slot } => self.at_group(group, GroupStep::Destroy { slot }),
             Step::Select {
                 group,
                 slot,
@@ -224,10 +227,10 @@ impl<S: BackendSelection> Tables<S> {
             } => self.verdict(registry, cell, ok, threshold),
             Step::Enable { group, backend } => self.enable(group, backend),
             Step::Disable { group, backend } => self.disable(group, backend),
-            Step::Cancel { group } => self.at_group(group, Local::Cancel),
+            Step::Cancel { group } => self.at_group(group, GroupStep::Cancel),
             Step::Targets { registry } => self.targets(registry),
-            Step::Counts { group, slot } => self.at_group(group, Local::Counts { slot }),
-            Step::Timing { group, slot } => self.at_group(group, Local::Timing { slot }),
+            Step::Counts { group, slot } => self.at_group(group, GroupStep::Counts { slot }),
+            Step::Timing { group, slot } => self.at_group(group, GroupStep::Timing { slot }),
             Step::Load {
                 group,
                 backend,
@@ -252,11 +255,11 @@ impl<S: BackendSelection> Tables<S> {
     }
 
     // Takes a step at a group, with the group's gate and registry.
-    fn at_group(&mut self, group: u64, local: Local<'_>) -> Answer
+    fn at_group(&mut self, group: u64, local: GroupStep<'_>) -> Answer
         requires whole { IsWhole local }
         requires founded { IsFounded (meaning_of S.BackendSelection) (world_value self.old) }
         ensures { (h : History S.Config) → Stands (meaning_of S.BackendSelection) (world_value self.old) h
-            → Stands (meaning_of S.BackendSelection) (world_value self.new) ((local_seen group local.entry, result) ∷ h) }
+            → Stands (meaning_of S.BackendSelection) (world_value self.new) ((group_step_seen group local.entry, result) ∷ h) }
     {
         if group as usize >= self.groups.len() {
             return Answer::Refused(Refusal::NoSuch);
@@ -276,7 +279,7 @@ impl<S: BackendSelection> Tables<S> {
         if has_refused(&listings) {
             return Answer::Refused(Refusal::InvalidAddress);
         }
-        self.at_group(group, Local::Update { now, listings })
+        self.at_group(group, GroupStep::Update { now, listings })
     }
 
     fn enable(&mut self, group: u64, backend: Option<Backend>) -> Answer
@@ -288,7 +291,7 @@ impl<S: BackendSelection> Tables<S> {
         let Some(backend) = &backend else {
             return Answer::Refused(Refusal::InvalidAddress);
         };
-        self.at_group(group, Local::Enable { backend })
+        self.at_group(group, GroupStep::Enable { backend })
     }
 
     fn disable(&mut self, group: u64, backend: Option<Backend>) -> Answer
@@ -300,7 +303,7 @@ impl<S: BackendSelection> Tables<S> {
         let Some(backend) = &backend else {
             return Answer::Refused(Refusal::InvalidAddress);
         };
-        self.at_group(group, Local::Disable { backend })
+        self.at_group(group, GroupStep::Disable { backend })
     }
 
     fn load(&mut self, group: u64, backend: Option<Backend>, load: u64) -> Answer
@@ -312,6 +315,6 @@ impl<S: BackendSelection> Tables<S> {
         let Some(backend) = &backend else {
             return Answer::Refused(Refusal::InvalidAddress);
         };
-        self.at_group(group, Local::Load { backend, load })
+        self.at_group(group, GroupStep::Load { backend, load })
     }
 }

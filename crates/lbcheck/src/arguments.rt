@@ -2,105 +2,151 @@
 use clap::{Arg, ArgAction, Command, value_parser};
 use std::alloc::{AllocError, Global};
 
-// An option that takes a value.
-fn option<'a>(alloc: Global, name: &'a str, value: &'a str, help: &'a str) -> Arg<'a> {
-    Arg::new(alloc, name)
-        .long(name)
-        .value_name(value)
-        .help(help)
+// What an argument is.
+#[derive(Clone, Copy)]
+enum Kind {
+    // The address, which is given without a name.
+    Address,
+    Text,
+    // Text, as often as it is given.
+    Texts,
+    Number16,
+    Number64,
 }
 
-fn address<'a>(alloc: Global) -> Arg<'a> {
-    Arg::new(alloc, "address")
-        .value_name("ADDR")
-        .required(true)
-        .help("An address as 10.0.0.1:80 or [2001:db8::1]:80, or unix: and the path of a socket")
+// An argument and the help for it.
+#[derive(Clone, Copy)]
+struct Row {
+    name: &'static str,
+    value: &'static str,
+    help: &'static str,
+    kind: Kind,
 }
 
-fn method<'a>(alloc: Global) -> Arg<'a> {
-    option(
-        alloc,
-        "method",
-        "METHOD",
-        "The method of the request, else GET",
-    )
-}
+const ADDRESS: Row = Row {
+    name: "address",
+    value: "ADDR",
+    help: "An address as 10.0.0.1:80 or [2001:db8::1]:80, or unix: and the path of a socket",
+    kind: Kind::Address,
+};
 
-fn accept<'a>(alloc: Global) -> Arg<'a> {
-    option(
-        alloc,
-        "accept",
-        "STATUS",
-        "The one status that is accepted, else 200",
-    )
-    .value_parser(value_parser!(u16))
-}
+const METHOD: Row = Row {
+    name: "method",
+    value: "METHOD",
+    help: "The method of the request, else GET",
+    kind: Kind::Text,
+};
 
-fn max_body<'a>(alloc: Global) -> Arg<'a> {
-    option(
-        alloc,
-        "max-body",
-        "BYTES",
-        "The most bytes of a body, else 1048576",
-    )
-    .value_parser(value_parser!(u64))
-}
+const ACCEPT: Row = Row {
+    name: "accept",
+    value: "STATUS",
+    help: "The one status that is accepted, else 200",
+    kind: Kind::Number16,
+};
+
+const MAX_BODY: Row = Row {
+    name: "max-body",
+    value: "BYTES",
+    help: "The most bytes of a body, else 1048576",
+    kind: Kind::Number64,
+};
 
 // lbcheck tcp
-fn tcp<'a>(alloc: Global) -> Result<Command<'a>, AllocError> {
-    Command::new(alloc, "tcp")
-        .about("Connects to a backend, and no more")
-        .arg(address(alloc))
-}
+const TCP: [Row; 1] = [ADDRESS];
 
 // lbcheck http
-fn http<'a>(alloc: Global) -> Result<Command<'a>, AllocError> {
-    let host = option(
-        alloc,
-        "host",
-        "HOST",
-        "The host that is asked, else the address",
-    );
-    let path = option(alloc, "path", "PATH", "The path that is asked for, else /");
-    let header = option(
-        alloc,
-        "header",
-        "FIELD",
-        "A field 'NAME: VALUE' more; may be given again",
-    )
-    .action(ArgAction::Append);
-    let timeout = option(
-        alloc,
-        "timeout",
-        "MS",
-        "How long to wait to connect, for a read and for a write, else 1000, and any time for a write",
-    );
-    let port = option(
-        alloc,
-        "port",
-        "PORT",
-        "The port that is checked, else the address's",
-    );
-    Command::new(alloc, "http")
-        .about("Sends a request to a backend and reads its answer")
-        .arg(address(alloc))?
-        .arg(host)?
-        .arg(path)?
-        .arg(method(alloc))?
-        .arg(header)?
-        .arg(accept(alloc))?
-        .arg(max_body(alloc))?
-        .arg(timeout.value_parser(value_parser!(u64)))?
-        .arg(port.value_parser(value_parser!(u16)))
-}
+const HTTP: [Row; 9] = [
+    ADDRESS,
+    Row {
+        name: "host",
+        value: "HOST",
+        help: "The host that is asked, else the address",
+        kind: Kind::Text,
+    },
+    Row {
+        name: "path",
+        value: "PATH",
+        help: "The path that is asked for, else /",
+        kind: Kind::Text,
+    },
+    METHOD,
+    Row {
+        name: "header",
+        value: "FIELD",
+        help: "A field 'NAME: VALUE' more; may be given again",
+        kind: Kind::Texts,
+    },
+    ACCEPT,
+    MAX_BODY,
+    Row {
+        name: "timeout",
+        value: "MS",
+        help: "How long to wait to connect, for a read and for a write, else 1000, and any time for a write",
+        kind: Kind::Number64,
+    },
+    Row {
+        name: "port",
+        value: "PORT",
+        help: "The port that is checked, else the address's",
+        kind: Kind::Number16,
+    },
+];
 
 // lbcheck replay
+const REPLAY: [Row; 3] = [METHOD, ACCEPT, MAX_BODY];
+
+fn argument<'a>(alloc: Global, row: &Row) -> Arg<'a> {
+    let argument = Arg::new(alloc, row.name)
+        .value_name(row.value)
+        .help(row.help);
+    match row.kind {
+        Kind::Address => argument.required(true),
+        Kind::Text => argument.long(row.name),
+        Kind::Texts => argument.long(row.name).action(ArgAction::Append),
+        Kind::Number16 => argument.long(row.name).value_parser(value_parser!(u16)),
+        Kind::Number64 => argument.long(row.name).value_parser(value_parser!(u64)),
+    }
+}
+
+// Adds the arguments.
+fn with_arguments<'a>(
+    alloc: Global,
+    command: Command<'a>,
+    rows: &[Row],
+) -> Result<Command<'a>, AllocError> {
+    let mut command = command;
+    for row in rows {
+        command = command.arg(argument(alloc, row))?;
+    }
+    Ok(command)
+}
+
+fn tcp<'a>(alloc: Global) -> Result<Command<'a>, AllocError> {
+    let command = Command::new(alloc, "tcp").about("Connects to a backend, and no more");
+    with_arguments(alloc, command, &TCP)
+}
+
+fn http<'a>(alloc: Global) -> Result<Command<'a>, AllocError> {
+    let command = Command::new(alloc, "http").about(
+        "Sends a request to a backend and reads its answer",
+    );
+    with_arguments(alloc, command, &HTTP)
+}
+
 fn replay<'a>(alloc: Global) -> Result<Command<'a>, AllocError> {
-    Command::new(alloc, "replay")
-        .about("Checks an answer that stands on standard input")
-        .arg(method(alloc))?
-        .arg(accept(alloc))?
-        .arg(max_body(alloc))
+    let command = Command::new(alloc, "replay").about(
+        "Checks an answer that stands on standard input",
+    );
+    with_arguments(alloc, command, &REPLAY)
+}
+
+// The three commands.
+fn commands<'a>(alloc: Global) -> Result<Vec<Command<'a>>, AllocError> {
+    let mut commands = Vec::new(alloc);
+    commands.push(tcp(alloc)?)?;
+    commands.push(http(alloc)?)?;
+    commands.push(replay(alloc)?)?;
+    Ok(commands)
 }
 
 /// What may be given.
@@ -110,7 +156,6 @@ pub(crate) fn command<'a>(alloc: Global) -> Result<Command<'a>, AllocError> {
             "Checks a backend as a load balancer would: it prints 'ok' or a fault, and ends with status 0 or 1",
         )
         .subcommand_required(true)
-        .subcommand(tcp(alloc)?)?
-        .subcommand(http(alloc)?)?
-        .subcommand(replay(alloc)?)
+        .bin_name("lbcheck")?
+        .subcommands(commands(alloc)?)
 }

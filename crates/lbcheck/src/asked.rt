@@ -6,38 +6,45 @@ use http::request::Parts;
 use http::uri::UriError;
 use http::{HeaderMap, HeaderName, HeaderValue, Method, Request, StatusCode, Uri};
 use http_header::{HeaderNameError, HeaderValueError};
-use lb_check::{AcceptStatus, MAX_BODY_BYTES};
-use lb_select::backend::{Backend, SocketAddr};
-use lb_select::refusal::Refusal;
+use lb_health_http::{AcceptStatus, MAX_BODY_BYTES};
+use lb_select_base::backend::{Backend, SocketAddr};
+use lb_select_base::refusal::Refusal;
 use std::alloc::Global;
-use thiserror::Error;
 
 // A millisecond, in nanoseconds.
 const MILLISECOND: u128 = 1_000_000;
 
 /// Why nothing can be checked.
-#[derive(Clone, Copy, Debug, PartialEq, Eq, Error)]
+#[derive(Clone, Copy)]
 pub(crate) enum Refused {
-    #[error("ADDR is no address: names are not looked up")]
     Address,
-    #[error("STATUS is no number from 100 to 999")]
     Status,
-    #[error("METHOD is no method")]
     Method,
-    #[error("PATH is no path of a URI, which begins with a slash")]
     Path,
-    #[error("HOST or VALUE has a byte that no field may have")]
     Value,
-    #[error("FIELD has no colon")]
     Colon,
-    #[error("NAME is no name of a field")]
     Name,
-    #[error("there was no memory for the check")]
     OutOfMemory,
 }
 
+impl Refused {
+    /// What is wrong, in a sentence.
+    pub(crate) fn text(self) -> &'static str {
+        match self {
+            Refused::Address => "ADDR is no address: names are not looked up",
+            Refused::Status => "STATUS is no number from 100 to 999",
+            Refused::Method => "METHOD is no method",
+            Refused::Path => "PATH is no path of a URI, which begins with a slash",
+            Refused::Value => "HOST or VALUE has a byte that no field may have",
+            Refused::Colon => "FIELD has no colon",
+            Refused::Name => "NAME is no name of a field",
+            Refused::OutOfMemory => "there was no memory for the check",
+        }
+    }
+}
+
 /// What is accepted, and the most bytes of a body.
-#[derive(Clone, Copy, Debug)]
+#[derive(Clone, Copy)]
 pub(crate) struct Accepted {
     pub validator: Option<AcceptStatus>,
     pub max_body_bytes: u64,
@@ -107,21 +114,45 @@ fn value_of(alloc: Global, text: &str) -> Result<HeaderValue, Refused> {
     }
 }
 
+// Adds a field.
+fn add(headers: &mut HeaderMap, name: HeaderName, value: HeaderValue) -> Result<(), Refused> {
+    match headers.append(name, value) {
+        Ok(_) => Ok(()),
+        Err(_) => Err(Refused::OutOfMemory),
+    }
+}
+
+// A field's name.
+fn name_of(alloc: Global, text: &str) -> Result<HeaderName, Refused> {
+    match HeaderName::from_bytes(alloc, text.as_bytes()) {
+        Ok(name) => Ok(name),
+        Err(HeaderNameError::Invalid) => Err(Refused::Name),
+        Err(HeaderNameError::OutOfMemory) => Err(Refused::OutOfMemory),
+    }
+}
+
 // Adds the field 'NAME: VALUE'.
 fn add_field(alloc: Global, headers: &mut HeaderMap, text: &str) -> Result<(), Refused> {
     let Some((name, value)) = text.split_once(':') else {
         return Err(Refused::Colon);
     };
-    let name = match HeaderName::from_bytes(alloc, name.as_bytes()) {
-        Ok(name) => name,
-        Err(HeaderNameError::Invalid) => return Err(Refused::Name),
-        Err(HeaderNameError::OutOfMemory) => return Err(Refused::OutOfMemory),
-    };
+    let name = name_of(alloc, name)?;
     let value = value_of(alloc, value.trim())?;
-    match headers.append(name, value) {
-        Ok(_) => Ok(()),
-        Err(_) => Err(Refused::OutOfMemory),
+    add(headers, name, value)
+}
+
+// Adds the fields that are given.
+fn add_fields(
+    alloc: Global,
+    headers: &mut HeaderMap,
+    given: &ArgMatches<'_>,
+) -> Result<(), Refused> {
+    if let Some(fields) = given.get_strs("header") {
+        for field in fields {
+            add_field(alloc, headers, field)?;
+        }
     }
+    Ok(())
 }
 
 // The host that is asked where none is given: the address, and for a Unix socket `localhost`.
@@ -135,6 +166,20 @@ fn host_of<'a>(given: &ArgMatches<'a>, backend: &Backend) -> &'a str {
     }
 }
 
+// Sets what is asked.
+fn ask(
+    alloc: Global,
+    parts: &mut Parts,
+    given: &ArgMatches<'_>,
+    backend: &Backend,
+) -> Result<(), Refused> {
+    parts.method = method_of(alloc, given)?;
+    parts.uri = target_of(alloc, given)?;
+    let host = value_of(alloc, host_of(given, backend))?;
+    add(&mut parts.headers, HOST, host)?;
+    add_fields(alloc, &mut parts.headers, given)
+}
+
 /// The request.
 pub(crate) fn request_of(
     alloc: Global,
@@ -142,16 +187,6 @@ pub(crate) fn request_of(
     backend: &Backend,
 ) -> Result<Request<()>, Refused> {
     let mut parts = Parts::new(alloc);
-    parts.method = method_of(alloc, given)?;
-    parts.uri = target_of(alloc, given)?;
-    let host = value_of(alloc, host_of(given, backend))?;
-    if parts.headers.append(HOST, host).is_err() {
-        return Err(Refused::OutOfMemory);
-    }
-    if let Some(fields) = given.get_strs("header") {
-        for field in fields {
-            add_field(alloc, &mut parts.headers, field)?;
-        }
-    }
+    ask(alloc, &mut parts, given, backend)?;
     Ok(Request::from_parts(parts, ()))
 }

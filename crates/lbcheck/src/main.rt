@@ -1,10 +1,11 @@
 //! Checks one backend as a balancer would, or an answer that lies in a file, and tells in one line what came of it.
-//! What the lines say is in the library `lb_report`; here are the command line, the network and the standard streams.
 #![tactic(auto)]
 
 mod arguments;
 mod asked;
+mod lines;
 mod run;
+mod stored;
 
 use std::process::ExitCode;
 

@@ -1,13 +1,17 @@
 //! The three commands.
 use crate::arguments::command;
-use crate::asked::{Refused, accepted_of, backend_of, method_of, request_of, timeout_of};
+use crate::asked::{Accepted, Refused, accepted_of, backend_of, method_of, request_of, timeout_of};
+use crate::lines::{CheckLine, ReplayLine, exit_status};
+use crate::stored::replay;
 use clap::error::ErrorKind;
 use clap::{ArgMatches, Command, Error};
-use lb_check::{HttpHealthCheck, HttpPeer, TcpHealthCheck, request_for};
-use lb_counted::counted::Counted;
-use lb_probe::error::CheckError;
-use lb_probe::health_check::HealthCheck;
-use lb_report::{CheckLine, ReplayLine, exit_status, replay};
+use http::Request;
+use lb_health_check::error::CheckError;
+use lb_health_check::health_check::HealthCheck;
+use lb_health_http::{HttpHealthCheck, HttpPeer, TcpHealthCheck, request_for};
+use lb_select_base::backend::Backend;
+use lb_stream::counted::Counted;
+use std::alloc::Global;
 use std::env;
 use std::io::{self, BufReader};
 use std::net::{Net, TcpStream};
@@ -16,28 +20,17 @@ use std::rt::Env;
 // How many bytes of standard input are read at a time.
 const INPUT_CAPACITY: usize = 65536;
 
-// lbcheck tcp: the outcome of the check.
-fn check_tcp<R: Net<Stream = TcpStream> + AllocGlobal>(
-    rt: &R,
-    given: &ArgMatches<'_>,
-) -> Result<Result<(), CheckError>, Refused> {
-    let backend = backend_of(rt.alloc(), given)?;
-    Ok(TcpHealthCheck::new(rt).check(rt.alloc(), &backend))
-}
+// The outcome of a check.
+type Outcome = Result<(), CheckError>;
 
-// lbcheck http: the outcome of the check.
-fn check_http<R: Net<Stream = TcpStream> + AllocGlobal>(
-    rt: &R,
+// Sets what the check asks, what it accepts and how long it waits.
+fn prepare<N>(
+    alloc: Global,
+    check: &mut HttpHealthCheck<N>,
     given: &ArgMatches<'_>,
-) -> Result<Result<(), CheckError>, Refused> {
-    let alloc = rt.alloc();
-    let backend = backend_of(alloc, given)?;
+    backend: &Backend,
+) -> Result<(), Refused> {
     let accepted = accepted_of(given)?;
-    let request = request_of(alloc, given, &backend)?;
-    let Ok(mut check) = HttpHealthCheck::new(alloc, rt, "") else {
-        return Err(Refused::OutOfMemory);
-    };
-    check.req = request;
     check.validator = accepted.validator;
     check.max_body_bytes = accepted.max_body_bytes;
     check.port_override = given.get_one::<u16>("port");
@@ -48,7 +41,66 @@ fn check_http<R: Net<Stream = TcpStream> + AllocGlobal>(
             write_timeout: Some(limit),
         };
     }
-    Ok(check.check(alloc, &backend))
+    check.req = request_of(alloc, given, backend)?;
+    Ok(())
+}
+
+// The outcome of the check, once it is prepared.
+fn check_prepared<N: Net<Stream = TcpStream>>(
+    alloc: Global,
+    check: &mut HttpHealthCheck<N>,
+    given: &ArgMatches<'_>,
+    backend: &Backend,
+) -> Result<Outcome, Refused> {
+    prepare(alloc, check, given, backend)?;
+    Ok(check.check(alloc, backend))
+}
+
+// lbcheck http: the outcome of the check.
+fn check_http<R: Net<Stream = TcpStream> + AllocGlobal>(
+    rt: &R,
+    given: &ArgMatches<'_>,
+    backend: &Backend,
+) -> Result<Outcome, Refused> {
+    match HttpHealthCheck::new(rt.alloc(), rt, "") {
+        Ok(mut check) => check_prepared(rt.alloc(), &mut check, given, backend),
+        Err(_) => Err(Refused::OutOfMemory),
+    }
+}
+
+// lbcheck tcp, or lbcheck http: the outcome of the check.
+fn check_backend<R: Net<Stream = TcpStream> + AllocGlobal>(
+    rt: &R,
+    name: &str,
+    given: &ArgMatches<'_>,
+) -> Result<Outcome, Refused> {
+    let backend = backend_of(rt.alloc(), given)?;
+    if name == "tcp" {
+        Ok(TcpHealthCheck::new(rt).check(rt.alloc(), &backend))
+    } else {
+        check_http(rt, given, &backend)
+    }
+}
+
+// The outcome of a check of standard input, and how many bytes it left unread.
+fn replay_input<R: Input + AllocGlobal>(
+    rt: &R,
+    request: &Request<()>,
+    accepted: Accepted,
+) -> Result<ReplayLine, Refused> {
+    let alloc = rt.alloc();
+    let Ok(buffered) = BufReader::with_capacity(alloc, INPUT_CAPACITY, rt.reader()) else {
+        return Err(Refused::OutOfMemory);
+    };
+    let mut reader = Counted::new(buffered);
+    let replayed = replay(
+        alloc,
+        request,
+        &accepted.validator,
+        accepted.max_body_bytes,
+        &mut reader,
+    );
+    Ok(ReplayLine(replayed.outcome, replayed.unread))
 }
 
 // lbcheck replay: the outcome of the check, and how many bytes it left unread.
@@ -56,24 +108,12 @@ fn check_input<R: Input + AllocGlobal>(
     rt: &R,
     given: &ArgMatches<'_>,
 ) -> Result<ReplayLine, Refused> {
-    let alloc = rt.alloc();
     let accepted = accepted_of(given)?;
-    let method = method_of(alloc, given)?;
-    let Ok(request) = request_for(alloc, method, "localhost") else {
-        return Err(Refused::OutOfMemory);
-    };
-    let Ok(buffered) = BufReader::with_capacity(alloc, INPUT_CAPACITY, rt.reader()) else {
-        return Err(Refused::OutOfMemory);
-    };
-    let mut reader = Counted::new(buffered);
-    let replayed = replay(
-        alloc,
-        &request,
-        &accepted.validator,
-        accepted.max_body_bytes,
-        &mut reader,
-    );
-    Ok(ReplayLine(replayed.outcome, replayed.unread))
+    let method = method_of(rt.alloc(), given)?;
+    match request_for(rt.alloc(), method, "localhost") {
+        Ok(request) => replay_input(rt, &request, accepted),
+        Err(_) => Err(Refused::OutOfMemory),
+    }
 }
 
 // Prints the line of a check; the answer is the exit status.
@@ -83,16 +123,15 @@ fn tell<R: Print>(rt: &R, outcome: Result<(), CheckError>) -> io::Result<u8> {
 }
 
 // Prints why nothing was checked; the answer is the exit status.
-fn refuse<R: Print + Eprint + AllocGlobal>(
+fn refuse<R: Print + Eprint>(
     rt: &R,
     command: &mut Command<'_>,
     refused: Refused,
 ) -> io::Result<u8> {
-    if refused == Refused::OutOfMemory {
+    if let Refused::OutOfMemory = refused {
         return tell(rt, Err(CheckError::OutOfMemory));
     }
-    let message = format!(in rt.alloc(); "{refused}")?;
-    let error = command.error(ErrorKind::ValueValidation, message.as_str())?;
+    let error = command.error(ErrorKind::ValueValidation, refused.text())?;
     print_error(rt, &error)
 }
 
@@ -120,6 +159,45 @@ pub(crate) fn give_up<R: Print + Eprint>(rt: &R, error: &io::Error) -> u8 {
     }
 }
 
+// Prints the line of a replayed check; the answer is the exit status.
+fn tell_input<R: Print>(rt: &R, line: ReplayLine) -> io::Result<u8> {
+    println!(rt; "{line}")?;
+    Ok(exit_status(line.0))
+}
+
+// Checks what is asked for, and prints the line of it, or what is wrong; the answer is the exit status.
+fn answer<R>(rt: &R, command: &mut Command<'_>, matches: &ArgMatches<'_>) -> io::Result<u8>
+where
+    R: Net<Stream = TcpStream> + Input + Print + Eprint + AllocGlobal,
+{
+    let Some((name, given)) = matches.subcommand() else {
+        return Ok(2);
+    };
+    let outcome = if name == "replay" {
+        match check_input(rt, given) {
+            Ok(line) => return tell_input(rt, line),
+            Err(refused) => Err(refused),
+        }
+    } else {
+        check_backend(rt, name, given)
+    };
+    match outcome {
+        Ok(outcome) => tell(rt, outcome),
+        Err(refused) => refuse(rt, command, refused),
+    }
+}
+
+// Reads the words, checks, and prints the line of it; the answer is the exit status.
+fn run_words<'a, R>(rt: &R, command: &mut Command<'a>, words: &'a [String]) -> io::Result<u8>
+where
+    R: Net<Stream = TcpStream> + Input + Print + Eprint + AllocGlobal,
+{
+    match command.try_get_matches_from_mut(words) {
+        Ok(matches) => answer(rt, command, &matches),
+        Err(error) => print_error(rt, &error),
+    }
+}
+
 /// Reads the arguments, checks, and prints the line of it. The answer is the exit status: 0 where the check passed or the help
 /// was asked for, 1 where the check failed, 2 for bad arguments.
 pub(crate) fn run<R>(rt: &R) -> io::Result<u8>
@@ -128,26 +206,5 @@ where
 {
     let words: Vec<String> = env::args(rt)?.collect(rt.alloc())?;
     let mut command = command(rt.alloc())?;
-    let matches = match command.try_get_matches_from_mut(words.as_slice()) {
-        Ok(matches) => matches,
-        Err(error) => return print_error(rt, &error),
-    };
-    let Some((name, given)) = matches.subcommand() else {
-        return Ok(2);
-    };
-    let outcome = match name {
-        "tcp" => check_tcp(rt, given),
-        "http" => check_http(rt, given),
-        _ => match check_input(rt, given) {
-            Ok(line) => {
-                println!(rt; "{line}")?;
-                return Ok(exit_status(line.0));
-            }
-            Err(refused) => Err(refused),
-        },
-    };
-    match outcome {
-        Ok(outcome) => tell(rt, outcome),
-        Err(refused) => refuse(rt, &mut command, refused),
-    }
+    run_words(rt, &mut command, words.as_slice())
 }

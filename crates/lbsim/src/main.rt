@@ -2,8 +2,8 @@
 //! It takes no arguments; everything that matters is in the library.
 #![tactic(auto)]
 
-use lb_counted::counted::Counted;
 use lb_script::run::run_script;
+use lb_stream::counted::Counted;
 use std::env;
 use std::io::{self, BufWriter, ErrorKind, Write};
 use std::process::ExitCode;

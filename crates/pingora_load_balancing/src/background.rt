@@ -1,12 +1,12 @@
-//! What runs in the background: the service that checks a registry's targets, the signal that ends it, and the notifier that it is ready;
-//! and, for runs of groups, their driver.
-//! The registry here is the one that threads share; it is made of a plain registry of `health`.
-pub use lb_locked::keyed::{KeyedRegistry, NoRule, keyed_by_address, keyed_by_identity};
-pub use lb_locked::registry::HealthRegistry;
-pub use lb_service::drive::drive;
-pub use lb_service::port::ServicePort;
-pub use lb_service::ready::{ReadyWatch, ServiceReadyNotifier, ready_pair};
-pub use lb_service::service::HealthCheckService;
-pub use lb_service::shutdown::{ShutdownSignal, ShutdownWatch, shutdown_pair};
-pub use lb_workers::drive::drive as drive_group;
-pub use lb_workers::port::RunPort;
+//! What runs in threads of its own: the service that checks a registry's targets, the workers that build a group's selectors, the
+//! signal that ends them, and the notifier that they are ready. A `drive` function runs one of the machines of `schedule`.
+pub use lb_background::drive::drive as drive_service;
+pub use lb_background::ready::{ReadyWatch, ServiceReadyNotifier, ready_pair};
+pub use lb_background::service::HealthCheckService;
+pub use lb_background::shutdown::{ShutdownSignal, ShutdownWatch, shutdown_pair};
+pub use lb_balancer::drive::drive as drive_balancer;
+pub use lb_balancer_group::drive::drive as drive_group;
+pub use lb_balancer_group::start::{start_workers, start_workers_by};
+pub use lb_threads_group::workers::work;
+pub use lb_threads_registry::clock::RuntimeClock;
+pub use lb_threads_registry::wakes::Wakes;

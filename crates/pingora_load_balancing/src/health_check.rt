@@ -1,11 +1,10 @@
 //! Checks of backends, under the upstream crate's names: their trait, their faults, and the checks over TCP and HTTP.
 //! An HTTP check is one exchange over any reader and writer (`check_over`); observers and summaries are type parameters.
-pub use lb_check::{
-    AcceptStatus, BasicPeer, HttpHealthCheck, HttpPeer, MAX_BODY_BYTES, TcpHealthCheck, Validate,
-    check_over, request_for,
+//! A registry keeps one cell of health for each key: by identity (`HealthRegistry::new`), by address, or by a rule of the caller's.
+pub use lb_health::{
+    AcceptStatus, BackendSummary, BasicPeer, BoxedCheck, ByNumber, CheckError, HealthCheck,
+    HealthObserve, HealthObserveCallback, HttpHealthCheck, HttpPeer, IdentitySummary, KeyRule,
+    MAX_BODY_BYTES, Number, Rule, TcpHealthCheck, Validate, check_over, identity_summary,
+    request_for,
 };
-pub use lb_probe::error::CheckError;
-pub use lb_probe::health_check::{
-    BackendSummary, BoxedCheck, HealthCheck, HealthObserve, HealthObserveCallback, IdentitySummary,
-    identity_summary,
-};
+pub use lb_threads_registry::keyed::{KeyedRegistry, NoRule, keyed_by_address, keyed_by_identity};

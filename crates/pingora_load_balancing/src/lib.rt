@@ -1,34 +1,35 @@
-//! Load balancing: selection of backends, groups of selectors that are rebuilt while requests go on, and a world of them.
-//! It passes on what the layers below prove, under the upstream crate's names.
+//! Load balancing: backends, selection, health, and groups of selectors that worker threads rebuild while requests go on.
+//!
+//! The types at the root and in `prelude` are the ones that threads share. The plain states behind them, for callers that have
+//! one thread or locks of their own, are in `plain`. Modules have the upstream crate's names where it has them.
 #![tactic(auto)]
 
 pub mod background;
 pub mod discovery;
-pub mod health;
 pub mod health_check;
-pub mod passes;
+pub mod plain;
 pub mod port;
 pub mod prelude;
-pub mod rebuild;
 pub mod schedule;
-pub mod script;
 pub mod selection;
-pub mod threads;
-pub mod world;
+pub mod simulation;
 
 pub use background::HealthCheckService;
-pub use lb_balance::balancer_core::LoadBalancerCore;
-pub use lb_balance::group_core::LoadBalancerGroupCore;
-pub use lb_balance::lent::{LentBackends, LentGroupBackends};
-pub use lb_balance::load_balancer::LoadBalancer;
-pub use lb_balance::moments::MomentSource;
-pub use lb_balance::served::Served;
-pub use lb_balance::timings::{SelectorUpdateTimings, UpdateTimings};
-pub use lb_health::backends::{BackendView, Backends, BackendsParts};
-pub use lb_health::registry::HealthRegistry;
-pub use lb_locked::gate::SelectorRebuildGate;
+pub use lb_balancer::backends::{Backends, Backends as BackendView};
+pub use lb_balancer::balancing::Balancing;
+pub use lb_balancer::load_balancer::LoadBalancer;
+pub use lb_balancer::reader::BalancerReader;
+pub use lb_balancer::shown::Shown;
+pub use lb_balancer_core::timings::{SelectorUpdateTimings, UpdateTimings};
+pub use lb_balancer_group::backends::SharedBackends;
+pub use lb_balancer_group::group::LoadBalancerGroup;
+pub use lb_balancer_group::parts::GroupParts;
+pub use lb_rebuild::board::GroupPass;
 pub use lb_select::backend::{Backend, Ext, InetAddr, SocketAddr};
 pub use lb_select::loads::Loads;
+pub use lb_select::moments::MomentSource;
 pub use lb_select::refusal::Refusal;
 pub use lb_select::words::{CoreWords, HandedWords, LentWords, SharedWords, WordSource};
-pub use lb_workers::group::LoadBalancerGroup;
+pub use lb_threads_group::group::SharedGroup;
+pub use lb_threads_registry::gate::SelectorRebuildGate;
+pub use lb_threads_registry::registry::HealthRegistry;

@@ -1,9 +1,14 @@
 //! A group by its calls alone: a trait of them, and an update, a worker's turn and a selection over any such port.
-//! The plain group, in the hands of whoever has its registry and its gate, is one.
-pub use lb_port::build::{RefusedJob, build};
-pub use lb_port::plain::PlainPort;
-pub use lb_port::port::{GroupPort, TakesBack};
-pub use lb_port::select::select_through;
-pub use lb_port::source::BackendSource;
-pub use lb_port::turn::{Turn, worker_turn};
-pub use lb_port::update::update_through;
+//! `PlainPort` is the port of a plain group, `LockedPort` that of a group that threads share. The ports of runs have the calls
+//! that a machine of `schedule` asks for.
+pub use lb_background::port::ServicePort;
+pub use lb_balancer::port::BalancerPort;
+pub use lb_balancer_core::build::{RefusedJob, build};
+pub use lb_balancer_core::plain::PlainPort;
+pub use lb_balancer_core::port::{GroupPort, TakesBack};
+pub use lb_balancer_core::select::select_through;
+pub use lb_balancer_core::source::BackendSource;
+pub use lb_balancer_core::turn::{Turn, worker_turn};
+pub use lb_balancer_core::update::update_through;
+pub use lb_balancer_group::port::RunPort;
+pub use lb_threads_group::port::LockedPort;

@@ -1,14 +1,15 @@
 //! Selection of backends, under the upstream crate's names.
-//! Weighted selection has an algorithm for its words; consistent selection goes by a ring.
+//! Weighted selection has an algorithm for its words; consistent selection goes by a ring. `Chosen` is a selector whose kind is its
+//! configuration, for callers that learn the kind at run time.
 pub mod consistent;
 pub mod laws;
 
-pub use lb_ring::ketama::Consistent;
-pub use lb_select::algorithms;
+pub use lb_script_text::kinds::{Chosen, Kind};
+pub use lb_select::ketama::Consistent;
+pub use lb_select::least::{LeastConnections, LeastIterator, LeastWalk};
 pub use lb_select::select::select;
-pub use lb_weighted::least::{LeastConnections, LeastIterator};
-pub use lb_weighted::selection::{
+pub use lb_select::selection::{
     BackendIter, BackendSelection, FNVHash, FVNHash, Random, RoundRobin, SelectionAlgorithm,
     UniqueIterator,
 };
-pub use lb_weighted::weighted;
+pub use lb_select::{algorithms, weighted};

@@ -1,4 +1,4 @@
-//! The yardstick of crates/lb_board_cost: threads that load a word beside one that raises it. `READERS READINGS`.
+//! The yardstick of crates/lb_cost, `board`: threads that load a word beside one that raises it. `READERS READINGS`.
 use std::env;
 use std::sync::atomic::Ordering::SeqCst;
 use std::sync::atomic::{AtomicBool, AtomicU64};

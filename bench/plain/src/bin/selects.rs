@@ -1,4 +1,4 @@
-//! The yardstick of crates/lb_bench: the same runs, from the same lines, with the same answers.
+//! The yardstick of crates/lb_cost, `selects`: the same runs, from the same lines, with the same answers.
 use plainsim::selection::{Address, Backend, Kind, Loads, Selector};
 use std::collections::BTreeSet;
 use std::io::{self, BufRead};

@@ -3,19 +3,19 @@
 ghost use Rattle.std.specs.Prelude.{◌≡◌, ◌&&◌, not, IfOk, IfErr};
 ghost use Rattle.std.specs.List.{list_all, list_any};
 ghost use Rattle.std.specs.BTreeMap.{insert_entry};
-ghost use Rattle.lb_select.specs.Backends.{member_cmp, same_member};
-ghost use Rattle.lb_registry.specs.Keys.{by_identity};
-ghost use Rattle.lb_select.specs.Memberships.{same_members};
+ghost use Rattle.lb_select_base.specs.Backends.{member_cmp, same_member};
+ghost use Rattle.lb_health_registry.specs.Keys.{by_identity};
+ghost use Rattle.lb_select_base.specs.Memberships.{same_members};
 ghost use Rattle.lb_world.specs.Calls.{none_or, some_and, set_marked, with_key};
-ghost use Rattle.lb_health.specs.Joined.{settings_of};
-ghost use Rattle.lb_history.specs.History.{members_in};
-ghost use Rattle.lb_history.specs.Shared.{marked, settings_in};
+ghost use Rattle.lb_health_view.specs.RegistrySide.{settings_of};
+ghost use Rattle.lb_world.specs.History.{members_in};
+ghost use Rattle.lb_world.specs.Shared.{marked, settings_in};
 
-use lb_health::view::Settings;
-use lb_history::step::Listing;
-use lb_select::backend::Backend;
-use lb_select::laws::address_order_law;
-use lb_select::refusal::Refusal;
+use crate::step::Listing;
+use lb_health_view::view::Settings;
+use lb_select_base::backend::Backend;
+use lb_select_base::laws::address_order_law;
+use lb_select_base::refusal::Refusal;
 use std::alloc::Global;
 use std::collections::{BTreeMap, BTreeSet};
 

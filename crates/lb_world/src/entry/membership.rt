@@ -1,39 +1,39 @@
 //! Steps of a group's membership and selections: how a group is made and updated, and what its slots select.
 //! Every cause of refusal is tested before memory is taken.
 ghost use Rattle.std.specs.Prelude.{◌≡◌, ◌↔◌, ◌<◌, ◌≤◌, ◌+◌, ◌^◌, ◌∷◌, ℕ, List, [], map, true, false, None, Err, IfOk, OnErr, IsTrue};
-ghost use Rattle.lb_group.specs.GroupCalls.{is_change, schedule_refusal as refusal_after};
-ghost use Rattle.lb_joined.specs.JoinedHistory.{group_events};
-ghost use Rattle.lb_joined.specs.Stands.{After};
-ghost use Rattle.lb_history.specs.Answers.{has_refused};
-ghost use Rattle.lb_history.specs.History.{members_in};
-ghost use Rattle.lb_history.specs.Meanings.{meaning_of};
-ghost use Rattle.lb_history.specs.Steps as seen;
+ghost use Rattle.lb_rebuild_slots.specs.SlotsCalls.{is_change, schedule_refusal as refusal_after};
+ghost use Rattle.lb_rebuild_group.specs.GroupHistory.{slot_events};
+ghost use Rattle.lb_rebuild_group.specs.Stands.{After};
+ghost use Rattle.lb_world.specs.Answers.{has_refused};
+ghost use Rattle.lb_world.specs.History.{members_in};
+ghost use Rattle.lb_world.specs.Meanings.{meaning_of};
+ghost use Rattle.lb_world.specs.Steps as seen;
 ghost use Rattle.lb_world.specs.Rules.{key_gives};
-ghost use Rattle.lb_world.specs.Stands.{IsEntry, Does, DoesAtRegistry};
+ghost use Rattle.lb_world.specs.Stands.{IsEntry, Performs, PerformsAtRegistry};
 ghost use Rattle.lb_world.specs.Calls.{IsNewEntry, scheduled_as, selection_as};
-ghost use Rattle.lb_rebuild.specs.Gate.{GateValue};
-ghost use Rattle.lb_select.specs.Backends.{Member};
-ghost use Rattle.lb_select.specs.Refusals.{least};
-ghost use Rattle.lb_registry.specs.Registry.{IsRegistryAfter};
-ghost use Rattle.lb_registry.specs.RegistryEvents.{Event, Registered, Applied, Updated, cells_given, has_view};
-ghost use Rattle.lb_registry.specs.RegistryEvents.{registered_after, views_after};
+ghost use Rattle.lb_rebuild_slots.specs.Gate.{GateValue};
+ghost use Rattle.lb_select_base.specs.Backends.{Member};
+ghost use Rattle.lb_select_base.specs.Refusals.{least};
+ghost use Rattle.lb_health_registry.specs.Registry.{IsRegistryAfter};
+ghost use Rattle.lb_health_registry.specs.RegistryEvents.{Event, Registered, Applied, Updated, cells_given, has_view};
+ghost use Rattle.lb_health_registry.specs.RegistryEvents.{registered_after, views_after};
 
 mod cells;
 
 use self::cells::lacks_numbers;
 use super::Entry;
 use super::listed::{differs, members_from, settings_from};
+use crate::answer::Answer;
 use crate::held::with_places;
 use crate::rule::WorldRegistry;
-use lb_group::answers::Selection;
-use lb_group::membership::Scheduled;
-use lb_history::answer::Answer;
-use lb_history::step::Listing;
-use lb_joined::group::GroupCore;
-use lb_rebuild::gate::GateCore;
-use lb_select::loads::Loads;
-use lb_select::refusal::Refusal;
-use lb_select::walk::BackendSelection;
+use crate::step::Listing;
+use lb_rebuild_group::group::GroupCore;
+use lb_rebuild_slots::answers::Selection;
+use lb_rebuild_slots::gate::GateCore;
+use lb_rebuild_slots::membership::Scheduled;
+use lb_select_base::loads::Loads;
+use lb_select_base::refusal::Refusal;
+use lb_select_base::walk::BackendSelection;
 use std::alloc::Global;
 
 impl<S: BackendSelection> Entry<S> {
@@ -86,7 +86,7 @@ impl<S: BackendSelection> Entry<S> {
     ) -> Answer
         requires whole { has_refused listings.items ≡ false }
         requires stands { IsEntry (meaning_of S.BackendSelection) self.old }
-        ensures { DoesAtRegistry (meaning_of S.BackendSelection)
+        ensures { PerformsAtRegistry (meaning_of S.BackendSelection)
             (λ (g : ℕ). seen.update g now listings.items) self.old registry.old result self.new registry.new }
     {
         if let Some(refusal) = self.refusal(&listings) {
@@ -115,7 +115,7 @@ impl<S: BackendSelection> Entry<S> {
         limit: usize,
         words: &[u64],
     ) -> Answer
-        ensures { (z : GateValue) → Does (meaning_of S.BackendSelection)
+        ensures { (z : GateValue) → Performs (meaning_of S.BackendSelection)
             (λ (g : ℕ). seen.select g slot key.now limit words.now) self.old z registry.now result self.new z registry.now }
     {
         let loads = &self.loads;
@@ -127,7 +127,7 @@ impl<S: BackendSelection> Entry<S> {
 
     // Why the group can't take these backends, memory and numbers of cells apart. It takes no memory.
     fn refusal(&self, listings: &[Listing]) -> Option<Refusal>
-        ensures { After self.now.core (λ made e. result ≡ refusal_after (members_in listings.now) (group_events e)) }
+        ensures { After self.now.core (λ made e. result ≡ refusal_after (members_in listings.now) (slot_events e)) }
     {
         if self.core.newest() == u64::MAX && differs(listings, self.core.members()) {
             return Some(Refusal::GenerationsExhausted);
@@ -142,7 +142,7 @@ impl<S: BackendSelection> Entry<S> {
     fn lacks_numbers(&self, registry: &WorldRegistry, listings: &[Listing]) -> bool
         ensures { (key_of : Member → Member) (events : List Event) → IsRegistryAfter key_gives key_of events registry.now
             → has_view self.now.core.view.id (views_after events) ≡ true
-            → After self.now.core (λ made e. IsTrue result ↔ ((is_change (members_in listings.now) (group_events e) ≡ true)
+            → After self.now.core (λ made e. IsTrue result ↔ ((is_change (members_in listings.now) (slot_events e) ≡ true)
             × (2 ^ 64 ≤ cells_given key_of (Updated self.now.core.view.id (members_in listings.now) ∷ Applied ∷ events)))) }
     {
         lacks_numbers(registry, listings) && differs(listings, self.core.members())

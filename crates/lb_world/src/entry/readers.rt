@@ -1,37 +1,37 @@
 //! Steps of the readers of a group.
 //! A reader comes back to the group that it entered.
 ghost use Rattle.std.specs.Prelude.{◌≡◌, ◌↔◌, ◌∷◌, [], List, IsTrue, IfOk};
-ghost use Rattle.lb_select.specs.Backends.{Member};
-ghost use Rattle.lb_group.specs.GroupCalls.{Enters, at_slot, done_at};
-ghost use Rattle.lb_group.specs.GroupHistory.{Entered, Left, past_of, readers as readers_after, served};
-ghost use Rattle.lb_health.specs.Joined.{IsReady};
-ghost use Rattle.lb_joined.specs.JoinedHistory.{At, group_events, in_group};
-ghost use Rattle.lb_joined.specs.Stands.{After, Becomes, SameSite, views_of};
-ghost use Rattle.lb_registry.specs.Registry.{IsRegistryAfter};
-ghost use Rattle.lb_registry.specs.RegistryEvents.{Event};
+ghost use Rattle.lb_select_base.specs.Backends.{Member};
+ghost use Rattle.lb_rebuild_slots.specs.SlotsCalls.{Enters, at_slot, done_at};
+ghost use Rattle.lb_rebuild_slots.specs.SlotsHistory.{Entered, Left, past_of, readers as readers_after, served};
+ghost use Rattle.lb_health_view.specs.RegistrySide.{IsReady};
+ghost use Rattle.lb_rebuild_group.specs.GroupHistory.{At, slot_events, in_group};
+ghost use Rattle.lb_rebuild_group.specs.Stands.{After, Becomes, SameSite, views_of};
+ghost use Rattle.lb_health_registry.specs.Registry.{IsRegistryAfter};
+ghost use Rattle.lb_health_registry.specs.RegistryEvents.{Event};
 ghost use Rattle.lb_world.specs.Rules.{key_gives};
 ghost use Rattle.lb_world.specs.Views.{IsOwnReader};
 ghost use Rattle.lb_world.specs.Calls.{with_core, IsCounted};
 
 use super::Entry;
 use crate::rule::WorldRegistry;
-use lb_group::retired::Reader;
-use lb_select::backend::Backend;
-use lb_select::refusal::Refusal;
-use lb_select::walk::BackendSelection;
+use lb_rebuild_slots::retired::Reader;
+use lb_select_base::backend::Backend;
+use lb_select_base::refusal::Refusal;
+use lb_select_base::walk::BackendSelection;
 
 impl<S: BackendSelection> Entry<S> {
     // How many readers are in what the slot serves, or `None` where no such slot is there.
     pub(crate) fn readers(&self, slot: usize) -> Option<u64>
         ensures { After self.now.core (λ made e.
-            result ≡ at_slot made slot (readers_after (served (past_of slot (group_events e))) (past_of slot (group_events e)))) }
+            result ≡ at_slot made slot (readers_after (served (past_of slot (slot_events e))) (past_of slot (slot_events e)))) }
     {
         self.core.readers(slot)
     }
 
     // Lets a reader enter what the slot serves.
     pub(crate) fn enter(&mut self, slot: usize) -> Result<Reader<S>, Refusal>
-        ensures answers { After self.old.core (λ made e. Enters made (group_events e) slot result) }
+        ensures answers { After self.old.core (λ made e. Enters made (slot_events e) slot result) }
         ensures stands { Becomes self.old.core (in_group (done_at slot Entered result)) self.new.core }
         ensures site { SameSite self.old.core self.new.core }
         ensures own { IfOk result (λ r. IsOwnReader self.new.core r) }

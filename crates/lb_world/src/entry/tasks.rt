@@ -1,21 +1,21 @@
 //! Steps of the jobs of a slot: what is granted, built, lost, published or abandoned, and what is retired.
 //! What a slot's job has become lies in the slot's place from the ask on, so each of these finds there what the history tells.
 ghost use Rattle.std.specs.Prelude.{◌≡◌, ℕ, MatchResult};
-ghost use Rattle.lb_group.specs.SlotCalls.{ask_told};
-ghost use Rattle.lb_history.specs.Meanings.{meaning_of};
-ghost use Rattle.lb_history.specs.Steps as seen;
+ghost use Rattle.lb_rebuild_slots.specs.SlotCalls.{ask_told};
+ghost use Rattle.lb_world.specs.Meanings.{meaning_of};
+ghost use Rattle.lb_world.specs.Steps as seen;
 ghost use Rattle.lb_world.specs.Calls.{IsUngranted, number_of, told_as};
-ghost use Rattle.lb_world.specs.Stands.{IsEntry, Does, DoesAtGate, DoesAlone};
+ghost use Rattle.lb_world.specs.Stands.{IsEntry, Performs, PerformsAtGate, PerformsAlone};
 
 use super::Entry;
+use crate::answer::Answer;
 use crate::held::Work;
 use crate::rule::WorldRegistry;
-use lb_group::answers::{Ask, Publication};
-use lb_group::job::{FailedBuild, Job};
-use lb_history::answer::Answer;
-use lb_rebuild::gate::GateCore;
-use lb_select::refusal::Refusal;
-use lb_select::walk::BackendSelection;
+use lb_rebuild_slots::answers::{Ask, Publication};
+use lb_rebuild_slots::gate::GateCore;
+use lb_rebuild_slots::job::{FailedBuild, Job};
+use lb_select_base::refusal::Refusal;
+use lb_select_base::walk::BackendSelection;
 use std::alloc::Global;
 
 impl<S: BackendSelection> Entry<S> {
@@ -23,7 +23,7 @@ impl<S: BackendSelection> Entry<S> {
     pub(crate) fn ask(&mut self, slot: usize, gate: &mut GateCore, now: u128) -> Answer
         requires gate { gate.old.id ≡ self.old.core.group.gate }
         requires stands { IsEntry (meaning_of S.BackendSelection) self.old }
-        ensures { DoesAtGate (meaning_of S.BackendSelection) (λ (g : ℕ). seen.ask g slot now)
+        ensures { PerformsAtGate (meaning_of S.BackendSelection) (λ (g : ℕ). seen.ask g slot now)
             self.old gate.old result self.new gate.new }
     {
         match self.core.ask(slot, gate, now) {
@@ -51,7 +51,7 @@ impl<S: BackendSelection> Entry<S> {
     ) -> Answer
         requires gate { gate.old.id ≡ self.old.core.group.gate }
         requires stands { IsEntry (meaning_of S.BackendSelection) self.old }
-        ensures { Does (meaning_of S.BackendSelection) (λ (g : ℕ). seen.build g slot now)
+        ensures { Performs (meaning_of S.BackendSelection) (λ (g : ℕ). seen.build g slot now)
             self.old gate.old registry.old result self.new gate.new registry.new }
     {
         if slot >= self.works.len() {
@@ -87,7 +87,7 @@ impl<S: BackendSelection> Entry<S> {
     ) -> Answer
         requires gate { gate.old.id ≡ self.old.core.group.gate }
         requires stands { IsEntry (meaning_of S.BackendSelection) self.old }
-        ensures { Does (meaning_of S.BackendSelection) (λ (g : ℕ). seen.failbuild g slot now)
+        ensures { Performs (meaning_of S.BackendSelection) (λ (g : ℕ). seen.failbuild g slot now)
             self.old gate.old registry.old result self.new gate.new registry.new }
     {
         if slot >= self.works.len() {
@@ -106,7 +106,7 @@ impl<S: BackendSelection> Entry<S> {
 
     // Ends the slot's flight as lost; what is held of it stays.
     pub(crate) fn lost(&mut self, slot: usize) -> Answer
-        ensures { DoesAlone (meaning_of S.BackendSelection) (λ (g : ℕ). seen.lost g slot)
+        ensures { PerformsAlone (meaning_of S.BackendSelection) (λ (g : ℕ). seen.lost g slot)
             self.old result self.new }
     {
         let flight = self.core.flight(slot);
@@ -119,7 +119,7 @@ impl<S: BackendSelection> Entry<S> {
     // Serves what is held built for the slot, or retires it unserved.
     pub(crate) fn publish(&mut self, slot: usize) -> Answer
         requires stands { IsEntry (meaning_of S.BackendSelection) self.old }
-        ensures { DoesAlone (meaning_of S.BackendSelection) (λ (g : ℕ). seen.publish g slot)
+        ensures { PerformsAlone (meaning_of S.BackendSelection) (λ (g : ℕ). seen.publish g slot)
             self.old result self.new }
     {
         if slot >= self.works.len() {
@@ -138,7 +138,7 @@ impl<S: BackendSelection> Entry<S> {
     // Retires what is held built for the slot, unserved.
     pub(crate) fn abandon(&mut self, slot: usize) -> Answer
         requires stands { IsEntry (meaning_of S.BackendSelection) self.old }
-        ensures { DoesAlone (meaning_of S.BackendSelection) (λ (g : ℕ). seen.abandon g slot)
+        ensures { PerformsAlone (meaning_of S.BackendSelection) (λ (g : ℕ). seen.abandon g slot)
             self.old result self.new }
     {
         if slot >= self.works.len() {
@@ -164,7 +164,7 @@ impl<S: BackendSelection> Entry<S> {
     ) -> Answer
         requires gate { gate.old.id ≡ self.old.core.group.gate }
         requires stands { IsEntry (meaning_of S.BackendSelection) self.old }
-        ensures { Does (meaning_of S.BackendSelection) (λ (g : ℕ). seen.destroy g slot)
+        ensures { Performs (meaning_of S.BackendSelection) (λ (g : ℕ). seen.destroy g slot)
             self.old gate.old registry.old result self.new gate.new registry.new }
     {
         match self.core.take_retired(slot) {

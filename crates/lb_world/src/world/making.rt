@@ -1,29 +1,29 @@
 //! Steps that make registries, gates and groups.
 //! Every cause of refusal is tested before memory is taken.
 ghost use Rattle.std.specs.Prelude.{◌≡◌, ◌∷◌, [], map, nat_lt, Option, Some, None, IfOk, OnErr};
-ghost use Rattle.lb_select.specs.Refusals.{earlier as earlier_of, least};
-ghost use Rattle.lb_history.specs.Answers.{no_such};
-ghost use Rattle.lb_history.specs.History.{History};
-ghost use Rattle.lb_history.specs.Meanings.{meaning_of};
-ghost use Rattle.lb_history.specs.Shared.{key_by, started};
-ghost use Rattle.lb_history.specs.Steps as seen;
+ghost use Rattle.lb_select_base.specs.Refusals.{earlier as earlier_of, least};
+ghost use Rattle.lb_world.specs.Answers.{no_such};
+ghost use Rattle.lb_world.specs.History.{History};
+ghost use Rattle.lb_world.specs.Meanings.{meaning_of};
+ghost use Rattle.lb_world.specs.Shared.{key_by, started};
+ghost use Rattle.lb_world.specs.Steps as seen;
 ghost use Rattle.lb_world.specs.Calls.{in_tables};
 ghost use Rattle.lb_world.specs.Rules.{key_gives};
-ghost use Rattle.lb_registry.specs.Registry.{IsRegistryAfter};
+ghost use Rattle.lb_health_registry.specs.Registry.{IsRegistryAfter};
 ghost use Rattle.lb_world.specs.Works.{world_value};
 ghost use Rattle.lb_world.specs.Stands.{Stands};
 
 use super::Tables;
+use crate::answer::Answer;
 use crate::entry::Entry;
 use crate::rule::WorldRegistry;
-use lb_history::answer::Answer;
-use lb_history::step::CellKey;
-use lb_rebuild::gate::GateCore;
-use lb_registry::keys::Rule;
-use lb_registry::registry::Registry;
-use lb_select::causes::least_refusal;
-use lb_select::refusal::Refusal;
-use lb_select::walk::BackendSelection;
+use crate::step::CellKey;
+use lb_health_registry::keys::Rule;
+use lb_health_registry::registry::Registry;
+use lb_rebuild_slots::gate::GateCore;
+use lb_select_base::causes::least_refusal;
+use lb_select_base::refusal::Refusal;
+use lb_select_base::walk::BackendSelection;
 use std::alloc::Global;
 
 impl<S: BackendSelection> Tables<S> {

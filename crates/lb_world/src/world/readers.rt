@@ -1,18 +1,18 @@
 //! Steps of readers.
 //! A reader has a number of its own for good; a number that was never given, or has left, is refused.
 ghost use Rattle.std.specs.Prelude.{◌≡◌, ◌∷◌};
-ghost use Rattle.lb_history.specs.History.{History};
-ghost use Rattle.lb_history.specs.Meanings.{meaning_of};
-ghost use Rattle.lb_history.specs.Steps as seen;
+ghost use Rattle.lb_world.specs.History.{History};
+ghost use Rattle.lb_world.specs.Meanings.{meaning_of};
+ghost use Rattle.lb_world.specs.Steps as seen;
 ghost use Rattle.lb_world.specs.Works.{world_value};
 ghost use Rattle.lb_world.specs.Stands.{IsFounded, Stands};
 
 use super::Tables;
+use crate::answer::Answer;
 use crate::held::OpenReader;
-use lb_history::answer::Answer;
-use lb_select::backend::Backend;
-use lb_select::refusal::Refusal;
-use lb_select::walk::BackendSelection;
+use lb_select_base::backend::Backend;
+use lb_select_base::refusal::Refusal;
+use lb_select_base::walk::BackendSelection;
 use std::mem;
 
 impl<S: BackendSelection> Tables<S> {

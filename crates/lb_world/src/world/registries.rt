@@ -1,16 +1,16 @@
 //! Steps at a registry: verdicts of checks, and its targets.
 //! A verdict reaches a cell that is kept; the targets are those after the marks that wait.
 ghost use Rattle.std.specs.Prelude.{◌≡◌, ◌∷◌};
-ghost use Rattle.lb_history.specs.History.{History};
-ghost use Rattle.lb_history.specs.Meanings.{meaning_of};
-ghost use Rattle.lb_history.specs.Steps as seen;
+ghost use Rattle.lb_world.specs.History.{History};
+ghost use Rattle.lb_world.specs.Meanings.{meaning_of};
+ghost use Rattle.lb_world.specs.Steps as seen;
 ghost use Rattle.lb_world.specs.Works.{world_value};
 ghost use Rattle.lb_world.specs.Stands.{Stands};
 
 use super::Tables;
-use lb_history::answer::{Answer, TargetList};
-use lb_select::refusal::Refusal;
-use lb_select::walk::BackendSelection;
+use crate::answer::{Answer, TargetList};
+use lb_select_base::refusal::Refusal;
+use lb_select_base::walk::BackendSelection;
 
 impl<S: BackendSelection> Tables<S> {
     pub(super) fn verdict(&mut self, registry: u64, cell: u64, ok: bool, threshold: usize) -> Answer

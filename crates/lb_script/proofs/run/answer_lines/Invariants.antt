@@ -1,7 +1,7 @@
 use Rattle.std.proofs.Common.{◌≡◌, false, IfSome}
 use Rattle.std.specs.Io.KnownBytes.{prepend_known}
-use Rattle.lb_history.specs.Meanings.{meaning_of}
-use Rattle.lb_counted.specs.Counted.{inner_of, has_failed}
+use Rattle.lb_world.specs.Meanings.{meaning_of}
+use Rattle.lb_stream.specs.Counted.{inner_of, has_failed}
 use Rattle.lb_script.proofs.RunLemmas.{SoFar}
 use Rattle.lb_script.proofs.run.answer_lines.Given as goal
 

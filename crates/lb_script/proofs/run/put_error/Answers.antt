@@ -2,10 +2,10 @@ use Rattle.std.proofs.Common.{◌≡◌, ◌∙◌, subst, List, ℕ, Option, �
 use Rattle.std.specs.Io.KnownBytes.{Appends}
 use Rattle.std.proofs.KnownBytes.{Appends-trans}
 use Rattle.std.proofs.lemmas.Result.{on_err_weaker}
-use Rattle.lb_counted.specs.Counted.{inner_of}
-use Rattle.lb_counted.specs.Stream.{AppendsFront}
-use Rattle.lb_step_text.specs.Texts.{script_error_name}
-use Rattle.lb_counted.proofs.StreamLemmas.{on_err, front_more, front_after}
+use Rattle.lb_stream.specs.Counted.{inner_of}
+use Rattle.lb_stream.specs.Stream.{AppendsFront}
+use Rattle.lb_script_text.specs.Texts.{script_error_name}
+use Rattle.lb_stream.proofs.StreamLemmas.{on_err, front_more, front_after}
 use Rattle.lb_script.proofs.run.put_error.Goals as goal
 
 -- the five parts, and where each fails after those before it were written; `shown` is the number's text, and `named` the name's

@@ -1,18 +1,18 @@
 //! Whether numbers are left for the cells that the listings of an update start. They are counted without memory, and only where
 //! the numbers that are left may not be enough.
 ghost use Rattle.std.specs.Prelude.{◌≡◌, ◌↔◌, ◌≤◌, ◌^◌, ◌∷◌, ℕ, List, true, IsTrue};
-ghost use Rattle.lb_history.specs.History.{members_in};
+ghost use Rattle.lb_world.specs.History.{members_in};
 ghost use Rattle.lb_world.specs.Cells.{lists_key, new_keys, starts_cell};
 ghost use Rattle.lb_world.specs.Rules.{key_gives};
 ghost use Rattle.lb_world.specs.Calls.{some_and};
-ghost use Rattle.lb_registry.specs.Registry.{IsRegistryAfter};
-ghost use Rattle.lb_registry.specs.RegistryEvents.{Event, Applied, Updated, cells_given, has_view, views_after};
-ghost use Rattle.lb_registry.specs.Targets.{live};
-ghost use Rattle.lb_select.specs.Backends.{Member, same_member};
+ghost use Rattle.lb_health_registry.specs.Registry.{IsRegistryAfter};
+ghost use Rattle.lb_health_registry.specs.RegistryEvents.{Event, Applied, Updated, cells_given, has_view, views_after};
+ghost use Rattle.lb_health_registry.specs.Targets.{live};
+ghost use Rattle.lb_select_base.specs.Backends.{Member, same_member};
 
 use crate::rule::WorldRegistry;
-use lb_history::step::Listing;
-use lb_select::backend::Backend;
+use crate::step::Listing;
+use lb_select_base::backend::Backend;
 
 // Whether fewer numbers are left than a view's update to these backends starts cells.
 pub(crate) fn lacks_numbers(registry: &WorldRegistry, listings: &[Listing]) -> bool

@@ -1,7 +1,7 @@
 use Rattle.std.proofs.Common.{◌≡◌, ◌∙◌, ◌++◌, ap, List, ℕ, Err}
 use Rattle.std.specs.Io.KnownBytes.{prepend_known}
-use Rattle.lb_history.specs.Meanings.{meaning_of}
-use Rattle.lb_counted.specs.Counted.{inner_of}
+use Rattle.lb_world.specs.Meanings.{meaning_of}
+use Rattle.lb_stream.specs.Counted.{inner_of}
 use Rattle.lb_script.proofs.SessionLemmas.{answered_line, answered_rest, failed_line, line_told, answers_told}
 use Rattle.lb_script.proofs.session.Session.take_read_turn.Goals as goal
 

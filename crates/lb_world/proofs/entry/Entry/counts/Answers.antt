@@ -1,5 +1,5 @@
 -- The numbers that the core reads are the history's.
-use Rattle.lb_history.specs.Answers.{numbers_of}
+use Rattle.lb_world.specs.Answers.{numbers_of}
 use Rattle.lb_world.proofs.Words.{Answer, inl, refl, Step, sym}
 use Rattle.lb_world.proofs.Entries.{next-core, next-refused, reading-told, stays, unshared}
 use Rattle.lb_world.proofs.entry.Entry.counts.Goals as goal

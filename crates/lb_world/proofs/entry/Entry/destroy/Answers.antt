@@ -1,11 +1,11 @@
 -- The core takes the selector out, and its report is owed then.
-use Rattle.lb_joined.specs.Stands.{SameSite}
-use Rattle.lb_world.proofs.Words.{◌∙◌, false≢true, JoinedValue, refl, site, sym}
+use Rattle.lb_rebuild_group.specs.Stands.{SameSite}
+use Rattle.lb_world.proofs.Words.{◌∙◌, false≢true, GroupValue, refl, site, sym}
 use Rattle.lb_world.proofs.Entries.{does-destroy, does-refuse-destruction, owed-now}
 use Rattle.lb_world.proofs.entry.Entry.destroy.Goals as goal
 
 -- a site that two calls left
-site-then : {C : Type 0} {u v w : JoinedValue C} → SameSite u v → SameSite v w → SameSite u w
+site-then : {C : Type 0} {u v w : GroupValue C} → SameSite u v → SameSite v w → SameSite u w
 site-then a b =
     record {
       group =

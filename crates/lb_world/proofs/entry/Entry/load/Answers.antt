@@ -1,7 +1,7 @@
 -- The load that was set is the one that the history tells; where memory was refused, nothing is set.
-use Rattle.lb_select.specs.Loads.{SetsLoad}
+use Rattle.lb_select_base.specs.Loads.{SetsLoad}
 use Rattle.lb_world.proofs.Words.{◌∷◌, ◌∙◌, ◌≡◌, ◌++◌, ◌&&◌, [], Answer, Answers, ap, Before, cond, EntryNext, EntryValue, eq-eqb, gate}
-use Rattle.lb_world.proofs.Words.{GateValue, group_events, happened, held_of, History, inl, inr, joined_after, joined_events, List, load_in}
+use Rattle.lb_world.proofs.Words.{GateValue, slot_events, happened, held_of, History, inl, inr, group_after_step, group_events, List, load_in}
 use Rattle.lb_world.proofs.Words.{load_of, Meaning, Member, origin, past_of, permit_after, refl, Refusal, RegistryValue, same_member, Some}
 use Rattle.lb_world.proofs.Words.{Step, sym, without_memory, work, WorldRule, ℕ}
 use Rattle.lb_world.proofs.Entries.{events-here, group-told, next, stays, unshared}
@@ -12,8 +12,8 @@ module _ {C : Type 0} {M : Meaning C} {h : History C} {g : ℕ} {e : EntryValue 
   -- loads that are what the history tells
   lent : {m : Member} {l : ℕ} {a : Answer} (new : List (Member × ℕ)) → Answers M h (Step.load g (Some m) l) a
       → ((q : Member) → load_in new q ≡ load_of g q ((Step.load g (Some m) l, a) ∷ h))
-      → joined_after h (group_events g h) (joined_events g h) (Step.load g (Some m) l) a ≡ joined_events g h
-      → happened h (group_events g h) (Step.load g (Some m) l) a ≡ [] → permit_after {C = C} (Step.load g (Some m) l) a z.out ≡ z.out
+      → group_after_step h (slot_events g h) (group_events g h) (Step.load g (Some m) l) a ≡ group_events g h
+      → happened h (slot_events g h) (Step.load g (Some m) l) a ≡ [] → permit_after {C = C} (Step.load g (Some m) l) a z.out ≡ z.out
       → EntryNext M h g (Step.load g (Some m) l) a e z (record e { loads = new }) z v
   lent {m} {l} {a} new right loads joins none out =
       let st : Step C = Step.load g (Some m) l in
@@ -21,7 +21,7 @@ module _ {C : Type 0} {M : Meaning C} {h : History C} {g : ℕ} {e : EntryValue 
       (λ s c k cs ks.
       b.is.works_are s c k cs ks
       ∙ ap (λ es. held_of (origin e.core) s c (past_of s es) (work g s h))
-      (sym (events-here h st a g refl ∙ ap (λ es. es ++ group_events g h) none)))
+      (sym (events-here h st a g refl ∙ ap (λ es. es ++ slot_events g h) none)))
       loads (ap (gate z.id) (sym out)) (unshared b st a refl refl)
 
   does-load : (m : Member) (l : ℕ) (new : List (Member × ℕ)) → SetsLoad (load_in e.loads) m l (load_in new)

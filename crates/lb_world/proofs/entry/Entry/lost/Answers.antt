@@ -1,11 +1,11 @@
 -- The flight that the core lost is the one that was read.
-use Rattle.lb_group.specs.GroupCalls.{lose_refusal}
-use Rattle.lb_history.specs.Answers.{lost_answer}
+use Rattle.lb_rebuild_slots.specs.SlotsCalls.{lose_refusal}
+use Rattle.lb_world.specs.Answers.{lost_answer}
 use Rattle.lb_world.specs.Calls.{number_of}
-use Rattle.lb_group.specs.GroupHistory as group
-use Rattle.lb_joined.specs.JoinedHistory as joined
+use Rattle.lb_rebuild_slots.specs.SlotsHistory as slots
+use Rattle.lb_rebuild_group.specs.GroupHistory as group
 use Rattle.lb_world.proofs.Words.{◌∙◌, ◌≡◌, Answer, answer_after, ap, at_one, at_slot, Before, Bool, cond, config, configs_of, EntryValue}
-use Rattle.lb_world.proofs.Words.{flight_after, GateValue, History, inl, joined_events, length, Meaning, nat_lt, None, Option, past, past_of}
+use Rattle.lb_world.proofs.Words.{flight_after, GateValue, History, inl, group_events, length, Meaning, nat_lt, None, Option, past, past_of}
 use Rattle.lb_world.proofs.Words.{refl, Refusal, RegistryValue, site, Some, Step, sym, true, unless_refused, WorldRule, ℕ}
 use Rattle.lb_world.proofs.Entries.{next-core, next-refused, reading-told, same-flight, unshared}
 use Rattle.lb_world.proofs.entry.Entry.lost.Goals as goal
@@ -21,14 +21,14 @@ told-flight there flies n r is = rw (← is) refl
 module _ {C : Type 0} {M : Meaning C} {h : History C} {g : ℕ} {e : EntryValue C} {z : GateValue} {v : RegistryValue WorldRule}
     (b : Before M h g e z v) where
   told-lost : (s : ℕ) (f : Option (Option ℕ)) (r : Option Refusal)
-      → f ≡ at_slot (site e.core) s (flight_after (past_of s (joined.group_events (joined_events g h))))
-      → lose_refusal (site e.core) s (joined.group_events (joined_events g h)) ≡ r
+      → f ≡ at_slot (site e.core) s (flight_after (past_of s (group.slot_events (group_events g h))))
+      → lose_refusal (site e.core) s (group.slot_events (group_events g h)) ≡ r
       → answer_after M h (Step.lost g s) ≡ unless_refused r (Answer.Lost (number_of f))
   told-lost s f r to is =
-      let x = group.extra (past_of s (joined.group_events (joined_events g h))) in
-      ap (λ o. at_one (config g s h) (λ c. lost_answer o)) (same-flight (group.extra (past g s h)))
+      let x = slots.extra (past_of s (group.slot_events (group_events g h))) in
+      ap (λ o. at_one (config g s h) (λ c. lost_answer o)) (same-flight (slots.extra (past g s h)))
       ∙ reading-told b.is s flight_after lost_answer f to
-      ∙ rw to (told-flight (nat_lt s (length (configs_of e.core.group))) (group.is_flight x) (group.flight_number x) r is)
+      ∙ rw to (told-flight (nat_lt s (length (configs_of e.core.group))) (slots.is_flight x) (slots.flight_number x) r is)
 
 pub returns : goal.returns
 returns g c =

@@ -1,13 +1,13 @@
 -- What the core answered, as the history tells it.
-use Rattle.lb_group.specs.declared.answers.Selection.{Selection}
-use Rattle.lb_history.proofs.Selections.{Told, drew-so, selects}
-use Rattle.lb_history.specs.Answers.{selected}
-use Rattle.lb_joined.proofs.Undrawn.{undrawn}
-use Rattle.lb_joined.specs.JoinedCalls.{after_select}
+use Rattle.lb_rebuild_slots.specs.declared.answers.Selection.{Selection}
+use Rattle.lb_world.proofs.Selections.{Told, drew-so, selects}
+use Rattle.lb_world.specs.Answers.{selected}
+use Rattle.lb_rebuild_group.proofs.Undrawn.{undrawn}
+use Rattle.lb_rebuild_group.specs.GroupCalls.{after_select}
 use Rattle.lb_world.specs.Calls.{selected_as, selection_as}
-use Rattle.lb_joined.specs.JoinedHistory as joined
-use Rattle.lb_joined.specs.Stands as stands
-use Rattle.lb_world.proofs.Words.{◌≡◌, Before, EntryNext, EntryValue, Err, GateValue, History, inl, inr, joined_events, JoinedValue, List}
+use Rattle.lb_rebuild_group.specs.GroupHistory as group
+use Rattle.lb_rebuild_group.specs.Stands as stands
+use Rattle.lb_world.proofs.Words.{◌≡◌, Before, EntryNext, EntryValue, Err, GateValue, History, inl, inr, group_events, GroupValue, List}
 use Rattle.lb_world.proofs.Words.{load_in, made_of, Meaning, Member, None, Ok, Option, refl, Refusal, RegistryValue, Result, site, Some}
 use Rattle.lb_world.proofs.Words.{Step, subst, sym, with_core, WorldRule, ℕ}
 use Rattle.lb_world.proofs.Entries.{Moves, next-core, next-refused, unshared}
@@ -22,14 +22,14 @@ told-selected (Err e) t alone = rw (alone e refl) refl
 
 module _ {C : Type 0} {M : Meaning C} {h : History C} {g : ℕ} {e : EntryValue C} {z : GateValue} {v : RegistryValue WorldRule}
     (b : Before M h g e z v) (s : ℕ) (key : List ℕ) (limit : ℕ) (words : List ℕ) (x : Selection) where
-  does-select : {core : JoinedValue C}
-      → Told M h g s key limit words (made_of e) (site e.core) (load_in e.loads) x (joined.group_events (joined_events g h))
-      → Moves e (after_select (site e.core) s x (joined_events g h)) core
+  does-select : {core : GroupValue C}
+      → Told M h g s key limit words (made_of e) (site e.core) (load_in e.loads) x (group.slot_events (group_events g h))
+      → Moves e (after_select (site e.core) s x (group_events g h)) core
       → EntryNext M h g (Step.select g s key limit words) (selection_as x) e z (with_core core e) z v
   does-select {core} told moves =
       elim (selects M h g s key limit words (made_of e) (site e.core) (load_in e.loads) x b.is.made_is refl b.run b.is.loads_are told) [
         | inl short ↦
-            rw short.0 (next-refused b refl short.2 (moves.0, undrawn (site e.core) s (joined_events g h) core x short.1 moves.1))
+            rw short.0 (next-refused b refl short.2 (moves.0, undrawn (site e.core) s (group_events g h) core x short.1 moves.1))
         | inr right ↦
             let drew = drew-so M h g s key limit words (made_of e) (site e.core) (load_in e.loads) x b.is.made_is refl x.answer in
             rw (told-selected x.answer x.tickets right.0)

@@ -1,15 +1,15 @@
 -- Why it is refused, and what the core's call does, as the history tells it.
-use Rattle.lb_group.specs.GroupCalls.{is_change, schedule_refusal}
-use Rattle.lb_group.specs.declared.membership.Scheduled.{Scheduled}
-use Rattle.lb_health.specs.Joined.{registry_updated}
-use Rattle.lb_history.proofs.Updates.{Lacks, lacking, owned, refused, starved, updates, view-there}
-use Rattle.lb_joined.specs.JoinedCalls.{IsRefusedFor, Schedules, after_schedule}
+use Rattle.lb_rebuild_slots.specs.SlotsCalls.{is_change, schedule_refusal}
+use Rattle.lb_rebuild_slots.specs.declared.membership.Scheduled.{Scheduled}
+use Rattle.lb_health_view.specs.RegistrySide.{registry_updated}
+use Rattle.lb_world.proofs.Updates.{Lacks, lacking, owned, refused, starved, updates, view-there}
+use Rattle.lb_rebuild_group.specs.GroupCalls.{IsRefusedFor, Schedules, after_schedule}
 use Rattle.lb_world.specs.Calls.{scheduled_as}
-use Rattle.lb_joined.specs.JoinedHistory as joined
-use Rattle.lb_joined.specs.Stands as stands
-use Rattle.lb_registry.specs.RegistryEvents as registry
+use Rattle.lb_rebuild_group.specs.GroupHistory as group
+use Rattle.lb_rebuild_group.specs.Stands as stands
+use Rattle.lb_health_registry.specs.RegistryEvents as registry
 use Rattle.lb_world.proofs.Words.{◌^◌, ◌↔◌, ◌∙◌, ◌∷◌, ◌≡◌, ◌≤◌, Answer, ap, Before, Bool, EntryNext, EntryValue, Err, false, GateValue}
-use Rattle.lb_world.proofs.Words.{has_refused, History, IsRegistryAfter, IsTrue, joined_events, JoinedValue, key_gives, key_of, List, Listing}
+use Rattle.lb_world.proofs.Words.{has_refused, History, IsRegistryAfter, IsTrue, group_events, GroupValue, key_gives, key_of, List, Listing}
 use Rattle.lb_world.proofs.Words.{made_of, Meaning, meaning_of, members_in, None, Ok, refl, Refusal, registry_events, RegistryValue}
 use Rattle.lb_world.proofs.Words.{settings_in, site, Step, subst, sym, true, true≢false, views_of, with_core, WorldRule, ℕ}
 use Rattle.lb_world.proofs.Entries.{Moves, next-core, next-refused, stays}
@@ -26,11 +26,11 @@ module _ {C : Type 0} {M : Meaning C} {h : History C} {g : ℕ} {e : EntryValue 
       registry.cells_given (key_of g h) (registry.Updated e.core.view.id (members_in ls) ∷ registry.Applied ∷ registry_events e.registry h)
 
   -- the group has no cause of its own; and what the count of numbers told then, before memory is taken
-  module _ (none : schedule_refusal (members_in ls) (joined.group_events (joined_events g h)) ≡ None) {lack : Bool}
+  module _ (none : schedule_refusal (members_in ls) (group.slot_events (group_events g h)) ≡ None) {lack : Bool}
       (told : registry.has_view e.core.view.id (registry.views_after (registry_events e.registry h)) ≡ true
-      → (IsTrue lack ↔ ((is_change (members_in ls) (joined.group_events (joined_events g h)) ≡ true) × (2 ^ 64 ≤ cells))))
+      → (IsTrue lack ↔ ((is_change (members_in ls) (group.slot_events (group_events g h)) ≡ true) × (2 ^ 64 ≤ cells))))
     where
-      counted : IsTrue lack ↔ ((is_change (members_in ls) (joined.group_events (joined_events g h)) ≡ true) × (2 ^ 64 ≤ cells))
+      counted : IsTrue lack ↔ ((is_change (members_in ls) (group.slot_events (group_events g h)) ≡ true) × (2 ^ 64 ≤ cells))
       counted = told (view-there M h g now ls (made_of e) b.run b.is.made_is whole none)
 
       does-lack : lack ≡ true → EntryNext M h g st (Answer.Refused Refusal.NumbersExhausted) e z e z v
@@ -45,10 +45,10 @@ module _ {C : Type 0} {M : Meaning C} {h : History C} {g : ℕ} {e : EntryValue 
           (λ change many. true≢false (sym (counted.1 (change, many)) ∙ is))) (stays b.is)
 
   -- a refusal of the core's
-  does-refuse : {r : Refusal} {core : JoinedValue C} {u : RegistryValue WorldRule}
-      → IsRefusedFor (joined.group_events (joined_events g h)) (members_in ls) r
+  does-refuse : {r : Refusal} {core : GroupValue C} {u : RegistryValue WorldRule}
+      → IsRefusedFor (group.slot_events (group_events g h)) (members_in ls) r
       → (r ≡ Refusal.NoSuch → registry.has_view e.core.view.id (registry.views_after (registry_events e.registry h)) ≡ false)
-      → (r ≡ Refusal.NumbersExhausted → 2 ^ 64 ≤ cells) → Lacks M h g now ls (made_of e) (Err r) → Moves e (joined_events g h) core
+      → (r ≡ Refusal.NumbersExhausted → 2 ^ 64 ≤ cells) → Lacks M h g now ls (made_of e) (Err r) → Moves e (group_events g h) core
       → IsRegistryAfter key_gives (key_of g h) (registry_events e.registry h) u
       → EntryNext M h g st (Answer.Refused r) e z (with_core core e) z u
   does-refuse {u = u} why unknown numbers lacks moves kept =
@@ -56,13 +56,13 @@ module _ {C : Type 0} {M : Meaning C} {h : History C} {g : ℕ} {e : EntryValue 
       next-refused lent refl (refused M h g now ls (made_of e) b.run b.is.made_is whole why unknown numbers lacks) moves
 
   -- the core made it the newest, or left the newest
-  does-update : (s : Scheduled) {core : JoinedValue C} {u : RegistryValue WorldRule}
-      → Schedules (site e.core) (joined_events g h) (members_in ls) (Ok s) → Lacks M h g now ls (made_of e) (Ok s)
+  does-update : (s : Scheduled) {core : GroupValue C} {u : RegistryValue WorldRule}
+      → Schedules (site e.core) (group_events g h) (members_in ls) (Ok s) → Lacks M h g now ls (made_of e) (Ok s)
       → Moves e
-      (after_schedule (key_of g h) e.core.view.id (members_in ls) (settings_in ls) now (registry_events e.registry h) (joined_events g h))
+      (after_schedule (key_of g h) e.core.view.id (members_in ls) (settings_in ls) now (registry_events e.registry h) (group_events g h))
       core
       → IsRegistryAfter key_gives (key_of g h)
-      (registry_updated (key_of g h) e.core.view.id (members_in ls) (views_of (site e.core) (joined_events g h))
+      (registry_updated (key_of g h) e.core.view.id (members_in ls) (views_of (site e.core) (group_events g h))
       (registry_events e.registry h)) u
       → EntryNext M h g st (scheduled_as s) e z (with_core core e) z u
   does-update s {core} {u} scheduled lacks moves kept =

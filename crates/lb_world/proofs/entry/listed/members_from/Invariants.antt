@@ -1,5 +1,5 @@
 use Rattle.std.proofs.Common.{◌≡◌}
-use Rattle.lb_history.specs.History.{members_in}
+use Rattle.lb_world.specs.History.{members_in}
 use Rattle.lb_world.proofs.entry.listed.members_from.Given as goal
 
 abbrev pub invariant-loop-listing : goal.invariant-loop-listing

@@ -1,23 +1,23 @@
 -- The group with its gate and its registry, lent to the entry's call.
-use Rattle.lb_world.specs.Locals.{IsWhole, local_seen}
-use Rattle.lb_world.specs.declared.local.Local.{Local}
+use Rattle.lb_world.specs.GroupSteps.{IsWhole, group_step_seen}
+use Rattle.lb_world.specs.declared.group_step.GroupStep.{GroupStep}
 use Rattle.lb_world.proofs.Words.{◌∷◌, ◌∙◌, ◌≡◌, Answer, Answers, ap, arith, entries, group_at, History, inl, made_at, Meaning, meaning_of}
 use Rattle.lb_world.proofs.Words.{None, refl, Refusal, same_Some, slice_get_within, Some, sym, ℕ, at-place}
 use Rattle.lb_world.proofs.Tables.{before, no-group, own-kept, world-moves, world-refused}
 use Rattle.lb_world.proofs.world.Tables.at_group.Goals as goal
 
 -- no such group
-absent-right : {C : Type 0} (M : Meaning C) (h : History C) (g : ℕ) (l : Local) → made_at g h ≡ None → IsWhole l
-    → Answers M h (local_seen g l) (Answer.Refused Refusal.NoSuch)
-absent-right M h g (Local.Update now listings) none whole = inl (rw (whole, none) refl)
+absent-right : {C : Type 0} (M : Meaning C) (h : History C) (g : ℕ) (l : GroupStep) → made_at g h ≡ None → IsWhole l
+    → Answers M h (group_step_seen g l) (Answer.Refused Refusal.NoSuch)
+absent-right M h g (GroupStep.Update now listings) none whole = inl (rw (whole, none) refl)
 absent-right M h g l none whole = inl (rw none refl)
 
-local-at : {C : Type 0} (h : History C) (g : ℕ) (l : Local) → group_at h (local_seen g l) ≡ Some g
-local-at h g Local.Cancel = refl
+local-at : {C : Type 0} (h : History C) (g : ℕ) (l : GroupStep) → group_at h (group_step_seen g l) ≡ Some g
+local-at h g GroupStep.Cancel = refl
 local-at h g l = refl
 
-local-entries : {C : Type 0} (h : History C) (g : ℕ) (l : Local) (a : Answer) → entries ((local_seen g l, a) ∷ h) ≡ entries h
-local-entries h g Local.Cancel a = refl
+local-entries : {C : Type 0} (h : History C) (g : ℕ) (l : GroupStep) (a : Answer) → entries ((group_step_seen g l, a) ∷ h) ≡ entries h
+local-entries h g GroupStep.Cancel a = refl
 local-entries h g l a = refl
 
 pub returns-then-group-len : goal.returns-then-group-len
@@ -69,6 +69,6 @@ returns g c =
     (λ h s.
     let l = c.args.local in
     let next_ = c.take.ensures h c.args.group (before s c.args.group _ _ _ at at_gate at_registry) in
-    world-moves s c.args.group (local_seen c.args.group l) c.take.result _ _ _ _ _ _ _ (local-at h c.args.group l)
+    world-moves s c.args.group (group_step_seen c.args.group l) c.take.result _ _ _ _ _ _ _ (local-at h c.args.group l)
     (s.readers_are ∙ sym (local-entries h c.args.group l c.take.result))
     (own-kept s c.args.group _ _ at (ap (λ o. o.id) next_.origin_is)) at at_gate at_registry next_)

@@ -1,11 +1,11 @@
 -- Where no cause stands, the entry that is new joins the groups, over its registry and its gate.
-use Rattle.lb_group.proofs.GroupSteps.{configs-after}
-use Rattle.lb_history.proofs.Makings.{group-caused, group-made, group-starved, group-wants, sites-there, starts}
+use Rattle.lb_rebuild_slots.proofs.SlotsSteps.{configs-after}
+use Rattle.lb_world.proofs.Makings.{group-caused, group-made, group-starved, group-wants, sites-there, starts}
 use Rattle.lb_world.specs.Calls.{IsNewEntry}
 use Rattle.lb_world.specs.Views.{nothing}
 use Rattle.std.proofs.Common.{get_or}
 use Rattle.std.proofs.lemmas.List.{length-replicate}
-use Rattle.lb_registry.specs.RegistryEvents as registry
+use Rattle.lb_health_registry.specs.RegistryEvents as registry
 use Rattle.lb_world.proofs.Words.{◌&&◌, ◌++◌, ◌+◌, ◌<◌, ◌^◌, ◌↔◌, ◌∙◌, ◌∷◌, ◌≡◌, ◌≤◌, [], after, Answer, ap, arith, at-place, Bool}
 use Rattle.lb_world.proofs.Words.{configs_of, each-push, each-set, earlier, EntryIs, EntryValue, eq-eqb, false, false≢true, GateId, gates}
 use Rattle.lb_world.proofs.Words.{GateValue, get-kept, get_replicate, held_of, History, in_tables, inl, inr, IsRegistryAfter, IsRun, IsTrue}

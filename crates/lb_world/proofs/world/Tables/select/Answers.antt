@@ -1,5 +1,5 @@
 -- The group with its registry, lent to the entry's call; its gate stays as it is.
-use Rattle.lb_history.specs.Steps.{select}
+use Rattle.lb_world.specs.Steps.{select}
 use Rattle.lb_world.proofs.Words.{◌∙◌, ap, arith, at-place, inl, meaning_of, refl, set-same, slice_get_within, sym}
 use Rattle.lb_world.proofs.Tables.{before, no-group, own-kept, world-moves, world-refused}
 use Rattle.lb_world.proofs.world.Tables.select.Goals as goal

@@ -1,14 +1,14 @@
 -- A loop over the steps, in which the world stands for the history so far; the promises are laws of every run.
-use Rattle.lb_history.proofs.Drawing.{refused-stays}
-use Rattle.lb_history.proofs.Joining.{judged-by, view-follows}
-use Rattle.lb_history.proofs.Living.{lives-exactly}
-use Rattle.lb_history.proofs.Promised.{never-falls}
-use Rattle.lb_history.proofs.Selecting.{first-accepted}
-use Rattle.lb_history.proofs.Steps.{destroys, raises}
-use Rattle.lb_history.specs.Promises.{DestroysExactly, LivesExactly, NeverFalls, Promised, Raises, ViewFollows}
-use Rattle.lb_history.specs.Refused.{RefusedStays}
-use Rattle.lb_history.specs.Selected.{FirstAccepted}
-use Rattle.lb_history.specs.Steps.{step_seen}
+use Rattle.lb_world.proofs.Drawing.{refused-stays}
+use Rattle.lb_world.proofs.Joining.{judged-by, view-follows}
+use Rattle.lb_world.proofs.Living.{lives-exactly}
+use Rattle.lb_world.proofs.Promised.{never-falls}
+use Rattle.lb_world.proofs.Selecting.{first-accepted}
+use Rattle.lb_world.proofs.Steps.{destroys, raises}
+use Rattle.lb_world.specs.Promises.{DestroysExactly, LivesExactly, NeverFalls, Promised, Raises, ViewFollows}
+use Rattle.lb_world.specs.Refused.{RefusedStays}
+use Rattle.lb_world.specs.Selected.{FirstAccepted}
+use Rattle.lb_world.specs.Steps.{step_seen}
 use Rattle.lb_world.specs.Ever.{Always, EachStep, JudgedByOwn}
 use Rattle.lb_world.proofs.Words.{◌++◌, ◌∙◌, ◌∷◌, ◌≡◌, [], after, Answer, ap, arith, History, IsRun, length, length-map, length_push, List}
 use Rattle.lb_world.proofs.Words.{map, map-append, map-id, Meaning, meaning_of, promised, refl, Stands, Step, sym, YieldsList-end}

@@ -1,8 +1,8 @@
 use Rattle.std.proofs.Common.{◌≡◌, length, map}
 use Rattle.std.specs.Prelude.{vec_capacity}
-use Rattle.lb_history.specs.History.{History, after}
-use Rattle.lb_history.specs.Meanings.{meaning_of}
-use Rattle.lb_history.specs.Steps.{step_seen}
+use Rattle.lb_world.specs.History.{History, after}
+use Rattle.lb_world.specs.Meanings.{meaning_of}
+use Rattle.lb_world.specs.Steps.{step_seen}
 use Rattle.lb_world.specs.Stands.{Stands}
 use Rattle.lb_world.proofs.world.World.run.Given as goal
 

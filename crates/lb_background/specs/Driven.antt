@@ -1,0 +1,60 @@
+-- A run that is driven by the calls of a port: each answer is done by the call that it names, and what came of it is told to the run.
+use Rattle.std.specs.Prelude.{◌≡◌, ℕ, Bool, true, false, List, [], ◌∷◌, Result}
+use Rattle.lb_select_base.specs.declared.refusal.Refusal.{Refusal}
+use Rattle.lb_background.specs.declared.event.Event.{Event}
+use Rattle.lb_background.specs.declared.event.Event.TheVariants as on
+use Rattle.lb_background.specs.declared.event.Action.{Action}
+use Rattle.lb_background.specs.declared.event.Action.TheVariants as to
+use Rattle.lb_background.specs.History.{Heard, last}
+
+-- unless the run is to end, which is looked at first, an answer is acted on
+module _ {P : Type 0} (looks : P → Bool → P → Type 0) (acts : P → Action → Event → P → Type 0) where
+  abbrev pub Unless : Bool → P → Action → Event → P → Type 0
+  Unless true p a e q = (e ≡ on.Shutdown) × (q ≡ p)
+  Unless false p a e q = acts p a e q
+
+  abbrev pub ActsUnlessShut : P → Action → Event → P → Type 0
+  ActsUnlessShut p a e q = (shut : Bool) × (m : P) × looks p shut m × Unless shut m a e q
+
+-- the moment and a number, read one after the other
+abbrev pub Reads : {P : Type 0} → (P → ℕ → P → Type 0) → (P → ℕ → P → Type 0) → P → ℕ → ℕ → P → Type 0
+Reads {P} moments numbers p now number q = (m : P) × moments p now m × numbers m number q
+
+-- the moment alone is read
+abbrev pub ReadsMoment : {P : Type 0} → (P → ℕ → P → Type 0) → P → ℕ → ℕ → P → Type 0
+ReadsMoment {P} moments p now number q = moments p now q
+
+-- from one event to the next: the moment and the number that are read after an event, and what is done for an answer
+module _ {P : Type 0} (reads : P → ℕ → ℕ → P → Type 0) (does : P → Action → Event → P → Type 0) where
+  -- what is told next: the start, and later what came of the last answer
+  abbrev pub Told : P → List Heard → Event → P → Type 0
+  Told p [] e q = (e ≡ on.Start) × (q ≡ p)
+  Told p (x ∷ h) e q = does p x.action e q
+
+  abbrev pub Driven : P → List Heard → P → Type 0
+  Driven p [] q = q ≡ p
+  Driven p (x ∷ h) q = (a : P) × (b : P) × Driven p h a × Told a h x.event b × reads b x.at x.given q
+
+  -- the whole of a run, from its start to its end
+  abbrev pub DrivenToEnd : (List Heard → Type 0) → P → P → Type 0
+  DrivenToEnd Runs p q = (h : List Heard) × Runs h × (last h ≡ to.Return) × Driven p h q
+
+-- what a run by turns asks for once it began, but for the end
+abbrev pub is_turn : Action → Bool
+is_turn to.WaitTargets = false
+is_turn to.Hold = false
+is_turn to.Return = false
+is_turn a = true
+
+-- an answer of a run by turns is acted on by one call: an update with what it answers, a pass of checks, the notifier, or the sleep until
+-- a moment with the event that ends it
+module _ {P : Type 0} (updates : P → Result ℕ Refusal → P → Type 0) (checks tells : P → P → Type 0)
+    (sleeps : P → ℕ → Event → P → Type 0) where
+  abbrev pub TakesTurn : P → Action → Event → P → Type 0
+  TakesTurn p to.Update e q = (r : Result ℕ Refusal) × updates p r q × (e ≡ on.Updated r)
+  TakesTurn p to.Check e q = checks p q × (e ≡ on.Checked)
+  TakesTurn p to.Ready e q = tells p q × (e ≡ on.Told)
+  TakesTurn p (to.SleepUntil moment) e q = sleeps p moment e q
+  TakesTurn p to.WaitTargets e q = ⊥
+  TakesTurn p to.Hold e q = ⊥
+  TakesTurn p to.Return e q = ⊥

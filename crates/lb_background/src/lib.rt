@@ -1,0 +1,18 @@
+//! What runs in the background: when the tasks of a balancer, a group or a service are due, the signal that ends a run, the notifier
+//! that tells that a service is ready, and the service that checks the targets of a registry.
+//! Schedules and runs have no clock and no threads: moments are passed in, in nanoseconds.
+#![tactic(auto)]
+
+pub mod background;
+pub mod balancer_run;
+pub mod drive;
+pub mod event;
+pub mod group_run;
+pub mod laws;
+mod line_rule;
+pub mod port;
+pub mod ready;
+pub mod service;
+pub mod service_run;
+pub mod shutdown;
+mod turns;

@@ -1,0 +1,217 @@
+//! The service that checks the targets of a registry in the background, under the registry's own lock and beside other threads.
+ghost use Rattle.std.specs.Prelude.{◌≡◌, None, false, []};
+ghost use Rattle.lb_background.specs.Services.{IsServiceAfter};
+
+use crate::drive::drive;
+use crate::event::Event;
+use crate::port::ServicePort;
+use crate::ready::ServiceReadyNotifier;
+use crate::service_run::ServiceRun;
+use crate::shutdown::ShutdownWatch;
+use lb_health_check::health_check::HealthCheck;
+use lb_health_registry::keys::KeyRule;
+use lb_select_base::moments::MomentSource;
+use lb_threads_registry::registry::HealthRegistry;
+use log::{Log, error};
+use std::alloc::Global;
+use std::sync::{Arc, Wait};
+use std::thread::Threads;
+
+// How long a service sleeps at most before it looks for targets again, in nanoseconds: where it has some, and where it has none.
+const WITH_TARGETS: u128 = 1_000_000_000;
+
+const WITHOUT_TARGETS: u128 = 100_000_000;
+
+/// A service that checks the targets of one registry, for all the views that share it.
+#[derive(Drop)]
+pub struct HealthCheckService<R: KeyRule + Drop, C> {
+    registry: Arc<HealthRegistry<R, C>>,
+    /// How long after a pass of checks the next one begins, in nanoseconds. Without it the targets are checked once, as soon as there
+    /// are some.
+    pub health_check_frequency: Option<u128>,
+    /// Whether the checks of a pass run beside each other.
+    pub parallel_health_check: bool,
+}
+
+impl<R: KeyRule + Drop + Send, C: HealthCheck + Drop + Send + Sync> HealthCheckService<R, C> {
+    /// A service of this registry that checks once, one target after another. The registry's check is to be set before `run`.
+    pub fn new(registry: Arc<HealthRegistry<R, C>>) -> HealthCheckService<R, C>
+        ensures frequency { result.health_check_frequency ≡ None }
+        ensures parallel { result.parallel_health_check ≡ false }
+    {
+        HealthCheckService {
+            registry,
+            health_check_frequency: None,
+            parallel_health_check: false,
+        }
+    }
+
+    /// Checks the targets until all that was to be done is done, or the watch tells that services are to end; a pass that runs then is
+    /// let end. The notifier is told after the first pass. Without a check of the registry an error is logged, nobody is told, and
+    /// with a notifier the service stays until it is to end.
+    pub fn run<W: Log + Threads + Wait + Sync, K: MomentSource>(
+        &self,
+        rt: &W,
+        alloc: Global,
+        clock: &mut K,
+        watch: &ShutdownWatch,
+        notifier: Option<ServiceReadyNotifier>,
+    ) {
+        let has_check = self.registry.has_health_check();
+        if !has_check {
+            error!(rt; "HealthCheckService requires a configured HealthRegistry health check");
+        }
+        let run = ServiceRun::new(self.health_check_frequency, has_check, notifier.is_some());
+        let registry = &*self.registry;
+        let parallel = self.parallel_health_check;
+        // A pass that is refused counts as one.
+        let pass = || {
+            let _ = registry.run_health_check(rt, alloc, parallel);
+        };
+        run_over(registry, &pass, rt, alloc, clock, watch, notifier, run);
+    }
+}
+
+// Drives the run of a service over the registry, with this pass of checks.
+fn run_over<F: Fn(), R: KeyRule + Drop, C: HealthCheck + Drop, W: Wait, K: MomentSource>(
+    registry: &HealthRegistry<R, C>,
+    pass: &F,
+    rt: &W,
+    alloc: Global,
+    clock: &mut K,
+    watch: &ShutdownWatch,
+    notifier: Option<ServiceReadyNotifier>,
+    run: ServiceRun,
+)
+    requires fresh { IsServiceAfter run [] }
+    requires passes { (pass : F) → F.IsAlwaysCallable pass }
+{
+    let mut port = LockedService {
+        registry,
+        pass,
+        rt,
+        alloc,
+        clock,
+        watch,
+        notifier,
+    };
+    drive(rt, run, &mut port);
+}
+
+// A service that runs, as the port that drives it. A pass of checks is a closure, since it starts threads.
+#[derive(Drop)]
+struct LockedService<'g, 'p, 'r, 'c, 'w, F, R: KeyRule + Drop, C, W, K> {
+    registry: &'g HealthRegistry<R, C>,
+    pass: &'p F,
+    rt: &'r W,
+    alloc: Global,
+    clock: &'c mut K,
+    watch: &'w ShutdownWatch,
+    notifier: Option<ServiceReadyNotifier>,
+}
+
+// Of what other threads change nothing is said: the registry, and what the watch tells.
+impl<
+    'g,
+    'p,
+    'r,
+    'c,
+    'w,
+    F: Fn(),
+    R: KeyRule + Drop,
+    C: HealthCheck + Drop,
+    W: Wait,
+    K: MomentSource,
+> ServicePort for LockedService<'g, 'p, 'r, 'c, 'w, F, R, C, W, K> {
+    ghost use Rattle.std.specs.Prelude.{◌≡◌, None};
+    ghost use Rattle.lb_background.specs.ServiceDriven.{EndsHold, EndsSleep, EndsWait};
+
+    ghost moments = { λ p moment q. K.reads p.clock.now moment q.clock.now };
+
+    ghost counts = { λ p _ q. q.clock.now ≡ p.clock.now };
+
+    ghost looks = { λ p _ q. q.clock.now ≡ p.clock.now };
+
+    ghost can_check = { (pass : F) → F.IsAlwaysCallable pass };
+
+    ghost checks = { λ p q. q.clock.now ≡ p.clock.now };
+
+    ghost tells = { λ p q. (q.clock.now ≡ p.clock.now) × (q.notifier ≡ None) };
+
+    ghost sleeps = { λ _ _ e _. EndsSleep e };
+
+    ghost awaits = { λ _ e _. EndsWait e };
+
+    ghost holds = { λ _ e _. EndsHold e };
+
+    fn now(&mut self) -> u128 {
+        self.clock.now()
+    }
+
+    // A count that is refused is no target.
+    fn target_count(&mut self) -> u64 {
+        match self.registry.target_count(self.rt, self.alloc) {
+            Ok(count) => count as u64,
+            Err(_) => 0,
+        }
+    }
+
+    fn is_shut(&mut self) -> bool {
+        self.watch.is_shut()
+    }
+
+    fn check(&mut self) {
+        (self.pass)();
+    }
+
+    fn tell_ready(&mut self) {
+        if let Some(notifier) = self.notifier.take() {
+            notifier.notify_ready();
+        }
+    }
+
+    fn sleep_until(&mut self, moment: u128) -> Event {
+        for _ in self.rt.forever() {
+            let heard = self.watch.event();
+            if let Some(Event::Shutdown) = heard {
+                return Event::Shutdown;
+            }
+            let now = self.clock.now();
+            if moment <= now {
+                return Event::Woke;
+            }
+            if self.target_count() == 0 {
+                return Event::ViewRemoved;
+            }
+            let look = moment.min(now.saturating_add(WITH_TARGETS));
+            self.watch.wait_until(self.rt, self.clock, look, heard);
+        }
+        unreachable!()
+    }
+
+    fn await_targets(&mut self) -> Event {
+        for _ in self.rt.forever() {
+            let heard = self.watch.event();
+            if let Some(Event::Shutdown) = heard {
+                return Event::Shutdown;
+            }
+            if self.target_count() > 0 {
+                return Event::Targets;
+            }
+            let look = self.clock.now().saturating_add(WITHOUT_TARGETS);
+            self.watch.wait_until(self.rt, self.clock, look, heard);
+        }
+        unreachable!()
+    }
+
+    fn hold(&mut self) -> Event {
+        for _ in self.rt.forever() {
+            if let Some(event) = self.watch.event() {
+                return event;
+            }
+            let look = self.clock.now().saturating_add(WITH_TARGETS);
+            self.watch.wait_until(self.rt, self.clock, look, None);
+        }
+        unreachable!()
+    }
+}

@@ -1,5 +1,0 @@
-pub mod SlotCounts
-pub mod Balancing
-pub mod Choosing
-pub mod Readings
-pub mod TextLemmas

@@ -1,7 +1,0 @@
-use Rattle.std.proofs.Common.{ℕ, ◌<◌, ◌≤◌}
-use Rattle.lb_joined.specs.JoinedCalls.{served_at}
-use Rattle.lb_joined.specs.Stands.{After}
-use Rattle.lb_balance.proofs.group_core.LoadBalancerGroupCore.selectors_ready_for.Given as goal
-
-abbrev pub invariant-loop-slot : goal.invariant-loop-slot
-invariant-loop-slot g l = After l.self.group (λ made e. (slot : ℕ) → slot < l.slot → l.generation ≤ served_at slot e)

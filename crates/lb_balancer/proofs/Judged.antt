@@ -1,0 +1,77 @@
+-- A selection in what is shown, and which members are found not ready.
+use Rattle.std.proofs.Common.{◌≡◌, inl, inr, ◌∷◌, ℕ, Bool, true, false, not, List, [], length, take, Option, Some, None, Result, Ok, Err, refl, sym, subst, arith}
+use Rattle.std.specs.Borrow.{Bor}
+use Rattle.std.specs.Fn.{Shared, Mut, FnReturns, FnReturnsAt, CalledAt}
+use Rattle.std.specs.List.{items_where_true, AllByRecursion as Each}
+use Rattle.std.specs.List.Retain.{IsFiltered, ReturnsInTurn}
+use Rattle.lb_select_base.specs.Backends.{Member, same_member}
+use Rattle.lb_select_base.specs.Draws.{Draw}
+use Rattle.lb_select_base.specs.Selections.{IsAnswer, Selects}
+use Rattle.lb_select_base.specs.Unique.{distinct}
+use Rattle.lb_select_base.specs.declared.refusal.Refusal.{Refusal}
+use Rattle.lb_select_base.proofs.SelectionsSeen.{selects-more}
+use Rattle.lb_rebuild_group.specs.GroupCalls.{AcceptsBy}
+use Rattle.lb_balancer.specs.Shown.{SelectsOf, AreUnready}
+
+-- of the words that were drawn it is forgotten where they came from
+forgot : {S B : Type 0} (same : B → B → Bool) (accepts : B → Bool → Type 0) (limit : ℕ) (gives : S → Draw → S → Type 0)
+    (walks : List Draw → List B → Bool → Type 0) (s t : S) (r : Result (Option B) Refusal)
+    → Selects same accepts limit gives walks s r t → SelectsOf same accepts limit walks r
+forgot same accepts limit gives walks s t (Ok r) (cs, ended, walked, answer) = (walked.draws, cs, ended, walked.walked, answer)
+forgot same accepts limit gives walks s t (Err e) refused = refused.0
+
+-- what was asked is told by what follows from it
+pub asked-of : {S F : Type 0} {g : Shared F (Bor Member × Unit {0}) Bool} {f : F} (gives : S → Draw → S → Type 0)
+    (walks : List Draw → List Member → Bool → Type 0) (Q : Member → Bool → Type 0) (limit : ℕ) (s t : S) (r : Result (Option Member) Refusal)
+    → Selects same_member (λ b a. FnReturnsAt g f b a) limit gives walks s r t
+    → ((b : Member) (a : Bool) → FnReturnsAt g f b a → Q b a) → SelectsOf same_member Q limit walks r
+asked-of {g = g} {f = f} gives walks Q limit s t r is more =
+    forgot same_member Q limit gives walks s t r (selects-more same_member (λ b a. FnReturnsAt g f b a) Q more limit gives walks s t r is)
+
+each_more : {A : Type 0} (P Q : A → Type 0) → ((x : A) → P x → Q x) → (xs : List A) → Each P xs → Each Q xs
+each_more P Q more [] all = tt
+each_more P Q more (x ∷ xs) all = (more x all.0, each_more P Q more xs all.1)
+
+module _ {B : Type 0} (same : B → B → Bool) (P Q : B → Bool → Type 0) (more : (b : B) (a : Bool) → P b a → Q b a) (limit : ℕ) where
+  answer_more : (cs : List B) (ended : Bool) (r : Option B) → IsAnswer same P limit cs ended r → IsAnswer same Q limit cs ended r
+  answer_more cs ended (Some b) (before, parts, few, first, refused, accepted) =
+      (before, parts, few, first, each_more (λ x. P x false) (λ x. Q x false) (λ x. more x false) (distinct same before) refused, more b true accepted)
+  answer_more cs ended None (refused, over) =
+      (each_more (λ x. P x false) (λ x. Q x false) (λ x. more x false) (distinct same (take limit cs)) refused, over)
+
+  -- what one test answered, a test that follows from it answered
+  of-more : (walks : List Draw → List B → Bool → Type 0) (r : Result (Option B) Refusal)
+      → SelectsOf same P limit walks r → SelectsOf same Q limit walks r
+  of-more walks (Ok r) (draws, cs, ended, walked, answer) = (draws, cs, ended, walked, answer_more cs ended r answer)
+  of-more walks (Err e) refused = refused
+
+-- where what was asked answers as it is told, what it accepts is what is right
+pub of-told : {F : Type 0} {g : Shared F (Bor Member × (Bool × Unit {0})) Bool} {f : F} (right : Member → Bool → Type 0) (limit : ℕ)
+    (walks : List Draw → List Member → Bool → Type 0) (r : Result (Option Member) Refusal)
+    → SelectsOf same_member (λ b a. AcceptsBy g f right b a) limit walks r
+    → ((p : Bor Member) (told a : Bool) → FnReturns g f (p, (told, tt)) a → a ≡ told) → SelectsOf same_member right limit walks r
+of-told {g = g} {f = f} right limit walks r is same =
+    of-more same_member (λ b a. AcceptsBy g f right b a) right
+    (λ b a by. subst (λ x. right b x) (sym (same by.shown by.told a by.says)) by.is_right) limit walks r is
+
+as-told : (right : Bool → Type 0) (b : Bool) → ((ready : Bool) × right ready × (b ≡ not ready)) → right (not b)
+as-told right b (true, r, is) = subst (λ x. right (not x)) (sym is) r
+as-told right b (false, r, is) = subst (λ x. right (not x)) (sym is) r
+
+-- a closure that keeps what isn't ready, and stays as it is, leaves those that aren't
+module _ {F : Type 0} (g : Mut F (Bor Member × Unit {0}) Bool) (right : Member → Bool → Type 0) (f : F)
+    (tells : (m : Member) (b : Bool) (f' : F) → CalledAt g f m b f' → ((ready : Bool) × right m ready × (b ≡ not ready)) × (f' ≡ f)) where
+  parted : (bs : List Bool) (ms : List Member) (q : F) → length bs ≡ length ms → ReturnsInTurn (CalledAt g) f bs ms q
+      → AreUnready right ms (items_where_true bs ms)
+  parted [] [] q e t = refl
+  parted [] (m ∷ ms) q e t = absurd (omega arith)
+  parted (b ∷ bs) [] q e t = absurd t
+  parted (true ∷ bs) (m ∷ ms) q e t =
+      let one = tells m true t.0 t.1 in
+      (items_where_true bs ms, parted bs ms q (omega arith) (subst (λ (y : F). ReturnsInTurn (CalledAt g) y bs ms q) one.1 t.2), inl (as-told (right m) true one.0, refl))
+  parted (false ∷ bs) (m ∷ ms) q e t =
+      let one = tells m false t.0 t.1 in
+      (items_where_true bs ms, parted bs ms q (omega arith) (subst (λ (y : F). ReturnsInTurn (CalledAt g) y bs ms q) one.1 t.2), inr (as-told (right m) false one.0, refl))
+
+  pub kept_unready : (ms us : List Member) → IsFiltered (CalledAt g) f ms us → AreUnready right ms us
+  kept_unready ms us k = subst (AreUnready right ms) (sym k.4) (parted k.0 ms k.1 k.2 k.3)

@@ -1,0 +1,8 @@
+-- The view is marked, and its newest generation let go.
+use Rattle.lb_threads_registry.proofs.Histories.{later}
+use Rattle.lb_balancer.proofs.Renewals.{left_later}
+use Rattle.lb_balancer.proofs.balancing.Balancing.leave.Goals as goal
+
+pub put-requires-clause-registry : goal.put-requires-clause-registry
+put-requires-clause-registry g c =
+    later c.take-cells.ensures.registry (left_later c.take-held.result.value.view c.founded.ensures c.leave.ensures)

@@ -1,0 +1,17 @@
+-- The clock is read twice, and twice more around a build.
+use Rattle.std.proofs.Common.{◌≡◌, ◌⊎◌, inl, inr, ℕ, [], ◌∷◌, refl, sym, subst}
+use Rattle.lb_balancer_core.specs.Timings.{Reads}
+use Rattle.lb_balancer.specs.SharedUpdates.{ReadsUpdate}
+use Rattle.lb_balancer.proofs.balancing.Balancing.update.Goals as goal
+
+-- the readings of an update, one after another
+module _ {K : Type 0} (reads : K → ℕ → K → Type 0) (k l m n : K) (start end : ℕ) where
+  reads-update : reads k start l → (m ≡ l) ⊎ ((before : ℕ) × (after : ℕ) × Reads reads l (before ∷ after ∷ []) m) → reads m end n
+      → ReadsUpdate reads k n
+  reads-update s (inl e) t = (start ∷ end ∷ [], (l, s, (n, subst (λ x. reads x end n) e t, refl)), inl refl)
+  reads-update s (inr (before, after, (u, r, (v, q, e)))) t =
+      (start ∷ before ∷ after ∷ end ∷ [], (l, s, (u, r, (v, q, (n, subst (λ x. reads x end n) (sym e) t, refl)))), inr refl)
+
+pub returns-clause-reads : goal.returns-clause-reads
+returns-clause-reads g c =
+    reads-update g.K.MomentSource.reads _ _ _ _ _ _ c.now-start.ensures c.in_ok-build_duration.ensures.reads c.now-end.ensures

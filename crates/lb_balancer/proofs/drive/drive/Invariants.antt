@@ -1,0 +1,13 @@
+-- The balancer's run has a history, which the port was driven by, and what is told next came of its last answer.
+use Rattle.std.proofs.Common.{◌≡◌, List}
+use Rattle.lb_background.specs.History.{Heard, IsAfter}
+use Rattle.lb_background.specs.Driven.{ActsUnlessShut, Driven, ReadsMoment, TakesTurn, Told}
+use Rattle.lb_balancer.proofs.drive.drive.Given as goal
+
+abbrev pub invariant-loop : goal.invariant-loop
+invariant-loop g l =
+    let p = g.P.BalancerPort in
+    let reads = ReadsMoment p.moments in
+    let does = ActsUnlessShut p.looks (TakesTurn p.updates p.checks p.tells p.sleeps) in
+    (h : List Heard) × IsAfter l.run h × (l.run.plan ≡ l.fn.run.plan) × (a : g.row.P.Denot)
+    × Driven reads does l.fn.port h a × Told reads does a h l.event l.port

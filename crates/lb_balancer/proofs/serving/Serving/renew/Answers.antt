@@ -1,0 +1,47 @@
+-- Another membership comes with the selector that is built of it.
+use Rattle.std.proofs.Common.{◌∙◌, sym, ap, subst}
+use Rattle.std.specs.Prelude.{is_ok}
+use Rattle.lb_health_registry.specs.Registry.{IsRegistryAfter}
+use Rattle.lb_health_view.specs.RegistrySide.{after_settings, registry_updated, settings_of, view_updated, with_membership}
+use Rattle.lb_health_view.specs.Views.{IsViewAfter}
+use Rattle.lb_balancer.specs.Shown.{ServingValue}
+use Rattle.lb_balancer.proofs.Memberships.{if-ok, kept-members, new-members, on-ok}
+use Rattle.lb_balancer.proofs.serving.Serving.renew.Goals as goal
+
+pub invariant_of-self : goal.invariant_of-self
+invariant_of-self g c =
+    let p = c.self.invariant in
+    let members = c.args.members.keys in
+    let settings = settings_of c.args.settings.entries in
+    let told = rw c.in-Ok-Some.field-0-is at (if-ok c.update.result _ _ c.in-Ok-Some.is c.update.ensures.called p.0 p.1) in
+    let shown = on-ok c.update.result _ (ap is_ok c.in-Ok-Some.is) c.update.ensures.some in (
+      after_settings settings (with_membership members shown.0 p.0),
+      shown.1 p.0 p.1,
+      rw c.replace.ensures.after (c.requires.members ∙ sym (new-members settings members shown.0 p.0 told.0)),
+    )
+
+pub invariant_of-self-in-Ok-None : goal.invariant_of-self-in-Ok-None
+invariant_of-self-in-Ok-None g c =
+    let p = c.self.invariant in
+    let members = c.args.members.keys in
+    let settings = settings_of c.args.settings.entries in
+    let same = rw c.in-Ok-None.field-0-is at (if-ok c.update.result _ _ c.in-Ok-None.is c.update.ensures.called p.0 p.1) in
+    let shown = on-ok c.update.result _ (ap is_ok c.in-Ok-None.is) c.update.ensures.some in (
+      after_settings settings (with_membership members shown.0 p.0),
+      shown.1 p.0 p.1,
+      p.2 ∙ sym (kept-members settings members shown.0 p.0 same),
+    )
+
+pub returns-in-Ok-Some-clause-updated : goal.returns-in-Ok-Some-clause-updated
+returns-in-Ok-Some-clause-updated g c key_of views events after r =
+    let here = subst (λ (v : ServingValue g.row.S-Config.Denot). IsViewAfter views v.view) (sym c.self.view_is) after in
+    subst (λ (v : ServingValue g.row.S-Config.Denot). IsViewAfter (view_updated key_of v.view.id c.args.members.keys (settings_of c.args.settings.entries) events views) c.update.new.self)
+    c.self.view_is
+    (on-ok c.update.result _ (ap is_ok c.in-Ok-Some.is) c.update.ensures.view key_of views events here r)
+
+pub returns-in-Ok-Some-clause-registry : goal.returns-in-Ok-Some-clause-registry
+returns-in-Ok-Some-clause-registry g c key_of views events after r =
+    let here = subst (λ (v : ServingValue g.row.S-Config.Denot). IsViewAfter views v.view) (sym c.self.view_is) after in
+    subst (λ (v : ServingValue g.row.S-Config.Denot). IsRegistryAfter g.R.KeyRule.gives key_of (registry_updated key_of v.view.id c.args.members.keys views events) c.update.new.registry)
+    c.self.view_is
+    (on-ok c.update.result _ (ap is_ok c.in-Ok-Some.is) c.update.ensures.registry key_of views events here r)

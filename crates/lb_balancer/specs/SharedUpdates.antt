@@ -1,0 +1,42 @@
+-- What the update of a balancer that threads share tells: what it read of the clock, and why it is refused; and how the sleep of one
+-- that is driven ends.
+use Rattle.std.specs.Prelude.{◌≡◌, ◌⊎◌, ℕ, Bool, List, length, Option, Some, ◌≤◌}
+use Rattle.lb_select_base.specs.Backends.{Member}
+use Rattle.lb_select_base.specs.Refusals.{memory_apart}
+use Rattle.lb_select_base.specs.declared.refusal.Refusal.{Refusal}
+use Rattle.lb_select_base.specs.declared.refusal.Refusal.TheVariants.{Discovery, OutOfMemory, GenerationsExhausted, NoSuch, NumbersExhausted}
+use Rattle.lb_health_view.specs.Discoveries.{Discovers, MayFault}
+use Rattle.lb_health_view.specs.declared.discovery.DiscoverySource.{DiscoverySource}
+use Rattle.lb_balancer_core.specs.Timings.{Reads}
+use Rattle.lb_background.specs.declared.event.Event.{Event}
+use Rattle.lb_background.specs.declared.event.Event.TheVariants as on
+
+-- what a caller knows of a balancer: its discovery, and what its selectors are built with
+pub record BalancerValue (D C : Type 0) : Type 0 where
+  pub discovery : DiscoverySource D
+  pub config : C
+
+-- the clock was read at the start and at the end, and around the build where there was one
+abbrev pub ReadsUpdate : {K : Type 0} → (K → ℕ → K → Type 0) → K → K → Type 0
+ReadsUpdate reads clock after = (times : List ℕ) × Reads reads clock times after × ((length times ≡ 2) ⊎ (length times ≡ 4))
+
+-- view or registry have no room for a membership, or memory was refused
+abbrev pub IsRoomRefusal : Refusal → Type 0
+IsRoomRefusal r = (r ≡ GenerationsExhausted) ⊎ ((r ≡ NoSuch) ⊎ ((r ≡ NumbersExhausted) ⊎ (r ≡ OutOfMemory)))
+
+-- why a membership is refused: it makes no selector, for this cause, or there is no room for it
+abbrev pub IsBuildRefusal : Option Refusal → Refusal → Type 0
+IsBuildRefusal build r = (memory_apart build ≡ Some r) ⊎ IsRoomRefusal r
+
+-- why an update is refused: the discovery answered a fault or was refused memory, or what it gave is refused
+abbrev pub IsSharedRefusal : {D C : Type 0} → (List Member → C → Option Refusal) → BalancerValue D C → Refusal → Type 0
+IsSharedRefusal build b r =
+    ((r ≡ Discovery) × MayFault b.discovery)
+    ⊎ ((r ≡ OutOfMemory)
+    ⊎ ((members : List Member) × (settings : List (Member × Bool)) × Discovers b.discovery members settings
+    × IsBuildRefusal (build members b.config) r))
+
+-- the sleep ends by the shutdown, or at a reading of the clock that had come to the moment
+abbrev pub EndsSleep : {K : Type 0} → (K → ℕ → K → Type 0) → ℕ → Event → K → Type 0
+EndsSleep {K} reads moment e after =
+    (e ≡ on.Shutdown) ⊎ ((e ≡ on.Woke) × (before : K) × (now : ℕ) × reads before now after × (moment ≤ now))

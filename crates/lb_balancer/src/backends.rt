@@ -1,0 +1,54 @@
+//! What a balancer is made of, and what of its backends is lent.
+ghost use Rattle.std.specs.Prelude.{◌≡◌, IfErr, IfOk, OnErr, true, false};
+ghost use Rattle.lb_health_registry.specs.Registry.{IsGrowthRefusal};
+
+use lb_health_check::health_check::HealthCheck;
+use lb_health_registry::keys::{KeyRule, Rule};
+use lb_health_registry::registry::Registry;
+use lb_health_view::discovery::DiscoverySource;
+use lb_select_base::refusal::Refusal;
+use lb_threads_registry::registry::HealthRegistry;
+use std::alloc::Global;
+use std::sync::Arc;
+
+/// A discovery, and the registry of health that its backends are to have a view of.
+#[derive(Drop)]
+pub struct Backends<D, R: KeyRule + Drop, C> {
+    pub(crate) discovery: DiscoverySource<D>,
+    pub(crate) registry: Arc<HealthRegistry<R, C>>,
+    pub(crate) owns_checks: bool,
+}
+
+impl<D: Drop, N: KeyRule + Drop, C: HealthCheck + Drop> Backends<D, Rule<N>, C> {
+    /// With a registry of their own, keyed by identity, whose checks are theirs to run. Refused `OutOfMemory` where memory is.
+    pub fn new(
+        alloc: Global,
+        discovery: DiscoverySource<D>,
+    ) -> Result<Backends<D, Rule<N>, C>, Refusal>
+        ensures parts { IfOk result (λ b. (b.discovery ≡ discovery) × (b.owns_checks ≡ true)) }
+        ensures refused { IfErr result (λ e. e ≡ Refusal.OutOfMemory) }
+    {
+        let registry = HealthRegistry::over(alloc, Registry::with_rule(alloc, Rule::Identity))?;
+        Ok(Backends {
+            discovery,
+            registry: Arc::new(alloc, registry)?,
+            owns_checks: true,
+        })
+    }
+}
+
+impl<D: Drop, R: KeyRule + Drop, C: HealthCheck + Drop> Backends<D, R, C> {
+    /// With a registry that others share, whose checks somebody else runs.
+    pub fn new_with_health_registry(
+        discovery: DiscoverySource<D>,
+        registry: Arc<HealthRegistry<R, C>>,
+    ) -> Backends<D, R, C>
+        ensures parts { (result.discovery ≡ discovery) × (result.owns_checks ≡ false) }
+    {
+        Backends {
+            discovery,
+            registry,
+            owns_checks: false,
+        }
+    }
+}

@@ -1,0 +1,631 @@
+//! A balancer that threads share: an update discovers and builds under a lock of its own, and then what is served is exchanged.
+//! Locks are taken in the order update, served, registry, shown; the last is held for a copy of a pointer. That of the loads is held
+//! for one load, beside no other.
+ghost use Rattle.std.specs.Prelude.{◌≡◌, ◌⊎◌, ◌∷◌, [], ℕ, List, IfOk, IfErr, OnOk, OnErr, Ok, Err};
+ghost use Rattle.std.specs.Prelude.{Some, None, unwrap_or, false, IfSome, MatchOption};
+ghost use Rattle.std.specs.Arc.{arc_value};
+ghost use Rattle.lb_select_base.specs.Backends.{Member, same_member};
+ghost use Rattle.lb_select_base.specs.Refusals.{Refuses, memory_apart};
+ghost use Rattle.lb_select_base.specs.Memberships.{same_members};
+ghost use Rattle.lb_rebuild_group.specs.GroupCalls.{AcceptsBy};
+ghost use Rattle.lb_health_view.specs.Views.{IsViewAfter, IsViewRefusal};
+ghost use Rattle.lb_health_registry.specs.Registry.{IsGrowthRefusal};
+ghost use Rattle.lb_balancer_core.specs.Timings.{Reads};
+ghost use Rattle.lb_balancer.specs.Shown.{SelectsOf, ShownValue, is_up};
+ghost use Rattle.lb_balancer.specs.SharedUpdates.{IsBuildRefusal, IsSharedRefusal, ReadsUpdate};
+
+use crate::backends::Backends;
+use crate::serving::{BuiltSelector, Serving, built_of};
+use crate::shown::{Shown, Version};
+use lb_balancer_core::timings::UpdateTimings;
+use lb_health_check::health_check::HealthCheck;
+use lb_health_registry::keys::KeyRule;
+use lb_health_registry::registry::Registry;
+use lb_health_view::discovery::{DiscoverySource, ServiceDiscovery};
+use lb_health_view::view::{Settings, ViewCore};
+use lb_select_base::backend::Backend;
+use lb_select_base::loads::Loads;
+use lb_select_base::moments::MomentSource;
+use lb_select_base::refusal::Refusal;
+use lb_select_base::walk::BackendSelection;
+use lb_threads_registry::lock::KeyedLock;
+use lb_threads_registry::owner::ViewOwner;
+use lb_threads_registry::registry::HealthRegistry;
+use lb_threads_registry::rule::LockRule;
+use log::Log;
+use std::alloc::Global;
+use std::collections::BTreeSet;
+use std::marker::Model;
+use std::mem;
+use std::snapshot::Snapshot;
+use std::sync::atomic::AtomicU64;
+use std::sync::atomic::Ordering::SeqCst;
+use std::sync::{Arc, Mutex, Wait};
+use std::thread::Threads;
+
+/// What is served is built with the balancer's configuration.
+pub struct OfServing {}
+
+impl<S: BackendSelection> LockRule<Serving<S>, Snapshot<Option<S::Config>>> for OfServing {
+    ghost use Rattle.std.specs.Prelude.{◌≡◌, unwrap_or};
+
+    ghost holds = { λ key s. s.config ≡ unwrap_or key.value S.default_config };
+}
+
+/// What is shown is built with the balancer's configuration.
+pub struct OfShown {}
+
+impl<S: BackendSelection> LockRule<Arc<Shown<S>>, Snapshot<Option<S::Config>>> for OfShown {
+    ghost use Rattle.std.specs.Prelude.{◌≡◌, unwrap_or};
+    ghost use Rattle.std.specs.Arc.{arc_value};
+
+    ghost holds = { λ key s. (arc_value s).config ≡ unwrap_or key.value S.default_config };
+}
+
+type ServingLock<S> = KeyedLock<
+    Serving<S>,
+    Snapshot<Option<<S as BackendSelection>::Config>>,
+    OfServing,
+>;
+
+type ShownLock<S> = KeyedLock<
+    Arc<Shown<S>>,
+    Snapshot<Option<<S as BackendSelection>::Config>>,
+    OfShown,
+>;
+
+/// A balancer with one selector. Contracts see its discovery, and what its selectors are built with; what it serves changes under
+/// the hands of other threads. Its drop takes no lock: the next call of the registry removes its view.
+#[derive(Drop)]
+pub struct Balancing<S: BackendSelection, D, R: KeyRule + Drop, C> {
+    discovery: DiscoverySource<D>,
+    config: Option<S::Config>,
+    registry: Arc<HealthRegistry<R, C>>,
+    view: ViewOwner,
+    updates: Mutex<()>,
+    serving: ServingLock<S>,
+    shown: ShownLock<S>,
+    timing: Mutex<Option<UpdateTimings>>,
+    loads: Arc<Mutex<Loads>>,
+    // Counts what may have changed what is ready, but for the registry's own changes.
+    changes: AtomicU64,
+    seeds: AtomicU64,
+}
+
+impl<S: BackendSelection, D, R: KeyRule + Drop, C> Model for Balancing<S, D, R, C> {
+    ghost use Rattle.std.specs.Prelude.{◌≡◌, unwrap_or};
+    ghost use Rattle.lb_balancer.specs.SharedUpdates.{BalancerValue};
+
+    ghost Value = { BalancerValue D S.Config };
+
+    ghost view = { λ b. record { discovery = b.discovery; config = unwrap_or b.config S.default_config } };
+
+    ghost invariant = { λ b. (b.serving.table.shared.key.value ≡ b.config) × (b.shown.table.shared.key.value ≡ b.config) };
+}
+
+impl<
+    S: BackendSelection,
+    D: ServiceDiscovery + Drop,
+    R: KeyRule + Drop,
+    C: HealthCheck + Drop,
+> Balancing<S, D, R, C> {
+    /// A balancer with a view of its own in the registry, at generation 0, with a selector over no backends.
+    ///
+    /// # Errors
+    ///
+    /// The cause for which the configuration gives no selector over no backends; where there is none, `NumbersExhausted` where no
+    /// number is left for a view, and else `OutOfMemory` where memory is refused.
+    pub fn new<W: Wait>(
+        rt: &W,
+        alloc: Global,
+        backends: Backends<D, R, C>,
+        config: Option<S::Config>,
+    ) -> Result<Balancing<S, D, R, C>, Refusal>
+        ensures made { IfOk result (λ b. (b.discovery ≡ backends.discovery) × (b.config ≡ unwrap_or config S.default_config)) }
+        ensures refused { IfErr result (λ r. (memory_apart (S.refusal [] (unwrap_or config S.default_config)) ≡ Some r)
+            ⊎ ((r ≡ Refusal.NumbersExhausted) ⊎ (r ≡ Refusal.OutOfMemory))) }
+    {
+        let Backends {
+            discovery,
+            registry,
+            owns_checks: _,
+        } = backends;
+        let shared: &HealthRegistry<R, C> = &*registry;
+        let built = first_built(rt, alloc, shared, &config)?;
+        let view = register(rt, alloc, shared)?;
+        let owner = owned(rt, alloc, shared, view.id())?;
+        let locks = locks_over(rt, alloc, shared, Serving::new(view, built), &config)?;
+        Ok(Balancing::behind(discovery, config, registry, owner, locks, None))
+    }
+
+    // A balancer that serves this at first, over this registry, whose selectors are built with the default configuration.
+    pub(crate) fn begun<W: Wait>(
+        rt: &W,
+        alloc: Global,
+        discovery: DiscoverySource<D>,
+        registry: Registry<R>,
+        serving: Serving<S>,
+        timing: UpdateTimings,
+    ) -> Result<Balancing<S, D, R, C>, Refusal>
+        requires { serving.config ≡ S.default_config }
+        ensures made { IfOk result (λ b. (b.discovery ≡ discovery) × (b.config ≡ S.default_config)) }
+        ensures refused { IfErr result (λ e. e ≡ Refusal.OutOfMemory) }
+    {
+        let shared = Arc::new(alloc, HealthRegistry::over(alloc, registry)?)?;
+        let owner = owned(rt, alloc, &*shared, serving.view_id())?;
+        owner.keep(serving.generation());
+        let locks = locks_over(rt, alloc, &*shared, serving, &None)?;
+        Ok(Balancing::behind(discovery, None, shared, owner, locks, Some(timing)))
+    }
+
+    // The balancer behind these locks.
+    fn behind(
+        discovery: DiscoverySource<D>,
+        config: Option<S::Config>,
+        registry: Arc<HealthRegistry<R, C>>,
+        view: ViewOwner,
+        locks: (ServingLock<S>, ShownLock<S>, Arc<Mutex<Loads>>),
+        timing: Option<UpdateTimings>,
+    ) -> Balancing<S, D, R, C>
+        requires { (locks.0.table.shared.key.value ≡ config) × (locks.1.table.shared.key.value ≡ config) }
+        ensures { (result.discovery ≡ discovery) × (result.config ≡ unwrap_or config S.default_config) }
+    {
+        let (serving, shown, loads) = locks;
+        Balancing {
+            discovery,
+            config,
+            registry,
+            view,
+            updates: Mutex::new(()),
+            serving,
+            shown,
+            timing: Mutex::new(timing),
+            loads,
+            changes: AtomicU64::new(0),
+            seeds: AtomicU64::new(1),
+        }
+    }
+
+    /// Discovers, builds where the membership is another one, and then exchanges what is served. One update runs at a time; while it
+    /// discovers and builds, selections go on in what was served before. The clock is read at the start and at the end, and for
+    /// another membership also before and after the build.
+    ///
+    /// # Errors
+    ///
+    /// `Discovery` where the discovery answers a fault; the cause for which another membership makes no selector; where there is none,
+    /// `GenerationsExhausted`, `NoSuch` where the registry has no such view, or `NumbersExhausted` where no number is left for a cell;
+    /// and only then `OutOfMemory` where memory is refused. What is served is then as before.
+    pub fn update<W: Wait, K: MomentSource>(
+        &self,
+        rt: &W,
+        alloc: Global,
+        clock: &mut K,
+    ) -> Result<(), Refusal>
+        ensures reads { OnOk result (ReadsUpdate K.reads clock.old clock.new) }
+        ensures refused { IfErr result (IsSharedRefusal S.refusal self.now) }
+    {
+        let _turn = self.updates.lock(rt);
+        let start = clock.now();
+        let (members, settings) = self.discovery.discover(alloc)?;
+        let build_duration = self.take_in(rt, alloc, members, settings, clock)?;
+        let end = clock.now();
+        let timing = UpdateTimings {
+            discovery_duration: end.saturating_sub(start).saturating_sub(build_duration),
+            build_duration,
+        };
+        *self.timing.lock(rt) = Some(timing);
+        Ok(())
+    }
+
+    // Takes what was discovered, and answers how long the build took; 0 where the membership is the same.
+    fn take_in<W: Wait, K: MomentSource>(
+        &self,
+        rt: &W,
+        alloc: Global,
+        members: BTreeSet<Backend>,
+        settings: Settings,
+        clock: &mut K,
+    ) -> Result<u128, Refusal>
+        ensures reads { OnOk result ((clock.new ≡ clock.old)
+            ⊎ ((before : ℕ) × (after : ℕ) × Reads K.reads clock.old (before ∷ after ∷ []) clock.new)) }
+        ensures refused { IfErr result (IsBuildRefusal (S.refusal members.keys self.now.config)) }
+    {
+        let Some((members, settings)) = self.keep(rt, alloc, members, settings) else {
+            return Ok(0);
+        };
+        let before = clock.now();
+        let built = self.build(rt, alloc, &members)?;
+        let after = clock.now();
+        self.renew(rt, alloc, members, settings, built)?;
+        Ok(after.saturating_sub(before))
+    }
+
+    // Takes settings where the membership is the same; else hands back what was discovered.
+    fn keep<W: Wait>(
+        &self,
+        rt: &W,
+        alloc: Global,
+        members: BTreeSet<Backend>,
+        settings: Settings,
+    ) -> Option<(BTreeSet<Backend>, Settings)>
+        ensures { IfSome result (λ found. found ≡ (members, settings)) }
+    {
+        let _key = &self.config;
+        let mut held = self.serving.take(rt);
+        if !held.value.is_membership(&members) {
+            self.serving.put(held);
+            return Some((members, settings));
+        }
+        let registries: &HealthRegistry<R, C> = &*self.registry;
+        let mut cells = registries.take(rt);
+        held.value.keep(alloc, &mut cells.value, members, settings);
+        let gone = self.exchange(rt, alloc, &held.value, &cells.value);
+        registries.put(cells);
+        self.serving.put(held);
+        drop(gone);
+        None
+    }
+
+    // The selector of another membership. Refused for the least cause that stands, and for memory only where there is none.
+    fn build<W: Wait>(
+        &self,
+        rt: &W,
+        alloc: Global,
+        members: &BTreeSet<Backend>,
+    ) -> Result<BuiltSelector<S>, Refusal>
+        ensures made { IfOk result (λ b. (S.members (arc_value b.selector) ≡ members.now.keys)
+            × (S.built_with (arc_value b.selector) ≡ self.now.config)) }
+        ensures refused { IfErr result (IsBuildRefusal (S.refusal members.now.keys self.now.config)) }
+    {
+        let seed = self.seeds.fetch_add(1, SeqCst);
+        match built_of(alloc, members, &self.config, seed) {
+            Ok(built) => Ok(built),
+            Err(Refusal::OutOfMemory) => {
+                let registries: &HealthRegistry<R, C> = &*self.registry;
+                let held = self.serving.take(rt);
+                let cells = registries.take(rt);
+                let cause = held.value.cause(&cells.value, members);
+                registries.put(cells);
+                self.serving.put(held);
+                Err(cause)
+            }
+            Err(refusal) => Err(refusal),
+        }
+    }
+
+    // Serves the selector of another membership from now on. What isn't served then is let go outside the locks.
+    fn renew<W: Wait>(
+        &self,
+        rt: &W,
+        alloc: Global,
+        members: BTreeSet<Backend>,
+        settings: Settings,
+        built: BuiltSelector<S>,
+    ) -> Result<(), Refusal>
+        requires members { S.members (arc_value built.selector) ≡ members.keys }
+        requires config { S.built_with (arc_value built.selector) ≡ self.now.config }
+        ensures { OnErr result (IsViewRefusal result) }
+    {
+        let _key = &self.config;
+        let mut held = self.serving.take(rt);
+        held.value.founded();
+        let registries: &HealthRegistry<R, C> = &*self.registry;
+        let mut cells = registries.take(rt);
+        let (unserved, answer) = held
+            .value
+            .renew(alloc, &mut cells.value, members, settings, built);
+        let unshown = match answer {
+            Ok(()) => {
+                self.view.keep(held.value.generation());
+                self.exchange(rt, alloc, &held.value, &cells.value)
+            }
+            Err(_) => None,
+        };
+        registries.put(cells);
+        self.serving.put(held);
+        drop((unserved, unshown));
+        answer
+    }
+
+    // Shows what is served now, and then counts the change; what was shown before is answered. Where memory is refused, the next
+    // selection shows it.
+    fn exchange<W: Wait>(
+        &self,
+        rt: &W,
+        alloc: Global,
+        serving: &Serving<S>,
+        registry: &Registry<R>,
+    ) -> Option<Arc<Shown<S>>>
+        requires { serving.now.config ≡ self.now.config }
+    {
+        let version = Version {
+            balancer: self.changes.load(SeqCst).wrapping_add(1),
+            registry: self.registry.changes(),
+        };
+        let gone = match serving.show(alloc, registry, &self.loads, version) {
+            Ok(shown) => match Arc::new(alloc, shown) {
+                Ok(shown) => Some(self.swap(rt, shown)),
+                Err(_) => None,
+            },
+            Err(_) => None,
+        };
+        self.changes.fetch_add(1, SeqCst);
+        gone
+    }
+
+    // Shows this from now on; what was shown before.
+    fn swap<W: Wait>(&self, rt: &W, shown: Arc<Shown<S>>) -> Arc<Shown<S>>
+        requires { (arc_value shown).config ≡ self.now.config }
+    {
+        let _key = &self.config;
+        let mut held = self.shown.take(rt);
+        let gone = mem::replace(&mut held.value, shown);
+        self.shown.put(held);
+        gone
+    }
+
+    // How often balancer and registry have changed.
+    pub(crate) fn version(&self) -> Version {
+        Version {
+            balancer: self.changes.load(SeqCst),
+            registry: self.registry.changes(),
+        }
+    }
+
+    /// What is served now: selections in it are all in one generation, with the readiness of one moment. Refused for memory alone.
+    pub fn shown<W: Wait>(&self, rt: &W, alloc: Global) -> Result<Arc<Shown<S>>, Refusal>
+        ensures config { IfOk result (λ s. (arc_value s).config ≡ self.now.config) }
+        ensures refused { IfErr result (λ e. e ≡ Refusal.OutOfMemory) }
+    {
+        let latest = self.latest(rt)?;
+        if latest.version() == self.version() {
+            return Ok(latest);
+        }
+        drop(latest);
+        let _key = &self.config;
+        let held = self.serving.take(rt);
+        let answer = self.show_again(rt, alloc, &held.value);
+        self.serving.put(held);
+        let (shown, gone) = answer?;
+        drop(gone);
+        Ok(shown)
+    }
+
+    /// The newest generation; 0 before the first membership.
+    pub fn generation<W: Wait>(&self, rt: &W) -> u64 {
+        let _key = &self.config;
+        let held = self.serving.take(rt);
+        let generation = held.value.generation();
+        self.serving.put(held);
+        generation
+    }
+
+    /// Returns the newest membership. Refused `OutOfMemory` where memory is refused.
+    pub fn get_backend<W: Wait>(
+        &self,
+        rt: &W,
+        alloc: Global,
+    ) -> Result<Arc<BTreeSet<Backend>>, Refusal>
+        ensures refused { IfErr result (λ e. e ≡ Refusal.OutOfMemory) }
+    {
+        self.shown(rt, alloc)?.get_backend()
+    }
+
+    /// Whether a backend is ready in the newest membership. It takes no memory.
+    pub fn ready<W: Wait>(&self, rt: &W, backend: &Backend) -> bool {
+        let _key = &self.config;
+        let registries: &HealthRegistry<R, C> = &*self.registry;
+        let held = self.serving.take(rt);
+        let cells = registries.take(rt);
+        let ready = held.value.ready(&cells.value, backend);
+        registries.put(cells);
+        self.serving.put(held);
+        ready
+    }
+
+    /// Enables or disables a backend of the newest membership, by identity; another is left alone. It needs no memory: where that is
+    /// refused, the next selection shows it.
+    pub fn set_enable<W: Wait>(&self, rt: &W, alloc: Global, backend: &Backend, enabled: bool) {
+        let _key = &self.config;
+        let mut held = self.serving.take(rt);
+        held.value.set_enable(backend, enabled);
+        let registries: &HealthRegistry<R, C> = &*self.registry;
+        let cells = registries.take(rt);
+        let gone = self.exchange(rt, alloc, &held.value, &cells.value);
+        registries.put(cells);
+        self.serving.put(held);
+        drop(gone);
+    }
+
+    /// Sets the load of a backend's identity, which outlives each update. Refused `OutOfMemory` where memory is refused; nothing is set
+    /// then.
+    pub fn set_load<W: Wait>(
+        &self,
+        rt: &W,
+        alloc: Global,
+        backend: &Backend,
+        load: u64,
+    ) -> Result<(), Refusal>
+        ensures { IfErr result (λ e. e ≡ Refusal.OutOfMemory) }
+    {
+        let _key = &self.config;
+        self.loads.lock(rt).set(alloc, backend, load)
+    }
+
+    /// Marks the view for removal from the registry, and lets its cells go: from the next call on that applies marks its backends are
+    /// no targets, a backend whose cell nobody else keeps isn't ready, and another membership is refused `NoSuch`. It takes no memory.
+    pub fn leave<W: Wait>(&self, rt: &W) {
+        let _key = &self.config;
+        let registries: &HealthRegistry<R, C> = &*self.registry;
+        let held = self.serving.take(rt);
+        held.value.founded();
+        let mut cells = registries.take(rt);
+        held.value.leave(&mut cells.value);
+        registries.put(cells);
+        self.serving.put(held);
+    }
+
+    /// Sets the check of the registry. Refused `HealthCheckSet` where one is set, which stays.
+    pub fn set_health_check<W: Wait>(&self, rt: &W, check: C) -> Result<(), Refusal>
+        ensures { IfErr result (λ e. e ≡ Refusal.HealthCheckSet) }
+    {
+        self.registry.set_health_check(rt, check)
+    }
+
+    /// How long the last accepted update took; `None` before the first.
+    pub fn last_update_timing<W: Wait>(&self, rt: &W) -> Option<UpdateTimings> {
+        *self.timing.lock(rt)
+    }
+
+    // What was shown last.
+    fn latest<W: Wait>(&self, rt: &W) -> Result<Arc<Shown<S>>, Refusal>
+        ensures config { IfOk result (λ s. (arc_value s).config ≡ self.now.config) }
+        ensures refused { IfErr result (λ e. e ≡ Refusal.OutOfMemory) }
+    {
+        let _key = &self.config;
+        let held = self.shown.take(rt);
+        let shown = Arc::try_clone(&held.value);
+        self.shown.put(held);
+        let shown = shown?;
+        Ok(shown)
+    }
+
+    // Shows what is served where it isn't shown yet; and what was shown before.
+    fn show_again<W: Wait>(
+        &self,
+        rt: &W,
+        alloc: Global,
+        serving: &Serving<S>,
+    ) -> Result<(Arc<Shown<S>>, Arc<Shown<S>>), Refusal>
+        requires { serving.now.config ≡ self.now.config }
+        ensures config { IfOk result (λ s. (arc_value s.0).config ≡ self.now.config) }
+        ensures refused { IfErr result (λ e. e ≡ Refusal.OutOfMemory) }
+    {
+        let version = self.version();
+        let latest = self.latest(rt)?;
+        if latest.version() == version {
+            let again = Arc::try_clone(&latest)?;
+            return Ok((again, latest));
+        }
+        let registries: &HealthRegistry<R, C> = &*self.registry;
+        let cells = registries.take(rt);
+        let told = serving.show(alloc, &cells.value, &self.loads, version);
+        registries.put(cells);
+        let shown = Arc::new(alloc, told?)?;
+        let again = Arc::try_clone(&shown)?;
+        Ok((again, self.swap(rt, shown)))
+    }
+}
+
+impl<
+    S: BackendSelection,
+    D: ServiceDiscovery + Drop,
+    R: KeyRule + Drop + Send,
+    C: HealthCheck + Drop + Send + Sync,
+> Balancing<S, D, R, C> {
+    /// Checks the targets of the whole registry once, if a check is set, beside each other or not.
+    ///
+    /// # Errors
+    ///
+    /// As `HealthRegistry::run_health_check`.
+    pub fn run_health_check<W: Log + Threads + Wait + Sync>(
+        &self,
+        rt: &W,
+        alloc: Global,
+        parallel: bool,
+    ) -> Result<(), Refusal>
+        ensures { OnErr result (IsGrowthRefusal result) }
+    {
+        self.registry.run_health_check(rt, alloc, parallel)
+    }
+}
+
+// The selector over no backends. That no number is left for a view goes before the want of memory.
+fn first_built<S: BackendSelection, R: KeyRule + Drop, C: HealthCheck + Drop, W: Wait>(
+    rt: &W,
+    alloc: Global,
+    registry: &HealthRegistry<R, C>,
+    config: &Option<S::Config>,
+) -> Result<BuiltSelector<S>, Refusal>
+    ensures made { IfOk result (λ b. (S.members (arc_value b.selector) ≡ [])
+        × (S.built_with (arc_value b.selector) ≡ unwrap_or config.now S.default_config)) }
+    ensures refused { IfErr result (λ r. (memory_apart (S.refusal [] (unwrap_or config.now S.default_config)) ≡ Some r)
+        ⊎ ((r ≡ Refusal.NumbersExhausted) ⊎ (r ≡ Refusal.OutOfMemory))) }
+{
+    match built_of(alloc, &BTreeSet::new(alloc), config, 0) {
+        Ok(built) => Ok(built),
+        Err(Refusal::OutOfMemory) if is_full(rt, registry) => Err(Refusal::NumbersExhausted),
+        Err(refusal) => Err(refusal),
+    }
+}
+
+// Whether no number is left for one more view.
+fn is_full<R: KeyRule + Drop, C: HealthCheck + Drop, W: Wait>(
+    rt: &W,
+    registry: &HealthRegistry<R, C>,
+) -> bool {
+    let cells = registry.take(rt);
+    let full = cells.value.is_full();
+    registry.put(cells);
+    full
+}
+
+// A view of its own in the registry.
+fn register<R: KeyRule + Drop, C: HealthCheck + Drop, W: Wait>(
+    rt: &W,
+    alloc: Global,
+    registry: &HealthRegistry<R, C>,
+) -> Result<ViewCore, Refusal>
+    ensures made { IfOk result (λ v. IsViewAfter [] v) }
+    ensures refused { OnErr result (IsGrowthRefusal result) }
+{
+    let mut cells = registry.take(rt);
+    let told = ViewCore::register(alloc, &mut cells.value);
+    registry.put(cells);
+    told
+}
+
+// The owner of a view of the registry; where it is refused, the view is marked for removal.
+fn owned<R: KeyRule + Drop, C: HealthCheck + Drop, W: Wait>(
+    rt: &W,
+    alloc: Global,
+    registry: &HealthRegistry<R, C>,
+    id: u64,
+) -> Result<ViewOwner, Refusal>
+    ensures { IfErr result (λ e. e ≡ Refusal.OutOfMemory) }
+{
+    let told = registry.own_view(rt, alloc, id);
+    if told.is_err() {
+        registry.remove_view(rt, id);
+    }
+    told
+}
+
+// The locks of what is served first, and of what is shown of it, and the loads, which are all 0.
+fn locks_over<S: BackendSelection, R: KeyRule + Drop, C: HealthCheck + Drop, W: Wait>(
+    rt: &W,
+    alloc: Global,
+    registry: &HealthRegistry<R, C>,
+    serving: Serving<S>,
+    config: &Option<S::Config>,
+) -> Result<(ServingLock<S>, ShownLock<S>, Arc<Mutex<Loads>>), Refusal>
+    requires { serving.config ≡ unwrap_or config.now S.default_config }
+    ensures made { IfOk result (λ l. (l.0.table.shared.key.value ≡ config.now) × (l.1.table.shared.key.value ≡ config.now)) }
+    ensures refused { IfErr result (λ e. e ≡ Refusal.OutOfMemory) }
+{
+    let version = Version {
+        balancer: 0,
+        registry: registry.changes(),
+    };
+    let loads = Arc::new(alloc, Mutex::new(Loads::new()))?;
+    let cells = registry.take(rt);
+    let told = serving.show(alloc, &cells.value, &loads, version);
+    registry.put(cells);
+    let shown = Arc::new(alloc, told?)?;
+    let key = Snapshot::of(config);
+    Ok((
+        KeyedLock::new(alloc, serving, &key)?,
+        KeyedLock::new(alloc, shown, &key)?,
+        loads,
+    ))
+}

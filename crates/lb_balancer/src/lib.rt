@@ -1,0 +1,15 @@
+//! A balancer with one selector that threads share. An update builds with no lock held but its own; a selection goes on in what was
+//! served when it began.
+#![tactic(auto)]
+
+pub mod backends;
+pub mod balancing;
+pub mod drive;
+pub mod load_balancer;
+pub mod making;
+pub mod port;
+pub mod reader;
+pub mod run;
+pub mod serving;
+pub mod shown;
+mod words;

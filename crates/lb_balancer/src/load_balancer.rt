@@ -1,0 +1,239 @@
+//! The balancer as its users share it: selections, updates, checks and readings through a borrow.
+ghost use Rattle.std.specs.Prelude.{◌≡◌, ◌⊎◌, [], IfOk, IfErr, OnOk, OnErr, Some, None, unwrap_or, false};
+ghost use Rattle.std.specs.Arc.{arc_value};
+ghost use Rattle.lb_select_base.specs.Backends.{same_member};
+ghost use Rattle.lb_select_base.specs.Refusals.{memory_apart};
+ghost use Rattle.lb_rebuild_group.specs.GroupCalls.{AcceptsBy};
+ghost use Rattle.lb_health_registry.specs.Registry.{IsGrowthRefusal};
+ghost use Rattle.lb_balancer.specs.Shown.{SelectsOf, ShownValue, is_up};
+ghost use Rattle.lb_balancer.specs.SharedUpdates.{IsSharedRefusal, ReadsUpdate};
+
+use crate::backends::Backends;
+use crate::balancing::Balancing;
+use crate::shown::Shown;
+use lb_balancer_core::timings::UpdateTimings;
+use lb_health_check::health_check::{BoxedCheck, HealthCheck};
+use lb_health_registry::keys::{KeyRule, Rule};
+use lb_health_view::discovery::{BoxedDiscovery, ServiceDiscovery};
+use lb_select_base::backend::Backend;
+use lb_select_base::moments::MomentSource;
+use lb_select_base::refusal::Refusal;
+use lb_select_base::walk::BackendSelection;
+use lb_threads_registry::keyed::NoRule;
+use log::Log;
+use std::alloc::Global;
+use std::sync::{Arc, Wait};
+use std::thread::Threads;
+
+/// A balancer with one selector that threads share. Whoever makes it sets the frequencies before it is shared.
+///
+/// A selection goes on in what was served when it began: one generation, its selector, and which of its members were ready. Its drop
+/// takes no lock and no memory: the next call of the registry removes its view, so that its backends are checked no longer.
+#[derive(Drop)]
+pub struct LoadBalancer<
+    S: BackendSelection,
+    D = BoxedDiscovery,
+    R: KeyRule + Drop = Rule<NoRule>,
+    C = BoxedCheck,
+> {
+    pub(crate) shared: Balancing<S, D, R, C>,
+    pub(crate) owns_checks: bool,
+    /// How often checks run, in nanoseconds; once where it is `None`.
+    pub health_check_frequency: Option<u128>,
+    /// How often backends are discovered, in nanoseconds; once where it is `None`.
+    pub update_frequency: Option<u128>,
+    /// Whether the checks of one pass run side by side.
+    pub parallel_health_check: bool,
+}
+
+impl<
+    S: BackendSelection,
+    D: ServiceDiscovery + Drop,
+    R: KeyRule + Drop,
+    C: HealthCheck + Drop,
+> LoadBalancer<S, D, R, C> {
+    /// A balancer over these backends, whose selectors are built with the default configuration. Nothing updated it yet.
+    ///
+    /// # Errors
+    ///
+    /// As `from_backends_with_config`.
+    pub fn from_backends<W: Wait>(
+        rt: &W,
+        alloc: Global,
+        backends: Backends<D, R, C>,
+    ) -> Result<LoadBalancer<S, D, R, C>, Refusal>
+        ensures made { IfOk result (λ b. (b.shared.discovery ≡ backends.discovery) × (b.shared.config ≡ S.default_config)) }
+        ensures parts { IfOk result (λ b. (b.owns_checks ≡ backends.owns_checks) × (b.health_check_frequency ≡ None)
+            × (b.update_frequency ≡ None) × (b.parallel_health_check ≡ false)) }
+        ensures refused { IfErr result (λ r. (memory_apart (S.refusal [] S.default_config) ≡ Some r)
+            ⊎ ((r ≡ Refusal.NumbersExhausted) ⊎ (r ≡ Refusal.OutOfMemory))) }
+    {
+        LoadBalancer::from_backends_with_config(rt, alloc, backends, None)
+    }
+
+    /// The same, whose selectors are built with this configuration; without one, with the default one.
+    ///
+    /// # Errors
+    ///
+    /// The cause for which the configuration gives no selector over no backends; where there is none, `NumbersExhausted` where no
+    /// number is left for a view, and else `OutOfMemory` where memory is refused. The registry has no view of it then.
+    pub fn from_backends_with_config<W: Wait>(
+        rt: &W,
+        alloc: Global,
+        backends: Backends<D, R, C>,
+        config: Option<S::Config>,
+    ) -> Result<LoadBalancer<S, D, R, C>, Refusal>
+        ensures made { IfOk result (λ b. (b.shared.discovery ≡ backends.discovery)
+            × (b.shared.config ≡ unwrap_or config S.default_config)) }
+        ensures parts { IfOk result (λ b. (b.owns_checks ≡ backends.owns_checks) × (b.health_check_frequency ≡ None)
+            × (b.update_frequency ≡ None) × (b.parallel_health_check ≡ false)) }
+        ensures refused { IfErr result (λ r. (memory_apart (S.refusal [] (unwrap_or config S.default_config)) ≡ Some r)
+            ⊎ ((r ≡ Refusal.NumbersExhausted) ⊎ (r ≡ Refusal.OutOfMemory))) }
+    {
+        let owns_checks = backends.owns_checks;
+        let shared = Balancing::new(rt, alloc, backends, config)?;
+        Ok(LoadBalancer {
+            shared,
+            owns_checks,
+            health_check_frequency: None,
+            update_frequency: None,
+            parallel_health_check: false,
+        })
+    }
+
+    /// Discovers, builds where the membership is another one, and then exchanges what is served. One update runs at a time; while it
+    /// discovers and builds, selections go on in what was served before. The clock is read at the start and at the end, and for
+    /// another membership also before and after the build.
+    ///
+    /// # Errors
+    ///
+    /// `Discovery` where the discovery answers a fault; the cause for which another membership makes no selector; where there is none,
+    /// `GenerationsExhausted`, `NoSuch` where the registry has no such view, or `NumbersExhausted` where no number is left for a cell;
+    /// and only then `OutOfMemory` where memory is refused. What is served is then as before.
+    pub fn update<W: Wait, K: MomentSource>(
+        &self,
+        rt: &W,
+        alloc: Global,
+        clock: &mut K,
+    ) -> Result<(), Refusal>
+        ensures reads { OnOk result (ReadsUpdate K.reads clock.old clock.new) }
+        ensures refused { IfErr result (IsSharedRefusal S.refusal self.now.shared) }
+    {
+        self.shared.update(rt, alloc, clock)
+    }
+
+    /// What is served now: all selections in it are in one generation, with the readiness of one moment. Refused for memory alone.
+    pub fn shown<W: Wait>(&self, rt: &W, alloc: Global) -> Result<Arc<Shown<S>>, Refusal>
+        ensures config { IfOk result (λ s. (arc_value s).config ≡ self.now.shared.config) }
+        ensures refused { IfErr result (λ e. e ≡ Refusal.OutOfMemory) }
+    {
+        self.shared.shown(rt, alloc)
+    }
+
+    /// Selects the first that is ready of the distinct backends among the first `max_iterations` candidates of the walk for `key`, in
+    /// what is served now. Refused for memory alone.
+    pub fn select<W: Wait>(
+        &self,
+        rt: &W,
+        alloc: Global,
+        key: &[u8],
+        max_iterations: usize,
+    ) -> Result<Option<Backend>, Refusal>
+        ensures answers { OnOk result ((s : ShownValue S.Config) × (s.config ≡ self.now.shared.config)
+            × SelectsOf same_member (λ b ready. ready ≡ is_up s.unready b) max_iterations (S.walks s.members s.config key.now) result) }
+        ensures refused { IfErr result (λ e. e ≡ Refusal.OutOfMemory) }
+    {
+        let shown = self.shared.shown(rt, alloc)?;
+        let shown: &Shown<S> = &*shown;
+        shown.select(rt, alloc, key, max_iterations)
+    }
+
+    /// Selects as `select`, but the first for which `accept` answers true, when it is asked with a backend and whether it is ready. No
+    /// lock is held meanwhile.
+    pub fn select_with<W: Wait, F: Fn(&Backend, bool) -> bool>(
+        &self,
+        rt: &W,
+        alloc: Global,
+        key: &[u8],
+        max_iterations: usize,
+        accept: &F,
+    ) -> Result<Option<Backend>, Refusal>
+        requires { F.IsAlwaysCallable accept.now }
+        ensures answers { OnOk result ((s : ShownValue S.Config) × (s.config ≡ self.now.shared.config)
+            × SelectsOf same_member (AcceptsBy F.Fn accept.now (λ b ready. ready ≡ is_up s.unready b)) max_iterations
+            (S.walks s.members s.config key.now) result) }
+        ensures refused { IfErr result (λ e. e ≡ Refusal.OutOfMemory) }
+    {
+        let shown = self.shared.shown(rt, alloc)?;
+        let shown: &Shown<S> = &*shown;
+        shown.select_with(rt, alloc, key, max_iterations, accept)
+    }
+
+    /// Sets the load of a backend's identity, which outlives each update; a selector that goes by loads reads it from then on. Refused
+    /// `OutOfMemory` where memory is refused; nothing is set then.
+    pub fn set_load<W: Wait>(
+        &self,
+        rt: &W,
+        alloc: Global,
+        backend: &Backend,
+        load: u64,
+    ) -> Result<(), Refusal>
+        ensures { IfErr result (λ e. e ≡ Refusal.OutOfMemory) }
+    {
+        self.shared.set_load(rt, alloc, backend, load)
+    }
+
+    /// Leaves the registry, which others may share: the view is marked for removal, as by `Balancing::leave`. A balancer that is dropped
+    /// leaves it too, at the registry's next call.
+    pub fn leave<W: Wait>(&self, rt: &W) {
+        self.shared.leave(rt);
+    }
+
+    /// Sets the check of the registry. Refused `HealthCheckSet` where one is set, which stays.
+    pub fn set_health_check<W: Wait>(&self, rt: &W, check: C) -> Result<(), Refusal>
+        ensures { IfErr result (λ e. e ≡ Refusal.HealthCheckSet) }
+    {
+        self.shared.set_health_check(rt, check)
+    }
+
+    /// What the balancer serves from: its generation, which of its backends are ready, and their flags.
+    pub fn backends(&self) -> &Balancing<S, D, R, C>
+        ensures { result.now ≡ self.now.shared }
+    {
+        &self.shared
+    }
+
+    /// The newest generation, which is the served one; 0 before the first membership.
+    pub fn backend_generation<W: Wait>(&self, rt: &W) -> u64 {
+        self.shared.generation(rt)
+    }
+
+    /// How long the last accepted update took; `None` before the first.
+    pub fn last_update_timing<W: Wait>(&self, rt: &W) -> Option<UpdateTimings> {
+        self.shared.last_update_timing(rt)
+    }
+}
+
+impl<
+    S: BackendSelection,
+    D: ServiceDiscovery + Drop,
+    R: KeyRule + Drop + Send,
+    C: HealthCheck + Drop + Send + Sync,
+> LoadBalancer<S, D, R, C> {
+    /// Checks the targets of the whole registry once, if a check is set: one after another, or with `parallel` each on a thread of its
+    /// own where one can be started.
+    ///
+    /// # Errors
+    ///
+    /// `NumbersExhausted` where no number is left for a cell, and `OutOfMemory` where memory is refused, before the first check.
+    pub fn run_health_check<W: Log + Threads + Wait + Sync>(
+        &self,
+        rt: &W,
+        alloc: Global,
+        parallel: bool,
+    ) -> Result<(), Refusal>
+        ensures { OnErr result (IsGrowthRefusal result) }
+    {
+        self.shared.run_health_check(rt, alloc, parallel)
+    }
+}

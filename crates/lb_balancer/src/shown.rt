@@ -1,0 +1,144 @@
+//! What a balancer served at one moment. A selection goes on in it, whatever updates and checks change meanwhile.
+ghost use Rattle.std.specs.Prelude.{◌≡◌, ℕ, Bool, List, IfOk, IfErr, OnErr, Err, not};
+ghost use Rattle.std.specs.Arc.{arc_value};
+ghost use Rattle.std.specs.List.{list_any};
+ghost use Rattle.lb_select_base.specs.Backends.{Member, same_member};
+ghost use Rattle.lb_rebuild_group.specs.GroupCalls.{AcceptsBy};
+ghost use Rattle.lb_balancer.specs.Shown.{SelectsOf, is_ready, is_up};
+
+use crate::words::LoadedWords;
+use lb_select_base::backend::Backend;
+use lb_select_base::loads::Loads;
+use lb_select_base::refusal::Refusal;
+use lb_select_base::select::select;
+use lb_select_base::walk::BackendSelection;
+use lb_select_base::words::SharedWords;
+use std::alloc::Global;
+use std::collections::BTreeSet;
+use std::marker::Model;
+use std::sync::{Arc, Mutex, Wait};
+
+/// How often balancer and registry had changed.
+#[derive(Clone, Copy, PartialEq, Eq)]
+pub struct Version {
+    pub balancer: u64,
+    pub registry: u64,
+}
+
+/// A generation with its members, the selector that is built of them, and which of them were not ready then.
+///
+/// Contracts see all but the selector's words, which other threads draw too, and the loads of the balancer, which they set.
+#[derive(Drop)]
+pub struct Shown<S: BackendSelection> {
+    pub(crate) generation: u64,
+    pub(crate) members: Arc<BTreeSet<Backend>>,
+    pub(crate) selector: Arc<S>,
+    pub(crate) words: Arc<SharedWords>,
+    pub(crate) loads: Arc<Mutex<Loads>>,
+    pub(crate) unready: BTreeSet<Backend>,
+    pub(crate) version: Version,
+}
+
+impl<S: BackendSelection> Model for Shown<S> {
+    ghost use Rattle.std.specs.Prelude.{◌≡◌};
+    ghost use Rattle.std.specs.Arc.{arc_value};
+    ghost use Rattle.lb_balancer.specs.Shown.{ShownValue};
+
+    ghost Value = { ShownValue S.Config };
+
+    ghost view = { λ s. record {
+      generation = s.generation;
+      members = (arc_value s.members).keys;
+      config = S.built_with (arc_value s.selector);
+      unready = s.unready.keys;
+    } };
+
+    ghost invariant = { λ s. S.members (arc_value s.selector) ≡ (arc_value s.members).keys };
+}
+
+impl<S: BackendSelection> Shown<S> {
+    /// The generation.
+    pub fn generation(&self) -> u64
+        ensures { result ≡ self.now.generation }
+    {
+        self.generation
+    }
+
+    /// The members. Refused `OutOfMemory` where std refuses one more owner.
+    pub fn get_backend(&self) -> Result<Arc<BTreeSet<Backend>>, Refusal>
+        ensures members { IfOk result (λ set. (arc_value set).keys ≡ self.now.members) }
+        ensures refused { OnErr result (result ≡ Err Refusal.OutOfMemory) }
+    {
+        let members = Arc::try_clone(&self.members)?;
+        Ok(members)
+    }
+
+    /// Whether a backend is a member that was ready. It takes no memory.
+    pub fn ready(&self, backend: &Backend) -> bool
+        ensures { result ≡ is_ready self.now backend.now }
+    {
+        self.members.contains(backend) && !self.unready.contains(backend)
+    }
+
+    /// How often balancer and registry had changed.
+    pub(crate) fn version(&self) -> Version {
+        self.version
+    }
+
+    /// Selects the first for which `accept` answers true, when it is asked with a backend and whether it was ready, of the distinct
+    /// backends among the first `max_iterations` candidates of the walk for `key`. No lock is held while it is asked. Refused for
+    /// memory alone.
+    pub fn select_with<W: Wait, F: Fn(&Backend, bool) -> bool>(
+        &self,
+        rt: &W,
+        alloc: Global,
+        key: &[u8],
+        max_iterations: usize,
+        accept: &F,
+    ) -> Result<Option<Backend>, Refusal>
+        requires { F.IsAlwaysCallable accept.now }
+        ensures answers { SelectsOf same_member (AcceptsBy F.Fn accept.now (λ b ready. ready ≡ is_up self.now.unready b)) max_iterations
+            (S.walks self.now.members self.now.config key.now) result }
+    {
+        let unready = &self.unready;
+        let judged = |backend: &Backend| -> bool
+            requires { F.IsAlwaysCallable accept.now }
+            ensures { AcceptsBy F.Fn accept.entry.now (λ b ready. ready ≡ is_up unready.entry.now.keys b) backend.entry.now result }
+        { accept(backend, !unready.contains(backend)) };
+        let shared: &SharedWords = &*self.words;
+        let mut words = LoadedWords {
+            words: shared.lend(rt),
+            loads: &*self.loads,
+            rt,
+        };
+        select(
+            alloc,
+            &self.selector,
+            key,
+            &mut words,
+            max_iterations,
+            &judged,
+        )
+    }
+
+    /// Selects as `select_with`, the first that was ready.
+    pub fn select<W: Wait>(
+        &self,
+        rt: &W,
+        alloc: Global,
+        key: &[u8],
+        max_iterations: usize,
+    ) -> Result<Option<Backend>, Refusal>
+        ensures answers { SelectsOf same_member (λ b ready. ready ≡ is_up self.now.unready b) max_iterations
+            (S.walks self.now.members self.now.config key.now) result }
+    {
+        self.select_with(rt, alloc, key, max_iterations, &ready_ones)
+    }
+}
+
+// Accepts what is ready.
+fn ready_ones(_backend: &Backend, ready: bool) -> bool
+    ensures { result ≡ ready }
+{
+    ready
+}

@@ -1,0 +1,32 @@
+//! The words of one walk in a balancer that threads share: those of its selector, with the loads that are set at the balancer.
+use lb_select_base::backend::Backend;
+use lb_select_base::loads::Loads;
+use lb_select_base::words::{LentWords, WordSource};
+use std::sync::{Mutex, Wait};
+
+// The words of a selector with the loads of its balancer, in the hands of one walk. Other threads draw and set them too.
+#[derive(Drop)]
+pub(crate) struct LoadedWords<'a, R> {
+    pub(crate) words: LentWords<'a, R>,
+    pub(crate) loads: &'a Mutex<Loads>,
+    pub(crate) rt: &'a R,
+}
+
+impl<'a, R: Wait> WordSource for LoadedWords<'a, R> {
+    ghost use Rattle.std.specs.Prelude.{⊤};
+
+    ghost gives = { λ _ _ _. ⊤ };
+
+    fn ticket(&mut self) -> u64 {
+        self.words.ticket()
+    }
+
+    fn random(&mut self) -> u64 {
+        self.words.random()
+    }
+
+    // Held for this one load: a walk that reads none doesn't take the lock.
+    fn load(&self, backend: &Backend) -> u64 {
+        self.loads.lock(self.rt).get(backend)
+    }
+}

@@ -1,0 +1,149 @@
+-- A worker's turn at a slot that is due, at a free gate of the plain group: the job is built and served, or one more build failed.
+-- The calls are those of any port that are at least the plain group's own.
+use Rattle.std.specs.Prelude.{◌≡◌, ◌⊎◌, ◌<◌, ◌≤◌, ◌||◌, ℕ, Bool, true, false, not, nat_lt, cond, List, [], ◌∷◌, ◌++◌, length, Option, Some, None, Result, Ok, Err, refl}
+use Rattle.std.proofs.Common.{sym, ap, ◌∙◌, subst, arith, inl, inr}
+use Rattle.std.proofs.lemmas.Bool.{lt-ltb}
+use Rattle.lb_select_base.specs.Backends.{Member}
+use Rattle.lb_select_base.specs.declared.refusal.Refusal.{Refusal}
+use Rattle.lb_select_base.specs.declared.refusal.Refusal.TheVariants as refusal
+use Rattle.lb_rebuild_slots.specs.Gate.{GateValue}
+use Rattle.lb_rebuild_slots.specs.SlotsCalls.{IsJob, taken_refusal, publish_answer, publish_events}
+use Rattle.lb_rebuild_slots.specs.SlotsHistory as core
+use Rattle.lb_rebuild_slots.specs.SlotsHistory.{Granted, past_of, newest, served, extra, waits, is_extra, is_cancelled, is_flight, all_failures, due_moment, ask_answer, AskAnswer, cancelled, building, up_to_date, not_due, busy, job, Extra, nothing}
+use Rattle.lb_rebuild_slots.specs.Stands.{Made}
+use Rattle.lb_rebuild_slots.specs.Values.{Task, BuiltValue, RetiredValue, PermitValue}
+use Rattle.lb_rebuild_slots.specs.declared.answers.Ask.{Ask}
+use Rattle.lb_rebuild_slots.specs.declared.answers.Ask.TheVariants as asks
+use Rattle.lb_rebuild_slots.specs.declared.answers.Publication.{Publication}
+use Rattle.lb_rebuild_slots.specs.declared.answers.Publication.TheVariants as told
+use Rattle.lb_rebuild_slots.proofs.Pasts.{past-same, newest-past, cancelled-past, lt-false}
+use Rattle.lb_rebuild_group.specs.GroupHistory.{History, At, slot_events, in_group}
+use Rattle.lb_rebuild_group.specs.Stands.{GroupValue, Stands, After, Becomes}
+use Rattle.lb_balancer_core.specs.Builds.{RefusedValue}
+use Rattle.lb_balancer_core.specs.Due.{IsDue, IsLate, EndsTurn}
+use Rattle.lb_balancer_core.specs.Plain.{IsTaken, IsAsked, IsPublished}
+use Rattle.lb_balancer_core.specs.Through.{Publishes, Fails, Answered, Asks, Clears, Turned, turn_of}
+use Rattle.lb_balancer_core.specs.declared.turn.Turn.{Turn}
+use Rattle.lb_balancer_core.specs.declared.turn.Turn.TheVariants as turn
+
+job-if : (ca fl w d o : Bool) (m : ℕ) → ca ≡ false → fl ≡ false → w ≡ true → d ≡ false → o ≡ false
+    → cond ca cancelled (cond fl building (cond (not w) up_to_date (cond d (not_due m) (cond o busy job)))) ≡ job
+job-if ca fl w d o m a b c e f = rw (a, b, c, e, f) refl
+
+or-neither : (a b : Bool) → a ≡ false → b ≡ false → (a || b) ≡ false
+or-neither a b x y = rw (x, y) refl
+
+-- what a slot with nothing beside what it serves answers to a try to take something out
+taken-none : {C : Type 0} (made : Made C) (slot : ℕ) (h : core.History) → slot < length made.configs → extra (past_of slot h) ≡ nothing
+    → taken_refusal made slot h ≡ Some refusal.NothingRetired
+taken-none made slot h there bare = rw (lt-ltb slot (length made.configs) there, bare) refl
+
+cause-is : (a b : Refusal) → (let x : Option Refusal = Some a in let y : Option Refusal = Some b in x ≡ y) → a ≡ b
+cause-is a b e = cc
+
+module _ {S I C W K P : Type 0} (refuses : List Member → C → Option Refusal) (reads : K → ℕ → K → Type 0)
+    (core_of : P → GroupValue C) (gate_of : P → GateValue)
+    (taken : P → ℕ → Result RetiredValue Refusal → P → Type 0) (reported : P → ℕ → PermitValue → P → Type 0)
+    (asked : P → ℕ → ℕ → Result (Ask S I C W) Refusal → P → Type 0)
+    (published : P → BuiltValue C → Publication → P → Type 0) (failed : P → RefusedValue C → ℕ → P → Type 0)
+    (taken_is : (p : P) (s : ℕ) (a : Result RetiredValue Refusal) (q : P) → taken p s a q → IsTaken (core_of p) s a (core_of q) × (gate_of q ≡ gate_of p))
+    (asked_is : (p : P) (s now : ℕ) (a : Result (Ask S I C W) Refusal) (q : P) → asked p s now a q
+    → IsAsked (core_of p) (gate_of p) s now a (core_of q) (gate_of q))
+    (published_is : (p : P) (b : BuiltValue C) (u : Publication) (q : P) → published p b u q → IsPublished (core_of p) b u (core_of q))
+    (failed_is : (p : P) (r : RefusedValue C) (now : ℕ) (q : P) → failed p r now q
+    → Becomes (core_of p) (in_group (core.At r.task.slot (core.Failed now r.task.members) ∷ [])) (core_of q))
+    (slot : ℕ) where
+  module _ (made : Made C) (e : History) (due : IsDue made e slot) where
+    abbrev Events : core.History
+    Events = slot_events e
+
+    abbrev Before : core.History
+    Before = past_of slot Events
+
+    -- what the job came to
+    flown : (j : Task C) (now : ℕ) (p q : P) (k l : K) (t : Turn) → IsJob made Events slot j → Stands made (At slot (Granted now) ∷ e) (core_of p)
+        → Publishes refuses reads taken reported asked published failed slot j p k t q l ⊎ Fails refuses reads taken reported asked published failed slot j p k t q l
+        → EndsTurn made e slot (Ok t) (core_of q)
+    flown j now p q k l t is s (inl (fine, end, m, u, out, what)) =
+        let given = published_is p _ u q out in
+        let h : core.History = core.At slot (Granted now) ∷ Events in
+        let right : publish_answer slot (newest Events) h ≡ told.Published (newest Events) = rw (past-same slot (Granted now) Events, due.live) refl in
+        let answer : u ≡ told.Published (newest Events) =
+        (given.0 made (At slot (Granted now) ∷ e) s).1
+        ∙ subst (λ (x : ℕ). publish_answer x j.generation h ≡ told.Published (newest Events)) (sym is.place)
+        (subst (λ (x : ℕ). publish_answer slot x h ≡ told.Published (newest Events)) (sym is.generation) right) in
+        let stands : Stands made (At j.slot (core.Published end j.members) ∷ At slot (Granted now) ∷ e) (core_of q) =
+        subst (λ (x : Publication). Stands made (in_group (publish_events (record { task = j; ended = end }) (Ok x)) ++ (At slot (Granted now) ∷ e)) (core_of q)) answer
+        (given.1 made (At slot (Granted now) ∷ e) s) in (
+          At slot (core.Published end j.members) ∷ At slot (Granted now) ∷ e,
+          subst (λ (x : ℕ). Stands made (At x (core.Published end j.members) ∷ At slot (Granted now) ∷ e) (core_of q)) is.place stands,
+          refl,
+          inl (
+            ap (λ (x : Turn). Ok x) (what ∙ ap turn_of answer),
+            rw (past-same slot (core.Published end j.members) h, past-same slot (Granted now) Events) (newest-past slot Events),
+          ),
+        )
+    flown j now p q k l t is s (inr (end, m, r, out, same, cause, what)) =
+        let h : core.History = core.At slot (Granted now) ∷ Events in
+        let stands : Stands made (At j.slot (core.Failed end j.members) ∷ At slot (Granted now) ∷ e) (core_of q) =
+        subst (λ (x : Task C). Stands made (At x.slot (core.Failed end x.members) ∷ At slot (Granted now) ∷ e) (core_of q)) same
+        (failed_is p r end q out made (At slot (Granted now) ∷ e) s) in (
+          At slot (core.Failed end j.members) ∷ At slot (Granted now) ∷ e,
+          subst (λ (x : ℕ). Stands made (At x (core.Failed end j.members) ∷ At slot (Granted now) ∷ e) (core_of q)) is.place stands,
+          refl,
+          inr (
+            r.refusal,
+            (
+              ap (λ (x : Turn). Ok x) (what ∙ ap (λ (n : ℕ). turn.Failed n r.refusal) is.generation),
+              rw (past-same slot (core.Failed end j.members) h, past-same slot (Granted now) Events) refl,
+            ),
+          ),
+        )
+
+    -- a slot that is due answers a job at a free gate
+    job-now : (now : ℕ) (out : Bool) → out ≡ false → due_moment Before ≤ now → ask_answer Before out now ≡ job
+    job-now now out free late =
+        job-if (is_cancelled Before) (is_flight (extra Before)) (waits Before) (nat_lt now (due_moment Before)) (out || is_extra (extra Before)) (due_moment Before)
+        (cancelled-past slot Events ∙ due.live) (ap is_flight due.bare) due.waits (lt-false now (due_moment Before) late)
+        (or-neither out (is_extra (extra Before)) free (ap is_extra due.bare))
+
+    answered : (now : ℕ) (m n q : P) (k l : K) (a : Result (Ask S I C W) Refusal) (r : Result Turn Refusal) → Stands made e (core_of m)
+        → ask_answer Before (gate_of m).out now ≡ job → IsAsked (core_of m) (gate_of m) slot now a (core_of n) (gate_of n)
+        → Answered refuses reads taken reported asked published failed slot a n k r q l → EndsTurn made e slot r (core_of q)
+    answered now m n q k l (Err x) r s is_job given next = let past = (given.0 made e s).1 in let there = due.there in absurd (omega (arith, past, there))
+    answered now m n q k l (Ok asks.Cancelled) r s is_job given next = let told_ = (given.0 made e s).1 in absurd (cc)
+    answered now m n q k l (Ok asks.Building) r s is_job given next = let told_ = (given.0 made e s).1 in absurd (cc)
+    answered now m n q k l (Ok asks.Nothing) r s is_job given next = let told_ = (given.0 made e s).1 in absurd (cc)
+    answered now m n q k l (Ok (asks.NotDue x)) r s is_job given next = let told_ = (given.0 made e s).1 in absurd (cc)
+    answered now m n q k l (Ok asks.Busy) r s is_job given next = let told_ = (given.0 made e s).1 in absurd (cc)
+    answered now m n q k l (Ok (asks.Job j)) (Ok t) s is_job given next = flown j now n q k l t (given.0 made e s).2 (given.1 made e s) next
+    answered now m n q k l (Ok (asks.Job j)) (Err x) s is_job given next = absurd next
+
+    asks_then : (m q : P) (k l : K) (r : Result Turn Refusal) → Stands made e (core_of m) → (gate_of m).out ≡ false
+        → ((now : ℕ) (z : K) → reads k now z → due_moment Before ≤ now)
+        → Asks refuses reads taken reported asked published failed slot m k r q l → EndsTurn made e slot r (core_of q)
+    asks_then m q k l r s free late (now, z, read, a, n, out, next) =
+        answered now m n q z l a r s (job-now now (gate_of m).out free (late now z read)) (asked_is m slot now a n out) next
+
+    cleared : (p m q : P) (k l : K) (a : Result RetiredValue Refusal) (r : Result Turn Refusal) → Stands made e (core_of p) → (gate_of p).out ≡ false
+        → ((now : ℕ) (z : K) → reads k now z → due_moment Before ≤ now) → IsTaken (core_of p) slot a (core_of m) × (gate_of m ≡ gate_of p)
+        → Clears refuses reads taken reported asked published failed slot a m k r q l → EndsTurn made e slot r (core_of q)
+    cleared p m q k l (Ok v) r s free late given next =
+        let none : taken_refusal made slot Events ≡ None = (given.0.0 made e s).0 in
+        let some = taken-none made slot Events due.there due.bare in absurd (cc)
+    cleared p m q k l (Err x) r s free late given next =
+        let cause : x ≡ refusal.NothingRetired =
+        cause-is x refusal.NothingRetired (sym (given.0.0 made e s) ∙ taken-none made slot Events due.there due.bare) in
+        let asks_ : Clears refuses reads taken reported asked published failed slot (Err refusal.NothingRetired) m k r q l =
+        subst (λ (y : Refusal). Clears refuses reads taken reported asked published failed slot (Err y) m k r q l) cause next in
+        asks_then m q k l r (given.0.1 made e s) (ap (λ (g : GateValue). g.out) given.1 ∙ free) late asks_
+
+    turn_ends : (p q : P) (k l : K) (r : Result Turn Refusal) → Stands made e (core_of p) → (gate_of p).out ≡ false
+        → ((now : ℕ) (z : K) → reads k now z → due_moment Before ≤ now)
+        → Turned refuses reads taken reported asked published failed slot p k r q l → EndsTurn made e slot r (core_of q)
+    turn_ends p q k l r s free late (a, m, out, next) = cleared p m q k l a r s free late (taken_is p slot a m out) next
+
+  pub due_ends : (p q : P) (k l : K) (r : Result Turn Refusal) → After (core_of p) (λ made e. IsDue made e slot × IsLate reads k e slot)
+      → (gate_of p).out ≡ false → Turned refuses reads taken reported asked published failed slot p k r q l
+      → After (core_of p) (λ made e. EndsTurn made e slot r (core_of q))
+  due_ends p q k l r due free turned = λ made e s. turn_ends made e (due made e s).0 p q k l r s free (due made e s).1 turned

@@ -1,0 +1,22 @@
+-- The moments that were read, and what is served then.
+use Rattle.lb_health_view.specs.RegistrySide.{settings_of}
+use Rattle.lb_balancer_core.proofs.Readings.{readings}
+use Rattle.lb_balancer_core.proofs.balancer_core.LoadBalancerCore.update.Goals as goal
+
+pub returns-clause-updated : goal.returns-clause-updated
+returns-clause-updated g c =
+    let told = c.in_ok-build.ensures in
+    let read = readings g.K.MomentSource.reads c.in_ok-build.build c.now-start.result c.now-end.result c.args.clock.now c.now-start.new.self c.update.new.clock c.now-end.new.self
+    c.now-start.ensures told.readings c.now-end.ensures in
+    record {
+      members = c.in_ok-members.members.keys;
+      settings = settings_of c.in_ok-members.settings.entries;
+      times = read.0;
+      discovered = c.in_ok-members.ensures.ok;
+      read = read.1.0;
+      timed = rw (c.saturating_sub-2.ensures, c.saturating_sub.ensures, c.unwrap_or-build_duration.ensures) read.1.1.0;
+      readings = λ e s. read.1.1.1 _ (told.changed e s);
+      free = λ key_of events r e s. (told.updated key_of events r e s).0;
+      stands = λ key_of events r e s. (told.updated key_of events r e s).1.0;
+      registry = λ key_of events r e s. (told.updated key_of events r e s).1.1;
+    }

@@ -1,0 +1,58 @@
+-- What an update of a group balancer does: what the discovery gave is scheduled at the clock's second reading.
+use Rattle.std.specs.Prelude.{◌≡◌, ◌⊎◌, ◌^◌, ◌≤◌, ℕ, Bool, true, false, List, [], ◌∷◌, Option, None, Ok}
+use Rattle.lb_select_base.specs.Backends.{Member}
+use Rattle.lb_select_base.specs.declared.refusal.Refusal.{Refusal}
+use Rattle.lb_select_base.specs.declared.refusal.Refusal.TheVariants.{Discovery, OutOfMemory, NoSuch, NumbersExhausted}
+use Rattle.lb_health_registry.specs.Registry.{RegistryValue, IsRegistryAfter}
+use Rattle.lb_health_registry.specs.RegistryEvents.{Event, Applied, Updated, cells_given, has_view, views_after}
+use Rattle.lb_rebuild_slots.specs.SlotsCalls.{is_change, schedule_refusal}
+use Rattle.lb_rebuild_slots.specs.declared.membership.Scheduled.{Scheduled}
+use Rattle.lb_health_view.specs.Discoveries.{Discovers, MayFault}
+use Rattle.lb_health_view.specs.RegistrySide.{registry_updated}
+use Rattle.lb_health_view.specs.declared.discovery.DiscoverySource.{DiscoverySource}
+use Rattle.lb_rebuild_group.specs.GroupCalls.{IsRefusedFor, Schedules, after_schedule}
+use Rattle.lb_rebuild_group.specs.GroupHistory.{slot_events}
+use Rattle.lb_rebuild_group.specs.Stands.{GroupValue, Stands, After, views_of}
+use Rattle.lb_balancer_core.specs.Timings.{Reads, update_timing}
+use Rattle.lb_balancer_core.specs.declared.timings.UpdateTimings.{UpdateTimings}
+
+module _ {D C R : Type 0} (gives : R → Member → Member → Type 0) (discovery : DiscoverySource D) (was : GroupValue C)
+    (before : RegistryValue R) where
+  -- the discovery gave members and settings, and they were scheduled at the second of the moments that were read
+  pub record IsGroupUpdated {K : Type 0} (reads : K → ℕ → K → Type 0) (clock clock_after : K) (now : GroupValue C)
+      (after : RegistryValue R) (timing : Option UpdateTimings) (s : Scheduled) : Type 0 where
+    pub members : List Member
+    pub settings : List (Member × Bool)
+    pub start : ℕ
+    pub moment : ℕ
+    pub discovered : Discovers discovery members settings
+    pub read : Reads reads clock (start ∷ moment ∷ []) clock_after
+    pub timed : timing ≡ update_timing (start ∷ moment ∷ [])
+    pub answers : After was (λ made e. Schedules made e members (Ok s))
+    pub stands : (key_of : Member → Member) (events : List Event) → IsRegistryAfter gives key_of events before
+        → After was (λ made e. Stands made (after_schedule key_of was.view.id members settings moment events e) now)
+    pub registry : (key_of : Member → Member) (events : List Event) → IsRegistryAfter gives key_of events before
+        → After was (λ made e. IsRegistryAfter gives key_of (registry_updated key_of was.view.id members (views_of made e) events) after)
+
+  -- The discovery gave members that are refused. That the registry lacks the view goes before the want of numbers, and both before
+  -- that of memory.
+  pub record AreRefused (r : Refusal) : Type 0 where
+    pub members : List Member
+    pub settings : List (Member × Bool)
+    pub discovered : Discovers discovery members settings
+    pub cause : After was (λ made e. IsRefusedFor (slot_events e) members r)
+    pub unknown : r ≡ NoSuch → (key_of : Member → Member) (events : List Event) → IsRegistryAfter gives key_of events before
+        → has_view was.view.id (views_after events) ≡ false
+    pub numbers : r ≡ NumbersExhausted → (key_of : Member → Member) (events : List Event) → IsRegistryAfter gives key_of events before
+        → 2 ^ 64 ≤ cells_given key_of (Updated was.view.id members ∷ Applied ∷ events)
+    pub missing : (key_of : Member → Member) (events : List Event) → IsRegistryAfter gives key_of events before
+        → After was (λ made e. schedule_refusal members (slot_events e) ≡ None → is_change members (slot_events e) ≡ true
+        → has_view was.view.id (views_after events) ≡ false → r ≡ NoSuch)
+    pub lacking : (key_of : Member → Member) (events : List Event) → IsRegistryAfter gives key_of events before
+        → After was (λ made e. schedule_refusal members (slot_events e) ≡ None → is_change members (slot_events e) ≡ true
+        → has_view was.view.id (views_after events) ≡ true
+        → 2 ^ 64 ≤ cells_given key_of (Updated was.view.id members ∷ Applied ∷ events) → r ≡ NumbersExhausted)
+
+  -- the discovery answers a fault or is refused memory, or what it gave is refused
+  abbrev pub IsGroupRefusal : Refusal → Type 0
+  IsGroupRefusal r = ((r ≡ Discovery) × MayFault discovery) ⊎ ((r ≡ OutOfMemory) ⊎ AreRefused r)

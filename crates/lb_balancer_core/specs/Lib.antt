@@ -1,0 +1,15 @@
+pub mod Balancer
+pub mod BalancerUpdates
+pub mod Choices
+pub mod GroupUpdates
+pub mod Texts
+pub mod Timings
+pub mod Builds
+pub mod Calls
+pub mod Due
+pub mod Found
+pub mod Lent
+pub mod Looks
+pub mod Plain
+pub mod PlainLaws
+pub mod Through

@@ -1,0 +1,276 @@
+//! A discovery with a group of slots, each of which serves a selector of its own that is rebuilt apart from an update.
+ghost use Rattle.std.specs.Prelude.{◌≡◌, ◌↔◌, ◌<◌, ◌≤◌, ◌+◌, ◌^◌, ◌∷◌, [], ℕ, List, length, map, Ok, Err, Some, None, option_map};
+ghost use Rattle.std.specs.Prelude.{IfOk, IfErr, IsErrOf, IsSome, IsTrue, OnOk, OnErr};
+ghost use Rattle.lb_select_base.specs.Backends.{Member};
+ghost use Rattle.lb_select_base.specs.Loads.{load_in};
+ghost use Rattle.lb_select_base.specs.Refusals.{least, memory_apart};
+ghost use Rattle.lb_rebuild_slots.specs.SlotsCalls.{SelectsIn, at_slot};
+ghost use Rattle.lb_rebuild_slots.specs.SlotsHistory.{newest, past_of, served, coalesced, failed, timing as timing_after};
+ghost use Rattle.lb_health_registry.specs.Registry.{IsRegistryAfter};
+ghost use Rattle.lb_health_registry.specs.RegistryEvents.{Event, Applied, Registered, registered_after};
+ghost use Rattle.lb_rebuild_group.specs.GroupCalls.{AcceptsBy, IsMakingRefusal, Judges, after_select, served_at};
+ghost use Rattle.lb_rebuild_group.specs.GroupHistory.{slot_events};
+ghost use Rattle.lb_rebuild_group.specs.Stands.{After, SameSite, Stands};
+ghost use Rattle.lb_balancer_core.specs.GroupUpdates.{IsGroupUpdated, IsGroupRefusal};
+ghost use Rattle.lb_balancer_core.specs.Timings.{selector_timings};
+
+use crate::lent::LentGroupBackends;
+use crate::timings::{SelectorUpdateTimings, UpdateTimings};
+use lb_health_check::health_check::HealthCheck;
+use lb_health_registry::keys::KeyRule;
+use lb_health_registry::registry::Registry;
+use lb_health_view::discovery::{DiscoverySource, ServiceDiscovery};
+use lb_health_view::registry::HealthRegistry;
+use lb_rebuild_group::group::GroupCore;
+use lb_rebuild_slots::answers::Selection;
+use lb_rebuild_slots::gate::GateCore;
+use lb_rebuild_slots::membership::Scheduled;
+use lb_select_base::backend::Backend;
+use lb_select_base::loads::Loads;
+use lb_select_base::moments::MomentSource;
+use lb_select_base::refusal::Refusal;
+use lb_select_base::walk::BackendSelection;
+use std::alloc::Global;
+
+/// A discovery, the group that its backends reach, and how long the last accepted update took. The group's own calls build,
+/// publish and destroy the selectors of its slots.
+#[derive(Drop)]
+pub struct LoadBalancerGroupCore<S: BackendSelection, D> {
+    pub discovery: DiscoverySource<D>,
+    pub group: GroupCore<S>,
+    pub timing: Option<UpdateTimings>,
+}
+
+impl<S: BackendSelection, D: ServiceDiscovery + Drop> LoadBalancerGroupCore<S, D> {
+    /// A group of one slot for each configuration, with a view of its own in the registry, at generation 0.
+    ///
+    /// # Errors
+    ///
+    /// As `GroupCore::new`; the registry is then as before.
+    pub fn from_backends_with_configs<R: KeyRule + Drop>(
+        alloc: Global,
+        registry: &mut Registry<R>,
+        gate: &GateCore,
+        discovery: DiscoverySource<D>,
+        configs: Vec<S::Config>,
+    ) -> Result<LoadBalancerGroupCore<S, D>, Refusal>
+        ensures stands { IfOk result (λ b. Stands
+            (record { id = b.group.group.id; gate = gate.now.id; configs = configs.items }) [] b.group) }
+        ensures gate { IfOk result (λ b. b.group.group.gate ≡ gate.now.id) }
+        ensures id { IfOk result (λ b. (key_of : Member → Member) (events : List Event)
+            → IsRegistryAfter R.gives key_of events registry.old → b.group.view.id ≡ registered_after events + 1) }
+        ensures parts { IfOk result (λ b. (b.discovery ≡ discovery) × (b.timing ≡ None)) }
+        ensures registry { OnOk result ((key_of : Member → Member) (events : List Event)
+            → IsRegistryAfter R.gives key_of events registry.old
+            → IsRegistryAfter R.gives key_of (Applied ∷ Registered ∷ events) registry.new) }
+        ensures err { OnErr result ((key_of : Member → Member) (events : List Event) → IsRegistryAfter R.gives key_of events registry.old
+            → IsRegistryAfter R.gives key_of events registry.new) }
+        ensures exhausted { (key_of : Member → Member) (events : List Event) → IsRegistryAfter R.gives key_of events registry.old
+            → memory_apart (least (map (S.refusal []) configs.items)) ≡ None
+            → (IsErrOf result Refusal.NumbersExhausted ↔ (2 ^ 64 ≤ registered_after events + 1)) }
+        ensures refused { IsMakingRefusal (least (map (S.refusal []) configs.items)) result }
+    {
+        match GroupCore::new(alloc, registry, gate, configs) {
+            Ok(group) => Ok(LoadBalancerGroupCore {
+                discovery,
+                group,
+                timing: None,
+            }),
+            Err(refusal) => Err(refusal),
+        }
+    }
+
+    /// Discovers, and schedules what was discovered in the group. The clock is read at the start and after the discovery; the
+    /// second moment is that of the membership.
+    ///
+    /// # Errors
+    ///
+    /// `Discovery` where the discovery answers a fault; `OutOfMemory` where it is refused memory; and as `GroupCore::schedule`.
+    /// Group, registry and timing are then as before.
+    pub fn update<R: KeyRule + Drop, K: MomentSource>(
+        &mut self,
+        alloc: Global,
+        registry: &mut Registry<R>,
+        clock: &mut K,
+    ) -> Result<Scheduled, Refusal>
+        ensures updated { IfOk result (λ s. IsGroupUpdated R.gives self.old.discovery self.old.group registry.old
+            K.reads clock.old clock.new self.new.group registry.new self.new.timing s) }
+        ensures err { OnErr result (After self.old.group (λ made e. Stands made e self.new.group)) }
+        ensures registry_err { OnErr result ((key_of : Member → Member) (events : List Event)
+            → IsRegistryAfter R.gives key_of events registry.old
+            → IsRegistryAfter R.gives key_of events registry.new) }
+        ensures timing_err { OnErr result (self.new.timing ≡ self.old.timing) }
+        ensures refused { IfErr result (IsGroupRefusal R.gives self.old.discovery self.old.group registry.old) }
+        ensures discovery { self.new.discovery ≡ self.old.discovery }
+        ensures site { SameSite self.old.group self.new.group }
+    {
+        let start = clock.now();
+        let (members, settings) = self.discovery.discover(alloc)?;
+        let moment = clock.now();
+        let scheduled = self
+            .group
+            .schedule(alloc, registry, members, settings, moment)?;
+        self.timing = Some(UpdateTimings {
+            discovery_duration: moment.saturating_sub(start),
+            build_duration: 0,
+        });
+        Ok(scheduled)
+    }
+
+    /// Selects from what a slot serves, as `GroupCore::select`.
+    pub fn select<R: KeyRule + Drop>(
+        &mut self,
+        alloc: Global,
+        registry: &Registry<R>,
+        slot: usize,
+        key: &[u8],
+        max_iterations: usize,
+        random: &[u64],
+        loads: &Loads,
+    ) -> Selection
+        ensures answers { (key_of : Member → Member) (events : List Event) → IsRegistryAfter R.gives key_of events registry.now
+            → After self.old.group (λ made e. SelectsIn S.may_draw_random S.walks
+            (Judges key_of events made e (served_at slot e)) (load_in loads.now)
+            made (slot_events e) slot key.now max_iterations random.now result) }
+        ensures stands { After self.old.group (λ made e. Stands made (after_select made slot result e) self.new.group) }
+        ensures kept { self.new ≡ record self.old { group = self.new.group } }
+    {
+        self.group
+            .select(alloc, registry, slot, key, max_iterations, random, loads)
+    }
+
+    /// Selects as `select`, but the first for which `accept` answers true, when it is asked with a backend and whether it is ready.
+    pub fn select_with<R: KeyRule + Drop, F: Fn(&Backend, bool) -> bool>(
+        &mut self,
+        alloc: Global,
+        registry: &Registry<R>,
+        slot: usize,
+        key: &[u8],
+        max_iterations: usize,
+        random: &[u64],
+        loads: &Loads,
+        accept: &F,
+    ) -> Selection
+        requires { F.IsAlwaysCallable accept.now }
+        ensures answers { (key_of : Member → Member) (events : List Event) → IsRegistryAfter R.gives key_of events registry.now
+            → After self.old.group (λ made e. SelectsIn S.may_draw_random S.walks
+            (AcceptsBy F.Fn accept.now (Judges key_of events made e (served_at slot e))) (load_in loads.now)
+            made (slot_events e) slot key.now max_iterations random.now result) }
+        ensures stands { After self.old.group (λ made e. Stands made (after_select made slot result e) self.new.group) }
+        ensures kept { self.new ≡ record self.old { group = self.new.group } }
+    {
+        self.group.select_with(
+            alloc,
+            registry,
+            slot,
+            key,
+            max_iterations,
+            random,
+            loads,
+            accept,
+        )
+    }
+
+    /// How many slots there are.
+    pub fn selector_count(&self) -> usize
+        ensures { After self.now.group (λ made e. result ≡ length made.configs) }
+    {
+        for slot in 0..usize::MAX {
+            if self.group.served(slot).is_none() {
+                return slot;
+            }
+        }
+        usize::MAX
+    }
+
+    /// The newest generation of the backends; 0 before the first membership.
+    pub fn backend_generation(&self) -> u64
+        ensures { After self.now.group (λ made e. result ≡ newest (slot_events e)) }
+    {
+        self.group.newest()
+    }
+
+    /// The generation that a slot serves, or `None` where no such slot is there.
+    pub fn selector_generation(&self, slot: usize) -> Option<u64>
+        ensures { After self.now.group (λ made e. result ≡ at_slot made slot (served (past_of slot (slot_events e)))) }
+    {
+        self.group.served(slot)
+    }
+
+    /// Whether each slot serves this generation or a newer one; true without slots.
+    pub fn selectors_ready_for(&self, generation: u64) -> bool
+        ensures { After self.now.group (λ made e. IsTrue result
+            ↔ ((slot : ℕ) → slot < length made.configs → generation ≤ served_at slot e)) }
+    {
+        for slot in 0..usize::MAX {
+            match self.group.served(slot) {
+                None => return true,
+                Some(served) if served < generation => return false,
+                Some(_) => {}
+            }
+        }
+        true
+    }
+
+    /// The timing of a slot's last publication: `None` where no such slot is there, and none in it before the first.
+    pub fn selector_last_update_timing(&self, slot: usize) -> Option<Option<SelectorUpdateTimings>>
+        ensures { After self.now.group (λ made e. result
+            ≡ at_slot made slot (option_map selector_timings (timing_after (past_of slot (slot_events e))))) }
+    {
+        match self.group.timing(slot) {
+            Some(Some(timing)) => Some(Some(timing.into())),
+            Some(None) => Some(None),
+            None => None,
+        }
+    }
+
+    /// How many memberships came while an earlier one waited in a slot, or `None` where no such slot is there.
+    pub fn selector_coalesced_rebuilds(&self, slot: usize) -> Option<u64>
+        ensures { After self.now.group (λ made e. result ≡ at_slot made slot (coalesced (past_of slot (slot_events e)))) }
+    {
+        let counts = self.group.counts(slot)?;
+        Some(counts.coalesced)
+    }
+
+    /// How many builds of a slot failed, up to 18446744073709551615, or `None` where no such slot is there.
+    pub fn selector_failed_rebuilds(&self, slot: usize) -> Option<u64>
+        ensures { After self.now.group (λ made e. result ≡ at_slot made slot (failed (past_of slot (slot_events e)))) }
+    {
+        let counts = self.group.counts(slot)?;
+        Some(counts.failed)
+    }
+
+    /// Sets the check of the registry that is lent. Refused `HealthCheckSet` where one is set, which stays.
+    pub fn set_health_check<R: KeyRule + Drop, C: HealthCheck + Drop>(
+        &self,
+        registry: &mut HealthRegistry<R, C>,
+        check: C,
+    ) -> Result<(), Refusal>
+        ensures set { registry.old.check ≡ None → (result ≡ Ok tt) × (registry.new ≡ record registry.old { check = Some check }) }
+        ensures refused { IsSome registry.old.check → (result ≡ Err Refusal.HealthCheckSet) × (registry.new ≡ registry.old) }
+    {
+        registry.set_health_check(check)
+    }
+
+    /// The backends, lent with the registry: what is read of them, their flags and the checks.
+    pub fn backends<'a, 'x, R: KeyRule + Drop, C: HealthCheck + Drop>(
+        &'a mut self,
+        registry: &'x mut HealthRegistry<R, C>,
+    ) -> LentGroupBackends<'a, 'x, S, D, R, C>
+        ensures same_references { (result.balancer.ghost_name ≡ self.entry.ghost_name)
+            × (result.health.ghost_name ≡ registry.entry.ghost_name) }
+        ensures same { (result.balancer.now ≡ self.old) × (result.health.now ≡ registry.old) }
+    {
+        LentGroupBackends {
+            balancer: self,
+            health: registry,
+        }
+    }
+
+    /// How long the last accepted update took; `None` before the first.
+    pub fn last_update_timing(&self) -> Option<UpdateTimings>
+        ensures { result ≡ self.now.timing }
+    {
+        self.timing
+    }
+}

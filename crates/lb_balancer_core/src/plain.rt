@@ -1,0 +1,19 @@
+//! The plain group with what its calls are lent: its registry, its gate, random words and loads.
+ghost use Rattle.std.specs.Prelude.{◌≡◌};
+
+use lb_health_registry::registry::Registry;
+use lb_rebuild_group::group::GroupCore;
+use lb_rebuild_slots::gate::GateCore;
+use lb_select_base::loads::Loads;
+use lb_select_base::walk::BackendSelection;
+
+/// A plain group in the hands of a caller that has its registry, its gate, a generator of random words and the loads of backends.
+#[derive(Drop)]
+pub struct PlainPort<'c, 'x, 'g, 'w, 'l, S: BackendSelection, R, G> {
+    pub core: &'c mut GroupCore<S>,
+    pub registry: &'x mut Registry<R>,
+    pub gate: &'g mut GateCore,
+    pub generator: &'w mut G,
+    pub loads: &'l Loads,
+    ghost tied: { gate.now.id ≡ core.now.group.gate },
+}

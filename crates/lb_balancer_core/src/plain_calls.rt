@@ -1,0 +1,193 @@
+//! The plain group as a port: its calls are the group's own, lent the registry and the gate that are its own too.
+//! And a worker's turn over it, at a slot that is due.
+ghost use Rattle.std.specs.Prelude.{◌≡◌, false};
+ghost use Rattle.lb_select_base.specs.Loads.{load_in};
+ghost use Rattle.lb_balancer_core.specs.Plain.{OwnsJob, OwnsReader, OwnsPermit, IsScheduled, IsAsked, IsEntered, IsReadyFor, IsDrawn};
+ghost use Rattle.lb_balancer_core.specs.Lent.{SameLent};
+ghost use Rattle.lb_balancer_core.specs.Plain.{IsTaken, IsReported, IsFailed, IsPublished, IsLeft};
+ghost use Rattle.std.proofs.Common.{subst, sym};
+ghost use Rattle.lb_rebuild_group.specs.Stands.{After};
+ghost use Rattle.lb_balancer_core.specs.Due.{EndsTurn, IsDue, IsLate};
+ghost use Rattle.lb_balancer_core.specs.PlainLaws.{drawn_keeps};
+
+use crate::build::RefusedJob;
+use crate::plain::PlainPort;
+use crate::port::{GroupPort, TakesBack};
+use crate::turn::{Turn, worker_turn};
+use lb_health_registry::keys::KeyRule;
+use lb_health_view::view::Settings;
+use lb_rebuild_slots::answers::{Ask, Publication};
+use lb_rebuild_slots::job::Built;
+use lb_rebuild_slots::membership::Scheduled;
+use lb_rebuild_slots::retired::{OwedPermit, Reader, Retired};
+use lb_select_base::backend::Backend;
+use lb_select_base::moments::MomentSource;
+use lb_select_base::refusal::Refusal;
+use lb_select_base::walk::BackendSelection;
+use rand_core::Rng;
+use std::alloc::Global;
+use std::collections::BTreeSet;
+
+impl<'c, 'x, 'g, 'w, 'l, S: BackendSelection, R: KeyRule + Drop, G: Rng> PlainPort<
+    'c,
+    'x,
+    'g,
+    'w,
+    'l,
+    S,
+    R,
+    G,
+> {
+    /// A worker's turn at a slot that waits and is due, of a group that is not cancelled, whose gate is free. It ends with the newest
+    /// generation served, or with one failed build more.
+    pub fn due_turn<K: MomentSource>(
+        &mut self,
+        alloc: Global,
+        slot: usize,
+        clock: &mut K,
+    ) -> Result<Turn, Refusal>
+        requires free { self.old.gate.now.out ≡ false }
+        requires due { After self.old.core.now (λ made e. IsDue made e slot × IsLate K.reads clock.old e slot) }
+        ensures { After self.old.core.now (λ made e. EndsTurn made e slot result self.new.core.now) }
+    {
+        worker_turn(alloc, self, slot, clock)
+    }
+}
+
+impl<'c, 'x, 'g, 'w, 'l, S: BackendSelection, R: KeyRule + Drop, G: Rng> TakesBack<
+    RefusedJob<S>,
+    Built<S>,
+    Reader<S>,
+> for PlainPort<'c, 'x, 'g, 'w, 'l, S, R, G> {
+    ghost owns_refused = { λ p r. OwnsJob p.core.now r.task };
+
+    ghost owns_built = { λ p b. OwnsJob p.core.now b.task };
+
+    ghost owns_reader = { λ p r. OwnsReader p.core.now r };
+
+    ghost failed = { λ p r now q. IsFailed R.gives p.core.now p.registry.now p.gate.now r.task now q.core.now q.registry.now q.gate.now
+        × (q.generator.now ≡ p.generator.now) × SameLent p q };
+
+    ghost published = { λ p b t q. IsPublished p.core.now b t q.core.now
+        × (q.registry.now ≡ p.registry.now) × (q.gate.now ≡ p.gate.now)
+        × (q.generator.now ≡ p.generator.now) × SameLent p q };
+
+    ghost left = { λ p r q. IsLeft p.core.now r q.core.now
+        × (q.registry.now ≡ p.registry.now) × (q.gate.now ≡ p.gate.now)
+        × (q.generator.now ≡ p.generator.now) × SameLent p q };
+
+    fn fail(&mut self, refused: RefusedJob<S>, now: u128) {
+        match self
+            .core
+            .fail(refused.into_job(), self.registry, self.gate, now)
+        {
+            Ok(()) => {}
+            Err(_job) => unreachable!(),
+        }
+    }
+
+    fn publish(&mut self, built: Built<S>) -> Publication {
+        match self.core.publish(built) {
+            Ok(told) => told,
+            Err(_built) => unreachable!(),
+        }
+    }
+
+    fn leave(&mut self, reader: Reader<S>) {
+        match self.core.leave(reader) {
+            Ok(()) => {}
+            Err(_reader) => unreachable!(),
+        }
+    }
+}
+
+impl<'c, 'x, 'g, 'w, 'l, S: BackendSelection, R: KeyRule + Drop, G: Rng> GroupPort<S>
+    for PlainPort<'c, 'x, 'g, 'w, 'l, S, R, G> {
+    ghost owns_job = { λ p t. OwnsJob p.core.now t };
+
+    ghost scheduled = { λ p ms settings now r q. IsScheduled R.gives p.core.now p.registry.now ms settings now r q.core.now q.registry.now
+        × (q.gate.now ≡ p.gate.now)
+        × (q.generator.now ≡ p.generator.now) × SameLent p q };
+
+    ghost asked = { λ p slot now r q. IsAsked p.core.now p.gate.now slot now r q.core.now q.gate.now
+        × (q.registry.now ≡ p.registry.now)
+        × (q.generator.now ≡ p.generator.now) × SameLent p q };
+
+    ghost entered = { λ p slot r q. IsEntered p.core.now slot r q.core.now
+        × (q.registry.now ≡ p.registry.now) × (q.gate.now ≡ p.gate.now)
+        × (q.generator.now ≡ p.generator.now) × SameLent p q };
+
+    ghost readies = { λ p r b a q. IsReadyFor R.gives p.core.now p.registry.now r b a × (q.core.now ≡ p.core.now)
+        × (q.registry.now ≡ p.registry.now) × (q.gate.now ≡ p.gate.now)
+        × (q.generator.now ≡ p.generator.now) × SameLent p q };
+
+    ghost draws = { λ p r d q. IsDrawn p.core.now (G.stream p.generator.now) (load_in p.loads.now) r d q.core.now (G.stream q.generator.now)
+        × (q.registry.now ≡ p.registry.now) × (q.gate.now ≡ p.gate.now) × SameLent p q };
+
+    ghost taken = { λ p slot r q. IsTaken p.core.now slot r q.core.now
+        × (q.registry.now ≡ p.registry.now) × (q.gate.now ≡ p.gate.now)
+        × (q.generator.now ≡ p.generator.now) × SameLent p q };
+
+    ghost reported = { λ p slot permit q. IsReported R.gives p.core.now p.registry.now p.gate.now slot q.core.now q.registry.now q.gate.now
+        × (q.generator.now ≡ p.generator.now) × SameLent p q };
+
+    ghost owns_permit = { λ p slot permit. OwnsPermit p.core.now slot permit };
+
+    fn schedule(
+        &mut self,
+        alloc: Global,
+        discovered: BTreeSet<Backend>,
+        settings: Settings,
+        now: u128,
+    ) -> Result<Scheduled, Refusal> {
+        self.core
+            .schedule(alloc, self.registry, discovered, settings, now)
+    }
+
+    fn ask(&mut self, slot: usize, now: u128) -> Result<Ask<S>, Refusal> {
+        self.core.past();
+        self.core.ask(slot, self.gate, now)
+    }
+
+    fn enter(&mut self, slot: usize) -> Result<Reader<S>, Refusal> {
+        self.core.past();
+        self.core.enter(slot)
+    }
+
+    fn ready(&mut self, reader: &Reader<S>, backend: &Backend) -> bool {
+        self.core.ready(reader, self.registry, backend)
+    }
+
+    fn ticket(&mut self, reader: &Reader<S>) -> u64 {
+        self.core.ticket(reader)
+    }
+
+    fn random(&mut self, _reader: &Reader<S>) -> u64 {
+        self.generator.next_u64()
+    }
+
+    fn load(&self, _reader: &Reader<S>, backend: &Backend) -> u64 {
+        self.loads.get(backend)
+    }
+
+    fn take_retired(&mut self, slot: usize) -> Result<Retired<S>, Refusal> {
+        self.core.past();
+        self.core.take_retired(slot)
+    }
+
+    fn destroyed(&mut self, slot: usize, permit: OwedPermit) {
+        match self.core.destroyed(slot, permit, self.registry, self.gate) {
+            Ok(()) => {}
+            Err(_permit) => unreachable!(),
+        }
+    }
+
+    ghost draws_keep = { λ p r d q drawn own. drawn_keeps p.core.now q.core.now (G.stream p.generator.now) (G.stream q.generator.now)
+        (load_in p.loads.now) r d drawn.0 own };
+
+    ghost readies_keep = { λ p r b a q told own. subst (λ v. OwnsReader v r) (sym told.1) own };
+
+    ghost built_of = { λ p t ended own. own };
+
+    ghost refused_of = { λ p t e own. own };
+}

@@ -1,0 +1,106 @@
+//! A selection from a group by its port: a reader enters, its selector's walk is searched, and the reader leaves.
+//! Each call of the port is one step, and others' steps may fall between.
+ghost use Rattle.std.specs.Prelude.{◌≡◌};
+ghost use Rattle.lb_balancer_core.specs.Looks.{Answers, SelectsBy, SelectedThrough};
+
+use crate::port::GroupPort;
+use crate::words::ReaderWords;
+use lb_rebuild_slots::retired::Reader;
+use lb_select_base::backend::Backend;
+use lb_select_base::refusal::Refusal;
+use lb_select_base::seen::SeenBackends;
+use lb_select_base::walk::BackendSelection;
+use std::alloc::Global;
+
+/// The first that `accept` accepts of the distinct backends among the first `max_iterations` candidates of what the slot serves,
+/// asked with each and whether it is ready, or `None` where none of them is accepted or no such slot is there.
+///
+/// # Errors
+///
+/// `OutOfMemory` where memory is refused, and what the port refuses for the entry. A reader that has entered leaves in any case.
+pub fn select_through<S: BackendSelection, P: GroupPort<S>, F: Fn(&Backend, bool) -> bool>(
+    alloc: Global,
+    port: &mut P,
+    slot: usize,
+    key: &[u8],
+    max_iterations: usize,
+    accept: &F,
+) -> Result<Option<Backend>, Refusal>
+    requires { F.IsAlwaysCallable accept.now }
+    ensures { SelectedThrough (λ b ready a. Answers F.Fn accept.now b ready a) max_iterations P.draws P.readies P.entered
+        P.left S.walks key.now port.old slot result port.new }
+{
+    match port.enter(slot) {
+        Ok(reader) => {
+            let answer = select_for(alloc, port, &reader, key, max_iterations, accept);
+            port.leave(reader);
+            answer
+        }
+        Err(Refusal::NoSuch) => Ok(None),
+        Err(refusal) => Err(refusal),
+    }
+}
+
+// A selection for a reader that has entered.
+fn select_for<S: BackendSelection, P: GroupPort<S>, F: Fn(&Backend, bool) -> bool>(
+    alloc: Global,
+    port: &mut P,
+    reader: &Reader<S>,
+    key: &[u8],
+    limit: usize,
+    accept: &F,
+) -> Result<Option<Backend>, Refusal>
+    requires accept { F.IsAlwaysCallable accept.now }
+    requires own { P.owns_reader port.old reader.now }
+    ensures { SelectsBy (λ b ready a. Answers F.Fn accept.now b ready a) limit P.draws P.readies
+        (S.walks reader.now.members reader.now.config key.now) port.old reader.now result port.new }
+{
+    let mut words = ReaderWords { port, reader };
+    first_accepted(alloc, &mut words, key, limit, accept)
+}
+
+// A reader's selector, lent for as long as the reader: the walk then stands beside the words, and counts no `Arc`.
+fn lent_by<'r, S: BackendSelection>(reader: &'r Reader<S>) -> &'r S
+    ensures members { S.members result.now ≡ reader.now.members }
+    ensures config { S.built_with result.now ≡ reader.now.config }
+{
+    &**reader.selector()
+}
+
+// The first of the walk that is accepted. What is refused is not copied.
+fn first_accepted<'p, 'r, S: BackendSelection, P: GroupPort<S>, F: Fn(&Backend, bool) -> bool>(
+    alloc: Global,
+    words: &mut ReaderWords<'p, 'r, S, P>,
+    key: &[u8],
+    limit: usize,
+    accept: &F,
+) -> Result<Option<Backend>, Refusal>
+    requires accept { F.IsAlwaysCallable accept.now }
+    requires own { P.owns_reader words.old.port.now words.old.reader.now }
+    ensures selects { SelectsBy (λ b ready a. Answers F.Fn accept.now b ready a) limit P.draws P.readies
+        (S.walks words.old.reader.now.members words.old.reader.now.config key.now) words.old.port.now words.old.reader.now
+        result words.new.port.now }
+    ensures same_reference { words.new.port.ghost_name ≡ words.old.port.ghost_name }
+{
+    let reader: &'r Reader<S> = words.reader;
+    let of = lent_by(reader);
+    let mut walk = of.start(key, words)?;
+    let mut seen = SeenBackends::new(alloc);
+    for _ in 0..limit {
+        let Some(candidate) = of.step(&mut walk, words) else {
+            return Ok(None);
+        };
+        if seen.contains(candidate) {
+            continue;
+        }
+        let ready = words.port.ready(words.reader, candidate);
+        if accept(candidate, ready) {
+            let answer = candidate.copied(alloc)?;
+            return Ok(Some(answer));
+        }
+        seen.remember(candidate)?;
+    }
+    // The candidate past the limit is drawn too, and not looked at.
+    let _past = of.step(&mut walk, words);
+    Ok(None)
+}

@@ -1,0 +1,373 @@
+//! A view with the selector that is built of its newest membership: the two change as one, or not at all.
+ghost use Rattle.std.specs.Prelude.{◌≡◌, ◌↔◌, ◌≤◌, ◌+◌, ◌-◌, ◌^◌, ◌∷◌, [], ℕ, List, None, MatchOption, true, false, unwrap_or};
+ghost use Rattle.std.specs.Prelude.{IfOk, IfErr, IsErrOf, OnOk, OnErr};
+ghost use Rattle.std.specs.Arc.{arc_value};
+ghost use Rattle.std.specs.Option.{option_or};
+ghost use Rattle.lb_select_base.specs.Backends.{Member};
+ghost use Rattle.lb_select_base.specs.Refusals.{Refuses, memory_apart};
+ghost use Rattle.lb_select_base.specs.Loads.{SetsLoad, load_in};
+ghost use Rattle.lb_select_base.specs.Memberships.{same_members};
+ghost use Rattle.lb_health_registry.specs.Registry.{IsRegistryAfter};
+ghost use Rattle.lb_health_registry.specs.RegistryEvents.{Event, Applied, Registered, registered_after};
+ghost use Rattle.lb_health_view.specs.Views.{IsFounded, IsViewAfter};
+ghost use Rattle.lb_health_view.specs.RegistrySide.{registry_updated, settings_of};
+ghost use Rattle.lb_health_view.specs.ViewEvents.{ViewEvent, generation_after, membership_after};
+ghost use Rattle.lb_rebuild_group.specs.GroupCalls.{AcceptsBy, IsMakingRefusal};
+ghost use Rattle.lb_balancer_core.specs.Choices.{Chooses};
+ghost use Rattle.lb_balancer_core.specs.Balancer.{After, Drew, History, IsJudged, Judges, Set, Stands, Took, members_now, update_cause};
+ghost use Rattle.lb_balancer_core.specs.Balancer.{updated, view_cause, view_events};
+ghost use Rattle.lb_balancer_core.specs.Timings.{Reads};
+
+use lb_health_registry::keys::KeyRule;
+use lb_health_registry::registry::Registry;
+use lb_health_view::view::{Settings, ViewCore};
+use lb_select_base::backend::Backend;
+use lb_select_base::moments::MomentSource;
+use lb_select_base::refusal::Refusal;
+use lb_select_base::select::select;
+use lb_select_base::walk::BackendSelection;
+use lb_select_base::words::{CoreWords, WordSource};
+use rand_core::Rng;
+use std::alloc::Global;
+use std::collections::BTreeSet;
+use std::marker::Model;
+use std::sync::Arc;
+
+/// A view of a registry, and the selector that is served: one of the view's newest membership, with a source of words whose
+/// counter of tickets began at 0 when it was built.
+///
+/// Contracts tell it by the history of its events; some history stands behind each.
+#[derive(Drop)]
+pub struct Served<S: BackendSelection, G: Drop> {
+    view: ViewCore,
+    // None: that of `S::build`.
+    config: Option<S::Config>,
+    selector: Arc<S>,
+    words: CoreWords<G>,
+}
+
+impl<S: BackendSelection, G: Drop> Model for Served<S, G> {
+    ghost use Rattle.std.specs.Prelude.{◌≡◌, unwrap_or};
+    ghost use Rattle.std.specs.Arc.{arc_value};
+    ghost use Rattle.lb_balancer_core.specs.Balancer.{ServedValue, IsFounded};
+
+    ghost Value = { ServedValue S.Config G };
+
+    ghost view = { λ b. record {
+      view = b.view;
+      config = unwrap_or b.config S.default_config;
+      members = S.members (arc_value b.selector);
+      words = b.words;
+    } };
+
+    ghost invariant = { λ b. (S.built_with (arc_value b.selector) ≡ unwrap_or b.config S.default_config) × IsFounded (record {
+      view = b.view;
+      config = unwrap_or b.config S.default_config;
+      members = S.members (arc_value b.selector);
+      words = b.words;
+    }) };
+}
+
+impl<S: BackendSelection, G: Rng + Drop> Served<S, G> {
+    /// A view in the registry, at generation 0, with a selector over no backends: by this configuration, or by the default one.
+    ///
+    /// # Errors
+    ///
+    /// The cause for which the configuration gives no selector over no backends; where there is none, `NumbersExhausted` exactly where
+    /// no number is left for a view, and else `OutOfMemory` where memory is refused. The registry is then as before.
+    pub fn new<R: KeyRule + Drop>(
+        alloc: Global,
+        registry: &mut Registry<R>,
+        config: Option<S::Config>,
+        generator: G,
+    ) -> Result<Served<S, G>, Refusal>
+        ensures stands { IfOk result (λ v. Stands [] v × (v.config ≡ unwrap_or config S.default_config)
+            × (v.words.generator ≡ generator) × ((m : Member) → load_in v.words.loads m ≡ 0)) }
+        ensures id { IfOk result (λ v. (key_of : Member → Member) (events : List Event) → IsRegistryAfter R.gives key_of events registry.old
+            → v.view.id ≡ registered_after events + 1) }
+        ensures registry { OnOk result ((key_of : Member → Member) (events : List Event)
+            → IsRegistryAfter R.gives key_of events registry.old
+            → IsRegistryAfter R.gives key_of (Applied ∷ Registered ∷ events) registry.new) }
+        ensures err { OnErr result ((key_of : Member → Member) (events : List Event) → IsRegistryAfter R.gives key_of events registry.old
+            → IsRegistryAfter R.gives key_of events registry.new) }
+        ensures exhausted { (key_of : Member → Member) (events : List Event) → IsRegistryAfter R.gives key_of events registry.old
+            → memory_apart (S.refusal [] (unwrap_or config S.default_config)) ≡ None
+            → (IsErrOf result Refusal.NumbersExhausted ↔ (2 ^ 64 ≤ registered_after events + 1)) }
+        ensures refused { IsMakingRefusal (S.refusal [] (unwrap_or config S.default_config)) result }
+    {
+        let selector = match selector_of::<S>(alloc, &BTreeSet::new(alloc), &config) {
+            Ok(selector) => selector,
+            // That no number is left for a view goes before the want of memory.
+            Err(Refusal::OutOfMemory) if registry.is_full() => {
+                return Err(Refusal::NumbersExhausted);
+            }
+            Err(refusal) => return Err(refusal),
+        };
+        let view = ViewCore::register(alloc, registry)?;
+        Ok(Served {
+            view,
+            config,
+            selector,
+            words: CoreWords::new(generator),
+        })
+    }
+
+    // This view, with a selector over its newest membership: by this configuration, or by the default one. It is refused for the
+    // cause for which that gives no selector, and for memory only where there is none.
+    pub(crate) fn over(
+        alloc: Global,
+        view: ViewCore,
+        config: Option<S::Config>,
+        generator: G,
+    ) -> Result<Served<S, G>, Refusal>
+        requires { IsFounded view }
+        ensures stands { (views : List ViewEvent) → IsViewAfter views view
+            → Refuses (S.refusal (membership_after views) (unwrap_or config S.default_config)) (Stands (Took views ∷ [])) result }
+        ensures parts { IfOk result (λ v. (v.view ≡ view) × (v.config ≡ unwrap_or config S.default_config)
+            × (v.words.generator ≡ generator) × ((m : Member) → load_in v.words.loads m ≡ 0)) }
+    {
+        let selector = selector_of::<S>(alloc, view.members(), &config)?;
+        Ok(Served {
+            view,
+            config,
+            selector,
+            words: CoreWords::new(generator),
+        })
+    }
+
+    /// Takes what was discovered. Another membership than the newest becomes the next generation, and a selector that is built of it
+    /// is served from then on; the clock is read before and after the build, and what it took is answered. The same membership
+    /// changes nothing but flags, and the clock is not read.
+    ///
+    /// # Errors
+    ///
+    /// For another membership: the cause for which its selector can't be built; where there is none, `GenerationsExhausted`,
+    /// `NoSuch` where the registry has no such view, or `NumbersExhausted` where no number is left for a cell; and only then
+    /// `OutOfMemory` where memory is refused. View, selector, words and registry are then as before.
+    pub fn update<R: KeyRule + Drop, K: MomentSource>(
+        &mut self,
+        alloc: Global,
+        registry: &mut Registry<R>,
+        members: BTreeSet<Backend>,
+        settings: Settings,
+        clock: &mut K,
+    ) -> Result<Option<u128>, Refusal>
+        ensures updated { (key_of : Member → Member) (events : List Event) → IsRegistryAfter R.gives key_of events registry.old
+            → After self.old (λ e. Refuses
+            (update_cause (S.refusal members.keys self.old.config) key_of self.old.view.id members.keys events e)
+            (λ _. Stands (updated key_of self.old.view.id members.keys (settings_of settings.entries) events e) self.new
+            × IsRegistryAfter R.gives key_of (registry_updated key_of self.old.view.id members.keys (view_events e) events) registry.new)
+            result) }
+        ensures changed { IfOk result (λ build. After self.old (λ e. MatchOption build
+            (same_members members.keys (members_now e) ≡ true) (λ d. same_members members.keys (members_now e) ≡ false))) }
+        ensures readings { IfOk result (λ build. MatchOption build (clock.new ≡ clock.old) (λ d. (before : ℕ) × ((after : ℕ)
+            × Reads K.reads clock.old (before ∷ after ∷ []) clock.new × (d ≡ after - before)))) }
+        ensures err { OnErr result (After self.old (λ e. Stands e self.new)) }
+        ensures registry_err { OnErr result ((key_of : Member → Member) (events : List Event)
+            → IsRegistryAfter R.gives key_of events registry.old
+            → IsRegistryAfter R.gives key_of events registry.new) }
+        ensures kept { OnErr result (self.new ≡ record self.old { view = self.new.view }) }
+        ensures words { (self.new.words.generator ≡ self.old.words.generator) × (self.new.words.loads ≡ self.old.words.loads) }
+        ensures id { self.new.view.id ≡ self.old.view.id }
+        ensures config { self.new.config ≡ self.old.config }
+    {
+        if self.view.is_membership(&members) {
+            self.view
+                .update(alloc, registry, members, settings, |_members| ())?;
+            return Ok(None);
+        }
+        let before = clock.now();
+        let selector = build::<S, R>(alloc, &self.view, registry, &members, &self.config)?;
+        let after = clock.now();
+        self.view
+            .update(alloc, registry, members, settings, |_members| ())?;
+        self.selector = selector;
+        self.words.tickets = 0;
+        Ok(Some(after.saturating_sub(before)))
+    }
+
+    /// Some history of what is served, for whoever knows none.
+    pub fn past(&self)
+        ensures { (e : History) × Stands e self.now }
+    {
+        let _view = &self.view;
+    }
+
+    /// The number of the view in its registry.
+    pub fn id(&self) -> u64
+        ensures { result ≡ self.now.view.id }
+    {
+        self.view.id()
+    }
+
+    /// The newest generation, which is the served one; 0 before the first membership.
+    pub fn generation(&self) -> u64
+        ensures { After self.now (λ e. result ≡ generation_after (view_events e)) }
+    {
+        self.view.generation()
+    }
+
+    /// The newest membership. Refused `OutOfMemory` where std refuses one more owner.
+    pub fn get_backend(&self) -> Result<Arc<BTreeSet<Backend>>, Refusal>
+        ensures members { IfOk result (λ set. After self.now (λ e. (arc_value set).keys ≡ members_now e)) }
+        ensures refused { OnErr result (result ≡ Err Refusal.OutOfMemory) }
+    {
+        self.view.get_backend()
+    }
+
+    /// Whether a backend is ready in the newest membership. It takes no memory.
+    pub fn ready<R: KeyRule + Drop>(&self, registry: &Registry<R>, backend: &Backend) -> bool
+        ensures { (key_of : Member → Member) (events : List Event) → IsRegistryAfter R.gives key_of events registry.now
+            → After self.now (λ e. Judges key_of events e backend.now result) }
+    {
+        self.view.ready(registry, backend)
+    }
+
+    /// Enables or disables a backend that a living snapshot lists, by identity; another is left alone. It takes no memory.
+    pub fn set_enable(&mut self, backend: &Backend, enabled: bool)
+        ensures stands { After self.old (λ e. Stands (Set backend.now enabled ∷ e) self.new) }
+        ensures kept { self.new ≡ record self.old { view = self.new.view } }
+        ensures id { self.new.view.id ≡ self.old.view.id }
+    {
+        self.view.set_enable(backend, enabled);
+    }
+
+    /// The same, whose random words are this generator's from now on.
+    pub fn with_generator(self, generator: G) -> Served<S, G>
+        ensures same { result ≡ record self { words = record self.words { generator = generator } } }
+        ensures stands { After self (λ e. Stands e result) }
+    {
+        let mut served = self;
+        served.words.generator = generator;
+        served
+    }
+
+    /// Sets the load of a backend's identity. Refused for memory alone, and then nothing is set; the words to come stay.
+    pub fn set_load(&mut self, alloc: Global, backend: &Backend, load: u64) -> Result<(), Refusal>
+        ensures set { IfOk result (λ _. SetsLoad (load_in self.old.words.loads) backend.now load (load_in self.new.words.loads)) }
+        ensures refused { IfErr result (λ r. (r ≡ Refusal.OutOfMemory)
+            × ((m : Member) → load_in self.new.words.loads m ≡ load_in self.old.words.loads m)) }
+        ensures stands { After self.old (λ e. Stands e self.new) }
+        ensures kept { self.new ≡ record self.old { words = record self.old.words { loads = self.new.words.loads } } }
+    {
+        self.words.set_load(alloc, backend, load)
+    }
+
+    /// Selects the first for which `accept` answers true, when it is asked with a backend and whether it is ready, of the distinct
+    /// backends among the first `max_iterations` candidates of the walk for `key`. Selector and readiness are those of the newest
+    /// generation. Refused for memory alone; the words that were drawn stay drawn.
+    pub fn select_with<R: KeyRule + Drop, F: Fn(&Backend, bool) -> bool>(
+        &mut self,
+        alloc: Global,
+        registry: &Registry<R>,
+        key: &[u8],
+        max_iterations: usize,
+        accept: &F,
+    ) -> Result<Option<Backend>, Refusal>
+        requires { F.IsAlwaysCallable accept.now }
+        ensures answers { Chooses R.gives ⟦<CoreWords<G> as WordSource>⟧.gives S.walks
+            (λ key_of events e. AcceptsBy F.Fn accept.now (Judges key_of events e))
+            registry.now self.old key.now max_iterations result self.new }
+        ensures stands { After self.old (λ e. Stands (Drew self.new.words.tickets ∷ e) self.new) }
+        ensures kept { self.new ≡ record self.old { words = self.new.words } }
+    {
+        let view = &self.view;
+        let judged = |backend: &Backend| -> bool
+            requires { F.IsAlwaysCallable accept.now }
+            ensures { AcceptsBy F.Fn accept.entry.now (IsJudged R.gives view.entry.now registry.entry.now) backend.entry.now result }
+        { accept(backend, view.ready(registry, backend)) };
+        select(
+            alloc,
+            &self.selector,
+            key,
+            &mut self.words,
+            max_iterations,
+            &judged,
+        )
+    }
+
+    /// Selects as `select_with`, the first that is ready.
+    pub fn select<R: KeyRule + Drop>(
+        &mut self,
+        alloc: Global,
+        registry: &Registry<R>,
+        key: &[u8],
+        max_iterations: usize,
+    ) -> Result<Option<Backend>, Refusal>
+        ensures answers { Chooses R.gives ⟦<CoreWords<G> as WordSource>⟧.gives S.walks
+            Judges registry.now self.old key.now max_iterations result self.new }
+        ensures stands { After self.old (λ e. Stands (Drew self.new.words.tickets ∷ e) self.new) }
+        ensures kept { self.new ≡ record self.old { words = self.new.words } }
+    {
+        self.select_with(alloc, registry, key, max_iterations, &ready_ones)
+    }
+}
+
+// The selector of a set, by this configuration, or by the default one.
+fn selector_of<S: BackendSelection>(
+    alloc: Global,
+    members: &BTreeSet<Backend>,
+    config: &Option<S::Config>,
+) -> Result<Arc<S>, Refusal>
+    ensures { Refuses (S.refusal members.now.keys (unwrap_or config.now S.default_config))
+        (λ s. (S.members (arc_value s) ≡ members.now.keys)
+        × (S.built_with (arc_value s) ≡ unwrap_or config.now S.default_config)) result }
+{
+    let selector = match config {
+        Some(config) => S::build_with_config(alloc, members, config)?,
+        None => S::build(alloc, members)?,
+    };
+    let selector = Arc::new(alloc, selector)?;
+    Ok(selector)
+}
+
+// Accepts what is ready.
+fn ready_ones(_backend: &Backend, ready: bool) -> bool
+    ensures { result ≡ ready }
+{
+    ready
+}
+
+// The selector of another membership; refused for the least cause that stands, and for memory only where there is none.
+fn build<S: BackendSelection, R: KeyRule + Drop>(
+    alloc: Global,
+    view: &ViewCore,
+    registry: &Registry<R>,
+    members: &BTreeSet<Backend>,
+    config: &Option<S::Config>,
+) -> Result<Arc<S>, Refusal>
+    ensures made { IfOk result (λ s. (memory_apart (S.refusal members.now.keys (unwrap_or config.now S.default_config)) ≡ None)
+        × (S.members (arc_value s) ≡ members.now.keys) × (S.built_with (arc_value s) ≡ unwrap_or config.now S.default_config)) }
+    ensures refused { IfErr result (λ r. (key_of : Member → Member) (views : List ViewEvent) (events : List Event)
+        → IsViewAfter views view.now → IsRegistryAfter R.gives key_of events registry.now
+        → r ≡ unwrap_or (option_or (memory_apart (S.refusal members.now.keys (unwrap_or config.now S.default_config)))
+        (view_cause key_of view.now.id members.now.keys events views)) Refusal.OutOfMemory) }
+{
+    match selector_of::<S>(alloc, members, config) {
+        Ok(selector) => Ok(selector),
+        Err(Refusal::OutOfMemory) => Err(cause_without_memory(view, registry, members)),
+        Err(refusal) => Err(refusal),
+    }
+}
+
+// Why view and registry refuse another membership, or that memory is refused.
+fn cause_without_memory<R: KeyRule + Drop>(
+    view: &ViewCore,
+    registry: &Registry<R>,
+    members: &BTreeSet<Backend>,
+) -> Refusal
+    ensures { (key_of : Member → Member) (views : List ViewEvent) (events : List Event)
+        → IsViewAfter views view.now → IsRegistryAfter R.gives key_of events registry.now
+        → result ≡ unwrap_or (view_cause key_of view.now.id members.now.keys events views) Refusal.OutOfMemory }
+{
+    if view.generation() == u64::MAX {
+        return Refusal::GenerationsExhausted;
+    }
+    if !registry.has_view(view.id()) {
+        return Refusal::NoSuch;
+    }
+    if registry.lacks_numbers(members) {
+        return Refusal::NumbersExhausted;
+    }
+    Refusal::OutOfMemory
+}

@@ -1,0 +1,116 @@
+//! The backends of a group, lent: what is read of them, their flags and the checks, and no call that updates them.
+//! Each call is one of the shared group, whose lock is taken once.
+ghost use Rattle.std.specs.Prelude.{◌≡◌, Err, IfOk, OnErr};
+ghost use Rattle.std.specs.Arc.{arc_value};
+ghost use Rattle.lb_health_registry.specs.Registry.{IsGrowthRefusal};
+ghost use Rattle.lb_rebuild_slots.specs.SlotsHistory.{newest};
+ghost use Rattle.lb_rebuild_group.specs.GroupHistory.{slot_events, members_now};
+ghost use Rattle.lb_rebuild_group.specs.Stands.{After};
+ghost use Rattle.lb_threads_group.specs.Group.{NewestReadyUnder, Seen};
+
+use crate::group::LoadBalancerGroup;
+use lb_health_check::health_check::HealthCheck;
+use lb_health_registry::keys::KeyRule;
+use lb_health_view::discovery::ServiceDiscovery;
+use lb_select_base::backend::Backend;
+use lb_select_base::refusal::Refusal;
+use lb_select_base::walk::BackendSelection;
+use lb_threads_group::group::SharedGroup;
+use log::Log;
+use std::alloc::Global;
+use std::collections::BTreeSet;
+use std::sync::{Arc, Wait};
+use std::thread::Threads;
+
+/// The backends of a group in the hands of a caller.
+#[derive(Drop)]
+pub struct SharedBackends<'g, S, W, D, R, C>
+where
+    S: BackendSelection,
+    W: Wait + Copy,
+    D: Drop,
+    R: KeyRule + Drop,
+    C: HealthCheck + Drop,
+{
+    group: &'g LoadBalancerGroup<S, W, D, R, C>,
+}
+
+impl<
+    S: BackendSelection,
+    W: Wait + Copy,
+    D: ServiceDiscovery + Drop,
+    R: KeyRule + Drop,
+    C: HealthCheck + Drop,
+> LoadBalancerGroup<S, W, D, R, C> {
+    /// The backends, lent.
+    pub fn backends<'g>(&'g self) -> SharedBackends<'g, S, W, D, R, C>
+        ensures { result.group.now ≡ self.now }
+    {
+        SharedBackends { group: self }
+    }
+}
+
+impl<
+    'g,
+    S: BackendSelection,
+    W: Wait + Copy,
+    D: ServiceDiscovery + Drop,
+    R: KeyRule + Drop,
+    C: HealthCheck + Drop,
+> SharedBackends<'g, S, W, D, R, C> {
+    /// The newest generation; 0 before the first membership.
+    pub fn generation(&self) -> u64
+        ensures { Seen (arc_value self.now.group.now.shared).core (λ v. After v (λ made e. result ≡ newest (slot_events e))) }
+    {
+        self.group.backend_generation()
+    }
+
+    /// The newest membership. Refused `OutOfMemory` where std refuses one more owner.
+    pub fn get_backend(&self) -> Result<Arc<BTreeSet<Backend>>, Refusal>
+        ensures members { IfOk result (λ set. Seen (arc_value self.now.group.now.shared).core
+            (λ v. After v (λ made e. (arc_value set).keys ≡ members_now e))) }
+        ensures refused { OnErr result (result ≡ Err Refusal.OutOfMemory) }
+    {
+        let group = self.group;
+        let shared: &SharedGroup<S, R, C> = &*group.shared;
+        shared.get_backend(&group.rt)
+    }
+
+    /// Whether a backend is ready in the newest membership. It takes no memory.
+    pub fn ready(&self, backend: &Backend) -> bool
+        ensures { NewestReadyUnder R.gives (arc_value self.now.group.now.shared) backend.now result }
+    {
+        let group = self.group;
+        let shared: &SharedGroup<S, R, C> = &*group.shared;
+        shared.ready(&group.rt, backend)
+    }
+
+    /// Enables or disables a backend that a living snapshot lists, by identity; another is left alone. It takes no memory.
+    pub fn set_enable(&self, backend: &Backend, enabled: bool) {
+        let group = self.group;
+        let shared: &SharedGroup<S, R, C> = &*group.shared;
+        shared.set_enable(&group.rt, backend, enabled);
+    }
+}
+
+impl<
+    'g,
+    S: BackendSelection,
+    W: Log + Threads + Wait + Copy + Sync,
+    D: ServiceDiscovery + Drop,
+    R: KeyRule + Drop + Send,
+    C: HealthCheck + Drop + Send + Sync,
+> SharedBackends<'g, S, W, D, R, C> {
+    /// Applies the marks that wait in the registry, and then checks each of its targets once, if it has a check: with `parallel` beside
+    /// each other.
+    ///
+    /// # Errors
+    ///
+    /// `NumbersExhausted` where no number is left for a cell, `OutOfMemory` where memory is refused; each before the first check.
+    pub fn run_health_check(&self, alloc: Global, parallel: bool) -> Result<(), Refusal>
+        ensures { OnErr result (IsGrowthRefusal result) }
+    {
+        let group = self.group;
+        group.registry.run_health_check(&group.rt, alloc, parallel)
+    }
+}

@@ -1,0 +1,159 @@
+//! What passes read of a group that its users own, and the updates, entries and selections that go with a pass.
+//! A reading loads words of the group's board: it takes no lock and waits for nobody.
+ghost use Rattle.std.specs.Prelude.{◌≡◌, ◌≤◌, ◌<◌, ◌+◌, Ok, IfOk, IfErr, IfSome, IfNone, MatchBool};
+ghost use Rattle.std.specs.Arc.{arc_value};
+ghost use Rattle.std.specs.Fn.{FnReturnsAt};
+ghost use Rattle.lb_rebuild.specs.Pass.{IsLoad, IsLater, AreServed, HasSeenBelow, HasMet, newest_of, served_of};
+ghost use Rattle.lb_balancer_core.specs.Found.{FoundBy};
+ghost use Rattle.lb_threads_group.specs.Group.{EnteredUnder, LeftUnder, UpdatedUnder};
+ghost use Rattle.lb_threads_group.specs.Shared.{IsEntryRefusal, SelectsByAny};
+
+use crate::group::LoadBalancerGroup;
+use lb_health_check::health_check::HealthCheck;
+use lb_health_registry::keys::KeyRule;
+use lb_health_view::discovery::ServiceDiscovery;
+use lb_rebuild::board::GroupPass;
+use lb_rebuild_slots::retired::Reader;
+use lb_select_base::backend::Backend;
+use lb_select_base::moments::MomentSource;
+use lb_select_base::refusal::Refusal;
+use lb_select_base::walk::BackendSelection;
+use lb_threads_group::group::SharedGroup;
+use std::alloc::Global;
+use std::sync::Wait;
+
+impl<
+    S: BackendSelection,
+    W: Wait + Copy,
+    D: ServiceDiscovery + Drop,
+    R: KeyRule + Drop,
+    C: HealthCheck + Drop,
+> LoadBalancerGroup<S, W, D, R, C> {
+    /// A new pass over the group's generations. It takes no lock and no memory.
+    pub fn pass(&self) -> GroupPass
+        ensures { result.board ≡ (arc_value self.now.shared).board }
+    {
+        let shared: &SharedGroup<S, R, C> = &*self.shared;
+        shared.pass()
+    }
+
+    /// The newest generation, by one load. It waits for nobody, and takes no lock and no memory.
+    pub fn backend_generation_as(&self, pass: &mut GroupPass) -> u64
+        requires { pass.old.board ≡ (arc_value self.now.shared).board }
+        ensures { IsLoad pass.old 0 result pass.new }
+    {
+        let shared: &SharedGroup<S, R, C> = &*self.shared;
+        shared.backend_generation_as(pass)
+    }
+
+    /// The generation that a slot serves, by one load, or `None` without a load where no such slot is there. It waits for nobody, and
+    /// takes no lock and no memory.
+    pub fn selector_generation_as(&self, slot: usize, pass: &mut GroupPass) -> Option<u64>
+        requires { pass.old.board ≡ (arc_value self.now.shared).board }
+        ensures some { IfSome result (λ g. (slot + 1 < (arc_value self.now.shared).board.words)
+            × IsLoad pass.old (slot + 1) g pass.new) }
+        ensures none { IfNone result (((arc_value self.now.shared).board.words ≤ slot + 1) × (pass.new ≡ pass.old)) }
+    {
+        let shared: &SharedGroup<S, R, C> = &*self.shared;
+        shared.selector_generation_as(slot, pass)
+    }
+
+    /// Whether each slot serves this generation or a later one; true where there is no slot. It waits for nobody, and takes no lock
+    /// and no memory.
+    pub fn selectors_ready_for_as(&self, generation: u64, pass: &mut GroupPass) -> bool
+        requires { pass.old.board ≡ (arc_value self.now.shared).board }
+        ensures answer { MatchBool result (AreServed (arc_value self.now.shared).board pass.new generation)
+            (HasSeenBelow (arc_value self.now.shared).board pass.old pass.new generation) }
+        ensures later { IsLater pass.old pass.new }
+    {
+        let shared: &SharedGroup<S, R, C> = &*self.shared;
+        shared.selectors_ready_for_as(generation, pass)
+    }
+
+    /// Lets two passes see what either has seen: afterwards neither is below the other as it was, in any word.
+    pub fn meet(&self, pass: &mut GroupPass, other: &mut GroupPass)
+        requires pass { pass.old.board ≡ (arc_value self.now.shared).board }
+        requires other { other.old.board ≡ (arc_value self.now.shared).board }
+        ensures pass { HasMet (arc_value self.now.shared).board other.old pass.new }
+        ensures other { HasMet (arc_value self.now.shared).board pass.old other.new }
+        ensures later { IsLater pass.old pass.new × IsLater other.old other.new }
+    {
+        let shared: &SharedGroup<S, R, C> = &*self.shared;
+        shared.meet(&self.rt, pass, other);
+    }
+
+    /// Updates the group as `update`, and has the pass see it: the generation that is answered is not past what the pass has seen.
+    ///
+    /// # Errors
+    ///
+    /// As `update`.
+    pub fn update_as<K: MomentSource>(
+        &self,
+        alloc: Global,
+        clock: &mut K,
+        pass: &mut GroupPass,
+    ) -> Result<u64, Refusal>
+        requires { pass.old.board ≡ (arc_value self.now.shared).board }
+        ensures updated { UpdatedUnder R.gives K.reads FoundBy self.now.discovery clock.old (arc_value self.now.shared) result
+            clock.new }
+        ensures seen { IfOk result (λ g. g ≤ newest_of pass.new) }
+        ensures later { IsLater pass.old pass.new }
+    {
+        let told = self.update(alloc, clock);
+        if let Ok(generation) = told {
+            let shared: &SharedGroup<S, R, C> = &*self.shared;
+            shared.catch_up(&self.rt, generation, pass);
+        }
+        told
+    }
+
+    /// Enters the selector that a slot serves, by a load of its word under the group's lock: the reader is in the generation that the
+    /// pass saw last.
+    ///
+    /// # Errors
+    ///
+    /// As `SharedGroup::enter_as`. Nobody has entered then.
+    pub fn enter_as(&self, slot: usize, pass: &mut GroupPass) -> Result<Reader<S>, Refusal>
+        requires { pass.old.board ≡ (arc_value self.now.shared).board }
+        ensures reader { IfOk result (λ r. (slot + 1 < (arc_value self.now.shared).board.words) × (r.slot ≡ slot)
+            × (r.generation ≡ served_of pass.new slot)) }
+        ensures own { IfOk result (λ r. r.group ≡ (arc_value self.now.shared).core.group.id) }
+        ensures entered { IfOk result (λ r. EnteredUnder (arc_value self.now.shared).core slot (Ok r)) }
+        ensures refused { IfErr result (IsEntryRefusal (arc_value self.now.shared).board slot) }
+        ensures later { IsLater pass.old pass.new }
+    {
+        let shared: &SharedGroup<S, R, C> = &*self.shared;
+        shared.enter_as(&self.rt, slot, pass)
+    }
+
+    /// Selects from the selector that a reader is in: the first accepted of the distinct backends among the first `max_iterations`
+    /// candidates of its walk for `key`. `accept` is asked once of each, in their order, until it answers true. It runs under no lock.
+    ///
+    /// # Errors
+    ///
+    /// `OutOfMemory` where memory is refused.
+    pub fn select_in<F: Fn(&Backend) -> bool>(
+        &self,
+        alloc: Global,
+        reader: &Reader<S>,
+        key: &[u8],
+        max_iterations: usize,
+        accept: &F,
+    ) -> Result<Option<Backend>, Refusal>
+        requires { F.IsAlwaysCallable accept.now }
+        ensures { SelectsByAny (λ b r. FnReturnsAt F.Fn accept.now b r) max_iterations
+            (S.walks reader.now.members reader.now.config key.now) result }
+    {
+        let shared: &SharedGroup<S, R, C> = &*self.shared;
+        shared.select_in(&self.rt, alloc, reader, key, max_iterations, accept)
+    }
+
+    /// Gives an entry of this group back to its slot.
+    pub fn leave(&self, reader: Reader<S>)
+        requires { reader.group ≡ (arc_value self.now.shared).core.group.id }
+        ensures { LeftUnder (arc_value self.now.shared).core reader }
+    {
+        let shared: &SharedGroup<S, R, C> = &*self.shared;
+        shared.leave(&self.rt, reader);
+    }
+}

@@ -1,0 +1,125 @@
+//! What is read of a group that its users own: each call takes the group's lock once for each slot that it reads.
+ghost use Rattle.std.specs.Prelude.{◌≡◌, MatchBool, option_map};
+ghost use Rattle.std.specs.Arc.{arc_value};
+ghost use Rattle.lb_rebuild_slots.specs.SlotsCalls.{at_slot};
+ghost use Rattle.lb_rebuild_slots.specs.SlotsHistory.{past_of, newest, is_cancelled, coalesced, failed, timing as timing_after};
+ghost use Rattle.lb_rebuild_group.specs.GroupHistory.{slot_events};
+ghost use Rattle.lb_rebuild_group.specs.Stands.{After};
+ghost use Rattle.lb_balancer_core.specs.Timings.{selector_timings};
+ghost use Rattle.lb_threads_group.specs.Group.{Seen};
+ghost use Rattle.lb_balancer_group.specs.Readiness.{AllServe, OneLags, SawServed};
+
+use crate::group::LoadBalancerGroup;
+use lb_balancer_core::timings::{SelectorUpdateTimings, UpdateTimings};
+use lb_health_check::health_check::HealthCheck;
+use lb_health_registry::keys::KeyRule;
+use lb_health_view::discovery::ServiceDiscovery;
+use lb_select_base::walk::BackendSelection;
+use lb_threads_group::group::SharedGroup;
+use std::sync::Wait;
+
+impl<
+    S: BackendSelection,
+    W: Wait + Copy,
+    D: ServiceDiscovery + Drop,
+    R: KeyRule + Drop,
+    C: HealthCheck + Drop,
+> LoadBalancerGroup<S, W, D, R, C> {
+    /// How many slots there are.
+    pub fn selector_count(&self) -> usize {
+        self.shared.slot_count()
+    }
+
+    /// How many slots have a worker now.
+    pub fn worker_count(&self) -> usize {
+        self.shared.worker_count()
+    }
+
+    /// The newest generation of the backends; 0 before the first membership.
+    pub fn backend_generation(&self) -> u64
+        ensures { Seen (arc_value self.now.shared).core (λ v. After v (λ made e. result ≡ newest (slot_events e))) }
+    {
+        let shared: &SharedGroup<S, R, C> = &*self.shared;
+        shared.backend_generation(&self.rt)
+    }
+
+    /// Whether the group is cancelled.
+    pub fn is_cancelled(&self) -> bool
+        ensures { Seen (arc_value self.now.shared).core (λ v. After v (λ made e. result ≡ is_cancelled (slot_events e))) }
+    {
+        let shared: &SharedGroup<S, R, C> = &*self.shared;
+        shared.is_cancelled(&self.rt)
+    }
+
+    /// The generation that a slot serves, or `None` where no such slot is there.
+    pub fn selector_generation(&self, slot: usize) -> Option<u64>
+        ensures { SawServed (arc_value self.now.shared).core slot result }
+    {
+        let shared: &SharedGroup<S, R, C> = &*self.shared;
+        shared.selector_generation(&self.rt, slot)
+    }
+
+    /// Whether each slot serves this generation or a newer one; true without slots. The slots are read one after another.
+    pub fn selectors_ready_for(&self, generation: u64) -> bool
+        ensures { MatchBool result (AllServe (arc_value self.now.shared).core generation)
+            (OneLags (arc_value self.now.shared).core generation) }
+    {
+        for slot in 0..usize::MAX {
+            match self.selector_generation(slot) {
+                None => return true,
+                Some(served) if served < generation => return false,
+                Some(_) => {}
+            }
+        }
+        true
+    }
+
+    // The least generation that a slot serves, read one after another; 18446744073709551615 without slots.
+    pub(crate) fn least_served(&self) -> u64 {
+        let mut least = u64::MAX;
+        for slot in 0..self.shared.slot_count() {
+            if let Some(served) = self.selector_generation(slot) {
+                least = least.min(served);
+            }
+        }
+        least
+    }
+
+    /// The timing of a slot's last publication: `None` where no such slot is there, and none in it before the first.
+    pub fn selector_last_update_timing(&self, slot: usize) -> Option<Option<SelectorUpdateTimings>>
+        ensures { Seen (arc_value self.now.shared).core (λ v. After v (λ made e. result
+            ≡ at_slot made slot (option_map selector_timings (timing_after (past_of slot (slot_events e)))))) }
+    {
+        let shared: &SharedGroup<S, R, C> = &*self.shared;
+        match shared.selector_timing(&self.rt, slot) {
+            Some(Some(timing)) => Some(Some(timing.into())),
+            Some(None) => Some(None),
+            None => None,
+        }
+    }
+
+    /// How many memberships came while an earlier one waited in a slot, or `None` where no such slot is there.
+    pub fn selector_coalesced_rebuilds(&self, slot: usize) -> Option<u64>
+        ensures { Seen (arc_value self.now.shared).core (λ v. After v
+            (λ made e. result ≡ at_slot made slot (coalesced (past_of slot (slot_events e))))) }
+    {
+        let shared: &SharedGroup<S, R, C> = &*self.shared;
+        let counts = shared.selector_counts(&self.rt, slot)?;
+        Some(counts.coalesced)
+    }
+
+    /// How many builds of a slot failed, up to 18446744073709551615, or `None` where no such slot is there.
+    pub fn selector_failed_rebuilds(&self, slot: usize) -> Option<u64>
+        ensures { Seen (arc_value self.now.shared).core (λ v. After v
+            (λ made e. result ≡ at_slot made slot (failed (past_of slot (slot_events e))))) }
+    {
+        let shared: &SharedGroup<S, R, C> = &*self.shared;
+        let counts = shared.selector_counts(&self.rt, slot)?;
+        Some(counts.failed)
+    }
+
+    /// How long the last accepted update took; `None` before the first.
+    pub fn last_update_timing(&self) -> Option<UpdateTimings> {
+        *self.timing.lock(&self.rt)
+    }
+}

@@ -1,0 +1,263 @@
+//! A group in the background: its workers, its updates on their schedule, its checks where it owns them, and its notifier.
+ghost use Rattle.std.specs.Prelude.{[], OnErr};
+ghost use Rattle.lb_health_registry.specs.Registry.{IsGrowthRefusal};
+ghost use Rattle.lb_background.specs.History.{IsAfter};
+
+use crate::drive::drive;
+use crate::group::LoadBalancerGroup;
+use crate::port::RunPort;
+use crate::start::start_workers;
+use lb_background::event::Event;
+use lb_background::group_run::GroupRun;
+use lb_background::ready::ServiceReadyNotifier;
+use lb_background::shutdown::ShutdownWatch;
+use lb_health_check::health_check::HealthCheck;
+use lb_health_registry::keys::KeyRule;
+use lb_health_view::discovery::ServiceDiscovery;
+use lb_select_base::moments::MomentSource;
+use lb_select_base::refusal::Refusal;
+use lb_select_base::walk::BackendSelection;
+use log::{Log, error};
+use std::alloc::Global;
+use std::sync::Wait;
+use std::thread::Threads;
+
+// How long a run sleeps at most before it looks at the watch and the slots again, in nanoseconds: while its notifier waits for the slots,
+// and otherwise.
+const WITH_NOTIFIER: u128 = 100_000_000;
+
+const WITHOUT_NOTIFIER: u128 = 1_000_000_000;
+
+impl<
+    S: BackendSelection + Send + Sync + 'static,
+    W: Log + Threads + Wait + Copy + Send + 'static,
+    D: ServiceDiscovery + Drop,
+    R: KeyRule + Drop + Send + Sync + 'static,
+    C: HealthCheck + Drop + Send + Sync + 'static,
+> LoadBalancerGroup<S, W, D, R, C>
+where
+    S::Iter: Send + Sync + 'static,
+    S::Config: Send + Sync + 'static,
+    S::Walk: Send + Sync + 'static,
+{
+    /// Starts a worker for each slot that has none, and answers how many couldn't be started; their slots wait for the next call. Each
+    /// worker reads a copy of the clock, and ends once the group is cancelled and what its slot retired is destroyed and reported.
+    pub fn start_workers<K: MomentSource + Copy + Send + 'static>(
+        &self,
+        alloc: Global,
+        clock: K,
+    ) -> usize {
+        start_workers(&self.rt, alloc, &self.shared, clock)
+    }
+}
+
+impl<
+    S: BackendSelection + Send + Sync + 'static,
+    W: Log + Threads + Wait + Copy + Send + Sync + 'static,
+    D: ServiceDiscovery + Drop,
+    R: KeyRule + Drop + Send + Sync + 'static,
+    C: HealthCheck + Drop + Send + Sync + 'static,
+> LoadBalancerGroup<S, W, D, R, C>
+where
+    S::Iter: Send + Sync + 'static,
+    S::Config: Send + Sync + 'static,
+    S::Walk: Send + Sync + 'static,
+{
+    /// Applies the marks that wait in the registry, and then checks each of its targets once, if a check is set; beside each other where
+    /// `parallel_health_check` says so.
+    ///
+    /// # Errors
+    ///
+    /// As `HealthRegistry::run_health_check`, before the first check.
+    pub fn run_health_check(&self, alloc: Global) -> Result<(), Refusal>
+        ensures { OnErr result (IsGrowthRefusal result) }
+    {
+        self.registry
+            .run_health_check(&self.rt, alloc, self.parallel_health_check)
+    }
+
+    /// Updates the group and, where it owns them, runs the checks of its registry, each on its schedule, until all that was to be done is
+    /// done or the watch tells that the run is to end; an update, a check or a build that is under way then is let end. At each turn the
+    /// missing workers are started. The notifier is told once each slot serves what was updated last. An update that is refused is
+    /// logged, and a pass of checks that is refused counts as one.
+    pub fn run<K: MomentSource + Copy + Send + 'static>(
+        &self,
+        alloc: Global,
+        clock: &mut K,
+        watch: &ShutdownWatch,
+        notifier: Option<ServiceReadyNotifier>,
+    ) {
+        let run = GroupRun::new(
+            self.update_frequency,
+            self.health_check_frequency,
+            self.owns_checks,
+            notifier.is_some(),
+        );
+        let own = *clock;
+        let start = || {
+            let _ = start_workers(&self.rt, alloc, &self.shared, own);
+        };
+        let pass = || {
+            let _ = self.run_health_check(alloc);
+        };
+        run_over(self, &start, &pass, alloc, clock, watch, notifier, run);
+    }
+}
+
+// Drives the run of a group with this start of workers and this pass of checks.
+fn run_over<
+    F: Fn(),
+    G: Fn(),
+    S: BackendSelection,
+    W: Log + Wait + Copy,
+    D: ServiceDiscovery + Drop,
+    R: KeyRule + Drop,
+    C: HealthCheck + Drop,
+    K: MomentSource,
+>(
+    group: &LoadBalancerGroup<S, W, D, R, C>,
+    start: &F,
+    pass: &G,
+    alloc: Global,
+    clock: &mut K,
+    watch: &ShutdownWatch,
+    notifier: Option<ServiceReadyNotifier>,
+    run: GroupRun,
+)
+    requires fresh { IsAfter run [] }
+    requires starts { (start : F) → F.IsAlwaysCallable start }
+    requires passes { (pass : G) → G.IsAlwaysCallable pass }
+{
+    start();
+    let mut port = LockedRun {
+        group,
+        start,
+        pass,
+        alloc,
+        clock,
+        watch,
+        notifier,
+        told: 0,
+    };
+    drive(&group.rt, run, &mut port);
+}
+
+// A group that runs, as the port that drives it. The start of workers and a pass of checks are closures, since they start threads.
+#[derive(Drop)]
+struct LockedRun<'g, 's, 'p, 'c, 'w, F, G, S, W, D, R, C, K>
+where
+    S: BackendSelection,
+    W: Wait + Copy,
+    D: Drop,
+    R: KeyRule + Drop,
+    C: HealthCheck + Drop,
+{
+    group: &'g LoadBalancerGroup<S, W, D, R, C>,
+    start: &'s F,
+    pass: &'p G,
+    alloc: Global,
+    clock: &'c mut K,
+    watch: &'w ShutdownWatch,
+    notifier: Option<ServiceReadyNotifier>,
+    // The least generation that the run was told last.
+    told: u64,
+}
+
+// Of what other threads change nothing is said: what the slots serve, the registry, and what the watch tells.
+impl<
+    'g,
+    's,
+    'p,
+    'c,
+    'w,
+    F: Fn(),
+    G: Fn(),
+    S: BackendSelection,
+    W: Log + Wait + Copy,
+    D: ServiceDiscovery + Drop,
+    R: KeyRule + Drop,
+    C: HealthCheck + Drop,
+    K: MomentSource,
+> RunPort for LockedRun<'g, 's, 'p, 'c, 'w, F, G, S, W, D, R, C, K> {
+    ghost use Rattle.std.specs.Prelude.{◌≡◌, None};
+    ghost use Rattle.std.specs.Arc.{arc_value};
+    ghost use Rattle.lb_threads_group.specs.Group.{UpdatedUnder};
+    ghost use Rattle.lb_balancer_core.specs.Found.{FoundBy};
+    ghost use Rattle.lb_balancer_group.specs.Readiness.{EndsSleep};
+
+    ghost moments = { λ p moment q. K.reads p.clock.now moment q.clock.now };
+
+    ghost leasts = { λ p least q. (q.clock.now ≡ p.clock.now) × (q.told ≡ least) };
+
+    ghost looks = { λ p _ q. q.clock.now ≡ p.clock.now };
+
+    ghost can_run = { ((start : F) → F.IsAlwaysCallable start) × ((pass : G) → G.IsAlwaysCallable pass) };
+
+    ghost updates = { λ p r q. UpdatedUnder R.gives K.reads FoundBy p.group.now.discovery p.clock.now
+        (arc_value p.group.now.shared) r q.clock.now };
+
+    ghost checks = { λ p q. q.clock.now ≡ p.clock.now };
+
+    ghost tells = { λ p q. (q.clock.now ≡ p.clock.now) × (q.notifier ≡ None) };
+
+    ghost sleeps = { λ _ _ e _. EndsSleep e };
+
+    fn now(&mut self) -> u128 {
+        self.clock.now()
+    }
+
+    fn least(&mut self) -> u64 {
+        self.told = self.group.least_served();
+        self.told
+    }
+
+    fn is_shut(&mut self) -> bool {
+        self.watch.is_shut()
+    }
+
+    fn update(&mut self) -> Result<u64, Refusal> {
+        let told = self.group.update(self.alloc, self.clock);
+        if let Err(refusal) = told {
+            error!(&self.group.rt; "load balancer group update failed: {refusal}");
+        }
+        told
+    }
+
+    fn check(&mut self) {
+        (self.pass)();
+    }
+
+    fn tell_ready(&mut self) {
+        if let Some(notifier) = self.notifier.take() {
+            notifier.notify_ready();
+        }
+    }
+
+    fn sleep_until(&mut self, moment: u128) -> Event {
+        for _ in self.group.rt.forever() {
+            let heard = self.watch.event();
+            if let Some(Event::Shutdown) = heard {
+                return Event::Shutdown;
+            }
+            let now = self.clock.now();
+            let has_come = moment <= now;
+            if has_come || (self.notifier.is_some() && self.group.least_served() != self.told) {
+                (self.start)();
+                return if has_come {
+                    Event::Woke
+                } else {
+                    Event::Rebuilt
+                };
+            }
+            let longest = if self.notifier.is_some() {
+                WITH_NOTIFIER
+            } else {
+                WITHOUT_NOTIFIER
+            };
+            let look = moment.min(now.saturating_add(longest));
+            self.watch
+                .wait_until(&self.group.rt, self.clock, look, heard);
+        }
+        unreachable!()
+    }
+}

@@ -1,5 +1,0 @@
-use Rattle.lb_board.specs.Pass.{IsLater}
-use Rattle.lb_board.proofs.board.Board.catch_up.Given as goal
-
-abbrev pub invariant-loop : goal.invariant-loop
-invariant-loop g l = IsLater l.fn.pass l.pass

@@ -1,2 +1,0 @@
-pub mod BoardRule
-pub mod Pass

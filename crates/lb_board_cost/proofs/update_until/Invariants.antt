@@ -1,5 +1,0 @@
-use Rattle.std.proofs.Common.{◌≡◌}
-use Rattle.lb_board_cost.proofs.update_until.Given as goal
-
-abbrev pub invariant-loop-generation : goal.invariant-loop-generation
-invariant-loop-generation g l = l.writer.board ≡ l.board

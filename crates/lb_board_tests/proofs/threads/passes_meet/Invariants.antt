@@ -1,6 +1,0 @@
-use Rattle.std.proofs.Common.{◌≡◌}
-use Rattle.lb_board_tests.proofs.threads.passes_meet.Given as goal
-
-abbrev pub invariant-loop-generation : goal.invariant-loop-generation
-invariant-loop-generation g l =
-    (l.writer.board ≡ l.initial.writer.board) × (l.one.board ≡ l.initial.one.board) × (l.other.board ≡ l.initial.other.board)

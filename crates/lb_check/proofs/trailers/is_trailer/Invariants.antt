@@ -1,5 +1,0 @@
-use Rattle.std.proofs.Common.{ℕ, ◌≢◌, ◌<◌, slice_index}
-use Rattle.lb_check.proofs.trailers.is_trailer.Given as goal
-
-abbrev pub invariant-loop-byte : goal.invariant-loop-byte
-invariant-loop-byte l = (k : ℕ) → k < l.byte-index → (slice_index l.line k ≢ 13) × (slice_index l.line k ≢ 10)

@@ -1,6 +1,0 @@
-use Rattle.std.proofs.Common.{◌≡◌, map, drop}
-use Rattle.lb_health.specs.Snapshots.{snapshot_of, lists_in}
-use Rattle.lb_health.proofs.snapshot.lists.Given as goal
-
-abbrev pub invariant-loop-snapshot : goal.invariant-loop-snapshot
-invariant-loop-snapshot l = lists_in l.backend (map snapshot_of (drop l.snapshot-index l.others)) ≡ lists_in l.backend (map snapshot_of l.others)

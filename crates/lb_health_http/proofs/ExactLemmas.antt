@@ -1,0 +1,123 @@
+-- A good answer gives no fault but that of a device or of memory.
+use Rattle.std.proofs.Common.{◌≡◌, ℕ, ◌+◌, ◌-◌, ◌≤◌, inl, inr, Bool, true, false, List, ◌++◌, None, Some, Result, Ok, Err, length, take, refl, sym, ap, ◌∙◌, subst, arith}
+use Rattle.std.proofs.Math.Seq.{take-append-add}
+use Rattle.std.specs.Bool.{⊤}
+use Rattle.http.specs.declared.response.Parts.{Parts}
+use Rattle.httparse.specs.Grammar.{ResponseHead, print_response, status_code}
+use Rattle.httparse.proofs.GrammarLemmas.{response_unique}
+use Rattle.lb_health_check.specs.declared.error.CheckError.{CheckError}
+use Rattle.lb_health_check.specs.declared.error.CheckError.TheVariants.{BadHead, HeadTooLarge, Interim, Status, Rejected, BadFraming, EndInMessage, BodyTooLarge, Write, Read, OutOfMemory}
+use Rattle.lb_health_http.specs.declared.framing.Framing.{Framing}
+use Rattle.lb_health_http.specs.declared.framing.Framing.TheVariants.{Nothing, Sized, Chunked, ToEnd}
+use Rattle.lb_health_http.specs.Body.{HasBody, IsLarge}
+use Rattle.lb_health_http.specs.Check.{HasAcceptedHead, HasRefusedHead, IsGood, CheckOutcome, IsOkOrFailed}
+use Rattle.lb_health_http.specs.Framing.{framing_of}
+use Rattle.lb_health_http.specs.Head.{HasBadHead, HasLargeHead}
+use Rattle.lb_health_http.specs.Parts.{parts_of}
+use Rattle.lb_health_http.proofs.ChunkLemmas.{large_size}
+
+-- the check passed, a read failed, or memory was refused
+abbrev pub IsOkOrDevice : Result Unit CheckError → Type 0
+IsOkOrDevice (Ok _) = ⊤
+IsOkOrDevice (Err Read) = ⊤
+IsOkOrDevice (Err OutOfMemory) = ⊤
+IsOkOrDevice (Err e) = ⊥
+
+-- a head of at most n bytes stands in the first n bytes
+take_head : (n : ℕ) (s front rest : List ℕ) → s ≡ front ++ rest → length front ≤ n → take n s ≡ front ++ take (n - length front) rest
+take_head n s front rest e within =
+    let count : length front + (n - length front) ≡ n = omega arith in
+    ap (take n) e ∙ ap (λ (k : ℕ). take k (front ++ rest)) (sym count) ∙ take-append-add front rest (n - length front)
+
+module _ (is_head : Bool) (limit : ℕ) (accepts : Parts → Bool) where
+  -- what is large is no body within the limit
+  not_large : (f : Framing) (after : List ℕ) (size : ℕ) (rest : List ℕ) → HasBody f after size rest → size ≤ limit
+      → (end : List ℕ) → IsLarge limit f after end → ⊥
+  not_large Nothing after size rest b small end large = large
+  not_large (Sized n) after size rest b small end large = let above = large.0 in omega (arith, b.0, above)
+  not_large Chunked after size rest b small end large =
+      let more = large_size large.0 limit after end large.1 size rest b in omega arith
+  not_large ToEnd after size rest b small end large = omega (arith, b.0)
+
+  -- the good answer's body, at another spelling of its head and framing
+  its_body : (s other a : List ℕ) (h : ResponseHead) (f : Framing) → HasAcceptedHead accepts s h a
+      → framing_of is_head h.minor (parts_of h) ≡ Some f → (good : IsGood is_head limit accepts s other) → HasBody f a good.size other
+  its_body s other a h f begun framed good =
+      let same = response_unique s h good.head a good.after begun.begins.reads good.begins.begins.reads in
+      let both : Some f ≡ Some good.framing =
+      sym framed ∙ ap (λ (k : ResponseHead). framing_of is_head k.minor (parts_of k)) same.0 ∙ good.framed in
+      let one : f ≡ good.framing = cc in
+      subst (λ (g : Framing). HasBody g a good.size other) (sym one)
+      (subst (λ (l : List ℕ). HasBody good.framing l good.size other) (sym same.1) good.body)
+
+  not_bad : (s other : List ℕ) → HasBadHead s → IsGood is_head limit accepts s other → ⊥
+  not_bad s other bad good =
+      let begun = good.begins.begins in
+      let fits = begun.fit.fields in
+      let final = begun.fit.status in
+      elim (bad.4 bad.1 good.head good.after (begun.reads.0, sym bad.2 ∙ begun.reads.1)) [
+        | inl many ↦ omega arith
+        | inr low ↦ omega arith
+      ]
+
+  not_too_large : (s other : List ℕ) → HasLargeHead s → IsGood is_head limit accepts s other → ⊥
+  not_too_large s other large good =
+      let begun = good.begins.begins in
+      let front = print_response good.head in
+      large.1 good.head (take (65536 - length front) good.after)
+      (begun.reads.0, take_head 65536 s front good.after begun.reads.1 begun.fit.size)
+
+  not_refused : (s other : List ℕ) (code : ℕ) → HasRefusedHead accepts s code → IsGood is_head limit accepts s other → ⊥
+  not_refused s other code refused good =
+      let same = response_unique s refused.head good.head refused.after good.after refused.begins.reads good.begins.begins.reads in
+      let no_good : accepts (parts_of good.head) ≡ false = ap (λ (k : ResponseHead). accepts (parts_of k)) (sym same.0) ∙ refused.refused in
+      let is_good : accepts (parts_of good.head) ≡ true = good.begins.accepted in
+      cc
+
+  pub only_good : (s rest other : List ℕ) (r : Result Unit CheckError) → CheckOutcome is_head limit accepts r s rest
+      → IsGood is_head limit accepts s other → IsOkOrDevice r
+  only_good s rest other (Ok _) o good = tt
+  only_good s rest other (Err BadHead) o good = not_bad s other o good
+  only_good s rest other (Err HeadTooLarge) o good = not_too_large s other o good
+  only_good s rest other (Err Interim) o good =
+      let same = response_unique s o.head good.head o.after good.after o.begins.reads good.begins.begins.reads in
+      let codes_same : status_code o.head ≡ status_code good.head = ap status_code same.0 in
+      let low = o.interim in
+      let final = good.begins.final in
+      omega arith
+  only_good s rest other (Err (Status code)) o good = not_refused s other code o good
+  only_good s rest other (Err Rejected) o good = not_refused s other o.0 o.1 good
+  only_good s rest other (Err BadFraming) (inl o) good =
+      let same = response_unique s o.head good.head o.after good.after o.begins.begins.reads good.begins.begins.reads in
+      let none : framing_of is_head good.head.minor (parts_of good.head) ≡ None =
+      ap (λ (k : ResponseHead). framing_of is_head k.minor (parts_of k)) (sym same.0) ∙ o.unframed in
+      let some = good.framed in
+      cc
+  only_good s rest other (Err BadFraming) (inr o) good =
+      let body = its_body s other o.after o.head o.framing o.begins o.framed good in
+      let never = o.holds in
+      never.3 never.1 good.size other (subst (λ (l : List ℕ). HasBody o.framing l good.size other) never.2 body)
+  only_good s rest other (Err EndInMessage) (over, inl o) good = o.1 good.head good.after good.begins.begins.reads
+  only_good s rest other (Err EndInMessage) (over, inr o) good =
+      o.holds good.size other (its_body s other o.after o.head o.framing o.begins o.framed good)
+  only_good s rest other (Err BodyTooLarge) o good =
+      not_large o.framing o.after good.size other (its_body s other o.after o.head o.framing o.begins o.framed good) good.small rest o.holds
+  only_good s rest other (Err Read) o good = tt
+  only_good s rest other (Err OutOfMemory) o good = tt
+  only_good s rest other (Err e) o good = absurd o
+
+-- with the words of the devices
+pub or_failed : (reader writer : Bool) (r : Result Unit CheckError) → (r ≡ Err Read → reader ≡ true) → IsOkOrDevice r
+    → IsOkOrFailed reader writer r
+or_failed reader writer (Ok _) read d = tt
+or_failed reader writer (Err Read) read d = read refl
+or_failed reader writer (Err OutOfMemory) read d = tt
+or_failed reader writer (Err e) read d = absurd d
+
+-- a writer that hasn't failed, told of any
+pub any_writer : (reader writer : Bool) (r : Result Unit CheckError) → IsOkOrFailed reader false r → IsOkOrFailed reader writer r
+any_writer reader writer (Ok _) d = tt
+any_writer reader writer (Err Read) d = d
+any_writer reader writer (Err Write) d = absurd (cc)
+any_writer reader writer (Err OutOfMemory) d = tt
+any_writer reader writer (Err e) d = absurd d

@@ -1,0 +1,158 @@
+use Rattle.std.proofs.Common.{◌≡◌, ℕ, ◌+◌, ◌<◌, ◌≤◌, List, [], ◌∷◌, ◌++◌, Some, Ok, length-append, subst, arith, rules, refl, ap, ◌∙◌, sym}
+use Rattle.httparse.specs.Grammar.{ResponseHead, HasNoResponse}
+use Rattle.lb_health_http.specs.declared.head.Seen.TheVariants.{Whole, Bad}
+use Rattle.lb_health_http.specs.Head.{Sees, IsBlankLine, IsWholeHead, AfterBlank, HasBadHead, HasLargeHead, EndsInHead}
+use Rattle.lb_health_http.proofs.HeadLemmas.{no_response-push, no_response-nil, head_ended, head_too_large, head_pushed, head_blank, head_is_bad, head_is_low, head_is_whole}
+use Rattle.lb_health_http.proofs.Streams.{OnBytes-then, OnBytes-map, OnBytes-here, gave_byte, gave_none}
+use Rattle.lb_health_http.proofs.head.read_head.Goals as goal
+
+pub loop-init : goal.loop-init
+loop-init g c =
+    let P : List ℕ → List ℕ → Type 0 = AfterBlank 0 [] in
+    rw c.new-bytes.ensures.items (record {
+      read = OnBytes-here P _ (λ x. record { ends = []; is = refl; counted = refl });
+      so_far = record { none = no_response-nil; within = omega arith };
+      kept = refl;
+    })
+
+pub returns-in-Ok-None-clause-outcome : goal.returns-in-Ok-None-clause-outcome
+returns-in-Ok-None-clause-outcome g c =
+    let bytes = c.loop.bytes.items in
+    let P : List ℕ → List ℕ → Type 0 = AfterBlank c.loop.counter bytes in
+    let Q : List ℕ → List ℕ → Type 0 = λ s t. (s ≡ []) × (t ≡ []) in
+    let S : List ℕ → List ℕ → Type 0 = λ s t. (t ≡ []) × EndsInHead s in
+    let small : c.loop.counter < 65536 = c.loop-test.true in
+    OnBytes-then P Q S _ _ _ c.loop.invariant.read (gave_none _ _ _ c.next_byte.ensures.byte (cc))
+    (λ x y z p q. (q.1, head_ended c.loop.counter bytes x y p c.loop.invariant.so_far.none small q.0))
+
+pub loop-preserved-then-is_blank : goal.loop-preserved-then-is_blank
+loop-preserved-then-is_blank g c =
+    let bytes = c.loop.bytes.items in
+    let blank : IsBlankLine bytes = subst IsBlankLine c.deref.ensures.value c.if-is_blank.ensures in
+    let feed : c.in-Ok-Some.byte ≡ 10 = c.if-byte-eq10.true in
+    let gave : c.next_byte.result ≡ Ok (Some c.in-Ok-Some.byte) = cc in
+    let P : List ℕ → List ℕ → Type 0 = AfterBlank c.loop.counter bytes in
+    let Q : List ℕ → List ℕ → Type 0 = λ s t. s ≡ c.in-Ok-Some.byte ∷ t in
+    let S : List ℕ → List ℕ → Type 0 = AfterBlank (c.loop.counter + 1) [] in
+    rw c.clear.ensures.items (record {
+      read = OnBytes-then P Q S _ _ _ c.loop.invariant.read (gave_byte _ _ _ c.next_byte.ensures.byte c.in-Ok-Some.byte gave)
+          (λ x y z p q. head_blank c.loop.counter bytes x y z p (q ∙ ap (λ (b : ℕ). b ∷ z) feed) blank);
+      so_far = record { none = no_response-nil; within = omega arith };
+      kept = search rules;
+    })
+
+pub loop-preserved-then-byte-ne10 : goal.loop-preserved-then-byte-ne10
+loop-preserved-then-byte-ne10 g c =
+    let bytes = c.loop.bytes.items in
+    let b = c.in-Ok-Some.byte in
+    let gave : c.next_byte.result ≡ Ok (Some b) = cc in
+    let grown : c.push.new.self.items ≡ bytes ++ b ∷ [] = search rules in
+    let P : List ℕ → List ℕ → Type 0 = AfterBlank c.loop.counter bytes in
+    let Q : List ℕ → List ℕ → Type 0 = λ s t. s ≡ b ∷ t in
+    let S : List ℕ → List ℕ → Type 0 = AfterBlank (c.loop.counter + 1) (bytes ++ b ∷ []) in
+    let within = c.loop.invariant.so_far.within in
+    rw grown (record {
+      read = OnBytes-then P Q S _ _ _ c.loop.invariant.read (gave_byte _ _ _ c.next_byte.ensures.byte b gave)
+          (λ x y z p q. head_pushed c.loop.counter b bytes x y z p q);
+      so_far = record {
+        none = no_response-push bytes b c.loop.invariant.so_far.none c.if-byte-ne10.true;
+        within = omega (arith, length-append bytes (b ∷ []));
+      };
+      kept = search rules;
+    })
+
+pub returns-in-Whole-clause-outcome : goal.returns-in-Whole-clause-outcome
+returns-in-Whole-clause-outcome g c =
+    let bytes = c.loop.bytes.items in
+    let b = c.in-Ok-Some.byte in
+    let gave : c.next_byte.result ≡ Ok (Some b) = cc in
+    let grown : c.push.new.self.items ≡ bytes ++ b ∷ [] = search rules in
+    let small : c.loop.counter < 65536 = c.loop-test.true in
+    let P : List ℕ → List ℕ → Type 0 = AfterBlank c.loop.counter bytes in
+    let Q : List ℕ → List ℕ → Type 0 = λ s t. s ≡ b ∷ t in
+    let S : List ℕ → List ℕ → Type 0 = λ s t. (n : ℕ) × (n ≤ 65536) × AfterBlank n c.push.new.self.items s t in
+    OnBytes-then P Q S _ _ _ c.loop.invariant.read (gave_byte _ _ _ c.next_byte.ensures.byte b gave)
+    (λ x y z p q. (
+      c.loop.counter + 1,
+      omega arith,
+      subst (λ (l : List ℕ). AfterBlank (c.loop.counter + 1) l x z) (sym grown) (head_pushed c.loop.counter b bytes x y z p q),
+    ))
+
+pub returns-in-Whole-clause-whole : goal.returns-in-Whole-clause-whole
+returns-in-Whole-clause-whole g c =
+    let bytes = c.loop.bytes.items in
+    let parts = c.in-Whole.parts in
+    let grown : c.push.new.self.items ≡ bytes ++ c.in-Ok-Some.byte ∷ [] = search rules in
+    let feed : c.in-Ok-Some.byte ≡ 10 = c.if-byte-ne10.false in
+    let ended : c.push.new.self.items ≡ bytes ++ 10 ∷ [] = grown ∙ ap (λ (b : ℕ). bytes ++ b ∷ []) feed in
+    let SeesWhole : List ℕ → Type 0 = λ l. Sees l (Whole parts) in
+    let seen : Sees (bytes ++ 10 ∷ []) (Whole parts) = subst SeesWhole (c.deref-in-loop.ensures.value ∙ ended) c.in-Whole.ensures in
+    let within = c.loop.invariant.so_far.within in
+    let small : c.loop.counter < 65536 = c.loop-test.true in
+    subst (λ (l : List ℕ). (h : ResponseHead) × IsWholeHead l parts h) (sym ended)
+    (head_is_whole bytes parts c.loop.invariant.so_far.none seen c.if-look_at-ge100.true (omega arith))
+
+pub returns-in-Whole-2-clause-outcome : goal.returns-in-Whole-2-clause-outcome
+returns-in-Whole-2-clause-outcome g c =
+    let bytes = c.loop.bytes.items in
+    let parts = c.in-Whole.parts in
+    let b = c.in-Ok-Some.byte in
+    let gave : c.next_byte.result ≡ Ok (Some b) = cc in
+    let grown : c.push.new.self.items ≡ bytes ++ b ∷ [] = search rules in
+    let feed : b ≡ 10 = c.if-byte-ne10.false in
+    let ended : c.push.new.self.items ≡ bytes ++ 10 ∷ [] = grown ∙ ap (λ (x : ℕ). bytes ++ x ∷ []) feed in
+    let SeesWhole : List ℕ → Type 0 = λ l. Sees l (Whole parts) in
+    let seen : Sees (bytes ++ 10 ∷ []) (Whole parts) = subst SeesWhole (c.deref-in-loop.ensures.value ∙ ended) c.in-Whole.ensures in
+    let small : c.loop.counter < 65536 = c.loop-test.true in
+    let P : List ℕ → List ℕ → Type 0 = AfterBlank c.loop.counter bytes in
+    let Q : List ℕ → List ℕ → Type 0 = λ s t. s ≡ b ∷ t in
+    let S : List ℕ → List ℕ → Type 0 = λ s t. HasBadHead s in
+    OnBytes-then P Q S _ _ _ c.loop.invariant.read (gave_byte _ _ _ c.next_byte.ensures.byte b gave)
+    (λ x y z p q. head_is_low c.loop.counter bytes x y z parts small p (q ∙ ap (λ (n : ℕ). n ∷ z) feed) seen c.if-look_at-ge100.false)
+
+pub returns-in-Bad-clause-outcome : goal.returns-in-Bad-clause-outcome
+returns-in-Bad-clause-outcome g c =
+    let bytes = c.loop.bytes.items in
+    let b = c.in-Ok-Some.byte in
+    let gave : c.next_byte.result ≡ Ok (Some b) = cc in
+    let grown : c.push.new.self.items ≡ bytes ++ b ∷ [] = search rules in
+    let feed : b ≡ 10 = c.if-byte-ne10.false in
+    let ended : c.push.new.self.items ≡ bytes ++ 10 ∷ [] = grown ∙ ap (λ (x : ℕ). bytes ++ x ∷ []) feed in
+    let SeesBad : List ℕ → Type 0 = λ l. Sees l Bad in
+    let seen : Sees (bytes ++ 10 ∷ []) Bad = subst SeesBad (c.deref-in-loop.ensures.value ∙ ended) c.in-Bad.ensures in
+    let small : c.loop.counter < 65536 = c.loop-test.true in
+    let P : List ℕ → List ℕ → Type 0 = AfterBlank c.loop.counter bytes in
+    let Q : List ℕ → List ℕ → Type 0 = λ s t. s ≡ b ∷ t in
+    let S : List ℕ → List ℕ → Type 0 = λ s t. HasBadHead s in
+    OnBytes-then P Q S _ _ _ c.loop.invariant.read (gave_byte _ _ _ c.next_byte.ensures.byte b gave)
+    (λ x y z p q. head_is_bad c.loop.counter bytes x y z small p (q ∙ ap (λ (n : ℕ). n ∷ z) feed) seen)
+
+pub loop-preserved : goal.loop-preserved
+loop-preserved g c =
+    let bytes = c.loop.bytes.items in
+    let b = c.in-Ok-Some.byte in
+    let gave : c.next_byte.result ≡ Ok (Some b) = cc in
+    let grown : c.push.new.self.items ≡ bytes ++ b ∷ [] = search rules in
+    let unread : HasNoResponse c.deref-in-loop.result.now = c.in-Open.ensures in
+    let P : List ℕ → List ℕ → Type 0 = AfterBlank c.loop.counter bytes in
+    let Q : List ℕ → List ℕ → Type 0 = λ s t. s ≡ b ∷ t in
+    let S : List ℕ → List ℕ → Type 0 = AfterBlank (c.loop.counter + 1) (bytes ++ b ∷ []) in
+    let within = c.loop.invariant.so_far.within in
+    rw grown (record {
+      read = OnBytes-then P Q S _ _ _ c.loop.invariant.read (gave_byte _ _ _ c.next_byte.ensures.byte b gave)
+          (λ x y z p q. head_pushed c.loop.counter b bytes x y z p q);
+      so_far = record {
+        none = subst HasNoResponse (c.deref-in-loop.ensures.value ∙ grown) unread;
+        within = omega (arith, length-append bytes (b ∷ []));
+      };
+      kept = search rules;
+    })
+
+pub returns-clause-outcome : goal.returns-clause-outcome
+returns-clause-outcome g c =
+    let P : List ℕ → List ℕ → Type 0 = AfterBlank c.loop.counter c.loop.bytes.items in
+    let S : List ℕ → List ℕ → Type 0 = λ s t. HasLargeHead s in
+    let full : c.loop.counter ≡ 65536 = omega arith in
+    OnBytes-map P S _ _ c.loop.invariant.read
+    (λ x y p. head_too_large c.loop.bytes.items x y (subst (λ (n : ℕ). AfterBlank n c.loop.bytes.items x y) full p)
+    c.loop.invariant.so_far.none)

@@ -1,0 +1,42 @@
+-- The body of an answer, by its framing, and what stands in the place of one.
+use Rattle.std.specs.Prelude.{◌≡◌, ℕ, ◌<◌, ◌≤◌, List, [], ◌++◌, length, ⊤, Result, Ok, Err}
+use Rattle.lb_stream.specs.Stream.{Takes}
+use Rattle.lb_health_check.specs.declared.error.CheckError.{CheckError}
+use Rattle.lb_health_check.specs.declared.error.CheckError.TheVariants.{BadFraming, EndInMessage, BodyTooLarge, Read, OutOfMemory}
+use Rattle.lb_health_http.specs.declared.framing.Framing.{Framing}
+use Rattle.lb_health_http.specs.declared.framing.Framing.TheVariants.{Nothing, Sized, Chunked, ToEnd}
+use Rattle.lb_health_http.specs.Chunked.{HasChunked, IsLargeChunked}
+
+-- what follows the head begins with a body of that size, and then the rest
+abbrev pub HasBody : Framing → List ℕ → ℕ → List ℕ → Type 0
+HasBody Nothing after size rest = (size ≡ 0) × (after ≡ rest)
+HasBody (Sized n) after size rest = (size ≡ n) × Takes n after rest
+HasBody Chunked after size rest = HasChunked after size rest
+HasBody ToEnd after size rest = (size ≡ length after) × (rest ≡ [])
+
+-- no body stands there
+abbrev pub HasNoBody : Framing → List ℕ → Type 0
+HasNoBody f after = (size : ℕ) (rest : List ℕ) → ¬ (HasBody f after size rest)
+
+-- after some front no bytes can follow that make a body
+abbrev pub NeverHasBody : Framing → List ℕ → Type 0
+NeverHasBody f after =
+    (front : List ℕ) × (tail : List ℕ) × (after ≡ front ++ tail) × ((more : List ℕ) → HasNoBody f (front ++ more))
+
+-- the body is, or its length names, more bytes than the limit, and the rest is left: all of a body whose length is stated, and
+-- in chunks what follows the line of the chunk that passes the limit
+abbrev pub IsLarge : ℕ → Framing → List ℕ → List ℕ → Type 0
+IsLarge limit Nothing after rest = ⊥
+IsLarge limit (Sized n) after rest = (limit < n) × (rest ≡ after)
+IsLarge limit Chunked after rest = IsLargeChunked limit after rest
+IsLarge limit ToEnd after rest = limit < length after
+
+-- what reading a body does to the stream
+abbrev pub BodyOutcome : ℕ → Framing → Result Unit CheckError → List ℕ → List ℕ → Type 0
+BodyOutcome limit f (Ok _) after rest = (size : ℕ) × (size ≤ limit) × HasBody f after size rest
+BodyOutcome limit f (Err EndInMessage) after rest = (rest ≡ []) × HasNoBody f after
+BodyOutcome limit f (Err BodyTooLarge) after rest = IsLarge limit f after rest
+BodyOutcome limit f (Err BadFraming) after rest = NeverHasBody f after
+BodyOutcome limit f (Err Read) after rest = ⊤
+BodyOutcome limit f (Err OutOfMemory) after rest = ⊤
+BodyOutcome limit f (Err e) after rest = ⊥

@@ -1,0 +1,10 @@
+pub mod Discoveries
+pub mod Hints
+pub mod RegistrySide
+pub mod Lookups
+pub mod Passes
+pub mod Snapshots
+pub mod Updates
+pub mod ViewEvents
+pub mod ViewInvariants
+pub mod Views

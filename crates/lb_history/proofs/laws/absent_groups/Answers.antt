@@ -1,7 +1,0 @@
--- By induction over the steps.
-use Rattle.lb_history.specs.Meanings.{meaning_of}
-use Rattle.lb_history.proofs.Absent.{absent}
-use Rattle.lb_history.proofs.laws.absent_groups.Goals as goal
-
-pub returns : goal.returns
-returns g c = λ h run i none. absent (meaning_of g.S.BackendSelection) h run i none

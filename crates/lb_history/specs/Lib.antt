@@ -1,9 +1,0 @@
-pub mod Answers
-pub mod History
-pub mod Joined
-pub mod Meanings
-pub mod Promises
-pub mod Refused
-pub mod Selected
-pub mod Shared
-pub mod Steps

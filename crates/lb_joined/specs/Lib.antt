@@ -1,4 +1,0 @@
-pub mod JoinedCalls
-pub mod JoinedHistory
-pub mod JoinedLaws
-pub mod Stands

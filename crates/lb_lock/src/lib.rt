@@ -1,6 +1,0 @@
-//! A lock whose value keeps a fact about a key that is fixed when the lock is made, so that what a thread finds under the lock is
-//! known to be the lock's own: std's `Mutex` tells nothing of its value but the invariant of the value's type.
-#![tactic(auto)]
-
-pub mod lock;
-pub mod rule;

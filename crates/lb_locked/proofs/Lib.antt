@@ -1,4 +1,0 @@
-pub mod Sites
-pub mod Entries
-pub mod Crossings
-pub mod Histories

@@ -1,9 +1,0 @@
-use Rattle.lb_locked.specs.Group.{ScheduledUnder}
-use Rattle.lb_locked.proofs.Sites.{updated_at}
-use Rattle.lb_locked.proofs.group.update_on.Goals as goal
-
-pub returns : goal.returns
-returns g c =
-    updated_at (λ p. p.group.now) (λ v. v) g.K.MomentSource.reads g.D.BackendSource.finds (ScheduledUnder g.R.KeyRule.gives)
-    c.args.discovery.now c.args.clock.now c.args.port.now c.update_through.result c.update_through.new.clock c.update_through.new.port
-    c.update_through.ensures

@@ -1,3 +1,0 @@
-pub mod Group
-pub mod Registry
-pub mod Shared

@@ -1,3 +1,0 @@
-pub mod Dues
-pub mod Plains
-pub mod Visits

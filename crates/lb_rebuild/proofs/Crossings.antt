@@ -1,0 +1,113 @@
+-- A group with the pass that writes its board may be sent to a thread.
+-- What a `Snapshot` shows crosses freely, which rattle's own search doesn't know: so the types that hold one, and those above, stand here.
+use denote.RattleType.{RattleType}
+use denote.Struct.Declared.{shape}
+use denote.Param.Send.{IsSend, IsSync, sendable, view_send, struct_send, recorded_send}
+use Rattle.std.proofs.Crossing.{crosses}
+use Rattle.std.proofs.MapsCrossing as maps
+use Rattle.std.proofs.MapsCrossingOver as sets
+use Rattle.lb_select_base.specs.declared.walk.BackendSelection.{Ghosts as Selection}
+use Rattle.lb_select_base.specs.declared.walk.BackendIter.{Ghosts as Iter}
+use Rattle.lb_select_base.proofs.backend.Backend.TheSendSync as backend
+use Rattle.lb_health_view.proofs.view.ViewCore.TheSendSync as view
+use Rattle.lb_rebuild_slots.proofs.gate.Permit.TheSendSync as permit
+use Rattle.lb_rebuild_slots.proofs.identity.Identity.TheSendSync as identity
+use Rattle.lb_rebuild_slots.proofs.answers.Counts.TheSendSync as counts
+use Rattle.lb_rebuild_slots.proofs.answers.Timing.TheSendSync as timing
+use Rattle.lb_rebuild_slots.proofs.retired.ServedSelector.TheSendSync as serving
+use Rattle.lb_rebuild_slots.proofs.job.Order.TheSendSync as order
+use Rattle.lb_rebuild_slots.specs.contracts.place.SlotPlace as place
+use Rattle.lb_rebuild_slots.specs.contracts.retired.Retired as retired
+use Rattle.lb_rebuild_slots.specs.contracts.slot.SlotStage as stage
+use Rattle.lb_rebuild_slots.specs.contracts.slot.Slot as slot
+use Rattle.lb_rebuild_slots.specs.contracts.slots.Slots as slots
+use Rattle.lb_rebuild_slots.specs.contracts.slots.Slots.TheInside as group_inside
+use Rattle.lb_rebuild_group.specs.contracts.group.GroupCore as group
+use Rattle.lb_rebuild.proofs.board.Board.TheSendSync as board
+use Rattle.lb_rebuild.proofs.board.WritingPass.TheSendSync as writer
+use Rattle.lb_rebuild.specs.contracts.watched.Watched as watched
+use Rattle.lb_rebuild.specs.contracts.watched.Watched.TheInside as watched_inside
+
+place_send : IsSend place.the_row
+place_send = search (sendable, crosses) depth 20
+
+module _ (T I C W : RattleType) (g : Selection T.Denot I.Denot C.Denot W.Denot) (h : Iter I.Denot) (s : IsSend T) (sc : IsSend C) (y : IsSync T) (yc : IsSync C) where
+  retired_send : IsSend (retired.the_row T I C W g h)
+  retired_send = search (sendable, crosses, place_send, serving.the_send, permit.the_send) depth 20
+
+  stage_send : IsSend (stage.the_field T I C W g h).row
+  stage_send = search (sendable, retired_send) depth 20
+
+  slot_fields : IsSend (slot.the_field T I C W g h).row
+  slot_fields = struct_send (shape (slot.the_type T I C W g h)) (
+    search (sendable, crosses) depth 10,
+    (
+      search (sendable, serving.the_send) depth 10,
+      (
+        search sendable depth 10,
+        (
+          search (sendable, order.the_send) depth 20,
+          (
+            stage_send,
+            (
+              search sendable depth 10,
+              (
+                search sendable depth 10,
+                (
+                  search sendable depth 10,
+                  (
+                    search sendable depth 10,
+                    (
+                      search sendable depth 10,
+                      (
+                        search (sendable, counts.the_field_send) depth 10,
+                        (search (sendable, timing.the_send) depth 20, tt),
+                      ),
+                    ),
+                  ),
+                ),
+              ),
+            ),
+          ),
+        ),
+      ),
+    ),
+  )
+
+  slot_send : IsSend (slot.the_row T I C W g h)
+  slot_send = recorded_send (slot.the_field T I C W g h).row _ _ (slot.the_type T I C W g h).to_one slot_fields
+
+  group_fields : IsSend (group_inside.the_row T I C W g h)
+  group_fields = recorded_send (group_inside.the_field T I C W g h).row _ _ (group_inside.the_type T I C W g h).to_one
+      (struct_send (shape (group_inside.the_type T I C W g h)) (
+        search (sendable, identity.the_send) depth 10,
+        (
+          search (sendable, crosses) depth 10,
+          (
+            search sendable depth 10,
+            (
+              search (sendable, crosses, sets.crosses, maps.crosses, backend.the_send, backend.the_sync) depth 30,
+              (
+                search sendable depth 10,
+                (search sendable depth 10, (search (sendable, crosses, slot_send) depth 10, tt)),
+              ),
+            ),
+          ),
+        ),
+      ))
+
+  group_send : IsSend (slots.the_row T I C W g h)
+  group_send = view_send _ _ _ _ _ group_fields
+
+  joined_send : IsSend (group.the_row T I C W g h)
+  joined_send = search (sendable, group_send, view.the_send) depth 20
+
+  watched_fields : IsSend (watched_inside.the_row T I C W g h)
+  watched_fields = recorded_send (watched_inside.the_field T I C W g h).row _ _ (watched_inside.the_type T I C W g h).to_one
+      (struct_send (shape (watched_inside.the_type T I C W g h)) (
+        search (sendable, joined_send) depth 10,
+        (search (sendable, writer.the_send) depth 10, (search (sendable, crosses, board.the_send, board.the_sync) depth 20, tt)),
+      ))
+
+  pub watched_send : IsSend (watched.the_row T I C W g h)
+  watched_send = view_send _ _ _ _ _ watched_fields

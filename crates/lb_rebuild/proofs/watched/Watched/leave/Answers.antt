@@ -1,0 +1,14 @@
+-- It leaves the newest generation and what is served.
+use Rattle.std.proofs.Common.{◌∙◌, sym, refl}
+use Rattle.lb_rebuild_slots.specs.SlotsCalls.{done_at}
+use Rattle.lb_rebuild_slots.specs.SlotsHistory.{Left}
+use Rattle.lb_rebuild.proofs.Words.{quiet_call, quiet_done}
+use Rattle.lb_rebuild.proofs.watched.Watched.leave.Goals as goal
+
+pub invariant_of-self : goal.invariant_of-self
+invariant_of-self g c =
+    let w = c.self.invariant in (
+      w.0,
+      w.1 ∙ sym (quiet_call (λ made e. done_at c.args.reader.slot (Left c.args.reader.generation) c.leave.result) c.past.ensures refl (λ made e. quiet_done c.args.reader.slot (Left c.args.reader.generation) c.leave.result (λ i h. refl)) c.leave.ensures.stands),
+      w.2,
+    )

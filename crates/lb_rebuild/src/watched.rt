@@ -1,0 +1,441 @@
+//! Between a group's lock and its core: the group as it was, and the pass that writes its board.
+//! A membership that is another one and a publication raise one word each, inside the call that makes them; no other call does.
+ghost use Rattle.std.specs.Prelude.{◌≡◌, ◌≤◌, ◌+◌, ◌^◌, ◌∷◌, ◌++◌, [], List, true, false, None, Ok, Err};
+ghost use Rattle.std.specs.Prelude.{IfOk, IfErr, OnOk, OnErr, IsErrOf, slice_get, length, replicate};
+ghost use Rattle.std.specs.Arc.{arc_value};
+ghost use Rattle.lb_select_base.specs.Backends.{Member};
+ghost use Rattle.lb_rebuild_slots.specs.SlotsHistory.{Cancelled, WorkerLost, Entered, Left, TakenOut, Destroyed};
+ghost use Rattle.lb_rebuild_slots.specs.Values.{configs_of};
+ghost use Rattle.lb_rebuild_slots.specs.Stands.{StandsFor};
+ghost use Rattle.lb_rebuild_slots.specs.SlotsCalls.{IsOwnJob, Asks, ask_events, gate_after, Fails, fail_events, gate_back, Publishes};
+ghost use Rattle.lb_rebuild_slots.specs.SlotsCalls.{publish_events, Abandons, abandon_events, Unless, lose_refusal, done_at, Enters, Leaves};
+ghost use Rattle.lb_rebuild_slots.specs.SlotsCalls.{is_change, schedule_events, schedule_refusal};
+ghost use Rattle.lb_rebuild_slots.specs.SlotsCalls.{Takes, Reports, IsTicket, ticket_events};
+ghost use Rattle.lb_health_view.specs.RegistrySide.{settings_of, registry_updated};
+ghost use Rattle.lb_health_registry.specs.Registry.{IsRegistryAfter};
+ghost use Rattle.lb_health_registry.specs.RegistryEvents.{Event, Applied, Updated, Marked, views_after, has_view};
+ghost use Rattle.lb_health_registry.specs.RegistryEvents.{cells_given};
+ghost use Rattle.lb_rebuild_group.specs.GroupCalls.{Schedules, after_schedule, released_where, generation_at};
+ghost use Rattle.lb_rebuild_group.specs.GroupHistory.{Set, slot_events, in_group};
+ghost use Rattle.lb_rebuild_group.specs.Stands.{Stands, After, Becomes, IsFounded, SameSite, views_of};
+ghost use Rattle.lb_rebuild.specs.Watched.{words_of};
+
+use crate::board::{Board, WritingPass};
+use lb_health_registry::keys::KeyRule;
+use lb_health_registry::registry::Registry;
+use lb_health_view::view::Settings;
+use lb_rebuild_group::group::GroupCore;
+use lb_rebuild_slots::answers::{Ask, Publication};
+use lb_rebuild_slots::gate::GateCore;
+use lb_rebuild_slots::job::{Built, Job};
+use lb_rebuild_slots::membership::Scheduled;
+use lb_rebuild_slots::retired::{OwedPermit, Reader, Retired};
+use lb_select_base::backend::Backend;
+use lb_select_base::refusal::Refusal;
+use lb_select_base::walk::BackendSelection;
+use std::alloc::Global;
+use std::collections::BTreeSet;
+use std::marker::Model;
+use std::sync::Arc;
+
+/// A group that is joined with its view, and the board on which its generations stand. The words of the board are the group's newest
+/// generation and what each slot serves, after every call.
+///
+/// Contracts see the board, the group, and what was written on the board.
+#[derive(Drop)]
+pub struct Watched<S: BackendSelection> {
+    core: GroupCore<S>,
+    writer: WritingPass,
+    board: Arc<Board>,
+}
+
+impl<S: BackendSelection> Model for Watched<S> {
+    ghost use Rattle.std.specs.Prelude.{◌≡◌, length};
+    ghost use Rattle.std.specs.Arc.{arc_value};
+    ghost use Rattle.lb_rebuild.specs.Watched.{WatchedValue, words_of};
+
+    ghost Value = { WatchedValue S.Config };
+
+    ghost view = { λ w. record { board = arc_value w.board; core = w.core; written = w.writer.words } };
+
+    ghost invariant = { λ w. (w.writer.board ≡ arc_value w.board) × (w.writer.words ≡ words_of w.core.group)
+        × ((arc_value w.board).words ≡ length w.writer.words) };
+}
+
+impl<S: BackendSelection> Watched<S> {
+    /// The group as it is, on a board of its own, which is handed out too.
+    ///
+    /// # Errors
+    ///
+    /// `OutOfMemory` where memory is refused; the group is dropped then.
+    pub fn new(alloc: Global, core: GroupCore<S>) -> Result<(Watched<S>, Arc<Board>), Refusal>
+        ensures board { IfOk result (λ w. w.0.board ≡ arc_value w.1) }
+        ensures core { IfOk result (λ w. w.0.core ≡ core) }
+        ensures refused { IfErr result (λ e. e ≡ Refusal.OutOfMemory) }
+    {
+        let slots = slot_count(&core);
+        let (board, mut writer) = Board::new(alloc, slots)?;
+        show_all(&core, &board, &mut writer, slots);
+        let board = Arc::new(alloc, board)?;
+        let other = Arc::try_clone(&board)?;
+        Ok((
+            Watched {
+                core,
+                writer,
+                board,
+            },
+            other,
+        ))
+    }
+
+    /// The group itself, for the calls that only read.
+    pub fn core(&self) -> &GroupCore<S>
+        ensures { result.now ≡ self.now.core }
+    {
+        &self.core
+    }
+
+    /// Some history stands behind the group, so that what holds after each of its histories holds after one. It does nothing.
+    pub fn founded(&self)
+        ensures { IsFounded self.now.core }
+    {
+        self.core.founded();
+    }
+
+    /// What was written on the board is the group's newest generation and what its slots serve, for whoever needs to know it.
+    pub fn agrees(&self)
+        ensures { self.now.written ≡ words_of self.now.core.group }
+    {
+        let _core = &self.core;
+    }
+
+    /// Makes what was discovered the newest membership where it has other backends than the newest one, at the moment `now`: the
+    /// view shows it, and each slot gets an order for it. Then the settings reach the backends of the newest membership, that of
+    /// before or this one.
+    ///
+    /// # Errors
+    ///
+    /// `GenerationsExhausted` where the membership is another one and the newest generation is 18446744073709551615;
+    /// `GroupCancelled` in a cancelled group; where neither holds and the membership is another one, `NoSuch` where the registry
+    /// has no such view, `NumbersExhausted` where no number is left for a cell, and only then `OutOfMemory` where memory is refused.
+    /// Group, view and registry are then as before.
+    pub fn schedule<R: KeyRule + Drop>(
+        &mut self,
+        alloc: Global,
+        registry: &mut Registry<R>,
+        discovered: BTreeSet<Backend>,
+        settings: Settings,
+        now: u128,
+    ) -> Result<Scheduled, Refusal>
+        ensures answers { After self.old.core (λ made e. Schedules made e discovered.keys result) }
+        ensures stands { OnOk result ((key_of : Member → Member) (events : List Event)
+            → IsRegistryAfter R.gives key_of events registry.old
+            → After self.old.core (λ made e. Stands made
+            (after_schedule key_of self.old.core.view.id discovered.keys (settings_of settings.entries) now events e) self.new.core)) }
+        ensures group { IfOk result (λ s. After self.old.core (λ made e. StandsFor made
+            (schedule_events discovered.keys now (Ok s) ++ slot_events e) self.new.core.group)) }
+        ensures registry { OnOk result ((key_of : Member → Member) (events : List Event)
+            → IsRegistryAfter R.gives key_of events registry.old
+            → After self.old.core (λ made e. IsRegistryAfter R.gives key_of
+            (registry_updated key_of self.old.core.view.id discovered.keys (views_of made e) events) registry.new)) }
+        ensures err { OnErr result (After self.old.core (λ made e. Stands made e self.new.core)) }
+        ensures registry_err { OnErr result ((key_of : Member → Member) (events : List Event)
+            → IsRegistryAfter R.gives key_of events registry.old
+            → IsRegistryAfter R.gives key_of events registry.new) }
+        ensures unknown { IsErrOf result Refusal.NoSuch → (key_of : Member → Member) (events : List Event)
+            → IsRegistryAfter R.gives key_of events registry.old → has_view self.old.core.view.id (views_after events) ≡ false }
+        ensures numbers { IsErrOf result Refusal.NumbersExhausted → (key_of : Member → Member) (events : List Event)
+            → IsRegistryAfter R.gives key_of events registry.old
+            → 2 ^ 64 ≤ cells_given key_of (Updated self.old.core.view.id discovered.keys ∷ Applied ∷ events) }
+        ensures missing { (key_of : Member → Member) (events : List Event) → IsRegistryAfter R.gives key_of events registry.old
+            → After self.old.core (λ made e. schedule_refusal discovered.keys (slot_events e) ≡ None
+            → is_change discovered.keys (slot_events e) ≡ true → has_view self.old.core.view.id (views_after events) ≡ false
+            → result ≡ Err Refusal.NoSuch) }
+        ensures lacking { (key_of : Member → Member) (events : List Event) → IsRegistryAfter R.gives key_of events registry.old
+            → After self.old.core (λ made e. schedule_refusal discovered.keys (slot_events e) ≡ None
+            → is_change discovered.keys (slot_events e) ≡ true → has_view self.old.core.view.id (views_after events) ≡ true
+            → 2 ^ 64 ≤ cells_given key_of (Updated self.old.core.view.id discovered.keys ∷ Applied ∷ events)
+            → result ≡ Err Refusal.NumbersExhausted) }
+        ensures site { SameSite self.old.core self.new.core }
+        ensures board { self.new.board ≡ self.old.board }
+    {
+        self.core.past();
+        let scheduled = self
+            .core
+            .schedule(alloc, registry, discovered, settings, now)?;
+        if scheduled.changed {
+            let _words = self.board.word_count();
+            self.board.raise(&mut self.writer, 0, scheduled.generation);
+            return Ok(scheduled);
+        }
+        Ok(scheduled)
+    }
+
+    /// Stops the rebuilds for good, and marks the view for removal: the registry forgets it at the next call that applies marks.
+    /// Selections and readers go on, and what is under way can still come back. It takes no memory.
+    pub fn cancel<R: KeyRule + Drop>(&mut self, registry: &mut Registry<R>)
+        ensures stands { Becomes self.old.core (in_group (Cancelled ∷ [])) self.new.core }
+        ensures site { SameSite self.old.core self.new.core }
+        ensures registry { (key_of : Member → Member) (events : List Event) → IsRegistryAfter R.gives key_of events registry.old
+            → IsRegistryAfter R.gives key_of (Marked self.old.core.view.id ∷ events) registry.new }
+        ensures board { self.new.board ≡ self.old.board }
+    {
+        self.core.past();
+        self.core.cancel(registry);
+    }
+
+    /// Asks for the build that a slot needs next; a job holds the newest snapshot. It takes no memory.
+    ///
+    /// # Errors
+    ///
+    /// `NoSuch` where no such slot is there.
+    pub fn ask(&mut self, slot: usize, gate: &mut GateCore, now: u128) -> Result<Ask<S>, Refusal>
+        requires { gate.old.id ≡ self.old.core.group.gate }
+        ensures answers { After self.old.core (λ made e. Asks made (slot_events e) slot gate.old.out now result) }
+        ensures stands { Becomes self.old.core (in_group (ask_events slot now result)) self.new.core }
+        ensures site { SameSite self.old.core self.new.core }
+        ensures own { IfOk result (λ a. IsOwnJob self.new.core.group a) }
+        ensures gate { gate.new ≡ gate_after result gate.old }
+        ensures one_gate { gate.new.id ≡ gate.old.id }
+        ensures board { self.new.board ≡ self.old.board }
+    {
+        self.core.past();
+        self.core.ask(slot, gate, now)
+    }
+
+    /// Ends the flight or the lost flight of a job that failed, gives its permit back, and lets its snapshot go. A slot whose job
+    /// was of the newest generation waits again. It takes no memory.
+    ///
+    /// # Errors
+    ///
+    /// The job, where its slot has no flight and no lost flight of its generation. Nothing changes then.
+    pub fn fail<R: KeyRule + Drop>(
+        &mut self,
+        job: Job<S>,
+        registry: &mut Registry<R>,
+        gate: &mut GateCore,
+        now: u128,
+    ) -> Result<(), Job<S>>
+        requires own { job.group ≡ self.old.core.group.id }
+        requires permit { job.permit ≡ self.old.core.group.gate }
+        requires config { slice_get (configs_of self.old.core.group) job.slot ≡ Some job.config }
+        requires gate { gate.old.id ≡ self.old.core.group.gate }
+        ensures answers { After self.old.core (λ made e. Fails (slot_events e) job result) }
+        ensures stands { Becomes self.old.core (in_group (fail_events job now result)) self.new.core }
+        ensures site { SameSite self.old.core self.new.core }
+        ensures registry { (key_of : Member → Member) (events : List Event) → IsRegistryAfter R.gives key_of events registry.old
+            → After self.old.core (λ made e. IsRegistryAfter R.gives key_of
+            (released_where result self.old.core.view.id job.generation (views_of made e) events) registry.new) }
+        ensures gate { gate.new ≡ gate_back result gate.old }
+        ensures one_gate { gate.new.id ≡ gate.old.id }
+        ensures board { self.new.board ≡ self.old.board }
+    {
+        self.core.past();
+        self.core.fail(job, registry, gate, now)
+    }
+
+    /// Serves the selector of a flight, and retires what its slot served before with its readers. In a cancelled group, and for a
+    /// lost flight, the selector is retired unserved, as by `abandon`. It takes no memory.
+    ///
+    /// # Errors
+    ///
+    /// The selector, where its slot has no flight and no lost flight of its generation. Nothing changes then.
+    pub fn publish(&mut self, built: Built<S>) -> Result<Publication, Built<S>>
+        requires own { built.task.group ≡ self.old.core.group.id }
+        requires permit { built.task.permit ≡ self.old.core.group.gate }
+        requires config { slice_get (configs_of self.old.core.group) built.task.slot ≡ Some built.task.config }
+        ensures answers { After self.old.core (λ made e. Publishes (slot_events e) built result) }
+        ensures stands { Becomes self.old.core (in_group (publish_events built result)) self.new.core }
+        ensures site { SameSite self.old.core self.new.core }
+        ensures board { self.new.board ≡ self.old.board }
+    {
+        self.core.past();
+        let _words = self.board.word_count();
+        let slot = built.slot();
+        let generation = built.generation();
+        match self.core.publish(built) {
+            Ok(Publication::Published(told)) => {
+                self.board.raise(&mut self.writer, slot + 1, generation);
+                Ok(Publication::Published(told))
+            }
+            Ok(Publication::Abandoned(told)) => Ok(Publication::Abandoned(told)),
+            Err(built) => Err(built),
+        }
+    }
+
+    /// Retires the selector of a flight or of a lost flight unserved. A slot whose selector was of the newest generation waits
+    /// again. It takes no memory.
+    ///
+    /// # Errors
+    ///
+    /// The selector, where its slot has no flight and no lost flight of its generation. Nothing changes then.
+    pub fn abandon(&mut self, built: Built<S>) -> Result<(), Built<S>>
+        requires own { built.task.group ≡ self.old.core.group.id }
+        requires permit { built.task.permit ≡ self.old.core.group.gate }
+        requires config { slice_get (configs_of self.old.core.group) built.task.slot ≡ Some built.task.config }
+        ensures answers { After self.old.core (λ made e. Abandons (slot_events e) built result) }
+        ensures stands { Becomes self.old.core (in_group (abandon_events built result)) self.new.core }
+        ensures site { SameSite self.old.core self.new.core }
+        ensures board { self.new.board ≡ self.old.board }
+    {
+        self.core.past();
+        self.core.abandon(built)
+    }
+
+    /// Ends a slot's flight as lost: its job or its selector goes on with the permit, but is not served any more. It takes no
+    /// memory.
+    ///
+    /// # Errors
+    ///
+    /// `NoSuch` where no such slot is there, and `NothingInFlight` where it has no flight.
+    pub fn worker_lost(&mut self, slot: usize) -> Result<(), Refusal>
+        ensures answers { After self.old.core (λ made e. Unless (lose_refusal made slot (slot_events e)) result) }
+        ensures stands { Becomes self.old.core (in_group (done_at slot WorkerLost result)) self.new.core }
+        ensures site { SameSite self.old.core self.new.core }
+        ensures board { self.new.board ≡ self.old.board }
+    {
+        self.core.past();
+        self.core.worker_lost(slot)
+    }
+
+    /// Enters the selector that a slot serves.
+    ///
+    /// # Errors
+    ///
+    /// `NoSuch` where no such slot is there; `NumbersExhausted` where its readers are at 18446744073709551615; `OutOfMemory`
+    /// where neither holds and memory is refused. Nothing changes then.
+    pub fn enter(&mut self, slot: usize) -> Result<Reader<S>, Refusal>
+        ensures answers { After self.old.core (λ made e. Enters made (slot_events e) slot result) }
+        ensures stands { Becomes self.old.core (in_group (done_at slot Entered result)) self.new.core }
+        ensures site { SameSite self.old.core self.new.core }
+        ensures own { IfOk result (λ r. r.group ≡ self.new.core.group.id) }
+        ensures board { self.new.board ≡ self.old.board }
+    {
+        self.core.past();
+        self.core.enter(slot)
+    }
+
+    /// The next ticket of the selector that a reader is in, as for a group alone. It takes no memory.
+    pub fn ticket(&mut self, reader: &Reader<S>) -> u64
+        ensures answers { After self.old.core (λ made e. IsTicket made (slot_events e) reader.now.slot reader.now.generation result) }
+        ensures stands { After self.old.core (λ made e. Stands made
+            (in_group (ticket_events made reader.now.slot reader.now.generation result (slot_events e)) ++ e) self.new.core) }
+        ensures site { SameSite self.old.core self.new.core }
+        ensures board { self.new.board ≡ self.old.board }
+    {
+        self.core.past();
+        self.core.ticket(reader)
+    }
+
+    /// Gives an entry back to its slot. It takes no memory.
+    ///
+    /// # Errors
+    ///
+    /// The reader, where its slot counts no reader of its generation. Nothing changes then.
+    pub fn leave(&mut self, reader: Reader<S>) -> Result<(), Reader<S>>
+        requires { reader.group ≡ self.old.core.group.id }
+        ensures answers { After self.old.core (λ made e. Leaves made (slot_events e) reader result) }
+        ensures stands { Becomes self.old.core (in_group (done_at reader.slot (Left reader.generation) result)) self.new.core }
+        ensures site { SameSite self.old.core self.new.core }
+        ensures board { self.new.board ≡ self.old.board }
+    {
+        self.core.past();
+        self.core.leave(reader)
+    }
+
+    /// Takes a retired selector out of its slot, to be destroyed and then reported. It takes no memory.
+    ///
+    /// # Errors
+    ///
+    /// `NoSuch` where no such slot is there; `StillRead` with the number of readers that are left in it; `NothingRetired`
+    /// where no retired selector is there. Nothing changes then.
+    pub fn take_retired(&mut self, slot: usize) -> Result<Retired<S>, Refusal>
+        ensures answers { After self.old.core (λ made e. Takes made (slot_events e) slot result) }
+        ensures stands { Becomes self.old.core (in_group (done_at slot TakenOut result)) self.new.core }
+        ensures site { SameSite self.old.core self.new.core }
+        ensures own { IfOk result (λ r. (r.group ≡ self.new.core.group.id) × (r.slot ≡ slot)
+            × (r.permit ≡ self.new.core.group.gate)) }
+        ensures board { self.new.board ≡ self.old.board }
+    {
+        self.core.past();
+        self.core.take_retired(slot)
+    }
+
+    /// The report that the selector which was taken out of that slot is destroyed; its permit goes back to the gate, and its
+    /// snapshot is let go. It takes no memory.
+    ///
+    /// # Errors
+    ///
+    /// The permit, where no selector of the slot was taken out. Nothing changes then.
+    pub fn destroyed<R: KeyRule + Drop>(
+        &mut self,
+        slot: usize,
+        permit: OwedPermit,
+        registry: &mut Registry<R>,
+        gate: &mut GateCore,
+    ) -> Result<(), OwedPermit>
+        requires own { (permit.group ≡ self.old.core.group.id) × (permit.slot ≡ slot) }
+        requires permit { permit.gate ≡ self.old.core.group.gate }
+        requires gate { gate.old.id ≡ self.old.core.group.gate }
+        ensures answers { After self.old.core (λ made e. Reports made (slot_events e) slot permit result) }
+        ensures stands { Becomes self.old.core (in_group (done_at slot Destroyed result)) self.new.core }
+        ensures site { SameSite self.old.core self.new.core }
+        ensures registry { (key_of : Member → Member) (events : List Event) → IsRegistryAfter R.gives key_of events registry.old
+            → After self.old.core (λ made e. IsRegistryAfter R.gives key_of
+            (released_where result self.old.core.view.id (generation_at slot e) (views_of made e) events) registry.new) }
+        ensures gate { gate.new ≡ gate_back result gate.old }
+        ensures one_gate { gate.new.id ≡ gate.old.id }
+        ensures board { self.new.board ≡ self.old.board }
+    {
+        self.core.past();
+        self.core.destroyed(slot, permit, registry, gate)
+    }
+
+    /// Enables or disables a backend that a living snapshot lists, by identity; another is left alone. It takes no memory.
+    pub fn set_enable(&mut self, backend: &Backend, enabled: bool)
+        ensures stands { Becomes self.old.core (Set backend.now enabled ∷ []) self.new.core }
+        ensures site { SameSite self.old.core self.new.core }
+        ensures board { self.new.board ≡ self.old.board }
+    {
+        self.core.past();
+        self.core.set_enable(backend, enabled);
+    }
+}
+
+// How many slots a group has.
+fn slot_count<S: BackendSelection>(core: &GroupCore<S>) -> usize
+    ensures { result ≡ length core.now.group.slots }
+{
+    core.past();
+    for slot in 0..usize::MAX {
+        match core.served(slot) {
+            Some(_served) => {}
+            None => return slot,
+        }
+    }
+    usize::MAX
+}
+
+// Writes the generations of a group on a board whose words are 0.
+fn show_all<S: BackendSelection>(
+    core: &GroupCore<S>,
+    board: &Board,
+    writer: &mut WritingPass,
+    slots: usize,
+)
+    requires slots { slots ≡ length core.now.group.slots }
+    requires board { (writer.old.board ≡ board.now) × (board.now.words ≡ slots + 1) }
+    requires words { writer.old.words ≡ replicate (slots + 1) 0 }
+    ensures board { writer.new.board ≡ board.now }
+    ensures words { writer.new.words ≡ words_of core.now.group }
+{
+    core.past();
+    let newest = core.newest();
+    board.raise(writer, 0, newest);
+    for slot in 0..slots {
+        let Some(served) = core.served(slot) else {
+            unreachable!()
+        };
+        board.raise(writer, slot + 1, served);
+    }
+}

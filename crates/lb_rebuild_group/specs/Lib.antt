@@ -1,0 +1,4 @@
+pub mod GroupCalls
+pub mod GroupHistory
+pub mod GroupLaws
+pub mod Stands

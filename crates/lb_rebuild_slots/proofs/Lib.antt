@@ -1,0 +1,14 @@
+pub mod Delays
+pub mod Handing
+pub mod Ledger
+pub mod Pasts
+pub mod Selecting
+pub mod SlotSteps
+pub mod SlotsSteps
+pub mod CallSteps
+pub mod Memberships
+pub mod Telling
+pub mod Tasks
+pub mod Sums
+pub mod Apart
+pub mod GateStores

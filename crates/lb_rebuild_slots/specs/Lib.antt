@@ -1,0 +1,14 @@
+pub mod Drawn
+pub mod Fresh
+pub mod SlotsCalls
+pub mod SlotsHistory
+pub mod Laws
+pub mod Orders
+pub mod Rows
+pub mod SlotCalls
+pub mod SlotSeen
+pub mod Stands
+pub mod Tasks
+pub mod Values
+pub mod Gate
+pub mod GateRule

@@ -1,7 +1,0 @@
-use Rattle.std.proofs.Common.{rules}
-use Rattle.lb_ring.specs.Chains.{point_after}
-use Rattle.lb_ring.proofs.chain.point_after.Goals as goal
-
-pub returns : goal.returns
-unfolding point_after
-returns c = search rules

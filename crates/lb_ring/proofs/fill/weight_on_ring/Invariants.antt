@@ -1,7 +1,0 @@
-use Rattle.std.proofs.Common.{◌≡◌, ◌+◌}
-use Rattle.lb_ring.specs.Choices.{ring_weight}
-use Rattle.lb_ring.specs.declared.fill.TheConstants.{MOST_WEIGHT}
-use Rattle.lb_ring.proofs.fill.weight_on_ring.Given as goal
-
-abbrev pub invariant-loop-backend : goal.invariant-loop-backend
-invariant-loop-backend l = ring_weight l.backends.keys + l.left ≡ MOST_WEIGHT + ring_weight l.backend-iterator

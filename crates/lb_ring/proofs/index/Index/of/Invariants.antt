@@ -1,5 +1,0 @@
-use Rattle.lb_ring.proofs.Indexing.{IsBegun}
-use Rattle.lb_ring.proofs.index.Index.of.Given as goal
-
-abbrev pub invariant-loop-bucket : goal.invariant-loop-bucket
-invariant-loop-bucket l = IsBegun l.entries l.shift l.bucket l.at l.starts.items

@@ -1,0 +1,162 @@
+//! Two passes of a check over a view of one backend on the own loopback.
+//! What a pass does with a check's word is proved; here the checks meet real servers, and closed ports.
+use crate::server_tables::{ANSWER, By, Pass};
+use crate::servers::{backend_at, backend_at_closed_port};
+use lb_health_check::health_check::{HealthCheck, HealthObserve, IdentitySummary};
+use lb_health_http::{AcceptStatus, HttpHealthCheck, TcpHealthCheck};
+use lb_health_registry::keys::{ByNumber, Rule};
+use lb_health_registry::registry::RegistryCore;
+use lb_health_view::backends::Backends;
+use lb_health_view::discovery::{DiscoverySource, Static};
+use lb_health_view::registry::HealthRegistry;
+use lb_select_base::backend::Backend;
+use lb_select_base::refusal::Refusal;
+use log::Log;
+use std::alloc::Global;
+use std::collections::BTreeSet;
+use std::io::{self, Error, ErrorKind, Read, Write};
+use std::net::{Net, TcpListener, TcpStream};
+use std::sync::atomic::{AtomicU64, Ordering};
+use std::thread::{Threads, join};
+
+// Counts what it is told.
+#[derive(Drop)]
+struct Flips<'a> {
+    told: &'a AtomicU64,
+}
+
+impl HealthObserve for Flips<'_> {
+    fn observe(&self, _target: &Backend, _healthy: bool) {
+        self.told.fetch_add(1, Ordering::SeqCst);
+    }
+}
+
+/// Whether both passes leave the backend and its observer as the row says.
+pub(crate) fn agrees<R>(rt: &R, row: &Pass) -> io::Result<bool>
+where
+    R: Net<Listener = TcpListener, Stream = TcpStream> + Threads + Log + AllocGlobal,
+{
+    let told = AtomicU64::new(0);
+    let ready = if row.listens {
+        passes_where_served(rt, row, &told)?
+    } else {
+        passes_where_closed(rt, row, &told)?
+    };
+    let wanted = [row.is_ready, row.is_ready];
+    Ok(ready == Ok(wanted) && told.load(Ordering::SeqCst) == row.flips)
+}
+
+// Passes over a port where nobody listens.
+fn passes_where_closed<R>(
+    rt: &R,
+    row: &Pass,
+    told: &AtomicU64,
+) -> io::Result<Result<[bool; 2], Refusal>>
+where
+    R: Net<Listener = TcpListener, Stream = TcpStream> + Log + AllocGlobal,
+{
+    let backend = backend_at_closed_port(rt)?;
+    Ok(passes(rt, row, told, &backend))
+}
+
+// Passes over a port where somebody listens, who gives good answers where there are requests. What owns the listener makes one
+// call.
+fn passes_where_served<R>(
+    rt: &R,
+    row: &Pass,
+    told: &AtomicU64,
+) -> io::Result<Result<[bool; 2], Refusal>>
+where
+    R: Net<Listener = TcpListener, Stream = TcpStream> + Threads + Log + AllocGlobal,
+{
+    let listener = TcpListener::bind(rt, "127.0.0.1:0")?;
+    passes_at(rt, row, told, &listener)
+}
+
+// The same at the port of that listener.
+fn passes_at<R>(
+    rt: &R,
+    row: &Pass,
+    told: &AtomicU64,
+    listener: &TcpListener,
+) -> io::Result<Result<[bool; 2], Refusal>>
+where
+    R: Net<Listener = TcpListener, Stream = TcpStream> + Threads + Log + AllocGlobal,
+{
+    let backend = backend_at(rt.alloc(), listener.local_addr()?.port())?;
+    let (_served, ready) = join(
+        rt,
+        || serve(listener, row.by),
+        || passes(rt, row, told, &backend),
+    );
+    Ok(ready)
+}
+
+// Serves two connections with a good answer each; for a check that only connects, the system takes them.
+fn serve(listener: &TcpListener, by: By) -> io::Result<()> {
+    if matches!(&by, By::Tcp) {
+        return Ok(());
+    }
+    for _ in 0..2 {
+        let (stream, _) = listener.accept()?;
+        let mut stream = &stream;
+        let mut request = [0u8; 512];
+        let _ = stream.read(&mut request)?;
+        stream.write_all(ANSWER)?;
+    }
+    Ok(())
+}
+
+// Runs both passes of the row's check.
+fn passes<R: Net<Stream = TcpStream> + Log + AllocGlobal>(
+    rt: &R,
+    row: &Pass,
+    told: &AtomicU64,
+    backend: &Backend,
+) -> Result<[bool; 2], Refusal> {
+    let alloc = rt.alloc();
+    let observer = Flips { told };
+    match row.by {
+        By::Tcp => {
+            let check = TcpHealthCheck::new(rt).with_callbacks(Some(observer), IdentitySummary);
+            passes_of(rt, alloc, backend, check)
+        }
+        By::Http => {
+            let check = HttpHealthCheck::new(alloc, rt, "h")?;
+            let check = check.with_callbacks(None::<AcceptStatus>, Some(observer), IdentitySummary);
+            passes_of(rt, alloc, backend, check)
+        }
+    }
+}
+
+// Runs both passes of the check over a view of that one backend. What owns the view makes one call.
+fn passes_of<L: Log, C: HealthCheck + Drop>(
+    rt: &L,
+    alloc: Global,
+    backend: &Backend,
+    check: C,
+) -> Result<[bool; 2], Refusal> {
+    // The view has a boxed rule of keys in its type, so the function that makes it calls what borrows it.
+    let mut set = BTreeSet::new(alloc);
+    set.insert(backend.clone()?)?;
+    let source: DiscoverySource<Static> = DiscoverySource::Static(Static::new(set));
+    let registry = HealthRegistry::over(RegistryCore::new(alloc));
+    let mut backends = Backends::new_with_health_registry(alloc, source, registry)?;
+    run_passes(rt, alloc, &mut backends, backend, check)
+}
+
+// Sets the check, updates the view and runs two passes; whether the backend is ready after each.
+fn run_passes<L: Log, C: HealthCheck + Drop>(
+    rt: &L,
+    alloc: Global,
+    backends: &mut Backends<Static, Rule<ByNumber>, C>,
+    backend: &Backend,
+    check: C,
+) -> Result<[bool; 2], Refusal> {
+    backends.set_health_check(check)?;
+    backends.update(alloc, |lent: &BTreeSet<Backend>| lent.len())?;
+    backends.run_health_check(rt, alloc)?;
+    let once = backends.ready(backend);
+    backends.run_health_check(rt, alloc)?;
+    Ok([once, backends.ready(backend)])
+}

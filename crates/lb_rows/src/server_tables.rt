@@ -1,0 +1,187 @@
+//! The rows of checks over sockets of the own loopback: servers that each serve one connection, and passes over one backend.
+use lb_health_check::error::CheckError;
+
+/// Which check is run.
+#[derive(Clone, Copy)]
+pub(crate) enum By {
+    Http,
+    Tcp,
+}
+
+/// Where the check finds its server.
+#[derive(Clone, Copy)]
+pub(crate) enum Place {
+    Port,
+    /// The port is the check's own, and the backend names another.
+    CheckPort,
+    /// Nobody listens at the port.
+    ClosedPort,
+    /// A Unix socket in the folder that the program is run in.
+    Path(&'static str),
+    /// Nobody made the socket.
+    NoPath(&'static str),
+}
+
+/// What a server does with its connection once it has the request.
+#[derive(Clone, Copy)]
+pub(crate) enum Serves {
+    /// Writes the bytes and closes.
+    Answer(&'static [u8]),
+    /// Writes the bytes one at a time and closes.
+    Drops(&'static [u8]),
+    /// Waits until the other side closes.
+    Silence,
+    /// Takes no connection, which the system holds for it.
+    Nothing,
+}
+
+/// A check of a server: the request has a field of so many bytes more, and this comes of it, within ten seconds.
+pub(crate) struct Server {
+    pub(crate) name: &'static str,
+    pub(crate) by: By,
+    pub(crate) place: Place,
+    pub(crate) serves: Serves,
+    pub(crate) field_bytes: usize,
+    pub(crate) outcome: Result<(), CheckError>,
+}
+
+/// A good answer, and one that is cut.
+pub(crate) const ANSWER: &[u8] = b"HTTP/1.1 200 OK\r\nContent-Length: 2\r\n\r\nok";
+
+const CUT: &[u8] = b"HTTP/1.1 200 OK\r\nContent-Length: 2\r\n\r\no";
+
+// More bytes of a request than sockets hold for a server that reads none.
+const MANY_BYTES: usize = 16777216;
+
+/// The checks of servers.
+pub(crate) const SERVERS: [Server; 11] = [
+    Server {
+        name: "a served answer",
+        by: By::Http,
+        place: Place::Port,
+        serves: Serves::Answer(ANSWER),
+        field_bytes: 0,
+        outcome: Ok(()),
+    },
+    Server {
+        name: "a served answer, byte by byte",
+        by: By::Http,
+        place: Place::Port,
+        serves: Serves::Drops(ANSWER),
+        field_bytes: 0,
+        outcome: Ok(()),
+    },
+    Server {
+        name: "a server that closes in the body",
+        by: By::Http,
+        place: Place::Port,
+        serves: Serves::Answer(CUT),
+        field_bytes: 0,
+        outcome: Err(CheckError::EndInMessage),
+    },
+    Server {
+        name: "a server at another port",
+        by: By::Http,
+        place: Place::CheckPort,
+        serves: Serves::Answer(ANSWER),
+        field_bytes: 0,
+        outcome: Ok(()),
+    },
+    Server {
+        name: "a Unix socket that is not there",
+        by: By::Http,
+        place: Place::NoPath("absent.sock"),
+        serves: Serves::Nothing,
+        field_bytes: 0,
+        outcome: Err(CheckError::Connect),
+    },
+    Server {
+        name: "a server behind a Unix socket",
+        by: By::Http,
+        place: Place::Path("http.sock"),
+        serves: Serves::Answer(ANSWER),
+        field_bytes: 0,
+        outcome: Ok(()),
+    },
+    Server {
+        name: "a server behind a Unix socket, without a request",
+        by: By::Tcp,
+        place: Place::Path("tcp.sock"),
+        serves: Serves::Nothing,
+        field_bytes: 0,
+        outcome: Ok(()),
+    },
+    Server {
+        name: "a server that says nothing",
+        by: By::Http,
+        place: Place::Port,
+        serves: Serves::Silence,
+        field_bytes: 0,
+        outcome: Err(CheckError::Read),
+    },
+    Server {
+        name: "a server that reads nothing",
+        by: By::Http,
+        place: Place::Port,
+        serves: Serves::Nothing,
+        field_bytes: MANY_BYTES,
+        outcome: Err(CheckError::Write),
+    },
+    Server {
+        name: "a closed port",
+        by: By::Http,
+        place: Place::ClosedPort,
+        serves: Serves::Nothing,
+        field_bytes: 0,
+        outcome: Err(CheckError::Connect),
+    },
+    Server {
+        name: "a closed port, without a request",
+        by: By::Tcp,
+        place: Place::ClosedPort,
+        serves: Serves::Nothing,
+        field_bytes: 0,
+        outcome: Err(CheckError::Connect),
+    },
+];
+
+/// Two passes of a check over a backend: whether it is ready after each, and how many flips the observer is told of.
+pub(crate) struct Pass {
+    pub(crate) name: &'static str,
+    pub(crate) by: By,
+    pub(crate) listens: bool,
+    pub(crate) is_ready: bool,
+    pub(crate) flips: u64,
+}
+
+/// The passes.
+pub(crate) const PASSES: [Pass; 4] = [
+    Pass {
+        name: "a closed port, by TCP",
+        by: By::Tcp,
+        listens: false,
+        is_ready: false,
+        flips: 1,
+    },
+    Pass {
+        name: "an open port, by TCP",
+        by: By::Tcp,
+        listens: true,
+        is_ready: true,
+        flips: 0,
+    },
+    Pass {
+        name: "a closed port, by HTTP",
+        by: By::Http,
+        listens: false,
+        is_ready: false,
+        flips: 1,
+    },
+    Pass {
+        name: "a good answer, by HTTP",
+        by: By::Http,
+        listens: true,
+        is_ready: true,
+        flips: 0,
+    },
+];

@@ -1,5 +1,0 @@
-pub mod DrivenLemmas
-pub mod LawLemmas
-pub mod RunLemmas
-pub mod ScheduleLemmas
-pub mod ServiceLemmas

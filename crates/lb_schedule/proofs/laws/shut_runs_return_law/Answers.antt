@@ -1,5 +1,0 @@
-use Rattle.lb_schedule.proofs.LawLemmas.{shut_returns}
-use Rattle.lb_schedule.proofs.laws.shut_runs_return_law.Goals as goal
-
-pub returns : goal.returns
-returns c = shut_returns

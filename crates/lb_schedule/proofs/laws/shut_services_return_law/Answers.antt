@@ -1,5 +1,0 @@
-use Rattle.lb_schedule.proofs.ServiceLemmas.{service_shut_returns}
-use Rattle.lb_schedule.proofs.laws.shut_services_return_law.Goals as goal
-
-pub returns : goal.returns
-returns c = service_shut_returns

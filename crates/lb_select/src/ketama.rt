@@ -1,0 +1,244 @@
+//! The selector of consistent hashing: the points of all backends on one ring, and walks over their owners.
+//! It stands on points in order, with numbers in the place of addresses.
+ghost use Rattle.std.specs.Prelude.{◌≡◌, ◌+◌, ◌^◌, ◌<◌, length, [], MatchOption, option_and_then, slice_get, false, Some, None, ⊤};
+ghost use Rattle.std.specs.Option.{option_copied};
+ghost use Rattle.std.specs.Arc.{arc_value};
+ghost use Rattle.lb_select_base.specs.Backends.{Member};
+ghost use Rattle.lb_select_base.specs.Refusals.{Refuses};
+ghost use Rattle.lb_select.specs.Choices.{IsRingWalk, ring_refusal};
+ghost use Rattle.lb_select.specs.Placed.{IsMove, IsStart, IsWalkFrom, index_here, member_here};
+ghost use Rattle.lb_select.specs.RingLaws.{walk_starts, walk_ends, walk_undrawn, walk_few_words};
+
+use crate::crc::crc32;
+use crate::fill::{Marks, POINTS_PER_WEIGHT, marks_of, members_of, weight_on_ring};
+use crate::index::Index;
+use crate::spread::points_of;
+use lb_select_base::backend::Backend;
+use lb_select_base::refusal::Refusal;
+use lb_select_base::walk::{BackendIter, BackendSelection};
+use lb_select_base::words::WordSource;
+use std::alloc::Global;
+use std::collections::BTreeSet;
+use std::marker::Model;
+use std::sync::Arc;
+
+/// A selector by consistent hashing. Each internet backend has 160 points for each unit of its weight on a circle of 2^32
+/// places; a key goes to the backend of the first point at or above its CRC, and on from there. Backends of weight 0 and Unix
+/// addresses have no points. It draws no words.
+#[derive(Drop)]
+pub struct KetamaHashing {
+    backends: Vec<Backend>,
+    owners: Vec<usize>,
+    points: Vec<(u32, u32)>,
+    index: Index,
+    config: KetamaConfig,
+}
+
+/// Consistent hashing, by its plain name.
+pub type Consistent = KetamaHashing;
+
+/// What a ring is built with. `point_multiple` is ignored: each unit of weight has 160 points.
+#[derive(Clone, Copy, Debug, Default)]
+pub struct KetamaConfig {
+    pub point_multiple: Option<u32>,
+}
+
+impl Model for KetamaHashing {
+    ghost use Rattle.lb_select.specs.Placed.{Placed};
+
+    ghost Value = { Placed };
+
+    ghost use Rattle.lb_select.specs.PlacedSeen.{placed_seen, IsPlacedSeen};
+
+    ghost view = { placed_seen };
+
+    ghost invariant = { IsPlacedSeen };
+}
+
+/// What a walk over a ring keeps from candidate to candidate.
+#[derive(Drop)]
+pub struct RingWalk {
+    // the index of the next point; past the last one it stands for the first
+    at: usize,
+}
+
+/// A walk over the owners of a ring's points, from a key's place upwards and round for ever. It holds the ring.
+#[derive(Drop)]
+pub struct OwnedNodeIterator {
+    ring: Arc<KetamaHashing>,
+    walk: RingWalk,
+}
+
+impl KetamaHashing {
+    // The causes to refuse first, then what takes memory.
+    fn of_set(
+        alloc: Global,
+        backends: &BTreeSet<Backend>,
+        config: KetamaConfig,
+    ) -> Result<KetamaHashing, Refusal>
+        ensures { Refuses (ring_refusal backends.now.keys)
+            (λ r. (r.members ≡ backends.now.keys) × (r.multiple ≡ config.point_multiple)) result }
+    {
+        let weight = weight_on_ring(backends).ok_or(Refusal::TooManyPoints)?;
+        let backends = members_of(alloc, backends)?;
+        let Marks { owners, chains } = marks_of(alloc, &backends)?;
+        let points = points_of(alloc, &chains, POINTS_PER_WEIGHT * weight)?;
+        let index = Index::of(alloc, &points)?;
+        Ok(KetamaHashing {
+            backends,
+            owners,
+            points,
+            index,
+            config,
+        })
+    }
+
+    // The index of the point where a key's walk begins: how many points are below the key's place.
+    fn start_of(&self, key: &[u8]) -> usize
+        ensures { IsStart self.now key.now result }
+    {
+        self.index.first_from(&self.points, crc32(key))
+    }
+
+    // The index itself, or 0 where it is past the last point.
+    fn index_of(&self, at: usize) -> usize
+        ensures value { result ≡ index_here self.now at }
+        ensures room { result + 1 < 2 ^ 64 }
+    {
+        if at < self.points.len() { at } else { 0 }
+    }
+
+    // The index of the backend that a walk yields at a point; none where there is no point.
+    fn owner_at(&self, at: usize) -> Option<usize>
+        ensures { MatchOption result (self.now.points ≡ [])
+            (λ i. (m : Member) × (slice_get self.now.members i ≡ Some m) × (member_here self.now at ≡ Some m)) }
+    {
+        let at = self.index_of(at);
+        let (_, owner) = *self.points.get(at)?;
+        self.owners.get(owner as usize).copied()
+    }
+
+    // The backend of an index, if there is one.
+    fn get(&self, index: Option<usize>) -> Option<&Backend>
+        ensures { option_copied result ≡ option_and_then (slice_get self.now.members) index }
+    {
+        self.backends.get(index?)
+    }
+
+    /// Goes one point on, for a walk of several kinds; the index in the set's order of its backend, `None` on a ring without points.
+    pub fn advance(&self, walk: &mut RingWalk) -> Option<usize>
+        ensures inside { MatchOption result (self.now.points ≡ []) (λ i. i < length self.now.members) }
+        ensures step { IsMove self.now walk.old.at (option_and_then (slice_get self.now.members) result) walk.new.at }
+    {
+        let index = self.owner_at(walk.at)?;
+        walk.at = self.index_of(walk.at) + 1;
+        Some(index)
+    }
+}
+
+impl OwnedNodeIterator {
+    /// Goes one point on, as the selector's `advance`.
+    pub fn advance(&mut self) -> Option<usize>
+        ensures inside { MatchOption result ((arc_value self.old.ring).points ≡ []) (λ i. i < length (arc_value self.old.ring).members) }
+        ensures step { IsMove (arc_value self.old.ring) self.old.walk.at
+            (option_and_then (slice_get (arc_value self.old.ring).members) result) self.new.walk.at }
+        ensures ring { arc_value self.new.ring ≡ arc_value self.old.ring }
+    {
+        self.ring.advance(&mut self.walk)
+    }
+
+    /// The backend of that index in the set's order.
+    pub fn backend(&self, index: Option<usize>) -> Option<&Backend>
+        ensures { option_copied result ≡ option_and_then (slice_get (arc_value self.now.ring).members) index }
+    {
+        self.ring.get(index)
+    }
+}
+
+impl BackendIter for OwnedNodeIterator {
+    ghost walk = { λ i. IsWalkFrom (arc_value i.ring) i.walk.at };
+
+    ghost starts = { λ i. walk_starts (arc_value i.ring) i.walk.at };
+
+    ghost ends = { λ i. walk_ends (arc_value i.ring) i.walk.at };
+
+    fn next<W: WordSource>(&mut self, _words: &mut W) -> Option<&Backend> {
+        let index = self.advance();
+        self.backend(index)
+    }
+}
+
+impl BackendSelection for KetamaHashing {
+    type Iter = OwnedNodeIterator;
+
+    type Config = KetamaConfig;
+
+    type Walk = RingWalk;
+
+    ghost walks = { λ ms config. IsRingWalk ms };
+
+    ghost members = { λ r. r.members };
+
+    ghost built_with = { λ r. record { point_multiple = r.multiple } };
+
+    ghost refusal = { λ ms config. ring_refusal ms };
+
+    ghost default_config = { record { point_multiple = None } };
+
+    ghost may_draw_random = { λ ms config. false };
+
+    ghost fits = { λ r w. ⊤ };
+
+    ghost rest = { λ r w. IsWalkFrom r w.at };
+
+    ghost undrawn = { λ ms config h. walk_undrawn ms };
+
+    ghost few_words = { λ ms config. walk_few_words ms };
+
+    ghost rest_starts = { λ r w. walk_starts r w.at };
+
+    ghost rest_ends = { λ r w. walk_ends r w.at };
+
+    fn build(alloc: Global, backends: &BTreeSet<Backend>) -> Result<Self, Refusal> {
+        let config = KetamaConfig {
+            point_multiple: None,
+        };
+        KetamaHashing::of_set(alloc, backends, config)
+    }
+
+    fn build_with_config(
+        alloc: Global,
+        backends: &BTreeSet<Backend>,
+        config: &KetamaConfig,
+    ) -> Result<Self, Refusal> {
+        KetamaHashing::of_set(alloc, backends, *config)
+    }
+
+    fn iter<W: WordSource>(
+        of: &Arc<Self>,
+        key: &[u8],
+        words: &mut W,
+    ) -> Result<OwnedNodeIterator, Refusal> {
+        let ring = of.clone()?;
+        let walk = ring.start(key, words)?;
+        Ok(OwnedNodeIterator { ring, walk })
+    }
+
+    fn start<W: WordSource>(&self, key: &[u8], _words: &mut W) -> Result<RingWalk, Refusal> {
+        let at = self.start_of(key);
+        Ok(RingWalk { at })
+    }
+
+    fn step<'s, W: WordSource>(
+        &'s self,
+        walk: &mut RingWalk,
+        _words: &mut W,
+    ) -> Option<&'s Backend> {
+        let index = self.advance(walk);
+        self.get(index)
+    }
+
+    fn draws_random(&self) -> bool {
+        false
+    }
+}

@@ -1,0 +1,12 @@
+pub mod AddressRoundTrip
+pub mod AddressTexts
+pub mod Clones
+pub mod LeastCauses
+pub mod Lists
+pub mod LoadTables
+pub mod Octets
+pub mod SameBackends
+pub mod Searches
+pub mod SelectionLaws
+pub mod SelectionsSeen
+pub mod Turns

@@ -1,0 +1,14 @@
+pub mod AddressText
+pub mod AlgorithmLaws
+pub mod Algorithms
+pub mod Backends
+pub mod Draws
+pub mod Identity
+pub mod Loads
+pub mod Memberships
+pub mod Refusals
+pub mod Seen
+pub mod Selections
+pub mod Unique
+pub mod UniqueLaws
+pub mod Walks

@@ -1,2 +1,0 @@
-mod Drives
-mod Lines

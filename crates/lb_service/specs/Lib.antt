@@ -1,3 +1,0 @@
-pub mod Driven
-pub mod Lines
-pub mod Signals

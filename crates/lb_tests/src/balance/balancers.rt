@@ -1,0 +1,332 @@
+//! Rows of balancers: one of texts that selects by loads, and one at random whose discovery goes on with each update.
+//! A balancer is lent to its calls.
+ghost use Rattle.std.specs.Prelude.{⊤};
+
+use crate::balance::lent::disable;
+use crate::told::{Answer, DONE, NO, Told, YES, is_at};
+use lb_balancer_core::load_balancer::LoadBalancer;
+use lb_balancer_core::timings::UpdateTimings;
+use lb_health_check::error::CheckError;
+use lb_health_check::health_check::HealthCheck;
+use lb_health_registry::keys::{ByNumber, Rule};
+use lb_health_view::backends::Backends;
+use lb_health_view::discovery::{Discovered, DiscoverySource, ServiceDiscovery};
+use lb_health_view::view::Settings;
+use lb_select::least::LeastConnections;
+use lb_select::selection::Random;
+use lb_select_base::backend::{Backend, Ext, InetAddr, SocketAddr};
+use lb_select_base::moments::MomentSource;
+use lb_select_base::refusal::Refusal;
+use lb_select_base::walk::BackendSelection;
+use log::Log;
+use rand_pcg::Pcg64;
+use std::alloc::Global;
+use std::cell::Cell;
+use std::collections::BTreeSet;
+use std::process::Abort;
+use std::test::Fail;
+
+/// A discovery whose answer goes on with each call.
+#[derive(Drop)]
+struct Rows {
+    turn: Cell<u8>,
+}
+
+impl ServiceDiscovery for Rows {
+    fn discover(&self, alloc: Global) -> Result<Discovered, Refusal> {
+        let turn = self.turn.get();
+        self.turn.set(turn.wrapping_add(1));
+        let backends = match turn {
+            0 => one_backend(alloc, b"first")?,
+            1 => many_backends(alloc)?,
+            2 => return Err(Refusal::Discovery),
+            _ => one_backend(alloc, b"other")?,
+        };
+        Ok((backends, Settings::new(alloc)))
+    }
+}
+
+/// A clock that answers these moments in turn, and 0 after them.
+#[derive(Drop)]
+struct Moments<'a> {
+    left: &'a [u128],
+}
+
+impl<'a> MomentSource for Moments<'a> {
+    ghost reads = { λ s m t. ⊤ };
+
+    fn now(&mut self) -> u128 {
+        match self.left.split_first() {
+            Some((moment, rest)) => {
+                self.left = rest;
+                *moment
+            }
+            None => 0,
+        }
+    }
+}
+
+/// A check that finds every backend down.
+#[derive(Drop)]
+pub(crate) struct Down;
+
+impl HealthCheck for Down {
+    ghost threshold = { λ _ _. 1 };
+
+    fn check(&self, _alloc: Global, _target: &Backend) -> Result<(), CheckError> {
+        Err(CheckError::Status(503))
+    }
+
+    fn health_threshold(&self, _success: bool) -> usize {
+        1
+    }
+}
+
+// The backend of weight 1 at 1.0.0.1:80, with this attached.
+fn noted(alloc: Global, note: &[u8]) -> Result<Backend, Refusal> {
+    let name = String::from_str(alloc, "note")?;
+    let mut text = Vec::new(alloc);
+    text.extend_from_slice(note)?;
+    let mut backend = Backend::new(alloc, "1.0.0.1:80")?;
+    backend.ext.insert(name, text)?;
+    Ok(backend)
+}
+
+// That backend alone.
+fn one_backend(alloc: Global, note: &[u8]) -> Result<BTreeSet<Backend>, Refusal> {
+    let mut backends = BTreeSet::new(alloc);
+    backends.insert(noted(alloc, note)?)?;
+    Ok(backends)
+}
+
+// One more backend than a weighted selector takes.
+fn many_backends(alloc: Global) -> Result<BTreeSet<Backend>, Refusal> {
+    let mut backends = BTreeSet::new(alloc);
+    for number in 0..65536u32 {
+        let [_, _, high, low] = number.to_be_bytes();
+        backends.insert(Backend {
+            addr: SocketAddr::Inet(InetAddr::V4([10, 0, high, low], 80)),
+            weight: 1,
+            ext: Ext::new(alloc),
+        })?;
+    }
+    Ok(backends)
+}
+
+/// A call of a balancer.
+#[derive(Clone, Copy)]
+enum Call {
+    /// An update by these moments; how many of them are not read.
+    Update(&'static [u128]),
+    Generation,
+    CountMembers,
+    LastTiming,
+    /// Whether the backend of weight 1 at that address is ready.
+    IsReady(&'static str),
+    /// Whether it is the one at that address that is selected within a limit, or none.
+    Selects(usize, Option<&'static str>),
+    /// The same where each one is accepted, within a limit of 2.
+    SelectsAny(&'static str),
+    /// Whether what is selected is 1.0.0.1:80 with `first` attached.
+    SelectsFirst,
+    SetLoad(&'static str, u64),
+    Disable(&'static str),
+    SetCheck,
+    RunChecks,
+}
+
+type Balancer<S, D> = LoadBalancer<S, D, Rule<ByNumber>, Down>;
+
+// Makes the call.
+fn answer<S: BackendSelection, D: ServiceDiscovery + Drop>(
+    alloc: Global,
+    balancer: &mut Balancer<S, D>,
+    call: Call,
+    log: &impl Log,
+) -> Answer {
+    match call {
+        Call::Update(moments) => update(alloc, balancer, moments),
+        Call::SelectsFirst => selects_first(alloc, balancer),
+        Call::Selects(limit, wanted) => {
+            let found = balancer.select(alloc, b"k", limit)?;
+            Ok(Told::Flag(is_at(alloc, &found, wanted)?))
+        }
+        Call::SetCheck => {
+            balancer.set_health_check(Down)?;
+            DONE
+        }
+        Call::RunChecks => {
+            balancer.backends().run_health_check(log, alloc)?;
+            DONE
+        }
+        Call::LastTiming => Ok(Told::Took(balancer.last_update_timing())),
+        Call::Generation => Ok(Told::Number(balancer.backends().generation())),
+        Call::CountMembers => Ok(Told::Length(balancer.backends().get_backend()?.len())),
+        Call::IsReady(address)
+        | Call::SelectsAny(address)
+        | Call::SetLoad(address, _)
+        | Call::Disable(address) => {
+            let backend = Backend::new(alloc, address)?;
+            answer_of(alloc, balancer, call, &backend)
+        }
+    }
+}
+
+// Makes a call of that backend.
+fn answer_of<S: BackendSelection, D: ServiceDiscovery + Drop>(
+    alloc: Global,
+    balancer: &mut Balancer<S, D>,
+    call: Call,
+    backend: &Backend,
+) -> Answer {
+    match call {
+        Call::IsReady(_) => Ok(Told::Flag(balancer.backends().ready(backend))),
+        Call::SelectsAny(_) => {
+            let any = |_backend: &Backend, _ready: bool| -> bool { true };
+            let found = balancer.select_with(alloc, b"k", 2, &any)?;
+            Ok(Told::Flag(found.as_ref() == Some(backend)))
+        }
+        Call::SetLoad(_, load) => {
+            balancer.set_load(alloc, backend, load)?;
+            DONE
+        }
+        _ => {
+            disable(balancer, backend);
+            DONE
+        }
+    }
+}
+
+fn update<S: BackendSelection, D: ServiceDiscovery + Drop>(
+    alloc: Global,
+    balancer: &mut Balancer<S, D>,
+    moments: &[u128],
+) -> Answer {
+    let mut clock = Moments { left: moments };
+    let updated = balancer.update(alloc, &mut clock);
+    let left = clock.left.len();
+    if left > 0 {
+        return Ok(Told::Length(left));
+    }
+    updated?;
+    DONE
+}
+
+fn selects_first<S: BackendSelection, D: ServiceDiscovery + Drop>(
+    alloc: Global,
+    balancer: &mut Balancer<S, D>,
+) -> Answer {
+    let Some(backend) = balancer.select(alloc, b"k", 1)? else {
+        return NO;
+    };
+    let noted = match backend.ext.get("note") {
+        Some(note) => note.as_slice() == b"first".as_slice(),
+        None => false,
+    };
+    Ok(Told::Flag(noted && backend == Backend::new(alloc, "1.0.0.1:80")?))
+}
+
+/// Calls and what they answer.
+type Calls = &'static [(Call, Answer)];
+
+fn plays<S: BackendSelection, D: ServiceDiscovery + Drop>(
+    alloc: Global,
+    balancer: &mut Balancer<S, D>,
+    calls: Calls,
+    rt: &(impl Abort + Log),
+) {
+    for (at, (call, wanted)) in calls.iter().enumerate() {
+        assert_eq!(rt; answer(alloc, balancer, *call, rt), *wanted, "call {at}");
+    }
+}
+
+const FIRST: Option<&str> = Some("1.0.0.1:80");
+
+const SECOND: Option<&str> = Some("1.1.1.1:80");
+
+// What the first update took.
+const TOOK: Answer = Ok(Told::Took(Some(UpdateTimings {
+    discovery_duration: 16,
+    build_duration: 4,
+})));
+
+// It was updated once. The second one is selected once the first one has a load; once it is disabled, only where each one is accepted.
+// One check is set, and after its pass no backend is ready.
+const OF_TEXTS: Calls = &[
+    (Call::Generation, Ok(Told::Number(1))),
+    (Call::CountMembers, Ok(Told::Length(2))),
+    (Call::LastTiming, TOOK),
+    (Call::IsReady("1.0.0.1:80"), YES),
+    (Call::IsReady("1.1.1.1:80"), YES),
+    (Call::Selects(1, FIRST), YES),
+    (Call::Selects(2, FIRST), YES),
+    (Call::SetLoad("1.0.0.1:80", 5), DONE),
+    (Call::Selects(2, SECOND), YES),
+    (Call::Disable("1.1.1.1:80"), DONE),
+    (Call::IsReady("1.1.1.1:80"), NO),
+    (Call::Selects(2, FIRST), YES),
+    (Call::SelectsAny("1.1.1.1:80"), YES),
+    (Call::SetCheck, DONE),
+    (Call::SetCheck, Err(Refusal::HealthCheckSet)),
+    (Call::RunChecks, DONE),
+    (Call::Selects(2, None), YES),
+];
+
+#[test]
+fn a_balancer_of_texts(rt: HostRuntime) -> Result<(), Fail> {
+    let alloc = rt.alloc();
+    let texts = ["1.1.1.1:80", "1.0.0.1:80"];
+    let mut clock = Moments {
+        left: &[0, 10, 14, 20],
+    };
+    let mut balancer: Balancer<LeastConnections, Rows> = LoadBalancer::try_from_iter(
+        alloc,
+        &rt,
+        texts.iter().copied(),
+        &mut clock,
+    )?;
+    plays(alloc, &mut balancer, OF_TEXTS, &rt);
+    Ok(())
+}
+
+// After the first update its generation and its backend are served, whatever the later ones answer.
+const OF_ROWS: Calls = &[
+    (Call::Selects(1, None), YES),
+    (Call::Update(&[0, 10, 14, 20]), DONE),
+    (Call::Generation, Ok(Told::Number(1))),
+    (Call::LastTiming, TOOK),
+    (Call::SelectsFirst, YES),
+    (Call::Update(&[20]), Err(Refusal::TooManyBackends)),
+    (Call::Generation, Ok(Told::Number(1))),
+    (Call::LastTiming, TOOK),
+    (Call::SelectsFirst, YES),
+    (Call::Update(&[20]), Err(Refusal::Discovery)),
+    (Call::Generation, Ok(Told::Number(1))),
+    (Call::LastTiming, TOOK),
+    (Call::SelectsFirst, YES),
+    (Call::Update(&[30, 35]), DONE),
+    (Call::Generation, Ok(Told::Number(1))),
+    (
+        Call::LastTiming,
+        Ok(Told::Took(Some(UpdateTimings {
+            discovery_duration: 5,
+            build_duration: 0,
+        }))),
+    ),
+    (Call::SelectsFirst, YES),
+];
+
+// A balancer of the rows whose random words are those of a generator that it is given.
+fn of_rows(alloc: Global) -> Result<Balancer<Random, Rows>, Refusal> {
+    let rows = Rows { turn: Cell::new(0) };
+    let backends = Backends::new(alloc, DiscoverySource::Boxed(rows))?;
+    let balancer = LoadBalancer::from_backends_with_config(alloc, backends, Some(()))?;
+    Ok(balancer.with_generator(Pcg64::new(3, 4)))
+}
+
+#[test]
+fn updates_by_rows(rt: HostRuntime) -> Result<(), Fail> {
+    let mut balancer = of_rows(rt.alloc())?;
+    plays(rt.alloc(), &mut balancer, OF_ROWS, &rt);
+    Ok(())
+}

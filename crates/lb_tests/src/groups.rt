@@ -1,0 +1,3 @@
+//! Groups as calls: what is drawn by their selections, and that two of them on one gate are two.
+pub(crate) mod selections;
+mod sharing;

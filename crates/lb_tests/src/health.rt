@@ -1,0 +1,5 @@
+//! Tests of health, registries, views and passes of checks: worked values from outside, and what a pass tells a check and a log.
+mod discoveries;
+mod passes;
+mod registries;
+mod views;

@@ -1,0 +1,265 @@
+//! Backends with a check: a discovery that answers a fault, what a pass asks and tells the check, and what it writes to the log.
+//! No contract sees these. The backends are lent to one row after another.
+use crate::selection::fixtures::set_of;
+use lb_health_check::error::CheckError;
+use lb_health_check::health_check::{HealthCheck, identity_summary};
+use lb_health_registry::keys::{ByNumber, Rule};
+use lb_health_view::backends::Backends;
+use lb_health_view::discovery::{Discovered, DiscoverySource, ServiceDiscovery};
+use lb_health_view::registry::HealthRegistry;
+use lb_health_view::view::Settings;
+use lb_select_base::backend::Backend;
+use lb_select_base::refusal::Refusal;
+use log::sink::Memory;
+use log::{Level, Log, Logged};
+use std::alloc::Global;
+use std::cell::Cell;
+use std::collections::BTreeSet;
+use std::process::Abort;
+use std::rc::Rc;
+use std::test::Fail;
+
+/// What a check was asked and told, whether it finds 1.0.0.1:80/1 down, and whether discoveries answer a fault.
+#[derive(Drop)]
+struct Counts {
+    asked: Cell<u64>,
+    told: Cell<u64>,
+    down: Cell<bool>,
+    lost: Cell<bool>,
+}
+
+/// The discovery of 1.0.0.1:80/1 and 1.0.0.2:80/1, or of nothing.
+#[derive(Drop)]
+struct Pair {
+    counts: Rc<Counts>,
+}
+
+impl ServiceDiscovery for Pair {
+    fn discover(&self, alloc: Global) -> Result<Discovered, Refusal> {
+        if self.counts.lost.get() {
+            return Err(Refusal::NoSuch);
+        }
+        let set = set_of(alloc, &[("1.0.0.1:80", 1), ("1.0.0.2:80", 1)])?;
+        Ok((set, Settings::new(alloc)))
+    }
+}
+
+/// A check that counts what it is asked and told. Two failures in a row flip a cell, or one success.
+#[derive(Drop)]
+struct Counting {
+    counts: Rc<Counts>,
+    silent: bool,
+}
+
+impl HealthCheck for Counting {
+    ghost use Rattle.std.specs.Prelude.{cond};
+
+    ghost threshold = { λ _ success. cond success 1 2 };
+
+    fn check(&self, alloc: Global, target: &Backend) -> Result<(), CheckError> {
+        let counts = &self.counts;
+        counts.asked.set(counts.asked.get().wrapping_add(1));
+        let text = identity_summary(alloc, target).map_err(|_| CheckError::OutOfMemory)?;
+        if counts.down.get() && text.as_str() == "1.0.0.1:80/1" {
+            return Err(CheckError::Status(503));
+        }
+        Ok(())
+    }
+
+    fn health_status_change(&self, _target: &Backend, _healthy: bool) {
+        let told = &self.counts.told;
+        told.set(told.get().wrapping_add(1));
+    }
+
+    fn backend_summary(&self, alloc: Global, target: &Backend) -> Result<String, Refusal> {
+        if self.silent {
+            return Err(Refusal::OutOfMemory);
+        }
+        identity_summary(alloc, target)
+    }
+
+    fn health_threshold(&self, success: bool) -> usize {
+        if success { 1 } else { 2 }
+    }
+}
+
+fn new_counts(alloc: Global) -> Result<Rc<Counts>, Refusal> {
+    let counts = Rc::new(
+        alloc,
+        Counts {
+            asked: Cell::new(0),
+            told: Cell::new(0),
+            down: Cell::new(false),
+            lost: Cell::new(true),
+        },
+    )?;
+    Ok(counts)
+}
+
+// A check that counts there.
+fn new_check(counts: &Rc<Counts>, silent: bool) -> Result<Counting, Refusal> {
+    let counts = counts.clone()?;
+    Ok(Counting { counts, silent })
+}
+
+type Health = HealthRegistry<Rule<ByNumber>, Counting>;
+
+type Counted = Backends<Pair, Rule<ByNumber>, Counting>;
+
+// Backends whose discovery and whose check count there.
+fn counted(alloc: Global, counts: &Rc<Counts>) -> Result<Counted, Refusal> {
+    let pair = Pair {
+        counts: counts.clone()?,
+    };
+    Backends::new_with_health_registry(
+        alloc,
+        DiscoverySource::Boxed(pair),
+        HealthRegistry::new(alloc),
+    )
+}
+
+// How many members the newest generation has.
+fn count_members(backends: &Counted) -> Result<usize, Refusal> {
+    Ok(backends.get_backend()?.len())
+}
+
+// Updates the backends; then their generation, and how many members it has.
+fn updated(alloc: Global, backends: &mut Counted) -> (Result<Option<usize>, Refusal>, u64) {
+    let updated = backends.update(alloc, |lent: &BTreeSet<Backend>| lent.len());
+    (updated, backends.generation())
+}
+
+// An update by a discovery that answers a fault is refused, and changes nothing; the next one is not.
+fn fault_is_told(alloc: Global, backends: &mut Counted, counts: &Counts, rt: &impl Abort) {
+    let refused = updated(alloc, backends);
+    assert_eq!(rt; refused, (Err(Refusal::Discovery), 0));
+    assert_eq!(rt; count_members(backends), Ok(0));
+    counts.lost.set(false);
+    assert_eq!(rt; updated(alloc, backends), (Ok(Some(2)), 1));
+}
+
+// Whether 1.0.0.1:80/1 is ready.
+fn ready(alloc: Global, backends: &Counted) -> Result<bool, Refusal> {
+    Ok(backends.ready(&Backend::new(alloc, "1.0.0.1:80")?))
+}
+
+// The first pass finds the backend down for the first time, the second flips it, the third finds it up and flips it back; each pass
+// checks each target once.
+fn passes<R: Abort, L: Log>(
+    alloc: Global,
+    backends: &mut Counted,
+    counts: &Counts,
+    rt: &R,
+    log: &L,
+) {
+    for (down, asked, told, healthy) in [
+        (true, 2, 0, true),
+        (true, 4, 1, false),
+        (false, 6, 2, true),
+    ] {
+        counts.down.set(down);
+        let passed = backends.run_health_check(log, alloc);
+        assert_eq!(rt; (passed, ready(alloc, backends)), (Ok(()), Ok(healthy)));
+        assert_eq!(rt; (counts.asked.get(), counts.told.get()), (asked, told));
+    }
+}
+
+fn lines_are(lines: &[String], wanted: &[&str], rt: &impl Abort) {
+    assert_eq!(rt; lines.len(), wanted.len());
+    for (line, text) in lines.iter().zip(wanted) {
+        assert_eq!(rt; line.as_str(), *text);
+    }
+}
+
+// The lines that the passes wrote to the log.
+fn passes_are_logged<R: Abort + Log>(
+    alloc: Global,
+    backends: &mut Counted,
+    counts: &Counts,
+    wanted: &[&str],
+    rt: &R,
+) {
+    let sink = Memory::new(alloc);
+    passes(
+        alloc,
+        backends,
+        counts,
+        rt,
+        &Logged::new(rt, Level::Debug, &sink),
+    );
+    lines_are(sink.into_lines().as_slice(), wanted, rt);
+}
+
+fn check_is_set(backends: &mut Counted, counts: &Rc<Counts>, silent: bool) -> Result<(), Refusal> {
+    backends.set_health_check(new_check(counts, silent)?)
+}
+
+// The lines of the passes in the log.
+const LINES: [&str; 2] = [
+    "[WARN  lb_health_view::registry] 1.0.0.1:80/1 becomes unhealthy, Status",
+    "[INFO  lb_health_view::registry] 1.0.0.1:80/1 becomes healthy",
+];
+
+// Plays the rows; `silent` is a check that names no backend, and `lines` are those that its passes write to the log.
+fn plays<R: Abort + Log>(
+    alloc: Global,
+    backends: &mut Counted,
+    counts: &Rc<Counts>,
+    silent: bool,
+    lines: &[&str],
+    rt: &R,
+) {
+    fault_is_told(alloc, backends, counts, rt);
+    assert_eq!(rt; check_is_set(backends, counts, silent), Ok(()));
+    passes_are_logged(alloc, backends, counts, lines, rt);
+}
+
+// Plays the rows on new backends.
+fn played<R: Abort + Log>(
+    alloc: Global,
+    silent: bool,
+    lines: &[&str],
+    rt: &R,
+) -> Result<(), Refusal> {
+    let counts = new_counts(alloc)?;
+    let mut backends = counted(alloc, &counts)?;
+    plays(alloc, &mut backends, &counts, silent, lines, rt);
+    Ok(())
+}
+
+#[test]
+fn passes_of_checks(rt: HostRuntime) {
+    assert_eq!(rt; played(rt.alloc(), false, &LINES, &rt), Ok(()));
+    assert_eq!(rt; played(rt.alloc(), true, &[], &rt), Ok(()));
+}
+
+// How many targets there are, and how many are listed.
+fn targets(alloc: Global, health: &mut Health) -> Result<(usize, usize), Refusal> {
+    let count = health.target_count(alloc)?;
+    Ok((count, health.targets(alloc)?.len()))
+}
+
+// A second check is refused, and without a target the first one is asked nothing.
+fn check_is_set_once(
+    alloc: Global,
+    health: &mut Health,
+    counts: &Rc<Counts>,
+    rt: &(impl Abort + Log),
+) -> Result<(), Refusal> {
+    let first = health.set_health_check(new_check(counts, false)?);
+    let second = health.set_health_check(new_check(counts, true)?);
+    assert_eq!(rt; (first, second), (Ok(()), Err(Refusal::HealthCheckSet)));
+    let passed = health.run_health_check(rt, alloc);
+    assert_eq!(rt; (passed, counts.asked.get()), (Ok(()), 0));
+    assert_eq!(rt; targets(alloc, health), Ok((0, 0)));
+    Ok(())
+}
+
+#[test]
+fn a_check_is_set_once(rt: HostRuntime) -> Result<(), Fail> {
+    let alloc = rt.alloc();
+    let counts = new_counts(alloc)?;
+    let mut health: Health = HealthRegistry::by_address(alloc).start_unhealthy();
+    check_is_set_once(alloc, &mut health, &counts, &rt)?;
+    Ok(())
+}

@@ -1,0 +1,90 @@
+//! The order of a destruction: the selector is gone first, then that is reported, and only then does the gate grant again.
+//! Selectors count in `Noting` when they are gone.
+ghost use Rattle.std.specs.Prelude.{◌≡◌};
+ghost use Rattle.lb_rebuild_slots.specs.Stands.{SameSite};
+
+use crate::selection::fixtures::set_of;
+use crate::selection::noting::{Gone, Noting};
+use lb_rebuild_slots::answers::Ask;
+use lb_rebuild_slots::gate::GateCore;
+use lb_rebuild_slots::job::FailedBuild;
+use lb_rebuild_slots::slots::Slots;
+use lb_select_base::refusal::Refusal;
+use std::alloc::Global;
+use std::process::Abort;
+use std::sync::Arc;
+use std::sync::atomic::{AtomicU64, Ordering};
+use std::test::Fail;
+
+// Builds and publishes what slot 0 needs next; whether the gate granted it.
+fn granted(alloc: Global, group: &mut Slots<Noting>, gate: &mut GateCore) -> Result<bool, Refusal>
+    requires { gate.old.id ≡ group.old.gate }
+    ensures gate { gate.new.id ≡ gate.old.id }
+    ensures site { SameSite group.old group.new }
+{
+    let job = match group.ask(0, gate, 0)? {
+        Ask::Cancelled | Ask::Building | Ask::Nothing | Ask::NotDue(_) | Ask::Busy => {
+            return Ok(false);
+        }
+        Ask::Job(job) => job,
+    };
+    let built = match job.build(alloc, || 0) {
+        Ok(built) => built,
+        Err(FailedBuild { job, refusal }) => {
+            job.close();
+            return Err(refusal);
+        }
+    };
+    match group.publish(built) {
+        Ok(_) => Ok(true),
+        Err(built) => {
+            built.close();
+            Ok(false)
+        }
+    }
+}
+
+#[test]
+fn gone_before_the_report(rt: HostRuntime) -> Result<(), Fail> {
+    let alloc = rt.alloc();
+    let gone = Arc::new(alloc, AtomicU64::new(0))?;
+    let mut gate = GateCore::new(alloc)?;
+    let mut configs = Vec::new(alloc);
+    configs.push(Gone(Some(gone.clone()?)))?;
+    let mut group: Slots<Noting> = Slots::new(alloc, &gate, configs)?;
+    retires_in_order(alloc, &rt, &mut group, &mut gate, &gone)
+}
+
+// Lends the group, since each way out of the function that owns it drops it.
+fn retires_in_order(
+    alloc: Global,
+    rt: &impl Abort,
+    group: &mut Slots<Noting>,
+    gate: &mut GateCore,
+    gone: &AtomicU64,
+) -> Result<(), Fail>
+    requires { gate.old.id ≡ group.old.gate }
+{
+    // A new group builds a selector of each configuration to see whether it can, and may drop some.
+    gone.store(0, Ordering::SeqCst);
+    group.schedule(alloc, set_of(alloc, &[("1.0.0.1:80", 1)])?, 0)?;
+    assert!(rt; granted(alloc, group, gate)?);
+    group.schedule(alloc, set_of(alloc, &[("1.0.0.2:80", 1)])?, 0)?;
+    let retired = group.take_retired(0)?;
+    assert_eq!(rt; gone.load(Ordering::SeqCst), 0);
+    let permit = retired.destroy();
+    assert_eq!(rt; gone.load(Ordering::SeqCst), 1);
+    let early = granted(alloc, group, gate);
+    let reported = match group.destroyed(0, permit, gate) {
+        Ok(()) => true,
+        Err(permit) => {
+            permit.spend();
+            false
+        }
+    };
+    assert_eq!(rt; early, Ok(false));
+    assert!(rt; reported);
+    assert!(rt; granted(alloc, group, gate)?);
+    assert_eq!(rt; gone.load(Ordering::SeqCst), 1);
+    Ok(())
+}

@@ -1,0 +1,65 @@
+//! The most backends and a long key, as calls.
+use crate::selection::fixtures::{Kind, numbered, selected, set_of_weights, words_from};
+use lb_select_base::backend::Backend;
+use lb_select_base::refusal::Refusal;
+use std::alloc::Global;
+use std::collections::BTreeSet;
+use std::process::Abort;
+
+// The weight of the backend that is selected of a set.
+fn answer(
+    alloc: Global,
+    kind: Kind,
+    set: &BTreeSet<Backend>,
+    key: &[u8],
+) -> Result<Option<usize>, Refusal> {
+    let (found, _tickets) = selected(alloc, kind, set, &mut words_from(0), key, 1, &(0..9))?;
+    Ok(found)
+}
+
+// The set of so many backends of one weight.
+fn set_of_many(alloc: Global, count: usize, weight: usize) -> Result<BTreeSet<Backend>, Refusal> {
+    let weights = vec![in alloc; weight; count]?;
+    set_of_weights(alloc, &weights)
+}
+
+fn most_backends(alloc: Global, rt: &impl Abort) -> Result<(), Refusal> {
+    let mut set = set_of_many(alloc, 65535, 1)?;
+    assert_eq!(rt; answer(alloc, Kind::Hash, &set, b"a"), Ok(Some(1)));
+    set.insert(numbered(alloc, 65535, 1))?;
+    one_more(alloc, rt, &set);
+    Ok(())
+}
+
+fn one_more(alloc: Global, rt: &impl Abort, set: &BTreeSet<Backend>) {
+    for (kind, wanted) in [
+        (Kind::Hash, Err(Refusal::TooManyBackends)),
+        (Kind::Turns, Err(Refusal::TooManyBackends)),
+        (Kind::Least, Ok(Some(1))),
+    ] {
+        assert_eq!(rt; answer(alloc, kind, set, b"a"), wanted);
+    }
+}
+
+// 65535 backends are built by weight, one more is refused; nothing bounds loads.
+#[test]
+fn the_most_backends(rt: HostRuntime) {
+    assert_eq!(rt; most_backends(rt.alloc(), &rt), Ok(()));
+}
+
+fn unbounded(alloc: Global, rt: &impl Abort) -> Result<(), Refusal> {
+    let none = set_of_many(alloc, 65536, 0)?;
+    assert_eq!(rt; answer(alloc, Kind::Ring, &none, b"a"), Ok(None));
+    let one = set_of_weights(alloc, &[1])?;
+    let key = vec![in alloc; b'a'; 1000000]?;
+    for kind in [Kind::Hash, Kind::Turns, Kind::Ring, Kind::Least] {
+        assert_eq!(rt; answer(alloc, kind, &one, &key), Ok(Some(1)));
+    }
+    Ok(())
+}
+
+// No point of a ring is owned by weight 0. Then a key of a million bytes.
+#[test]
+fn no_points_and_a_long_key(rt: HostRuntime) {
+    assert_eq!(rt; unbounded(rt.alloc(), &rt), Ok(()));
+}

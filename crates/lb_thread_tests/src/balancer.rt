@@ -1,0 +1,9 @@
+//! Tests of a balancer that threads share: what it serves beside updates, checks and flags, and what its run does, which no contract says of
+//! running threads.
+mod beside;
+mod calls;
+mod fixtures;
+mod leaving;
+mod loads;
+mod runs;
+mod texts;

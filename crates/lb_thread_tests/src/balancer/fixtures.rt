@@ -1,0 +1,207 @@
+//! A discovery, a check and a bench for the tests of shared balancers.
+use crate::service_fixtures::Ticks;
+use lb_balancer::backends::Backends;
+use lb_balancer::load_balancer::LoadBalancer;
+use lb_health_check::error::CheckError;
+use lb_health_check::health_check::HealthCheck;
+use lb_health_registry::keys::Rule;
+use lb_health_view::discovery::{Discovered, DiscoverySource, ServiceDiscovery};
+use lb_health_view::view::Settings;
+use lb_select_base::backend::{Backend, InetAddr, SocketAddr};
+use lb_select_base::refusal::Refusal;
+use lb_select_base::walk::BackendSelection;
+use lb_threads_registry::keyed::NoRule;
+use std::alloc::Global;
+use std::collections::BTreeSet;
+use std::sync::atomic::AtomicU64;
+use std::sync::atomic::Ordering::SeqCst;
+use std::sync::{Arc, Wait};
+use std::thread;
+use std::time::{Clock, Duration};
+
+/// What a discovery answers: its rows in turn, a fault, or a membership of too much weight.
+pub const ROWS: u64 = 0;
+
+pub const FAULT: u64 = 1;
+
+pub const HEAVY: u64 = 2;
+
+/// A line between the test and what a balancer calls: how often that was called, whether it may answer, and what.
+#[derive(Drop)]
+pub struct Line {
+    pub asked: AtomicU64,
+    pub open: AtomicU64,
+    pub answers: AtomicU64,
+}
+
+impl Line {
+    // An open line that answers rows.
+    fn new() -> Line {
+        Line {
+            asked: AtomicU64::new(0),
+            open: AtomicU64::new(1),
+            answers: AtomicU64::new(ROWS),
+        }
+    }
+
+    /// Counts from 0 again; it is open or isn't, and answers this.
+    pub fn begin(&self, is_open: bool, answers: u64) {
+        self.asked.store(0, SeqCst);
+        self.open.store(u64::from(is_open), SeqCst);
+        self.answers.store(answers, SeqCst);
+    }
+
+    // Counts a call, and waits until the line is open, for ten seconds at most.
+    fn call<R: Clock>(&self, rt: &R) {
+        self.asked.fetch_add(1, SeqCst);
+        let _ = waited(rt, &self.open, 1);
+    }
+}
+
+/// Waits, for ten seconds at most, until the word is so much; whether it is.
+pub fn waited<R: Clock>(rt: &R, word: &AtomicU64, wanted: u64) -> bool {
+    for _ in 0..5000 {
+        if word.load(SeqCst) >= wanted {
+            return true;
+        }
+        thread::sleep(rt, Duration::from_millis(2));
+    }
+    false
+}
+
+/// Answers the backends 1.0.0.1:80 to 1.0.0.3:80 and 2.0.0.1:80 to 2.0.0.3:80 in turn, or what its line says.
+#[derive(Drop)]
+pub struct InTurn<R> {
+    rt: R,
+    line: Arc<Line>,
+    turn: AtomicU64,
+}
+
+const FIRST: [&str; 3] = ["1.0.0.1:80", "1.0.0.2:80", "1.0.0.3:80"];
+
+const SECOND: [&str; 3] = ["2.0.0.1:80", "2.0.0.2:80", "2.0.0.3:80"];
+
+/// Backends of weight 1 at these addresses.
+pub fn listed(alloc: Global, texts: &[&str]) -> Result<BTreeSet<Backend>, Refusal> {
+    let mut set = BTreeSet::new(alloc);
+    for text in texts {
+        set.insert(Backend::new(alloc, *text)?)?;
+    }
+    Ok(set)
+}
+
+// Two backends whose weights are more than 64 bits hold.
+fn heavy(alloc: Global) -> Result<BTreeSet<Backend>, Refusal> {
+    let mut set = listed(alloc, &["3.0.0.2:80"])?;
+    set.insert(Backend::new_with_weight(alloc, "3.0.0.1:80", usize::MAX)?)?;
+    Ok(set)
+}
+
+impl<R: Clock> ServiceDiscovery for InTurn<R> {
+    fn discover(&self, alloc: Global) -> Result<Discovered, Refusal> {
+        let turn = self.turn.fetch_add(1, SeqCst);
+        self.line.call(&self.rt);
+        let set = match self.line.answers.load(SeqCst) {
+            FAULT => return Err(Refusal::Discovery),
+            HEAVY => heavy(alloc)?,
+            _ if turn % 2 == 0 => listed(alloc, &FIRST)?,
+            _ => listed(alloc, &SECOND)?,
+        };
+        Ok((set, Settings::new(alloc)))
+    }
+}
+
+/// Whether a backend is the second of what is found in turn.
+pub fn is_second(backend: &Backend) -> bool {
+    match &backend.addr {
+        SocketAddr::Inet(InetAddr::V4([_, 0, 0, 2], 80)) => true,
+        _ => false,
+    }
+}
+
+/// A check that finds the second backend down.
+#[derive(Drop)]
+pub struct SecondDown<R> {
+    rt: R,
+    line: Arc<Line>,
+}
+
+impl<R: Clock> HealthCheck for SecondDown<R> {
+    ghost threshold = { λ _ _. 1 };
+
+    fn check(&self, _alloc: Global, target: &Backend) -> Result<(), CheckError> {
+        self.line.call(&self.rt);
+        if is_second(target) {
+            return Err(CheckError::Connect);
+        }
+        Ok(())
+    }
+
+    fn health_threshold(&self, _success: bool) -> usize {
+        1
+    }
+}
+
+/// The balancer of the tests.
+pub type Tested<S, R> = LoadBalancer<S, InTurn<R>, Rule<NoRule>, SecondDown<R>>;
+
+/// A balancer, and the lines to its discovery and to its check, once that is set.
+#[derive(Drop)]
+pub struct Bench<S: BackendSelection, R> {
+    pub alloc: Global,
+    pub line: Arc<Line>,
+    pub checks: Arc<Line>,
+    pub balancer: Tested<S, R>,
+}
+
+impl<S: BackendSelection, R: Wait + Clock + Copy + Drop> Bench<S, R> {
+    /// Over the discovery in turn; nothing is found yet, and both lines are open.
+    pub fn new(rt: &R, alloc: Global) -> Result<Bench<S, R>, Refusal> {
+        let line = Arc::new(alloc, Line::new())?;
+        let discovery = InTurn {
+            rt: *rt,
+            line: Arc::try_clone(&line)?,
+            turn: AtomicU64::new(0),
+        };
+        let backends = Backends::new(alloc, DiscoverySource::Boxed(discovery))?;
+        Ok(Bench {
+            alloc,
+            line,
+            checks: Arc::new(alloc, Line::new())?,
+            balancer: LoadBalancer::from_backends(rt, alloc, backends)?,
+        })
+    }
+
+    /// Sets the check.
+    pub fn set_check(&self, rt: &R) -> Result<(), Refusal> {
+        let check = SecondDown {
+            rt: *rt,
+            line: Arc::try_clone(&self.checks)?,
+        };
+        self.balancer.set_health_check(rt, check)
+    }
+
+    /// Updates so many times, by a clock whose first reading is 0.
+    pub fn update(&self, rt: &R, times: u64) -> Result<(), Refusal> {
+        let mut clock = Ticks { next: 0, step: 5 };
+        for _ in 0..times {
+            self.balancer.update(rt, self.alloc, &mut clock)?;
+        }
+        Ok(())
+    }
+
+    /// Notes what is selected of so many candidates.
+    pub fn note(&self, rt: &R, limit: usize, text: &mut String) -> Result<(), Refusal> {
+        let found = self.balancer.select(rt, self.alloc, b"k", limit)?;
+        note(text, &found)
+    }
+}
+
+/// Notes a selected backend.
+pub fn note(text: &mut String, found: &Option<Backend>) -> Result<(), Refusal> {
+    match found {
+        Some(backend) => write!(text, " {backend}")?,
+        None => write!(text, " none")?,
+    }
+    Ok(())
+}

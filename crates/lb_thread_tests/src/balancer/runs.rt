@@ -1,0 +1,218 @@
+//! Balancers that run in the background, while another thread opens what they wait for or tells them to end.
+use crate::balancer::fixtures::{Bench, FAULT, ROWS, waited};
+use crate::ends::{Ends, send_end};
+use crate::service_fixtures::Ticks;
+use lb_background::ready::{ReadyWatch, ServiceReadyNotifier};
+use lb_background::shutdown::{ShutdownSignal, ShutdownWatch};
+use lb_select::selection::RoundRobin;
+use lb_select_base::backend::Backend;
+use lb_select_base::refusal::Refusal;
+use log::sink::Locked;
+use log::{Level, Log, Logged};
+use std::process::Abort;
+use std::sync::Wait;
+use std::sync::atomic::Ordering::SeqCst;
+use std::test::Fail;
+use std::thread;
+use std::thread::{Threads, join};
+use std::time::{Clock, Duration};
+
+// What happens to a run.
+#[derive(Clone, Copy, Debug, PartialEq, Eq)]
+enum Case {
+    // Services are to end before it begins.
+    Ended,
+    // The discovery has a fault, and the run is done.
+    Refused,
+    // The discovery has a fault until it was asked twice, and services are to end once something is served.
+    Mended,
+    // The discovery waits; then the run is done.
+    Waits,
+    // The discovery waits, and services are to end meanwhile.
+    EndedInUpdate,
+    // The check waits, and services are to end meanwhile.
+    EndedInCheck,
+}
+
+// What the thread beside the run saw: whether what it waited for came, by how much the generation had risen, and whether the run's notifier
+// was told.
+type Told = (bool, u64, bool);
+
+// What is there after the run: by how much the generation has risen, whether a member isn't ready, how often discovery and check were asked,
+// and whether the notifier was told.
+type Left = (u64, bool, u64, u64, bool);
+
+// Sets up the bench for a run.
+fn begin<R: Wait + Clock + Copy + Drop>(
+    rt: &R,
+    bench: &mut Bench<RoundRobin, R>,
+    case: Case,
+) -> Result<(), Refusal> {
+    let waits = case == Case::Waits || case == Case::EndedInUpdate;
+    let has_fault = case == Case::Refused || case == Case::Mended;
+    let goes_on = case == Case::Mended || case == Case::EndedInUpdate || case == Case::EndedInCheck;
+    bench
+        .line
+        .begin(!waits, if has_fault { FAULT } else { ROWS });
+    bench.balancer.update_frequency = if goes_on { Some(10) } else { None };
+    if case == Case::EndedInCheck {
+        bench.balancer.health_check_frequency = Some(10);
+        bench.checks.begin(false, ROWS);
+        bench.set_check(rt)?;
+    }
+    Ok(())
+}
+
+// By how much the generation has risen.
+fn risen<R: Wait + Clock + Copy + Drop>(rt: &R, bench: &Bench<RoundRobin, R>, first: u64) -> u64 {
+    bench.balancer.backend_generation(rt).wrapping_sub(first)
+}
+
+// Waits, for ten seconds at most, until the generation has risen; whether it has.
+fn rises<R: Wait + Clock + Copy + Drop>(rt: &R, bench: &Bench<RoundRobin, R>, first: u64) -> bool {
+    for _ in 0..5000 {
+        if risen(rt, bench, first) > 0 {
+            return true;
+        }
+        thread::sleep(rt, Duration::from_millis(2));
+    }
+    false
+}
+
+// What the thread beside a run does: it waits until discovery or check is asked, looks, and opens its line; in most cases it sends the end.
+fn tells<R: Wait + Clock + Copy + Drop>(
+    rt: &R,
+    bench: &Bench<RoundRobin, R>,
+    case: Case,
+    first: u64,
+    signal: &mut Option<ShutdownSignal>,
+    ready: &ReadyWatch,
+) -> Told {
+    let (line, wanted) = match case {
+        Case::Ended | Case::Refused => return (true, 0, false),
+        Case::Mended => (&*bench.line, 2),
+        Case::Waits | Case::EndedInUpdate => (&*bench.line, 1),
+        Case::EndedInCheck => (&*bench.checks, 1),
+    };
+    let came = waited(rt, &line.asked, wanted);
+    let (before, was_ready) = (risen(rt, bench, first), ready.is_ready());
+    line.answers.store(ROWS, SeqCst);
+    let is_served = case != Case::Mended || rises(rt, bench, first);
+    if case != Case::Waits {
+        send_end(signal);
+    }
+    line.open.store(1, SeqCst);
+    (came && is_served, before, was_ready)
+}
+
+// Runs by a clock that goes on by five at each reading.
+fn runs<R: Wait + Clock + Copy + Send + Sync + Drop, W: Log + Threads + Wait + Sync>(
+    logged: &W,
+    bench: &Bench<RoundRobin, R>,
+    watch: &ShutdownWatch,
+    notifier: Option<ServiceReadyNotifier>,
+) {
+    let mut clock = Ticks { next: 0, step: 5 };
+    bench
+        .balancer
+        .run(logged, bench.alloc, &mut clock, watch, notifier);
+}
+
+// What a run left.
+fn left<R: Wait + Clock + Copy + Drop>(
+    rt: &R,
+    bench: &Bench<RoundRobin, R>,
+    first: u64,
+    ready: &ReadyWatch,
+) -> Left {
+    let unready = |_: &Backend, ready: bool| !ready;
+    let is_down = match bench
+        .balancer
+        .select_with(rt, bench.alloc, b"k", 9, &unready)
+    {
+        Ok(found) => found.is_some(),
+        Err(_) => false,
+    };
+    (
+        risen(rt, bench, first),
+        is_down,
+        bench.line.asked.load(SeqCst),
+        bench.checks.asked.load(SeqCst),
+        ready.is_ready(),
+    )
+}
+
+// A run, and the thread beside it.
+fn run_beside<
+    R: Threads + Wait + Clock + Copy + Send + Sync + Drop,
+    W: Log + Threads + Wait + Sync,
+>(rt: &R, logged: &W, bench: &Bench<RoundRobin, R>, case: Case, ends: &mut Ends) -> (Told, Left) {
+    let first = bench.balancer.backend_generation(rt);
+    let notifier = ends.notifier.take();
+    let (signal, watch, ready) = (&mut ends.signal, &ends.watch, &ends.ready);
+    let (told, ()) = join(
+        rt,
+        move || tells(rt, bench, case, first, signal, ready),
+        move || runs(logged, bench, watch, notifier),
+    );
+    (told, left(rt, bench, first, &ends.ready))
+}
+
+// A case, with a signal and a notifier of its own.
+fn play<R: Threads + Wait + Clock + Copy + Send + Sync + Drop, W: Log + Threads + Wait + Sync>(
+    rt: &R,
+    logged: &W,
+    bench: &mut Bench<RoundRobin, R>,
+    case: Case,
+) -> Result<(Told, Left), Refusal> {
+    begin(rt, bench, case)?;
+    let mut ends = Ends::new(bench.alloc)?;
+    if case == Case::Ended {
+        send_end(&mut ends.signal);
+    }
+    Ok(run_beside(rt, logged, bench, case, &mut ends))
+}
+
+// A run that is to end before it begins updates nothing. A refused update is one too: the notifier is told, and the run that has no other one
+// ends by itself. The notifier is told after the first update and not before. An update that runs when services are to end is let end, and
+// then the run ends without telling its notifier. So is a pass of checks: each verdict stands, and then the run ends.
+fn rows<
+    R: Abort + Threads + Wait + Clock + Copy + Send + Sync + Drop,
+    W: Log + Threads + Wait + Sync,
+>(rt: &R, logged: &W, bench: &mut Bench<RoundRobin, R>) -> Result<(), Refusal> {
+    let rows: [(Case, (Told, Left)); 5] = [
+        (Case::Ended, ((true, 0, false), (0, false, 0, 0, false))),
+        (Case::Refused, ((true, 0, false), (0, false, 1, 0, true))),
+        (Case::Waits, ((true, 0, false), (1, false, 1, 0, true))),
+        (
+            Case::EndedInUpdate,
+            ((true, 0, false), (1, false, 1, 0, false)),
+        ),
+        (Case::EndedInCheck, ((true, 1, true), (1, true, 1, 3, true))),
+    ];
+    for (case, wanted) in rows {
+        let seen = play(rt, logged, bench, case)?;
+        assert_eq!(rt; seen, wanted, "{case:?}");
+        if case == Case::Refused {
+            let (told, _) = play(rt, logged, bench, Case::Mended)?;
+            assert_eq!(rt; told, (true, 0, true));
+        }
+    }
+    Ok(())
+}
+
+// Beside the rows: a refused update is logged, and the run goes on with the next one. One is refused in the case before that in which two are
+// or more.
+#[test]
+fn runs_end(rt: HostRuntime) -> Result<(), Fail> {
+    let sink = Locked::new(rt, Vec::new(rt.alloc()));
+    let logged = Logged::new(rt, Level::Debug, &sink);
+    let mut bench = Bench::new(&rt, rt.alloc())?;
+    rows(&rt, &logged, &mut bench)?;
+    let text = sink.into_inner();
+    let said = "[ERROR lb_balancer::run] load balancer update failed: Discovery\n\
+        [ERROR lb_balancer::run] load balancer update failed: Discovery\n\
+        [ERROR lb_balancer::run] load balancer update failed: Discovery\n";
+    assert!(rt; text.as_slice().starts_with(said.as_bytes()));
+    Ok(())
+}

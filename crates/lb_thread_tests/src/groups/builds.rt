@@ -1,0 +1,120 @@
+//! Workers of two groups on one gate: they build beside selections, one selector more than the slots at most, and end when their group
+//! does.
+use super::TURNS;
+use crate::counted::Counts;
+use crate::crowd::{Crowd, crowd_in, ends, is_free, select_one, serves};
+use lb_select_base::refusal::Refusal;
+use lb_threads_registry::clock::RuntimeClock;
+use log::Log;
+use std::alloc::Global;
+use std::process::Abort;
+use std::sync::Wait;
+use std::sync::atomic::Ordering::SeqCst;
+use std::thread;
+use std::thread::Threads;
+use std::time::{Clock, Duration};
+
+// Starts the workers of both groups; how many couldn't be started, and then again.
+fn start<W: Log + Threads + Wait + Clock + Copy + Send + Sync + Drop + 'static>(
+    rt: &W,
+    alloc: Global,
+    crowd: &Crowd<W>,
+) -> [usize; 4] {
+    let clock = RuntimeClock::new(*rt);
+    [
+        crowd.first.start_workers(alloc, clock),
+        crowd.second.start_workers(alloc, clock),
+        crowd.first.start_workers(alloc, clock),
+        crowd.second.start_workers(alloc, clock),
+    ]
+}
+
+// Whether so many builds begin within a thousand turns of ten milliseconds.
+fn begins<W: Clock>(counts: &Counts<W>, builds: u64) -> bool {
+    for _ in 0..TURNS {
+        if counts.begun.load(SeqCst) >= builds {
+            return true;
+        }
+        thread::sleep(&counts.rt, Duration::from_millis(10));
+    }
+    false
+}
+
+/// Four workers build what updates bring while four threads select and read, and then both groups are cancelled: no call is refused, each
+/// slot comes to serve the newest, and the workers end.
+pub fn served_in_a_crowd<
+    W: Abort + Log + Threads + Wait + Clock + Copy + Send + Sync + Drop + 'static,
+>(rt: &W, alloc: Global, crowd: &Crowd<W>) {
+    assert_eq!(rt; start(rt, alloc, crowd), [0; 4]);
+    let mut clock = RuntimeClock::new(*rt);
+    let (first, second) = (crowd.first.shared(), crowd.second.shared());
+    let mut holds = crowd_in(rt, alloc, first, second, 2000, 50, &mut clock);
+    for group in crowd.groups() {
+        for slot in 0..2 {
+            holds = holds && serves(rt, group, slot, 50, TURNS);
+        }
+        group.cancel(rt);
+        holds = holds && ends(rt, group, TURNS);
+    }
+    assert!(rt; holds);
+}
+
+/// A build of the first group that is held doesn't hold up a selection; once it goes on, what it built is served. Workers of groups that
+/// are let go end.
+pub fn selects_beside_a_build<
+    W: Abort + Log + Threads + Wait + Clock + Copy + Send + Sync + Drop + 'static,
+>(rt: &W, alloc: Global, crowd: &Crowd<W>) -> Result<(), Refusal> {
+    let [first, second] = crowd.groups();
+    crowd.site.counts.hold(true);
+    assert_eq!(rt; start(rt, alloc, crowd), [0; 4]);
+    let generation = crowd.first.update(alloc, &mut RuntimeClock::new(*rt))?;
+    let has_begun = begins(&crowd.site.counts, 5);
+    let beside = select_one(rt, alloc, first, 0)?;
+    crowd.site.counts.hold(false);
+    let is_served = serves(rt, first, 0, 1, TURNS);
+    let after = select_one(rt, alloc, first, 0)?;
+    first.let_go();
+    second.let_go();
+    let told = [
+        generation == 1,
+        has_begun,
+        beside.is_none(),
+        is_served,
+        after.is_some(),
+        ends(rt, first, TURNS),
+        ends(rt, second, TURNS),
+        is_free(rt, &crowd.site.gate),
+    ];
+    assert_eq!(rt; told, [true; 8]);
+    Ok(())
+}
+
+/// Both groups are cancelled while a build of the first is held: the build is let end and is not served, its worker stays until then, and
+/// the permit comes back.
+pub fn cancels_a_build<
+    W: Abort + Log + Threads + Wait + Clock + Copy + Send + Sync + Drop + 'static,
+>(rt: &W, alloc: Global, crowd: &Crowd<W>) -> Result<(), Refusal> {
+    let [first, second] = crowd.groups();
+    crowd.site.counts.hold(true);
+    assert_eq!(rt; start(rt, alloc, crowd), [0; 4]);
+    crowd.first.update(alloc, &mut RuntimeClock::new(*rt))?;
+    let has_begun = begins(&crowd.site.counts, 5);
+    crowd.first.cancel();
+    crowd.second.cancel();
+    let second_ends = ends(rt, second, TURNS);
+    let first_stays = first.worker_count() > 0;
+    let is_out = !is_free(rt, &crowd.site.gate);
+    crowd.site.counts.hold(false);
+    let told = [
+        has_begun,
+        second_ends,
+        first_stays,
+        is_out,
+        ends(rt, first, TURNS),
+        crowd.first.selector_generation(0) == Some(0),
+        is_free(rt, &crowd.site.gate),
+        crowd.site.counts.live.load(SeqCst) == 4,
+    ];
+    assert_eq!(rt; told, [true; 8]);
+    Ok(())
+}

@@ -1,0 +1,101 @@
+//! What handles of groups answer: before their first update, after it, and once a worker was missing.
+use super::TURNS;
+use crate::crowd::{Group, Handle};
+use lb_balancer_group::start::start_workers_by;
+use lb_select_base::backend::Backend;
+use lb_select_base::refusal::Refusal;
+use lb_threads_registry::clock::RuntimeClock;
+use log::Log;
+use std::alloc::Global;
+use std::process::Abort;
+use std::sync::Wait;
+use std::sync::atomic::AtomicU64;
+use std::sync::atomic::Ordering::SeqCst;
+use std::thread;
+use std::thread::Threads;
+use std::time::{Clock, Duration};
+
+// What a handle answers before its first update.
+fn fresh<W: Wait + Clock + Copy + Drop>(
+    alloc: Global,
+    group: &Handle<W>,
+) -> Result<[bool; 8], Refusal> {
+    Ok([
+        group.selector_count() == 2,
+        group.worker_count() == 0,
+        group.backend_generation() == 0,
+        group.selectors_ready_for(0),
+        !group.selectors_ready_for(1),
+        group.selector_generation(2).is_none(),
+        group.last_update_timing().is_none(),
+        group.select(alloc, 0, b"k", 4)?.is_none(),
+    ])
+}
+
+// What the lent backends of a handle tell before its first update, after it, and once a flag is set.
+fn lent<W: Wait + Clock + Copy + Drop>(
+    rt: &W,
+    alloc: Global,
+    group: &Handle<W>,
+) -> Result<[bool; 8], Refusal> {
+    let backends = group.backends();
+    let one = Backend::new(alloc, "1.0.0.1:80")?;
+    let other = Backend::new(alloc, "1.0.0.2:80")?;
+    let before = (backends.generation(), backends.ready(&one));
+    let generation = group.update(alloc, &mut RuntimeClock::new(*rt))?;
+    let members = backends.get_backend()?;
+    let is_ready = backends.ready(&one);
+    backends.set_enable(&one, false);
+    Ok([
+        before == (0, false),
+        generation == 1,
+        backends.generation() == 1,
+        members.len() == 1 && members.contains(&one),
+        is_ready,
+        !backends.ready(&one),
+        !backends.ready(&other),
+        group.select(alloc, 0, b"k", 4)?.is_none(),
+    ])
+}
+
+/// A new handle tells that nothing was updated; its backends are read and marked without workers. It isn't cancelled.
+pub fn without_workers<W: Abort + Wait + Clock + Copy + Drop>(
+    rt: &W,
+    alloc: Global,
+    group: &Handle<W>,
+) -> Result<(), Refusal> {
+    assert_eq!(rt; fresh(alloc, group)?, [true; 8]);
+    assert_eq!(rt; lent(rt, alloc, group)?, [true; 8]);
+    assert!(rt; !group.is_cancelled());
+    Ok(())
+}
+
+// Whether each slot of a group serves its newest generation within a thousand turns of ten milliseconds.
+fn becomes_ready<W: Wait + Clock + Copy + Drop>(rt: &W, group: &Handle<W>) -> bool {
+    for _ in 0..TURNS {
+        if group.selectors_ready_for(group.backend_generation()) {
+            return true;
+        }
+        thread::sleep(rt, Duration::from_millis(10));
+    }
+    false
+}
+
+/// A worker that couldn't be started, the first that is asked for, is counted, and its slot waits; the next start answers 0, and the slot
+/// is served.
+pub fn starts_but_one<
+    W: Abort + Log + Threads + Wait + Clock + Copy + Send + Sync + Drop + 'static,
+>(rt: &W, alloc: Global, group: &Handle<W>) -> Result<(), Refusal> {
+    let mut clock = RuntimeClock::new(*rt);
+    group.update(alloc, &mut clock)?;
+    let asked = AtomicU64::new(0);
+    let starts = |_slot: usize| asked.fetch_add(1, SeqCst) != 0;
+    let shared: &Group<W> = &**group.shared();
+    let missing = start_workers_by(shared, &starts);
+    // The second slot counts as one with a worker, though none runs here.
+    shared.leave_slot(1);
+    let started = [missing, group.start_workers(alloc, clock)];
+    assert_eq!(rt; started, [1, 0]);
+    assert!(rt; becomes_ready(rt, group));
+    Ok(())
+}

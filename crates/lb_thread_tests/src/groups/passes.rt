@@ -1,0 +1,122 @@
+//! A pass over a group whose workers are started: what is told of its first update before that and after it, by the group's handle.
+ghost use Rattle.std.specs.Prelude.{◌≡◌};
+ghost use Rattle.std.specs.Arc.{arc_value};
+
+use super::TURNS;
+use crate::crowd::Handle;
+use lb_rebuild::board::GroupPass;
+use lb_select_base::backend::Backend;
+use lb_select_base::refusal::Refusal;
+use lb_threads_registry::clock::RuntimeClock;
+use log::Log;
+use std::alloc::Global;
+use std::process::Abort;
+use std::sync::Wait;
+use std::thread;
+use std::thread::Threads;
+use std::time::{Clock, Duration};
+
+// What is told of the first update while no worker runs.
+fn told_before<W: Wait + Clock + Copy + Drop>(
+    rt: &W,
+    alloc: Global,
+    group: &Handle<W>,
+) -> Result<[bool; 5], Refusal> {
+    let mut pass = group.pass();
+    let generation = group.update_as(alloc, &mut RuntimeClock::new(*rt), &mut pass)?;
+    Ok([
+        generation == 1,
+        group.backend_generation_as(&mut pass) == 1,
+        group.selector_generation_as(0, &mut pass) == Some(0),
+        !group.selectors_ready_for_as(1, &mut pass),
+        group.selector_generation_as(7, &mut pass).is_none(),
+    ])
+}
+
+// Whether each slot serves generation 1 to a pass, within a thousand turns of ten milliseconds.
+fn comes_to_serve<W: Wait + Clock + Copy + Drop>(
+    rt: &W,
+    group: &Handle<W>,
+    pass: &mut GroupPass,
+) -> bool
+    requires { pass.old.board ≡ (arc_value group.now.shared).board }
+    ensures { pass.new.board ≡ (arc_value group.now.shared).board }
+{
+    for _ in 0..TURNS {
+        if group.selectors_ready_for_as(1, pass) {
+            return true;
+        }
+        thread::sleep(rt, Duration::from_millis(10));
+    }
+    false
+}
+
+// The generation of a reader that enters slot 0 and leaves again, and what it selects.
+fn entered<W: Wait + Clock + Copy + Drop>(
+    alloc: Global,
+    group: &Handle<W>,
+    pass: &mut GroupPass,
+) -> Result<(u64, Option<Backend>), Refusal>
+    requires { pass.old.board ≡ (arc_value group.now.shared).board }
+{
+    let reader = group.enter_as(0, pass)?;
+    let generation = reader.generation();
+    let answer = group.select_in(alloc, &reader, b"k", 1, &|_backend: &Backend| true);
+    group.leave(reader);
+    Ok((generation, answer?))
+}
+
+// What passes are told once the workers run: by one that waits for it, and by one that meets that. What a reader selects then.
+fn told_after<W: Wait + Clock + Copy + Drop>(
+    rt: &W,
+    alloc: Global,
+    group: &Handle<W>,
+    expected: &Backend,
+) -> Result<[bool; 5], Refusal> {
+    let (mut pass, mut other) = (group.pass(), group.pass());
+    let serves = comes_to_serve(rt, group, &mut pass);
+    let served = group.selector_generation_as(0, &mut pass);
+    group.meet(&mut pass, &mut other);
+    let is_met = group.selectors_ready_for_as(1, &mut other);
+    let (generation, chosen) = entered(alloc, group, &mut other)?;
+    Ok([
+        serves,
+        served == Some(1),
+        is_met,
+        generation == 1,
+        chosen.as_ref() == Some(expected),
+    ])
+}
+
+// What a handle answers once its workers served an update: what it selects from each slot and from one that isn't there, and its timings.
+fn served<W: Wait + Clock + Copy + Drop>(
+    alloc: Global,
+    group: &Handle<W>,
+    expected: &Backend,
+) -> Result<[bool; 7], Refusal> {
+    let first = group.select(alloc, 0, b"k", 4)?;
+    let second = group.select(alloc, 1, b"k", 4)?;
+    Ok([
+        group.selectors_ready_for(group.backend_generation()),
+        first.as_ref() == Some(expected),
+        second.as_ref() == Some(expected),
+        group.select(alloc, 2, b"k", 4)?.is_none(),
+        matches!(group.selector_last_update_timing(0), Some(Some(_))),
+        matches!(group.last_update_timing(), Some(timing) if timing.build_duration == 0),
+        !group.is_cancelled(),
+    ])
+}
+
+/// An update is told to its pass at once, and what the slots serve once the workers have published, which serve what was found.
+pub fn with_workers<W: Abort + Log + Threads + Wait + Clock + Copy + Send + Sync + Drop + 'static>(
+    rt: &W,
+    alloc: Global,
+    group: &Handle<W>,
+) -> Result<(), Refusal> {
+    let expected = Backend::new(alloc, "1.0.0.1:80")?;
+    assert_eq!(rt; told_before(rt, alloc, group)?, [true; 5]);
+    assert_eq!(rt; group.start_workers(alloc, RuntimeClock::new(*rt)), 0);
+    assert_eq!(rt; told_after(rt, alloc, group, &expected)?, [true; 5]);
+    assert_eq!(rt; served(alloc, group, &expected)?, [true; 7]);
+    Ok(())
+}

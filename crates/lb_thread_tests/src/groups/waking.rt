@@ -1,0 +1,177 @@
+//! Readers of selectors that are retired: only the last one that leaves wakes the worker, and it does so at once.
+ghost use Rattle.std.specs.Prelude.{◌≡◌};
+
+use super::TURNS;
+use crate::crowd::{Crowd, is_free, one_backend, serves};
+use lb_health_check::health_check::HealthCheck;
+use lb_health_registry::keys::KeyRule;
+use lb_rebuild::board::GroupPass;
+use lb_select_base::moments::MomentSource;
+use lb_select_base::refusal::Refusal;
+use lb_select_base::walk::BackendSelection;
+use lb_threads_group::group::SharedGroup;
+use lb_threads_registry::clock::RuntimeClock;
+use lb_threads_registry::gate::SelectorRebuildGate;
+use log::Log;
+use std::alloc::Global;
+use std::process::Abort;
+use std::sync::Wait;
+use std::thread;
+use std::thread::Threads;
+use std::time::{Clock, Duration};
+
+// How often a slot is looked at, each ten milliseconds apart, that is served by a worker which was woken: one that was not sleeps for a
+// second.
+const WOKEN: u64 = 50;
+
+// In nanoseconds.
+const THREE_SECONDS: u128 = 3_000_000_000;
+
+// Updates a group to a backend of that weight.
+fn update<S: BackendSelection, R: KeyRule + Drop, C: HealthCheck + Drop, W: Wait + Clock + Copy>(
+    rt: &W,
+    alloc: Global,
+    group: &SharedGroup<S, R, C>,
+    weight: usize,
+) -> Result<u64, Refusal> {
+    let discovery = one_backend(alloc, weight)?;
+    group.update(rt, alloc, &discovery, &mut RuntimeClock::new(*rt))
+}
+
+// Updates a group; whether slot 0 comes to serve the generation.
+fn comes_to<S: BackendSelection, R: KeyRule + Drop, C: HealthCheck + Drop, W: Wait + Clock + Copy>(
+    rt: &W,
+    alloc: Global,
+    group: &SharedGroup<S, R, C>,
+    weight: usize,
+) -> Result<bool, Refusal> {
+    let generation = update(rt, alloc, group, weight)?;
+    Ok(serves(rt, group, 0, generation, TURNS))
+}
+
+// What slot 0 serves once it was updated under two readers, and was to be again, and one of the two has left: whether it serves what was
+// built under both, nobody was woken since, and the permit is out.
+fn one_leaves<
+    S: BackendSelection,
+    R: KeyRule + Drop,
+    C: HealthCheck + Drop,
+    W: Wait + Clock + Copy,
+>(
+    rt: &W,
+    alloc: Global,
+    group: &SharedGroup<S, R, C>,
+    gate: &SelectorRebuildGate,
+    pass: &mut GroupPass,
+) -> Result<[bool; 4], Refusal>
+    requires { pass.old.board ≡ group.now.board }
+{
+    let reader = group.enter_as(rt, 0, pass)?;
+    let is_retired = comes_to(rt, alloc, group, 2);
+    let due = update(rt, alloc, group, 1);
+    thread::sleep(rt, Duration::from_millis(20));
+    let seen = group.wakes().seen();
+    group.leave(rt, reader);
+    thread::sleep(rt, Duration::from_millis(20));
+    Ok([
+        is_retired? && due? == 3,
+        group.wakes().seen() == seen,
+        group.selector_generation(rt, 0) == Some(2),
+        !is_free(rt, gate),
+    ])
+}
+
+// The same, and then the other one leaves.
+fn both_leave<
+    S: BackendSelection,
+    R: KeyRule + Drop,
+    C: HealthCheck + Drop,
+    W: Wait + Clock + Copy,
+>(
+    rt: &W,
+    alloc: Global,
+    group: &SharedGroup<S, R, C>,
+    gate: &SelectorRebuildGate,
+) -> Result<[bool; 4], Refusal> {
+    let mut pass = group.pass();
+    let reader = group.enter_as(rt, 0, &mut pass)?;
+    let told = one_leaves(rt, alloc, group, gate, &mut pass);
+    group.leave(rt, reader);
+    told
+}
+
+/// Two readers are in a selector that is retired, and a rebuild is due. The first that leaves wakes nobody; once both have left, the
+/// rebuild comes at once.
+pub fn last_reader_wakes<
+    W: Abort + Log + Threads + Wait + Clock + Copy + Send + Sync + Drop + 'static,
+>(rt: &W, alloc: Global, crowd: &Crowd<W>) -> Result<(), Refusal> {
+    let [group, _] = crowd.groups();
+    let missing = crowd.first.start_workers(alloc, RuntimeClock::new(*rt));
+    assert!(rt; missing == 0 && comes_to(rt, alloc, group, 1)?);
+    let told = both_leave(rt, alloc, group, &crowd.site.gate)?;
+    assert_eq!(rt; told, [true; 4]);
+    assert!(rt; serves(rt, group, 0, 3, WOKEN));
+    assert!(rt; serves(rt, group, 1, 3, WOKEN));
+    Ok(())
+}
+
+// A reader that is in a slot while it is updated to that weight, and stays for a millisecond in what is retired then; whether it was. The
+// slot serves the newest generation before: a build of an older one that came meanwhile would wait for this reader with the permit out.
+fn stays<S: BackendSelection, R: KeyRule + Drop, C: HealthCheck + Drop, W: Wait + Clock + Copy>(
+    rt: &W,
+    alloc: Global,
+    group: &SharedGroup<S, R, C>,
+    slot: usize,
+    weight: usize,
+) -> Result<bool, Refusal> {
+    let mut pass = group.pass();
+    let newest = group.backend_generation_as(&mut pass);
+    if !serves(rt, group, slot, newest, TURNS) {
+        return Ok(false);
+    }
+    let reader = group.enter_as(rt, slot, &mut pass)?;
+    let told = update(rt, alloc, group, weight);
+    let is_retired = match &told {
+        Ok(generation) => serves(rt, group, slot, *generation, TURNS),
+        Err(_) => false,
+    };
+    thread::sleep(rt, Duration::from_millis(1));
+    group.leave(rt, reader);
+    told?;
+    Ok(is_retired)
+}
+
+// Eight readers that stay so, in the slots by turns; whether each did.
+fn eight_stay<
+    S: BackendSelection,
+    R: KeyRule + Drop,
+    C: HealthCheck + Drop,
+    W: Wait + Clock + Copy,
+>(rt: &W, alloc: Global, group: &SharedGroup<S, R, C>) -> Result<bool, Refusal> {
+    for weight in 1..5 {
+        if !stays(rt, alloc, group, 0, weight)? || !stays(rt, alloc, group, 1, weight + 10)? {
+            return Ok(false);
+        }
+    }
+    Ok(true)
+}
+
+/// Eight readers, one after another, stay for a millisecond in what their slot retired, and hold up the next rebuild of both slots until
+/// then: all are served within three seconds. Workers that nobody wakes would take seven.
+pub fn rebuilds_go_on<
+    W: Abort + Log + Threads + Wait + Clock + Copy + Send + Sync + Drop + 'static,
+>(rt: &W, alloc: Global, crowd: &Crowd<W>) -> Result<(), Refusal> {
+    let [group, _] = crowd.groups();
+    let mut clock = RuntimeClock::new(*rt);
+    let missing = crowd.first.start_workers(alloc, clock);
+    let begun = clock.now();
+    let have_stayed = eight_stay(rt, alloc, group)?;
+    let told = [
+        missing == 0,
+        have_stayed,
+        serves(rt, group, 0, 8, TURNS),
+        serves(rt, group, 1, 8, TURNS),
+        clock.now().saturating_sub(begun) < THREE_SECONDS,
+    ];
+    assert_eq!(rt; told, [true; 5]);
+    Ok(())
+}

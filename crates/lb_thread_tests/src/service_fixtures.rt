@@ -1,0 +1,140 @@
+//! A clock, a check and a service for the tests of services.
+ghost use Rattle.std.specs.Prelude.{◌≡◌};
+
+use crate::ends::Ends;
+use lb_background::service::HealthCheckService;
+use lb_background::shutdown::ShutdownWatch;
+use lb_health_check::error::CheckError;
+use lb_health_check::health_check::HealthCheck;
+use lb_health_registry::keys::Rule;
+use lb_select_base::backend::Backend;
+use lb_select_base::moments::MomentSource;
+use lb_select_base::refusal::Refusal;
+use lb_threads_registry::keyed::{KeyedRegistry, NoRule, keyed_by_identity};
+use lb_threads_registry::registry::HealthRegistry;
+use std::alloc::Global;
+use std::collections::BTreeSet;
+use std::sync::atomic::AtomicU64;
+use std::sync::atomic::Ordering::SeqCst;
+use std::sync::{Arc, Wait};
+use std::thread;
+use std::time::{Clock, Duration};
+
+/// A clock that goes on by so many nanoseconds at each reading.
+#[derive(Drop)]
+pub struct Ticks {
+    pub next: u128,
+    pub step: u128,
+}
+
+impl MomentSource for Ticks {
+    ghost reads = { λ s m _. m ≡ s.next };
+
+    fn now(&mut self) -> u128 {
+        let moment = self.next;
+        self.next = moment.saturating_add(self.step);
+        moment
+    }
+}
+
+/// A check that finds every backend down. It counts its checks; with a watch, each waits, for a thousand milliseconds at most, until
+/// that tells that services are to end.
+#[derive(Drop)]
+pub struct Down<R> {
+    pub rt: R,
+    pub checks: Arc<AtomicU64>,
+    pub until: Option<ShutdownWatch>,
+}
+
+impl<R: Clock> HealthCheck for Down<R> {
+    ghost threshold = { λ _ _. 1 };
+
+    fn check(&self, _alloc: Global, _target: &Backend) -> Result<(), CheckError> {
+        self.checks.fetch_add(1, SeqCst);
+        if let Some(watch) = &self.until {
+            for _ in 0..1000 {
+                if watch.is_shut() {
+                    break;
+                }
+                thread::sleep(&self.rt, Duration::from_millis(1));
+            }
+        }
+        Err(CheckError::Connect)
+    }
+
+    fn health_threshold(&self, _success: bool) -> usize {
+        1
+    }
+}
+
+/// A registry with a check of this type.
+pub type Checked<R> = HealthRegistry<Rule<NoRule>, Down<R>>;
+
+/// A registry with a view, its first, of the backend 1.0.0.1:80/1 or of none.
+pub fn registry_of(alloc: Global, is_empty: bool) -> Result<KeyedRegistry, Refusal> {
+    let mut registry = keyed_by_identity(alloc);
+    let id = registry.register_view(alloc)?;
+    if !is_empty {
+        registry.update_view(alloc, id, one_backend(alloc)?)?;
+    }
+    Ok(registry)
+}
+
+/// A service over a registry, the count of the registry's checks, and the ends of what tells it to end and of what it notifies.
+#[derive(Drop)]
+pub struct ServiceBench<R> {
+    pub service: HealthCheckService<Rule<NoRule>, Down<R>>,
+    pub registry: Arc<Checked<R>>,
+    pub checks: Arc<AtomicU64>,
+    pub ends: Ends,
+}
+
+impl<R: Wait + Clock + Copy + Send + Sync + Drop> ServiceBench<R> {
+    /// Over this registry, which has no check yet.
+    pub fn new(alloc: Global, registry: KeyedRegistry) -> Result<ServiceBench<R>, Refusal> {
+        let registry: Arc<Checked<R>> = Arc::new(alloc, HealthRegistry::over(alloc, registry)?)?;
+        let service = HealthCheckService::new(Arc::try_clone(&registry)?);
+        Ok(ServiceBench {
+            service,
+            registry,
+            checks: Arc::new(alloc, AtomicU64::new(0))?,
+            ends: Ends::new(alloc)?,
+        })
+    }
+
+    /// Sets the registry's check, which waits until services are to end or doesn't.
+    pub fn set_check(&self, rt: &R, waits: bool) -> Result<(), Refusal> {
+        let checks = Arc::try_clone(&self.checks)?;
+        let until = if waits {
+            Some(self.ends.watch.try_clone()?)
+        } else {
+            None
+        };
+        self.registry.set_health_check(
+            rt,
+            Down {
+                rt: *rt,
+                checks,
+                until,
+            },
+        )
+    }
+}
+
+/// The backend 1.0.0.1:80/1.
+pub fn one_backend(alloc: Global) -> Result<BTreeSet<Backend>, Refusal> {
+    let mut set = BTreeSet::new(alloc);
+    set.insert(Backend::new(alloc, "1.0.0.1:80")?)?;
+    Ok(set)
+}
+
+/// Waits, for a thousand milliseconds at most, until so many checks were counted; whether they were.
+pub fn counted<R: Clock>(rt: &R, checks: &AtomicU64, wanted: u64) -> bool {
+    for _ in 0..1000 {
+        if checks.load(SeqCst) >= wanted {
+            return true;
+        }
+        thread::sleep(rt, Duration::from_millis(1));
+    }
+    false
+}

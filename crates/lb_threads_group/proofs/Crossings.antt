@@ -1,0 +1,78 @@
+-- A group that threads share may be sent to a thread, and be shared by threads.
+use denote.RattleType.{RattleType}
+use denote.Struct.Declared.{shape}
+use denote.Param.Send.{IsSend, IsSync, sendable, view_send, view_sync, struct_send, struct_sync, recorded_send, recorded_sync}
+use Rattle.std.proofs.Crossing.{crosses}
+use Rattle.lb_select_base.specs.declared.walk.BackendSelection.{Ghosts as Selection}
+use Rattle.lb_select_base.specs.declared.walk.BackendIter.{Ghosts as Iter}
+use Rattle.lb_health_registry.specs.declared.keys.KeyRule.{Ghosts as Keys}
+use Rattle.lb_select_base.proofs.loads.Loads.TheSendSync as loads
+use Rattle.lb_threads_registry.proofs.lock.KeyedLock.TheSendSync as lock
+use Rattle.lb_rebuild.proofs.board.Board.TheSendSync as board
+use Rattle.lb_rebuild.specs.contracts.watched.Watched as watched
+use Rattle.lb_rebuild.proofs.Crossings.{watched_send}
+use Rattle.lb_threads_registry.proofs.registry.HealthRegistry.TheSendSync as registry
+use Rattle.lb_threads_registry.proofs.gate.SelectorRebuildGate.TheSendSync as gate
+use Rattle.lb_threads_group.proofs.group.SlotCounters.TheSendSync as line
+use Rattle.lb_threads_group.specs.contracts.group.SharedGroup as shared
+use Rattle.lb_threads_group.specs.contracts.group.SharedGroup.TheInside as inside
+
+module _ (T R H I C W : RattleType) (g : Selection T.Denot I.Denot C.Denot W.Denot) (h : Iter I.Denot) (k : Keys R.Denot) (s : IsSend T) (sc : IsSend C) (y : IsSync T) (yc : IsSync C) (sr : IsSend R) (yr : IsSync R) (sh : IsSend H) (yh : IsSync H) where
+  core_send : IsSend (watched.the_row T I C W g h)
+  core_send = watched_send T I C W g h s sc y yc
+
+  inside_send : IsSend (inside.the_row T R H I C W g h k)
+  inside_send = recorded_send (inside.the_field T R H I C W g h k).row _ _ (inside.the_type T R H I C W g h k).to_one
+      (struct_send (shape (inside.the_type T R H I C W g h k)) (
+        search (lock.the_field_send, core_send) depth 10,
+        (
+          search (sendable, crosses, board.the_send, board.the_sync) depth 20,
+          (
+            search (sendable, crosses, registry.the_send, registry.the_sync) depth 20,
+            (
+              search (sendable, crosses, gate.the_send, gate.the_sync) depth 20,
+              (
+                search (sendable, crosses) depth 20,
+                (
+                  search (sendable, crosses, loads.the_send) depth 20,
+                  (
+                    search (sendable, crosses) depth 20,
+                    (search (sendable, crosses, line.the_send) depth 20, (search (sendable, crosses) depth 20, tt)),
+                  ),
+                ),
+              ),
+            ),
+          ),
+        ),
+      ))
+
+  inside_sync : IsSync (inside.the_row T R H I C W g h k)
+  inside_sync = recorded_sync (inside.the_field T R H I C W g h k).row _ _ (inside.the_type T R H I C W g h k).to_one
+      (struct_sync (shape (inside.the_type T R H I C W g h k)) (
+        search (lock.the_field_sync, core_send) depth 10,
+        (
+          search (sendable, crosses, board.the_send, board.the_sync) depth 20,
+          (
+            search (sendable, crosses, registry.the_send, registry.the_sync) depth 20,
+            (
+              search (sendable, crosses, gate.the_send, gate.the_sync) depth 20,
+              (
+                search (sendable, crosses) depth 20,
+                (
+                  search (sendable, crosses, loads.the_send) depth 20,
+                  (
+                    search (sendable, crosses) depth 20,
+                    (search (sendable, crosses, line.the_sync) depth 20, (search (sendable, crosses) depth 20, tt)),
+                  ),
+                ),
+              ),
+            ),
+          ),
+        ),
+      ))
+
+  pub shared_send : IsSend (shared.the_row T R H I C W g h k)
+  shared_send = view_send _ _ _ _ _ inside_send
+
+  pub shared_sync : IsSync (shared.the_row T R H I C W g h k)
+  shared_sync = view_sync _ _ _ _ _ inside_sync

@@ -1,0 +1,4 @@
+pub mod Sites
+pub mod Entries
+pub mod Crossings
+pub mod Releases

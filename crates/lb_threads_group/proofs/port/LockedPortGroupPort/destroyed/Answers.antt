@@ -1,0 +1,79 @@
+-- Where the report is taken, the registry lets the selector's snapshot go; some history stands behind the group that its lock gave.
+use Rattle.std.specs.Prelude.{Ok, Err, Result, refl}
+use Rattle.std.proofs.Common.{rules}
+use Rattle.lb_rebuild_slots.specs.Values.{PermitValue}
+use Rattle.lb_rebuild_group.specs.GroupCalls.{generation_at}
+use Rattle.lb_threads_registry.proofs.Histories.{at_site, later}
+use Rattle.lb_threads_group.proofs.Releases.{released_later}
+use Rattle.lb_threads_group.proofs.port.LockedPortGroupPort.destroyed.Goals as goal
+
+pub put-requires-2-clause-registry : goal.put-requires-2-clause-registry
+put-requires-2-clause-registry g c =
+    later c.take-cells.ensures.registry (released_later c.destroyed-told.result c.take-held.result.value.core
+    (λ made e. generation_at c.args.slot e) c.founded.ensures c.destroyed-told.ensures.registry)
+
+pub returns-in-Ok : goal.returns-in-Ok
+returns-in-Ok g c =
+    let is = c.in-Ok.ensures in
+    let told : Result (Unit {0}) PermitValue = Ok tt in
+    let v = c.take-held.result.value.core in (
+      (
+        told,
+        (
+          c.take-cells.result.value,
+          (
+            c.destroyed-told.new.registry,
+            (
+              at_site (search rules) c.take-cells.ensures.registry,
+              (
+                released_later told v (λ made e. generation_at c.args.slot e) c.founded.ensures is.registry,
+                (
+                  c.take-gate.result.value,
+                  (
+                    c.destroyed-told.new.gate,
+                    (
+                      search rules,
+                      (v, (c.destroyed-told.new.self.core, ((search rules, c.founded.ensures), (is.answers, is.stands, is.site, is.gate, is.registry)))),
+                    ),
+                  ),
+                ),
+              ),
+            ),
+          ),
+        ),
+      ),
+      refl,
+    )
+
+pub returns-in-Err : goal.returns-in-Err
+returns-in-Err g c =
+    let is = c.in-Err.ensures in
+    let told : Result (Unit {0}) PermitValue = Err c.in-Err.permit in
+    let v = c.take-held.result.value.core in (
+      (
+        told,
+        (
+          c.take-cells.result.value,
+          (
+            c.destroyed-told.new.registry,
+            (
+              at_site (search rules) c.take-cells.ensures.registry,
+              (
+                released_later told v (λ made e. generation_at c.args.slot e) c.founded.ensures is.registry,
+                (
+                  c.take-gate.result.value,
+                  (
+                    c.destroyed-told.new.gate,
+                    (
+                      search rules,
+                      (v, (c.destroyed-told.new.self.core, ((search rules, c.founded.ensures), (is.answers, is.stands, is.site, is.gate, is.registry)))),
+                    ),
+                  ),
+                ),
+              ),
+            ),
+          ),
+        ),
+      ),
+      refl,
+    )

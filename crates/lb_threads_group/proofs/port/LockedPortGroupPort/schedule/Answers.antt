@@ -1,0 +1,41 @@
+-- A membership that is scheduled is shown to the registry; some history stands behind the group that its lock gave.
+use Rattle.std.specs.Prelude.{refl}
+use Rattle.std.proofs.Common.{rules}
+use Rattle.lb_threads_registry.proofs.Histories.{at_site, later}
+use Rattle.lb_threads_group.proofs.Releases.{scheduled_later}
+use Rattle.lb_threads_group.proofs.port.LockedPortGroupPort.schedule.Goals as goal
+
+pub put-requires-clause-registry : goal.put-requires-clause-registry
+put-requires-clause-registry g c =
+    let is = c.schedule-told.ensures in
+    later c.take-cells.ensures.registry (scheduled_later c.schedule-told.result c.take-held.result.value.core c.args.discovered.keys
+    c.founded.ensures is.registry is.registry_err)
+
+pub returns : goal.returns
+returns g c =
+    let is = c.schedule-told.ensures in
+    let v = c.take-held.result.value.core in (
+      (
+        c.take-cells.result.value,
+        (
+          c.schedule-told.new.registry,
+          (
+            at_site (search rules) c.take-cells.ensures.registry,
+            (
+              scheduled_later c.schedule-told.result v c.args.discovered.keys c.founded.ensures is.registry is.registry_err,
+              (
+                v,
+                (
+                  c.schedule-told.new.self.core,
+                  (
+                    (search rules, c.founded.ensures),
+                    (is.answers, is.stands, is.registry, is.err, is.registry_err, is.unknown, is.numbers, is.missing, is.lacking, is.site),
+                  ),
+                ),
+              ),
+            ),
+          ),
+        ),
+      ),
+      refl,
+    )

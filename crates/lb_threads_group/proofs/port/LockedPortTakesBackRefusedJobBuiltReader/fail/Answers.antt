@@ -1,0 +1,80 @@
+-- Where the job is taken back, the registry lets its snapshot go; some history stands behind the group that its lock gave.
+use Rattle.std.specs.Prelude.{Ok, Err, Result, refl}
+use Rattle.std.proofs.Common.{sym, rules}
+use Rattle.lb_rebuild_slots.specs.Values.{Task}
+use Rattle.lb_threads_registry.proofs.Histories.{at_site, later}
+use Rattle.lb_threads_group.proofs.Releases.{released_later}
+use Rattle.lb_threads_group.proofs.port.LockedPortTakesBackRefusedJobBuiltReader.fail.Goals as goal
+
+pub put-requires-2-clause-registry : goal.put-requires-2-clause-registry
+put-requires-2-clause-registry g c =
+    later c.take-cells.ensures.registry (released_later c.fail-told.result c.take-held.result.value.core
+    (λ made e. c.into_job-job.result.generation) c.founded.ensures c.fail-told.ensures.registry)
+
+pub returns-in-Ok : goal.returns-in-Ok
+returns-in-Ok g c =
+    let is = c.in-Ok.ensures in
+    let told : Result (Unit {0}) (Task g.row.S-Config.Denot) = Ok tt in
+    let v = c.take-held.result.value.core in
+    rw (sym c.into_job-job.ensures) (
+      (
+        told,
+        (
+          c.take-cells.result.value,
+          (
+            c.fail-told.new.registry,
+            (
+              at_site (search rules) c.take-cells.ensures.registry,
+              (
+                released_later told v (λ made e. c.into_job-job.result.generation) c.founded.ensures is.registry,
+                (
+                  c.take-gate.result.value,
+                  (
+                    c.fail-told.new.gate,
+                    (
+                      search rules,
+                      (v, (c.fail-told.new.self.core, ((search rules, c.founded.ensures), (is.answers, is.stands, is.site, is.gate, is.registry)))),
+                    ),
+                  ),
+                ),
+              ),
+            ),
+          ),
+        ),
+      ),
+      refl,
+    )
+
+pub returns-in-Err : goal.returns-in-Err
+returns-in-Err g c =
+    let is = c.in-Err.ensures in
+    let told : Result (Unit {0}) (Task g.row.S-Config.Denot) = Err c.in-Err.job in
+    let v = c.take-held.result.value.core in
+    rw (sym c.into_job-job.ensures) (
+      (
+        told,
+        (
+          c.take-cells.result.value,
+          (
+            c.fail-told.new.registry,
+            (
+              at_site (search rules) c.take-cells.ensures.registry,
+              (
+                released_later told v (λ made e. c.into_job-job.result.generation) c.founded.ensures is.registry,
+                (
+                  c.take-gate.result.value,
+                  (
+                    c.fail-told.new.gate,
+                    (
+                      search rules,
+                      (v, (c.fail-told.new.self.core, ((search rules, c.founded.ensures), (is.answers, is.stands, is.site, is.gate, is.registry)))),
+                    ),
+                  ),
+                ),
+              ),
+            ),
+          ),
+        ),
+      ),
+      refl,
+    )

@@ -1,0 +1,56 @@
+//! The newest backends of a group that threads share: which they are, whether one is ready, and the flags that callers set.
+//! Each call takes the group's lock once.
+ghost use Rattle.std.specs.Prelude.{◌≡◌, Err, IfOk, OnErr};
+ghost use Rattle.std.specs.Arc.{arc_value};
+ghost use Rattle.lb_rebuild_group.specs.GroupHistory.{members_now};
+ghost use Rattle.lb_rebuild_group.specs.Stands.{After};
+ghost use Rattle.lb_threads_group.specs.Group.{NewestReadyUnder, Seen};
+
+use crate::group::SharedGroup;
+use lb_health_check::health_check::HealthCheck;
+use lb_health_registry::keys::KeyRule;
+use lb_select_base::backend::Backend;
+use lb_select_base::refusal::Refusal;
+use lb_select_base::walk::BackendSelection;
+use lb_threads_registry::registry::HealthRegistry;
+use std::collections::BTreeSet;
+use std::sync::{Arc, Wait};
+
+impl<S: BackendSelection, R: KeyRule + Drop, C: HealthCheck + Drop> SharedGroup<S, R, C> {
+    /// The membership of the newest generation. Refused `OutOfMemory` where std refuses one more owner.
+    pub fn get_backend<W: Wait>(&self, rt: &W) -> Result<Arc<BTreeSet<Backend>>, Refusal>
+        ensures members { IfOk result (λ set. Seen self.now.core (λ v. After v (λ made e. (arc_value set).keys ≡ members_now e))) }
+        ensures refused { OnErr result (result ≡ Err Refusal.OutOfMemory) }
+    {
+        let _gate = &self.gate;
+        let held = self.lock.take(rt);
+        let group = held.value.core();
+        group.founded();
+        let members = group.get_backend();
+        self.lock.put(held);
+        members
+    }
+
+    /// Whether a backend is ready in the newest membership. It takes the registry's lock too, and no memory.
+    pub fn ready<W: Wait>(&self, rt: &W, backend: &Backend) -> bool
+        ensures { NewestReadyUnder R.gives self.now backend.now result }
+    {
+        let _gate = &self.gate;
+        let registries: &HealthRegistry<R, C> = &*self.registry;
+        let held = self.lock.take(rt);
+        held.value.founded();
+        let registry = registries.take(rt);
+        let told = held.value.core().newest_ready(&registry.value, backend);
+        registries.put(registry);
+        self.lock.put(held);
+        told
+    }
+
+    /// Enables or disables a backend that a living snapshot lists, by identity; another is left alone. It takes no memory.
+    pub fn set_enable<W: Wait>(&self, rt: &W, backend: &Backend, enabled: bool) {
+        let _gate = &self.gate;
+        let mut held = self.lock.take(rt);
+        held.value.set_enable(backend, enabled);
+        self.lock.put(held);
+    }
+}

@@ -1,0 +1,302 @@
+//! A group that threads share, behind a lock of its own.
+//! Locks are taken in the order update, group, registry, gate, and but for that of an update none is held between two calls.
+ghost use Rattle.std.specs.Prelude.{◌≡◌, IfErr, IfOk};
+ghost use Rattle.std.specs.Arc.{arc_value};
+ghost use Rattle.lb_threads_group.specs.Group.{UpdatedUnder};
+ghost use Rattle.lb_threads_group.specs.Shared.{IsSame};
+
+use crate::port::LockedPort;
+use lb_balancer_core::source::BackendSource;
+use lb_balancer_core::update::update_through;
+use lb_health_check::health_check::HealthCheck;
+use lb_health_registry::keys::KeyRule;
+use lb_rebuild::board::Board;
+use lb_rebuild::watched::Watched;
+use lb_rebuild_group::group::GroupCore;
+use lb_select_base::backend::Backend;
+use lb_select_base::loads::Loads;
+use lb_select_base::moments::MomentSource;
+use lb_select_base::refusal::Refusal;
+use lb_select_base::walk::BackendSelection;
+use lb_threads_registry::gate::SelectorRebuildGate;
+use lb_threads_registry::lock::KeyedLock;
+use lb_threads_registry::registry::HealthRegistry;
+use lb_threads_registry::rule::LockRule;
+use lb_threads_registry::wakes::Wakes;
+use rand_pcg::Pcg64;
+use std::alloc::Global;
+use std::marker::Model;
+use std::snapshot::Snapshot;
+use std::sync::atomic::Ordering::SeqCst;
+use std::sync::atomic::{AtomicBool, AtomicU64};
+use std::sync::{Arc, Mutex, Wait};
+
+/// The group under the lock is the one that the lock was made with, on the same board: its identity, its gate and its configurations
+/// stay.
+pub struct OfGroup {}
+
+impl<S: BackendSelection> LockRule<Watched<S>, Snapshot<Watched<S>>> for OfGroup {
+    ghost holds = { λ key group. IsSame key.value group };
+}
+
+// What threads share of a slot beside the group.
+#[derive(Drop)]
+struct SlotCounters {
+    // How many tickets were drawn for the slot's readers, wrapping.
+    tickets: AtomicU64,
+    has_worker: AtomicBool,
+    // How many readers must leave the retired selector before the worker that found it read can take it out; 0 where none waits. It is
+    // read and written under the group's lock alone.
+    awaited_readers: AtomicU64,
+}
+
+/// A group behind a lock, with its registry and its gate, which other groups may share, and its board beside the lock. Contracts see
+/// the board, the group as it was made (which one it is, its gate and its configurations), and the registry as it was made.
+#[derive(Drop)]
+pub struct SharedGroup<S: BackendSelection, R: KeyRule + Drop, C> {
+    pub(crate) lock: KeyedLock<Watched<S>, Snapshot<Watched<S>>, OfGroup>,
+    pub(crate) board: Arc<Board>,
+    pub(crate) registry: Arc<HealthRegistry<R, C>>,
+    pub(crate) gate: Arc<SelectorRebuildGate>,
+    pub(crate) generator: Mutex<Pcg64>,
+    pub(crate) loads: Mutex<Loads>,
+    // Held by an update from its discovery to its membership.
+    updates: Mutex<()>,
+    lines: Vec<SlotCounters>,
+    // Whether nobody but workers uses the group any more.
+    let_go: AtomicBool,
+}
+
+impl<S: BackendSelection, R: KeyRule + Drop, C> Model for SharedGroup<S, R, C> {
+    ghost use Rattle.std.specs.Prelude.{◌≡◌};
+    ghost use Rattle.std.specs.Arc.{arc_value};
+    ghost use Rattle.lb_threads_group.specs.Shared.{SharedValue};
+
+    ghost Value = { SharedValue S.Config R };
+
+    ghost view = { λ g. record {
+      board = arc_value g.board;
+      core = g.lock.table.shared.key.value.core;
+      registry = (arc_value g.registry).start;
+    } };
+
+    ghost invariant = { λ g. ((arc_value g.gate).id ≡ g.lock.table.shared.key.value.core.group.gate)
+        × (g.lock.table.shared.key.value.board ≡ arc_value g.board) };
+}
+
+impl<S: BackendSelection, R: KeyRule + Drop, C: HealthCheck + Drop> SharedGroup<S, R, C> {
+    /// This group, for threads, on a board of its own. Random words are those of one generator for all its readers, and all loads are
+    /// 0.
+    ///
+    /// # Errors
+    ///
+    /// `OutOfMemory` where memory is refused.
+    pub fn new(
+        alloc: Global,
+        core: GroupCore<S>,
+        registry: Arc<HealthRegistry<R, C>>,
+        gate: Arc<SelectorRebuildGate>,
+        generator: Pcg64,
+    ) -> Result<SharedGroup<S, R, C>, Refusal>
+        requires { (arc_value gate).id ≡ core.group.gate }
+        ensures made { IfOk result (λ g. (g.core ≡ core) × (g.registry ≡ (arc_value registry).start)) }
+        ensures refused { IfErr result (λ e. e ≡ Refusal.OutOfMemory) }
+    {
+        let lines = lines_of(alloc, &core)?;
+        let (watched, board) = Watched::new(alloc, core)?;
+        let key = Snapshot::of(&watched);
+        let lock = KeyedLock::new(alloc, watched, &key)?;
+        Ok(SharedGroup {
+            lock,
+            board,
+            registry,
+            gate,
+            generator: Mutex::new(generator),
+            loads: Mutex::new(Loads::new()),
+            updates: Mutex::new(()),
+            lines,
+            let_go: AtomicBool::new(false),
+        })
+    }
+
+    /// Stops the rebuilds for good, and marks the group's view for removal. It takes no memory.
+    pub fn cancel<W: Wait>(&self, rt: &W) {
+        let _gate = &self.gate;
+        let registries: &HealthRegistry<R, C> = &*self.registry;
+        let mut held = self.lock.take(rt);
+        let mut registry = registries.take(rt);
+        held.value.cancel(&mut registry.value);
+        registries.put(registry);
+        self.lock.put(held);
+        self.gate.wakes().wake();
+    }
+
+    /// Has workers cancel the group at their next turn. It takes no lock and no memory.
+    pub fn let_go(&self) {
+        self.let_go.store(true, SeqCst);
+        self.gate.wakes().wake();
+    }
+
+    /// Whether the group was let go.
+    pub fn is_let_go(&self) -> bool {
+        self.let_go.load(SeqCst)
+    }
+
+    /// What wakes the workers of the group.
+    pub fn wakes(&self) -> &Wakes {
+        (*self.gate).wakes()
+    }
+
+    /// How many slots there are.
+    pub fn slot_count(&self) -> usize {
+        self.lines.len()
+    }
+
+    /// How many slots have a worker now.
+    pub fn worker_count(&self) -> usize {
+        let mut count: usize = 0;
+        for line in self.lines.as_slice() {
+            if line.has_worker.load(SeqCst) {
+                count = count.saturating_add(1);
+            }
+        }
+        count
+    }
+
+    // The next ticket for the readers of a slot. No lock is taken, so the counter goes on where the slot serves another selector.
+    pub(crate) fn ticket(&self, slot: usize) -> u64 {
+        match self.lines.get(slot) {
+            Some(line) => line.tickets.fetch_add(1, SeqCst),
+            None => 0,
+        }
+    }
+
+    /// Takes a slot for a worker; whether it had none. `leave_slot` ends it. It takes no lock and no memory.
+    pub fn claim_slot(&self, slot: usize) -> bool {
+        match self.lines.get(slot) {
+            Some(line) => !line.has_worker.swap(true, SeqCst),
+            None => false,
+        }
+    }
+
+    /// Ends what `claim_slot` began.
+    pub fn leave_slot(&self, slot: usize) {
+        if let Some(line) = self.lines.get(slot) {
+            line.has_worker.store(false, SeqCst);
+        }
+    }
+
+    // Notes how many readers a retired selector of a slot still has. The caller holds the group's lock.
+    pub(crate) fn await_readers(&self, slot: usize, readers: u64) {
+        if let Some(line) = self.lines.get(slot) {
+            line.awaited_readers.store(readers, SeqCst);
+        }
+    }
+
+    // Whether the reader that leaves is the last of those for whom a worker waits: it left, and the selector that it was in is retired.
+    // The caller holds the group's lock.
+    pub(crate) fn has_last_left(&self, slot: usize, is_retired: bool, has_left: bool) -> bool {
+        if !is_retired || !has_left {
+            return false;
+        }
+        let Some(line) = self.lines.get(slot) else {
+            return false;
+        };
+        let readers = line.awaited_readers.load(SeqCst);
+        line.awaited_readers
+            .store(readers.saturating_sub(1), SeqCst);
+        readers == 1
+    }
+
+    // Wakes the workers, or does nothing.
+    pub(crate) fn wake_if(&self, is_due: bool) {
+        if is_due {
+            self.wakes().wake();
+        }
+    }
+
+    // Whether a build of a slot is under way, by whomever.
+    pub(crate) fn is_building<W: Wait>(&self, rt: &W, slot: usize) -> bool {
+        let _gate = &self.gate;
+        let held = self.lock.take(rt);
+        let flight = held.value.core().flight(slot);
+        self.lock.put(held);
+        matches!(flight, Some(Some(_)))
+    }
+
+    /// Discovers, and makes what was discovered the newest membership; one update at a time. The discovery runs under no other lock.
+    ///
+    /// # Errors
+    ///
+    /// As `update_through`.
+    pub fn update<W: Wait, D: BackendSource, K: MomentSource>(
+        &self,
+        rt: &W,
+        alloc: Global,
+        discovery: &D,
+        clock: &mut K,
+    ) -> Result<u64, Refusal>
+        ensures { UpdatedUnder R.gives K.reads D.finds discovery.now clock.old self.now result clock.new }
+    {
+        let turn = self.updates.lock(rt);
+        let mut port = LockedPort { group: self, rt };
+        let told = update_on(alloc, &mut port, discovery, clock);
+        drop(turn);
+        told
+    }
+
+    /// Sets the load of a backend's identity, for all slots. Refused `OutOfMemory` where memory is refused; nothing is set then.
+    pub fn set_load<W: Wait>(
+        &self,
+        rt: &W,
+        alloc: Global,
+        backend: &Backend,
+        load: u64,
+    ) -> Result<(), Refusal>
+        ensures { IfErr result (λ e. e ≡ Refusal.OutOfMemory) }
+    {
+        let _gate = &self.gate;
+        self.loads.lock(rt).set(alloc, backend, load)
+    }
+}
+
+// A line for each slot of the group.
+fn lines_of<S: BackendSelection>(
+    alloc: Global,
+    core: &GroupCore<S>,
+) -> Result<Vec<SlotCounters>, Refusal>
+    ensures { IfErr result (λ e. e ≡ Refusal.OutOfMemory) }
+{
+    let mut lines = Vec::new(alloc);
+    for slot in 0..usize::MAX {
+        if core.served(slot).is_none() {
+            return Ok(lines);
+        }
+        lines.push(SlotCounters {
+            tickets: AtomicU64::new(0),
+            has_worker: AtomicBool::new(false),
+            awaited_readers: AtomicU64::new(0),
+        })?;
+    }
+    Ok(lines)
+}
+
+fn update_on<
+    'g,
+    'r,
+    S: BackendSelection,
+    R: KeyRule + Drop,
+    C: HealthCheck + Drop,
+    W: Wait,
+    D: BackendSource,
+    K: MomentSource,
+>(
+    alloc: Global,
+    port: &mut LockedPort<'g, 'r, S, R, C, W>,
+    discovery: &D,
+    clock: &mut K,
+) -> Result<u64, Refusal>
+    ensures { UpdatedUnder R.gives K.reads D.finds discovery.now clock.old port.old.group.now result clock.new }
+{
+    update_through(alloc, port, discovery, clock)
+}

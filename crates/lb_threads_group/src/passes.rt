@@ -1,0 +1,253 @@
+//! What passes read of a group that threads share, and the updates, entries and selections that go with a pass.
+//! Readings load a word and take no lock. An entry loads its slot's word under the group's lock, and a selection takes none but those of
+//! its words.
+ghost use Rattle.std.specs.Prelude.{◌≡◌, ◌≤◌, ◌<◌, ◌+◌, ◌⊎◌, ⊤, Ok, IfOk, IfErr, IfSome, IfNone, MatchBool};
+ghost use Rattle.std.specs.Arc.{arc_value};
+ghost use Rattle.std.specs.Fn.{FnReturnsAt};
+ghost use Rattle.lb_rebuild.specs.Pass.{IsLoad, IsLater, AreServed, HasSeenBelow, HasMet, newest_of, served_of};
+ghost use Rattle.lb_rebuild_group.specs.Stands.{IsFounded};
+ghost use Rattle.lb_balancer_core.specs.Plain.{IsEntered};
+ghost use Rattle.lb_threads_group.specs.Group.{EnteredUnder, LeftUnder, UpdatedUnder};
+ghost use Rattle.lb_threads_group.specs.Shared.{IsSame, IsEntryRefusal, SelectsByAny};
+
+use crate::group::SharedGroup;
+use crate::port::LockedPort;
+use lb_balancer_core::port::TakesBack;
+use lb_balancer_core::source::BackendSource;
+use lb_health_check::health_check::HealthCheck;
+use lb_health_registry::keys::KeyRule;
+use lb_rebuild::board::GroupPass;
+use lb_rebuild::watched::Watched;
+use lb_rebuild_slots::retired::Reader;
+use lb_select_base::backend::Backend;
+use lb_select_base::moments::MomentSource;
+use lb_select_base::refusal::Refusal;
+use lb_select_base::select::select;
+use lb_select_base::walk::BackendSelection;
+use lb_select_base::words::WordSource;
+use rand_core::Rng;
+use std::alloc::Global;
+use std::sync::Wait;
+
+impl<S: BackendSelection, R: KeyRule + Drop, C: HealthCheck + Drop> SharedGroup<S, R, C> {
+    /// A new pass over the group's generations. It takes no lock and no memory.
+    pub fn pass(&self) -> GroupPass
+        ensures { result.board ≡ self.now.board }
+    {
+        self.board.pass()
+    }
+
+    /// The newest generation, by one load. It waits for nobody, and takes no lock and no memory.
+    pub fn backend_generation_as(&self, pass: &mut GroupPass) -> u64
+        requires { pass.old.board ≡ self.now.board }
+        ensures { IsLoad pass.old 0 result pass.new }
+    {
+        let _board = &self.board;
+        self.board.backend_generation_as(pass)
+    }
+
+    /// The generation that a slot serves, by one load, or `None` without a load where no such slot is there. It waits for nobody, and
+    /// takes no lock and no memory.
+    pub fn selector_generation_as(&self, slot: usize, pass: &mut GroupPass) -> Option<u64>
+        requires { pass.old.board ≡ self.now.board }
+        ensures some { IfSome result (λ g. (slot + 1 < self.now.board.words) × IsLoad pass.old (slot + 1) g pass.new) }
+        ensures none { IfNone result ((self.now.board.words ≤ slot + 1) × (pass.new ≡ pass.old)) }
+    {
+        let _board = &self.board;
+        self.board.selector_generation_as(slot, pass)
+    }
+
+    /// Whether each slot serves this generation or a later one; true where there is no slot. It waits for nobody, and takes no lock
+    /// and no memory.
+    pub fn selectors_ready_for_as(&self, generation: u64, pass: &mut GroupPass) -> bool
+        requires { pass.old.board ≡ self.now.board }
+        ensures answer { MatchBool result (AreServed self.now.board pass.new generation)
+            (HasSeenBelow self.now.board pass.old pass.new generation) }
+        ensures later { IsLater pass.old pass.new }
+    {
+        let _board = &self.board;
+        self.board.selectors_ready_for_as(generation, pass)
+    }
+
+    /// Lets two passes see what either has seen: afterwards neither is below the other as it was, in any word.
+    pub fn meet<W: Wait>(&self, rt: &W, pass: &mut GroupPass, other: &mut GroupPass)
+        requires { (pass.old.board ≡ self.now.board) × (other.old.board ≡ self.now.board) }
+        ensures pass { HasMet self.now.board other.old pass.new }
+        ensures other { HasMet self.now.board pass.old other.new }
+        ensures later { IsLater pass.old pass.new × IsLater other.old other.new }
+    {
+        let _board = &self.board;
+        self.board.meet(rt, pass, other);
+    }
+
+    /// Has a pass see a generation that an update of this group answered: it loads the newest one until it is there.
+    pub fn catch_up<W: Wait>(&self, rt: &W, generation: u64, pass: &mut GroupPass)
+        requires { pass.old.board ≡ self.now.board }
+        ensures seen { generation ≤ newest_of pass.new }
+        ensures later { IsLater pass.old pass.new }
+    {
+        let _board = &self.board;
+        let _words = self.board.word_count();
+        self.board.catch_up(rt, 0, generation, pass);
+    }
+
+    /// Updates the group as `update`, and has the pass see it: the generation that is answered is not past what the pass has seen.
+    ///
+    /// # Errors
+    ///
+    /// As `update`.
+    pub fn update_as<W: Wait, D: BackendSource, K: MomentSource>(
+        &self,
+        rt: &W,
+        alloc: Global,
+        discovery: &D,
+        clock: &mut K,
+        pass: &mut GroupPass,
+    ) -> Result<u64, Refusal>
+        requires { pass.old.board ≡ self.now.board }
+        ensures updated { UpdatedUnder R.gives K.reads D.finds discovery.now clock.old self.now result clock.new }
+        ensures seen { IfOk result (λ g. g ≤ newest_of pass.new) }
+        ensures later { IsLater pass.old pass.new }
+    {
+        let told = self.update(rt, alloc, discovery, clock);
+        if let Ok(generation) = told {
+            self.catch_up(rt, generation, pass);
+        }
+        told
+    }
+
+    /// Enters the selector that a slot serves, by a load of its word under the lock: the reader is in the generation that the pass saw
+    /// last. Where the load and the group differ, the lock is taken again.
+    ///
+    /// # Errors
+    ///
+    /// `NoSuch` exactly where no such slot is there; `NumbersExhausted` where its readers are at 18446744073709551615; `OutOfMemory`
+    /// where memory is refused. Nobody has entered then.
+    pub fn enter_as<W: Wait>(
+        &self,
+        rt: &W,
+        slot: usize,
+        pass: &mut GroupPass,
+    ) -> Result<Reader<S>, Refusal>
+        requires { pass.old.board ≡ self.now.board }
+        ensures reader { IfOk result (λ r. (slot + 1 < self.now.board.words) × (r.slot ≡ slot)
+            × (r.generation ≡ served_of pass.new slot)) }
+        ensures own { IfOk result (λ r. r.group ≡ self.now.core.group.id) }
+        ensures entered { IfOk result (λ r. EnteredUnder self.now.core slot (Ok r)) }
+        ensures refused { IfErr result (IsEntryRefusal self.now.board slot) }
+        ensures later { IsLater pass.old pass.new }
+    {
+        let _board = &self.board;
+        for _ in rt.forever() {
+            let mut held = self.lock.take(rt);
+            let Some(found) = self.board.selector_generation_as(slot, pass) else {
+                self.lock.put(held);
+                return Err(Refusal::NoSuch);
+            };
+            let entered = enter_at(&mut held.value, slot, found);
+            self.lock.put(held);
+            match entered {
+                Ok(Some(reader)) => return Ok(reader),
+                Ok(None) => {}
+                Err(refusal) => return Err(refusal),
+            }
+        }
+        unreachable!()
+    }
+
+    /// Selects from the selector that a reader is in: the first accepted of the distinct backends among the first `max_iterations`
+    /// candidates of its walk for `key`. `accept` is asked once of each, in their order, until it answers true. It runs under no lock.
+    ///
+    /// # Errors
+    ///
+    /// `OutOfMemory` where memory is refused.
+    pub fn select_in<W: Wait, F: Fn(&Backend) -> bool>(
+        &self,
+        rt: &W,
+        alloc: Global,
+        reader: &Reader<S>,
+        key: &[u8],
+        max_iterations: usize,
+        accept: &F,
+    ) -> Result<Option<Backend>, Refusal>
+        requires { F.IsAlwaysCallable accept.now }
+        ensures { SelectsByAny (λ b r. FnReturnsAt F.Fn accept.now b r) max_iterations
+            (S.walks reader.now.members reader.now.config key.now) result }
+    {
+        let mut words = ReaderDraws {
+            group: self,
+            rt,
+            slot: reader.slot(),
+        };
+        select(
+            alloc,
+            reader.selector(),
+            key,
+            &mut words,
+            max_iterations,
+            accept,
+        )
+    }
+
+    /// Gives an entry of this group back to its slot.
+    pub fn leave<W: Wait>(&self, rt: &W, reader: Reader<S>)
+        requires { reader.group ≡ self.now.core.group.id }
+        ensures { LeftUnder self.now.core reader }
+    {
+        let mut port = LockedPort { group: self, rt };
+        port.leave(reader);
+    }
+}
+
+// The words of a reader's walk. Others draw from them too, so a draw may give any word.
+#[derive(Drop)]
+struct ReaderDraws<'g, 'r, S: BackendSelection, R: KeyRule + Drop, C, W> {
+    group: &'g SharedGroup<S, R, C>,
+    rt: &'r W,
+    slot: usize,
+}
+
+impl<'g, 'r, S: BackendSelection, R: KeyRule + Drop, C: HealthCheck + Drop, W: Wait> WordSource
+    for ReaderDraws<'g, 'r, S, R, C, W> {
+    ghost gives = { λ _ _ _. ⊤ };
+
+    fn ticket(&mut self) -> u64 {
+        let group = self.group;
+        group.ticket(self.slot)
+    }
+
+    fn random(&mut self) -> u64 {
+        let group = self.group;
+        group.generator.lock(self.rt).next_u64()
+    }
+
+    fn load(&self, backend: &Backend) -> u64 {
+        let group = self.group;
+        group.loads.lock(self.rt).get(backend)
+    }
+}
+
+// Enters a slot that serves what was found on the board, or enters nothing where it serves another generation.
+fn enter_at<S: BackendSelection>(
+    watched: &mut Watched<S>,
+    slot: usize,
+    found: u64,
+) -> Result<Option<Reader<S>>, Refusal>
+    ensures found { IfOk result (λ o. IfSome o (λ r. (r.slot ≡ slot) × (r.generation ≡ found)
+        × (r.group ≡ watched.old.core.group.id))) }
+    ensures entered { IfOk result (λ o. IfSome o (λ r. IsFounded watched.old.core
+        × IsEntered watched.old.core slot (Ok r) watched.new.core)) }
+    ensures refused { IfErr result (λ e. (e ≡ Refusal.NumbersExhausted) ⊎ (e ≡ Refusal.OutOfMemory)) }
+    ensures same { IsSame watched.old watched.new }
+{
+    let core = watched.core();
+    core.past();
+    let Some(served) = core.served(slot) else {
+        return Ok(None);
+    };
+    if served != found {
+        return Ok(None);
+    }
+    let reader = watched.enter(slot)?;
+    Ok(Some(reader))
+}

@@ -1,0 +1,256 @@
+//! One thread's way to a group that threads share: each call takes the group's lock, and with it the registry's and the gate's where it
+//! needs them. No build and no destruction runs under a lock.
+ghost use Rattle.std.specs.Prelude.{◌≡◌};
+ghost use Rattle.std.proofs.Common.{subst, sym};
+ghost use Rattle.lb_threads_group.specs.Group.{OwnsJob, OwnsPermit, AskedUnder, EnteredUnder, TakenUnder, LeftUnder, PublishedUnder};
+ghost use Rattle.lb_threads_group.specs.Group.{FailedUnder, ReportedUnder, ReadyUnder, ScheduledUnder};
+
+use crate::group::SharedGroup;
+use lb_balancer_core::build::RefusedJob;
+use lb_balancer_core::port::{GroupPort, TakesBack};
+use lb_health_check::health_check::HealthCheck;
+use lb_health_registry::keys::KeyRule;
+use lb_health_view::view::Settings;
+use lb_rebuild_slots::answers::{Ask, Publication};
+use lb_rebuild_slots::job::Built;
+use lb_rebuild_slots::membership::Scheduled;
+use lb_rebuild_slots::retired::{OwedPermit, Reader, Retired};
+use lb_select_base::backend::Backend;
+use lb_select_base::refusal::Refusal;
+use lb_select_base::walk::BackendSelection;
+use lb_threads_registry::gate::SelectorRebuildGate;
+use lb_threads_registry::registry::HealthRegistry;
+use rand_core::Rng;
+use std::alloc::Global;
+use std::collections::BTreeSet;
+use std::sync::Wait;
+
+/// One thread's way to a group that threads share.
+#[derive(Drop)]
+pub struct LockedPort<'g, 'r, S: BackendSelection, R: KeyRule + Drop, C, W> {
+    pub group: &'g SharedGroup<S, R, C>,
+    pub rt: &'r W,
+}
+
+impl<'g, 'r, S: BackendSelection, R: KeyRule + Drop, C: HealthCheck + Drop, W: Wait> TakesBack<
+    RefusedJob<S>,
+    Built<S>,
+    Reader<S>,
+> for LockedPort<'g, 'r, S, R, C, W> {
+    ghost owns_refused = { λ p r. OwnsJob p.group.now.core r.task };
+
+    ghost owns_built = { λ p b. OwnsJob p.group.now.core b.task };
+
+    ghost owns_reader = { λ p r. r.group ≡ p.group.now.core.group.id };
+
+    ghost failed = { λ p r now q. FailedUnder R.gives p.group.now r.task now × (q.group.now ≡ p.group.now) };
+
+    ghost published = { λ p b t q. PublishedUnder p.group.now.core b t × (q.group.now ≡ p.group.now) };
+
+    ghost left = { λ p r q. LeftUnder p.group.now.core r × (q.group.now ≡ p.group.now) };
+
+    fn fail(&mut self, refused: RefusedJob<S>, now: u128) {
+        let group = self.group;
+        let registries: &HealthRegistry<R, C> = &*group.registry;
+        let job = refused.into_job();
+        let gates: &SelectorRebuildGate = &*group.gate;
+        let mut held = group.lock.take(self.rt);
+        held.value.founded();
+        let mut cells = registries.take(self.rt);
+        let mut gate = gates.take(self.rt);
+        let told = held.value.fail(job, &mut cells.value, &mut gate.value, now);
+        gates.put(gate);
+        registries.put(cells);
+        group.lock.put(held);
+        gates.wakes().wake();
+        match told {
+            Ok(()) => {}
+            Err(job) => job.close(),
+        }
+    }
+
+    fn publish(&mut self, built: Built<S>) -> Publication {
+        let group = self.group;
+        let _gate = &group.gate;
+        let generation = built.generation();
+        let mut held = group.lock.take(self.rt);
+        held.value.founded();
+        let told = held.value.publish(built);
+        group.lock.put(held);
+        match told {
+            Ok(told) => told,
+            Err(built) => {
+                built.close();
+                Publication::Abandoned(generation)
+            }
+        }
+    }
+
+    fn leave(&mut self, reader: Reader<S>) {
+        let group = self.group;
+        let _gate = &group.gate;
+        let slot = reader.slot();
+        let generation = reader.generation();
+        let mut held = group.lock.take(self.rt);
+        held.value.founded();
+        let served = held.value.core().served(slot);
+        let told = held.value.leave(reader);
+        let is_last = group.has_last_left(slot, served != Some(generation), told.is_ok());
+        group.lock.put(held);
+        group.wake_if(is_last);
+        match told {
+            Ok(()) => {}
+            Err(reader) => reader.close(),
+        }
+    }
+}
+
+impl<'g, 'r, S: BackendSelection, R: KeyRule + Drop, C: HealthCheck + Drop, W: Wait> GroupPort<S>
+    for LockedPort<'g, 'r, S, R, C, W> {
+    ghost owns_job = { λ p t. OwnsJob p.group.now.core t };
+
+    ghost scheduled = { λ p ms settings now r q. ScheduledUnder R.gives p.group.now ms settings now r × (q.group.now ≡ p.group.now) };
+
+    ghost asked = { λ p slot now r q. AskedUnder p.group.now.core slot now r × (q.group.now ≡ p.group.now) };
+
+    ghost entered = { λ p slot r q. EnteredUnder p.group.now.core slot r × (q.group.now ≡ p.group.now) };
+
+    ghost readies = { λ p r b a q. ReadyUnder R.gives p.group.now r b a × (q.group.now ≡ p.group.now) };
+
+    // Of which words others' draws leave nothing is said.
+    ghost draws = { λ p r d q. q.group.now ≡ p.group.now };
+
+    ghost taken = { λ p slot r q. TakenUnder p.group.now.core slot r × (q.group.now ≡ p.group.now) };
+
+    ghost reported = { λ p slot permit q. ReportedUnder R.gives p.group.now slot permit × (q.group.now ≡ p.group.now) };
+
+    ghost owns_permit = { λ p slot permit. OwnsPermit p.group.now.core slot permit };
+
+    fn schedule(
+        &mut self,
+        alloc: Global,
+        discovered: BTreeSet<Backend>,
+        settings: Settings,
+        now: u128,
+    ) -> Result<Scheduled, Refusal> {
+        let group = self.group;
+        let registries: &HealthRegistry<R, C> = &*group.registry;
+        let _gate = &group.gate;
+        let mut held = group.lock.take(self.rt);
+        held.value.founded();
+        let mut cells = registries.take(self.rt);
+        let told = held
+            .value
+            .schedule(alloc, &mut cells.value, discovered, settings, now);
+        registries.put(cells);
+        group.lock.put(held);
+        group.wake_if(brings_orders(&told));
+        told
+    }
+
+    fn ask(&mut self, slot: usize, now: u128) -> Result<Ask<S>, Refusal> {
+        let group = self.group;
+        let gates: &SelectorRebuildGate = &*group.gate;
+        let mut held = group.lock.take(self.rt);
+        held.value.founded();
+        let mut gate = gates.take(self.rt);
+        let told = held.value.ask(slot, &mut gate.value, now);
+        gates.put(gate);
+        group.lock.put(held);
+        told
+    }
+
+    fn enter(&mut self, slot: usize) -> Result<Reader<S>, Refusal> {
+        let group = self.group;
+        let _gate = &group.gate;
+        let mut held = group.lock.take(self.rt);
+        held.value.founded();
+        let told = held.value.enter(slot);
+        group.lock.put(held);
+        told
+    }
+
+    fn ready(&mut self, reader: &Reader<S>, backend: &Backend) -> bool {
+        let group = self.group;
+        let registries: &HealthRegistry<R, C> = &*group.registry;
+        let _gate = &group.gate;
+        let held = group.lock.take(self.rt);
+        held.value.founded();
+        let cells = registries.take(self.rt);
+        let told = held.value.core().ready(reader, &cells.value, backend);
+        registries.put(cells);
+        group.lock.put(held);
+        told
+    }
+
+    fn ticket(&mut self, reader: &Reader<S>) -> u64 {
+        let group = self.group;
+        group.ticket(reader.slot())
+    }
+
+    fn random(&mut self, _reader: &Reader<S>) -> u64 {
+        let group = self.group;
+        group.generator.lock(self.rt).next_u64()
+    }
+
+    fn load(&self, _reader: &Reader<S>, backend: &Backend) -> u64 {
+        let group = self.group;
+        group.loads.lock(self.rt).get(backend)
+    }
+
+    fn take_retired(&mut self, slot: usize) -> Result<Retired<S>, Refusal> {
+        let group = self.group;
+        let _gate = &group.gate;
+        let mut held = group.lock.take(self.rt);
+        held.value.founded();
+        let told = held.value.take_retired(slot);
+        group.await_readers(slot, readers_left(&told));
+        group.lock.put(held);
+        told
+    }
+
+    fn destroyed(&mut self, slot: usize, permit: OwedPermit) {
+        let group = self.group;
+        let registries: &HealthRegistry<R, C> = &*group.registry;
+        let gates: &SelectorRebuildGate = &*group.gate;
+        let mut held = group.lock.take(self.rt);
+        held.value.founded();
+        let mut cells = registries.take(self.rt);
+        let mut gate = gates.take(self.rt);
+        let told = held
+            .value
+            .destroyed(slot, permit, &mut cells.value, &mut gate.value);
+        gates.put(gate);
+        registries.put(cells);
+        group.lock.put(held);
+        gates.wakes().wake();
+        match told {
+            Ok(()) => {}
+            Err(permit) => permit.spend(),
+        }
+    }
+
+    ghost draws_keep = { λ p r d q same own. subst (λ v. r.group ≡ v.core.group.id) (sym same) own };
+
+    ghost readies_keep = { λ p r b a q told own. subst (λ v. r.group ≡ v.core.group.id) (sym told.1) own };
+
+    ghost built_of = { λ p t ended own. own };
+
+    ghost refused_of = { λ p t e own. own };
+}
+
+// Whether a membership gave the slots orders.
+fn brings_orders(told: &Result<Scheduled, Refusal>) -> bool {
+    match told {
+        Ok(scheduled) => scheduled.changed,
+        Err(_) => false,
+    }
+}
+
+// How many readers a retired selector has that could not be taken out.
+fn readers_left<S: BackendSelection>(told: &Result<Retired<S>, Refusal>) -> u64 {
+    match told {
+        Err(Refusal::StillRead(readers)) => *readers,
+        Ok(_) | Err(_) => 0,
+    }
+}

@@ -1,0 +1,82 @@
+//! What threads read of a group that they share: each call takes the group's lock once, and answers what stood then.
+ghost use Rattle.std.specs.Prelude.{◌≡◌};
+ghost use Rattle.lb_rebuild_slots.specs.SlotsCalls.{at_slot};
+ghost use Rattle.lb_rebuild_slots.specs.SlotsHistory.{past_of, newest, is_cancelled, served, timing as timing_after};
+ghost use Rattle.lb_rebuild_slots.specs.Stands.{counts_after};
+ghost use Rattle.lb_rebuild_group.specs.GroupHistory.{slot_events};
+ghost use Rattle.lb_rebuild_group.specs.Stands.{After};
+ghost use Rattle.lb_threads_group.specs.Group.{Seen};
+
+use crate::group::SharedGroup;
+use lb_health_check::health_check::HealthCheck;
+use lb_health_registry::keys::KeyRule;
+use lb_rebuild_slots::answers::{Counts, Timing};
+use lb_select_base::walk::BackendSelection;
+use std::sync::Wait;
+
+impl<S: BackendSelection, R: KeyRule + Drop, C: HealthCheck + Drop> SharedGroup<S, R, C> {
+    /// The newest generation of the backends; 0 before the first membership.
+    pub fn backend_generation<W: Wait>(&self, rt: &W) -> u64
+        ensures { Seen self.now.core (λ v. After v (λ made e. result ≡ newest (slot_events e))) }
+    {
+        let _gate = &self.gate;
+        let held = self.lock.take(rt);
+        let group = held.value.core();
+        group.founded();
+        let generation = group.newest();
+        self.lock.put(held);
+        generation
+    }
+
+    /// Whether the group is cancelled.
+    pub fn is_cancelled<W: Wait>(&self, rt: &W) -> bool
+        ensures { Seen self.now.core (λ v. After v (λ made e. result ≡ is_cancelled (slot_events e))) }
+    {
+        let _gate = &self.gate;
+        let held = self.lock.take(rt);
+        let group = held.value.core();
+        group.founded();
+        let told = group.is_cancelled();
+        self.lock.put(held);
+        told
+    }
+
+    /// The generation that a slot serves, or `None` where no such slot is there.
+    pub fn selector_generation<W: Wait>(&self, rt: &W, slot: usize) -> Option<u64>
+        ensures { Seen self.now.core (λ v. After v (λ made e. result ≡ at_slot made slot (served (past_of slot (slot_events e))))) }
+    {
+        let _gate = &self.gate;
+        let held = self.lock.take(rt);
+        let group = held.value.core();
+        group.founded();
+        let generation = group.served(slot);
+        self.lock.put(held);
+        generation
+    }
+
+    /// The counts of a slot, or `None` where no such slot is there.
+    pub fn selector_counts<W: Wait>(&self, rt: &W, slot: usize) -> Option<Counts>
+        ensures { Seen self.now.core (λ v. After v (λ made e. result ≡ at_slot made slot (counts_after (past_of slot (slot_events e))))) }
+    {
+        let _gate = &self.gate;
+        let held = self.lock.take(rt);
+        let group = held.value.core();
+        group.founded();
+        let counts = group.counts(slot);
+        self.lock.put(held);
+        counts
+    }
+
+    /// The timing of a slot's last publication: `None` where no such slot is there, and none in it before the first.
+    pub fn selector_timing<W: Wait>(&self, rt: &W, slot: usize) -> Option<Option<Timing>>
+        ensures { Seen self.now.core (λ v. After v (λ made e. result ≡ at_slot made slot (timing_after (past_of slot (slot_events e))))) }
+    {
+        let _gate = &self.gate;
+        let held = self.lock.take(rt);
+        let group = held.value.core();
+        group.founded();
+        let timing = group.timing(slot);
+        self.lock.put(held);
+        timing
+    }
+}

@@ -1,0 +1,54 @@
+//! The owner of a view in a registry that threads share. Its drop takes no lock and no memory: it notes that the view has no owner,
+//! and the registry looks at these notes when it is taken next.
+
+use std::sync::Arc;
+use std::sync::atomic::Ordering::SeqCst;
+use std::sync::atomic::{AtomicBool, AtomicU64};
+
+// What the owner of a view and its registry share.
+#[derive(Drop)]
+pub(crate) struct ViewNote {
+    // The number of the view.
+    pub(crate) id: u64,
+    // The generation whose cells the view keeps.
+    pub(crate) generation: AtomicU64,
+    // Whether the view's owner is gone.
+    pub(crate) is_gone: AtomicBool,
+}
+
+/// The owner of a view. Where it is dropped, the next call of the registry marks the view for removal and lets its cells go.
+pub struct ViewOwner {
+    pub(crate) note: Arc<ViewNote>,
+    // Tells the registry to look at its notes.
+    pub(crate) some_gone: Arc<AtomicBool>,
+}
+
+impl Drop for ViewOwner {
+    fn drop(self) {
+        let ViewOwner { note, some_gone } = self;
+        note.is_gone.store(true, SeqCst);
+        some_gone.store(true, SeqCst);
+    }
+}
+
+impl ViewOwner {
+    /// Returns the number of the view.
+    pub fn id(&self) -> u64 {
+        self.note.id
+    }
+
+    /// Notes the generation whose cells the view keeps from now on; 0 until then.
+    pub fn keep(&self, generation: u64) {
+        self.note.generation.store(generation, SeqCst);
+    }
+}
+
+// Takes out the note of a view whose owner is gone.
+pub(crate) fn take_gone(notes: &mut Vec<Arc<ViewNote>>) -> Option<Arc<ViewNote>> {
+    for place in 0..notes.len() {
+        if place < notes.len() && notes[place].is_gone.load(SeqCst) {
+            return Some(notes.swap_remove(place));
+        }
+    }
+    None
+}

@@ -1,7 +1,0 @@
-use Rattle.std.proofs.Common.{◌≡◌, ◌+◌}
-use Rattle.lb_watched.specs.Watched.{words_of}
-use Rattle.lb_watched.proofs.Shown.{Shown}
-use Rattle.lb_watched.proofs.watched.show_all.Given as goal
-
-abbrev pub invariant-loop-slot : goal.invariant-loop-slot
-invariant-loop-slot g l = (l.writer.board ≡ l.board) × Shown (words_of l.core.group) l.writer.words (l.slot + 1)

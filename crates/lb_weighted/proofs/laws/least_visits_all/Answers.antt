@@ -1,5 +1,0 @@
-use Rattle.lb_weighted.proofs.LeastVisits.{least_visits_all}
-use Rattle.lb_weighted.proofs.laws.least_visits_all.Goals as goal
-
-pub returns : goal.returns
-returns c = least_visits_all

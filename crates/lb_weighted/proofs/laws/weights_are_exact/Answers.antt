@@ -1,5 +1,0 @@
-use Rattle.lb_weighted.proofs.Shares.{weights_are_exact}
-use Rattle.lb_weighted.proofs.laws.weights_are_exact.Goals as goal
-
-pub returns : goal.returns
-returns c = weights_are_exact

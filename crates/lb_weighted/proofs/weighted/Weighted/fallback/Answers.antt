@@ -1,9 +1,0 @@
-use Rattle.std.proofs.Common.{◌<◌, refl}
-use Rattle.lb_weighted.specs.Weights.{total_weight}
-use Rattle.lb_weighted.proofs.WeightLemmas.{fallback_at}
-use Rattle.lb_weighted.proofs.weighted.Weighted.fallback.Goals as goal
-
-pub returns : goal.returns
-returns g c =
-    let weighs : 0 < total_weight c.self.inside.backends.items = rw c.self.view_is c.requires in
-    rw (c.as_slice-list.ensures.value, ← c.self.view_is) (fallback_at _ _ _ c.self.invariant.ordered weighs refl)

@@ -1,5 +1,0 @@
-use Rattle.lb_weighted.proofs.WeightLemmas.{first_at}
-use Rattle.lb_weighted.proofs.weighted.Weighted.first_choice.Goals as goal
-
-pub returns : goal.returns
-returns g c = first_at _ _ _ c.requires (rw c.total.ensures at c.locate.ensures.index) c.locate.ensures.inside

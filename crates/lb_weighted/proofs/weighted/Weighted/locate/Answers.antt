@@ -1,5 +1,0 @@
-use Rattle.lb_weighted.proofs.Summing.{never_falls}
-use Rattle.lb_weighted.proofs.weighted.Weighted.locate.Goals as goal
-
-pub index_of_place-index-requires-clause-rising : goal.index_of_place-index-requires-clause-rising
-index_of_place-index-requires-clause-rising g c = rw c.deref.ensures.value (never_falls _ _ c.self.invariant.up_to)

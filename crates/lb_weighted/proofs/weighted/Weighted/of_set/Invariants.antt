@@ -1,9 +1,0 @@
-use Rattle.std.proofs.Common.{◌≡◌, ◌++◌}
-use Rattle.lb_weighted.specs.Weights.{total_weight}
-use Rattle.lb_weighted.specs.Sums.{AreSums}
-use Rattle.lb_weighted.proofs.weighted.Weighted.of_set.Given as goal
-
--- the backends so far and those to come; the sums so far are those of the backends so far
-abbrev pub invariant-loop-backend : goal.invariant-loop-backend
-invariant-loop-backend g l =
-    (l.list.items ++ l.backend-iterator ≡ l.backends.keys) × AreSums l.list.items l.sums.items × (l.sum ≡ total_weight l.list.items)

@@ -1,9 +1,0 @@
--- What is asked answers as it is told.
-use Rattle.std.specs.Arc.{arc_value}
-use Rattle.lb_workers.proofs.Accepts.{selected-ready}
-use Rattle.lb_workers.proofs.group.LoadBalancerGroup.select.Goals as goal
-
-pub returns : goal.returns
-returns g c =
-    selected-ready g.R.KeyRule.gives c.args.max_iterations g.S.BackendSelection.walks c.args.key.now (arc_value c.args.self.now.shared) c.args.slot
-    c.select_with.result c.select_with.ensures (λ p ready a is. is.met)

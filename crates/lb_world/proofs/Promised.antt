@@ -1,0 +1,161 @@
+-- The promises, each by the law of the crate of groups at a slot's past.
+use Rattle.std.proofs.Common.{◌≡◌, ◌<◌, ◌≤◌, ◌==◌, ◌∙◌, ℕ, Bool, true, false, cond, [], ◌∷◌, ◌++◌, refl, sym, ap, subst, arith}
+use Rattle.std.specs.Prelude.{Option, Some, None, slice_get}
+use Rattle.std.specs.Option.{option_map}
+use Rattle.std.proofs.lemmas.Bool.{false_from_ne_true, false≢true}
+use mathlib.Core.Logic.{dite}
+use native.Mathlib.Decide.{ℕ_discrete}
+use Rattle.lb_rebuild_slots.specs.SlotsHistory as slots
+use Rattle.lb_rebuild_slots.specs.SlotsHistory.{SlotsEvent, SlotEvent, Scheduled, Cancelled, At, past_of, served, newest, extra, is_extra, IsFaithful}
+use Rattle.lb_rebuild_slots.specs.Laws.{number}
+use Rattle.lb_rebuild_slots.proofs.Pasts.{newest-past, cancelled-past}
+use Rattle.lb_rebuild_slots.proofs.Ledger.{balanced}
+use Rattle.lb_rebuild_slots.proofs.Telling.{bounded, rises, serves-newest, gets-job, has-members}
+use Rattle.lb_world.specs.Steps.{Step}
+use Rattle.lb_world.specs.Steps as step
+use Rattle.lb_world.specs.declared.answer.Answer.{Answer}
+use Rattle.lb_world.specs.declared.answer.Answer.TheVariants as answer
+use Rattle.lb_world.specs.Meanings.{Meaning}
+use Rattle.lb_world.specs.History.{History, Entered, is_at, members_in, group_in, slot_in, config, drew, gate_at, slot_gate, entries, group_at, work, ended, happened, slot_events, past, is_out}
+use Rattle.lb_world.specs.Answers.{IsRun}
+use Rattle.lb_world.specs.Promises.{extras, FreeGatesGrant, NeverFalls, Promised}
+use Rattle.lb_world.proofs.Readers.{counts}
+use Rattle.lb_world.proofs.Placing.{off-past, on-past, off-both, on-both, same-either}
+use Rattle.lb_world.proofs.Runs.{slots-fit, Pasts}
+use Rattle.lb_world.proofs.Counting.{one-extra, counted}
+
+none-out : (o : Bool) (x : ℕ) → x ≡ number o → x ≡ 0 → o ≡ false
+none-out true x e z = absurd (omega arith)
+none-out false x e z = refl
+
+-- what is served never falls with an event that can come
+earlier-past : (e : SlotsEvent) (p : slots.History) → slots.IsPast (e ∷ p) → slots.IsPast p
+earlier-past (Scheduled ms now) p past = past.0
+earlier-past Cancelled p past = past
+earlier-past (At i e) p past = past.0
+
+no-less : (e : SlotsEvent) (p : slots.History) → slots.IsPast (e ∷ p) → served p ≤ served (e ∷ p)
+no-less (At i (slots.Published ended ms)) p past = let up : served p < served (At i (slots.Published ended ms) ∷ p) = rises (At i (slots.Published ended ms)) p past in omega arith
+no-less e p past = omega arith
+
+reached : (b : Bool) (e : SlotsEvent) (p : slots.History) → slots.IsPast (cond b (e ∷ p) p) → (slots.IsPast p) × (served p ≤ served (cond b (e ∷ p) p))
+reached true e p past = (earlier-past e p past, no-less e p past)
+reached false e p past = (past, omega arith)
+
+no-less-all : (r : ℕ) (es k : slots.History) → slots.IsPast (past_of r (es ++ k)) → served (past_of r k) ≤ served (past_of r (es ++ k))
+no-less-all r [] k past = omega arith
+no-less-all r (e ∷ es) k past =
+    let one = reached (slots.reaches r e) e (past_of r (es ++ k)) past in
+    omega (arith, one.1, no-less-all r es k one.0)
+
+no-less-group : (b : Bool) (r : ℕ) (es k : slots.History) → slots.IsPast (past_of r (cond b (es ++ k) k))
+    → served (past_of r k) ≤ served (past_of r (cond b (es ++ k) k))
+no-less-group true r es k past = no-less-all r es k past
+no-less-group false r es k past = omega arith
+
+-- faithful pasts
+abbrev AllFaithful : (ℕ → slots.History) → Type 0
+AllFaithful K = (i r : ℕ) → IsFaithful (past_of r (K i))
+
+at-place : (K : ℕ → slots.History) (e : ℕ → SlotEvent) (g s : ℕ) → AllFaithful K → IsFaithful (At s (e g) ∷ past_of s (K g))
+    → (i r : ℕ) → IsFaithful (past_of r (cond (g == i) (At s (e i) ∷ K i) (K i)))
+at-place K e g s all own i r =
+    dite (ℕ_discrete i g)
+    (λ at.
+    dite (ℕ_discrete r s)
+    (λ on.
+    subst (λ (j : ℕ). IsFaithful (past_of r (cond (g == j) (At s (e j) ∷ K j) (K j)))) (sym at)
+    (subst (λ (q : ℕ). IsFaithful (past_of q (cond (g == g) (At s (e g) ∷ K g) (K g)))) (sym on)
+    (subst IsFaithful (sym (on-past K e g s)) own)))
+    (λ off. subst IsFaithful (sym (off-past K e g s i r (λ t. off t.1))) (all i r)))
+    (λ off. subst IsFaithful (sym (off-past K e g s i r (λ t. off t.0))) (all i r))
+
+in-group : (K : ℕ → slots.History) (e : SlotsEvent) (b : ℕ → Bool) → AllFaithful K
+    → ((r : ℕ) (k : slots.History) → IsFaithful (past_of r k) → IsFaithful (past_of r (e ∷ k)))
+    → (i r : ℕ) → IsFaithful (past_of r (cond (b i) (e ∷ K i) (K i)))
+in-group K e b all keeps i r = either (b i)
+  where
+    either : (t : Bool) → IsFaithful (past_of r (cond t (e ∷ K i) (K i)))
+    either true = keeps r (K i) (all i r)
+    either false = all i r
+
+in-none : (K N : ℕ → slots.History) (b : ℕ → Bool) → AllFaithful K → ((i : ℕ) → N i ≡ K i) → (i r : ℕ) → IsFaithful (past_of r (cond (b i) (N i) (K i)))
+in-none K N b all none i r =
+    subst (λ (k : slots.History). IsFaithful (past_of r k)) (sym (ap (λ (x : slots.History). cond (b i) x (K i)) (none i) ∙ same-either (b i) (K i))) (all i r)
+
+module _ {C : Type 0} where
+  drawing : (h : History C) (g s t : ℕ) (o : Option C) → AllFaithful (Pasts h)
+      → (i r : ℕ) → IsFaithful (past_of r (cond (g == i) (drew o s t ++ slot_events i h) (slot_events i h)))
+  drawing h g s t None all = in-none (Pasts h) (Pasts h) (λ i. g == i) all (λ i. refl)
+  drawing h g s t (Some c) all = at-place (Pasts h) (λ i. slots.Drew t) g s all (all g s)
+
+  leaving-o : (h : History C) (n : ℕ) (o : Option (Option Entered)) → AllFaithful (Pasts h)
+      → (i r : ℕ) → IsFaithful (past_of r (cond (is_at i (group_in o)) (At (slot_in o) (slots.Left n) ∷ slot_events i h) (slot_events i h)))
+  leaving-o h n None all = all
+  leaving-o h n (Some None) all = all
+  leaving-o h n (Some (Some e)) all = at-place (Pasts h) (λ i. slots.Left n) e.group e.slot all (all e.group e.slot)
+
+  -- what came back had the members of its job, in every history
+  pub faithful : (h : History C) → (i r : ℕ) → IsFaithful (past i r h)
+  faithful [] i r = tt
+  faithful ((step.update g now ls, answer.Generation n) ∷ h) i r =
+      in-group (Pasts h) (Scheduled (members_in ls) now) (λ j. g == j) (faithful h) (λ q k f. f) i r
+  faithful ((step.ask g s now, answer.Build n) ∷ h) i r = at-place (Pasts h) (λ j. slots.Granted now) g s (faithful h) (faithful h g s) i r
+  faithful ((step.build g s now, answer.BuildFailed n e) ∷ h) i r =
+      at-place (Pasts h) (λ j. slots.Failed now (slots.granted_members (past j s h))) g s (faithful h) (faithful h g s, refl) i r
+  faithful ((step.failbuild g s now, answer.Failed n) ∷ h) i r =
+      at-place (Pasts h) (λ j. slots.Failed now (slots.granted_members (past j s h))) g s (faithful h) (faithful h g s, refl) i r
+  faithful ((step.lost g s, answer.Lost n) ∷ h) i r = at-place (Pasts h) (λ j. slots.WorkerLost) g s (faithful h) (faithful h g s) i r
+  faithful ((step.publish g s, answer.Published n) ∷ h) i r =
+      at-place (Pasts h) (λ j. slots.Published (ended (work g s h)) (slots.granted_members (past j s h))) g s (faithful h) (faithful h g s, refl) i r
+  faithful ((step.publish g s, answer.Abandoned n) ∷ h) i r =
+      at-place (Pasts h) (λ j. slots.Abandoned (slots.granted_members (past j s h))) g s (faithful h) (faithful h g s, refl) i r
+  faithful ((step.abandon g s, answer.Abandoned n) ∷ h) i r =
+      at-place (Pasts h) (λ j. slots.Abandoned (slots.granted_members (past j s h))) g s (faithful h) (faithful h g s, refl) i r
+  faithful ((step.enter g s, answer.Reader t n) ∷ h) i r = at-place (Pasts h) (λ j. slots.Entered) g s (faithful h) (faithful h g s) i r
+  faithful ((step.leave t, answer.Left n) ∷ h) i r = leaving-o h n (slice_get (entries h) t) (faithful h) i r
+  faithful ((step.destroy g s, answer.Destroyed) ∷ h) i r =
+      dite (ℕ_discrete i g)
+      (λ at.
+      dite (ℕ_discrete r s)
+      (λ on.
+      subst (λ (j : ℕ). IsFaithful (past j r ((step.destroy g s, answer.Destroyed) ∷ h))) (sym at)
+      (subst (λ (q : ℕ). IsFaithful (past g q ((step.destroy g s, answer.Destroyed) ∷ h))) (sym on)
+      (subst IsFaithful (sym (on-both (Pasts h) slots.Destroyed slots.TakenOut g s)) (faithful h g s))))
+      (λ off. subst IsFaithful (sym (off-both (Pasts h) slots.Destroyed slots.TakenOut g s i r (λ t. off t.1))) (faithful h i r)))
+      (λ off. subst IsFaithful (sym (off-both (Pasts h) slots.Destroyed slots.TakenOut g s i r (λ t. off t.0))) (faithful h i r))
+  faithful ((step.select g s key limit words, answer.Backend b t) ∷ h) i r = drawing h g s t (config g s h) (faithful h) i r
+  faithful ((step.select g s key limit words, answer.NoBackend t) ∷ h) i r = drawing h g s t (config g s h) (faithful h) i r
+  faithful ((step.select g s key limit words, answer.NotSelected t) ∷ h) i r = drawing h g s t (config g s h) (faithful h) i r
+  faithful ((step.cancel g, answer.Cancelled) ∷ h) i r = in-group (Pasts h) Cancelled (λ j. g == j) (faithful h) (λ q k f. f) i r
+  faithful ((st, a) ∷ h) i r =
+      in-none (Pasts h) (λ j. happened h (slot_events j h) st a ++ slot_events j h) (λ j. is_at j (group_at h st)) (faithful h) (λ j. refl) i r
+
+module _ {C : Type 0} (M : Meaning C) where
+  free-gates-grant : (h : History C) → IsRun M h → FreeGatesGrant M h
+  free-gates-grant h run g s now m c made_is config_is goes waiting due free =
+      let on : slot_gate g s h ≡ Some m.gate = ap (gate_at s) made_is ∙ ap (option_map (λ (x : C). m.gate)) config_is in
+      let in_ : is_out m.gate h ≡ false = none-out (is_out m.gate h) (extras m.gate h) ((counted M h run).by_permit m.gate) free in
+      let bare : is_extra (extra (past g s h)) ≡ false =
+      false_from_ne_true (is_extra (extra (past g s h))) (λ t. false≢true (sym in_ ∙ (one-extra M h run).out m.gate g s on t)) in
+      let job : slots.ask_answer (past g s h) (is_out m.gate h) now ≡ slots.job =
+      ap (λ (b : Bool). slots.ask_answer (past g s h) b now) in_
+      ∙ gets-job (past g s h) now (cancelled-past s (slot_events g h) ∙ goes) waiting due bare in
+      rw (made_is, config_is, job) refl
+
+  pub never-falls : (h : History C) (st : Step C) (a : Answer) → IsRun M ((st, a) ∷ h) → NeverFalls h st a
+  never-falls h st a run g s =
+      no-less-group (is_at g (group_at h st)) s (happened h (slot_events g h) st a) (slot_events g h) (slots-fit M ((st, a) ∷ h) run g s).0
+
+  pub promised : (h : History C) → IsRun M h → Promised M h
+  promised h run =
+      record {
+        one_extra = one-extra M h run;
+        counted = counted M h run;
+        ledger = record { balanced = λ g s. balanced (past g s h) (slots-fit M h run g s).0; of_group = λ g s. newest-past s (slot_events g h) };
+        newest_served = λ g s down quiet. serves-newest (past g s h) down quiet ∙ newest-past s (slot_events g h);
+        readers_exact = counts M h run;
+        members_kept = λ g s. has-members (past g s h) (faithful h g s);
+        bounded = λ g s. subst (λ (n : ℕ). served (past g s h) ≤ n) (newest-past s (slot_events g h)) (bounded (past g s h));
+        free_gates_grant = free-gates-grant h run;
+      }

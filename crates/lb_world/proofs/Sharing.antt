@@ -1,0 +1,102 @@
+-- What a step does to a registry is what the calls of a view do to it.
+use Rattle.std.proofs.Common.{◌≡◌, ◌+◌, ◌==◌, ◌∙◌, ℕ, Bool, false, cond, List, ◌∷◌, refl, sym, ap, subst}
+use Rattle.std.specs.Prelude.{Option, Some}
+use Rattle.std.specs.Option.{option_map}
+use Rattle.std.proofs.lemmas.Bool.{eq-eqb, not-true}
+use Rattle.lb_select_base.specs.Backends.{Member}
+use Rattle.lb_select_base.specs.Memberships.{same_members}
+use Rattle.lb_health_registry.specs.RegistryEvents as registry
+use Rattle.lb_health_view.specs.Snapshots.{SnapshotValue}
+use Rattle.lb_health_view.specs.ViewEvents.{ViewEvent, Released, generation_after, membership_after, snapshots_after}
+use Rattle.lb_health_view.specs.RegistrySide.{lives, without_gone, view_changed}
+use Rattle.lb_rebuild_slots.specs.SlotsHistory as slots
+use Rattle.lb_rebuild_slots.specs.SlotsHistory.{newest, members_of}
+use Rattle.lb_world.specs.Steps.{Step}
+use Rattle.lb_world.specs.Steps as step
+use Rattle.lb_world.specs.declared.answer.Answer.{Answer}
+use Rattle.lb_world.specs.declared.answer.Answer.TheVariants as answer
+use Rattle.lb_world.specs.Meanings.{Meaning}
+use Rattle.lb_world.specs.History.{History, Made, is_at, members_in, made_at, registry_of, slot_events}
+use Rattle.lb_world.specs.Shared.{settings_in, is_live, configs_in, view_in, key_of, events_in, extra_at, registry_events, view_events}
+use Rattle.lb_world.specs.Answers.{IsRun}
+use Rattle.lb_world.specs.Promises.{SharesAlike}
+use Rattle.lb_world.proofs.Accepted.{updating}
+use Rattle.lb_world.proofs.Joining.{follows}
+use Rattle.lb_world.proofs.Living.{settings-leave, lives-exactly}
+
+module _ {C : Type 0} where
+  -- a registry lets go where the view's snapshot is gone
+  let-go-is : (o : Option (Made C)) (m : Made C) (n : ℕ) (k : slots.History) (events old : Option (Made C) → List registry.Event) (views : List ViewEvent)
+      → o ≡ Some m → lives n (snapshots_after views) ≡ is_live n m.configs k
+      → cond (is_at m.registry (option_map (λ (x : Made C). x.registry) o))
+      (cond (is_live n (configs_in o) k) (events o) (registry.Released (view_in o) n ∷ events o)) (old o)
+      ≡ without_gone m.view n views (events (Some m))
+  let-go-is o m n k events old views there alike =
+      subst
+      (λ (x : Option (Made C)).
+      cond (is_at m.registry (option_map (λ (y : Made C). y.registry) x))
+      (cond (is_live n (configs_in x) k) (events x) (registry.Released (view_in x) n ∷ events x)) (old x)
+      ≡ without_gone m.view n views (events (Some m)))
+      (sym there) (rw (eq-eqb m.registry m.registry refl, alike) refl)
+
+module _ {C : Type 0} (M : Meaning C) where
+  -- a snapshot that is let go once, after a step with these events of the group
+  gone-alike : (h : History C) (st : Step C) (a : Answer) → IsRun M ((st, a) ∷ h) → (g n : ℕ) (m : Made C) → made_at g ((st, a) ∷ h) ≡ Some m
+      → view_events g ((st, a) ∷ h) ≡ Released n ∷ view_events g h
+      → lives n (snapshots_after (Released n ∷ view_events g h)) ≡ is_live n m.configs (slot_events g ((st, a) ∷ h))
+  gone-alike h st a run g n m there is =
+      ap (λ (v : List ViewEvent). lives n (snapshots_after v)) (sym is) ∙ lives-exactly M ((st, a) ∷ h) run g m there n
+
+  here : (g : ℕ) (v w : List ViewEvent) → cond (g == g) v w ≡ v
+  here g v w = rw (eq-eqb g g refl) refl
+
+  pub shares : (h : History C) (st : Step C) (a : Answer) → IsRun M ((st, a) ∷ h) → SharesAlike h st a
+  shares h (step.build g s now) (answer.BuildFailed n e) run =
+      λ m there.
+      let-go-is (made_at g h) m (extra_at g s h) (slot_events g ((step.build g s now, answer.BuildFailed n e) ∷ h)) (λ o. registry_events m.registry h) (λ o. registry_events m.registry h)
+      (Released (extra_at g s h) ∷ view_events g h) there
+      (gone-alike h (step.build g s now) (answer.BuildFailed n e) run g (extra_at g s h) m there (here g (Released (extra_at g s h) ∷ view_events g h) (view_events g h)))
+  shares h (step.failbuild g s now) (answer.Failed n) run =
+      λ m there.
+      let-go-is (made_at g h) m (extra_at g s h) (slot_events g ((step.failbuild g s now, answer.Failed n) ∷ h)) (λ o. registry_events m.registry h) (λ o. registry_events m.registry h)
+      (Released (extra_at g s h) ∷ view_events g h) there
+      (gone-alike h (step.failbuild g s now) (answer.Failed n) run g (extra_at g s h) m there (here g (Released (extra_at g s h) ∷ view_events g h) (view_events g h)))
+  shares h (step.destroy g s) answer.Destroyed run =
+      λ m there.
+      let-go-is (made_at g h) m (extra_at g s h) (slot_events g ((step.destroy g s, answer.Destroyed) ∷ h)) (λ o. registry_events m.registry h) (λ o. registry_events m.registry h)
+      (Released (extra_at g s h) ∷ view_events g h) there
+      (gone-alike h (step.destroy g s) answer.Destroyed run g (extra_at g s h) m there (here g (Released (extra_at g s h) ∷ view_events g h) (view_events g h)))
+  shares h (step.update g now ls) (answer.Generation n) run =
+      λ m there.
+      let f = follows M h run.0 g in
+      let ms : List Member = members_in ls in
+      let N : ℕ = newest (slot_events g h) in
+      let e : List registry.Event = registry_events m.registry h in
+      let first : List ViewEvent = view_changed (key_of g h) (view_in (made_at g h)) (members_in ls) (events_in (registry_of g h) h) (view_events g h) in
+      let other : same_members (members_in ls) (membership_after (view_events g h)) ≡ false =
+      ap (same_members (members_in ls)) f.membership
+      ∙ not-true (same_members (members_in ls) (members_of (newest (slot_events g h)) (slot_events g h))) (updating M h g now ls n run.1).0 in
+      let shows : snapshots_after (view_events g ((step.update g now ls, answer.Generation n) ∷ h)) ≡ snapshots_after first =
+      ap snapshots_after (here g _ (view_events g h)) ∙ settings-leave (settings_in ls) _
+      ∙ ap (λ (b : Bool). snapshots_after (cond b (view_events g h) first)) other in
+      let alike : lives N (snapshots_after first) ≡ is_live N m.configs (slot_events g ((step.update g now ls, answer.Generation n) ∷ h)) =
+      ap (λ (ss : List SnapshotValue). lives N ss) (sym shows)
+      ∙ lives-exactly M ((step.update g now ls, answer.Generation n) ∷ h) run g m there (newest (slot_events g h)) in
+      let now_is = let-go-is (made_at g h) m N (slot_events g ((step.update g now ls, answer.Generation n) ∷ h))
+      (λ o. registry.after_show (view_in o) (newest (slot_events g h) + 1) (members_in ls) (registry_events m.registry h))
+      (λ o. registry_events m.registry h)
+      (view_changed (key_of g h) m.view (members_in ls) (registry_events m.registry h) (view_events g h)) there alike in
+      now_is
+      ∙ ap
+      (λ (x : ℕ).
+      without_gone m.view x (view_changed (key_of g h) m.view (members_in ls) (registry_events m.registry h) (view_events g h))
+      (registry.after_show m.view (x + 1) (members_in ls) (registry_events m.registry h)))
+      (sym f.generation)
+      ∙ sym
+      (ap
+      (λ (b : Bool).
+      cond b (registry_events m.registry h)
+      (without_gone m.view (generation_after (view_events g h)) (view_changed (key_of g h) m.view (members_in ls) (registry_events m.registry h) (view_events g h))
+      (registry.after_show m.view (generation_after (view_events g h) + 1) (members_in ls) (registry_events m.registry h))))
+      other)
+  shares h st a run = tt

@@ -1,0 +1,52 @@
+-- What a history did to a group and to its view, in the words of a group that is joined with its view.
+use Rattle.std.specs.Prelude.{◌≡◌, ℕ, true, false, List, [], ◌∷◌, ◌++◌, length, Some, if◌then◌else◌}
+use Rattle.lb_select_base.specs.Backends.{Member}
+use Rattle.lb_health_registry.specs.RegistryEvents.{shown_cells}
+use Rattle.lb_rebuild_slots.specs.SlotsHistory as slots
+use Rattle.lb_rebuild_group.specs.GroupCalls.{after_schedule}
+use Rattle.lb_rebuild_group.specs.GroupHistory as group
+use Rattle.lb_rebuild_group.specs.GroupHistory.{Shown, Set, in_group, after_settings}
+use Rattle.lb_world.specs.Steps.{Step}
+use Rattle.lb_world.specs.Steps as step
+use Rattle.lb_world.specs.declared.answer.Answer.{Answer}
+use Rattle.lb_world.specs.declared.answer.Answer.TheVariants as answer
+use Rattle.lb_world.specs.declared.step.Listing.{Listing}
+use Rattle.lb_world.specs.History.{History, Made, is_at, members_in, made_at, registry_of, group_at, happened, slot_events}
+use Rattle.lb_world.specs.Shared.{settings_in, view_in, key_of, events_in, view_events}
+
+module _ {C : Type 0} where
+  -- the cells that the members of an update get when they are shown
+  abbrev pub cells_for : ℕ → List Listing → History C → List (Member × ℕ)
+  cells_for g listings h = shown_cells (key_of g h) (view_in (made_at g h)) (members_in listings) (events_in (registry_of g h) h)
+
+  -- What a step did to its group and the view, by its answer; k are the group's events before, and e those with the view's.
+  abbrev pub group_after_step : History C → slots.History → group.History → Step C → Answer → group.History
+  group_after_step h k e (step.update g now listings) (answer.Generation n) =
+      after_settings (settings_in listings) (Shown (members_in listings) (cells_for g listings h) now ∷ e)
+  group_after_step h k e (step.update g now listings) (answer.Same n) = after_settings (settings_in listings) e
+  group_after_step h k e (step.enable g (Some b)) answer.Done = Set b true ∷ e
+  group_after_step h k e (step.disable g (Some b)) answer.Done = Set b false ∷ e
+  group_after_step h k e st a = in_group (happened h k st a) ++ e
+
+  -- what happened to a group that is joined with its view
+  abbrev pub group_events : ℕ → History C → group.History
+  group_events g [] = []
+  group_events g ((st, a) ∷ h) =
+      if is_at g (group_at h st) then group_after_step h (slot_events g h) (group_events g h) st a else group_events g h
+
+  -- They tell the group's events and those of its view, as the world's history tells them.
+  pub record JoinsAlike (g : ℕ) (h : History C) : Type 0 where
+    pub groups : group.slot_events (group_events g h) ≡ slot_events g h
+    pub views : (m : Made C) → made_at g h ≡ Some m → group.view_events (length m.configs) (group_events g h) ≡ view_events g h
+
+  -- what an update does, in the words of the call that does it
+  abbrev pub Updated : History C → ℕ → ℕ → List Listing → Answer → Type 0
+  Updated h g now listings a =
+      group_events g ((step.update g now listings, a) ∷ h)
+      ≡ after_schedule (key_of g h) (view_in (made_at g h)) (members_in listings) (settings_in listings) now (events_in (registry_of g h) h)
+      (group_events g h)
+
+  abbrev pub SchedulesAlike : History C → Step C → Answer → Type 0
+  SchedulesAlike h (step.update g now listings) (answer.Generation n) = Updated h g now listings (answer.Generation n)
+  SchedulesAlike h (step.update g now listings) (answer.Same n) = Updated h g now listings (answer.Same n)
+  SchedulesAlike h st a = Unit {0}

@@ -1,0 +1,157 @@
+-- What a history did to each registry and to the view of each group, in the words of the registry's and the view's own events.
+-- A snapshot of a view lives while it is the newest or some slot holds it, which the events of its group tell: so the events of
+-- a registry need no view, and those of a view need none but its own group and registry.
+use Rattle.std.specs.Prelude.{ℕ, ◌+◌, Bool, true, false, ◌||◌, ◌==◌, nat_lt, List, [], ◌∷◌, length, map, fold, Option, Some, None}
+use Rattle.std.specs.Prelude.{if◌then◌else◌, slice_get}
+use Rattle.std.specs.List.{filter_map}
+use Rattle.std.specs.BTreeMap.{insert_entry}
+use Rattle.lb_select_base.specs.Backends.{Member, member_cmp}
+use Rattle.lb_health_registry.specs.Keys.{by_identity, by_address}
+use Rattle.lb_health_registry.specs.RegistryEvents as registry
+use Rattle.lb_health_view.specs.ViewEvents.{ViewEvent}
+use Rattle.lb_health_view.specs.ViewEvents as view
+use Rattle.lb_health_view.specs.RegistrySide.{view_updated}
+use Rattle.lb_rebuild_slots.specs.SlotsHistory as slots
+use Rattle.lb_rebuild_group.specs.GroupHistory.{holders}
+use Rattle.lb_world.specs.Steps.{Step}
+use Rattle.lb_world.specs.declared.step.Listing.{Listing}
+use Rattle.lb_world.specs.declared.step.CellKey.{CellKey}
+use Rattle.lb_world.specs.declared.step.CellKey.TheVariants.{Identity, Address}
+use Rattle.lb_world.specs.Steps as step
+use Rattle.lb_world.specs.declared.answer.Answer.{Answer}
+use Rattle.lb_world.specs.declared.answer.Answer.TheVariants as answer
+use Rattle.lb_world.specs.History.{History, RegistryMade, Made, is_at, members_in, registries, made, made_at, registry_of, group_at}
+use Rattle.lb_world.specs.History.{slot_events, past}
+
+-- the key of a backend by a registry's rule
+abbrev pub key_by : CellKey → Member → Member
+key_by Identity = by_identity
+key_by Address = by_address
+
+abbrev pub key_in : Option RegistryMade → Member → Member
+key_in None = by_identity
+key_in (Some m) = key_by m.rule
+
+-- how a registry starts
+abbrev pub started : Bool → List registry.Event
+started true = []
+started false = registry.Configured false ∷ []
+
+-- a mark of an update, with the identity that it is for
+abbrev pub marked : Option Member → Option Bool → Option (Member × Bool)
+marked None on = None
+marked (Some b) None = None
+marked (Some b) (Some on) = Some (by_identity b, on)
+
+-- the settings of an update: a map by identity, in which the last mark of an identity counts
+abbrev pub settings_in : List Listing → List (Member × Bool)
+settings_in listings = fold (λ entries e. insert_entry member_cmp entries e.0 e.1) [] (filter_map (λ l. marked l.backend l.mark) listings)
+
+-- a generation lives while it is the newest or some slot has it in use: it is served, in a flight or a lost flight, or retired
+abbrev pub is_live : {C : Type 0} → ℕ → List C → slots.History → Bool
+is_live n configs k = slots.newest k == n || nat_lt 0 (holders n (length configs) k)
+
+-- what a group was made with, in parts
+abbrev pub configs_in : {C : Type 0} → Option (Made C) → List C
+configs_in None = []
+configs_in (Some m) = m.configs
+
+abbrev pub view_in : {C : Type 0} → Option (Made C) → ℕ
+view_in None = 0
+view_in (Some m) = m.view
+
+module _ {C : Type 0} where
+  abbrev pub registry_made : Option ℕ → History C → Option RegistryMade
+  registry_made None h = None
+  registry_made (Some r) h = slice_get (registries h) r
+
+  abbrev pub key_at : ℕ → History C → Member → Member
+  key_at r h = key_in (slice_get (registries h) r)
+
+  -- the registry that a step is at: that of its group, or the one that it names
+  abbrev pub registry_in : History C → Option ℕ → Option ℕ
+  registry_in h None = None
+  registry_in h (Some g) = registry_of g h
+
+  abbrev pub registry_at : History C → Step C → Option ℕ
+  registry_at h (step.registry rule healthy) = Some (length (registries h))
+  registry_at h (step.group r a configs) = Some r
+  registry_at h (step.targets r) = Some r
+  registry_at h (step.verdict r c ok threshold) = Some r
+  registry_at h st = registry_in h (group_at h st)
+
+  -- the registry lets go of a generation that no longer lives in its group
+  abbrev pub let_go : ℕ → ℕ → History C → List registry.Event → List registry.Event
+  let_go g n h events =
+      if is_live n (configs_in (made_at g h)) (slot_events g h) then events else registry.Released (view_in (made_at g h)) n ∷ events
+
+  -- the generation that stands in a slot beside what it serves
+  abbrev pub extra_at : ℕ → ℕ → History C → ℕ
+  extra_at g s h = slots.generation_of (slots.extra (past g s h))
+
+  -- What a step did to its registry, by its answer, where `now` is the history with the step.
+  abbrev pub changed : History C → History C → Step C → Answer → List registry.Event → List registry.Event
+  changed h now (step.registry rule healthy) (answer.Registry n) events = started healthy
+  changed h now (step.group r a configs) (answer.Group n) events = registry.Applied ∷ registry.Registered ∷ events
+  changed h now (step.update g at listings) (answer.Generation n) events =
+      let_go g (slots.newest (slot_events g h)) now
+      (registry.after_show (view_in (made_at g h)) (slots.newest (slot_events g h) + 1) (members_in listings) events)
+  changed h now (step.build g s at) (answer.BuildFailed n r) events = let_go g (extra_at g s h) now events
+  changed h now (step.failbuild g s at) (answer.Failed n) events = let_go g (extra_at g s h) now events
+  changed h now (step.destroy g s) answer.Destroyed events = let_go g (extra_at g s h) now events
+  changed h now (step.cancel g) answer.Cancelled events = registry.Marked (view_in (made_at g h)) ∷ events
+  changed h now (step.targets r) (answer.Targets ts) events = registry.Applied ∷ events
+  changed h now (step.verdict r c ok threshold) (answer.Flipped b) events =
+      registry.Observed c (record { ok = ok; threshold = threshold }) ∷ events
+  changed h now st a events = events
+
+  -- what happened to a registry
+  abbrev pub registry_events : ℕ → History C → List registry.Event
+  registry_events r [] = []
+  registry_events r ((st, a) ∷ h) =
+      if is_at r (registry_at h st) then changed h ((st, a) ∷ h) st a (registry_events r h) else registry_events r h
+
+  -- the registry of a group
+  abbrev pub events_in : Option ℕ → History C → List registry.Event
+  events_in None h = []
+  events_in (Some r) h = registry_events r h
+
+  abbrev pub key_of : ℕ → History C → Member → Member
+  key_of g h = key_in (registry_made (registry_of g h) h)
+
+  -- What a step did to the view of its group. A setting reaches what a live snapshot lists, which the view's events tell.
+  abbrev pub showed : History C → Step C → Answer → List ViewEvent → List ViewEvent
+  showed h (step.update g now listings) (answer.Generation n) views =
+      view_updated (key_of g h) (view_in (made_at g h)) (members_in listings) (settings_in listings) (events_in (registry_of g h) h) views
+  showed h (step.update g now listings) (answer.Same n) views =
+      view_updated (key_of g h) (view_in (made_at g h)) (members_in listings) (settings_in listings) (events_in (registry_of g h) h) views
+  showed h (step.ask g s now) (answer.Build n) views = view.Held (slots.newest (slot_events g h)) ∷ views
+  showed h (step.build g s now) (answer.BuildFailed n r) views = view.Released (extra_at g s h) ∷ views
+  showed h (step.failbuild g s now) (answer.Failed n) views = view.Released (extra_at g s h) ∷ views
+  showed h (step.destroy g s) answer.Destroyed views = view.Released (extra_at g s h) ∷ views
+  showed h (step.enable g (Some b)) answer.Done views = view.Set b true ∷ views
+  showed h (step.disable g (Some b)) answer.Done views = view.Set b false ∷ views
+  showed h st a views = views
+
+  -- each slot of a group that is made holds generation 0
+  abbrev pub held_at_first : List C → List ViewEvent
+  held_at_first configs = map (λ c. view.Held 0) configs
+
+  -- what happened to the view of a group
+  abbrev pub view_events : ℕ → History C → List ViewEvent
+  view_events g [] = []
+  view_events g ((step.group r a configs, answer.Group n) ∷ h) =
+      if length (made h) == g then held_at_first configs else view_events g h
+  view_events g ((st, a) ∷ h) = if is_at g (group_at h st) then showed h st a (view_events g h) else view_events g h
+
+  -- the cells that the backends of generation n had when it was shown
+  abbrev pub cells_of : ℕ → ℕ → History C → List (Member × ℕ)
+  cells_of g n [] = []
+  cells_of g n ((step.update at now listings, answer.Generation m) ∷ h) =
+      if at == g
+      then
+      if slots.newest (slot_events g h) + 1 == n
+      then registry.shown_cells (key_of g h) (view_in (made_at g h)) (members_in listings) (events_in (registry_of g h) h)
+      else cells_of g n h
+      else cells_of g n h
+  cells_of g n ((st, a) ∷ h) = cells_of g n h
