@@ -25,3 +25,4 @@ pub mod LeastWalking
 pub mod Shares
 pub mod Summing
 pub mod WeightLemmas
+pub mod UniqueTurns

@@ -17,3 +17,4 @@ pub mod Shares
 pub mod Sums
 pub mod WeightLaws
 pub mod Weights
+pub mod UniqueWalks

@@ -1,13 +1,15 @@
 //! The selector of consistent hashing: the points of all backends on one ring, and walks over their owners.
-//! It stands on points in order, with numbers in the place of addresses.
+//! It keeps points in order, with numbers in the place of addresses.
 ghost use Rattle.std.specs.Prelude.{◌≡◌, ◌+◌, ◌^◌, ◌<◌, length, [], MatchOption, option_and_then, slice_get, false, Some, None, ⊤};
 ghost use Rattle.std.specs.Option.{option_copied};
 ghost use Rattle.std.specs.Arc.{arc_value};
 ghost use Rattle.lb_select_base.specs.Backends.{Member};
 ghost use Rattle.lb_select_base.specs.Refusals.{Refuses};
 ghost use Rattle.lb_select.specs.Choices.{IsRingWalk, ring_refusal};
+ghost use Rattle.lb_select.specs.Crc.{crc};
 ghost use Rattle.lb_select.specs.Placed.{IsMove, IsStart, IsWalkFrom, index_here, member_here};
 ghost use Rattle.lb_select.specs.RingLaws.{walk_starts, walk_ends, walk_undrawn, walk_few_words};
+ghost use Rattle.lb_select.specs.Sorted.{SplitsAt};
 
 use crate::crc::crc32;
 use crate::fill::{Marks, POINTS_PER_WEIGHT, marks_of, members_of, weight_on_ring};
@@ -58,7 +60,7 @@ impl Model for KetamaHashing {
 /// What a walk over a ring keeps from candidate to candidate.
 #[derive(Drop)]
 pub struct RingWalk {
-    // the index of the next point; past the last one it stands for the first
+    // the index of the next point; past the last one the first comes again
     at: usize,
 }
 
@@ -95,7 +97,8 @@ impl KetamaHashing {
 
     // The index of the point where a key's walk begins: how many points are below the key's place.
     fn start_of(&self, key: &[u8]) -> usize
-        ensures { IsStart self.now key.now result }
+        ensures below { SplitsAt (crc key.now) self.now.points result }
+        ensures start { IsStart self.now key.now result }
     {
         self.index.first_from(&self.points, crc32(key))
     }
@@ -125,7 +128,8 @@ impl KetamaHashing {
         self.backends.get(index?)
     }
 
-    /// Goes one point on, for a walk of several kinds; the index in the set's order of its backend, `None` on a ring without points.
+    /// Returns the index in the set's order of the backend at the next point, for a walk of several kinds; `None` on a ring without
+    /// points.
     pub fn advance(&self, walk: &mut RingWalk) -> Option<usize>
         ensures inside { MatchOption result (self.now.points ≡ []) (λ i. i < length self.now.members) }
         ensures step { IsMove self.now walk.old.at (option_and_then (slice_get self.now.members) result) walk.new.at }
@@ -137,7 +141,7 @@ impl KetamaHashing {
 }
 
 impl OwnedNodeIterator {
-    /// Goes one point on, as the selector's `advance`.
+    /// Returns the index in the set's order of the backend at the next point, or `None` on a ring without points.
     pub fn advance(&mut self) -> Option<usize>
         ensures inside { MatchOption result ((arc_value self.old.ring).points ≡ []) (λ i. i < length (arc_value self.old.ring).members) }
         ensures step { IsMove (arc_value self.old.ring) self.old.walk.at
@@ -147,7 +151,7 @@ impl OwnedNodeIterator {
         self.ring.advance(&mut self.walk)
     }
 
-    /// The backend of that index in the set's order.
+    /// Returns the backend of that index in the set's order.
     pub fn backend(&self, index: Option<usize>) -> Option<&Backend>
         ensures { option_copied result ≡ option_and_then (slice_get (arc_value self.now.ring).members) index }
     {

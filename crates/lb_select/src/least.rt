@@ -139,7 +139,7 @@ impl LeastConnections {
         self.backends.get(index?)
     }
 
-    /// The index of the next candidate in the set's order, for a walk of several kinds; `None` after the last.
+    /// Returns the index of the next candidate in the set's order, for a walk of several kinds; `None` after the last.
     pub fn advance(&self, walk: &mut LeastWalk) -> Option<usize>
         requires { IsInside self.now walk.old.order.items }
         ensures inside { MatchOption result (length walk.old.order.items ≤ walk.old.at) (λ i. i < length self.now) }
@@ -153,7 +153,7 @@ impl LeastConnections {
 }
 
 impl LeastIterator {
-    /// The index of the next candidate in the set's order, as the selector's `advance`.
+    /// Returns the index of the next candidate in the set's order, or `None` after the last.
     pub fn advance(&mut self) -> Option<usize>
         ensures inside { MatchOption result (length self.old.walk.order.items ≤ self.old.walk.at)
             (λ i. i < length (arc_value self.old.backend)) }
@@ -165,7 +165,7 @@ impl LeastIterator {
         self.backend.advance(&mut self.walk)
     }
 
-    /// The backend of that index in the set's order.
+    /// Returns the backend of that index in the set's order.
     pub fn backend(&self, index: Option<usize>) -> Option<&Backend>
         ensures { option_copied result ≡ option_and_then (slice_get (arc_value self.now.backend)) index }
     {

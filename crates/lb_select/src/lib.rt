@@ -15,6 +15,7 @@ pub mod ring_laws;
 pub mod selection;
 mod spread;
 mod sums;
+pub mod unique_laws;
 pub mod weight_laws;
 pub mod weighted;
 

@@ -1,5 +1,5 @@
 //! A ring that is made of points with their addresses.
-//! It tells the owner of each candidate of a walk from any place.
+//! It gives the owner of each candidate of a walk from any place.
 ghost use Rattle.std.specs.Prelude.{◌≡◌, [], IsOkAnd, MatchOption};
 ghost use Rattle.lb_select_base.specs.Seen.{address_seen};
 ghost use Rattle.lb_select.specs.Circle.{IsRingOwner};
@@ -30,7 +30,7 @@ impl Model for Ring {
 }
 
 impl Ring {
-    /// The ring of these points. Of equal points the one of the least address stays. It is sorted where it lies, so that no
+    /// Returns the ring of these points. Of equal points the one of the least address stays. It is sorted where it lies, so that no
     /// memory is taken and nothing is refused.
     pub fn of_points(points: Vec<(u32, SocketAddr)>) -> Result<Ring, Refusal>
         ensures { IsOkAnd result (λ r. IsRingOf (points_seen points.items) r) }
@@ -41,7 +41,7 @@ impl Ring {
         Ok(Ring { points })
     }
 
-    /// The owner of candidate `j` from `place`: of the point that has exactly `j` modulo the number of points others nearer
+    /// Returns the owner of candidate `j` from `place`: of the point that has exactly `j` modulo the number of points others nearer
     /// to the place, clockwise. `None` where there is no point.
     pub fn owner(&self, place: u32, j: u64) -> Option<&SocketAddr>
         ensures { MatchOption result (self.now ≡ []) (λ a. IsRingOwner (Given self.now) place j (address_seen a.now)) }

@@ -1,5 +1,5 @@
 //! Selection under the upstream crate's names: its traits, its modules, and the weighted selectors by algorithm.
-//! Nothing is defined here beside the names.
+//! Only names are defined here.
 pub use crate::weighted;
 use crate::weighted::Weighted;
 pub use lb_select_base::algorithms;

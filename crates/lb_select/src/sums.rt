@@ -1,7 +1,60 @@
-//! The search for the interval of partial sums that holds a place.
-//! It reads sums by a lent reader alone, whose one call counts, so that no read goes uncounted.
-ghost use Rattle.std.specs.Prelude.{◌≡◌, ◌+◌, ◌-◌, ◌^◌, ◌<◌, ◌≤◌, ℕ, List, Some, length, slice_get};
+//! Partial sums, and the search among them for the interval that holds a place.
+//! The one way to a sum is a reader's one call, which counts, so that no read goes uncounted.
+ghost use Rattle.std.specs.Prelude.{◌≡◌, ◌+◌, ◌-◌, ◌^◌, ◌<◌, ◌≤◌, ◌++◌, ◌∷◌, [], ℕ, List, Some, IfOk, length, slice_get};
 ghost use Rattle.lb_select.specs.Sums.{NeverFalls, IsBelowLast, IsPlaceAt, HasBinaryDigits};
+
+use std::alloc::{AllocError, Global};
+use std::marker::Model;
+
+/// Partial sums. Each is read by a reader alone.
+#[derive(Drop)]
+pub(crate) struct Sums {
+    list: Vec<u64>,
+}
+
+impl Model for Sums {
+    ghost use Rattle.std.specs.Prelude.{List, ℕ};
+
+    ghost Value = { List ℕ };
+
+    ghost view = { λ s. s.list.items };
+}
+
+impl Sums {
+    /// Returns no sums, with room for so many.
+    pub(crate) fn with_capacity(alloc: Global, count: usize) -> Result<Sums, AllocError>
+        ensures { IfOk result (λ s. s ≡ []) }
+    {
+        let list = Vec::with_capacity(alloc, count)?;
+        Ok(Sums { list })
+    }
+
+    /// Adds a sum at the end.
+    pub(crate) fn push(&mut self, sum: u64) -> Result<(), AllocError>
+        ensures { IfOk result (λ _. self.new ≡ self.old ++ sum ∷ []) }
+    {
+        self.list.push(sum)?;
+        Ok(())
+    }
+
+    /// Returns how many sums there are.
+    pub(crate) fn len(&self) -> usize
+        ensures { result ≡ length self.now }
+    {
+        self.list.len()
+    }
+
+    /// Returns a reader of these sums, which has read none.
+    pub(crate) fn reader(&self) -> SumReader<'_>
+        ensures sums { result.sums.now ≡ self.now }
+        ensures reads { result.reads ≡ 0 }
+    {
+        SumReader {
+            sums: &self.list,
+            reads: 0,
+        }
+    }
+}
 
 /// Partial sums that are read one by one.
 pub(crate) trait ReadSums {
@@ -20,20 +73,29 @@ pub(crate) trait ReadSums {
         ensures counted { reads self.new ≡ reads self.old + 1 };
 }
 
-/// Sums of a slice, and how often one was read.
+/// What reads sums, and counts how often it read one.
 #[derive(Drop)]
-pub(crate) struct CountedSums<'a> {
-    pub sums: &'a [u64],
-    pub probes: u32,
+pub(crate) struct SumReader<'a> {
+    sums: &'a [u64],
+    reads: u32,
 }
 
-impl<'a> ReadSums for CountedSums<'a> {
+impl<'a> SumReader<'a> {
+    /// Returns how many sums were read.
+    pub(crate) fn reads(&self) -> u32
+        ensures { result ≡ self.now.reads }
+    {
+        self.reads
+    }
+}
+
+impl<'a> ReadSums for SumReader<'a> {
     ghost sums = { λ r. r.sums.now };
 
-    ghost reads = { λ r. r.probes };
+    ghost reads = { λ r. r.reads };
 
     fn read(&mut self, index: usize) -> u64 {
-        self.probes += 1;
+        self.reads += 1;
         self.sums[index]
     }
 }
@@ -48,7 +110,7 @@ fn half_past(half: usize, sum: u64, place: u64) -> usize
     half & !(borrow as usize)
 }
 
-/// The index of the first sum above a place, found by halves. Each read halves what is left, so the number of reads is that
+/// Returns the index of the first sum above a place, found by halves. Each read halves what is left, so the number of reads is that
 /// of the binary digits of the last index, whatever the place.
 pub(crate) fn index_of_place<R: ReadSums>(reader: &mut R, count: usize, place: u64) -> usize
     requires count { length (R.sums reader.old) ≡ count }

@@ -1,6 +1,6 @@
 //! Weighted selection: each backend gets a share of the first choices that is its weight against the sum of all weights.
 //! A word chooses by the partial sums of the weights; fallbacks disregard weights.
-ghost use Rattle.std.specs.Prelude.{◌≡◌, ℕ, ◌<◌, ◌≤◌, ◌^◌, ◌++◌, ◌∷◌, [], ◌+◌, ◌-◌, List, length, Some, IfOk, MatchOption, ⊤};
+ghost use Rattle.std.specs.Prelude.{◌≡◌, ℕ, ◌<◌, ◌≤◌, ◌^◌, ◌++◌, ◌∷◌, [], ◌+◌, ◌-◌, ◌%◌, List, length, Some, IfOk, MatchOption, ⊤};
 ghost use Rattle.std.specs.Option.{option_and_then, option_copied};
 ghost use Rattle.std.specs.List.{slice_get};
 ghost use Rattle.std.specs.Arc.{arc_value};
@@ -13,7 +13,7 @@ ghost use Rattle.lb_select.specs.Sums.{AreSums, HasBinaryDigits};
 ghost use Rattle.lb_select.specs.Weights.{total_weight, weighted_refusal, HoldsPlace, IsFirstChoice, IsFallback};
 ghost use Rattle.lb_select.specs.Weights.{IsWeightedWalk, IsWeightedRest};
 
-use crate::sums::{CountedSums, index_of_place};
+use crate::sums::{Sums, index_of_place};
 use lb_select_base::algorithms::FnvHasher;
 use lb_select_base::backend::Backend;
 use lb_select_base::refusal::Refusal;
@@ -34,7 +34,7 @@ const MAX_BACKENDS: usize = 65535;
 pub struct Weighted<H = FnvHasher> {
     backends: Vec<Backend>,
     // for each backend the sum of the weights up to it, its own among them
-    sums: Vec<u64>,
+    sums: Sums,
     total: u64,
     algorithm: H,
 }
@@ -48,7 +48,7 @@ impl<H> Model for Weighted<H> {
 
     ghost view = { λ w. w.backends.items };
 
-    ghost invariant = { λ w. IsSummed w.backends.items w.sums.items w.total };
+    ghost invariant = { λ w. IsSummed w.backends.items w.sums w.total };
 }
 
 /// What a walk over a weighted selector keeps from candidate to candidate.
@@ -73,7 +73,7 @@ pub struct WeightedIterator<H> {
 pub struct Located {
     /// The index of its backend in the set's order.
     pub index: usize,
-    /// How many partial sums were read.
+    /// How many partial sums the search read.
     pub probes: u32,
 }
 
@@ -92,14 +92,14 @@ fn sum_of_weights(backends: &BTreeSet<Backend>) -> Option<u64>
 #[tactic(auto, using(crate::proofs::Summing::sums_more))]
 fn add_member(
     list: &mut Vec<Backend>,
-    sums: &mut Vec<u64>,
+    sums: &mut Sums,
     sum: u64,
     backend: &Backend,
 ) -> Result<(), AllocError>
-    requires so_far { AreSums list.old.items sums.old.items }
+    requires so_far { AreSums list.old.items sums.old }
     requires sum { sum ≡ total_weight list.old.items + backend.now.weight }
     ensures list { IfOk result (λ _. list.new.items ≡ list.old.items ++ backend.now ∷ []) }
-    ensures sums { IfOk result (λ _. AreSums list.new.items sums.new.items) }
+    ensures sums { IfOk result (λ _. AreSums list.new.items sums.new) }
 {
     list.push(backend.clone()?)?;
     sums.push(sum)?;
@@ -117,7 +117,7 @@ impl<H: SelectionAlgorithm> Weighted<H> {
         }
         let total = sum_of_weights(backends).ok_or(Refusal::WeightTooLarge)?;
         let mut list = Vec::with_capacity(alloc, backends.len())?;
-        let mut sums = Vec::with_capacity(alloc, backends.len())?;
+        let mut sums = Sums::with_capacity(alloc, backends.len())?;
         let mut sum = 0u64;
         for backend in backends {
             sum += backend.weight as u64;
@@ -131,15 +131,15 @@ impl<H: SelectionAlgorithm> Weighted<H> {
         })
     }
 
-    /// The sum of all weights. It takes no memory.
+    /// Returns the sum of all weights.
     pub fn total(&self) -> u64
         ensures { result ≡ total_weight self.now }
     {
         self.total
     }
 
-    /// The backend whose interval of partial sums holds a place below the total, found by halves: as many sums are read as
-    /// the last index has binary digits, whatever the place and the weights. It takes no memory.
+    /// Returns the index of the backend whose interval of partial sums holds a place below the total, and how many sums the search
+    /// read: as many as the last index has binary digits, whatever the place and the weights. Each read is by halves of what is left.
     pub fn locate(&self, place: u64) -> Located
         requires { place < total_weight self.now }
         ensures index { HoldsPlace self.now place result.index }
@@ -147,18 +147,15 @@ impl<H: SelectionAlgorithm> Weighted<H> {
         ensures probes { HasBinaryDigits (length self.now - 1) result.probes }
         ensures few { (k : ℕ) → HasBinaryDigits (length self.now) k → result.probes ≤ k }
     {
-        let mut reader = CountedSums {
-            sums: &self.sums,
-            probes: 0,
-        };
+        let mut reader = self.sums.reader();
         let index = index_of_place(&mut reader, self.sums.len(), place);
         Located {
             index,
-            probes: reader.probes,
+            probes: reader.reads(),
         }
     }
 
-    // The word that stands for a key.
+    // Draws the word of a key.
     fn draw<W: WordSource>(&self, words: &mut W, key: &[u8]) -> u64
         ensures { (ds : List Draw) × Gives W.gives words.old ds words.new × H.gives_word key.now ds result }
     {
@@ -183,13 +180,14 @@ impl<H: SelectionAlgorithm> Weighted<H> {
     // The index of the fallback for a word.
     fn fallback(&self, word: u64) -> usize
         requires { 0 < total_weight self.now }
-        ensures { (m : Member) × (slice_get self.now result ≡ Some m) × IsFallback self.now word m }
+        ensures index { result ≡ word % length self.now }
+        ensures member { (m : Member) × (slice_get self.now result ≡ Some m) × IsFallback self.now word m }
     {
         let list = self.backends.as_slice();
         word as usize % list.len()
     }
 
-    /// The index of the next candidate in the set's order, for a walk of several kinds; `None` where no backend has a weight.
+    /// Returns the index of the next candidate in the set's order, for a walk of several kinds; `None` where no backend has a weight.
     pub fn advance<W: WordSource>(&self, walk: &mut WeightedWalk, words: &mut W) -> Option<usize>
         ensures inside { MatchOption result (total_weight self.now ≡ 0) (λ i. i < length self.now) }
         ensures step { IsStep W.gives (λ w. IsWeightedRest H.gives_word w.first self.now w.word)
@@ -208,7 +206,7 @@ impl<H: SelectionAlgorithm> Weighted<H> {
 }
 
 impl<H: SelectionAlgorithm> WeightedIterator<H> {
-    /// The index of the next candidate in the set's order, as the selector's `advance`.
+    /// Returns the index of the next candidate in the set's order, or `None` where no backend has a weight.
     pub fn advance<W: WordSource>(&mut self, words: &mut W) -> Option<usize>
         ensures inside { MatchOption result (total_weight (arc_value self.old.backend) ≡ 0)
             (λ i. i < length (arc_value self.old.backend)) }
@@ -219,7 +217,7 @@ impl<H: SelectionAlgorithm> WeightedIterator<H> {
         self.backend.advance(&mut self.walk, words)
     }
 
-    /// The backend of that index in the set's order.
+    /// Returns the backend of that index in the set's order.
     pub fn backend(&self, index: Option<usize>) -> Option<&Backend>
         ensures { option_copied result ≡ option_and_then (slice_get (arc_value self.now.backend)) index }
     {

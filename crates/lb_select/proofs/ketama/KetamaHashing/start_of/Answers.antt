@@ -4,8 +4,8 @@ use Rattle.lb_select.specs.PlacedSeen.{placed_seen}
 use Rattle.lb_select.proofs.Walking.{starts_so}
 use Rattle.lb_select.proofs.ketama.KetamaHashing.start_of.Goals as goal
 
-pub returns : goal.returns
-returns c =
+pub returns-clause-start : goal.returns-clause-start
+returns-clause-start c =
     let place : c.crc32.result ≡ crc c.args.key.now = c.crc32.ensures in
     let low : crc c.args.key.now < 2 ^ 32 = omega arith in
     let within = rw c.deref.ensures.value at c.first_from.ensures.within in

@@ -3,4 +3,4 @@ use Rattle.lb_select.proofs.ketama.KetamaHashingBackendSelection.start.Goals as 
 
 -- nothing is drawn
 pub returns-clause-begins : goal.returns-clause-begins
-returns-clause-begins g c = ([], refl, c.start_of-at.ensures)
+returns-clause-begins g c = ([], refl, c.start_of-at.ensures.start)

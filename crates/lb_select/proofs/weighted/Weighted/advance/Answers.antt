@@ -10,5 +10,5 @@ returns-then-walk-clause-step g c =
 pub returns-clause-step : goal.returns-clause-step
 returns-clause-step g c =
     let drawn = rw c.to_le_bytes.ensures at c.draw-walk.ensures in
-    let found = c.fallback.ensures in
+    let found = c.fallback.ensures.member in
     (drawn.0, drawn.1, rw (found.1, c.if-walk.false) (later_rest _ _ _ _ _ _ drawn.2 found.2))

@@ -1,0 +1,5 @@
+use Rattle.lb_select.proofs.UniqueTurns.{turns_are_one_walk}
+use Rattle.lb_select.proofs.unique_laws.unique_selection_law.Goals as goal
+
+pub returns : goal.returns
+returns g c = λ s key. turns_are_one_walk _ _ g.met.S.Iter.BackendIter.starts _

@@ -1,0 +1,120 @@
+//! Printed values, a ring's configuration, an address to connect to, and selectors by their other names.
+//! The texts are those that Rust's derives write for these types.
+use crate::selection::fixtures::{is_text, push_address, set_of, walked, words_from};
+use lb_select::ketama::{Consistent, KetamaConfig};
+use lb_select::selection::FVNHash;
+use lb_select_base::backend::Backend;
+use lb_select_base::refusal::Refusal;
+use lb_select_base::walk::{BackendIter, BackendSelection};
+use std::alloc::Global;
+use std::fmt::Debug;
+use std::net::Net;
+use std::sync::Arc;
+use std::test::Fail;
+
+// What `{:?}` writes of a value.
+fn printed<T: Debug>(alloc: Global, value: &T) -> Result<String, Refusal> {
+    Ok(format!(in alloc; "{value:?}")?)
+}
+
+// What is written of a configuration, of a copy and of a clone.
+fn printed_configurations(alloc: Global, config: &KetamaConfig) -> Result<String, Refusal> {
+    let copied = *config;
+    let cloned = config.clone()?;
+    Ok(format!(in alloc; "{config:?}, {copied:?}, {cloned:?}")?)
+}
+
+#[test]
+fn debug_texts(rt: HostRuntime) -> Result<(), Fail> {
+    let alloc = rt.alloc();
+    let config = KetamaConfig::default();
+    let text = "KetamaConfig { point_multiple: None }";
+    assert!(rt; is_text(&printed(alloc, &config), text));
+    let config = KetamaConfig {
+        point_multiple: Some(4),
+    };
+    let text = "KetamaConfig { point_multiple: Some(4) }, KetamaConfig { point_multiple: Some(4) }, KetamaConfig { point_multiple: Some(4) }";
+    assert!(rt; is_text(&printed_configurations(alloc, &config), text));
+    let backend = Backend::new_with_weight(alloc, "1.0.0.1:80", 3)?;
+    let text = "Backend { addr: Inet(V4([1, 0, 0, 1], 80)), weight: 3, ext: {} }";
+    assert!(rt; is_text(&printed(alloc, &backend), text));
+    let backend = Backend::unix(alloc, "/a\tb", 0)?;
+    let text = "Backend { addr: Unix(\"/a\\tb\"), weight: 0, ext: {} }";
+    assert!(rt; is_text(&printed(alloc, &backend), text));
+    Ok(())
+}
+
+// The socket addresses of a backend, with a space after each.
+fn socket_addresses<N: Net>(alloc: Global, net: &N, backend: &Backend) -> Result<String, Refusal> {
+    let mut text = String::new(alloc);
+    for addr in backend.to_socket_addrs(net)? {
+        let name = format!(in alloc; "{addr} ")?;
+        text.push_str(name.as_str())?;
+    }
+    Ok(text)
+}
+
+#[test]
+fn backends_to_connect_to(rt: HostRuntime) -> Result<(), Fail> {
+    let alloc = rt.alloc();
+    let backend = Backend::new(alloc, "[2001:db8::1]:443")?;
+    let found = socket_addresses(alloc, &rt, &backend);
+    assert!(rt; is_text(&found, "[2001:db8::1]:443 "));
+    let backend = Backend::unix(alloc, "/a", 1)?;
+    let found = socket_addresses(alloc, &rt, &backend);
+    assert_eq!(rt; found.err(), Some(Refusal::InvalidAddress));
+    Ok(())
+}
+
+const B1: (&str, usize) = ("1.1.1.1:80", 1);
+
+const B2: (&str, usize) = ("1.0.0.1:80", 1);
+
+const B3: (&str, usize) = ("1.0.0.255:80", 1);
+
+const KEYS: [&[u8]; 10] = [
+    b"test0", b"test1", b"test2", b"test3", b"test4", b"test5", b"test6", b"test7", b"test8",
+    b"test9",
+];
+
+// The first candidates of these keys on a ring with a configuration.
+fn first_choices(alloc: Global, members: &[(&str, usize)]) -> Result<String, Refusal> {
+    let config = KetamaConfig {
+        point_multiple: Some(4),
+    };
+    let set = set_of(alloc, members)?;
+    let ring = Arc::new(alloc, Consistent::build_with_config(alloc, &set, &config)?)?;
+    let mut text = String::new(alloc);
+    for key in KEYS {
+        push_first(alloc, &mut text, &ring, key)?;
+    }
+    Ok(text)
+}
+
+fn push_first(
+    alloc: Global,
+    text: &mut String,
+    ring: &Arc<Consistent>,
+    key: &[u8],
+) -> Result<(), Refusal> {
+    let mut words = words_from(0);
+    let mut walk = Consistent::iter(ring, key, &mut words)?;
+    push_address(alloc, text, walk.next(&mut words))
+}
+
+// The first candidates of a key by the other spelling of `FNVHash`.
+fn hashed(alloc: Global) -> Result<String, Refusal> {
+    let set = set_of(alloc, &[("1.1.1.1:80", 1), ("1.0.0.1:80", 10), ("1.0.0.255:80", 1)])?;
+    walked::<FVNHash>(alloc, &set, &mut words_from(0), b"test", &[4])
+}
+
+// A multiple of points changes no choice.
+#[test]
+fn selectors_by_other_names(rt: HostRuntime) {
+    let alloc = rt.alloc();
+    let text = "1.0.0.1:80 1.1.1.1:80 1.1.1.1:80 1.1.1.1:80 1.1.1.1:80 1.0.0.255:80 1.1.1.1:80 1.0.0.255:80 1.1.1.1:80 1.0.0.1:80 ";
+    assert!(rt; is_text(&first_choices(alloc, &[B1, B2, B3]), text));
+    let text = "1.0.0.1:80 1.1.1.1:80 1.1.1.1:80 1.1.1.1:80 1.1.1.1:80 1.0.0.1:80 1.1.1.1:80 1.1.1.1:80 1.1.1.1:80 1.0.0.1:80 ";
+    assert!(rt; is_text(&first_choices(alloc, &[B1, B2]), text));
+    assert!(rt; is_text(&hashed(alloc), "1.0.0.1:80 1.0.0.1:80 1.0.0.1:80 1.1.1.1:80 "));
+}
