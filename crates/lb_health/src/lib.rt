@@ -8,8 +8,8 @@ pub use lb_health_check::health_check::{
     identity_summary,
 };
 pub use lb_health_http::{
-    AcceptStatus, BasicPeer, HttpHealthCheck, HttpPeer, MAX_BODY_BYTES, TcpHealthCheck, Validate,
-    check_over, request_for,
+    AcceptStatus, BasicPeer, HttpHealthCheck, HttpPeer, MAX_BODY_BYTES, NoObserver, TcpHealthCheck,
+    Validate, check_over, request_for,
 };
 pub use lb_health_registry::health::Health;
 pub use lb_health_registry::keys::{ByNumber, KeyRule, Number, Rule};

@@ -1,10 +1,9 @@
 -- A good answer gives no fault but that of a device or of memory.
-use Rattle.std.proofs.Common.{◌≡◌, ℕ, ◌+◌, ◌-◌, ◌≤◌, inl, inr, Bool, true, false, List, ◌++◌, None, Some, Result, Ok, Err, length, take, refl, sym, ap, ◌∙◌, subst, arith}
-use Rattle.std.proofs.Math.Seq.{take-append-add}
+use Rattle.std.proofs.Common.{◌≡◌, ℕ, ◌≤◌, inl, inr, Bool, true, false, List, [], ◌∷◌, ◌++◌, None, Some, Result, Ok, Err, length, refl, sym, ap, ◌∙◌, subst, arith}
 use Rattle.std.specs.Bool.{⊤}
 use Rattle.http.specs.declared.response.Parts.{Parts}
-use Rattle.httparse.specs.Grammar.{ResponseHead, print_response, status_code}
-use Rattle.httparse.proofs.GrammarLemmas.{response_unique}
+use Rattle.httparse.specs.Grammar.{ResponseHead, ReadsResponse, print_response, status_code}
+use Rattle.httparse.proofs.GrammarLemmas.{response_unique, response_prefix_free}
 use Rattle.lb_health_check.specs.declared.error.CheckError.{CheckError}
 use Rattle.lb_health_check.specs.declared.error.CheckError.TheVariants.{BadHead, HeadTooLarge, Interim, Status, Rejected, BadFraming, EndInMessage, BodyTooLarge, Write, Read, OutOfMemory}
 use Rattle.lb_health_http.specs.declared.framing.Framing.{Framing}
@@ -23,11 +22,16 @@ IsOkOrDevice (Err Read) = ⊤
 IsOkOrDevice (Err OutOfMemory) = ⊤
 IsOkOrDevice (Err e) = ⊥
 
--- a head of at most n bytes stands in the first n bytes
-take_head : (n : ℕ) (s front rest : List ℕ) → s ≡ front ++ rest → length front ≤ n → take n s ≡ front ++ take (n - length front) rest
-take_head n s front rest e within =
-    let count : length front + (n - length front) ≡ n = omega arith in
-    ap (take n) e ∙ ap (λ (k : ℕ). take k (front ++ rest)) (sym count) ∙ take-append-add front rest (n - length front)
+-- of two fronts of one text the shorter begins the longer
+shorter_front : (a b x y : List ℕ) → length b ≤ length a → a ++ x ≡ b ++ y → (z : List ℕ) × (a ≡ b ++ z)
+shorter_front a [] x y short e = (a, refl)
+shorter_front [] (c ∷ b) x y short e = absurd (omega arith)
+shorter_front (d ∷ a) (c ∷ b) x y short e =
+    let tails : a ++ x ≡ b ++ y = cc in
+    let rest = shorter_front a b x y (omega arith) tails in
+    let more : a ≡ b ++ rest.0 = rest.1 in
+    let heads : d ≡ c = cc in
+    (rest.0, cc)
 
 module _ (is_head : Bool) (limit : ℕ) (accepts : Parts → Bool) where
   -- what is large is no body within the limit
@@ -50,61 +54,72 @@ module _ (is_head : Bool) (limit : ℕ) (accepts : Parts → Bool) where
       subst (λ (g : Framing). HasBody g a good.size other) (sym one)
       (subst (λ (l : List ℕ). HasBody good.framing l good.size other) (sym same.1) good.body)
 
-  not_bad : (s other : List ℕ) → HasBadHead s → IsGood is_head limit accepts s other → ⊥
-  not_bad s other bad good =
+  not_bad : (s rest other : List ℕ) → HasBadHead s rest → IsGood is_head limit accepts s other → ⊥
+  not_bad s rest other bad good =
       let begun = good.begins.begins in
       let fits = begun.fit.fields in
       let final = begun.fit.status in
-      elim (bad.4 bad.1 good.head good.after (begun.reads.0, sym bad.2 ∙ begun.reads.1)) [
-        | inl many ↦ omega arith
-        | inr low ↦ omega arith
+      let front = bad.line ++ 10 ∷ [] in
+      let reads : ReadsResponse (front ++ rest) good.head good.after = (begun.reads.0, sym bad.is ∙ begun.reads.1) in
+      elim bad.refused [
+        | inl never ↦ never rest good.head good.after reads
+        | inr some ↦ elim some [
+          | inl many ↦ let more = many.overflows rest good.head good.after reads in omega arith
+          | inr low ↦
+              let same = response_prefix_free front rest low.0 good.head [] good.after low.1 reads in
+              let code : status_code low.0 ≡ status_code good.head = ap status_code same.0 in
+              let below = low.2 in
+              omega arith
+        ]
       ]
 
-  not_too_large : (s other : List ℕ) → HasLargeHead s → IsGood is_head limit accepts s other → ⊥
-  not_too_large s other large good =
+  not_too_large : (s rest other : List ℕ) → HasLargeHead s rest → IsGood is_head limit accepts s other → ⊥
+  not_too_large s rest other large good =
       let begun = good.begins.begins in
-      let front = print_response good.head in
-      large.1 good.head (take (65536 - length front) good.after)
-      (begun.reads.0, take_head 65536 s front good.after begun.reads.1 begun.fit.size)
+      let head = print_response good.head in
+      let small = begun.fit.size in
+      let full = large.count in
+      let cut = shorter_front large.front head rest good.after (omega arith) (sym large.is ∙ begun.reads.1) in
+      large.none good.head cut.0 (begun.reads.0, cut.1)
 
-  not_refused : (s other : List ℕ) (code : ℕ) → HasRefusedHead accepts s code → IsGood is_head limit accepts s other → ⊥
-  not_refused s other code refused good =
-      let same = response_unique s refused.head good.head refused.after good.after refused.begins.reads good.begins.begins.reads in
+  not_refused : (s rest other : List ℕ) (code : ℕ) → HasRefusedHead accepts code s rest → IsGood is_head limit accepts s other → ⊥
+  not_refused s rest other code refused good =
+      let same = response_unique s refused.head good.head rest good.after refused.begins.reads good.begins.begins.reads in
       let no_good : accepts (parts_of good.head) ≡ false = ap (λ (k : ResponseHead). accepts (parts_of k)) (sym same.0) ∙ refused.refused in
       let is_good : accepts (parts_of good.head) ≡ true = good.begins.accepted in
       cc
 
-  pub only_good : (s rest other : List ℕ) (r : Result Unit CheckError) → CheckOutcome is_head limit accepts r s rest
-      → IsGood is_head limit accepts s other → IsOkOrDevice r
-  only_good s rest other (Ok _) o good = tt
-  only_good s rest other (Err BadHead) o good = not_bad s other o good
-  only_good s rest other (Err HeadTooLarge) o good = not_too_large s other o good
-  only_good s rest other (Err Interim) o good =
-      let same = response_unique s o.head good.head o.after good.after o.begins.reads good.begins.begins.reads in
+  pub only_good : (has_validator : Bool) (s rest other : List ℕ) (r : Result Unit CheckError)
+      → CheckOutcome is_head limit has_validator accepts r s rest → IsGood is_head limit accepts s other → IsOkOrDevice r
+  only_good has_validator s rest other (Ok _) o good = tt
+  only_good has_validator s rest other (Err BadHead) o good = not_bad s rest other o good
+  only_good has_validator s rest other (Err HeadTooLarge) o good = not_too_large s rest other o good
+  only_good has_validator s rest other (Err Interim) o good =
+      let same = response_unique s o.head good.head rest good.after o.begins.reads good.begins.begins.reads in
       let codes_same : status_code o.head ≡ status_code good.head = ap status_code same.0 in
       let low = o.interim in
       let final = good.begins.final in
       omega arith
-  only_good s rest other (Err (Status code)) o good = not_refused s other code o good
-  only_good s rest other (Err Rejected) o good = not_refused s other o.0 o.1 good
-  only_good s rest other (Err BadFraming) (inl o) good =
-      let same = response_unique s o.head good.head o.after good.after o.begins.begins.reads good.begins.begins.reads in
+  only_good has_validator s rest other (Err (Status code)) o good = not_refused s rest other code o.1 good
+  only_good has_validator s rest other (Err Rejected) o good = not_refused s rest other o.1 o.2 good
+  only_good has_validator s rest other (Err BadFraming) (inl o) good =
+      let same = response_unique s o.head good.head rest good.after o.begins.begins.reads good.begins.begins.reads in
       let none : framing_of is_head good.head.minor (parts_of good.head) ≡ None =
       ap (λ (k : ResponseHead). framing_of is_head k.minor (parts_of k)) (sym same.0) ∙ o.unframed in
       let some = good.framed in
       cc
-  only_good s rest other (Err BadFraming) (inr o) good =
+  only_good has_validator s rest other (Err BadFraming) (inr o) good =
       let body = its_body s other o.after o.head o.framing o.begins o.framed good in
       let never = o.holds in
       never.3 never.1 good.size other (subst (λ (l : List ℕ). HasBody o.framing l good.size other) never.2 body)
-  only_good s rest other (Err EndInMessage) (over, inl o) good = o.1 good.head good.after good.begins.begins.reads
-  only_good s rest other (Err EndInMessage) (over, inr o) good =
+  only_good has_validator s rest other (Err EndInMessage) (over, inl o) good = o.none good.head good.after good.begins.begins.reads
+  only_good has_validator s rest other (Err EndInMessage) (over, inr o) good =
       o.holds good.size other (its_body s other o.after o.head o.framing o.begins o.framed good)
-  only_good s rest other (Err BodyTooLarge) o good =
+  only_good has_validator s rest other (Err BodyTooLarge) o good =
       not_large o.framing o.after good.size other (its_body s other o.after o.head o.framing o.begins o.framed good) good.small rest o.holds
-  only_good s rest other (Err Read) o good = tt
-  only_good s rest other (Err OutOfMemory) o good = tt
-  only_good s rest other (Err e) o good = absurd o
+  only_good has_validator s rest other (Err Read) o good = tt
+  only_good has_validator s rest other (Err OutOfMemory) o good = tt
+  only_good has_validator s rest other (Err e) o good = absurd o
 
 -- with the words of the devices
 pub or_failed : (reader writer : Bool) (r : Result Unit CheckError) → (r ≡ Err Read → reader ≡ true) → IsOkOrDevice r

@@ -1,21 +1,34 @@
 -- Lemmas on a head that is being read: where it ends, and empty lines in front of it.
-use Rattle.std.proofs.Common.{◌≡◌, ◌≢◌, ℕ, ◌+◌, ◌<◌, ◌≤◌, ◌⊎◌, inl, inr, List, [], ◌∷◌, ◌++◌, length, take, drop, refl, sym, ap, ◌∙◌, subst, append_assoc, append-nil, length-append, arith}
+use Rattle.std.proofs.Common.{◌≡◌, ◌≢◌, ℕ, ◌+◌, ◌<◌, ◌≤◌, ◌⊎◌, inl, inr, List, [], ◌∷◌, ◌++◌, None, codes, length, drop, refl, sym, ap, ◌∙◌, subst, append_assoc, append-nil, length-append, arith}
 use Rattle.std.specs.List.{flat_map}
 use Rattle.std.proofs.lemmas.Grind.{flat_map-append}
-use Rattle.httparse.specs.Grammar.{LineEnd, crlf, lf, print_end, print_blank, print_section, print_field, print_version, print_reason, ResponseHead, print_response, ReadsResponse, HasNoResponse, status_code}
-use Rattle.httparse.proofs.GrammarLemmas.{response_prefix_free, ReadsResponse-append, print_response-append}
-use Rattle.lb_health_http.specs.Head.{BeginsWithHead, NeverHasFitHead, HasBadHead, HasLargeHead, EndsInHead, IsBlankLine, AfterBlank}
+use Rattle.httparse.specs.Grammar.{LineEnd, crlf, lf, print_end, print_blank, print_section, print_field, print_version, print_reason}
+use Rattle.httparse.specs.Grammar.{ResponseHead, print_response, ReadsResponse, HasNoResponse, MayBecomeResponse}
+use Rattle.httparse.proofs.GrammarLemmas.{ReadsResponse-append, print_response-append}
+use Rattle.lb_health_http.specs.Head.{BeginsWithHead, IsRefusedHead, IsOpenAtFeeds, HasBadHead, HasLargeHead, EndsInHead}
+use Rattle.lb_health_http.specs.Head.{IsBlankLine, AfterBlank}
+use Rattle.lb_health_http.specs.Steps.{NoFeed}
 use Rattle.lb_health_http.specs.declared.head.HeadParts.{HeadParts}
-use Rattle.std.specs.Str.Parse.{digits_value}
+use Rattle.std.specs.Char.{is_ascii_digit}
 use Rattle.lb_health_http.specs.declared.head.Seen.TheVariants.{Whole, Bad}
 use Rattle.lb_health_http.specs.Head.{Sees, IsWholeHead}
 use Rattle.lb_health_http.proofs.BodyLemmas.{fronts_same}
-use lib.Seq.{take-append_seam}
+use Rattle.std.proofs.lemmas.List.Elements.{All-nil}
+use Rattle.std.proofs.lemmas.List.Sums.{AllPass-from_list_all}
 
--- what is known while a head is read: the bytes since the last empty line hold no whole head, and they are no more than all
--- that were read
+-- some bytes, up to their last line feed and behind it; others can follow the first part that make a head
+pub record OpenAtLast (bytes : List ℕ) : Type 0 where
+  pub front : List ℕ
+  pub line : List ℕ
+  pub is : bytes ≡ front ++ line
+  pub may_go_on : MayBecomeResponse front
+  pub clear : NoFeed line
+
+-- what is known while a head is read: the bytes since the last empty line hold no whole head, aren't refused at a line feed,
+-- and are no more than all that were read
 pub record HeadSoFar (bytes : List ℕ) (count : ℕ) : Type 0 where
   pub none : HasNoResponse bytes
+  pub may_go_on : OpenAtLast bytes
   pub within : length bytes ≤ count
 
 -- ---- where a head ends
@@ -152,27 +165,104 @@ no_blank_response ends bytes none h rest reads =
     let u = unblank ends bytes h rest reads in
     none u.head rest u.reads
 
+-- ---- what the line feeds of a head that is being read say of it
+
+no_feed_in : (line rest : List ℕ) → NoFeed ((line ++ 10 ∷ []) ++ rest) → ⊥
+no_feed_in [] rest clear = clear.0 refl
+no_feed_in (x ∷ line) rest clear = no_feed_in line rest clear.1
+
+-- what ends in a line feed is no longer than what has the last one
+feed_within : (line rest front b : List ℕ) → front ++ b ≡ (line ++ 10 ∷ []) ++ rest → NoFeed b
+    → (mid : List ℕ) × (front ≡ (line ++ 10 ∷ []) ++ mid)
+feed_within line rest [] b e clear = absurd (no_feed_in line rest (subst NoFeed e clear))
+feed_within [] rest (x ∷ front) b e clear = (front, cc)
+feed_within (y ∷ line) rest (x ∷ front) b e clear =
+    let tails : front ++ b ≡ (line ++ 10 ∷ []) ++ rest = cc in
+    let heads : x ≡ y = cc in
+    let more = feed_within line rest front b tails clear in
+    let is : front ≡ (line ++ 10 ∷ []) ++ more.0 = more.1 in
+    (more.0, cc)
+
+-- what begins a text that can become a head can
+open_front : (a b : List ℕ) → MayBecomeResponse (a ++ b) → MayBecomeResponse a
+open_front a b (more, h, reads) = (b ++ more, h, (reads.0, sym (append_assoc a b more) ∙ reads.1))
+
+open_blank : (ends : List LineEnd) (bytes : List ℕ) → MayBecomeResponse bytes → MayBecomeResponse (print_blank ends ++ bytes)
+open_blank ends bytes (more, h, reads) =
+    let all = reads_with_blank ends (bytes ++ more) h [] reads in
+    (more, with_blank ends h, (all.0, append_assoc (print_blank ends) bytes more ∙ all.1))
+
+-- the whole of what was read
+open_at_feeds : (ends : List LineEnd) (bytes : List ℕ) → OpenAtLast bytes → IsOpenAtFeeds (print_blank ends ++ bytes)
+open_at_feeds ends bytes o line rest e =
+    let front = print_blank ends ++ o.front in
+    let split : front ++ o.line ≡ (line ++ 10 ∷ []) ++ rest =
+    append_assoc (print_blank ends) o.front o.line ∙ ap (λ (l : List ℕ). print_blank ends ++ l) (sym o.is) ∙ e in
+    let more = feed_within line rest front o.line split o.clear in
+    open_front (line ++ 10 ∷ []) more.0 (subst MayBecomeResponse more.1 (open_blank ends o.front o.may_go_on))
+
+-- the head of an answer of status 200 without fields
+abbrev plain_head : ResponseHead
+plain_head = record { blank = []; minor = 1; digits = codes "200"; reason = None; line_end = lf; fields = []; last = lf }
+
+pub open_nil : OpenAtLast []
+open_nil = record {
+  front = [];
+  line = [];
+  is = refl;
+  may_go_on = (
+    print_response plain_head,
+    plain_head,
+    (
+      record {
+        minor = omega arith;
+        digits = (refl, AllPass-from_list_all is_ascii_digit (codes "200") refl);
+        reason = All-nil _;
+        fields = All-nil _;
+      },
+      sym (append-nil (print_response plain_head)),
+    ),
+  );
+  clear = tt;
+}
+
+clear_push : (line : List ℕ) (b : ℕ) → NoFeed line → b ≢ 10 → NoFeed (line ++ b ∷ [])
+clear_push [] b clear other = (other, tt)
+clear_push (x ∷ line) b clear other = (clear.0, clear_push line b clear.1 other)
+
+pub open_push : (bytes : List ℕ) (b : ℕ) → OpenAtLast bytes → b ≢ 10 → OpenAtLast (bytes ++ b ∷ [])
+open_push bytes b o other = record {
+  front = o.front;
+  line = o.line ++ b ∷ [];
+  is = ap (λ (l : List ℕ). l ++ b ∷ []) o.is ∙ append_assoc o.front o.line (b ∷ []);
+  may_go_on = o.may_go_on;
+  clear = clear_push o.line b o.clear other;
+}
+
+pub open_feed : (bytes : List ℕ) → MayBecomeResponse bytes → OpenAtLast bytes
+open_feed bytes o = record { front = bytes; line = []; is = sym (append-nil bytes); may_go_on = o; clear = tt }
+
 -- ---- the exits of reading a head
 
-pub head_ended : (count : ℕ) (bytes s m : List ℕ) → AfterBlank count bytes s m → HasNoResponse bytes → count < 65536 → m ≡ []
+pub head_ended : (count : ℕ) (bytes s m : List ℕ) → AfterBlank count bytes s m → HeadSoFar bytes count → count < 65536 → m ≡ []
     → EndsInHead s
-head_ended count bytes s m a none small over =
+head_ended count bytes s m a so_far small over =
     let is : s ≡ print_blank a.ends ++ bytes =
-    a.is ∙ ap (λ (l : List ℕ). print_blank a.ends ++ (bytes ++ l)) over ∙ ap (λ (l : List ℕ). print_blank a.ends ++ l) (append-nil bytes) in (
-      omega (arith, ap length is, length-append (print_blank a.ends) bytes, a.counted),
-      subst HasNoResponse (sym is) (no_blank_response a.ends bytes none),
-    )
+    a.is ∙ ap (λ (l : List ℕ). print_blank a.ends ++ (bytes ++ l)) over ∙ ap (λ (l : List ℕ). print_blank a.ends ++ l) (append-nil bytes) in
+    record {
+      within = omega (arith, ap length is, length-append (print_blank a.ends) bytes, a.counted);
+      none = subst HasNoResponse (sym is) (no_blank_response a.ends bytes so_far.none);
+      may_go_on = subst IsOpenAtFeeds (sym is) (open_at_feeds a.ends bytes so_far.may_go_on);
+    }
 
-pub head_too_large : (bytes s m : List ℕ) → AfterBlank 65536 bytes s m → HasNoResponse bytes → HasLargeHead s
-head_too_large bytes s m a none =
-    let front = print_blank a.ends ++ bytes in
-    let is : s ≡ front ++ m = a.is ∙ sym (append_assoc (print_blank a.ends) bytes m) in
-    let long : length front ≡ 65536 = length-append (print_blank a.ends) bytes ∙ a.counted in
-    let taken : take 65536 s ≡ front =
-    ap (take 65536) is ∙ ap (λ (n : ℕ). take n (front ++ m)) (sym long) ∙ take-append_seam front m in (
-      omega (arith, ap length is, length-append front m, long),
-      subst HasNoResponse (sym taken) (no_blank_response a.ends bytes none),
-    )
+pub head_too_large : (count : ℕ) (bytes s m : List ℕ) → AfterBlank 65536 bytes s m → HeadSoFar bytes count → HasLargeHead s m
+head_too_large count bytes s m a so_far = record {
+  front = print_blank a.ends ++ bytes;
+  is = a.is ∙ sym (append_assoc (print_blank a.ends) bytes m);
+  count = length-append (print_blank a.ends) bytes ∙ a.counted;
+  none = no_blank_response a.ends bytes so_far.none;
+  may_go_on = open_at_feeds a.ends bytes so_far.may_go_on;
+}
 
 pub head_pushed : (count b : ℕ) (bytes s m r : List ℕ) → AfterBlank count bytes s m → m ≡ b ∷ r
     → AfterBlank (count + 1) (bytes ++ b ∷ []) s r
@@ -205,51 +295,72 @@ head_blank count bytes s m r a e (inr cr) =
     (a.is ∙ ap (λ (l : List ℕ). print_blank a.ends ++ (l ++ m)) cr ∙ ap (λ (l : List ℕ). print_blank a.ends ++ 13 ∷ l) e)
     (omega (arith, a.counted, ap length cr))
 
-pub head_never : (count : ℕ) (bytes s m r : List ℕ) → count < 65536 → AfterBlank count bytes s m → m ≡ 10 ∷ r
-    → NeverHasFitHead (bytes ++ 10 ∷ []) → HasBadHead s
+-- what is refused stays so behind empty lines
+blank_refused : (ends : List LineEnd) (bytes : List ℕ) → IsRefusedHead bytes → IsRefusedHead (print_blank ends ++ bytes)
+blank_refused ends bytes (inl never) = inl (λ more h rest reads.
+    let u = unblank ends (bytes ++ more) h rest (reads.0, sym (append_assoc (print_blank ends) bytes more) ∙ reads.1) in
+    never more u.head rest u.reads)
+blank_refused ends bytes (inr (inl many)) =
+    let x = many.exceeds in
+    let reads = reads_with_blank ends (x.0 ++ 10 ∷ []) x.3 [] x.4 in
+    inr (inl (record {
+      exceeds = (
+        print_blank ends ++ x.0,
+        x.1,
+        ap (λ (l : List ℕ). print_blank ends ++ l) x.2 ∙ sym (append_assoc (print_blank ends) x.0 x.1),
+        with_blank ends x.3,
+        (reads.0, append_assoc (print_blank ends) x.0 (10 ∷ []) ∙ reads.1),
+        x.5,
+      );
+      overflows = λ more h rest reads.
+          let u = unblank ends (bytes ++ more) h rest (reads.0, sym (append_assoc (print_blank ends) bytes more) ∙ reads.1) in
+          subst (λ (n : ℕ). 64 < n) (ap length u.fields) (many.overflows more u.head rest u.reads);
+    }))
+blank_refused ends bytes (inr (inr low)) = inr (inr (with_blank ends low.0, reads_with_blank ends bytes low.0 [] low.1, low.2))
+
+pub head_refused : (count : ℕ) (bytes s m r : List ℕ) → count < 65536 → AfterBlank count bytes s m → HeadSoFar bytes count → m ≡ 10 ∷ r
+    → IsRefusedHead (bytes ++ 10 ∷ []) → HasBadHead s r
 unfolding head_pushed
-head_never count bytes s m r small a e never =
-    let line = print_blank a.ends ++ bytes in
-    let regroup : (more : List ℕ) → (line ++ 10 ∷ []) ++ more ≡ print_blank a.ends ++ ((bytes ++ 10 ∷ []) ++ more) = λ more.
-    ap (λ (l : List ℕ). l ++ more) (append_assoc (print_blank a.ends) bytes (10 ∷ []))
-    ∙ append_assoc (print_blank a.ends) (bytes ++ 10 ∷ []) more in (
-      line,
-      r,
-      (head_pushed count 10 bytes s m r a e).is ∙ sym (regroup r),
-      omega (arith, length-append (print_blank a.ends) bytes, a.counted),
-      λ more h rest reads.
-          let u = unblank a.ends ((bytes ++ 10 ∷ []) ++ more) h rest (reads.0, sym (regroup more) ∙ reads.1) in
-          elim (never more u.head rest u.reads) [
-            | inl many ↦ inl (subst (λ (n : ℕ). 64 < n) (ap length u.fields) many)
-            | inr low ↦ inr (subst (λ (d : List ℕ). digits_value 10 d < 100) u.digits low)
-          ],
-    )
+head_refused count bytes s m r small a so_far e refused =
+    let regroup : (print_blank a.ends ++ bytes) ++ 10 ∷ [] ≡ print_blank a.ends ++ (bytes ++ 10 ∷ []) =
+    append_assoc (print_blank a.ends) bytes (10 ∷ []) in
+    record {
+      line = print_blank a.ends ++ bytes;
+      is = (head_pushed count 10 bytes s m r a e).is ∙ sym (append_assoc (print_blank a.ends) (bytes ++ 10 ∷ []) r)
+          ∙ ap (λ (l : List ℕ). l ++ r) (sym regroup);
+      within = omega (arith, length-append (print_blank a.ends) bytes, a.counted);
+      may_go_on = open_at_feeds a.ends bytes so_far.may_go_on;
+      refused = subst IsRefusedHead (sym regroup) (blank_refused a.ends (bytes ++ 10 ∷ []) refused);
+    }
 
-pub head_is_bad : (count : ℕ) (bytes s m r : List ℕ) → count < 65536 → AfterBlank count bytes s m → m ≡ 10 ∷ r
-    → Sees (bytes ++ 10 ∷ []) Bad → HasBadHead s
-head_is_bad count bytes s m r small a e bad = head_never count bytes s m r small a e (λ more h rest reads. inl (bad more h rest reads))
-
-pub head_is_low : (count : ℕ) (bytes s m r : List ℕ) (p : HeadParts) → count < 65536 → AfterBlank count bytes s m → m ≡ 10 ∷ r
-    → Sees (bytes ++ 10 ∷ []) (Whole p) → p.found.code < 100 → HasBadHead s
-head_is_low count bytes s m r p small a e seen low = head_never count bytes s m r small a e (λ more h rest reads.
+-- a whole head ends in the line feed that completes it
+whole_reads : (bytes : List ℕ) (p : HeadParts) → HasNoResponse bytes → (seen : Sees (bytes ++ 10 ∷ []) (Whole p))
+    → ReadsResponse (bytes ++ 10 ∷ []) seen.0 []
+whole_reads bytes p none seen =
     let at = seen.1.at in
-    let same = response_prefix_free (bytes ++ 10 ∷ []) more seen.0 h (drop p.found.len (bytes ++ 10 ∷ [])) rest at.reads reads in
-    let code : p.found.code ≡ status_code h = at.code ∙ ap status_code same.0 in
-    inr (omega (arith, code, low)))
+    let over = whole_or_before bytes 10 seen.0 (drop p.found.len (bytes ++ 10 ∷ [])) none at.reads in
+    subst (λ (l : List ℕ). ReadsResponse (bytes ++ 10 ∷ []) seen.0 l) over at.reads
+
+pub head_is_low : (bytes : List ℕ) (p : HeadParts) → HasNoResponse bytes → Sees (bytes ++ 10 ∷ []) (Whole p) → p.found.code < 100
+    → IsRefusedHead (bytes ++ 10 ∷ [])
+head_is_low bytes p none seen low =
+    inr (inr (seen.0, whole_reads bytes p none seen, omega (arith, seen.1.at.code, low)))
+
+pub head_is_bad : (bytes : List ℕ) → Sees bytes Bad → IsRefusedHead bytes
+head_is_bad bytes (inl never) = inl never
+head_is_bad bytes (inr many) = inr (inl many)
 
 pub head_is_whole : (bytes : List ℕ) (p : HeadParts) → HasNoResponse bytes → Sees (bytes ++ 10 ∷ []) (Whole p)
     → 100 ≤ p.found.code → length bytes + 1 ≤ 65536 → (h : ResponseHead) × IsWholeHead (bytes ++ 10 ∷ []) p h
-head_is_whole bytes p none seen fit small =
-    let at = seen.1.at in
-    let over = whole_or_before bytes 10 seen.0 (drop p.found.len (bytes ++ 10 ∷ [])) none at.reads in (
-      seen.0,
-      record {
-        parts = seen.1;
-        reads = subst (λ (l : List ℕ). ReadsResponse (bytes ++ 10 ∷ []) seen.0 l) over at.reads;
-        status = omega (arith, at.code, fit);
-        size = omega (arith, length-append bytes (10 ∷ []), small);
-      },
-    )
+head_is_whole bytes p none seen fit small = (
+  seen.0,
+  record {
+    parts = seen.1;
+    reads = whole_reads bytes p none seen;
+    status = omega (arith, seen.1.at.code, fit);
+    size = omega (arith, length-append bytes (10 ∷ []), small);
+  },
+)
 
 -- ---- the head that was read, at the front of the stream
 

@@ -8,5 +8,6 @@ pub mod FieldLemmas
 pub mod HeadLemmas
 pub mod LengthLemmas
 pub mod LineLemmas
+pub mod PartsLemmas
 pub mod Streams
 pub mod TrailerLemmas

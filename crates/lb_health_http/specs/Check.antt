@@ -27,11 +27,10 @@ Judges by validator p (Err (Status s)) =
 Judges by validator p (Err Rejected) = (200 ≤ p.status) × (accepts_of by validator p ≡ false) × (validator ≢ None)
 Judges by validator p (Err e) = ⊥
 
--- the stream begins with a whole head whose status is below 200
-pub record IsInterim (stream : List ℕ) : Type 0 where
+-- the stream is a whole head whose status is below 200, and then the rest
+pub record IsInterim (stream rest : List ℕ) : Type 0 where
   pub head : ResponseHead
-  pub after : List ℕ
-  pub begins : BeginsWithHead stream head after
+  pub begins : BeginsWithHead stream head rest
   pub interim : status_code head < 200
 
 module _ (accepts : Parts → Bool) where
@@ -41,11 +40,10 @@ module _ (accepts : Parts → Bool) where
     pub final : 200 ≤ status_code h
     pub accepted : accepts (parts_of h) ≡ true
 
-  -- the stream begins with a head of that status, which is refused
-  pub record HasRefusedHead (stream : List ℕ) (status : ℕ) : Type 0 where
+  -- the stream is a head of that status, which is refused, and then the rest
+  pub record HasRefusedHead (status : ℕ) (stream rest : List ℕ) : Type 0 where
     pub head : ResponseHead
-    pub after : List ℕ
-    pub begins : BeginsWithHead stream head after
+    pub begins : BeginsWithHead stream head rest
     pub final : 200 ≤ status_code head
     pub refused : accepts (parts_of head) ≡ false
     pub status_is : status ≡ status_code head
@@ -60,16 +58,15 @@ module _ (is_head : Bool) (accepts : Parts → Bool) where
     pub framed : framing_of is_head head.minor (parts_of head) ≡ Some framing
     pub holds : P framing after
 
-  -- an accepted head contradicts itself about the body
-  pub record HasNoFraming (stream : List ℕ) : Type 0 where
+  -- the stream is an accepted head, which contradicts itself about the body, and then the rest
+  pub record HasNoFraming (stream rest : List ℕ) : Type 0 where
     pub head : ResponseHead
-    pub after : List ℕ
-    pub begins : HasAcceptedHead accepts stream head after
+    pub begins : HasAcceptedHead accepts stream head rest
     pub unframed : framing_of is_head head.minor (parts_of head) ≡ None
 
-  -- what is framed can't be a body, or no framing is known
-  abbrev pub HasBadFraming : List ℕ → Type 0
-  HasBadFraming stream = HasNoFraming stream ⊎ HasFramed NeverHasBody stream
+  -- no framing is known, and the rest is what follows the head; or what is framed can't be a body
+  abbrev pub HasBadFraming : List ℕ → List ℕ → Type 0
+  HasBadFraming stream rest = HasNoFraming stream rest ⊎ HasFramed NeverHasBody stream
 
 module _ (is_head : Bool) (limit : ℕ) (accepts : Parts → Bool) where
   -- the stream is a message whose head is accepted and whose body is within the limit, and then the rest
@@ -83,15 +80,18 @@ module _ (is_head : Bool) (limit : ℕ) (accepts : Parts → Bool) where
     pub small : size ≤ limit
     pub body : HasBody framing after size rest
 
+-- by whether the request asks for the head alone, the limit, whether there is a validator, and what is accepted
+module _ (is_head : Bool) (limit : ℕ) (has_validator : Bool) (accepts : Parts → Bool) where
   -- what a check does to the stream
   abbrev pub CheckOutcome : Result Unit CheckError → List ℕ → List ℕ → Type 0
-  CheckOutcome (Ok _) stream rest = IsGood stream rest
-  CheckOutcome (Err BadHead) stream rest = HasBadHead stream
-  CheckOutcome (Err HeadTooLarge) stream rest = HasLargeHead stream
-  CheckOutcome (Err Interim) stream rest = IsInterim stream
-  CheckOutcome (Err (Status s)) stream rest = HasRefusedHead accepts stream s
-  CheckOutcome (Err Rejected) stream rest = (status : ℕ) × HasRefusedHead accepts stream status
-  CheckOutcome (Err BadFraming) stream rest = HasBadFraming is_head accepts stream
+  CheckOutcome (Ok _) stream rest = IsGood is_head limit accepts stream rest
+  CheckOutcome (Err BadHead) stream rest = HasBadHead stream rest
+  CheckOutcome (Err HeadTooLarge) stream rest = HasLargeHead stream rest
+  CheckOutcome (Err Interim) stream rest = IsInterim stream rest
+  CheckOutcome (Err (Status s)) stream rest = (has_validator ≡ false) × HasRefusedHead accepts s stream rest
+  CheckOutcome (Err Rejected) stream rest =
+      (has_validator ≡ true) × (status : ℕ) × HasRefusedHead accepts status stream rest
+  CheckOutcome (Err BadFraming) stream rest = HasBadFraming is_head accepts stream rest
   CheckOutcome (Err EndInMessage) stream rest = (rest ≡ []) × (EndsInHead stream ⊎ HasFramed is_head accepts HasNoBody stream)
   CheckOutcome (Err BodyTooLarge) stream rest =
       HasFramed is_head accepts (λ f after. IsLarge limit f after rest) stream

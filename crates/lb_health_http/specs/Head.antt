@@ -1,8 +1,9 @@
 -- The head of an answer as a check takes it: one that the grammar of `httparse` reads, with a status of at least 100, at
 -- most 64 fields and at most 65536 bytes.
-use Rattle.std.specs.Prelude.{◌≡◌, ℕ, ◌<◌, ◌≤◌, ◌+◌, ◌⊎◌, List, [], ◌∷◌, ◌++◌, length, take, ⊤, Result, Ok, Err}
-use Rattle.httparse.specs.Grammar.{LineEnd, print_blank, ResponseHead, ReadsResponse, HasNoResponse, print_response, status_code}
-use Rattle.httparse.specs.Spans.{IsResponseWithin, IsResponseAt}
+use Rattle.std.specs.Prelude.{◌≡◌, ℕ, ◌<◌, ◌≤◌, ◌+◌, ◌⊎◌, List, [], ◌∷◌, ◌++◌, length, ⊤, Result, Ok, Err}
+use Rattle.httparse.specs.Grammar.{LineEnd, print_blank, ResponseHead, ReadsResponse, HasNoResponse, NeverHasResponse, MayBecomeResponse}
+use Rattle.httparse.specs.Grammar.{print_response, status_code}
+use Rattle.httparse.specs.Spans.{IsResponseWithin, IsResponseAt, ResponseOverflows, ResponseExceeds}
 use Rattle.lb_health_check.specs.declared.error.CheckError.{CheckError}
 use Rattle.lb_health_check.specs.declared.error.CheckError.TheVariants.{BadHead, HeadTooLarge, EndInMessage, Read, OutOfMemory}
 use Rattle.lb_health_http.specs.declared.head.HeadParts.{HeadParts}
@@ -21,25 +22,45 @@ pub record BeginsWithHead (stream : List ℕ) (h : ResponseHead) (rest : List �
   pub reads : ReadsResponse stream h rest
   pub fit : IsFitHead h
 
--- whatever follows these bytes, a head that begins them has too many fields or too low a status
-abbrev pub NeverHasFitHead : List ℕ → Type 0
-NeverHasFitHead front =
-    (more : List ℕ) (h : ResponseHead) (rest : List ℕ) → ReadsResponse (front ++ more) h rest
-    → (64 < length h.fields) ⊎ (status_code h < 100)
+-- the bytes are a head and then the beginning of a 65th field or of more, and each head that begins them has more than 64
+pub record HasManyFields (bytes : List ℕ) : Type 0 where
+  pub exceeds : ResponseExceeds 64 bytes
+  pub overflows : ResponseOverflows 64 bytes
 
--- a front of the stream that ends in a line feed, within the limit, can't become a head
-abbrev pub HasBadHead : List ℕ → Type 0
-HasBadHead stream =
-    (line : List ℕ) × (rest : List ℕ) × (stream ≡ (line ++ 10 ∷ []) ++ rest) × (length line < 65536)
-    × NeverHasFitHead (line ++ 10 ∷ [])
+-- the bytes are a whole head, whose status is below 100
+abbrev pub IsLowHead : List ℕ → Type 0
+IsLowHead bytes = (h : ResponseHead) × ReadsResponse bytes h [] × (status_code h < 100)
 
--- the first 65536 bytes of the stream hold no whole head
-abbrev pub HasLargeHead : List ℕ → Type 0
-HasLargeHead stream = (65536 ≤ length stream) × HasNoResponse (take 65536 stream)
+-- no bytes can follow that make a head, or there are too many fields, or the head is whole and its status is too low
+abbrev pub IsRefusedHead : List ℕ → Type 0
+IsRefusedHead bytes = NeverHasResponse bytes ⊎ (HasManyFields bytes ⊎ IsLowHead bytes)
 
--- the whole stream is shorter than that and holds no whole head
-abbrev pub EndsInHead : List ℕ → Type 0
-EndsInHead stream = (length stream < 65536) × HasNoResponse stream
+-- at each line feed of the text bytes can follow that make a head of what came up to there
+abbrev pub IsOpenAtFeeds : List ℕ → Type 0
+IsOpenAtFeeds text = (line rest : List ℕ) → text ≡ (line ++ 10 ∷ []) ++ rest → MayBecomeResponse (line ++ 10 ∷ [])
+
+-- within the limit the stream has a line feed at which what came up to there is refused, as it is at none before; the rest
+-- is what follows it
+pub record HasBadHead (stream rest : List ℕ) : Type 0 where
+  pub line : List ℕ
+  pub is : stream ≡ (line ++ 10 ∷ []) ++ rest
+  pub within : length line < 65536
+  pub may_go_on : IsOpenAtFeeds line
+  pub refused : IsRefusedHead (line ++ 10 ∷ [])
+
+-- the first 65536 bytes of the stream hold no whole head and are refused at no line feed; the rest is what follows them
+pub record HasLargeHead (stream rest : List ℕ) : Type 0 where
+  pub front : List ℕ
+  pub is : stream ≡ front ++ rest
+  pub count : length front ≡ 65536
+  pub none : HasNoResponse front
+  pub may_go_on : IsOpenAtFeeds front
+
+-- the whole stream is shorter than that, holds no whole head and is refused at no line feed
+pub record EndsInHead (stream : List ℕ) : Type 0 where
+  pub within : length stream < 65536
+  pub none : HasNoResponse stream
+  pub may_go_on : IsOpenAtFeeds stream
 
 -- ---- what the calls below answer
 
@@ -52,8 +73,8 @@ pub record HasParts (bytes : List ℕ) (p : HeadParts) (h : ResponseHead) : Type
 -- what a look at bytes that end in a line feed answers
 abbrev pub Sees : List ℕ → Seen → Type 0
 Sees bytes (Whole p) = (h : ResponseHead) × HasParts bytes p h
-Sees bytes Open = HasNoResponse bytes
-Sees bytes Bad = (more : List ℕ) (h : ResponseHead) (rest : List ℕ) → ReadsResponse (bytes ++ more) h rest → 64 < length h.fields
+Sees bytes Open = HasNoResponse bytes × MayBecomeResponse bytes
+Sees bytes Bad = NeverHasResponse bytes ⊎ HasManyFields bytes
 
 -- the line has no byte but perhaps a carriage return
 abbrev pub IsBlankLine : List ℕ → Type 0
@@ -79,8 +100,8 @@ pub record AfterBlank (count : ℕ) (bytes stream rest : List ℕ) : Type 0 wher
 -- what reading a head does to the stream
 abbrev pub HeadOutcome : Result Head CheckError → List ℕ → List ℕ → Type 0
 HeadOutcome (Ok head) stream rest = (count : ℕ) × (count ≤ 65536) × AfterBlank count head.bytes.items stream rest
-HeadOutcome (Err BadHead) stream rest = HasBadHead stream
-HeadOutcome (Err HeadTooLarge) stream rest = HasLargeHead stream
+HeadOutcome (Err BadHead) stream rest = HasBadHead stream rest
+HeadOutcome (Err HeadTooLarge) stream rest = HasLargeHead stream rest
 HeadOutcome (Err EndInMessage) stream rest = (rest ≡ []) × EndsInHead stream
 HeadOutcome (Err Read) stream rest = ⊤
 HeadOutcome (Err OutOfMemory) stream rest = ⊤

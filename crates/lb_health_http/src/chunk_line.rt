@@ -85,7 +85,7 @@ fn ends_line(rest: &[u8]) -> bool
     is_end(end)
 }
 
-/// The size that a chunk line writes, or `None` where the line is no chunk line.
+/// Returns the size that a chunk line writes, or `None` where the line is no chunk line.
 pub(crate) fn size_of(line: &[u8]) -> Option<u64>
     requires { IsLineText line.now }
     ensures { MatchOption result (IsNoChunkLine line.now) (IsChunkLineOf line.now) }

@@ -1,5 +1,5 @@
 //! One exchange: the request is written and one answer is read, whole and framed, or the fault is told.
-ghost use Rattle.std.specs.Prelude.{◌≡◌, ◌≢◌, ℕ, List, false, true, OnOk};
+ghost use Rattle.std.specs.Prelude.{◌≡◌, ◌≢◌, ℕ, List, false, true, is_some, OnOk};
 ghost use Rattle.std.specs.Io.KnownBytes.{Appends};
 ghost use Rattle.http.specs.Request.{head_of};
 ghost use Rattle.lb_stream.specs.Counted.{inner_of, has_failed, is_flushed};
@@ -28,7 +28,7 @@ fn answer<V: Validate, R: Read>(
     reader: &mut Counted<R>,
 ) -> Result<(), CheckError>
     ensures outcome { OnBytes (R.remaining (inner_of reader.old)) (R.remaining (inner_of reader.new))
-        (CheckOutcome head_alone max_body_bytes (accepts_of V.accepts validator.now) result) }
+        (CheckOutcome head_alone max_body_bytes (is_some validator.now) (accepts_of V.accepts validator.now) result) }
     ensures own { result ≢ Err CheckError.Write }
     ensures failed { result ≡ Err CheckError.Read → has_failed reader.new ≡ true }
     ensures kept { result ≢ Err CheckError.Read → has_failed reader.new ≡ has_failed reader.old }
@@ -39,7 +39,7 @@ fn answer<V: Validate, R: Read>(
     };
     let parts = match to_parts(alloc, &head) {
         Ok(parts) => parts,
-        Err(fault) => return Err(fault),
+        Err(_) => return Err(CheckError::OutOfMemory),
     };
     match judge(validator, &parts) {
         Ok(()) => {}
@@ -51,7 +51,7 @@ fn answer<V: Validate, R: Read>(
     }
 }
 
-// The same, told from the other side too: a good answer gives no other fault than that of a device or of memory.
+// Reads one answer, and says too that a good answer gives no other fault than that of a device or of memory.
 fn read_answer<V: Validate, R: Read>(
     alloc: Global,
     head_alone: bool,
@@ -60,7 +60,7 @@ fn read_answer<V: Validate, R: Read>(
     reader: &mut Counted<R>,
 ) -> Result<(), CheckError>
     ensures outcome { OnBytes (R.remaining (inner_of reader.old)) (R.remaining (inner_of reader.new))
-        (CheckOutcome head_alone max_body_bytes (accepts_of V.accepts validator.now) result) }
+        (CheckOutcome head_alone max_body_bytes (is_some validator.now) (accepts_of V.accepts validator.now) result) }
     ensures only { OnBytes (R.remaining (inner_of reader.old)) (R.remaining (inner_of reader.new)) (λ stream rest.
         (other : List ℕ) → IsGood head_alone max_body_bytes (accepts_of V.accepts validator.now) stream other
         → IsOkOrFailed (has_failed reader.new) false result) }
@@ -92,7 +92,8 @@ pub fn check_over<V: Validate, R: Read, W: Write>(
     requires reader { has_failed reader.old ≡ false }
     requires writer { has_failed writer.old ≡ false }
     ensures outcome { result ≢ Err CheckError.Write → OnBytes (R.remaining (inner_of reader.old)) (R.remaining (inner_of reader.new))
-        (CheckOutcome (asks_for_head (head_of req.now)) max_body_bytes (accepts_of V.accepts validator.now) result) }
+        (CheckOutcome (asks_for_head (head_of req.now)) max_body_bytes (is_some validator.now) (accepts_of V.accepts validator.now)
+        result) }
     ensures written { OnOk result (Appends (W.contents (inner_of writer.old)) (W.contents (inner_of writer.new))
         (text_of (head_of req.now))) }
     ensures flushed { OnOk result (is_flushed writer.new ≡ true) }

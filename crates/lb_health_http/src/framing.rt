@@ -56,7 +56,7 @@ fn length_of(digits: &[u8]) -> Option<u64>
     Some(value)
 }
 
-/// How the head frames its body, or `None` where it contradicts itself. `minor` is the minor number of the version, and
+/// Returns how the head frames its body, or `None` where it contradicts itself. `minor` is the minor number of the version, and
 /// `is_head` says that the request asked for the head alone.
 pub(crate) fn frame(is_head: bool, minor: u8, head: &Parts) -> Option<Framing>
     ensures { result ≡ framing_of is_head minor head.now }

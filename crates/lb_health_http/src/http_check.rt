@@ -1,21 +1,21 @@
 //! A check that sends a request and reads one answer.
-ghost use Rattle.std.specs.Prelude.{◌≡◌, ◌≢◌, ℕ, List, false, true, IfOk, OnOk, codes, if◌then◌else◌};
+ghost use Rattle.std.specs.Prelude.{◌≡◌, ◌≢◌, ◌↔◌, ◌⊎◌, ℕ, List, Some, false, true, is_some, IfOk, IfErr, OnOk, codes, if◌then◌else◌};
 ghost use Rattle.std.specs.Io.KnownBytes.{Appends};
 ghost use Rattle.http.specs.Request.{head_of};
+ghost use Rattle.http_header.specs.FieldValue.{IsFieldValue};
 ghost use Rattle.lb_stream.specs.Counted.{inner_of, has_failed, is_flushed};
 ghost use Rattle.lb_stream.specs.Stream.{OnBytes};
 ghost use Rattle.lb_health_http.specs.Check.{accepts_of, IsGood, CheckOutcome, IsOkOrFailed};
 ghost use Rattle.lb_health_http.specs.Request.{text_of, asks_for_head, default_text};
 
 use crate::engine::check_over;
+use crate::observer::NoObserver;
 use crate::peer::{HttpPeer, connect, connect_unix, duration_of, with_port};
 use crate::request::request_for;
 use crate::validate::{AcceptStatus, Validate};
 use http::{Method, Request};
 use lb_health_check::error::CheckError;
-use lb_health_check::health_check::{
-    BackendSummary, HealthCheck, HealthObserve, HealthObserveCallback, IdentitySummary,
-};
+use lb_health_check::health_check::{BackendSummary, HealthCheck, HealthObserve, IdentitySummary};
 use lb_select_base::backend::{Backend, SocketAddr};
 use lb_select_base::refusal::Refusal;
 use lb_stream::counted::Counted;
@@ -28,7 +28,7 @@ pub const MAX_BODY_BYTES: u64 = 1048576;
 
 /// Checks that a backend gives a whole answer that is accepted.
 #[derive(Drop)]
-pub struct HttpHealthCheck<N, V = AcceptStatus, O = HealthObserveCallback, S = IdentitySummary> {
+pub struct HttpHealthCheck<N, V = AcceptStatus, O = NoObserver, S = IdentitySummary> {
     net: N,
     /// How many successes in a row make a backend healthy; 0 acts as 1.
     pub consecutive_success: usize,
@@ -44,15 +44,16 @@ pub struct HttpHealthCheck<N, V = AcceptStatus, O = HealthObserveCallback, S = I
     pub max_body_bytes: u64,
     /// The port that is checked in place of the backend's own. It means nothing to a Unix socket.
     pub port_override: Option<u16>,
-    /// Who is told when the health of a backend changes.
+    /// What is told when the health of a backend changes.
     pub health_changed_callback: Option<O>,
     /// How log lines name a backend.
     pub backend_summary_callback: S,
 }
 
 impl<N> HttpHealthCheck<N> {
-    /// A check over that network that asks `host` for `/`: thresholds of 1, a second to connect and for each read, a body of
-    /// at most 1048576 bytes. Refused `InvalidAddress` where the host is no header value, and `OutOfMemory`.
+    /// Returns a check over that network that asks `host` for `/`: thresholds of 1, a second to connect and for each read, no
+    /// limit for writes, a body of at most 1048576 bytes, no validator, no other port and no observer. Refused
+    /// `InvalidAddress` exactly where the host is no header value, and `OutOfMemory`.
     pub fn new(alloc: Global, net: N, host: &str) -> Result<HttpHealthCheck<N>, Refusal>
     where
         N: Drop,
@@ -60,6 +61,13 @@ impl<N> HttpHealthCheck<N> {
         ensures accepts { IfOk result (λ check. check.validator ≡ None) }
         ensures limit { IfOk result (λ check. check.max_body_bytes ≡ MAX_BODY_BYTES) }
         ensures thresholds { IfOk result (λ check. (check.consecutive_success ≡ 1) × (check.consecutive_failure ≡ 1)) }
+        ensures connects { IfOk result (λ check. check.peer_template.connection_timeout ≡ Some 1000000000) }
+        ensures reads { IfOk result (λ check. check.peer_template.read_timeout ≡ Some 1000000000) }
+        ensures writes { IfOk result (λ check. check.peer_template.write_timeout ≡ None) }
+        ensures port { IfOk result (λ check. check.port_override ≡ None) }
+        ensures silent { IfOk result (λ check. check.health_changed_callback ≡ None) }
+        ensures invalid { result ≡ Err Refusal.InvalidAddress ↔ ¬ (IsFieldValue host.now) }
+        ensures refused { IfErr result (λ e. (e ≡ Refusal.InvalidAddress) ⊎ (e ≡ Refusal.OutOfMemory)) }
     {
         let req = request_for(alloc, Method::GET, host)?;
         Ok(HttpHealthCheck {
@@ -78,7 +86,7 @@ impl<N> HttpHealthCheck<N> {
 }
 
 impl<N, V, O, S: Drop> HttpHealthCheck<N, V, O, S> {
-    /// The same check with that summary.
+    /// Returns this check with that summary in place of its own.
     pub fn set_backend_summary<T: BackendSummary>(self, summary: T) -> HttpHealthCheck<N, V, O, T>
         ensures summary { result.backend_summary_callback ≡ summary }
         ensures validator { result.validator ≡ self.validator }
@@ -118,7 +126,7 @@ impl<N, V, O, S: Drop> HttpHealthCheck<N, V, O, S> {
 }
 
 impl<N, V: Drop, O: Drop, S: Drop> HttpHealthCheck<N, V, O, S> {
-    /// The same check with that validator, observer and summary in place of its own.
+    /// Returns this check with that validator, observer and summary in place of its own.
     pub fn with_callbacks<W: Validate, P: HealthObserve, T: BackendSummary>(
         self,
         validator: Option<W>,
@@ -163,7 +171,7 @@ impl<N, V: Drop, O: Drop, S: Drop> HttpHealthCheck<N, V, O, S> {
 }
 
 impl<N, V: Validate, O, S> HttpHealthCheck<N, V, O, S> {
-    /// One exchange over any streams, as `check_over` tells it, with this check's request, validator and limit.
+    /// Writes this check's request and reads one answer, over any streams, with this check's validator and limit: `check_over`.
     ///
     /// The caller owes streams of which no call has failed yet.
     pub fn check_over<R: Read, W: Write>(
@@ -175,7 +183,8 @@ impl<N, V: Validate, O, S> HttpHealthCheck<N, V, O, S> {
         requires reader { has_failed reader.old ≡ false }
         requires writer { has_failed writer.old ≡ false }
         ensures outcome { result ≢ Err CheckError.Write → OnBytes (R.remaining (inner_of reader.old)) (R.remaining (inner_of reader.new))
-            (CheckOutcome (asks_for_head (head_of self.now.req)) self.now.max_body_bytes (accepts_of V.accepts self.now.validator) result) }
+            (CheckOutcome (asks_for_head (head_of self.now.req)) self.now.max_body_bytes (is_some self.now.validator)
+            (accepts_of V.accepts self.now.validator) result) }
         ensures written { OnOk result (Appends (W.contents (inner_of writer.old)) (W.contents (inner_of writer.new))
             (text_of (head_of self.now.req))) }
         ensures flushed { OnOk result (is_flushed writer.new ≡ true) }

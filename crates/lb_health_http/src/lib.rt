@@ -1,5 +1,5 @@
 //! Checks of backends over the network: one exchange of a request and an answer, as a whole and framed message or not at all.
-//! The engine reads and writes any streams; the checks over sockets lend it theirs.
+//! The engine reads and writes any streams; the checks over sockets pass it theirs.
 #![tactic(auto)]
 
 mod body;
@@ -10,6 +10,7 @@ mod framing;
 mod head;
 mod http_check;
 mod line;
+mod observer;
 mod parts;
 mod peer;
 mod request;
@@ -19,6 +20,7 @@ mod validate;
 
 pub use engine::check_over;
 pub use http_check::{HttpHealthCheck, MAX_BODY_BYTES};
+pub use observer::NoObserver;
 pub use peer::{BasicPeer, HttpPeer};
 pub use request::request_for;
 pub use tcp_check::TcpHealthCheck;

@@ -57,7 +57,7 @@ pub(crate) fn expect<R: Read>(reader: &mut Counted<R>, byte: u8) -> Result<(), C
     }
 }
 
-/// Whether the line is the empty line, CR LF.
+/// Returns whether the line is the empty line, CR LF.
 pub(crate) fn is_end(line: &[u8]) -> bool
     ensures { MatchBool result (line.now ≡ crlf_bytes) (line.now ≢ crlf_bytes) }
 {

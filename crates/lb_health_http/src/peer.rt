@@ -1,6 +1,6 @@
 //! How long a check waits for its peer, and connections to one.
 //! No name is looked up: a backend's address is where it is reached.
-ghost use Rattle.std.specs.Prelude.{◌≡◌, Some, None, ◌*◌, ◌^◌, ◌<◌, max, IfSome};
+ghost use Rattle.std.specs.Prelude.{◌≡◌, ◌↔◌, Some, None, ◌*◌, ◌^◌, ◌<◌, max, IfSome};
 ghost use Rattle.std.specs.Duration.{as_nanos};
 ghost use Rattle.lb_health_http.specs.Check.{at_port};
 
@@ -20,7 +20,7 @@ pub struct BasicPeer {
 }
 
 impl BasicPeer {
-    /// A limit of one second.
+    /// Returns a limit of one second.
     pub fn new() -> BasicPeer
         ensures { result.connection_timeout ≡ Some SECOND }
     {
@@ -40,7 +40,7 @@ pub struct HttpPeer {
 }
 
 impl HttpPeer {
-    /// A limit of one second to connect and for each read, and none for writes.
+    /// Returns a limit of one second to connect and for each read, and none for writes.
     pub fn new() -> HttpPeer
         ensures connect { result.connection_timeout ≡ Some SECOND }
         ensures read { result.read_timeout ≡ Some SECOND }
@@ -54,9 +54,10 @@ impl HttpPeer {
     }
 }
 
-/// A limit as std takes it.
+/// Returns a limit as std takes it, where there is one: 0 acts as a nanosecond, and more seconds than 64 bits count as the
+/// most that they do.
 pub(crate) fn duration_of(limit: Option<u128>) -> Option<Duration>
-    ensures none { limit ≡ None → result ≡ None }
+    ensures none { result ≡ None ↔ limit ≡ None }
     ensures some { IfSome limit (λ nanos. nanos < 2 ^ 64 * SECOND → IfSome result (λ d. as_nanos d ≡ max nanos 1)) }
 {
     let nanos = limit?.max(1);
@@ -64,7 +65,7 @@ pub(crate) fn duration_of(limit: Option<u128>) -> Option<Duration>
     Some(Duration::new(seconds, (nanos % SECOND) as u32))
 }
 
-/// The address with that port, if one is given.
+/// Returns the address, with that port in place of its own where one is given.
 pub(crate) fn with_port(addr: InetAddr, port: Option<u16>) -> InetAddr
     ensures { result ≡ at_port addr port }
 {

@@ -17,7 +17,7 @@ use lb_stream::counted::Counted;
 use std::alloc::{AllocError, Global};
 use std::io::Write;
 
-/// The request for `/` of that host, with that method. Refused `InvalidAddress` where the host is no header value,
+/// Returns the request for `/` of that host, with that method. Refused `InvalidAddress` where the host is no header value,
 /// `OutOfMemory` where there is no room for it.
 pub fn request_for(alloc: Global, method: Method, host: &str) -> Result<Request<()>, Refusal>
     ensures text { IfOk result (λ req. text_of (head_of req) ≡ default_text method host.now) }
@@ -37,8 +37,7 @@ pub fn request_for(alloc: Global, method: Method, host: &str) -> Result<Request<
     }
 }
 
-/// The request's bytes. An answer has no body where the method is HEAD, in this case alone; a URI that shows no path asks
-/// for `/`.
+/// Returns the request's bytes. A URI that shows no path asks for `/`.
 pub(crate) fn request_bytes(alloc: Global, req: &Request<()>) -> Result<Vec<u8>, AllocError>
     ensures { IfOk result (λ text. text.items ≡ text_of (head_of req.now)) }
 {
@@ -68,7 +67,7 @@ fn target_of(req: &Request<()>) -> &str
     }
 }
 
-/// Whether the request asks for the head alone.
+/// Returns whether the request asks for the head alone: whether its method is `HEAD`, spelled so.
 pub(crate) fn is_head(req: &Request<()>) -> bool
     ensures { result ≡ asks_for_head (head_of req.now) }
 {

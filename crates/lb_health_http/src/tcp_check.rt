@@ -1,11 +1,10 @@
 //! A check that connects and no more.
 ghost use Rattle.std.specs.Prelude.{◌≡◌, Some, None, if◌then◌else◌};
 
+use crate::observer::NoObserver;
 use crate::peer::{BasicPeer, connect, connect_unix};
 use lb_health_check::error::CheckError;
-use lb_health_check::health_check::{
-    BackendSummary, HealthCheck, HealthObserve, HealthObserveCallback, IdentitySummary,
-};
+use lb_health_check::health_check::{BackendSummary, HealthCheck, HealthObserve, IdentitySummary};
 use lb_select_base::backend::{Backend, SocketAddr};
 use lb_select_base::refusal::Refusal;
 use std::alloc::Global;
@@ -13,7 +12,7 @@ use std::net::{Net, TcpStream};
 
 /// Checks that a backend takes connections.
 #[derive(Drop)]
-pub struct TcpHealthCheck<N, O = HealthObserveCallback, S = IdentitySummary> {
+pub struct TcpHealthCheck<N, O = NoObserver, S = IdentitySummary> {
     net: N,
     /// How many successes in a row make a backend healthy; 0 acts as 1.
     pub consecutive_success: usize,
@@ -21,13 +20,13 @@ pub struct TcpHealthCheck<N, O = HealthObserveCallback, S = IdentitySummary> {
     pub consecutive_failure: usize,
     /// How long it waits.
     pub peer_template: BasicPeer,
-    /// Who is told when the health of a backend changes.
+    /// What is told when the health of a backend changes.
     pub health_changed_callback: Option<O>,
     summary: S,
 }
 
 impl<N> TcpHealthCheck<N> {
-    /// A check over that network: thresholds of 1, a second to connect.
+    /// Returns a check over that network: thresholds of 1, a second to connect, no observer.
     pub fn new(net: N) -> TcpHealthCheck<N>
         ensures thresholds { (result.consecutive_success ≡ 1) × (result.consecutive_failure ≡ 1) }
         ensures limit { result.peer_template.connection_timeout ≡ Some 1000000000 }
@@ -45,7 +44,7 @@ impl<N> TcpHealthCheck<N> {
 }
 
 impl<N, O: Drop, S: Drop> TcpHealthCheck<N, O, S> {
-    /// The same check with that observer and summary in place of its own.
+    /// Returns this check with that observer and summary in place of its own.
     pub fn with_callbacks<P: HealthObserve, T: BackendSummary>(
         self,
         observer: Option<P>,

@@ -13,7 +13,7 @@ use lb_health_check::error::CheckError;
 pub trait Validate {
     ghost accepts: { Self → Parts → Bool };
 
-    /// Whether the head is accepted.
+    /// Returns whether the head is accepted.
     fn validate(&self, head: &Parts) -> bool
         ensures { result ≡ accepts self.now head.now };
 }

@@ -1,7 +1,8 @@
 //! A reader or a writer that remembers whether a call of it has failed.
 //! Callers learn from it, after a longer run, whether its streams did what they were asked.
-ghost use Rattle.std.specs.Prelude.{◌≡◌, ℕ, ◌<◌, ◌≤◌, false, true, length, OnOk, OnErr, IfOk};
+ghost use Rattle.std.specs.Prelude.{◌≡◌, ◌≢◌, ℕ, ◌<◌, ◌≤◌, false, true, length, OnOk, OnErr, IfOk, IfErr};
 ghost use Rattle.std.specs.Io.{ReadsAtMost, WritesAtMost};
+ghost use Rattle.std.specs.IoError.{error_kind};
 ghost use Rattle.std.specs.Io.KnownBytes.{ReadConsumes, WriteAppends, Keeps, Appends};
 ghost use Rattle.lb_stream.specs.Stream.{OnBytes, GivesByte, SkipsSome, AppendsFront};
 
@@ -13,9 +14,12 @@ const SKIPPED_AT_ONCE: usize = 512;
 
 /// A reader or a writer, whether a call of it has failed so far, and whether what was written through it is flushed.
 ///
-/// A call that the system interrupted is given again in here: it is no failure, and callers never see it.
+/// A call that the system interrupted is made again in here: it is no failure, and callers never see it.
 /// A call that gives or takes fewer bytes than it could is no failure either. A write that takes none of
-/// some bytes is one, of the kind `WriteZero`, since giving it again may never end.
+/// some bytes is one, of the kind `WriteZero`, since making it again may never end.
+///
+/// The contracts say that a failed call is remembered, and that a call which didn't fail leaves the mark as it was. Whether
+/// the inner reader or writer failed they can't say: std's `Read` and `Write` have no word for it.
 #[derive(Drop)]
 pub struct Counted<T> {
     inner: T,
@@ -39,21 +43,21 @@ impl<T> Counted<T> {
         }
     }
 
-    /// Whether a call has failed since `new`.
+    /// Returns whether a call has failed since `new`.
     pub fn has_failed(&self) -> bool
         ensures { result ≡ has_failed self.now }
     {
         self.has_failed
     }
 
-    /// Whether no call of `write` came since `new` or the last flush that didn't fail.
+    /// Returns whether no call of `write` came since `new` or the last flush that didn't fail.
     pub fn is_flushed(&self) -> bool
         ensures { result ≡ is_flushed self.now }
     {
         self.is_flushed
     }
 
-    /// Gives back the reader or writer.
+    /// Returns the reader or writer.
     pub fn into_inner(self) -> T
         ensures { result ≡ inner_of self }
     {
@@ -76,6 +80,8 @@ impl<R: Read> Read for Counted<R> {
         ensures bytes { ReadConsumes (R.remaining (inner_of self.old)) (R.remaining (inner_of self.new)) result buf.new }
         ensures kept { OnOk result (has_failed self.new ≡ has_failed self.old) }
         ensures noted { OnErr result (has_failed self.new ≡ true) }
+        ensures retried { IfErr result (λ e. error_kind e ≢ ErrorKind.Interrupted) }
+        ensures flushed { is_flushed self.new ≡ is_flushed self.old }
     {
         for _ in 0..u64::MAX {
             match self.inner.read(buf) {
@@ -104,6 +110,7 @@ impl<W: Write> Write for Counted<W> {
         ensures kept { OnOk result (has_failed self.new ≡ has_failed self.old) }
         ensures noted { OnErr result (has_failed self.new ≡ true) }
         ensures some { IfOk result (λ n. 0 < length buf.now → 0 < n) }
+        ensures retried { IfErr result (λ e. error_kind e ≢ ErrorKind.Interrupted) }
         ensures pending { is_flushed self.new ≡ false }
     {
         self.is_flushed = false;
@@ -127,25 +134,33 @@ impl<W: Write> Write for Counted<W> {
         ensures bytes { Keeps (W.contents (inner_of self.old)) (W.contents (inner_of self.new)) }
         ensures kept { OnOk result (has_failed self.new ≡ has_failed self.old) }
         ensures noted { OnErr result (has_failed self.new ≡ true) }
+        ensures retried { IfErr result (λ e. error_kind e ≢ ErrorKind.Interrupted) }
         ensures flushed { OnOk result (is_flushed self.new ≡ true) }
+        ensures pending { OnErr result (is_flushed self.new ≡ is_flushed self.old) }
     {
-        match self.inner.flush() {
-            Ok(()) => {
-                self.is_flushed = true;
-                Ok(())
-            }
-            Err(e) => {
-                self.has_failed = true;
-                Err(e)
+        for _ in 0..u64::MAX {
+            match self.inner.flush() {
+                Ok(()) => {
+                    self.is_flushed = true;
+                    return Ok(());
+                }
+                Err(e) => {
+                    if e.kind() != ErrorKind::Interrupted {
+                        self.has_failed = true;
+                        return Err(e);
+                    }
+                }
             }
         }
+        self.has_failed = true;
+        Err(Error::from(ErrorKind::TimedOut))
     }
 }
 
 impl<R: Read> Counted<R> {
     ghost use Rattle.lb_stream.specs.Counted.{inner_of, has_failed, is_flushed};
 
-    /// The next byte, or `None` at the end of the stream.
+    /// Reads and returns the next byte, or `None` at the end of the stream.
     ///
     /// Each call asks the reader for one byte, so a reader over a device belongs in a `BufReader`.
     pub fn next_byte(&mut self) -> io::Result<Option<u8>>
@@ -158,7 +173,7 @@ impl<R: Read> Counted<R> {
         if n == 0 { Ok(None) } else { Ok(Some(one[0])) }
     }
 
-    /// Reads some of the next bytes, `most` at most, and drops them. It answers how many, 0 at the end of the stream alone.
+    /// Reads some of the next bytes, `most` at most, and drops them. Returns how many, 0 at the end of the stream alone.
     pub fn skip_some(&mut self, most: u64) -> io::Result<u64>
         requires { 0 < most }
         ensures bytes { OnBytes (R.remaining (inner_of self.old)) (R.remaining (inner_of self.new)) (SkipsSome result) }

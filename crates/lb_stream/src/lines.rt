@@ -35,7 +35,7 @@ pub enum LineRead {
 
 /// Reads the next line into `line`, without its line feed, over what `line` held before.
 ///
-/// The stream is what `ahead` has and then what `reader` has left. At any answer but `Line`, `LastLine` and `ReadFailed`, what
+/// The stream is what `ahead` has and then what `reader` has left. After any result but `Line`, `LastLine` and `ReadFailed`, what
 /// `line` then holds has no meaning. A read is asked for only where `ahead` has no whole line, and what was written to `writer`
 /// is flushed before it.
 pub fn read_line<R: Read, W: Write>(
@@ -79,7 +79,7 @@ pub fn read_line<R: Read, W: Write>(
     }
 }
 
-/// The next line, without its line feed, where all of it and its line feed were read ahead. It is lent and not copied.
+/// Borrows the next line, without its line feed, where all of it and its line feed were read ahead.
 ///
 /// To go on after it, consume its bytes and one more.
 pub fn line_ahead(ahead: &ReadAhead) -> Option<&[u8]>

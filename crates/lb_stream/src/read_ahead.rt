@@ -38,7 +38,7 @@ impl Model for ReadAhead {
 }
 
 impl ReadAhead {
-    /// No bytes.
+    /// Returns a buffer without bytes.
     pub fn new() -> ReadAhead
         ensures { result ≡ [] }
     {
@@ -49,7 +49,7 @@ impl ReadAhead {
         }
     }
 
-    /// The bytes, 8192 at most.
+    /// Returns the bytes, 8192 at most.
     pub fn bytes(&self) -> &[u8]
         ensures value { result.now ≡ self.now }
         ensures few { length result.now ≤ 8192 }
@@ -57,7 +57,7 @@ impl ReadAhead {
         &self.bytes[self.start..self.end]
     }
 
-    /// Hands out the first `count` bytes.
+    /// Drops the first `count` bytes, which the caller has used.
     pub fn consume(&mut self, count: usize)
         requires { count ≤ length self.old }
         ensures { self.new ≡ drop count self.old }
@@ -65,9 +65,9 @@ impl ReadAhead {
         self.start += count;
     }
 
-    /// Sees to it that a byte is there, by one read where none is. `false` says that the stream has ended.
+    /// Makes sure that a byte is there, by one read where none is. Returns `false` where the stream has ended.
     ///
-    /// Before that read all that was written is flushed, so that it reaches whoever waits for it before giving more.
+    /// Before that read all that was written is flushed, so that it reaches a peer which waits for it before it sends more.
     pub fn fill<R: Read, W: Write>(
         &mut self,
         reader: &mut Counted<R>,

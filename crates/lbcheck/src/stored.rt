@@ -1,5 +1,5 @@
 //! A check of an answer that lies in a file or in memory: what the check says of it, and how many bytes it left unread.
-ghost use Rattle.std.specs.Prelude.{◌≡◌, ◌≢◌, ◌⊎◌, Err, [], true, false};
+ghost use Rattle.std.specs.Prelude.{◌≡◌, ◌≢◌, ◌⊎◌, Err, [], true, false, is_some};
 ghost use Rattle.http.specs.Request.{head_of};
 ghost use Rattle.lb_stream.specs.Counted.{inner_of, has_failed};
 ghost use Rattle.lb_stream.specs.Stream.{OnBytes, Takes};
@@ -53,7 +53,8 @@ pub(crate) fn replay<V: Validate, R: Read>(
     requires { has_failed reader.old ≡ false }
     ensures outcome { result.outcome ≢ Err CheckError.Write
         → OnBytes (R.remaining (inner_of reader.old)) (R.remaining (inner_of reader.new))
-        (ReplayOutcome (asks_for_head (head_of req.now)) max_body_bytes (accepts_of V.accepts validator.now) result.outcome result.unread) }
+        (ReplayOutcome (asks_for_head (head_of req.now)) max_body_bytes (is_some validator.now) (accepts_of V.accepts validator.now)
+        result.outcome result.unread) }
     ensures only { OnBytes (R.remaining (inner_of reader.old)) (R.remaining (inner_of reader.new))
         (GoodPasses (asks_for_head (head_of req.now)) max_body_bytes (accepts_of V.accepts validator.now) result.outcome) }
     ensures whole { has_failed reader.new ≡ false → OnBytes (R.remaining (inner_of reader.old)) (R.remaining (inner_of reader.new))

@@ -4,7 +4,7 @@
 pub use lb_health::{
     AcceptStatus, BackendSummary, BasicPeer, BoxedCheck, ByNumber, CheckError, HealthCheck,
     HealthObserve, HealthObserveCallback, HttpHealthCheck, HttpPeer, IdentitySummary, KeyRule,
-    MAX_BODY_BYTES, Number, Rule, TcpHealthCheck, Validate, check_over, identity_summary,
-    request_for,
+    MAX_BODY_BYTES, NoObserver, Number, Rule, TcpHealthCheck, Validate, check_over,
+    identity_summary, request_for,
 };
 pub use lb_threads_registry::keyed::{KeyedRegistry, NoRule, keyed_by_address, keyed_by_identity};

@@ -1,4 +1,4 @@
-use Rattle.std.proofs.Common.{ℕ, Bool, false, List, subst, sym}
+use Rattle.std.proofs.Common.{ℕ, Bool, false, List, is_some, subst, sym}
 use Rattle.http.specs.Request.{head_of}
 use Rattle.http.specs.declared.response.Parts.{Parts}
 use Rattle.lb_stream.specs.Counted.{has_failed}
@@ -13,10 +13,11 @@ returns-clause-outcome g c other =
     let accepts : Parts → Bool = accepts_of g.V.Validate.accepts c.args.validator.now in
     let limit = c.args.max_body_bytes in
     let r = c.read_answer.result in
-    let P : List ℕ → List ℕ → Type 0 = CheckOutcome c.is_head.result limit accepts r in
-    let S : List ℕ → List ℕ → Type 0 = CheckOutcome (asks_for_head (head_of c.args.req.now)) limit accepts r in
+    let P : List ℕ → List ℕ → Type 0 = CheckOutcome c.is_head.result limit (is_some c.args.validator.now) accepts r in
+    let S : List ℕ → List ℕ → Type 0 =
+    CheckOutcome (asks_for_head (head_of c.args.req.now)) limit (is_some c.args.validator.now) accepts r in
     OnBytes-map P S _ _ c.read_answer.ensures.outcome
-    (λ x y o. subst (λ (b : Bool). CheckOutcome b limit accepts r x y) c.is_head.ensures o)
+    (λ x y o. subst (λ (b : Bool). CheckOutcome b limit (is_some c.args.validator.now) accepts r x y) c.is_head.ensures o)
 
 pub returns-clause-only : goal.returns-clause-only
 returns-clause-only g c =

@@ -1,8 +1,9 @@
 use Rattle.std.proofs.Common.{◌≡◌, ℕ, ◌+◌, ◌<◌, ◌≤◌, List, [], ◌∷◌, ◌++◌, Some, Ok, length-append, subst, arith, rules, refl, ap, ◌∙◌, sym}
-use Rattle.httparse.specs.Grammar.{ResponseHead, HasNoResponse}
+use Rattle.httparse.specs.Grammar.{ResponseHead, HasNoResponse, MayBecomeResponse}
 use Rattle.lb_health_http.specs.declared.head.Seen.TheVariants.{Whole, Bad}
 use Rattle.lb_health_http.specs.Head.{Sees, IsBlankLine, IsWholeHead, AfterBlank, HasBadHead, HasLargeHead, EndsInHead}
-use Rattle.lb_health_http.proofs.HeadLemmas.{no_response-push, no_response-nil, head_ended, head_too_large, head_pushed, head_blank, head_is_bad, head_is_low, head_is_whole}
+use Rattle.lb_health_http.proofs.HeadLemmas.{no_response-push, no_response-nil, open_nil, open_push, open_feed}
+use Rattle.lb_health_http.proofs.HeadLemmas.{head_ended, head_too_large, head_pushed, head_blank, head_refused, head_is_bad, head_is_low, head_is_whole}
 use Rattle.lb_health_http.proofs.Streams.{OnBytes-then, OnBytes-map, OnBytes-here, gave_byte, gave_none}
 use Rattle.lb_health_http.proofs.head.read_head.Goals as goal
 
@@ -11,7 +12,7 @@ loop-init g c =
     let P : List ℕ → List ℕ → Type 0 = AfterBlank 0 [] in
     rw c.new-bytes.ensures.items (record {
       read = OnBytes-here P _ (λ x. record { ends = []; is = refl; counted = refl });
-      so_far = record { none = no_response-nil; within = omega arith };
+      so_far = record { none = no_response-nil; may_go_on = open_nil; within = omega arith };
       kept = refl;
     })
 
@@ -23,7 +24,7 @@ returns-in-Ok-None-clause-outcome g c =
     let S : List ℕ → List ℕ → Type 0 = λ s t. (t ≡ []) × EndsInHead s in
     let small : c.loop.counter < 65536 = c.loop-test.true in
     OnBytes-then P Q S _ _ _ c.loop.invariant.read (gave_none _ _ _ c.next_byte.ensures.byte (cc))
-    (λ x y z p q. (q.1, head_ended c.loop.counter bytes x y p c.loop.invariant.so_far.none small q.0))
+    (λ x y z p q. (q.1, head_ended c.loop.counter bytes x y p c.loop.invariant.so_far small q.0))
 
 pub loop-preserved-then-is_blank : goal.loop-preserved-then-is_blank
 loop-preserved-then-is_blank g c =
@@ -37,7 +38,7 @@ loop-preserved-then-is_blank g c =
     rw c.clear.ensures.items (record {
       read = OnBytes-then P Q S _ _ _ c.loop.invariant.read (gave_byte _ _ _ c.next_byte.ensures.byte c.in-Ok-Some.byte gave)
           (λ x y z p q. head_blank c.loop.counter bytes x y z p (q ∙ ap (λ (b : ℕ). b ∷ z) feed) blank);
-      so_far = record { none = no_response-nil; within = omega arith };
+      so_far = record { none = no_response-nil; may_go_on = open_nil; within = omega arith };
       kept = search rules;
     })
 
@@ -56,6 +57,7 @@ loop-preserved-then-byte-ne10 g c =
           (λ x y z p q. head_pushed c.loop.counter b bytes x y z p q);
       so_far = record {
         none = no_response-push bytes b c.loop.invariant.so_far.none c.if-byte-ne10.true;
+        may_go_on = open_push bytes b c.loop.invariant.so_far.may_go_on c.if-byte-ne10.true;
         within = omega (arith, length-append bytes (b ∷ []));
       };
       kept = search rules;
@@ -106,9 +108,10 @@ returns-in-Whole-2-clause-outcome g c =
     let small : c.loop.counter < 65536 = c.loop-test.true in
     let P : List ℕ → List ℕ → Type 0 = AfterBlank c.loop.counter bytes in
     let Q : List ℕ → List ℕ → Type 0 = λ s t. s ≡ b ∷ t in
-    let S : List ℕ → List ℕ → Type 0 = λ s t. HasBadHead s in
+    let S : List ℕ → List ℕ → Type 0 = HasBadHead in
     OnBytes-then P Q S _ _ _ c.loop.invariant.read (gave_byte _ _ _ c.next_byte.ensures.byte b gave)
-    (λ x y z p q. head_is_low c.loop.counter bytes x y z parts small p (q ∙ ap (λ (n : ℕ). n ∷ z) feed) seen c.if-look_at-ge100.false)
+    (λ x y z p q. head_refused c.loop.counter bytes x y z small p c.loop.invariant.so_far (q ∙ ap (λ (n : ℕ). n ∷ z) feed)
+    (head_is_low bytes parts c.loop.invariant.so_far.none seen c.if-look_at-ge100.false))
 
 pub returns-in-Bad-clause-outcome : goal.returns-in-Bad-clause-outcome
 returns-in-Bad-clause-outcome g c =
@@ -123,9 +126,10 @@ returns-in-Bad-clause-outcome g c =
     let small : c.loop.counter < 65536 = c.loop-test.true in
     let P : List ℕ → List ℕ → Type 0 = AfterBlank c.loop.counter bytes in
     let Q : List ℕ → List ℕ → Type 0 = λ s t. s ≡ b ∷ t in
-    let S : List ℕ → List ℕ → Type 0 = λ s t. HasBadHead s in
+    let S : List ℕ → List ℕ → Type 0 = HasBadHead in
     OnBytes-then P Q S _ _ _ c.loop.invariant.read (gave_byte _ _ _ c.next_byte.ensures.byte b gave)
-    (λ x y z p q. head_is_bad c.loop.counter bytes x y z small p (q ∙ ap (λ (n : ℕ). n ∷ z) feed) seen)
+    (λ x y z p q. head_refused c.loop.counter bytes x y z small p c.loop.invariant.so_far (q ∙ ap (λ (n : ℕ). n ∷ z) feed)
+    (head_is_bad (bytes ++ 10 ∷ []) seen))
 
 pub loop-preserved : goal.loop-preserved
 loop-preserved g c =
@@ -133,7 +137,8 @@ loop-preserved g c =
     let b = c.in-Ok-Some.byte in
     let gave : c.next_byte.result ≡ Ok (Some b) = cc in
     let grown : c.push.new.self.items ≡ bytes ++ b ∷ [] = search rules in
-    let unread : HasNoResponse c.deref-in-loop.result.now = c.in-Open.ensures in
+    let unread : HasNoResponse c.deref-in-loop.result.now = c.in-Open.ensures.0 in
+    let goes_on : MayBecomeResponse c.deref-in-loop.result.now = c.in-Open.ensures.1 in
     let P : List ℕ → List ℕ → Type 0 = AfterBlank c.loop.counter bytes in
     let Q : List ℕ → List ℕ → Type 0 = λ s t. s ≡ b ∷ t in
     let S : List ℕ → List ℕ → Type 0 = AfterBlank (c.loop.counter + 1) (bytes ++ b ∷ []) in
@@ -143,6 +148,7 @@ loop-preserved g c =
           (λ x y z p q. head_pushed c.loop.counter b bytes x y z p q);
       so_far = record {
         none = subst HasNoResponse (c.deref-in-loop.ensures.value ∙ grown) unread;
+        may_go_on = open_feed (bytes ++ b ∷ []) (subst MayBecomeResponse (c.deref-in-loop.ensures.value ∙ grown) goes_on);
         within = omega (arith, length-append bytes (b ∷ []));
       };
       kept = search rules;
@@ -151,8 +157,8 @@ loop-preserved g c =
 pub returns-clause-outcome : goal.returns-clause-outcome
 returns-clause-outcome g c =
     let P : List ℕ → List ℕ → Type 0 = AfterBlank c.loop.counter c.loop.bytes.items in
-    let S : List ℕ → List ℕ → Type 0 = λ s t. HasLargeHead s in
+    let S : List ℕ → List ℕ → Type 0 = HasLargeHead in
     let full : c.loop.counter ≡ 65536 = omega arith in
     OnBytes-map P S _ _ c.loop.invariant.read
-    (λ x y p. head_too_large c.loop.bytes.items x y (subst (λ (n : ℕ). AfterBlank n c.loop.bytes.items x y) full p)
-    c.loop.invariant.so_far.none)
+    (λ x y p. head_too_large c.loop.counter c.loop.bytes.items x y (subst (λ (n : ℕ). AfterBlank n c.loop.bytes.items x y) full p)
+    c.loop.invariant.so_far)

@@ -1,5 +1,3 @@
-use Rattle.std.proofs.Common.{◌≡◌, ◌++◌, ◌∷◌, ◌+◌, ◌≤◌, ◌<◌, List, ℕ, arith, ap, drop, length, length-take, subst, sym, take, ◌∙◌}
-use Rattle.lb_stream.specs.Lines.{first_line, HasNoFeed}
 use Rattle.lb_stream.proofs.LinesLemmas.{held_line, no_line_held}
 use Rattle.lb_stream.proofs.lines.line_ahead.Goals as goal
 

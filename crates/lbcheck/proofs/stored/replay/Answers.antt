@@ -1,4 +1,4 @@
-use Rattle.std.proofs.Common.{◌≡◌, ◌⊎◌, ℕ, Bool, List, []}
+use Rattle.std.proofs.Common.{◌≡◌, ◌⊎◌, ℕ, Bool, List, [], is_some}
 use Rattle.http.specs.Request.{head_of}
 use Rattle.http.specs.declared.response.Parts.{Parts}
 use Rattle.lb_stream.specs.Counted.{has_failed}
@@ -17,9 +17,10 @@ returns-clause-outcome g c other =
     let limit = c.args.max_body_bytes in
     let r = c.check_over-outcome.result in
     let n = c.count_rest-unread.result in
-    let P : List ℕ → List ℕ → Type 0 = CheckOutcome head_alone limit accepts r in
+    let has_validator = is_some c.args.validator.now in
+    let P : List ℕ → List ℕ → Type 0 = CheckOutcome head_alone limit has_validator accepts r in
     let Q : List ℕ → List ℕ → Type 0 = Takes n in
-    let S : List ℕ → List ℕ → Type 0 = ReplayOutcome head_alone limit accepts r n in
+    let S : List ℕ → List ℕ → Type 0 = ReplayOutcome head_alone limit has_validator accepts r n in
     OnBytes-then P Q S _ _ _ (c.check_over-outcome.ensures.outcome other) c.count_rest-unread.ensures.counted
     (λ x y z p q. (y, p, q))
 

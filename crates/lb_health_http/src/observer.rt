@@ -1,0 +1,12 @@
+//! The observer of a check that was given none.
+//! Its type holds no box, so that a check which `new` makes can be boxed itself.
+use lb_health_check::health_check::HealthObserve;
+use lb_select_base::backend::Backend;
+
+/// Does nothing where the health of a backend changes.
+#[derive(Clone, Copy, Debug)]
+pub struct NoObserver;
+
+impl HealthObserve for NoObserver {
+    fn observe(&self, _target: &Backend, _healthy: bool) {}
+}
