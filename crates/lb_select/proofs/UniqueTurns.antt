@@ -51,7 +51,8 @@ module _ {I S : Type 0} (gives : S → Draw → S → Type 0) (walk : I → List
 
   module _ (starts : (j : I) → walk j [] [] false) where
     -- no more are found
-    going_over : (found : List Member) (v n : UniqueIterator I) (w t : S) → Going found v w → IsTurn gives walk v w (Ok None) n t → Whole found t
+    going_over : (found : List Member) (v n : UniqueIterator I) (w t : S) → Going found v w → IsTurn gives walk v w (Ok None) n t
+        → Whole found t
     going_over found v n w t p turn =
         let none = turns_are_distinct gives walk v n w t (Ok None) turn p.passed p.seen in
         let xs = p.passed ++ turn.passed in
@@ -75,7 +76,11 @@ module _ {I S : Type 0} (gives : S → Draw → S → Type 0) (walk : I → List
               let one_more : length (xs ++ b ∷ []) ≡ length xs + 1 = length-append xs (b ∷ []) in (
                 xs ++ b ∷ [],
                 false,
-                record { draws = p.draws ++ turn.draws; drawn = drawn; walked = rw parts (p.goes turn.draws (turn.passed ++ b ∷ []) false closed) },
+                record {
+                  draws = p.draws ++ turn.draws;
+                  drawn = drawn;
+                  walked = rw parts (p.goes turn.draws (turn.passed ++ b ∷ []) false closed);
+                },
                 record {
                   distinct_of_first = all ∙ ap (distinct same_member) (sym first);
                   no_more = inl (omega (arith, one_more, few, full));
@@ -85,7 +90,8 @@ module _ {I S : Type 0} (gives : S → Draw → S → Type 0) (walk : I → List
         ]
 
     -- turns to the end
-    going_on : (found rest : List Member) (v n : UniqueIterator I) (w t : S) → Going found v w → Finds gives walk v w rest n t → Whole (found ++ rest) t
+    going_on : (found rest : List Member) (v n : UniqueIterator I) (w t : S) → Going found v w → Finds gives walk v w rest n t
+        → Whole (found ++ rest) t
     going_on found [] v n w t p turn =
         let P : List Member → Type 0 = λ xs. Whole xs t in subst P (sym (append-nil found)) (going_over found v n w t p turn)
     going_on found (b ∷ bs) v n w t p (u, s, turn, later) =

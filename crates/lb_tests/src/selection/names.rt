@@ -33,7 +33,8 @@ fn debug_texts(rt: HostRuntime) -> Result<(), Fail> {
     let config = KetamaConfig {
         point_multiple: Some(4),
     };
-    let text = "KetamaConfig { point_multiple: Some(4) }, KetamaConfig { point_multiple: Some(4) }, KetamaConfig { point_multiple: Some(4) }";
+    let text =
+        "KetamaConfig { point_multiple: Some(4) }, KetamaConfig { point_multiple: Some(4) }, KetamaConfig { point_multiple: Some(4) }";
     assert!(rt; is_text(&printed_configurations(alloc, &config), text));
     let backend = Backend::new_with_weight(alloc, "1.0.0.1:80", 3)?;
     let text = "Backend { addr: Inet(V4([1, 0, 0, 1], 80)), weight: 3, ext: {} }";
@@ -104,7 +105,10 @@ fn push_first(
 
 // The first candidates of a key by the other spelling of `FNVHash`.
 fn hashed(alloc: Global) -> Result<String, Refusal> {
-    let set = set_of(alloc, &[("1.1.1.1:80", 1), ("1.0.0.1:80", 10), ("1.0.0.255:80", 1)])?;
+    let set = set_of(
+        alloc,
+        &[("1.1.1.1:80", 1), ("1.0.0.1:80", 10), ("1.0.0.255:80", 1)],
+    )?;
     walked::<FVNHash>(alloc, &set, &mut words_from(0), b"test", &[4])
 }
 
@@ -112,9 +116,16 @@ fn hashed(alloc: Global) -> Result<String, Refusal> {
 #[test]
 fn selectors_by_other_names(rt: HostRuntime) {
     let alloc = rt.alloc();
-    let text = "1.0.0.1:80 1.1.1.1:80 1.1.1.1:80 1.1.1.1:80 1.1.1.1:80 1.0.0.255:80 1.1.1.1:80 1.0.0.255:80 1.1.1.1:80 1.0.0.1:80 ";
+    let text =
+        "1.0.0.1:80 1.1.1.1:80 1.1.1.1:80 1.1.1.1:80 1.1.1.1:80 1.0.0.255:80 1.1.1.1:80 1.0.0.255:80 1.1.1.1:80 1.0.0.1:80 ";
     assert!(rt; is_text(&first_choices(alloc, &[B1, B2, B3]), text));
-    let text = "1.0.0.1:80 1.1.1.1:80 1.1.1.1:80 1.1.1.1:80 1.1.1.1:80 1.0.0.1:80 1.1.1.1:80 1.1.1.1:80 1.1.1.1:80 1.0.0.1:80 ";
+    let text =
+        "1.0.0.1:80 1.1.1.1:80 1.1.1.1:80 1.1.1.1:80 1.1.1.1:80 1.0.0.1:80 1.1.1.1:80 1.1.1.1:80 1.1.1.1:80 1.0.0.1:80 ";
     assert!(rt; is_text(&first_choices(alloc, &[B1, B2]), text));
-    assert!(rt; is_text(&hashed(alloc), "1.0.0.1:80 1.0.0.1:80 1.0.0.1:80 1.1.1.1:80 "));
+    assert!(rt;
+        is_text(
+            &hashed(alloc),
+            "1.0.0.1:80 1.0.0.1:80 1.0.0.1:80 1.1.1.1:80 "
+        )
+    );
 }
