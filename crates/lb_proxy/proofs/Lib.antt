@@ -1,0 +1,4 @@
+pub mod AttemptsLemmas
+pub mod FlowLemmas
+pub mod PoolFileLemmas
+pub mod RelayLemmas

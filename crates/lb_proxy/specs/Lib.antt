@@ -1,0 +1,3 @@
+pub mod Attempts
+pub mod PoolFile
+pub mod Relay
