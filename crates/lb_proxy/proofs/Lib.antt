@@ -1,0 +1,5 @@
+pub mod AttemptsLemmas
+pub mod FlowLemmas
+pub mod MetricsLemmas
+pub mod PoolFileLemmas
+pub mod RelayLemmas

@@ -1,0 +1,5 @@
+pub mod Attempts
+pub mod Key
+pub mod Metrics
+pub mod PoolFile
+pub mod Relay
