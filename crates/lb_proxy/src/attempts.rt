@@ -12,7 +12,7 @@ use std::marker::Model;
 pub const ATTEMPT_LIMIT: usize = 3;
 
 /// What has happened to an attempt.
-#[derive(Debug, Drop)]
+#[derive(Drop)]
 pub enum AttemptEvent {
     /// The selection gave this backend.
     Selected(Backend),

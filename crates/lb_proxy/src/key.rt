@@ -3,7 +3,7 @@ ghost use Rattle.std.specs.Prelude.{◌≡◌, option_map};
 ghost use Rattle.lb_proxy.specs.Key.{key_seen, key_of_text, key_bytes};
 
 /// What a selection takes as its key.
-#[derive(Clone, Copy, Debug)]
+#[derive(Clone, Copy)]
 pub enum Key<'a> {
     /// The address of the client.
     Source,

@@ -6,14 +6,14 @@ use itoa::Buffer;
 use std::alloc::AllocError;
 
 /// Whether a metric only grows.
-#[derive(Clone, Copy, Debug, PartialEq, Eq)]
+#[derive(Clone, Copy)]
 pub enum MetricKind {
     Counter,
     Gauge,
 }
 
 /// What tells a value of a metric from its other values.
-#[derive(Clone, Copy, Debug)]
+#[derive(Clone, Copy)]
 pub struct Label<'a> {
     pub name: &'a str,
     pub value: &'a str,

@@ -24,7 +24,7 @@ pub enum PoolCause {
 }
 
 /// A line that is wrong, and what is wrong with it.
-#[derive(Clone, Copy, Debug, PartialEq, Eq, Error)]
+#[derive(Clone, Copy, Debug, Error)]
 #[error("line {line}: {cause}")]
 pub struct PoolFault {
     /// The number of the line; the first line is 1.
@@ -33,7 +33,7 @@ pub struct PoolFault {
 }
 
 /// Why a text gives no backends.
-#[derive(Clone, Copy, Debug, PartialEq, Eq, Error)]
+#[derive(Clone, Copy, Debug, Error)]
 pub enum PoolError {
     #[error("{0}")]
     Fault(PoolFault),
@@ -50,7 +50,7 @@ impl<T: Drop> From<AllocFailed<T>> for PoolError {
 }
 
 /// A backend of a pool, and whether it is enabled.
-#[derive(Debug, Drop)]
+#[derive(Drop)]
 pub struct PoolBackend {
     pub backend: Backend,
     pub enabled: bool,

@@ -14,7 +14,7 @@ use std::marker::Model;
 pub const FLOW_CAPACITY: usize = 32768;
 
 /// How far a direction is.
-#[derive(Clone, Copy, Debug, PartialEq, Eq)]
+#[derive(Clone, Copy)]
 pub enum Phase {
     /// Its source may send more.
     Open,
@@ -165,7 +165,7 @@ fn read_behind<R: Read>(buffer: &mut [u8], end: usize, reader: &mut R) -> io::Re
 }
 
 /// A side of a connection.
-#[derive(Clone, Copy, Debug, PartialEq, Eq)]
+#[derive(Clone, Copy)]
 pub enum Side {
     Client,
     Backend,
