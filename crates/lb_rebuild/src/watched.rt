@@ -70,6 +70,7 @@ impl<S: BackendSelection> Watched<S> {
     /// `OutOfMemory` where memory is refused; the group is dropped then.
     pub fn new(alloc: Global, core: GroupCore<S>) -> Result<(Watched<S>, Arc<Board>), Refusal>
         ensures board { IfOk result (λ w. w.0.board ≡ arc_value w.1) }
+        ensures words { IfOk result (λ w. w.0.board.words ≡ length core.group.slots + 1) }
         ensures core { IfOk result (λ w. w.0.core ≡ core) }
         ensures refused { IfErr result (λ e. e ≡ Refusal.OutOfMemory) }
     {
