@@ -152,7 +152,7 @@ impl Board {
         true
     }
 
-    /// LoadsWord a word until it is at least `least`, and answers what the last load found.
+    /// Loads a word until it is at least `least`, and returns what the last load found.
     pub fn catch_up<R: Wait>(&self, rt: &R, word: usize, least: u64, pass: &mut GroupPass) -> u64
         requires here { pass.old.board ≡ self.now }
         requires word { word < self.now.words }
