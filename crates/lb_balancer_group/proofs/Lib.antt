@@ -1,2 +1,3 @@
 pub mod Accepts
 pub mod Crossings
+pub mod FirstSlots

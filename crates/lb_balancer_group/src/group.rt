@@ -1,6 +1,6 @@
 //! A group of slots as its users own it: updates, selections and readings through a borrow, and workers that build beside them.
 //! Dropping it cancels it, with workers or without; what workers have under way is let end.
-ghost use Rattle.std.specs.Prelude.{◌≡◌, [], None, false, map, IfErr, IfOk, MatchBool, OnErr};
+ghost use Rattle.std.specs.Prelude.{◌≡◌, ◌+◌, [], None, false, map, length, IfErr, IfOk, MatchBool, OnErr};
 ghost use Rattle.std.specs.Arc.{arc_value};
 ghost use Rattle.lb_select_base.specs.Refusals.{least};
 ghost use Rattle.lb_rebuild_slots.specs.SlotsCalls.{at_slot};
@@ -100,6 +100,7 @@ impl<
         ensures made { IfOk result (λ g. Stands
             (record { id = (arc_value g.shared).core.group.id; gate = (arc_value parts.gate).id; configs = configs.items }) []
             (arc_value g.shared).core) }
+        ensures words { IfOk result (λ g. (arc_value g.shared).board.words ≡ length configs.items + 1) }
         ensures registry { IfOk result (λ g. (arc_value g.shared).registry ≡ (arc_value parts.registry).start) }
         ensures parts { IfOk result (λ g. (g.discovery ≡ parts.discovery) × (g.owns_checks ≡ parts.owns_checks)
             × (g.health_check_frequency ≡ None) × (g.update_frequency ≡ None) × (g.parallel_health_check ≡ false)) }

@@ -1,5 +1,5 @@
 //! Making a group from its parts, and an update that notes its moments.
-ghost use Rattle.std.specs.Prelude.{◌≡◌, [], map, IfErr, IfOk};
+ghost use Rattle.std.specs.Prelude.{◌≡◌, ◌+◌, [], map, length, IfErr, IfOk};
 ghost use Rattle.std.specs.Arc.{arc_value};
 ghost use Rattle.lb_select_base.specs.Refusals.{least};
 ghost use Rattle.lb_rebuild_group.specs.GroupCalls.{IsMakingRefusal};
@@ -32,6 +32,7 @@ pub(crate) fn make<S: BackendSelection, R: KeyRule + Drop, C: HealthCheck + Drop
 ) -> Result<GroupCore<S>, Refusal>
     ensures stands { IfOk result (λ g. Stands (record { id = g.group.id; gate = gate.now.id; configs = configs.items }) [] g) }
     ensures gate { IfOk result (λ g. g.group.gate ≡ gate.now.id) }
+    ensures slots { IfOk result (λ g. length g.group.slots ≡ length configs.items) }
     ensures refused { IsMakingRefusal (least (map (S.refusal []) configs.items)) result }
 {
     let mut cells = registry.take(rt);
@@ -52,6 +53,7 @@ pub(crate) fn share<S: BackendSelection, R: KeyRule + Drop, C: HealthCheck + Dro
     requires { (arc_value gate).id ≡ core.group.gate }
     ensures made { IfOk result (λ g. ((arc_value g).core ≡ core)
         × ((arc_value g).registry ≡ (arc_value registry.now).start)) }
+    ensures words { IfOk result (λ g. (arc_value g).board.words ≡ length core.group.slots + 1) }
     ensures refused { IfErr result (λ e. e ≡ Refusal.OutOfMemory) }
 {
     let generator = Pcg64::new(0, u128::from(core.id()));

@@ -1,5 +1,5 @@
 //! What is read of a group that its users own: each call takes the group's lock once for each slot that it reads.
-ghost use Rattle.std.specs.Prelude.{◌≡◌, MatchBool, option_map};
+ghost use Rattle.std.specs.Prelude.{◌≡◌, ◌+◌, MatchBool, option_map};
 ghost use Rattle.std.specs.Arc.{arc_value};
 ghost use Rattle.lb_rebuild_slots.specs.SlotsCalls.{at_slot};
 ghost use Rattle.lb_rebuild_slots.specs.SlotsHistory.{past_of, newest, is_cancelled, coalesced, failed, timing as timing_after};
@@ -25,9 +25,12 @@ impl<
     R: KeyRule + Drop,
     C: HealthCheck + Drop,
 > LoadBalancerGroup<S, W, D, R, C> {
-    /// How many slots there are.
-    pub fn selector_count(&self) -> usize {
-        self.shared.slot_count()
+    /// Returns how many slots there are. The board has a word for each, and one more for the newest generation.
+    pub fn selector_count(&self) -> usize
+        ensures { (arc_value self.now.shared).board.words ≡ result + 1 }
+    {
+        let shared: &SharedGroup<S, R, C> = &*self.shared;
+        shared.slot_count()
     }
 
     /// How many slots have a worker now.

@@ -10,7 +10,7 @@ use lib.ListN.{get_elem?}
 use Rattle.atomic_table.specs.Table.{Me, Allows, Enters, keeps}
 use Rattle.atomic_table.proofs.Lists.{at_set, at_snoc}
 use Rattle.lb_rebuild.specs.BoardRule.{IsLed, Fits, Kept, Loaded, Raised, Came, blank, first_record, loaded, raised}
-use Rattle.lb_rebuild.specs.Pass.{PassValue, IsLoad}
+use Rattle.lb_rebuild.specs.Pass.{PassValue, IsLoad, total}
 use Rattle.lb_rebuild.specs.declared.board_rule.Record.{Record}
 
 -- what is found at a place, after one place was written
@@ -81,7 +81,7 @@ fits_higher words id i n v less reads f = record {
 fits_raised : (id i k : ℕ) (v : Record) → id ≡ 0 → length v.loads ≡ length v.values → Fits (raised v i k).values id (raised v i k)
 fits_raised id i k v first loads = record {
   values = refl;
-  loads = loads ∙ sym (length-set v.values i (max (slice_index v.values i) k));
+  loads = length-set v.loads i (slice_index v.loads i + 1) ∙ loads ∙ sym (length-set v.values i (max (slice_index v.values i) k));
   seen = λ j. omega arith;
   writer = λ _. (first, refl);
 }
@@ -133,6 +133,16 @@ raises_as {S} slots homes id i k me none writes led s h _ at _ =
           (kept_raised slots id i k s.views me.0 writes led (subst (λ (l : List ℕ). Kept slots l s.views) (sym own) h) at),
       ap (λ (l : List (ℕ × S)). (raised me.0 i k, l)) none,
     )
+
+-- one more at a place that is there is one more in all
+pub total_set : (l : List ℕ) (i : ℕ) → i < length l → total (set l i (slice_index l i + 1)) ≡ total l + 1
+total_set [] i there = absurd (omega (arith, there))
+total_set (x ∷ xs) zero there = omega arith
+total_set (x ∷ xs) (suc i) there = let more = total_set xs i (omega (arith, there)) in omega (arith, more)
+
+pub total_none : (n : ℕ) → total (replicate n 0) ≡ 0
+total_none zero = refl
+total_none (suc n) = let rest = total_none n in omega (arith, rest)
 
 -- the load with which a pass comes
 pub zeros : (l : List ℕ) (j : ℕ) → slice_index (map (λ (n : ℕ). 0) l) j ≡ 0

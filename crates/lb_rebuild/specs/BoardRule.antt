@@ -35,9 +35,14 @@ blank v = record { values = map (λ (n : ℕ). 0) v.values; loads = map (λ (n :
 abbrev pub loaded : Record → ℕ → ℕ → Record
 loaded v i n = record { values = slice_set v.values i n; loads = slice_set v.loads i (slice_index v.loads i + 1); writes = v.writes }
 
--- after the word i was raised to k, unless it was there already
+-- after the word i was raised to k, unless it was there already; the step is counted
 abbrev pub raised : Record → ℕ → ℕ → Record
-raised v i k = record { values = slice_set v.values i (max (slice_index v.values i) k); loads = v.loads; writes = v.writes }
+raised v i k =
+    record {
+      values = slice_set v.values i (max (slice_index v.values i) k);
+      loads = slice_set v.loads i (slice_index v.loads i + 1);
+      writes = v.writes;
+    }
 
 -- A load finds no less than the pass has seen, and the pass that writes finds what it wrote.
 abbrev pub Loaded : {S : Type 0} → ℕ → Me S Record → ℕ → Me S Record → Type 0

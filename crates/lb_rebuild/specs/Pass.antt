@@ -1,5 +1,5 @@
 -- What contracts see of a board and of a pass over it, and what one load does to a pass.
-use Rattle.std.specs.Prelude.{◌≡◌, ◌≢◌, ◌≤◌, ◌<◌, ◌+◌, ℕ, max, List, slice_index, slice_set}
+use Rattle.std.specs.Prelude.{◌≡◌, ◌≢◌, ◌≤◌, ◌<◌, ◌+◌, ℕ, max, List, [], ◌∷◌, slice_index, slice_set}
 use Rattle.std.specs.Coded.{Coded}
 use Rattle.atomic_table.specs.Seated.{TableId, table_id_coded}
 
@@ -16,10 +16,16 @@ pub record PassValue : Type 0 where
   pub values : List ℕ
   pub loads : List ℕ
 
--- The pass that writes: of which board, and what its words are, the newest generation's first.
+-- The pass that writes: of which board, what its words are, the newest generation's first, and how many steps it has made.
 pub record WriterValue : Type 0 where
   pub board : BoardId
   pub words : List ℕ
+  pub steps : ℕ
+
+-- the sum of numbers
+abbrev pub total : List ℕ → ℕ
+total [] = 0
+total (n ∷ ns) = n + total ns
 
 -- the words after one was raised to a generation, unless it was there already
 abbrev pub raised_words : List ℕ → ℕ → ℕ → List ℕ

@@ -54,7 +54,7 @@ impl Model for GroupPass {
 
 /// The pass that writes a board, of which there is one. It has no bytes.
 ///
-/// Contracts see its board, and what it wrote in each word, which is what the words are.
+/// Contracts see its board, what it wrote in each word, which is what the words are, and how many steps it has made.
 #[derive(Drop)]
 pub struct WritingPass {
     seat: Seat<(), Record>,
@@ -62,13 +62,14 @@ pub struct WritingPass {
 
 impl Model for WritingPass {
     ghost use Rattle.std.specs.Prelude.{◌≡◌, [], true, length};
-    ghost use Rattle.lb_rebuild.specs.Pass.{WriterValue};
+    ghost use Rattle.lb_rebuild.specs.Pass.{WriterValue, total};
 
     ghost Value = { WriterValue };
 
-    ghost view = { λ p. record { board = p.seat.table_id; words = p.seat.me.0.values } };
+    ghost view = { λ p. record { board = p.seat.table_id; words = p.seat.me.0.values; steps = total p.seat.me.0.loads } };
 
-    ghost invariant = { λ p. (p.seat.me.1 ≡ []) × (p.seat.me.0.writes ≡ true) × (length p.seat.me.0.values ≡ p.seat.table_id.words) };
+    ghost invariant = { λ p. (p.seat.me.1 ≡ []) × (p.seat.me.0.writes ≡ true)
+        × (length p.seat.me.0.values ≡ p.seat.table_id.words) × (length p.seat.me.0.loads ≡ p.seat.table_id.words) };
 }
 
 impl Board {
@@ -79,7 +80,7 @@ impl Board {
     /// `OutOfMemory` where memory is refused.
     pub fn new(alloc: Global, slots: usize) -> Result<(Board, WritingPass), Refusal>
         ensures words { IfOk result (λ b. b.0.words ≡ slots + 1) }
-        ensures writer { IfOk result (λ b. b.1 ≡ record { board = b.0; words = replicate (slots + 1) 0 }) }
+        ensures writer { IfOk result (λ b. b.1 ≡ record { board = b.0; words = replicate (slots + 1) 0; steps = 0 }) }
         ensures refused { IfErr result (λ e. e ≡ Refusal.OutOfMemory) }
     {
         let Some(count) = slots.checked_add(1) else {
@@ -151,7 +152,7 @@ impl Board {
         true
     }
 
-    /// LoadsWord a word until it is at least `least`, and answers what the last load found.
+    /// Loads a word until it is at least `least`, and returns what the last load found.
     pub fn catch_up<R: Wait>(&self, rt: &R, word: usize, least: u64, pass: &mut GroupPass) -> u64
         requires here { pass.old.board ≡ self.now }
         requires word { word < self.now.words }
@@ -187,7 +188,11 @@ impl Board {
         requires here { pass.old.board ≡ self.now }
         requires word { word < self.now.words }
         requires led { word ≢ 0 → generation ≤ slice_index pass.old.words 0 }
-        ensures { pass.new ≡ record { board = pass.old.board; words = raised_words pass.old.words word generation } }
+        ensures { pass.new ≡ record {
+          board = pass.old.board;
+          words = raised_words pass.old.words word generation;
+          steps = pass.old.steps + 1;
+        } }
     {
         self.table
             .shared

@@ -5,7 +5,8 @@ ghost use Rattle.lb_rebuild.specs.BoardRule.{Kept, Loaded, Raised, Came, first_r
 use atomic_table::{Play, TableRule};
 use std::collections::LinkedList;
 
-/// What a pass has seen: for each word the greatest number and how many loads it made of it, and whether it is the one that writes.
+/// What a pass has seen: for each word the greatest number and how many steps it made at it, and whether it is the one that writes.
+/// The step of the pass that writes is a raise, that of any other a load.
 /// No value of this type is ever made; it is the type of what passes know.
 #[derive(Drop)]
 pub struct Record {

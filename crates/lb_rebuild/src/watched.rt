@@ -18,7 +18,7 @@ ghost use Rattle.lb_health_registry.specs.RegistryEvents.{cells_given};
 ghost use Rattle.lb_rebuild_group.specs.GroupCalls.{Schedules, after_schedule, released_where, generation_at};
 ghost use Rattle.lb_rebuild_group.specs.GroupHistory.{Set, slot_events, in_group};
 ghost use Rattle.lb_rebuild_group.specs.Stands.{Stands, After, Becomes, IsFounded, SameSite, views_of};
-ghost use Rattle.lb_rebuild.specs.Watched.{words_of};
+ghost use Rattle.lb_rebuild.specs.Watched.{words_of, schedule_steps, publish_steps};
 
 use crate::board::{Board, WritingPass};
 use lb_health_registry::keys::KeyRule;
@@ -56,7 +56,12 @@ impl<S: BackendSelection> Model for Watched<S> {
 
     ghost Value = { WatchedValue S.Config };
 
-    ghost view = { λ w. record { board = arc_value w.board; core = w.core; written = w.writer.words } };
+    ghost view = { λ w. record {
+      board = arc_value w.board;
+      core = w.core;
+      written = w.writer.words;
+      steps = w.writer.steps;
+    } };
 
     ghost invariant = { λ w. (w.writer.board ≡ arc_value w.board) × (w.writer.words ≡ words_of w.core.group)
         × ((arc_value w.board).words ≡ length w.writer.words) };
@@ -70,6 +75,7 @@ impl<S: BackendSelection> Watched<S> {
     /// `OutOfMemory` where memory is refused; the group is dropped then.
     pub fn new(alloc: Global, core: GroupCore<S>) -> Result<(Watched<S>, Arc<Board>), Refusal>
         ensures board { IfOk result (λ w. w.0.board ≡ arc_value w.1) }
+        ensures words { IfOk result (λ w. w.0.board.words ≡ length core.group.slots + 1) }
         ensures core { IfOk result (λ w. w.0.core ≡ core) }
         ensures refused { IfErr result (λ e. e ≡ Refusal.OutOfMemory) }
     {
@@ -158,6 +164,7 @@ impl<S: BackendSelection> Watched<S> {
             → result ≡ Err Refusal.NumbersExhausted) }
         ensures site { SameSite self.old.core self.new.core }
         ensures board { self.new.board ≡ self.old.board }
+        ensures steps { self.new.steps ≡ self.old.steps + schedule_steps result }
     {
         self.core.past();
         let scheduled = self
@@ -179,6 +186,7 @@ impl<S: BackendSelection> Watched<S> {
         ensures registry { (key_of : Member → Member) (events : List Event) → IsRegistryAfter R.gives key_of events registry.old
             → IsRegistryAfter R.gives key_of (Marked self.old.core.view.id ∷ events) registry.new }
         ensures board { self.new.board ≡ self.old.board }
+        ensures steps { self.new.steps ≡ self.old.steps }
     {
         self.core.past();
         self.core.cancel(registry);
@@ -198,6 +206,7 @@ impl<S: BackendSelection> Watched<S> {
         ensures gate { gate.new ≡ gate_after result gate.old }
         ensures one_gate { gate.new.id ≡ gate.old.id }
         ensures board { self.new.board ≡ self.old.board }
+        ensures steps { self.new.steps ≡ self.old.steps }
     {
         self.core.past();
         self.core.ask(slot, gate, now)
@@ -229,6 +238,7 @@ impl<S: BackendSelection> Watched<S> {
         ensures gate { gate.new ≡ gate_back result gate.old }
         ensures one_gate { gate.new.id ≡ gate.old.id }
         ensures board { self.new.board ≡ self.old.board }
+        ensures steps { self.new.steps ≡ self.old.steps }
     {
         self.core.past();
         self.core.fail(job, registry, gate, now)
@@ -248,6 +258,7 @@ impl<S: BackendSelection> Watched<S> {
         ensures stands { Becomes self.old.core (in_group (publish_events built result)) self.new.core }
         ensures site { SameSite self.old.core self.new.core }
         ensures board { self.new.board ≡ self.old.board }
+        ensures steps { self.new.steps ≡ self.old.steps + publish_steps result }
     {
         self.core.past();
         let _words = self.board.word_count();
@@ -277,6 +288,7 @@ impl<S: BackendSelection> Watched<S> {
         ensures stands { Becomes self.old.core (in_group (abandon_events built result)) self.new.core }
         ensures site { SameSite self.old.core self.new.core }
         ensures board { self.new.board ≡ self.old.board }
+        ensures steps { self.new.steps ≡ self.old.steps }
     {
         self.core.past();
         self.core.abandon(built)
@@ -293,6 +305,7 @@ impl<S: BackendSelection> Watched<S> {
         ensures stands { Becomes self.old.core (in_group (done_at slot WorkerLost result)) self.new.core }
         ensures site { SameSite self.old.core self.new.core }
         ensures board { self.new.board ≡ self.old.board }
+        ensures steps { self.new.steps ≡ self.old.steps }
     {
         self.core.past();
         self.core.worker_lost(slot)
@@ -310,6 +323,7 @@ impl<S: BackendSelection> Watched<S> {
         ensures site { SameSite self.old.core self.new.core }
         ensures own { IfOk result (λ r. r.group ≡ self.new.core.group.id) }
         ensures board { self.new.board ≡ self.old.board }
+        ensures steps { self.new.steps ≡ self.old.steps }
     {
         self.core.past();
         self.core.enter(slot)
@@ -322,6 +336,7 @@ impl<S: BackendSelection> Watched<S> {
             (in_group (ticket_events made reader.now.slot reader.now.generation result (slot_events e)) ++ e) self.new.core) }
         ensures site { SameSite self.old.core self.new.core }
         ensures board { self.new.board ≡ self.old.board }
+        ensures steps { self.new.steps ≡ self.old.steps }
     {
         self.core.past();
         self.core.ticket(reader)
@@ -338,6 +353,7 @@ impl<S: BackendSelection> Watched<S> {
         ensures stands { Becomes self.old.core (in_group (done_at reader.slot (Left reader.generation) result)) self.new.core }
         ensures site { SameSite self.old.core self.new.core }
         ensures board { self.new.board ≡ self.old.board }
+        ensures steps { self.new.steps ≡ self.old.steps }
     {
         self.core.past();
         self.core.leave(reader)
@@ -356,6 +372,7 @@ impl<S: BackendSelection> Watched<S> {
         ensures own { IfOk result (λ r. (r.group ≡ self.new.core.group.id) × (r.slot ≡ slot)
             × (r.permit ≡ self.new.core.group.gate)) }
         ensures board { self.new.board ≡ self.old.board }
+        ensures steps { self.new.steps ≡ self.old.steps }
     {
         self.core.past();
         self.core.take_retired(slot)
@@ -386,6 +403,7 @@ impl<S: BackendSelection> Watched<S> {
         ensures gate { gate.new ≡ gate_back result gate.old }
         ensures one_gate { gate.new.id ≡ gate.old.id }
         ensures board { self.new.board ≡ self.old.board }
+        ensures steps { self.new.steps ≡ self.old.steps }
     {
         self.core.past();
         self.core.destroyed(slot, permit, registry, gate)
@@ -396,6 +414,7 @@ impl<S: BackendSelection> Watched<S> {
         ensures stands { Becomes self.old.core (Set backend.now enabled ∷ []) self.new.core }
         ensures site { SameSite self.old.core self.new.core }
         ensures board { self.new.board ≡ self.old.board }
+        ensures steps { self.new.steps ≡ self.old.steps }
     {
         self.core.past();
         self.core.set_enable(backend, enabled);

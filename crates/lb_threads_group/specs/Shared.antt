@@ -1,5 +1,5 @@
 -- What contracts see of a group that threads share, whose generations are read on its board.
-use Rattle.std.specs.Prelude.{◌≡◌, ◌⊎◌, ◌≤◌, ◌+◌, ℕ, Bool, List, Option, Result}
+use Rattle.std.specs.Prelude.{◌≡◌, ◌⊎◌, ◌≤◌, ◌<◌, ◌+◌, ℕ, Bool, List, Option, Result}
 use Rattle.lb_rebuild.specs.Pass.{BoardId}
 use Rattle.lb_rebuild_group.specs.Stands.{GroupValue, SameSite}
 use Rattle.lb_health_registry.specs.Registry.{RegistryValue}
@@ -22,10 +22,11 @@ pub record IsSame {C : Type 0} (v w : WatchedValue C) : Type 0 where
   pub board : w.board ≡ v.board
   pub site : SameSite v.core w.core
 
--- why an entry is refused: no such slot is there, its readers are at their most, or memory was refused
+-- why an entry is refused: no such slot is there; or it is there, and its readers are at their most, or memory was refused
 abbrev pub IsEntryRefusal : BoardId → ℕ → Refusal → Type 0
 IsEntryRefusal board slot e =
-    ((e ≡ refusal.NoSuch) × (board.words ≤ slot + 1)) ⊎ ((e ≡ refusal.NumbersExhausted) ⊎ (e ≡ refusal.OutOfMemory))
+    ((board.words ≤ slot + 1) × (e ≡ refusal.NoSuch))
+    ⊎ ((slot + 1 < board.words) × ((e ≡ refusal.NumbersExhausted) ⊎ (e ≡ refusal.OutOfMemory)))
 
 -- A selection by the words that it drew, whichever they were: others draw from the same source.
 abbrev pub SelectsByAny : (Member → Bool → Type 0) → ℕ → (List Draw → List Member → Bool → Type 0) → Result (Option Member) Refusal → Type 0

@@ -1,6 +1,6 @@
 //! A group that threads share, behind a lock of its own.
 //! Locks are taken in the order update, group, registry, gate, and but for that of an update none is held between two calls.
-ghost use Rattle.std.specs.Prelude.{◌≡◌, IfErr, IfOk};
+ghost use Rattle.std.specs.Prelude.{◌≡◌, ◌+◌, IfErr, IfOk, length};
 ghost use Rattle.std.specs.Arc.{arc_value};
 ghost use Rattle.lb_threads_group.specs.Group.{UpdatedUnder};
 ghost use Rattle.lb_threads_group.specs.Shared.{IsSame};
@@ -68,7 +68,7 @@ pub struct SharedGroup<S: BackendSelection, R: KeyRule + Drop, C> {
 }
 
 impl<S: BackendSelection, R: KeyRule + Drop, C> Model for SharedGroup<S, R, C> {
-    ghost use Rattle.std.specs.Prelude.{◌≡◌};
+    ghost use Rattle.std.specs.Prelude.{◌≡◌, ◌+◌, length};
     ghost use Rattle.std.specs.Arc.{arc_value};
     ghost use Rattle.lb_threads_group.specs.Shared.{SharedValue};
 
@@ -81,7 +81,8 @@ impl<S: BackendSelection, R: KeyRule + Drop, C> Model for SharedGroup<S, R, C> {
     } };
 
     ghost invariant = { λ g. ((arc_value g.gate).id ≡ g.lock.table.shared.key.value.core.group.gate)
-        × (g.lock.table.shared.key.value.board ≡ arc_value g.board) };
+        × (g.lock.table.shared.key.value.board ≡ arc_value g.board)
+        × ((arc_value g.board).words ≡ length g.lines.items + 1) };
 }
 
 impl<S: BackendSelection, R: KeyRule + Drop, C: HealthCheck + Drop> SharedGroup<S, R, C> {
@@ -100,10 +101,11 @@ impl<S: BackendSelection, R: KeyRule + Drop, C: HealthCheck + Drop> SharedGroup<
     ) -> Result<SharedGroup<S, R, C>, Refusal>
         requires { (arc_value gate).id ≡ core.group.gate }
         ensures made { IfOk result (λ g. (g.core ≡ core) × (g.registry ≡ (arc_value registry).start)) }
+        ensures words { IfOk result (λ g. g.board.words ≡ length core.group.slots + 1) }
         ensures refused { IfErr result (λ e. e ≡ Refusal.OutOfMemory) }
     {
-        let lines = lines_of(alloc, &core)?;
         let (watched, board) = Watched::new(alloc, core)?;
+        let lines = lines_of(alloc, board.word_count() - 1)?;
         let key = Snapshot::of(&watched);
         let lock = KeyedLock::new(alloc, watched, &key)?;
         Ok(SharedGroup {
@@ -147,8 +149,11 @@ impl<S: BackendSelection, R: KeyRule + Drop, C: HealthCheck + Drop> SharedGroup<
         (*self.gate).wakes()
     }
 
-    /// How many slots there are.
-    pub fn slot_count(&self) -> usize {
+    /// Returns how many slots there are. The board has a word for each, and one more for the newest generation.
+    pub fn slot_count(&self) -> usize
+        ensures { self.now.board.words ≡ result + 1 }
+    {
+        let _board = &self.board;
         self.lines.len()
     }
 
@@ -260,18 +265,13 @@ impl<S: BackendSelection, R: KeyRule + Drop, C: HealthCheck + Drop> SharedGroup<
     }
 }
 
-// A line for each slot of the group.
-fn lines_of<S: BackendSelection>(
-    alloc: Global,
-    core: &GroupCore<S>,
-) -> Result<Vec<SlotCounters>, Refusal>
-    ensures { IfErr result (λ e. e ≡ Refusal.OutOfMemory) }
+// The counters of so many slots.
+fn lines_of(alloc: Global, slots: usize) -> Result<Vec<SlotCounters>, Refusal>
+    ensures count { IfOk result (λ l. length l.items ≡ slots) }
+    ensures refused { IfErr result (λ e. e ≡ Refusal.OutOfMemory) }
 {
     let mut lines = Vec::new(alloc);
-    for slot in 0..usize::MAX {
-        if core.served(slot).is_none() {
-            return Ok(lines);
-        }
+    for _ in 0..slots {
         lines.push(SlotCounters {
             tickets: AtomicU64::new(0),
             has_worker: AtomicBool::new(false),

@@ -1,8 +1,12 @@
--- The registry has a view more, or is as before.
+-- The registry has a view more, or is as before; a new group has a slot for each configuration.
 use Rattle.lb_threads_registry.proofs.Histories.{later, registered_later}
+use Rattle.lb_balancer_group.proofs.FirstSlots.{slots_of_new}
 use Rattle.lb_balancer_group.proofs.making.make.Goals as goal
 
 pub put-requires-2-clause-registry : goal.put-requires-2-clause-registry
 put-requires-2-clause-registry g c =
     let is = c.new-made.ensures in
     later c.take-cells.ensures.registry (registered_later c.new-made.result is.registry is.err)
+
+pub returns-clause-slots : goal.returns-clause-slots
+returns-clause-slots g c = slots_of_new _ c.args.configs.items c.new-made.result c.new-made.ensures.stands

@@ -1,0 +1,14 @@
+-- A new group has a slot for each configuration.
+use Rattle.std.proofs.Common.{◌≡◌, ◌∙◌, [], List, length, ap, Result, Ok, Err, IfOk}
+use Rattle.lb_select_base.specs.declared.refusal.Refusal.{Refusal}
+use Rattle.lb_rebuild_slots.specs.Gate.{GateId}
+use Rattle.lb_rebuild_slots.specs.Values.{SlotsValue}
+use Rattle.lb_rebuild_slots.proofs.SlotsSteps.{length-after}
+use Rattle.lb_rebuild_group.specs.Stands.{GroupValue, Stands}
+
+pub slots_of_new : {C : Type 0} (gate : GateId) (configs : List C) (r : Result (GroupValue C) Refusal)
+    → IfOk r (λ v. Stands (record { id = v.group.id; gate = gate; configs = configs }) [] v)
+    → IfOk r (λ v. length v.group.slots ≡ length configs)
+slots_of_new {C} gate configs (Ok v) stands =
+    ap (λ (x : SlotsValue C). length x.slots) stands.group.shows ∙ length-after gate 0 configs []
+slots_of_new gate configs (Err e) stands = tt
