@@ -1,5 +1,5 @@
 //! Partial sums, and the search among them for the interval that holds a place.
-//! The one way to a sum is a reader's one call, which counts, so that no read goes uncounted.
+//! The one way to a sum is a reader's one call, which counts: each read is counted by its reader.
 ghost use Rattle.std.specs.Prelude.{◌≡◌, ◌+◌, ◌-◌, ◌^◌, ◌<◌, ◌≤◌, ◌++◌, ◌∷◌, [], ℕ, List, Some, IfOk, length, slice_get};
 ghost use Rattle.lb_select.specs.Sums.{NeverFalls, IsBelowLast, IsPlaceAt, HasBinaryDigits};
 
