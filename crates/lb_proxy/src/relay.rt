@@ -3,7 +3,8 @@
 ghost use Rattle.std.specs.Prelude.{◌≡◌, ◌+◌, ◌≤◌, ◌↔◌, ℕ, List, length, take, drop, true, IsTrue, IfOk, OnErr};
 ghost use Rattle.std.specs.Io.KnownBytes.{Appends, Consumes, Keeps, ReadConsumes};
 ghost use Rattle.lb_proxy.specs.Relay.{idle, read_event, wrote, shut, CanRead, CanWrite, CanShut, Step};
-ghost use Rattle.lb_proxy.specs.Relay.{RelayState, fresh, flow_of, from, failure, IsLive, IsOver, Happening, RelayStep, RelayRun, IsConnection};
+ghost use Rattle.lb_proxy.specs.Relay.{RelayState, fresh, flow_of, from, failure, IsLive, IsOver, RelayStep};
+ghost use Rattle.lb_proxy.specs.Relay.{Happening, RelayRun, IsConnection};
 
 use std::alloc::{AllocError, Global};
 use std::io;
