@@ -12,7 +12,6 @@ use std::collections::BTreeSet;
 use std::sync::atomic::AtomicU64;
 use std::sync::atomic::Ordering::SeqCst;
 use std::sync::{Arc, Wait};
-use std::test::Fail;
 use std::thread;
 use std::thread::Threads;
 use std::time::{Clock, Duration};
@@ -23,6 +22,17 @@ struct Seen {
     checks: AtomicU64,
     inside: AtomicU64,
     most: AtomicU64,
+}
+
+impl Seen {
+    // Nothing was checked yet.
+    fn new() -> Seen {
+        Seen {
+            checks: AtomicU64::new(0),
+            inside: AtomicU64::new(0),
+            most: AtomicU64::new(0),
+        }
+    }
 }
 
 // A check that waits, for so many milliseconds at most, until another one runs at the same time. A backend of weight 2 is down.
@@ -71,94 +81,75 @@ fn three_targets(alloc: Global, registry: KeyedRegistry) -> Result<KeyedRegistry
     Ok(registry)
 }
 
-// What a pass over three targets saw, with its checks at the same time or not; and which cells are healthy after it.
-fn pass<R: Log + Threads + Wait + Clock + Copy + Send + Sync>(
+// A registry with a check of this type.
+type Registry<R> = HealthRegistry<Rule<NoRule>, Meeting<R>>;
+
+// Sets a check that waits for so many turns.
+fn set<R: Wait + Clock + Copy + Drop>(
+    rt: &R,
+    registry: &Registry<R>,
+    seen: &Arc<Seen>,
+    turns: usize,
+) -> Result<(), Refusal> {
+    let seen = Arc::try_clone(seen)?;
+    let check = Meeting {
+        rt: *rt,
+        turns,
+        seen,
+    };
+    registry.set_health_check(rt, check)
+}
+
+// What a pass came to: what a second check was answered before it, how many checks there were, how many of them ran at the same time
+// (one, or two and more), how many targets there are, and which cells are healthy.
+type Told = (Result<(), Refusal>, u64, u64, usize, [bool; 3]);
+
+// A pass with its checks at the same time or not, once a second check was set.
+fn passed<R: Log + Threads + Wait + Clock + Copy + Send + Sync + Drop>(
+    rt: R,
+    alloc: Global,
+    registry: &Registry<R>,
+    seen: &Arc<Seen>,
+    parallel: bool,
+) -> Result<Told, Refusal> {
+    let second = set(&rt, registry, seen, 0);
+    registry.run_health_check(&rt, alloc, parallel)?;
+    let healthy = [
+        registry.cell_ready(&rt, 0),
+        registry.cell_ready(&rt, 1),
+        registry.cell_ready(&rt, 2),
+    ];
+    let most = seen.most.load(SeqCst).min(2);
+    let targets = registry.target_count(&rt, alloc)?;
+    Ok((second, seen.checks.load(SeqCst), most, targets, healthy))
+}
+
+// A pass over three targets of a registry of its own, whose check waits for so many turns.
+fn pass<R: Log + Threads + Wait + Clock + Copy + Send + Sync + Drop>(
     rt: R,
     alloc: Global,
     parallel: bool,
     turns: usize,
-) -> Result<([u64; 2], [bool; 3]), Refusal> {
-    let seen = Arc::new(
-        alloc,
-        Seen {
-            checks: AtomicU64::new(0),
-            inside: AtomicU64::new(0),
-            most: AtomicU64::new(0),
-        },
-    )?;
+) -> Result<Told, Refusal> {
+    let seen = Arc::new(alloc, Seen::new())?;
     let registry = three_targets(alloc, keyed_by_identity(alloc))?;
-    let registry: HealthRegistry<Rule<NoRule>, Meeting<R>> = HealthRegistry::over(alloc, registry)?;
-    let check = Meeting {
-        rt,
-        turns,
-        seen: Arc::try_clone(&seen)?,
-    };
-    registry.set_health_check(&rt, check)?;
-    registry.run_health_check(&rt, alloc, parallel)?;
-    Ok((
-        [seen.checks.load(SeqCst), seen.most.load(SeqCst)],
-        [
-            registry.cell_ready(&rt, 0),
-            registry.cell_ready(&rt, 1),
-            registry.cell_ready(&rt, 2),
-        ],
-    ))
+    let registry: Registry<R> = HealthRegistry::over(alloc, registry)?;
+    set(&rt, &registry, &seen, turns)?;
+    passed(rt, alloc, &registry, &seen, parallel)
 }
 
-// With `parallel` two checks meet, within a thousand turns of a millisecond; each target is checked once, and each verdict reaches
-// its cell.
+// With `parallel` two checks meet, within ten thousand turns of a millisecond; without it, no two run at once. Each target is checked
+// once, and each verdict reaches its cell. A second check is refused, and the first stays.
 #[test]
-fn checks_run_at_the_same_time(rt: HostRuntime) -> Result<(), Fail> {
-    let (seen, healthy) = pass(rt, rt.alloc(), true, 1000)?;
-    assert_eq!(rt; seen[0], 3);
-    assert!(rt; seen[1] > 1);
-    assert_eq!(rt; healthy, [true, false, true]);
-    Ok(())
-}
-
-// Without it, no two run at once.
-#[test]
-fn checks_run_one_after_another(rt: HostRuntime) -> Result<(), Fail> {
-    let (seen, healthy) = pass(rt, rt.alloc(), false, 5)?;
-    assert_eq!(rt; seen[0], 3);
-    assert_eq!(rt; seen[1], 1);
-    assert_eq!(rt; healthy, [true, false, true]);
-    Ok(())
-}
-
-// A second check is refused, and the first stays.
-#[test]
-fn one_check_is_set(rt: HostRuntime) -> Result<(), Fail> {
-    let alloc = rt.alloc();
-    let registry = three_targets(alloc, keyed_by_identity(alloc))?;
-    let registry: HealthRegistry<Rule<NoRule>, Meeting<HostRuntime>> = HealthRegistry::over(
-        alloc, registry,
-    )?;
-    let seen = Arc::new(
-        alloc,
-        Seen {
-            checks: AtomicU64::new(0),
-            inside: AtomicU64::new(0),
-            most: AtomicU64::new(0),
-        },
-    )?;
-    let first = Meeting {
-        rt,
-        turns: 0,
-        seen: Arc::try_clone(&seen)?,
-    };
-    let second = Meeting {
-        rt,
-        turns: 0,
-        seen: Arc::try_clone(&seen)?,
-    };
-    assert_eq!(rt; registry.set_health_check(&rt, first), Ok(()));
-    assert_eq!(rt;
-        registry.set_health_check(&rt, second),
-        Err(Refusal::HealthCheckSet)
-    );
-    registry.run_health_check(&rt, alloc, false)?;
-    assert_eq!(rt; seen.checks.load(SeqCst), 3);
-    assert_eq!(rt; registry.target_count(&rt, alloc), Ok(3));
-    Ok(())
+fn passes_of_checks(rt: HostRuntime) {
+    for (parallel, turns, most) in [(true, 10_000, 2), (false, 5, 1)] {
+        let wanted = (
+            Err(Refusal::HealthCheckSet),
+            3,
+            most,
+            3,
+            [true, false, true],
+        );
+        assert_eq!(rt; pass(rt, rt.alloc(), parallel, turns), Ok(wanted));
+    }
 }

@@ -4,7 +4,8 @@ use lb_threads_registry::lock::KeyedLock;
 use lb_threads_registry::rule::LockRule;
 use std::sync::Wait;
 use std::test::Fail;
-use std::thread::join;
+use std::thread;
+use std::thread::{Threads, join};
 
 // A lock that asks nothing of its value.
 struct OfAny {}
@@ -13,13 +14,22 @@ impl LockRule<u64, ()> for OfAny {
     ghost holds = { λ _ _. Unit {0} };
 }
 
-// Adds one to the value so many times, taking the lock for each.
-fn add<R: Wait>(rt: &R, lock: &KeyedLock<u64, (), OfAny>, times: u64) {
+// Adds one to the value so many times, taking the lock for each; how often that was.
+fn add<R: Wait>(rt: &R, lock: &KeyedLock<u64, (), OfAny>, times: u64) -> u64 {
     for _ in 0..times {
         let mut held = lock.take(rt);
         held.value = held.value.wrapping_add(1);
         lock.put(held);
     }
+    times
+}
+
+// What the lock contains.
+fn total<R: Wait>(rt: &R, lock: &KeyedLock<u64, (), OfAny>) -> u64 {
+    let held = lock.take(rt);
+    let total = held.value;
+    lock.put(held);
+    total
 }
 
 // No addition is lost, whichever thread made it.
@@ -27,15 +37,8 @@ fn add<R: Wait>(rt: &R, lock: &KeyedLock<u64, (), OfAny>, times: u64) {
 fn every_addition_counts(rt: HostRuntime) -> Result<(), Fail> {
     let lock = KeyedLock::new(rt.alloc(), 0, &())?;
     let shared = &lock;
-    join(
-        &rt,
-        || join(&rt, || add(&rt, shared, 5000), || add(&rt, shared, 5000)),
-        || join(&rt, || add(&rt, shared, 5000), || add(&rt, shared, 5000)),
-    );
-    let held = lock.take(&rt);
-    let total = held.value;
-    lock.put(held);
-    assert_eq!(rt; total, 20_000);
+    let added = thread::map_indices(&rt, rt.alloc(), 4, &|_| add(&rt, shared, 5000))?;
+    assert_eq!(rt; (added.len(), total(&rt, shared)), (4, 20_000));
     Ok(())
 }
 
@@ -50,23 +53,22 @@ fn granted<R: Wait>(rt: &R, gate: &SelectorRebuildGate) -> bool {
     }
 }
 
+// Whether two other threads got the permit while it was held; none where it was not there.
+fn granted_beside<R: Threads + Wait + Sync>(
+    rt: &R,
+    gate: &SelectorRebuildGate,
+) -> Option<[bool; 2]> {
+    let permit = gate.grant(rt)?;
+    let (first, second) = join(rt, || granted(rt, gate), || granted(rt, gate));
+    gate.give_back(rt, permit);
+    Some([first, second])
+}
+
 // Of a gate whose permit is held, no other thread gets it; it does once the permit is back.
 #[test]
 fn one_permit_at_a_time(rt: HostRuntime) -> Result<(), Fail> {
     let gate = SelectorRebuildGate::new(rt.alloc())?;
-    let shared = &gate;
-    let held = gate.grant(&rt);
-    let (first, second) = join(&rt, || granted(&rt, shared), || granted(&rt, shared));
-    let was_granted = match held {
-        Some(permit) => {
-            gate.give_back(&rt, permit);
-            true
-        }
-        None => false,
-    };
-    assert!(rt; was_granted);
-    assert!(rt; !first);
-    assert!(rt; !second);
+    assert_eq!(rt; granted_beside(&rt, &gate), Some([false; 2]));
     assert!(rt; granted(&rt, &gate));
     Ok(())
 }

@@ -37,7 +37,7 @@ impl MomentSource for Ticks {
     }
 }
 
-/// A check that finds every backend down. It counts its checks; with a watch, each waits, for a thousand milliseconds at most, until
+/// A check that finds every backend down. It counts its checks; with a watch, each waits, for ten seconds at most, until
 /// that tells that services are to end.
 #[derive(Drop)]
 pub struct Down<R> {
@@ -52,7 +52,7 @@ impl<R: Clock> HealthCheck for Down<R> {
     fn check(&self, _alloc: Global, _target: &Backend) -> Result<(), CheckError> {
         self.checks.fetch_add(1, SeqCst);
         if let Some(watch) = &self.until {
-            for _ in 0..1000 {
+            for _ in 0..10_000 {
                 if watch.is_shut() {
                     break;
                 }
@@ -128,9 +128,9 @@ pub fn one_backend(alloc: Global) -> Result<BTreeSet<Backend>, Refusal> {
     Ok(set)
 }
 
-/// Waits, for a thousand milliseconds at most, until so many checks were counted; whether they were.
+/// Waits, for ten seconds at most, until so many checks were counted; whether they were.
 pub fn counted<R: Clock>(rt: &R, checks: &AtomicU64, wanted: u64) -> bool {
-    for _ in 0..1000 {
+    for _ in 0..10_000 {
         if checks.load(SeqCst) >= wanted {
             return true;
         }

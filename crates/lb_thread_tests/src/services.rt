@@ -6,7 +6,6 @@ use lb_select_base::refusal::Refusal;
 use log::sink::Locked;
 use log::{Level, Log, Logged};
 use std::alloc::Global;
-use std::process::Abort;
 use std::sync::Wait;
 use std::sync::atomic::AtomicU64;
 use std::sync::atomic::Ordering::SeqCst;
@@ -15,83 +14,123 @@ use std::thread;
 use std::thread::{Threads, join};
 use std::time::{Clock, Duration};
 
-// Sends the end once so many checks were counted; whether they were.
-fn end_after<R: Clock>(
+// What happens beside a service.
+#[derive(Clone, Copy)]
+enum Beside {
+    Nothing,
+    // The end is sent once so many checks were counted.
+    Ends(u64),
+    // The view's first target is published a little later.
+    Publishes,
+}
+
+// What becomes of the signal before a service begins.
+#[derive(Clone, Copy)]
+enum Signal {
+    Stays,
+    SendsTheEnd,
+    IsGone,
+}
+
+// Whether what happens beside a service came; how many checks there were, counted up to three; whether the service said that it is
+// ready; and whether the one target's cell is ready.
+type Told = (bool, u64, bool, bool);
+
+// A case: whether the registry has no target at first, and whether each check waits until services are to end; the service's frequency, and
+// whether its checks run beside each other; by how much its clock goes on at each reading.
+struct Row {
+    name: &'static str,
+    is_empty: bool,
+    waits: bool,
+    frequency: Option<u128>,
+    is_parallel: bool,
+    step: u128,
+    signal: Signal,
+    beside: Beside,
+    wanted: Told,
+}
+
+const ROWS: [Row; 5] = [
+    // Without a frequency the one target is checked once, the service is ready, and it is done.
+    Row {
+        name: "one pass",
+        is_empty: false,
+        waits: false,
+        frequency: None,
+        is_parallel: false,
+        step: 5,
+        signal: Signal::Stays,
+        beside: Beside::Nothing,
+        wanted: (true, 1, true, false),
+    },
+    // With a frequency they are checked again, until services are to end.
+    Row {
+        name: "three passes",
+        is_empty: false,
+        waits: false,
+        frequency: Some(10),
+        is_parallel: true,
+        step: 5,
+        signal: Signal::Stays,
+        beside: Beside::Ends(3),
+        wanted: (true, 3, true, false),
+    },
+    // A check that runs when services are to end goes on to its end: its verdict is kept, and then the service ends and isn't ready.
+    Row {
+        name: "a check ends, and then the service",
+        is_empty: false,
+        waits: true,
+        frequency: Some(10),
+        is_parallel: false,
+        step: 5,
+        signal: Signal::Stays,
+        beside: Beside::Ends(1),
+        wanted: (true, 1, false, false),
+    },
+    // A signal that is gone doesn't end a service that waits for targets; the first one wakes it.
+    Row {
+        name: "a target wakes it",
+        is_empty: true,
+        waits: false,
+        frequency: None,
+        is_parallel: false,
+        step: 50_000_000,
+        signal: Signal::IsGone,
+        beside: Beside::Publishes,
+        wanted: (true, 1, true, false),
+    },
+    // Whatever it does, a service that is to end before it begins does nothing.
+    Row {
+        name: "no pass",
+        is_empty: false,
+        waits: false,
+        frequency: None,
+        is_parallel: false,
+        step: 5,
+        signal: Signal::SendsTheEnd,
+        beside: Beside::Nothing,
+        wanted: (true, 0, false, true),
+    },
+];
+
+// Does what happens beside a service; whether it came.
+fn happens<R: Wait + Clock + Drop>(
     rt: &R,
+    alloc: Global,
+    beside: Beside,
     checks: &AtomicU64,
-    wanted: u64,
+    registry: &Checked<R>,
     signal: &mut Option<ShutdownSignal>,
 ) -> bool {
-    let came = counted(rt, checks, wanted);
-    send_end(signal);
-    came
-}
-
-// How many checks there were, whether the service said that it is ready, and whether the one target's cell is.
-fn seen<R: Wait + Clock + Drop>(rt: &R, bench: &ServiceBench<R>) -> (u64, bool, bool) {
-    (
-        bench.checks.load(SeqCst),
-        bench.ends.ready.is_ready(),
-        bench.registry.cell_ready(rt, 0),
-    )
-}
-
-// Without a frequency the one target is checked once, the service is ready, and it is done.
-fn one_pass<R: Abort + Log + Threads + Wait + Clock + Copy + Send + Sync + Drop>(
-    rt: &R,
-    alloc: Global,
-    bench: &mut ServiceBench<R>,
-) {
-    assert_eq!(rt; bench.set_check(rt, false), Ok(()));
-    let mut clock = Ticks { next: 0, step: 5 };
-    let notifier = bench.ends.notifier.take();
-    bench
-        .service
-        .run(rt, alloc, &mut clock, &bench.ends.watch, notifier);
-    assert_eq!(rt; seen(rt, bench), (1, true, false));
-}
-
-// With a frequency they are checked again, until services are to end.
-fn three_passes<R: Abort + Log + Threads + Wait + Clock + Copy + Send + Sync + Drop>(
-    rt: &R,
-    alloc: Global,
-    bench: &mut ServiceBench<R>,
-) {
-    bench.service.health_check_frequency = Some(10);
-    bench.service.parallel_health_check = true;
-    assert_eq!(rt; bench.set_check(rt, false), Ok(()));
-    assert!(rt; ended_after(rt, alloc, bench, 3));
-}
-
-// Runs the service, and sends the end once so many checks were counted; whether they were.
-fn ended_after<R: Log + Threads + Wait + Clock + Copy + Send + Sync + Drop>(
-    rt: &R,
-    alloc: Global,
-    bench: &mut ServiceBench<R>,
-    wanted: u64,
-) -> bool {
-    let mut clock = Ticks { next: 0, step: 5 };
-    let notifier = bench.ends.notifier.take();
-    let (service, checks) = (&bench.service, &*bench.checks);
-    let (signal, watch) = (&mut bench.ends.signal, &bench.ends.watch);
-    let (came, _) = join(
-        rt,
-        move || end_after(rt, checks, wanted, signal),
-        move || service.run(rt, alloc, &mut clock, watch, notifier),
-    );
-    came
-}
-
-// A check that runs when services are to end goes on to its end: its verdict is kept, and then the service ends and isn't ready.
-fn check_ends_then_service<R: Abort + Log + Threads + Wait + Clock + Copy + Send + Sync + Drop>(
-    rt: &R,
-    alloc: Global,
-    bench: &mut ServiceBench<R>,
-) {
-    bench.service.health_check_frequency = Some(10);
-    assert_eq!(rt; bench.set_check(rt, true), Ok(()));
-    assert!(rt; ended_after(rt, alloc, bench, 1));
-    assert_eq!(rt; seen(rt, bench), (1, false, false));
+    match beside {
+        Beside::Nothing => true,
+        Beside::Ends(wanted) => {
+            let came = counted(rt, checks, wanted);
+            send_end(signal);
+            came
+        }
+        Beside::Publishes => publish_later(rt, alloc, registry).is_ok(),
+    }
 }
 
 // Publishes the view's first target a little later.
@@ -104,26 +143,67 @@ fn publish_later<R: Wait + Clock + Drop>(
     registry.update_view(rt, alloc, 1, one_backend(alloc)?)
 }
 
-// A signal that is gone doesn't end a service that waits for targets; the first one wakes it.
-fn target_wakes_it<R: Abort + Log + Threads + Wait + Clock + Copy + Send + Sync + Drop>(
+// Sets up the service and its signal for a case.
+fn begin<R: Wait + Clock + Copy + Send + Sync + Drop>(
+    rt: &R,
+    bench: &mut ServiceBench<R>,
+    row: &Row,
+) -> Result<(), Refusal> {
+    bench.service.health_check_frequency = row.frequency;
+    bench.service.parallel_health_check = row.is_parallel;
+    match row.signal {
+        Signal::Stays => {}
+        Signal::SendsTheEnd => send_end(&mut bench.ends.signal),
+        Signal::IsGone => bench.ends.signal = None,
+    }
+    bench.set_check(rt, row.waits)
+}
+
+// Runs the service, beside what happens meanwhile.
+fn runs<R: Log + Threads + Wait + Clock + Copy + Send + Sync + Drop>(
     rt: &R,
     alloc: Global,
     bench: &mut ServiceBench<R>,
-) {
-    bench.ends.signal = None;
-    assert_eq!(rt; bench.set_check(rt, false), Ok(()));
+    row: &Row,
+) -> Told {
     let mut clock = Ticks {
         next: 0,
-        step: 50_000_000,
+        step: row.step,
     };
-    let (service, registry) = (&bench.service, &*bench.registry);
-    let watch = &bench.ends.watch;
-    let (published, _) = join(
+    let (beside, notifier) = (row.beside, bench.ends.notifier.take());
+    let (service, registry, checks) = (&bench.service, &*bench.registry, &*bench.checks);
+    let (signal, watch) = (&mut bench.ends.signal, &bench.ends.watch);
+    let (came, ()) = join(
         rt,
-        move || publish_later(rt, alloc, registry),
-        move || service.run(rt, alloc, &mut clock, watch, None),
+        move || happens(rt, alloc, beside, checks, registry, signal),
+        move || service.run(rt, alloc, &mut clock, watch, notifier),
     );
-    assert_eq!(rt; (published, bench.checks.load(SeqCst)), (Ok(()), 1));
+    let count = checks.load(SeqCst).min(3);
+    (
+        came,
+        count,
+        bench.ends.ready.is_ready(),
+        registry.cell_ready(rt, 0),
+    )
+}
+
+// A case, on a new service.
+fn played<R: Log + Threads + Wait + Clock + Copy + Send + Sync + Drop>(
+    rt: &R,
+    alloc: Global,
+    row: &Row,
+) -> Result<Told, Refusal> {
+    let mut bench = ServiceBench::new(alloc, registry_of(alloc, row.is_empty)?)?;
+    begin(rt, &mut bench, row)?;
+    Ok(runs(rt, alloc, &mut bench, row))
+}
+
+#[test]
+fn rows_of_services(rt: HostRuntime) {
+    for row in &ROWS {
+        let name = row.name;
+        assert_eq!(rt; played(&rt, rt.alloc(), row), Ok(row.wanted), "{name}");
+    }
 }
 
 // Runs a service without a check, and again once its signal is gone.
@@ -142,72 +222,6 @@ fn run_without_check<R: Wait + Clock + Copy + Send + Sync + Drop, L: Log + Threa
         .run(rt, alloc, &mut clock, &ends.watch, notifier);
 }
 
-// Whatever it does, a service that is to end before it begins does nothing.
-fn no_pass<R: Abort + Log + Threads + Wait + Clock + Copy + Send + Sync + Drop>(
-    rt: &R,
-    alloc: Global,
-    bench: &mut ServiceBench<R>,
-) {
-    send_end(&mut bench.ends.signal);
-    assert_eq!(rt; bench.set_check(rt, false), Ok(()));
-    let mut clock = Ticks { next: 0, step: 5 };
-    bench
-        .service
-        .run(rt, alloc, &mut clock, &bench.ends.watch, None);
-    assert_eq!(rt; bench.checks.load(SeqCst), 0);
-}
-
-// The cases, each as the function of its name tells it.
-#[derive(Clone, Copy, Debug)]
-enum Row {
-    OnePass,
-    ThreePasses,
-    CheckEndsThenService,
-    TargetWakesIt,
-    NoPass,
-}
-
-// Plays a case on a new service over one target, or over none where it waits for the first.
-fn played<R: Abort + Log + Threads + Wait + Clock + Copy + Send + Sync + Drop>(
-    rt: &R,
-    alloc: Global,
-    row: Row,
-) -> Result<(), Refusal> {
-    let registry = registry_of(alloc, matches!(row, Row::TargetWakesIt))?;
-    let mut bench = ServiceBench::new(alloc, registry)?;
-    play(rt, alloc, &mut bench, row);
-    Ok(())
-}
-
-fn play<R: Abort + Log + Threads + Wait + Clock + Copy + Send + Sync + Drop>(
-    rt: &R,
-    alloc: Global,
-    bench: &mut ServiceBench<R>,
-    row: Row,
-) {
-    match row {
-        Row::OnePass => one_pass(rt, alloc, bench),
-        Row::ThreePasses => three_passes(rt, alloc, bench),
-        Row::CheckEndsThenService => check_ends_then_service(rt, alloc, bench),
-        Row::TargetWakesIt => target_wakes_it(rt, alloc, bench),
-        Row::NoPass => no_pass(rt, alloc, bench),
-    }
-}
-
-#[test]
-fn rows_of_services(rt: HostRuntime) -> Result<(), Fail> {
-    for row in [
-        Row::OnePass,
-        Row::ThreePasses,
-        Row::CheckEndsThenService,
-        Row::TargetWakesIt,
-        Row::NoPass,
-    ] {
-        played(&rt, rt.alloc(), row)?;
-    }
-    Ok(())
-}
-
 // A service without a check logs an error, and ends where nobody can send the end any more; it isn't ready.
 #[test]
 fn service_wants_a_check(rt: HostRuntime) -> Result<(), Fail> {
@@ -221,11 +235,11 @@ fn service_wants_a_check(rt: HostRuntime) -> Result<(), Fail> {
         rt.alloc(),
         &mut bench,
     );
-    assert!(rt; !bench.ends.ready.is_ready());
     let line =
         "[ERROR lb_background::service] HealthCheckService requires a configured HealthRegistry health check\n";
     let text = sink.into_inner();
-    assert_eq!(rt; text.len(), 2 * line.len());
-    assert!(rt; text.as_slice().starts_with(line.as_bytes()));
+    let is_said = text.as_slice().starts_with(line.as_bytes());
+    let told = (text.len(), is_said, bench.ends.ready.is_ready());
+    assert_eq!(rt; told, (2 * line.len(), true, false));
     Ok(())
 }

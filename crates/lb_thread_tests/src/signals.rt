@@ -1,13 +1,36 @@
 //! What a signal tells its watches, and a notifier its watch.
+ghost use Rattle.std.specs.Prelude.{◌≡◌};
+
 use crate::service_fixtures::Ticks;
 use lb_background::event::Event;
 use lb_background::ready::ready_pair;
-use lb_background::shutdown::{ShutdownSignal, shutdown_pair};
+use lb_background::shutdown::{ShutdownSignal, ShutdownWatch, shutdown_pair};
+use lb_select_base::refusal::Refusal;
+use std::alloc::Global;
 use std::sync::Wait;
 use std::test::Fail;
 use std::thread;
 use std::thread::join;
 use std::time::{Clock, Duration};
+
+const SHUTDOWN: Option<Event> = Some(Event::Shutdown);
+
+const CLOSED: Option<Event> = Some(Event::Closed);
+
+// What two watches of a signal tell once this was sent, the first one beside the signal too; and whether that is the end to the other.
+fn told(
+    signal: &mut ShutdownSignal,
+    watch: &ShutdownWatch,
+    other: &ShutdownWatch,
+    is_end: bool,
+) -> ([Option<Event>; 3], bool)
+    requires { signal.old.pair ≡ watch.now }
+    ensures { signal.new.pair ≡ watch.now }
+{
+    signal.send(is_end);
+    let events = [watch.event(), watch.event_beside(signal), other.event()];
+    (events, other.is_shut())
+}
 
 // The latest that was sent counts; a signal whose latest was the end leaves the end.
 #[test]
@@ -15,56 +38,60 @@ fn latest_counts(rt: HostRuntime) -> Result<(), Fail> {
     let (mut signal, watch) = shutdown_pair(rt.alloc())?;
     let other = watch.try_clone()?;
     assert_eq!(rt; watch.event(), None);
-    signal.send(false);
-    assert_eq!(rt; watch.event(), None);
-    signal.send(true);
-    assert_eq!(rt; watch.event(), Some(Event::Shutdown));
-    assert!(rt; other.is_shut());
-    signal.send(false);
-    assert_eq!(rt; watch.event(), None);
-    assert_eq!(rt; watch.event_beside(&mut signal), None);
-    signal.send(true);
-    assert_eq!(rt; watch.event_beside(&mut signal), Some(Event::Shutdown));
+    let told = [
+        told(&mut signal, &watch, &other, false),
+        told(&mut signal, &watch, &other, true),
+        told(&mut signal, &watch, &other, false),
+        told(&mut signal, &watch, &other, true),
+    ];
+    let (goes_on, ends) = (([None; 3], false), ([SHUTDOWN; 3], true));
+    assert_eq!(rt; told, [goes_on, ends, goes_on, ends]);
     drop(signal);
-    assert_eq!(rt; watch.event(), Some(Event::Shutdown));
-    assert_eq!(rt; other.event(), Some(Event::Shutdown));
+    assert_eq!(rt; [watch.event(), other.event()], [SHUTDOWN; 2]);
     Ok(())
+}
+
+// What a watch tells of a signal that is gone and sent these before, and whether that is the end.
+fn left(alloc: Global, sent: &[bool]) -> Result<(Option<Event>, bool), Refusal> {
+    let (mut signal, watch) = shutdown_pair(alloc)?;
+    for is_end in sent {
+        signal.send(*is_end);
+    }
+    drop(signal);
+    Ok((watch.event(), watch.is_shut()))
 }
 
 // A signal that is gone is closed, unless its latest was the end.
 #[test]
-fn dropped_signal_is_closed(rt: HostRuntime) -> Result<(), Fail> {
-    let (signal, watch) = shutdown_pair(rt.alloc())?;
-    drop(signal);
-    assert_eq!(rt; watch.event(), Some(Event::Closed));
-    assert!(rt; !watch.is_shut());
-    let (mut signal, watch) = shutdown_pair(rt.alloc())?;
-    signal.send(true);
-    signal.send(false);
-    drop(signal);
-    assert_eq!(rt; watch.event(), Some(Event::Closed));
-    Ok(())
+fn dropped_signal_is_closed(rt: HostRuntime) {
+    let rows: [(&[bool], (Option<Event>, bool)); 3] = [
+        (&[], (CLOSED, false)),
+        (&[true, false], (CLOSED, false)),
+        (&[false, true], (SHUTDOWN, true)),
+    ];
+    for (sent, wanted) in rows {
+        assert_eq!(rt; left(rt.alloc(), sent), Ok(wanted));
+    }
 }
 
-// A wait ends at its moment, and before it where something else stands than was heard.
+// What a wait until 95 tells to one that heard this, and where its clock is then, which goes on by 10 from 0.
+fn waited<R: Wait>(rt: &R, watch: &ShutdownWatch, heard: Option<Event>) -> (Option<Event>, u128) {
+    let mut clock = Ticks { next: 0, step: 10 };
+    let told = watch.wait_until(rt, &mut clock, 95, heard);
+    (told, clock.next)
+}
+
+// A wait ends at its moment, and before it where something else was sent than was heard.
 #[test]
 fn wait_ends_at_its_moment(rt: HostRuntime) -> Result<(), Fail> {
     let (signal, watch) = shutdown_pair(rt.alloc())?;
-    let mut clock = Ticks { next: 0, step: 10 };
-    assert_eq!(rt; watch.wait_until(&rt, &mut clock, 95, None), None);
-    assert_eq!(rt; clock.next, 110);
+    let before = waited(&rt, &watch, None);
     drop(signal);
-    let mut clock = Ticks { next: 0, step: 10 };
+    let after = [waited(&rt, &watch, None), waited(&rt, &watch, CLOSED)];
     assert_eq!(rt;
-        watch.wait_until(&rt, &mut clock, 95, None),
-        Some(Event::Closed)
+        (before, after),
+        ((None, 110), [(CLOSED, 10), (CLOSED, 110)])
     );
-    assert_eq!(rt; clock.next, 10);
-    assert_eq!(rt;
-        watch.wait_until(&rt, &mut clock, 95, Some(Event::Closed)),
-        Some(Event::Closed)
-    );
-    assert_eq!(rt; clock.next, 110);
     Ok(())
 }
 
@@ -85,22 +112,20 @@ fn signal_wakes_a_watch(rt: HostRuntime) -> Result<(), Fail> {
         || send_later(&rt, sends),
         || watch.wait_until(&rt, &mut clock, 1, None),
     );
-    assert_eq!(rt; event, Some(Event::Shutdown));
+    assert_eq!(rt; event, SHUTDOWN);
     Ok(())
 }
 
+// A notifier tells its watch for good; one that is dropped tells nothing.
 #[test]
 fn notifier_tells_once(rt: HostRuntime) -> Result<(), Fail> {
     let (notifier, watch) = ready_pair(rt.alloc())?;
-    assert!(rt; !watch.is_ready());
+    let before = watch.is_ready();
     notifier.notify_ready();
-    assert!(rt; watch.is_ready());
-    assert!(rt; watch.is_ready());
-    Ok(())
-}
-
-#[test]
-fn dropped_notifier_tells_nothing(rt: HostRuntime) -> Result<(), Fail> {
+    assert_eq!(rt;
+        [before, watch.is_ready(), watch.is_ready()],
+        [false, true, true]
+    );
     let (notifier, watch) = ready_pair(rt.alloc())?;
     drop(notifier);
     assert!(rt; !watch.is_ready());
