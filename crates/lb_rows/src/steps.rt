@@ -5,8 +5,8 @@ use lb_script_text::kinds::{Chosen, Kind};
 use lb_script_text::parse::parse;
 use lb_script_text::texts::{Scratch, push_line};
 use lb_world::answer::Answer;
+use lb_world::headline::simulate;
 use lb_world::step::Step;
-use lb_world::world::World;
 use std::alloc::Global;
 use std::io;
 
@@ -32,10 +32,9 @@ fn steps_of(alloc: Global, script: &[u8], count: usize) -> io::Result<Option<Vec
     Ok(Some(steps))
 }
 
-// Whether a world answers the steps so. What owns the world makes one call.
+// Whether a new world answers the steps so.
 fn steps_agree(alloc: Global, steps: Vec<Step<Kind>>, answers: &[u8]) -> io::Result<bool> {
-    let mut world: World<Chosen> = World::new(alloc);
-    match world.run(steps) {
+    match simulate::<Chosen>(alloc, steps) {
         Ok(given) => texts_agree(alloc, given.as_slice(), answers),
         Err(_) => Ok(false),
     }

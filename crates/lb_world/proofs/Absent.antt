@@ -13,10 +13,10 @@ use Rattle.lb_world.specs.declared.answer.Answer.{Answer}
 use Rattle.lb_world.specs.declared.answer.Answer.TheVariants as answer
 use Rattle.lb_world.specs.Meanings.{Meaning}
 use Rattle.lb_world.specs.History.{History, Made, Entered, Work, idle, building, built, is_at, group_in, slot_in, config_in, config, drew, made, made_at, group_at, works_at, worked, work, happened, slot_events, past}
-use Rattle.lb_world.specs.Answers.{IsRun, answer_after, without_memory, has_refused, at_one}
+use Rattle.lb_world.specs.Answers.{IsRun, without_memory, has_refused, at_one}
 use Rattle.lb_world.specs.Promises.{Untouched}
 use Rattle.lb_world.proofs.Placing.{same-either}
-use Rattle.lb_world.proofs.Accepted.{there, right-is, granting, leaving, unrefused-address}
+use Rattle.lb_world.proofs.Accepted.{there, right-is, granting, leaving, unrefused-address, right_answer}
 use Rattle.lb_world.proofs.Runs.{reading}
 
 -- an answer that is no refusal
@@ -95,7 +95,7 @@ module _ {C : Type 0} (M : Meaning C) where
       let was = absent h run.0 i (get-front (made h) _ i none) in record { events = was.events; works = was.works }
   absent ((step.update g now ls, answer.Generation n) ∷ h) run i none =
       let was = absent h run.0 i none in
-      let told = right-is {C = C} (step.update g now ls) (answer_after M h (step.update g now ls)) (answer.Generation n) run.1 refl in
+      let told = right-is {C = C} (step.update g now ls) (right_answer M h (step.update g now ls)) (answer.Generation n) run.1 refl in
       let m = there (made_at g h) _ (answer.Generation n) (unrefused-address (has_refused ls) _ n told) refl in
       record { events = elsewhere h g i m.0 m.1.0 none was _; works = was.works }
   absent ((step.ask g s now, answer.Build n) ∷ h) run i none =

@@ -16,8 +16,16 @@ use Rattle.lb_world.specs.Steps as step
 use Rattle.lb_world.specs.declared.answer.Answer.{Answer}
 use Rattle.lb_world.specs.declared.answer.Answer.TheVariants as answer
 use Rattle.lb_world.specs.Meanings.{Meaning}
-use Rattle.lb_world.specs.History.{History, Made, Entered, Work, idle, building, built, members_in, made_at, config, entries, work, slot_events, past, is_out}
+use Rattle.lb_world.specs.History.{History, Made, Entered, Work, idle, building, built, members_in, made_at, config, entries, work, slot_events, past, is_free}
 use Rattle.lb_world.specs.Answers.{Answers, answer_after, without_memory, refuse, unless_refused, at_one, of_job, of_built, built_or_failed, asked, update_answer, lost_answer, flight_of, leave_answer, destroy_refusal, has_refused}
+
+-- the answer that is right where memory is at hand, of a step whose answer is a function of the history
+abbrev pub given_answer : Option Answer → Answer
+given_answer None = answer.Done
+given_answer (Some a) = a
+
+abbrev pub right_answer : {C : Type 0} → Meaning C → History C → Step C → Answer
+right_answer M h st = given_answer (answer_after M h st)
 
 -- an answer that stands for itself: no refusal, and no failure that may stand in place of a build
 abbrev pub is_lasting : Answer → Bool
@@ -182,20 +190,24 @@ failed-there : {A C : Type 0} (st : Step C) (o : Option A) (w : Work) (g : ℕ) 
 failed-there st None w g cause a f right = absurd (false-true (sym (elim right [ inl e ↦ ap is_failed e | inr e ↦ ap is_failed e ]) ∙ f))
 failed-there st (Some x) w g cause a f right = failed-job st w g (cause x) a f right
 
--- a job goes out from a slot that is there, at a gate whose permit is not out
+kept-free : (b : Bool) → not b ≡ false → b ≡ true
+kept-free true e = refl
+kept-free false e = absurd (cc)
+
+-- a job goes out from a slot that is there, at a gate that is free
 pub record Granting {C : Type 0} (h : History C) (g s now n : ℕ) : Type 0 where
   pub made_by : Made C
   pub config : C
   pub made_is : made_at g h ≡ Some made_by
   pub config_is : slice_get made_by.configs s ≡ Some config
   pub may : slots.MayHappen (past g s h) (slots.Granted now)
-  pub free : is_out made_by.gate h ≡ false
+  pub free : is_free made_by.gate h ≡ true
   pub newest_is : slots.newest (slot_events g h) ≡ n
 
 module _ {C : Type 0} (M : Meaning C) (h : History C) where
   pub granting : (g s now n : ℕ) → Answers M h (step.ask g s now) (answer.Build n) → Granting h g s now n
   granting g s now n right =
-      let told = right-is {C = C} (step.ask g s now) (answer_after M h (step.ask g s now)) (answer.Build n) right refl in
+      let told = right-is {C = C} (step.ask g s now) (right_answer M h (step.ask g s now)) (answer.Build n) right refl in
       let m = there (made_at g h) _ (answer.Build n) told refl in
       let c = there (slice_get m.0.configs s) _ (answer.Build n) m.1.1 refl in
       let j = asked-job _ _ n c.1.1 in
@@ -204,8 +216,8 @@ module _ {C : Type 0} (M : Meaning C) (h : History C) where
         config = c.0;
         made_is = m.1.0;
         config_is = c.1.0;
-        may = job-may (past g s h) (is_out m.0.gate h) now j.0;
-        free = free-gate (past g s h) (is_out m.0.gate h) now j.0;
+        may = job-may (past g s h) (not (is_free m.0.gate h)) now j.0;
+        free = kept-free (is_free m.0.gate h) (free-gate (past g s h) (not (is_free m.0.gate h)) now j.0);
         newest_is = j.1;
       }
 
@@ -268,7 +280,7 @@ module _ {C : Type 0} (M : Meaning C) (h : History C) where
       → (is_change (members_in listings) (slot_events g h) ≡ true) × (slots.is_cancelled (slot_events g h) ≡ false)
       × (slots.newest (slot_events g h) + 1 ≡ n)
   updating g now listings n right =
-      let told = right-is {C = C} (step.update g now listings) (answer_after M h (step.update g now listings)) (answer.Generation n) right refl in
+      let told = right-is {C = C} (step.update g now listings) (right_answer M h (step.update g now listings)) (answer.Generation n) right refl in
       let m = there (made_at g h) _ (answer.Generation n) (unrefused-address (has_refused listings) _ n told) refl in
       let u = unrefused _ _ (answer.Generation n) m.1.1 refl in
       let c = changed-told (slots.newest (slot_events g h)) (is_change (members_in listings) (slot_events g h)) n u.1 in (
@@ -282,7 +294,7 @@ module _ {C : Type 0} (M : Meaning C) (h : History C) where
   pub unchanging : (g now : ℕ) (listings : List Listing) (n : ℕ) → Answers M h (step.update g now listings) (answer.Same n)
       → is_change (members_in listings) (slot_events g h) ≡ false
   unchanging g now listings n right =
-      let told = right-is {C = C} (step.update g now listings) (answer_after M h (step.update g now listings)) (answer.Same n) right refl in
+      let told = right-is {C = C} (step.update g now listings) (right_answer M h (step.update g now listings)) (answer.Same n) right refl in
       let m = there (made_at g h) _ (answer.Same n) (unrefused-same (has_refused listings) _ n told) refl in
       let u = unrefused _ _ (answer.Same n) m.1.1 refl in
       unchanged-told (slots.newest (slot_events g h)) (is_change (members_in listings) (slot_events g h)) n u.1

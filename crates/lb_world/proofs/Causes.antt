@@ -1,7 +1,8 @@
 -- The causes for which a step is refused: the want of numbers goes after all others, and memory is no cause; and what is right to
 -- answer where a cause stands, and where none does and memory is refused.
-use Rattle.std.proofs.Common.{◌≡◌, ◌⊎◌, ◌<◌, ◌≤◌, ◌^◌, ◌&&◌, ◌||◌, ◌∙◌, ℕ, Bool, true, false, cond, nat_lt, List, [], ◌∷◌, inl, inr, refl, sym, ap, arith}
-use Rattle.std.specs.Prelude.{Option, Some, None}
+use Rattle.std.proofs.Common.{◌≡◌, ◌⊎◌, ◌↔◌, ◌+◌, ◌<◌, ◌≤◌, ◌^◌, ◌&&◌, ◌||◌, ◌∙◌, ℕ, Bool, true, false, cond, nat_le, nat_lt, List, [], ◌∷◌, inl, inr, refl, sym, ap, arith}
+use Rattle.std.specs.Prelude.{Option, Some, None, Result, Ok, Err, IsErrOf}
+use Rattle.lb_rebuild_group.specs.GroupCalls.{IsMakingRefusal}
 use Rattle.std.proofs.lemmas.Bool.{cond_both, le-leb, le-ltb, lt-leb, lt-ltb, ltb-false, ltb-true}
 use Rattle.lb_select_base.specs.Refusals.{earlier, least, memory_apart, refusal_number}
 use Rattle.lb_select_base.specs.declared.refusal.Refusal.{Refusal}
@@ -9,6 +10,7 @@ use Rattle.lb_select_base.specs.declared.refusal.Refusal.TheVariants as refusal
 use Rattle.lb_world.specs.Steps.{Step}
 use Rattle.lb_world.specs.declared.answer.Answer.{Answer}
 use Rattle.lb_world.specs.Answers.{no_number, no_such, refuse, unless_refused, where_, without_memory}
+use Rattle.lb_world.specs.Calls.{making_cause, or_memory}
 use Rattle.lb_world.proofs.Accepted.{earlier-none}
 
 -- no refusal has a greater number than the want of numbers
@@ -25,11 +27,7 @@ cause-first {e = e} true is =
     ap (λ o. earlier o (Some refusal.NumbersExhausted)) is ∙ ap (λ t. cond t (Some refusal.NumbersExhausted) (Some e)) (last-of e)
 cause-first false is = ap (λ o. earlier o None) is
 
--- a number is wanted of either kind, and where another test holds too
-pub wanted-either : (b c : Bool) → earlier (wanted b) (wanted c) ≡ wanted (b || c)
-wanted-either true c = cause-first c refl
-wanted-either false c = refl
-
+-- a number is wanted where another test holds too
 pub wanted-both : (b c : Bool) → cond b (wanted c) None ≡ wanted (b && c)
 wanted-both true c = refl
 wanted-both false c = refl
@@ -99,3 +97,49 @@ module _ {C : Type 0} (st : Step C) (x : Answer) {y : Answer} {o : Option Refusa
 
   pub out-of-memory : o ≡ None → without_memory st x ≡ refuse refusal.OutOfMemory → IsRight st y (refuse refusal.OutOfMemory)
   out-of-memory none memory = inr (sym (ap (without_memory st) (uncaused none) ∙ memory))
+
+-- a refusal for the cause that stands, or for memory where there is none
+pub refused-for : {C : Type 0} (st : Step C) (x : Answer) → without_memory st x ≡ refuse refusal.OutOfMemory → (o : Option Refusal)
+    → (refuse (or_memory o) ≡ unless_refused o x) ⊎ (refuse (or_memory o) ≡ without_memory st (unless_refused o x))
+refused-for st x memory (Some e) = inl refl
+refused-for st x memory None = inr (sym memory)
+
+-- no cause stands where the selectors have none and a number is left
+pub makes-for : (c : Option Refusal) (n : ℕ) → c ≡ None → n + 1 < 2 ^ 64 → making_cause c n ≡ None
+makes-for c n none few = ap (λ o. earlier o (no_number (n + 1))) none ∙ number-left (n + 1) few
+
+told-so : {A : Type 0} {e f : Refusal} → ◌≡◌ {A = Result A Refusal} (Err e) (Err f) → e ≡ f
+told-so is = cc
+
+memory-or-numbers : refusal.OutOfMemory ≡ refusal.NumbersExhausted → ⊥
+memory-or-numbers e = absurd (cc)
+
+made-or-refused : {A : Type 0} {x : A} {e : Refusal} → ◌≡◌ {A = Result A Refusal} (Ok x) (Err e) → ⊥
+made-or-refused is = absurd (cc)
+
+-- why the core of a group was not made, so why the group was not; and that no cause stands where one was made
+module _ {A : Type 0} (c : Option Refusal) (n : ℕ) where
+  abbrev Exhausts : Result A Refusal → Type 0
+  Exhausts result = memory_apart c ≡ None → (IsErrOf result refusal.NumbersExhausted ↔ (2 ^ 64 ≤ n + 1))
+
+  pub fits-for : (x : A) → c ≡ None → Exhausts (Ok x) → making_cause c n ≡ None
+  fits-for x none wants =
+      let off = λ (many : 2 ^ 64 ≤ n + 1). made-or-refused ((wants (ap memory_apart none)).1 many) in
+      makes-for c n none (omega (arith, off))
+
+  pub unmade-for : (e : Refusal) → memory_apart c ≡ c → IsMakingRefusal {A = A} c (Err e) → Exhausts (Err e)
+      → e ≡ or_memory (making_cause c n)
+  unmade-for e apart why wants =
+      elim why [
+        | inl is ↦ sym (ap or_memory (cause-first (nat_le (2 ^ 64) (n + 1)) is))
+        | inr none ↦
+            let nothing : c ≡ None = sym apart ∙ none.0 in
+            elim none.1 [
+              | inl memory ↦
+                  let off = λ (many : 2 ^ 64 ≤ n + 1). memory-or-numbers (sym memory ∙ told-so {A = A} ((wants none.0).1 many)) in
+                  memory ∙ sym (ap or_memory (makes-for c n nothing (omega (arith, off))))
+              | inr numbers ↦
+                  numbers
+                  ∙ sym (ap or_memory (ap (λ o. earlier o (no_number (n + 1))) nothing ∙ number-wanted (n + 1) ((wants none.0).0 (ap Err numbers))))
+            ]
+      ]

@@ -7,59 +7,14 @@ use Rattle.std.proofs.lemmas.Option.{none-some, same_Some, slice_get_within}
 use mathlib.Core.Logic.{dite}
 use native.Mathlib.Decide.{ℕ_discrete}
 use Rattle.lb_rebuild_slots.specs.SlotsHistory as slots
-use Rattle.lb_rebuild_slots.specs.SlotsHistory.{past_of, extra, is_extra, granted, is_retired_of, generation_of}
+use Rattle.lb_rebuild_slots.specs.SlotsHistory.{past_of, extra, is_extra}
 use Rattle.lb_rebuild_slots.specs.Laws.{number, extras_from}
-use Rattle.lb_world.specs.Steps.{Step}
-use Rattle.lb_world.specs.Steps as step
-use Rattle.lb_world.specs.declared.answer.Answer.{Answer}
-use Rattle.lb_world.specs.declared.answer.Answer.TheVariants as answer
 use Rattle.lb_world.specs.Meanings.{Meaning}
-use Rattle.lb_world.specs.History.{History, Made, building, is_at, config, made, made_at, gate_of, gate_at, slot_gate, gate_in, group_at, slot_events, past, is_grant, is_failure, is_destruction, is_out}
+use Rattle.lb_world.specs.History.{History, Made, made, made_at, gate_at, slot_gate, slot_events, extras, is_out}
 use Rattle.lb_world.specs.Answers.{IsRun}
-use Rattle.lb_world.specs.Promises.{HasExtra, OneExtra, count_on, extras, extras_over, Counted}
-use Rattle.lb_world.proofs.Accepted.{granting, failing, ordered-failure, destroying}
-use Rattle.lb_world.proofs.Runs.{slots-fit, under_way}
-use Rattle.lb_world.proofs.Absent.{found}
+use Rattle.lb_world.specs.Promises.{HasExtra, OneExtra, PermitsOut, extras_over, Counted}
 use Rattle.lb_world.proofs.Holders.{HeldBy, one-has, out-then}
-use Rattle.lb_world.proofs.Extras.{seek, has, held, gate-found, under_way-extra, retired-extra}
-
--- one step in the accounts
-tally-grant : (t o : Bool) (J F D : ℕ) → J ≡ F + D + number o → (t ≡ true → o ≡ false)
-    → number (true && t) + J ≡ (number (false && t) + F) + (number (false && t) + D) + number (cond t true o)
-tally-grant true true J F D e free = absurd (false≢true (sym (free refl)))
-tally-grant true false J F D e free = omega arith
-tally-grant false o J F D e free = omega arith
-
-tally-failure : (t o : Bool) (J F D : ℕ) → J ≡ F + D + number o → (t ≡ true → o ≡ true)
-    → number (false && t) + J ≡ (number (true && t) + F) + (number (false && t) + D) + number (cond t false o)
-tally-failure true true J F D e out = omega arith
-tally-failure true false J F D e out = absurd (false≢true (out refl))
-tally-failure false o J F D e out = omega arith
-
-tally-destruction : (t o : Bool) (J F D : ℕ) → J ≡ F + D + number o → (t ≡ true → o ≡ true)
-    → number (false && t) + J ≡ (number (false && t) + F) + (number (true && t) + D) + number (cond t false o)
-tally-destruction true true J F D e out = omega arith
-tally-destruction true false J F D e out = absurd (false≢true (out refl))
-tally-destruction false o J F D e out = omega arith
-
-tally-other : (gr fa de t o : Bool) (J F D : ℕ) → gr ≡ false → fa ≡ false → de ≡ false → J ≡ F + D + number o
-    → number (gr && t) + J ≡ (number (fa && t) + F) + (number (de && t) + D) + number (cond t (cond gr true (cond (fa || de) false o)) o)
-tally-other true fa de t o J F D a b c e = absurd (cc)
-tally-other false true de t o J F D a b c e = absurd (cc)
-tally-other false false true t o J F D a b c e = absurd (cc)
-tally-other false false false true o J F D a b c e = omega arith
-tally-other false false false false o J F D a b c e = omega arith
-
-less-by : (J F D : ℕ) (o : Bool) → J ≡ F + D + number o → J - F - D ≡ number o
-less-by J F D true e = omega arith
-less-by J F D false e = omega arith
-
-most : (o : Bool) (x : ℕ) → x ≡ number o → x ≤ 1
-most true x e = omega arith
-most false x e = omega arith
-
-gate-is : (a b : ℕ) (o : Option ℕ) → o ≡ Some b → is_at a o ≡ true → b ≡ a
-gate-is a b o e t = eqb-true b a (sym (ap (is_at a) e) ∙ t)
+use Rattle.lb_world.proofs.Extras.{seek, has, held, extras-out, most}
 
 pub there-at : {X : Type 0} (xs : List X) (i : ℕ) → i < length xs → (x : X) × (slice_get xs i ≡ Some x)
 there-at [] i h = absurd (omega arith)
@@ -180,61 +135,16 @@ module _ {C : Type 0} (h : History C) (a : ℕ) where
       one-over 0 (made h) held_by.0 held_by.1 from-first (omega arith) (omega arith) held_by.2 held_by.3 held_by.4
 
 module _ {C : Type 0} (M : Meaning C) where
-  -- a slot that has an extra keeps its gate's permit out
-  kept-out : (h : History C) → IsRun M h → (g s a : ℕ) (c : C) → config g s h ≡ Some c → has h g s ≡ true → is_at a (gate_of g h) ≡ true
-      → is_out a h ≡ true
-  kept-out h run g s a c e has_ t =
-      let b = gate-found M h g s c e in
-      let at : b.0 ≡ a = gate-is a b.0 (gate_of g h) b.1.0 t in
-      out-then (λ i r. slot_gate i r h) (has h) (has h) g s a (is_out a h) (b.1.1 ∙ ap Some at) has_ (held M h run a)
-
-  other : (h : History C) (st : Step C) (b : Answer) (a : ℕ)
-      → count_on is_grant a h ≡ count_on is_failure a h + count_on is_destruction a h + number (is_out a h)
-      → is_grant st b ≡ false → is_failure st b ≡ false → is_destruction st b ≡ false
-      → count_on is_grant a ((st, b) ∷ h)
-      ≡ count_on is_failure a ((st, b) ∷ h) + count_on is_destruction a ((st, b) ∷ h) + number (is_out a ((st, b) ∷ h))
-  other h st b a before gr fa de =
-      tally-other (is_grant st b) (is_failure st b) (is_destruction st b) (is_at a (gate_in h (group_at h st))) (is_out a h)
-      (count_on is_grant a h) (count_on is_failure a h) (count_on is_destruction a h) gr fa de before
-
-  pub accounts : (h : History C) → IsRun M h → (a : ℕ)
-      → count_on is_grant a h ≡ count_on is_failure a h + count_on is_destruction a h + number (is_out a h)
-  accounts [] run a = refl
-  accounts ((step.ask g s now, answer.Build n) ∷ h) run a =
-      let m = granting M h g s now n run.1 in
-      tally-grant (is_at a (gate_of g h)) (is_out a h) (count_on is_grant a h) (count_on is_failure a h) (count_on is_destruction a h)
-      (accounts h run.0 a)
-      (λ t.
-      subst (λ (x : ℕ). is_out x h ≡ false)
-      (gate-is a m.made_by.gate (gate_of g h) (ap (option_map (λ (x : Made C). x.gate)) m.made_is) t) m.free)
-  accounts ((step.build g s now, answer.BuildFailed n e) ∷ h) run a =
-      let c = found {C = C} (step.build g s now) (config g s h) _ (answer.BuildFailed n e) refl run.1 in
-      tally-failure (is_at a (gate_of g h)) (is_out a h) (count_on is_grant a h) (count_on is_failure a h) (count_on is_destruction a h)
-      (accounts h run.0 a)
-      (kept-out h run.0 g s a c.0 c.1
-      (under_way-extra (granted (past g s h)) (extra (past g s h)) (under_way M h g s building (slots-fit M h run.0) (failing M h g s now n e run.1) refl)))
-  accounts ((step.failbuild g s now, answer.Failed n) ∷ h) run a =
-      let c = found {C = C} (step.failbuild g s now) (config g s h) _ (answer.Failed n) refl run.1 in
-      tally-failure (is_at a (gate_of g h)) (is_out a h) (count_on is_grant a h) (count_on is_failure a h) (count_on is_destruction a h)
-      (accounts h run.0 a)
-      (kept-out h run.0 g s a c.0 c.1
-      (under_way-extra (granted (past g s h)) (extra (past g s h)) (under_way M h g s building (slots-fit M h run.0) (ordered-failure M h g s now n run.1) refl)))
-  accounts ((step.destroy g s, answer.Destroyed) ∷ h) run a =
-      let c = found {C = C} (step.destroy g s) (config g s h) _ answer.Destroyed refl run.1 in
-      tally-destruction (is_at a (gate_of g h)) (is_out a h) (count_on is_grant a h) (count_on is_failure a h) (count_on is_destruction a h)
-      (accounts h run.0 a)
-      (kept-out h run.0 g s a c.0 c.1
-      (retired-extra (generation_of (extra (past g s h))) (extra (past g s h)) (destroying M h g s run.1).0))
-  accounts ((st, b) ∷ h) run a = other h st b a (accounts h run.0 a) refl refl refl
-
   pub one-extra : (h : History C) → IsRun M h → OneExtra h
-  one-extra h run =
+  one-extra h run a g s i r on there has_ has_too =
+      one-has (λ j q. slot_gate j q h) (has h) (has h) g s a (is_out a h) on has_ (held M h run a) i r there has_too
+
+  pub permits-out : (h : History C) → IsRun M h → PermitsOut h
+  permits-out h run =
       record {
-        alone =
-            λ a g s i r on there has_ has_too.
-            one-has (λ j q. slot_gate j q h) (has h) (has h) g s a (is_out a h) on has_ (held M h run a) i r there has_too;
         out = λ a g s on has_. out-then (λ j q. slot_gate j q h) (has h) (has h) g s a (is_out a h) on has_ (held M h run a);
         whose = λ a out. whose-of a (is_out a h) out (held M h run a);
+        counted = extras-out M h run;
       }
     where
       whose-of : (a : ℕ) (o : Bool) → o ≡ true → HeldBy (λ j q. slot_gate j q h) (has h) a o
@@ -245,11 +155,6 @@ module _ {C : Type 0} (M : Meaning C) where
   pub counted : (h : History C) → IsRun M h → Counted h
   counted h run =
       record {
-        at_most = λ a. most (is_out a h) (extras a h) (by a);
-        by_permit = by;
-        standing = λ a. by a ∙ sym (standing h a (is_out a h) (held M h run a));
+        at_most = λ a. most (is_out a h) (extras a h) (extras-out M h run a);
+        standing = λ a. extras-out M h run a ∙ sym (standing h a (is_out a h) (held M h run a));
       }
-    where
-      by : (a : ℕ) → extras a h ≡ number (is_out a h)
-      by a =
-          less-by (count_on is_grant a h) (count_on is_failure a h) (count_on is_destruction a h) (is_out a h) (accounts h run a)

@@ -15,7 +15,7 @@ use Rattle.lb_world.specs.declared.answer.Answer.TheVariants as answer
 use Rattle.lb_world.specs.Meanings.{Meaning}
 use Rattle.lb_world.specs.History.{History, Made, is_at, config_in, drew, made_at, gate_of, slot_events, past, is_grant, is_failure, is_destruction, is_out, load_of}
 use Rattle.lb_world.specs.Shared.{registry_at, registry_events, view_events}
-use Rattle.lb_world.specs.Promises.{count_on}
+use Rattle.lb_world.specs.History.{count_on}
 use Rattle.lb_world.specs.Answers.{IsRun, SelectAnswers, SelectsIn, Judges, refuse, selected}
 use Rattle.lb_world.specs.Refused.{DrewAlone, RefusedStays}
 use Rattle.lb_world.proofs.Unrefused.{as-before}

@@ -10,6 +10,7 @@ use Rattle.lb_rebuild_slots.specs.declared.answers.Ask.{Ask}
 use Rattle.lb_rebuild_slots.specs.declared.answers.Publication.{Publication}
 use Rattle.lb_health_view.specs.RegistrySide.{registry_released}
 use Rattle.lb_world.proofs.Accepted.{job-may}
+use Rattle.lb_world.proofs.Extras.{free-in}
 use Rattle.lb_world.proofs.Placing.{here, same-either}
 use Rattle.lb_world.proofs.Runs.{under_way}
 use Rattle.lb_world.proofs.Together.{joins-alike}
@@ -27,14 +28,14 @@ use Rattle.lb_rebuild_slots.specs.SlotsHistory as slots
 use Rattle.lb_rebuild_group.specs.GroupHistory as group
 use Rattle.lb_health_registry.specs.RegistryEvents as registry
 use Rattle.lb_rebuild_slots.specs.Stands as group-made
-use Rattle.lb_world.proofs.Words.{◌∙◌, ◌⊎◌, ◌++◌, ◌≡◌, ◌&&◌, ◌∷◌, ◌==◌, [], ◌<◌, ◌≤◌, and_parts, Answer, answer_after, Answers, ap, ap2}
+use Rattle.lb_world.proofs.Words.{◌∙◌, ◌⊎◌, ◌++◌, ◌≡◌, ◌&&◌, ◌∷◌, ◌==◌, [], ◌<◌, ◌≤◌, and_parts, Answer, right_answer, Answers, ap, ap2}
 use Rattle.lb_world.proofs.Words.{arith, ask_told, At, at_one, at_slot, Before, Bool, changed, cond, config, config_in, configs_of, EntryIs}
 use Rattle.lb_world.proofs.Words.{EntryNext, EntryValue, eq-eqb, false, false≢true, gate, GateId, gates, GateValue, granted, granted_members}
 use Rattle.lb_world.proofs.Words.{group-of, group_at, slot_events, GroupId, happened, held_of, History, inl, inr, is_at, IsRegistryAfter}
 use Rattle.lb_world.proofs.Words.{IsRun, group_after_step, group_events, GroupValue, key_at, key_gives, key_in, key_of, length, length-set}
 use Rattle.lb_world.proofs.Words.{List, list_all, load_in, load_of, lt-ltb, made, made_at, made_of, Meaning, Member, members-past}
 use Rattle.lb_world.proofs.Words.{members_of, nat_lt, newest, newest-past, no_such, None, none-some, Ok, Option, option_map, origin, Origin}
-use Rattle.lb_world.proofs.Words.{past, past-other, past-same, past_of, permit_after, promised, refl, Refusal, refused-alike, registries}
+use Rattle.lb_world.proofs.Words.{members-kept, past, past-other, past-same, past_of, permit_after, refl, Refusal, refused-alike, registries}
 use Rattle.lb_world.proofs.Words.{registry_at, registry_events, registry_of, RegistryValue, same_Some, shares, site, slice_get}
 use Rattle.lb_world.proofs.Words.{slice_get_past, slice_get_within, slice_set, slots-fit, Some, Step, subst, sym, Task, there-at, true}
 use Rattle.lb_world.proofs.Words.{unless_refused, view_events, views_of, with_core, without_memory, Work, work, worked, works_at, WorkValue}
@@ -410,7 +411,7 @@ module _ {C : Type 0} {M : Meaning C} {h : History C} {g : ℕ} {e : EntryValue 
       → Answers M h (Step.ask g s now) (asked (slots.newest (slot_events g h)) t)
   ask-right s now t within to =
       inl (rw (b.is.made_is, (there-at (configs_of e.core.group) s within).1)
-      (ap (asked (slots.newest (slot_events g h))) (rw (group-of g h, b.out) at to)))
+      (ap (asked (slots.newest (slot_events g h))) (rw (group-of g h, b.out, ← free-in M h b.run e.gate) at to)))
 
   pub next-asked : {S I W : Type 0} {s now : ℕ} (a : Ask S I C W) (t : AskAnswer) {x : Answer} {core : GroupValue C} {y : GateValue}
       → ask_told a ≡ t → IsUngranted t x → Asks (site e.core) (group.slot_events (group_events g h)) s z.out now (Ok a)
@@ -448,13 +449,13 @@ module _ {C : Type 0} {M : Meaning C} {h : History C} {g : ℕ} {e : EntryValue 
 
   module _ {s : ℕ} {j : Task C} (has : Holds h g s e j Work.building) where
     build-told : (now : ℕ) (r : Option Refusal) → M.refusal j.members j.config ≡ r
-        → answer_after M h (Step.build g s now) ≡ built_or_failed j.generation r
+        → right_answer M h (Step.build g s now) ≡ built_or_failed j.generation r
     build-told now r is =
         let members = members-past (granted (past g s h)) s (slot_events g h) in
         told-work b.is has
         (λ c w. of_job w (built_or_failed (granted (past g s h)) (M.refusal (members_of (granted (past g s h)) (slot_events g h)) c)))
         ∙ ap (built_or_failed (granted (past g s h)))
-        (ap (λ ms. M.refusal ms has.config) (sym members ∙ sym ((promised M h b.run).members_kept g s).under_way) ∙ rw has.is at is)
+        (ap (λ ms. M.refusal ms has.config) (sym members ∙ sym (members-kept h g s).under_way) ∙ rw has.is at is)
         ∙ ap (λ x. built_or_failed x.generation r) (sym has.is)
 
     -- a build that is done, and held from then on
@@ -556,7 +557,7 @@ module _ {C : Type 0} {M : Meaning C} {h : History C} {g : ℕ} {e : EntryValue 
 
   -- a retired selector: taken out, destroyed and reported at once
   destroy-told : (s : ℕ) (r : Option Refusal) → taken_refusal (site e.core) s (group.slot_events (group_events g h)) ≡ r
-      → answer_after M h (Step.destroy g s) ≡ unless_refused r Answer.Destroyed
+      → right_answer M h (Step.destroy g s) ≡ unless_refused r Answer.Destroyed
   destroy-told s r is =
       reading-told b.is s destroy_refusal (λ q. unless_refused q Answer.Destroyed) _ refl
       ∙ by-place (nat_lt s (length (configs_of e.core.group))) _ is

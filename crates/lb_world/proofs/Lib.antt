@@ -20,6 +20,7 @@ pub mod Registered
 pub mod Refusing
 pub mod Unrefused
 pub mod Drawing
+pub mod Kept
 pub mod Causes
 pub mod Updates
 pub mod Selections

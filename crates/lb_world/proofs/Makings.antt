@@ -1,6 +1,6 @@
 -- The right answers to the making of a group; and what holds of what was made, and of what isn't made yet: a gate that isn't there is
 -- not out, no load was set at a group that isn't there, and the slot that a reader entered is there.
-use Rattle.std.proofs.Common.{◌≡◌, ◌++◌, ◌<◌, ◌≤◌, ◌+◌, ◌^◌, ◌&&◌, ◌∙◌, ℕ, zero, suc, Bool, true, false, map, nat_le, nat_lt, List, [], ◌∷◌, length, inl, inr, refl, sym, ap, arith}
+use Rattle.std.proofs.Common.{◌≡◌, ◌⊎◌, subst, ◌++◌, ◌<◌, ◌≤◌, ◌+◌, ◌^◌, ◌&&◌, ◌∙◌, ℕ, zero, suc, Bool, true, false, map, nat_le, nat_lt, List, [], ◌∷◌, length, inl, inr, refl, sym, ap, arith}
 use Rattle.std.specs.Prelude.{Option, Some, None, slice_get, slice_set}
 use Rattle.std.specs.Option.{option_map}
 use Rattle.std.proofs.lemmas.Bool.{and_parts, ltb-true, ne_eqb}
@@ -16,13 +16,14 @@ use Rattle.lb_world.specs.declared.answer.Answer.{Answer}
 use Rattle.lb_world.specs.declared.answer.Answer.TheVariants as answer
 use Rattle.lb_world.specs.Meanings.{Meaning}
 use Rattle.lb_world.specs.History.{config, config_in, Entered, entries, gate_at, gates, History, idle, is_out, load_of, Made, made, made_at, registries, work}
-use Rattle.lb_world.specs.Shared.{key_at, registry_events}
+use Rattle.lb_world.specs.Shared.{registry_events}
 use Rattle.lb_world.specs.GroupEvents.{group_events}
-use Rattle.lb_world.specs.Answers.{Answers, IsRun, answer_after, no_number, no_such, refuse, unless_refused}
+use Rattle.lb_world.specs.Answers.{Answers, IsRun, no_number, no_such, refuse, unless_refused, without_memory}
 use Rattle.lb_world.proofs.Absent.{absent, config-made, found, get-front}
-use Rattle.lb_world.proofs.Accepted.{earlier-none, right-is, unrefused}
-use Rattle.lb_world.proofs.Causes.{caused, cause-first, earlier-assoc, least-apart, no-causes, none-missing, number-left, number-wanted, out-of-memory, uncaused, wanted-either}
-use Rattle.lb_world.proofs.Counting.{one-extra}
+use Rattle.lb_world.proofs.Accepted.{earlier-none, right-is, unrefused, right_answer}
+use Rattle.lb_world.specs.Calls.{making_cause, or_memory}
+use Rattle.lb_world.proofs.Causes.{caused, cause-first, earlier-assoc, none-missing, refused-for, uncaused}
+use Rattle.lb_world.proofs.Counting.{permits-out}
 use Rattle.lb_world.proofs.Extras.{get-kept}
 use Rattle.lb_world.proofs.Numbering.{numbered}
 use Rattle.lb_world.proofs.Together.{get-pushed, nothing-joined}
@@ -31,50 +32,32 @@ module _ {C : Type 0} (M : Meaning C) (h : History C) (r a : ℕ) (cs : List C) 
   abbrev making : Step C
   making = step.group r a cs
 
-  -- the causes that need no registry, and how many numbers of views and of cells are given once the group is made
-  abbrev own : Option Refusal
-  own = earlier (no_such (nat_lt r (length (registries h)) && nat_lt a (gates h))) (least (map (M.refusal []) cs))
-
-  abbrev given : ℕ
-  given = registry.registered_after (registry_events r h) + 1
-
-  abbrev cells : ℕ
-  cells = registry.cells_given (key_at r h) (registry.Applied ∷ registry.Registered ∷ registry_events r h)
+  -- why no group is made over a registry and a gate that are there
+  abbrev cause : Option Refusal
+  cause = making_cause (least (map (M.refusal []) cs)) (registry.registered_after (registry_events r h))
 
   abbrev made_now : Answer
   made_now = answer.Group (length (made h))
 
-  told : answer_after M h making ≡ unless_refused (earlier own (earlier (no_number given) (no_number cells))) made_now
-  told =
-      let there = no_such (nat_lt r (length (registries h)) && nat_lt a (gates h)) in
-      let wants = earlier (no_number given) (no_number cells) in
-      ap (λ o. unless_refused o made_now)
-      (ap (λ o. earlier there (earlier o wants)) (least-apart (map (M.refusal []) cs))
-      ∙ earlier-assoc there (least (map (M.refusal []) cs)) wants)
+  told : (there : Bool) → (nat_lt r (length (registries h)) && nat_lt a (gates h)) ≡ there
+      → right_answer M h making ≡ unless_refused (earlier (no_such there) cause) made_now
+  told there is = ap (λ b. unless_refused (earlier (no_such b) cause) made_now) is
 
-  pub group-caused : {e : Refusal} → own ≡ Some e → Answers M h making (refuse e)
-  group-caused is =
-      caused making made_now told (ap (earlier own) (wanted-either (nat_le (2 ^ 64) given) (nat_le (2 ^ 64) cells)) ∙ cause-first _ is)
+  pub group-absent : (nat_lt r (length (registries h)) && nat_lt a (gates h)) ≡ false → (e : Refusal)
+      → Some e ≡ earlier (Some refusal.NoSuch) (least (map (M.refusal []) cs)) → Answers M h making (refuse e)
+  group-absent off e is =
+      caused making made_now (told false off)
+      (earlier-assoc (Some refusal.NoSuch) (least (map (M.refusal []) cs)) (no_number (registry.registered_after (registry_events r h) + 1))
+      ∙ cause-first (nat_le (2 ^ 64) (registry.registered_after (registry_events r h) + 1)) (sym is))
 
-  -- where none of them stands
-  module _ (none : own ≡ None) where
-    pub sites-there : (r < length (registries h)) × (a < gates h)
-    sites-there =
-        let parts = and_parts (nat_lt r (length (registries h))) (nat_lt a (gates h))
-        (none-missing _ (no-causes _ (least (map (M.refusal []) cs)) none).0) in
-        (ltb-true r (length (registries h)) parts.0, ltb-true a (gates h) parts.1)
+  pub group-refused : (nat_lt r (length (registries h)) && nat_lt a (gates h)) ≡ true → (e : Refusal) → e ≡ or_memory cause
+      → Answers M h making (refuse e)
+  group-refused on e is =
+      subst (λ (x : Answer). (refuse e ≡ x) ⊎ (refuse e ≡ without_memory making x)) (sym (told true on))
+      (elim (refused-for making made_now refl cause) [ inl own ↦ inl (ap refuse is ∙ own) | inr memory ↦ inr (ap refuse is ∙ memory) ])
 
-    pub group-wants : 2 ^ 64 ≤ given → Answers M h making (refuse refusal.NumbersExhausted)
-    group-wants many = caused making made_now told (rw (none, number-wanted given many) (cause-first (nat_le (2 ^ 64) cells) refl))
-
-    fits : given < 2 ^ 64 → cells < 2 ^ 64 → earlier own (earlier (no_number given) (no_number cells)) ≡ None
-    fits few left = rw (none, number-left given few, number-left cells left) refl
-
-    pub group-made : given < 2 ^ 64 → cells < 2 ^ 64 → answer_after M h making ≡ made_now
-    group-made few left = uncaused making made_now told (fits few left)
-
-    pub group-starved : given < 2 ^ 64 → cells < 2 ^ 64 → Answers M h making (refuse refusal.OutOfMemory)
-    group-starved few left = out-of-memory making made_now told (fits few left) refl
+  pub group-made : (nat_lt r (length (registries h)) && nat_lt a (gates h)) ≡ true → cause ≡ None → right_answer M h making ≡ made_now
+  group-made on none = uncaused making made_now (told true on) none
 
 -- the gate of a slot is that of its group
 slot-on : {C : Type 0} (s x : ℕ) (o : Option (Made C)) → gate_at s o ≡ Some x → (m : Made C) × ((o ≡ Some m) × (m.gate ≡ x))
@@ -104,7 +87,7 @@ module _ {C : Type 0} (M : Meaning C) where
   gates-there ((step.group r a cs, answer.Group n) ∷ h) run g m at =
       elim (get-pushed (made h) _ m g at) [
         | inl new ↦
-            let told = right-is {C = C} (step.group r a cs) (answer_after M h (step.group r a cs)) (answer.Group n) run.1 refl in
+            let told = right-is {C = C} (step.group r a cs) (right_answer M h (step.group r a cs)) (answer.Group n) run.1 refl in
             let parts = and_parts (nat_lt r (length (registries h))) (nat_lt a (gates h))
             (none-missing _ (earlier-none _ _ (unrefused _ _ (answer.Group n) told refl).0)) in
             rw new.1 (ltb-true a (gates h) parts.1)
@@ -119,7 +102,7 @@ module _ {C : Type 0} (M : Meaning C) where
       by-out : (b : Bool) → is_out (gates h) h ≡ b → b ≡ false
       by-out false is = refl
       by-out true is =
-          let whose = (one-extra M h run).whose (gates h) is in
+          let whose = (permits-out M h run).whose (gates h) is in
           let m = slot-on whose.1 (gates h) (made_at whose.0 h) whose.2 in
           let low = gates-there h run whose.0 m.0 m.1.0 in
           absurd (omega (arith, low, m.1.1))

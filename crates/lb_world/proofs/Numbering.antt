@@ -15,8 +15,8 @@ use Rattle.lb_world.specs.declared.answer.Answer.TheVariants as answer
 use Rattle.lb_world.specs.Meanings.{Meaning}
 use Rattle.lb_world.specs.History.{History, Made, is_at, members_in, over, registries, made, made_at, slot_events}
 use Rattle.lb_world.specs.Shared.{started, is_live, configs_in, view_in, let_go, extra_at, registry_at, changed, registry_events}
-use Rattle.lb_world.specs.Answers.{Answers, IsRun, answer_after, no_such}
-use Rattle.lb_world.proofs.Accepted.{right-is, unrefused, earlier-none}
+use Rattle.lb_world.specs.Answers.{Answers, IsRun, no_such}
+use Rattle.lb_world.proofs.Accepted.{right-is, unrefused, earlier-none, right_answer}
 use Rattle.lb_world.proofs.Viewing.{each-append, each-weaker}
 
 kept-by : (b : Bool) (x e : List registry.Event) → registered_after x ≡ registered_after e → registered_after (cond b x e) ≡ registered_after e
@@ -70,7 +70,7 @@ module _ {C : Type 0} (M : Meaning C) where
   -- a group is made over a registry that is there
   pub made-over : (h : History C) (r b : ℕ) (cs : List C) (n : ℕ) → Answers M h (step.group r b cs) (answer.Group n) → r < length (registries h)
   made-over h r b cs n right =
-      let told = right-is {C = C} (step.group r b cs) (answer_after M h (step.group r b cs)) (answer.Group n) right refl in
+      let told = right-is {C = C} (step.group r b cs) (right_answer M h (step.group r b cs)) (answer.Group n) right refl in
       let u = unrefused _ _ (answer.Group n) told refl in
       ltb-true r (length (registries h)) (and_parts (nat_lt r (length (registries h))) _ (named-there _ (earlier-none _ _ u.0))).0
 

@@ -1,5 +1,5 @@
 -- The promises, each by the law of the crate of groups at a slot's past.
-use Rattle.std.proofs.Common.{◌≡◌, ◌<◌, ◌≤◌, ◌==◌, ◌∙◌, ℕ, Bool, true, false, cond, [], ◌∷◌, ◌++◌, refl, sym, ap, subst, arith}
+use Rattle.std.proofs.Common.{◌≡◌, inl, inr, not, ◌<◌, ◌≤◌, ◌==◌, ◌∙◌, ℕ, Bool, true, false, cond, [], ◌∷◌, ◌++◌, refl, sym, ap, subst, arith}
 use Rattle.std.specs.Prelude.{Option, Some, None, slice_get}
 use Rattle.std.specs.Option.{option_map}
 use Rattle.std.proofs.lemmas.Bool.{false_from_ne_true, false≢true}
@@ -16,13 +16,14 @@ use Rattle.lb_world.specs.Steps as step
 use Rattle.lb_world.specs.declared.answer.Answer.{Answer}
 use Rattle.lb_world.specs.declared.answer.Answer.TheVariants as answer
 use Rattle.lb_world.specs.Meanings.{Meaning}
-use Rattle.lb_world.specs.History.{History, Entered, is_at, members_in, group_in, slot_in, config, drew, gate_at, slot_gate, entries, group_at, work, ended, happened, slot_events, past, is_out}
-use Rattle.lb_world.specs.Answers.{IsRun}
-use Rattle.lb_world.specs.Promises.{extras, FreeGatesGrant, NeverFalls, Promised}
-use Rattle.lb_world.proofs.Readers.{counts}
+use Rattle.lb_world.specs.History.{History, Entered, is_at, members_in, group_in, slot_in, config, drew, gate_at, slot_gate, entries, group_at, work, ended, happened, slot_events, past, extras, is_free, is_out}
+use Rattle.lb_world.specs.Answers.{IsRun, without_memory}
+use Rattle.lb_world.specs.Promises.{FreeGatesGrant, NeverFalls, Ledger, NewestServed, MembersKept, Bounded}
 use Rattle.lb_world.proofs.Placing.{off-past, on-past, off-both, on-both, same-either}
 use Rattle.lb_world.proofs.Runs.{slots-fit, Pasts}
-use Rattle.lb_world.proofs.Counting.{one-extra, counted}
+use Rattle.lb_world.proofs.Accepted.{right_answer}
+use Rattle.lb_world.proofs.Counting.{permits-out}
+use Rattle.lb_world.proofs.Extras.{extras-out}
 
 none-out : (o : Bool) (x : ℕ) → x ≡ number o → x ≡ 0 → o ≡ false
 none-out true x e z = absurd (omega arith)
@@ -132,30 +133,40 @@ module _ {C : Type 0} where
       in-none (Pasts h) (λ j. happened h (slot_events j h) st a ++ slot_events j h) (λ j. is_at j (group_at h st)) (faithful h) (λ j. refl) i r
 
 module _ {C : Type 0} (M : Meaning C) where
-  free-gates-grant : (h : History C) → IsRun M h → FreeGatesGrant M h
-  free-gates-grant h run g s now m c made_is config_is goes waiting due free =
+  -- the asked slot has no extra, since its gate has none
+  granted-due : (h : History C) (g s now : ℕ) (a : Answer) → IsRun M ((step.ask g s now, a) ∷ h) → FreeGatesGrant h (step.ask g s now) a
+  granted-due h g s now a run m c made_is config_is goes waiting due free =
       let on : slot_gate g s h ≡ Some m.gate = ap (gate_at s) made_is ∙ ap (option_map (λ (x : C). m.gate)) config_is in
-      let in_ : is_out m.gate h ≡ false = none-out (is_out m.gate h) (extras m.gate h) ((counted M h run).by_permit m.gate) free in
+      let in_ : is_out m.gate h ≡ false = none-out (is_out m.gate h) (extras m.gate h) (extras-out M h run.0 m.gate) free in
       let bare : is_extra (extra (past g s h)) ≡ false =
-      false_from_ne_true (is_extra (extra (past g s h))) (λ t. false≢true (sym in_ ∙ (one-extra M h run).out m.gate g s on t)) in
-      let job : slots.ask_answer (past g s h) (is_out m.gate h) now ≡ slots.job =
-      ap (λ (b : Bool). slots.ask_answer (past g s h) b now) in_
+      false_from_ne_true (is_extra (extra (past g s h))) (λ t. false≢true (sym in_ ∙ (permits-out M h run.0).out m.gate g s on t)) in
+      let job : slots.ask_answer (past g s h) (not (is_free m.gate h)) now ≡ slots.job =
+      ap (λ (n : ℕ). slots.ask_answer (past g s h) (not (n == 0)) now) free
       ∙ gets-job (past g s h) now (cancelled-past s (slot_events g h) ∙ goes) waiting due bare in
-      rw (made_is, config_is, job) refl
+      let told : right_answer M h (step.ask g s now) ≡ answer.Build (newest (slot_events g h)) = rw (made_is, config_is, job) refl in
+      elim run.1 [
+        | inl is ↦ is ∙ told
+        | inr is ↦ is ∙ ap (without_memory {C = C} (step.ask g s now)) told
+      ]
+
+  pub free-gates-grant : (h : History C) (st : Step C) (a : Answer) → IsRun M ((st, a) ∷ h) → FreeGatesGrant h st a
+  free-gates-grant h (step.ask g s now) a run = granted-due h g s now a run
+  free-gates-grant h st a run = tt
 
   pub never-falls : (h : History C) (st : Step C) (a : Answer) → IsRun M ((st, a) ∷ h) → NeverFalls h st a
   never-falls h st a run g s =
       no-less-group (is_at g (group_at h st)) s (happened h (slot_events g h) st a) (slot_events g h) (slots-fit M ((st, a) ∷ h) run g s).0
 
-  pub promised : (h : History C) → IsRun M h → Promised M h
-  promised h run =
-      record {
-        one_extra = one-extra M h run;
-        counted = counted M h run;
-        ledger = record { balanced = λ g s. balanced (past g s h) (slots-fit M h run g s).0; of_group = λ g s. newest-past s (slot_events g h) };
-        newest_served = λ g s down quiet. serves-newest (past g s h) down quiet ∙ newest-past s (slot_events g h);
-        readers_exact = counts M h run;
-        members_kept = λ g s. has-members (past g s h) (faithful h g s);
-        bounded = λ g s. subst (λ (n : ℕ). served (past g s h) ≤ n) (newest-past s (slot_events g h)) (bounded (past g s h));
-        free_gates_grant = free-gates-grant h run;
-      }
+  pub ledger : (h : History C) → IsRun M h → Ledger h
+  ledger h run =
+      record { balanced = λ g s. balanced (past g s h) (slots-fit M h run g s).0; of_group = λ g s. newest-past s (slot_events g h) }
+
+module _ {C : Type 0} (h : History C) where
+  pub newest-served : NewestServed h
+  newest-served g s down quiet = serves-newest (past g s h) down quiet ∙ newest-past s (slot_events g h)
+
+  pub members-kept : MembersKept h
+  members-kept g s = has-members (past g s h) (faithful h g s)
+
+  pub within : Bounded h
+  within g s = subst (λ (n : ℕ). served (past g s h) ≤ n) (newest-past s (slot_events g h)) (bounded (past g s h))

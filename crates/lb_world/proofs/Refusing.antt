@@ -19,7 +19,7 @@ use Rattle.lb_world.specs.declared.answer.Answer.TheVariants as answer
 use Rattle.lb_world.specs.History.{History, RegistryMade, Made, Work, is_at, members_in, group_in, slot_in, over, config_in, drew, registries, gates, made, made_at, config, registry_of, entries, group_at, works_at, worked, work, ended, happened, slot_events, past, gate_in, is_grant, is_failure, is_destruction, is_out, load_of}
 use Rattle.lb_world.specs.Shared.{settings_in, is_live, configs_in, view_in, key_in, registry_made, registry_in, registry_at, let_go, extra_at, changed, registry_events, events_in, key_of, showed, held_at_first, view_events, cells_of}
 use Rattle.lb_world.specs.GroupEvents.{cells_for, group_after_step, group_events}
-use Rattle.lb_world.specs.Promises.{count_on}
+use Rattle.lb_world.specs.History.{count_on}
 use Rattle.lb_world.specs.Refused.{TellsAlike}
 use Rattle.lb_world.proofs.Placing.{same-either}
 

@@ -32,7 +32,7 @@ use Rattle.lb_world.specs.History.{History, Made, config, config_in, drew, slot_
 use Rattle.lb_world.specs.Shared.{key_of, registry_events}
 use Rattle.lb_world.specs.Answers.{IsRun, Judges, SelectAnswers, SelectsIn, refuse, selected}
 use Rattle.lb_world.specs.GroupEvents.{group_after_step, group_events}
-use Rattle.lb_world.proofs.Promised.{promised}
+use Rattle.lb_world.proofs.Promised.{members-kept}
 use Rattle.lb_world.proofs.Together.{group-of, joins-alike}
 
 -- a selection is refused for memory alone
@@ -105,7 +105,7 @@ module _ {C : Type 0} (M : Meaning C) (h : History C) (g s : ℕ) (key : List �
           → SelectsFrom M.random M.walks Was load_by key limit words (served_members (past g s h)) c (drawn (past g s h)) x → Selected
       from-slot c at from =
           by-words
-          (rw (((promised M h run).members_kept g s).serving, members-past (served (past g s h)) s (slot_events g h)) at from)
+          (rw ((members-kept h g s).serving, members-past (served (past g s h)) s (slot_events g h)) at from)
           (M.random (members_of (served (past g s h)) (slot_events g h)) c && nat_le (length words) limit) refl
         where
           walks : List Draw → List Member → Bool → Type 0

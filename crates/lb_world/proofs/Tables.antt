@@ -26,7 +26,7 @@ use Rattle.std.proofs.lemmas.Option.{slice_get-map}
 use Rattle.lb_rebuild_group.specs.Stands as stands
 use Rattle.lb_rebuild_group.specs.GroupHistory as group
 use Rattle.lb_rebuild_slots.specs.SlotsHistory as slots
-use Rattle.lb_world.proofs.Words.{◌∙◌, ◌≡◌, ◌&&◌, ◌∷◌, ◌<◌, ◌==◌, ◌≤◌, [], ◌+◌, ◌↔◌, ◌^◌, ◌⊎◌, ◌++◌, after, Answer, answer_after, Answers}
+use Rattle.lb_world.proofs.Words.{◌∙◌, ◌≡◌, ◌&&◌, ◌∷◌, ◌<◌, ◌==◌, ◌≤◌, [], ◌+◌, ◌↔◌, ◌^◌, ◌⊎◌, ◌++◌, after, Answer, right_answer, Answers}
 use Rattle.lb_world.proofs.Words.{ap, ap2, Applied, arith, at_one, at_slot, Before, Bool, cases_eq, cells_given, cond, cond_some, config}
 use Rattle.lb_world.proofs.Words.{configs_of, entered_of, entries, EntryIs, EntryNext, EntryValue, eq-eqb, Err, Event, false}
 use Rattle.lb_world.proofs.Words.{gates, GateValue, get-kept, get-pushed, group-of, group_at, slot_events, held_of, OpenReaderValue, History, inl}
@@ -391,12 +391,9 @@ module _ {C : Type 0} {M : Meaning C} {w : WorldValue C} {h : History C} (s : St
       let m = (made-there r u there).1 in
       lent-refused r there (rw m (inr (rw m at (off _ _ (s.kept r u there)), refl))) (λ k es now. rw same now)
 
-  -- marks that are applied start no cell, so a number is left
   targets-told : (r : ℕ) (u : RegistryValue WorldRule) → slice_get w.registries r ≡ Some u
-      → answer_after M h (Step.targets r) ≡ Answer.Targets (targets_after (key_at r h) (Applied ∷ registry_events r h))
-  targets-told r u there =
-      let m = (made-there r u there).1 in
-      rw m (rw (number-left _ (marks-fit _ _ u (rw m at (s.kept r u there)))) refl)
+      → right_answer M h (Step.targets r) ≡ Answer.Targets (targets_after (key_at r h) (Applied ∷ registry_events r h))
+  targets-told r u there = let m = (made-there r u there).1 in rw m refl
 
   pub targets-next : (r : ℕ) (ts : List Target) (u v : RegistryValue WorldRule) → slice_get w.registries r ≡ Some u
       → Tells u (λ k es. IsRegistryAfter key_gives k (Applied ∷ es) v) → Tells u (λ k es. ts ≡ targets_after k (Applied ∷ es))
@@ -459,7 +456,7 @@ module _ {C : Type 0} {M : Meaning C} {w : WorldValue C} {h : History C} (s : St
       to = told (site e.core) (group_events g h) (s.each g e there_).core_is
 
       -- what is answered, by the number of readers that was read
-      enter-told : answer_after M h (Step.enter g slot) ≡ at_one r (λ n. enter_answer n (length w.readers) (served (past g slot h)))
+      enter-told : right_answer M h (Step.enter g slot) ≡ at_one r (λ n. enter_answer n (length w.readers) (served (past g slot h)))
       enter-told =
           ap (λ m. at_one (config g slot h)
           (λ c. enter_answer (slots.readers (served (past g slot h)) (past g slot h)) m (served (past g slot h)))) entries-count
@@ -484,7 +481,7 @@ module _ {C : Type 0} {M : Meaning C} {w : WorldValue C} {h : History C} (s : St
           (inl (sym (enter-told ∙ rw some (grind (arith, common_steps, many)))))
 
       module _ (x : ℕ) (some : r ≡ Some x) (few : ¬ (length w.readers ≡ 18446744073709551615)) (left : ¬ (x ≡ 18446744073709551615)) where
-        enters-as : answer_after M h (Step.enter g slot) ≡ Answer.Reader (length w.readers) (served (past g slot h))
+        enters-as : right_answer M h (Step.enter g slot) ≡ Answer.Reader (length w.readers) (served (past g slot h))
         enters-as = enter-told ∙ rw (some, ne_eqb x 18446744073709551615 left, ne_eqb (length w.readers) 18446744073709551615 few) refl
 
         memory-right : Answers M h (Step.enter g slot) (Answer.Refused Refusal.OutOfMemory)

@@ -23,10 +23,10 @@ use Rattle.lb_world.specs.declared.step.Listing.{Listing}
 use Rattle.lb_world.specs.Meanings.{Meaning}
 use Rattle.lb_world.specs.History.{History, Made, building, is_at, members_in, config_in, config, drew, made, made_at, group_at, happened, slot_events, past}
 use Rattle.lb_world.specs.Shared.{settings_in, extra_at, held_at_first, showed, view_events}
-use Rattle.lb_world.specs.Answers.{IsRun, Answers, answer_after, has_refused, refuse}
+use Rattle.lb_world.specs.Answers.{IsRun, Answers, has_refused, refuse}
 use Rattle.lb_select_base.specs.declared.refusal.Refusal.TheVariants as refusal
 use Rattle.lb_world.specs.GroupEvents.{cells_for, group_after_step, group_events, JoinsAlike, SchedulesAlike}
-use Rattle.lb_world.proofs.Accepted.{is_lasting, right-is, there, granting, failing, ordered-failure, updating, unchanging}
+use Rattle.lb_world.proofs.Accepted.{is_lasting, right-is, there, granting, failing, ordered-failure, updating, unchanging, right_answer}
 use Rattle.lb_world.proofs.Runs.{slots-fit, under_way}
 use Rattle.lb_world.proofs.Absent.{found, get-front, absent}
 use Rattle.lb_world.proofs.Joining.{follows}
@@ -78,7 +78,7 @@ module _ {C : Type 0} (M : Meaning C) where
   updated-there : (h : History C) (g now : ℕ) (ls : List Listing) (a : Answer) → is_lasting a ≡ true → Answers M h (step.update g now ls) a
       → (m : Made C) × (made_at g h ≡ Some m)
   updated-there h g now ls a lasts right =
-      let is = right-is {C = C} (step.update g now ls) (answer_after M h (step.update g now ls)) a right lasts in
+      let is = right-is {C = C} (step.update g now ls) (right_answer M h (step.update g now ls)) a right lasts in
       let m = there (made_at g h) _ a (lasting-address (has_refused ls) _ a lasts is) lasts in (m.0, m.1.0)
 
   pub nothing-joined : (h : History C) → IsRun M h → (i : ℕ) → made_at i h ≡ None → group_events i h ≡ []

@@ -1,10 +1,10 @@
 -- After histories that tell alike the same answers are right; so what comes after a refused step is a run without it too.
-use Rattle.std.proofs.Common.{◌≡◌, ◌⊎◌, ◌+◌, ◌∙◌, ℕ, Bool, true, false, cond, List, [], ◌∷◌, ◌++◌, length, map, refl, ap, subst}
+use Rattle.std.proofs.Common.{◌≡◌, ◌⊎◌, ◌+◌, ◌-◌, ◌==◌, ◌∙◌, not, ℕ, Bool, true, false, cond, List, [], ◌∷◌, ◌++◌, length, map, refl, ap, subst}
 use Rattle.std.proofs.Math.Path.{fun_ext}
 use Rattle.std.specs.Prelude.{◌↔◌, ◌&&◌, IsTrue, nat_lt, nat_le, Option, Some, None, Result, slice_get, MatchBool, MatchOption}
 use Rattle.lb_select_base.specs.Backends.{Member, same_member}
 use Rattle.lb_select_base.specs.Draws.{HandedValue, LoadedGives}
-use Rattle.lb_select_base.specs.Refusals.{earlier, least, memory_apart}
+use Rattle.lb_select_base.specs.Refusals.{earlier, least}
 use Rattle.lb_select_base.specs.Selections.{Selects}
 use Rattle.lb_select_base.specs.declared.refusal.Refusal.{Refusal}
 use Rattle.lb_select_base.specs.declared.refusal.Refusal.TheVariants as refusal
@@ -19,9 +19,10 @@ use Rattle.lb_world.specs.Steps as step
 use Rattle.lb_world.specs.declared.answer.Answer.{Answer}
 use Rattle.lb_world.specs.declared.answer.Answer.TheVariants as answer
 use Rattle.lb_world.specs.Meanings.{Meaning}
-use Rattle.lb_world.specs.History.{History, RegistryMade, Made, Entered, Work, members_in, registries, made_at, config, entries, slot_events, past, load_of}
-use Rattle.lb_world.specs.Shared.{key_by, key_in, registry_events}
-use Rattle.lb_world.specs.Answers.{Answers, IsRun, Judges, ReadyAnswers, VerdictAnswers, SelectsIn, SelectAnswers, answer_after, without_memory, refuse, unless_refused, at_one, at_backend, no_such, no_number, has_refused, update_answer, asked, built_or_failed, of_job, of_built, flight_of, lost_answer, enter_answer, leave_answer, destroy_refusal, numbers_of, selected}
+use Rattle.lb_world.specs.History.{History, RegistryMade, Made, Entered, Work, members_in, registries, made_at, config, entries, slot_events, past, is_free, load_of}
+use Rattle.lb_world.specs.Shared.{key_by, registry_events}
+use Rattle.lb_world.proofs.Accepted.{right_answer}
+use Rattle.lb_world.specs.Answers.{Answers, IsRun, Judges, ReadyAnswers, VerdictAnswers, SelectsIn, SelectAnswers, without_memory, refuse, unless_refused, at_one, at_backend, no_such, no_number, has_refused, update_answer, asked, built_or_failed, of_job, of_built, flight_of, lost_answer, enter_answer, leave_answer, destroy_refusal, numbers_of, selected}
 use Rattle.lb_world.specs.Refused.{TellsAlike, AnswersAlike, IsAsBefore, unrefused}
 use Rattle.lb_world.proofs.Refusing.{ap2, ap3, refused-alike, alike-sym, alike-then, at-alike, config-alike, key-alike, events-alike, past-alike, alike-step}
 
@@ -37,23 +38,22 @@ module _ {C : Type 0} (M : Meaning C) (k h : History C) (e : TellsAlike k h) whe
   there : (r : ℕ) → slice_get (registries k) r ≡ slice_get (registries h) r
   there r = ap (λ (rs : List RegistryMade). slice_get rs r) e.rest.registries_made
 
-  abbrev grouped : (r : ℕ) (key : Member → Member) (there : Bool) (es : List registry.Event) (n : ℕ) (configs : List C) → Answer
-  grouped r key there es n configs =
+  abbrev grouped : (there : Bool) (es : List registry.Event) (n : ℕ) (configs : List C) → Answer
+  grouped there es n configs =
       unless_refused
-      (earlier (no_such there)
-      (earlier (memory_apart (least (map (M.refusal []) configs)))
-      (earlier (no_number (registry.registered_after es + 1))
-      (no_number (registry.cells_given key (registry.Applied ∷ registry.Registered ∷ es))))))
-      (answer.Group n)
+      (earlier (no_such there) (earlier (least (map (M.refusal []) configs)) (no_number (registry.registered_after es + 1)))) (answer.Group n)
+
+  free-alike : (a : ℕ) → is_free a k ≡ is_free a h
+  free-alike a = ap3 (λ J F D. J - F - D == 0) (e.rest.grants a) (e.rest.failures a) (e.rest.destructions a)
 
   -- the answer that is right where memory is at hand
-  answer-alike : (st : Step C) → answer_after M k st ≡ answer_after M h st
+  answer-alike : (st : Step C) → right_answer M k st ≡ right_answer M h st
   answer-alike (step.registry rule healthy) = ap (λ (rs : List RegistryMade). answer.Registry (length rs)) e.rest.registries_made
   answer-alike step.gate = ap answer.Gate e.rest.gates_made
   answer-alike (step.group r a configs) =
       ap3
       (λ (rs : List RegistryMade) (p : ℕ × List registry.Event) (ms : List (Made C)).
-      grouped r (key_in (slice_get rs r)) (nat_lt r (length rs) && nat_lt a p.0) p.1 (length ms) configs)
+      grouped (nat_lt r (length rs) && nat_lt a p.0) p.1 (length ms) configs)
       e.rest.registries_made (ap2 (λ (n : ℕ) (es : List registry.Event). (n, es)) e.rest.gates_made (e.rest.shared r)) e.rest.groups_made
   answer-alike (step.update g now listings) =
       ap (cond (has_refused listings) (refuse refusal.InvalidAddress))
@@ -72,9 +72,9 @@ module _ {C : Type 0} (M : Meaning C) (k h : History C) (e : TellsAlike k h) whe
       at-one-alike (made_at g k) (made_at g h) _ _ (at-alike k h e g)
       (λ m.
       ap2
-      (λ (x : slots.History) (out : Bool).
-      at_one (slice_get m.configs s) (λ c. asked (slots.newest x) (slots.ask_answer (slots.past_of s x) out now)))
-      (e.groups g) (e.rest.outs m.gate))
+      (λ (x : slots.History) (free : Bool).
+      at_one (slice_get m.configs s) (λ c. asked (slots.newest x) (slots.ask_answer (slots.past_of s x) (not free) now)))
+      (e.groups g) (free-alike m.gate))
   answer-alike (step.build g s now) =
       at-one-alike (config g s k) (config g s h) _ _ (config-alike k h e g s)
       (λ c.
@@ -120,11 +120,7 @@ module _ {C : Type 0} (M : Meaning C) (k h : History C) (e : TellsAlike k h) whe
   answer-alike (step.targets r) =
       at-one-alike (slice_get (registries k) r) (slice_get (registries h) r) _ _ (there r)
       (λ m.
-      ap
-      (λ (es : List registry.Event).
-      unless_refused (no_number (registry.cells_given (key_by m.rule) (registry.Applied ∷ es)))
-      (answer.Targets (targets_after (key_by m.rule) (registry.Applied ∷ es))))
-      (e.rest.shared r))
+      ap (λ (es : List registry.Event). answer.Targets (targets_after (key_by m.rule) (registry.Applied ∷ es))) (e.rest.shared r))
   answer-alike (step.counts g s) =
       at-one-alike (config g s k) (config g s h) _ _ (config-alike k h e g s)
       (λ c. ap (λ (p : slots.History). answer.Numbers (numbers_of p)) (past-alike k h e g s))
@@ -212,8 +208,8 @@ module _ {C : Type 0} (M : Meaning C) (k h : History C) (e : TellsAlike k h) whe
       right)
 
   plain-follows : (st : Step C) (a : Answer)
-      → (a ≡ answer_after M k st) ⊎ (a ≡ without_memory st (answer_after M k st))
-      → (a ≡ answer_after M h st) ⊎ (a ≡ without_memory st (answer_after M h st))
+      → (a ≡ right_answer M k st) ⊎ (a ≡ without_memory st (right_answer M k st))
+      → (a ≡ right_answer M h st) ⊎ (a ≡ without_memory st (right_answer M h st))
   plain-follows st a right =
       subst (λ (b : Answer). (a ≡ b) ⊎ (a ≡ without_memory st b)) (answer-alike st) right
 

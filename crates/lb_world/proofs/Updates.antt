@@ -26,9 +26,9 @@ use Rattle.lb_world.specs.declared.step.Listing.{Listing}
 use Rattle.lb_world.specs.Meanings.{Meaning}
 use Rattle.lb_world.specs.History.{History, Made, members_in, made_at, slot_events}
 use Rattle.lb_world.specs.Shared.{settings_in, view_in, key_of, events_in, registry_events, view_events}
-use Rattle.lb_world.specs.Answers.{Answers, IsRun, answer_after, at_one, has_refused, no_number, refuse, unless_refused, update_answer, without_memory}
+use Rattle.lb_world.specs.Answers.{Answers, IsRun, at_one, has_refused, no_number, refuse, unless_refused, update_answer, without_memory}
 use Rattle.lb_world.specs.GroupEvents.{Updated, group_after_step, group_events}
-use Rattle.lb_world.proofs.Accepted.{goes-on}
+use Rattle.lb_world.proofs.Accepted.{goes-on, right_answer}
 use Rattle.lb_world.proofs.Causes.{caused, cause-first, number-left, number-wanted, out-of-memory, uncaused, wanted-both}
 use Rattle.lb_world.proofs.Joining.{follows}
 use Rattle.lb_world.proofs.Placing.{same-either}
@@ -90,7 +90,7 @@ module _ {C : Type 0} (M : Meaning C) (h : History C) (g now : ℕ) (ls : List L
         ≡ registry_updated (key_of g h) m.view (members_in ls) (group.view_events (length m.configs) (group_events g h)) (registry_events m.registry h)
 
   module _ (run : IsRun M h) (made_is : made_at g h ≡ Some m) (whole : has_refused ls ≡ false) where
-    told : answer_after M h st ≡ unless_refused cause answered
+    told : right_answer M h st ≡ unless_refused cause answered
     told =
         let Told : slots.History → Made C → Answer = λ k x.
         unless_refused

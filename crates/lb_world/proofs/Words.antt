@@ -7,15 +7,16 @@ pub use Rattle.lb_rebuild_slots.specs.SlotsHistory.{At, granted, granted_members
 pub use Rattle.lb_rebuild_slots.specs.SlotCalls.{ask_told}
 pub use Rattle.lb_rebuild_slots.specs.Values.{Task, configs_of}
 pub use Rattle.lb_health_view.specs.RegistrySide.{IsReady, settings_of}
+pub use Rattle.lb_world.proofs.Accepted.{right_answer}
 pub use Rattle.lb_world.proofs.Counting.{there-at}
 pub use Rattle.lb_world.proofs.Extras.{get-kept}
-pub use Rattle.lb_world.proofs.Promised.{promised}
+pub use Rattle.lb_world.proofs.Promised.{members-kept}
 pub use Rattle.lb_world.proofs.Refusing.{ap2, refused-alike}
 pub use Rattle.lb_world.proofs.Runs.{slots-fit}
 pub use Rattle.lb_world.proofs.Sharing.{shares}
 pub use Rattle.lb_world.proofs.Steps.{others-stay}
 pub use Rattle.lb_world.proofs.Together.{get-pushed, group-of}
-pub use Rattle.lb_world.specs.Answers.{Answers, IsRun, Judges, answer_after, at_one, has_refused, no_number, no_such, refuse}
+pub use Rattle.lb_world.specs.Answers.{Answers, IsRun, Judges, at_one, has_refused, no_number, no_such, refuse}
 pub use Rattle.lb_world.specs.Answers.{unless_refused, where_, without_memory}
 pub use Rattle.lb_world.specs.History.{History, Made, RegistryMade, Work, after, config, config_in, entries, gates, group_at}
 pub use Rattle.lb_world.specs.History.{slot_events, happened, is_at, is_out, load_of, made, made_at, members_in, past, registries}

@@ -5,7 +5,7 @@ use Rattle.std.specs.Prelude.{map, Option, Some, None, is_none, Result, Ok, Err,
 use Rattle.std.specs.List.{list_any}
 use Rattle.lb_select_base.specs.Backends.{Member, same_member}
 use Rattle.lb_select_base.specs.Draws.{HandedValue, LoadedGives}
-use Rattle.lb_select_base.specs.Refusals.{earlier, least, memory_apart}
+use Rattle.lb_select_base.specs.Refusals.{earlier, least}
 use Rattle.lb_select_base.specs.Selections.{Selects}
 use Rattle.lb_select_base.specs.declared.refusal.Refusal.{Refusal}
 use Rattle.lb_select_base.specs.declared.refusal.Refusal.TheVariants as refusal
@@ -25,8 +25,8 @@ use Rattle.lb_world.specs.declared.answer.SlotCounts.{SlotCounts}
 use Rattle.lb_world.specs.declared.answer.Answer.TheVariants as answer
 use Rattle.lb_world.specs.Meanings.{Meaning}
 use Rattle.lb_world.specs.History.{History, Entered, Work, idle, building, built, members_in, registries, gates, made, made_at, config}
-use Rattle.lb_world.specs.History.{registry_of, entries, work, slot_events, past, is_out, load_of}
-use Rattle.lb_world.specs.Shared.{key_by, key_at, key_of, registry_events, events_in, view_events}
+use Rattle.lb_world.specs.History.{registry_of, entries, work, slot_events, past, is_free, load_of}
+use Rattle.lb_world.specs.Shared.{key_by, key_of, registry_events, events_in, view_events}
 
 abbrev pub refuse : Refusal → Answer
 refuse r = answer.Refused r
@@ -156,19 +156,20 @@ module _ {C : Type 0} where
   ReadyAnswers h (Some (Some e)) (Some b) a = (is : Bool) × (a ≡ answer.Ready is) × Judges h e.group e.generation b is
 
 module _ {C : Type 0} (meaning : Meaning C) where
-  -- The right answer where memory is at hand. Readiness, verdicts and selections are told below.
-  abbrev pub answer_after : History C → Step C → Answer
-  answer_after h (step.registry rule healthy) = answer.Registry (length (registries h))
-  answer_after h step.gate = answer.Gate (gates h)
+  -- The right answer where memory is at hand, of a step whose answer is a function of the history. Readiness, verdicts and selections
+  -- are relations, defined below.
+  abbrev pub answer_after : History C → Step C → Option Answer
+  answer_after h (step.registry rule healthy) = Some (answer.Registry (length (registries h)))
+  answer_after h step.gate = Some (answer.Gate (gates h))
   answer_after h (step.group r a configs) =
-      unless_refused
+      Some
+      (unless_refused
       (earlier (no_such (nat_lt r (length (registries h)) && nat_lt a (gates h)))
-      (earlier (memory_apart (least (map (meaning.refusal []) configs)))
-      (earlier (no_number (registry.registered_after (registry_events r h) + 1))
-      (no_number (registry.cells_given (key_at r h) (registry.Applied ∷ registry.Registered ∷ registry_events r h))))))
-      (answer.Group (length (made h)))
+      (earlier (least (map (meaning.refusal []) configs)) (no_number (registry.registered_after (registry_events r h) + 1))))
+      (answer.Group (length (made h))))
   answer_after h (step.update g now listings) =
-      if has_refused listings then refuse refusal.InvalidAddress
+      Some
+      (if has_refused listings then refuse refusal.InvalidAddress
       else at_one (made_at g h)
       (λ m.
       unless_refused
@@ -178,48 +179,52 @@ module _ {C : Type 0} (meaning : Meaning C) where
       (registry.cells_given (key_of g h)
       (registry.Updated m.view (members_in listings) ∷ registry.Applied ∷ registry_events m.registry h))
       else None))
-      (update_answer (slots.newest (slot_events g h)) (is_change (members_in listings) (slot_events g h))))
+      (update_answer (slots.newest (slot_events g h)) (is_change (members_in listings) (slot_events g h)))))
   answer_after h (step.ask g s now) =
-      at_one (made_at g h)
+      Some
+      (at_one (made_at g h)
       (λ m.
       at_one (slice_get m.configs s)
-      (λ c. asked (slots.newest (slot_events g h)) (slots.ask_answer (past g s h) (is_out m.gate h) now)))
+      (λ c. asked (slots.newest (slot_events g h)) (slots.ask_answer (past g s h) (not (is_free m.gate h)) now))))
   answer_after h (step.build g s now) =
-      at_one (config g s h)
+      Some
+      (at_one (config g s h)
       (λ c.
       of_job (work g s h)
-      (built_or_failed (slots.granted (past g s h)) (meaning.refusal (slots.members_of (slots.granted (past g s h)) (slot_events g h)) c)))
+      (built_or_failed (slots.granted (past g s h)) (meaning.refusal (slots.members_of (slots.granted (past g s h)) (slot_events g h)) c))))
   answer_after h (step.failbuild g s now) =
-      at_one (config g s h) (λ c. of_job (work g s h) (answer.Failed (slots.granted (past g s h))))
-  answer_after h (step.lost g s) = at_one (config g s h) (λ c. lost_answer (flight_of (slots.extra (past g s h))))
+      Some (at_one (config g s h) (λ c. of_job (work g s h) (answer.Failed (slots.granted (past g s h)))))
+  answer_after h (step.lost g s) = Some (at_one (config g s h) (λ c. lost_answer (flight_of (slots.extra (past g s h)))))
   answer_after h (step.publish g s) =
-      at_one (config g s h)
+      Some
+      (at_one (config g s h)
       (λ c.
       of_built (work g s h)
       (if is_served s (slot_events g h)
       then answer.Published (slots.granted (past g s h))
-      else answer.Abandoned (slots.granted (past g s h))))
+      else answer.Abandoned (slots.granted (past g s h)))))
   answer_after h (step.abandon g s) =
-      at_one (config g s h) (λ c. of_built (work g s h) (answer.Abandoned (slots.granted (past g s h))))
+      Some (at_one (config g s h) (λ c. of_built (work g s h) (answer.Abandoned (slots.granted (past g s h)))))
   answer_after h (step.enter g s) =
-      at_one (config g s h)
-      (λ c. enter_answer (slots.readers (slots.served (past g s h)) (past g s h)) (length (entries h)) (slots.served (past g s h)))
-  answer_after h (step.ready t b) = refuse refusal.NoSuch
-  answer_after h (step.leave t) = leave_answer (slice_get (entries h) t)
-  answer_after h (step.destroy g s) = at_one (config g s h) (λ c. unless_refused (destroy_refusal (past g s h)) answer.Destroyed)
-  answer_after h (step.select g s key limit words) = refuse refusal.NoSuch
-  answer_after h (step.verdict r c ok threshold) = refuse refusal.NoSuch
-  answer_after h (step.enable g b) = at_backend b (at_one (made_at g h) (λ m. answer.Done))
-  answer_after h (step.disable g b) = at_backend b (at_one (made_at g h) (λ m. answer.Done))
-  answer_after h (step.cancel g) = at_one (made_at g h) (λ m. answer.Cancelled)
+      Some
+      (at_one (config g s h)
+      (λ c. enter_answer (slots.readers (slots.served (past g s h)) (past g s h)) (length (entries h)) (slots.served (past g s h))))
+  answer_after h (step.ready t b) = None
+  answer_after h (step.leave t) = Some (leave_answer (slice_get (entries h) t))
+  answer_after h (step.destroy g s) =
+      Some (at_one (config g s h) (λ c. unless_refused (destroy_refusal (past g s h)) answer.Destroyed))
+  answer_after h (step.select g s key limit words) = None
+  answer_after h (step.verdict r c ok threshold) = None
+  answer_after h (step.enable g b) = Some (at_backend b (at_one (made_at g h) (λ m. answer.Done)))
+  answer_after h (step.disable g b) = Some (at_backend b (at_one (made_at g h) (λ m. answer.Done)))
+  answer_after h (step.cancel g) = Some (at_one (made_at g h) (λ m. answer.Cancelled))
   answer_after h (step.targets r) =
-      at_one (slice_get (registries h) r)
-      (λ m.
-      unless_refused (no_number (registry.cells_given (key_by m.rule) (registry.Applied ∷ registry_events r h)))
-      (answer.Targets (targets_after (key_by m.rule) (registry.Applied ∷ registry_events r h))))
-  answer_after h (step.counts g s) = at_one (config g s h) (λ c. answer.Numbers (numbers_of (past g s h)))
-  answer_after h (step.timing g s) = at_one (config g s h) (λ c. answer.Timed (slots.timing (past g s h)))
-  answer_after h (step.load g b load) = at_backend b (at_one (made_at g h) (λ m. answer.Done))
+      Some
+      (at_one (slice_get (registries h) r)
+      (λ m. answer.Targets (targets_after (key_by m.rule) (registry.Applied ∷ registry_events r h))))
+  answer_after h (step.counts g s) = Some (at_one (config g s h) (λ c. answer.Numbers (numbers_of (past g s h))))
+  answer_after h (step.timing g s) = Some (at_one (config g s h) (λ c. answer.Timed (slots.timing (past g s h))))
+  answer_after h (step.load g b load) = Some (at_backend b (at_one (made_at g h) (λ m. answer.Done)))
 
 -- what comes in its place where memory is refused: nothing else, where the step takes none
 abbrev pub without_memory : {C : Type 0} → Step C → Answer → Answer
@@ -262,7 +267,7 @@ module _ {C : Type 0} (meaning : Meaning C) where
   Answers h (step.verdict r c ok threshold) a =
       MatchOption (slice_get (registries h) r) (a ≡ refuse refusal.NoSuch)
       (λ m. VerdictAnswers (key_by m.rule) (registry_events r h) c ok threshold a)
-  Answers h st a = (a ≡ answer_after meaning h st) ⊎ (a ≡ without_memory st (answer_after meaning h st))
+  Answers h st a = MatchOption (answer_after meaning h st) ⊥ (λ x. (a ≡ x) ⊎ (a ≡ without_memory st x))
 
   -- every answer is right after what came before it
   abbrev pub IsRun : History C → Type 0

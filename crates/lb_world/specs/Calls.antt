@@ -1,11 +1,12 @@
 -- Words for what small calls answer, and for what is asked of a listing's backend, which may be none.
-use Rattle.std.specs.Prelude.{◌≡◌, ◌&&◌, ℕ, Bool, true, nat_lt, List, [], length, replicate, Option, Some, None, Result, Ok, Err, false}
-use Rattle.std.specs.Prelude.{if◌then◌else◌}
+use Rattle.std.specs.Prelude.{◌≡◌, ◌&&◌, ◌+◌, ℕ, Bool, true, false, nat_lt, List, [], length, replicate, Option, Some, None, Result}
+use Rattle.std.specs.Prelude.{Ok, Err, if◌then◌else◌}
 use Rattle.lb_rebuild_slots.specs.Gate.{GateId}
 use Rattle.std.specs.BTreeMap.{insert_entry}
 use Rattle.std.specs.BTreeSet.{insert_key}
 use Rattle.lb_select_base.specs.Backends.{Member, member_cmp}
 use Rattle.lb_select_base.specs.Loads.{load_in}
+use Rattle.lb_select_base.specs.Refusals.{earlier}
 use Rattle.lb_select_base.specs.declared.refusal.Refusal.{Refusal}
 use Rattle.lb_select_base.specs.declared.refusal.Refusal.TheVariants as refusal
 use Rattle.lb_rebuild_slots.specs.SlotsCalls.{is_read}
@@ -15,12 +16,21 @@ use Rattle.lb_rebuild_slots.specs.declared.answers.Selection.{Selection}
 use Rattle.lb_rebuild_slots.specs.declared.answers.Publication.{Publication}
 use Rattle.lb_rebuild_slots.specs.declared.membership.Scheduled.{Scheduled}
 use Rattle.lb_rebuild_slots.specs.declared.answers.Publication.TheVariants as told
-use Rattle.lb_world.specs.Answers.{asked}
+use Rattle.lb_world.specs.Answers.{asked, no_number}
 use Rattle.lb_world.specs.declared.answer.Answer.{Answer}
 use Rattle.lb_world.specs.declared.answer.Answer.TheVariants as answer
 use Rattle.lb_rebuild_group.specs.GroupHistory.{History, slot_events}
 use Rattle.lb_rebuild_group.specs.Stands.{GroupValue, Stands}
 use Rattle.lb_world.specs.Views.{EntryValue, WorldValue, nothing}
+
+-- why no group is made over a registry and a gate that are there: the cause of its selectors, then that no number is left for its view
+abbrev pub making_cause : Option Refusal → ℕ → Option Refusal
+making_cause cause registered = earlier cause (no_number (registered + 1))
+
+-- the refusal for a cause; for memory where there is none
+abbrev pub or_memory : Option Refusal → Refusal
+or_memory None = refusal.OutOfMemory
+or_memory (Some r) = r
 
 -- the registry and the gate of these numbers are there
 abbrev pub in_tables : {C : Type 0} → WorldValue C → ℕ → ℕ → Bool

@@ -1,11 +1,12 @@
 -- A history: the steps that a world took, each with its answer, the last first. What was made, who reads, what happened to each
 -- group, and what is held of each job, is one short recursion each; what a group's events mean is told by the crate of groups.
-use Rattle.std.specs.Prelude.{ℕ, ◌+◌, Bool, true, false, ◌&&◌, ◌||◌, ◌==◌, List, [], ◌∷◌, ◌++◌, length, filter, Option, Some, None}
+use Rattle.std.specs.Prelude.{ℕ, ◌+◌, ◌-◌, Bool, true, false, ◌&&◌, ◌||◌, ◌==◌, List, [], ◌∷◌, ◌++◌, length, filter, Option, Some, None}
 use Rattle.std.specs.Prelude.{if◌then◌else◌, slice_get, slice_set}
 use Rattle.std.specs.List.{filter_map}
 use Rattle.std.specs.Option.{option_map}
 use Rattle.lb_select_base.specs.Backends.{Member, same_member}
 use Rattle.lb_select_base.specs.Memberships.{set_of}
+use Rattle.lb_rebuild_slots.specs.Laws.{number}
 use Rattle.lb_rebuild_slots.specs.SlotsHistory as slots
 use Rattle.lb_world.specs.Steps.{Step}
 use Rattle.lb_world.specs.declared.step.Listing.{Listing}
@@ -234,7 +235,7 @@ module _ {C : Type 0} where
   gate_in h None = None
   gate_in h (Some g) = gate_of g h
 
-  -- a job takes the permit of its gate; a failed build and a destruction give it back
+  -- a job is an extra of its gate, until its build fails or its selector is destroyed
   abbrev pub is_grant : Step C → Answer → Bool
   is_grant (step.ask g s now) (answer.Build n) = true
   is_grant st a = false
@@ -247,6 +248,18 @@ module _ {C : Type 0} where
   abbrev pub is_destruction : Step C → Answer → Bool
   is_destruction (step.destroy g s) answer.Destroyed = true
   is_destruction st a = false
+
+  -- how many steps at a gate's groups were such ones
+  abbrev pub count_on : (Step C → Answer → Bool) → ℕ → History C → ℕ
+  count_on p a [] = 0
+  count_on p a ((st, b) ∷ h) = number (p st b && is_at a (gate_in h (group_at h st))) + count_on p a h
+
+  -- the extras of a gate: its jobs, less its failed builds, less its selectors that were reported destroyed
+  abbrev pub extras : ℕ → History C → ℕ
+  extras a h = count_on is_grant a h - count_on is_failure a h - count_on is_destruction a h
+
+  abbrev pub is_free : ℕ → History C → Bool
+  is_free a h = extras a h == 0
 
   -- whether the permit of a gate is out: the last of its grants and returns was a grant
   abbrev pub is_out : ℕ → History C → Bool

@@ -10,6 +10,7 @@ pub mod Steps
 pub mod Calls
 pub mod Cells
 pub mod Ever
+pub mod Headline
 pub mod GroupSteps
 pub mod Rules
 pub mod Stands

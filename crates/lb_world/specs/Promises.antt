@@ -1,6 +1,6 @@
 -- What holds of every run, in the words of the promises. What is promised of a slot alone is said by the crate of groups, of the
 -- slot's past.
-use Rattle.std.specs.Prelude.{◌≡◌, ◌≤◌, ◌<◌, ◌==◌, ◌+◌, ◌-◌, ◌&&◌, ℕ, Bool, true, false, List, [], ◌∷◌, length, count_by, Some}
+use Rattle.std.specs.Prelude.{◌≡◌, ◌≤◌, ◌<◌, ◌==◌, ◌+◌, ℕ, Bool, true, false, List, [], ◌∷◌, length, count_by, Some}
 use Rattle.std.specs.Prelude.{if◌then◌else◌, slice_get}
 use Rattle.std.specs.List.{AllByRecursion as Each, list_any}
 use Rattle.std.specs.Option.{IsSomeAnd}
@@ -16,11 +16,9 @@ use Rattle.lb_world.specs.Steps.{Step}
 use Rattle.lb_world.specs.Steps as step
 use Rattle.lb_world.specs.declared.answer.Answer.{Answer}
 use Rattle.lb_world.specs.declared.answer.Answer.TheVariants as answer
-use Rattle.lb_world.specs.Meanings.{Meaning}
-use Rattle.lb_world.specs.History.{History, Made, idle, is_at, members_in, reads, made, made_at, slot_gate, gate_in, entries, group_at}
-use Rattle.lb_world.specs.History.{work, slot_events, past, is_grant, is_failure, is_destruction, is_out, registry_of}
+use Rattle.lb_world.specs.History.{History, Made, idle, is_at, members_in, reads, made, made_at, slot_gate, entries, group_at}
+use Rattle.lb_world.specs.History.{work, slot_events, past, extras, is_out, registry_of}
 use Rattle.lb_world.specs.Shared.{is_live, extra_at, key_of, events_in, cells_of, registry_at, registry_events, view_events}
-use Rattle.lb_world.specs.Answers.{answer_after}
 use Rattle.lb_world.specs.GroupEvents.{group_events}
 
 module _ {C : Type 0} where
@@ -28,21 +26,16 @@ module _ {C : Type 0} where
   abbrev pub HasExtra : ℕ → ℕ → History C → Type 0
   HasExtra g s h = slots.is_extra (slots.extra (past g s h)) ≡ true
 
-  -- Of the slots on one gate at most one has an extra; the gate's permit is out where one has, and nowhere else.
-  pub record OneExtra (h : History C) : Type 0 where
-    pub alone : (a g s i r : ℕ) → slot_gate g s h ≡ Some a → slot_gate i r h ≡ Some a → HasExtra g s h → HasExtra i r h
-        → (i ≡ g) × (r ≡ s)
+  -- of the slots on one gate at most one has an extra
+  abbrev pub OneExtra : History C → Type 0
+  OneExtra h =
+      (a g s i r : ℕ) → slot_gate g s h ≡ Some a → slot_gate i r h ≡ Some a → HasExtra g s h → HasExtra i r h → (i ≡ g) × (r ≡ s)
+
+  -- The permit of a gate is out where one of its slots has an extra, and nowhere else.
+  pub record PermitsOut (h : History C) : Type 0 where
     pub out : (a g s : ℕ) → slot_gate g s h ≡ Some a → HasExtra g s h → is_out a h ≡ true
     pub whose : (a : ℕ) → is_out a h ≡ true → (g : ℕ) × (s : ℕ) × (slot_gate g s h ≡ Some a) × HasExtra g s h
-
-  -- how many steps at a gate's groups were such ones
-  abbrev pub count_on : (Step C → Answer → Bool) → ℕ → History C → ℕ
-  count_on p a [] = 0
-  count_on p a ((st, b) ∷ h) = number (p st b && is_at a (gate_in h (group_at h st))) + count_on p a h
-
-  -- the extras of a gate: its jobs, less its failed builds, less its selectors that were reported destroyed
-  abbrev pub extras : ℕ → History C → ℕ
-  extras a h = count_on is_grant a h - count_on is_failure a h - count_on is_destruction a h
+    pub counted : (a : ℕ) → extras a h ≡ number (is_out a h)
 
   -- the flights, lost flights and retired selectors in the slots on a gate, of these groups, which stand from the place g on
   abbrev pub extras_over : ℕ → ℕ → List (Made C) → History C → ℕ
@@ -53,7 +46,6 @@ module _ {C : Type 0} where
   -- counted, they are those that stand in the slots, and at most one
   pub record Counted (h : History C) : Type 0 where
     pub at_most : (a : ℕ) → extras a h ≤ 1
-    pub by_permit : (a : ℕ) → extras a h ≡ number (is_out a h)
     pub standing : (a : ℕ) → extras a h ≡ extras_over a 0 (made h) h
 
   -- The ledger of each slot balances, in the words of the crate of groups: each generation of its group was published, coalesced or
@@ -83,6 +75,15 @@ module _ {C : Type 0} where
   -- no step lowers what a slot serves
   abbrev pub NeverFalls : History C → Step C → Answer → Type 0
   NeverFalls h st a = (g s : ℕ) → slots.served (past g s h) ≤ slots.served (past g s ((st, a) ∷ h))
+
+  -- A slot that is there, waits and is due, of a group that is not cancelled, gets a job of the newest generation where the extras
+  -- of its gate are 0.
+  abbrev pub FreeGatesGrant : History C → Step C → Answer → Type 0
+  FreeGatesGrant h (step.ask g s now) a =
+      (m : Made C) (c : C) → made_at g h ≡ Some m → slice_get m.configs s ≡ Some c → slots.is_cancelled (slot_events g h) ≡ false
+      → slots.waits (past g s h) ≡ true → slots.due_moment (past g s h) ≤ now → extras m.gate h ≡ 0
+      → a ≡ answer.Build (slots.newest (slot_events g h))
+  FreeGatesGrant h st a = Unit {0}
 
   -- a publication raises what its slot serves, to the generation that it tells
   abbrev pub Raises : History C → Step C → Answer → Type 0
@@ -163,24 +164,3 @@ module _ {C : Type 0} where
   pub record Untouched (g : ℕ) (h : History C) : Type 0 where
     pub events : slot_events g h ≡ []
     pub works : (s : ℕ) → work g s h ≡ idle
-
-module _ {C : Type 0} (M : Meaning C) where
-  -- A slot that is there, waits and is due, of a group that is not cancelled, gets a job of the newest generation where the extras
-  -- of its gate are 0.
-  abbrev pub FreeGatesGrant : History C → Type 0
-  FreeGatesGrant h =
-      (g s now : ℕ) (m : Made C) (c : C) → made_at g h ≡ Some m → slice_get m.configs s ≡ Some c
-      → slots.is_cancelled (slot_events g h) ≡ false → slots.waits (past g s h) ≡ true → slots.due_moment (past g s h) ≤ now
-      → extras m.gate h ≡ 0
-      → answer_after M h (step.ask g s now) ≡ answer.Build (slots.newest (slot_events g h))
-
-  -- all that holds after each run
-  pub record Promised (h : History C) : Type 0 where
-    pub one_extra : OneExtra h
-    pub counted : Counted h
-    pub ledger : Ledger h
-    pub newest_served : NewestServed h
-    pub readers_exact : ReadersExact h
-    pub members_kept : MembersKept h
-    pub bounded : Bounded h
-    pub free_gates_grant : FreeGatesGrant h

@@ -5,6 +5,7 @@
 pub mod answer;
 mod entry;
 mod group_step;
+pub mod headline;
 mod held;
 pub mod laws;
 pub mod rule;

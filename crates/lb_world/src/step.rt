@@ -32,7 +32,7 @@ pub enum Step<C: Drop> {
     /// Makes a gate. Refused for memory alone.
     Gate,
     /// Makes a group over that registry and that gate, with a slot for each configuration. Refused where the registry or the
-    /// gate isn't there, where a selector over no backend can't be built, and where no number is left for a view or a cell.
+    /// gate isn't there, where a selector over no backend can't be built, and where no number is left for a view.
     Group {
         registry: u64,
         gate: u64,
@@ -106,7 +106,7 @@ pub enum Step<C: Drop> {
         limit: usize,
         words: Vec<u64>,
     },
-    /// Tells the verdict of a check to a cell, with the threshold that holds for it.
+    /// Gives a cell the verdict of a check, with the threshold that holds for it.
     Verdict {
         registry: u64,
         cell: u64,
@@ -131,12 +131,12 @@ pub enum Step<C: Drop> {
     Targets {
         registry: u64,
     },
-    /// Tells the numbers of a slot.
+    /// Returns the numbers of a slot.
     Counts {
         group: u64,
         slot: usize,
     },
-    /// Tells the timing of a slot's last publication.
+    /// Returns the timing of a slot's last publication.
     Timing {
         group: u64,
         slot: usize,

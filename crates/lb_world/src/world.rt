@@ -1,16 +1,14 @@
 //! The world: tables of registries, gates, groups and readers, and one method for all steps at a group.
-//! Its contract is over histories alone; what lies in the tables is no part of it. That some history stands behind them is told of the
-//! world once, and asked of the tables where a step needs it.
-ghost use Rattle.std.specs.Prelude.{◌≡◌, ◌∷◌, [], ℕ, map, IfOk, IfErr, vec_len};
+//! Its contract is over histories alone; what lies in the tables is no part of it. That some history explains them is an invariant of the
+//! world, and a premise of the tables' calls where a step needs it.
+ghost use Rattle.std.specs.Prelude.{◌≡◌, ◌∷◌, [], map, IfOk, IfErr, vec_len};
 ghost use Rattle.lb_world.specs.Answers.{IsRun};
 ghost use Rattle.lb_world.specs.History.{History, after};
 ghost use Rattle.lb_world.specs.Meanings.{meaning_of};
-ghost use Rattle.lb_world.specs.Promises.{Promised, ViewFollows, LivesExactly, NeverFalls, Raises, DestroysExactly};
-ghost use Rattle.lb_world.specs.Refused.{RefusedStays, unrefused};
-ghost use Rattle.lb_world.specs.Selected.{FirstAccepted};
+ghost use Rattle.lb_world.specs.Headline.{KeepsPromises};
+ghost use Rattle.lb_world.specs.Refused.{unrefused};
 ghost use Rattle.lb_world.specs.Steps as seen;
 ghost use Rattle.lb_world.specs.Steps.{step_seen};
-ghost use Rattle.lb_world.specs.Ever.{Always, EachStep, JudgedByOwn};
 ghost use Rattle.lb_world.specs.GroupSteps.{group_step_seen, IsWhole};
 ghost use Rattle.lb_world.specs.Works.{world_value};
 ghost use Rattle.lb_world.specs.Stands.{IsFounded, Stands};
@@ -34,7 +32,7 @@ use std::marker::Model;
 
 /// A world of registries, gates and groups over selectors of one type. It takes a step at a time.
 ///
-/// Contracts see its tables; some history stands behind every world.
+/// Contracts see its tables; some history explains every world.
 pub struct World<S: BackendSelection> {
     tables: Tables<S>,
 }
@@ -69,7 +67,7 @@ impl<S: BackendSelection> Drop for World<S> {
 }
 
 impl<S: BackendSelection> World<S> {
-    /// A world without anything. It takes no memory.
+    /// Makes a world without anything. It takes no memory.
     pub fn new(alloc: Global) -> Self
         ensures { Stands (meaning_of S.BackendSelection) result [] }
     {
@@ -84,7 +82,14 @@ impl<S: BackendSelection> World<S> {
         }
     }
 
-    /// Takes one step, and answers it as the definitions do after any history that the world stands for. A refused step leaves
+    /// Shows that some history explains the world, for a caller who knows none. It does nothing.
+    pub fn past(&self)
+        ensures { IsFounded (meaning_of S.BackendSelection) self.now }
+    {
+        let _tables = &self.tables;
+    }
+
+    /// Takes one step, and answers it as the definitions do after any history that explains the world. A refused step leaves
     /// everything as it was, save that a selection refused for memory may have drawn tickets.
     pub fn step(&mut self, step: Step<S::Config>) -> Answer
         ensures { (h : History S.Config) → Stands (meaning_of S.BackendSelection) self.old h
@@ -105,27 +110,11 @@ impl<S: BackendSelection> World<S> {
             → IsRun (meaning_of S.BackendSelection) (after h (map step_seen steps.items) answers.items)) }
         ensures each { IfOk result (λ answers. vec_len answers ≡ vec_len steps) }
 
-        // Of the whole history and of each step in it, whatever it was before.
-        ensures promised { IfOk result (λ answers. (h : History S.Config) → Stands (meaning_of S.BackendSelection) self.old h
-            → Always (Promised (meaning_of S.BackendSelection)) (after h (map step_seen steps.items) answers.items)) }
-        ensures view_follows { IfOk result (λ answers. (h : History S.Config) → Stands (meaning_of S.BackendSelection) self.old h
-            → Always (λ k. (g : ℕ) → ViewFollows g k) (after h (map step_seen steps.items) answers.items)) }
-        ensures lives_exactly { IfOk result (λ answers. (h : History S.Config) → Stands (meaning_of S.BackendSelection) self.old h
-            → Always LivesExactly (after h (map step_seen steps.items) answers.items)) }
-        ensures judged { IfOk result (λ answers. (h : History S.Config) → Stands (meaning_of S.BackendSelection) self.old h
-            → Always JudgedByOwn (after h (map step_seen steps.items) answers.items)) }
-        ensures never_falls { IfOk result (λ answers. (h : History S.Config) → Stands (meaning_of S.BackendSelection) self.old h
-            → EachStep NeverFalls (after h (map step_seen steps.items) answers.items)) }
-        ensures first_accepted { IfOk result (λ answers. (h : History S.Config) → Stands (meaning_of S.BackendSelection) self.old h
-            → EachStep (FirstAccepted (meaning_of S.BackendSelection)) (after h (map step_seen steps.items) answers.items)) }
-        ensures raises { IfOk result (λ answers. (h : History S.Config) → Stands (meaning_of S.BackendSelection) self.old h
-            → EachStep Raises (after h (map step_seen steps.items) answers.items)) }
-        ensures destroys_exactly { IfOk result (λ answers. (h : History S.Config) → Stands (meaning_of S.BackendSelection) self.old h
-            → EachStep DestroysExactly (after h (map step_seen steps.items) answers.items)) }
+        // The headline and the other promises, of the whole history, whatever it was before.
+        ensures promises { IfOk result (λ answers. (h : History S.Config) → Stands (meaning_of S.BackendSelection) self.old h
+            → KeepsPromises (meaning_of S.BackendSelection) (after h (map step_seen steps.items) answers.items)) }
 
-        // A refused step changed nothing: the world stands for the history without the refused ones as well.
-        ensures refused_stays { IfOk result (λ answers. (h : History S.Config) → Stands (meaning_of S.BackendSelection) self.old h
-            → EachStep (RefusedStays (meaning_of S.BackendSelection)) (after h (map step_seen steps.items) answers.items)) }
+        // A refused step changed nothing: the history without the refused ones explains the world as well.
         ensures unrefused { IfOk result (λ answers. (h : History S.Config) → Stands (meaning_of S.BackendSelection) self.old h
             → Stands (meaning_of S.BackendSelection) self.new (unrefused (after h (map step_seen steps.items) answers.items))) }
 
@@ -139,8 +128,7 @@ impl<S: BackendSelection> World<S> {
         Ok(answers)
     }
 
-    /// Takes a step that selects, and answers it as `step` does. Key and random words are lent, so that the step takes no memory
-    /// for them.
+    /// Takes a step that selects, and answers it as `step` does. It borrows key and random words, and takes no memory for them.
     pub fn select(
         &mut self,
         group: u64,

@@ -3,6 +3,7 @@
 pub use lb_script::run::run_script;
 pub use lb_stream::counted::Counted;
 pub use lb_world::answer::{Answer, SlotCounts, TargetList};
+pub use lb_world::headline::simulate;
 pub use lb_world::laws;
 pub use lb_world::step::{CellKey, Listing, Step};
 pub use lb_world::world::World;

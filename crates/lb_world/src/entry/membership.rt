@@ -1,6 +1,7 @@
 //! Steps of a group's membership and selections: how a group is made and updated, and what its slots select.
 //! Every cause of refusal is tested before memory is taken.
-ghost use Rattle.std.specs.Prelude.{◌≡◌, ◌↔◌, ◌<◌, ◌≤◌, ◌+◌, ◌^◌, ◌∷◌, ℕ, List, [], map, true, false, None, Err, IfOk, OnErr, IsTrue};
+ghost use Rattle.std.specs.Prelude.{◌≡◌, ◌↔◌, ◌≤◌, ◌+◌, ◌^◌, ◌∷◌, ℕ, List, [], map, true, false, None, IfOk, IfErr, OnOk, OnErr, IsTrue};
+ghost use Rattle.std.specs.Prelude.{vec_len, vec_capacity};
 ghost use Rattle.lb_rebuild_slots.specs.SlotsCalls.{is_change, schedule_refusal as refusal_after};
 ghost use Rattle.lb_rebuild_group.specs.GroupHistory.{slot_events};
 ghost use Rattle.lb_rebuild_group.specs.Stands.{After};
@@ -10,7 +11,7 @@ ghost use Rattle.lb_world.specs.Meanings.{meaning_of};
 ghost use Rattle.lb_world.specs.Steps as seen;
 ghost use Rattle.lb_world.specs.Rules.{key_gives};
 ghost use Rattle.lb_world.specs.Stands.{IsEntry, Performs, PerformsAtRegistry};
-ghost use Rattle.lb_world.specs.Calls.{IsNewEntry, scheduled_as, selection_as};
+ghost use Rattle.lb_world.specs.Calls.{IsNewEntry, making_cause, or_memory, scheduled_as, selection_as};
 ghost use Rattle.lb_rebuild_slots.specs.Gate.{GateValue};
 ghost use Rattle.lb_select_base.specs.Backends.{Member};
 ghost use Rattle.lb_select_base.specs.Refusals.{least};
@@ -24,7 +25,7 @@ use self::cells::lacks_numbers;
 use super::Entry;
 use super::listed::{differs, members_from, settings_from};
 use crate::answer::Answer;
-use crate::held::with_places;
+use crate::held::{InHand, with_places};
 use crate::rule::WorldRegistry;
 use crate::step::Listing;
 use lb_rebuild_group::group::GroupCore;
@@ -37,30 +38,34 @@ use lb_select_base::walk::BackendSelection;
 use std::alloc::Global;
 
 impl<S: BackendSelection> Entry<S> {
-    // A group over that registry and that gate by their numbers, with a slot for each configuration. Refused for memory alone, where
-    // a number is left for a view; the registry is then as before.
+    // Makes a group over that registry and that gate by their numbers, with a slot for each configuration and `room` for what is
+    // held of each. Refused for the least cause of its selectors, then where no number is left for a view, and else for memory; the
+    // registry is then as before.
     pub(crate) fn new(
         alloc: Global,
         at: (usize, usize),
         registry: &mut WorldRegistry,
         gate: &GateCore,
+        room: Vec<InHand<S>>,
         configs: Vec<S::Config>,
     ) -> Result<Entry<S>, Refusal>
-        requires { least (map (S.refusal []) configs.items) ≡ None }
+        requires empty { room.items ≡ [] }
+        requires fits { vec_len configs ≤ vec_capacity room }
         ensures made { IfOk result (λ e. (key_of : Member → Member) (events : List Event)
             → IsRegistryAfter key_gives key_of events registry.old
             → IsNewEntry at.0 at.1 gate.now.id configs.items (registered_after events + 1) e
             × IsRegistryAfter key_gives key_of (Applied ∷ Registered ∷ events) registry.new) }
+        ensures uncaused { OnOk result ((key_of : Member → Member) (events : List Event)
+            → IsRegistryAfter key_gives key_of events registry.old
+            → making_cause (least (map (S.refusal []) configs.items)) (registered_after events) ≡ None) }
         ensures err { OnErr result ((key_of : Member → Member) (events : List Event)
             → IsRegistryAfter key_gives key_of events registry.old
             → IsRegistryAfter key_gives key_of events registry.new) }
-        ensures refused { OnErr result ((key_of : Member → Member) (events : List Event)
+        ensures refused { IfErr result (λ e. (key_of : Member → Member) (events : List Event)
             → IsRegistryAfter key_gives key_of events registry.old
-            → registered_after events + 1 < 2 ^ 64
-            → result ≡ Err Refusal.OutOfMemory) }
+            → e ≡ or_memory (making_cause (least (map (S.refusal []) configs.items)) (registered_after events))) }
     {
         let count = configs.len();
-        let room = Vec::with_capacity(alloc, count)?;
         match GroupCore::new(alloc, registry, gate, configs) {
             Ok(core) => Ok(Entry {
                 registry: at.0,

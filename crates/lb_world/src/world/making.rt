@@ -1,17 +1,18 @@
 //! Steps that make registries, gates and groups.
-//! Every cause of refusal is tested before memory is taken.
-ghost use Rattle.std.specs.Prelude.{◌≡◌, ◌∷◌, [], map, nat_lt, Option, Some, None, IfOk, OnErr};
+//! A group's selectors are built once; a refusal for memory goes after every other.
+ghost use Rattle.std.specs.Prelude.{◌≡◌, ◌∷◌, List, [], map, Option, Some, None};
+ghost use Rattle.lb_select_base.specs.Backends.{Member};
 ghost use Rattle.lb_select_base.specs.Refusals.{earlier as earlier_of, least};
-ghost use Rattle.lb_world.specs.Answers.{no_such};
+ghost use Rattle.lb_health_registry.specs.Registry.{IsRegistryAfter};
+ghost use Rattle.lb_health_registry.specs.RegistryEvents.{Event, registered_after};
+ghost use Rattle.lb_world.specs.Calls.{in_tables, making_cause, or_memory};
 ghost use Rattle.lb_world.specs.History.{History};
 ghost use Rattle.lb_world.specs.Meanings.{meaning_of};
-ghost use Rattle.lb_world.specs.Shared.{key_by, started};
-ghost use Rattle.lb_world.specs.Steps as seen;
-ghost use Rattle.lb_world.specs.Calls.{in_tables};
 ghost use Rattle.lb_world.specs.Rules.{key_gives};
-ghost use Rattle.lb_health_registry.specs.Registry.{IsRegistryAfter};
-ghost use Rattle.lb_world.specs.Works.{world_value};
+ghost use Rattle.lb_world.specs.Shared.{key_by, started};
 ghost use Rattle.lb_world.specs.Stands.{Stands};
+ghost use Rattle.lb_world.specs.Steps as seen;
+ghost use Rattle.lb_world.specs.Works.{world_value};
 
 use super::Tables;
 use crate::answer::Answer;
@@ -54,12 +55,11 @@ impl<S: BackendSelection> Tables<S> {
         Answer::Gate(number)
     }
 
-    // Why no group can be made of these, apart from numbers and memory.
-    fn cause(&self, registry: u64, gate: u64, configs: &[S::Config]) -> Option<Refusal>
-        ensures { result ≡ earlier_of (no_such (in_tables (world_value self.now) registry gate)) (least (map (S.refusal []) configs.now)) }
+    // Whether the registry and the gate of these numbers are there.
+    fn has(&self, registry: u64, gate: u64) -> bool
+        ensures { result ≡ in_tables (world_value self.now) registry gate }
     {
-        let is_there = registry < self.registries.len() as u64 && gate < self.gates.len() as u64;
-        earlier_cause(is_there, least_refusal::<S>(self.alloc, configs))
+        registry < self.registries.len() as u64 && gate < self.gates.len() as u64
     }
 
     pub(super) fn group(&mut self, registry: u64, gate: u64, configs: Vec<S::Config>) -> Answer
@@ -67,19 +67,19 @@ impl<S: BackendSelection> Tables<S> {
             → Stands (meaning_of S.BackendSelection) (world_value self.new)
             ((seen.group registry gate configs.items, result) ∷ h) }
     {
-        if let Some(refusal) = self.cause(registry, gate, &configs) {
-            return Answer::Refused(refusal);
+        if !self.has(registry, gate) {
+            return Answer::Refused(absent_cause(least_refusal::<S>(self.alloc, &configs)));
         }
         let at = (registry as usize, gate as usize);
         let registry = &mut self.registries[at.0];
-        if registry.is_full() {
-            return Answer::Refused(Refusal::NumbersExhausted);
-        }
         let Ok(()) = self.groups.reserve(1) else {
-            return Answer::Refused(Refusal::OutOfMemory);
+            return Answer::Refused(starved_cause::<S>(self.alloc, registry, &configs));
+        };
+        let Ok(room) = Vec::with_capacity(self.alloc, configs.len()) else {
+            return Answer::Refused(starved_cause::<S>(self.alloc, registry, &configs));
         };
         let number = self.groups.len() as u64;
-        match Entry::new(self.alloc, at, registry, &self.gates[at.1], configs) {
+        match Entry::new(self.alloc, at, registry, &self.gates[at.1], room, configs) {
             Ok(entry) => {
                 self.groups.push_reserved(entry);
                 Answer::Group(number)
@@ -89,14 +89,30 @@ impl<S: BackendSelection> Tables<S> {
     }
 }
 
-// The cause of the least number: that the registry or the gate isn't there, or that a selector can't be built.
-fn earlier_cause(is_there: bool, cause: Option<Refusal>) -> Option<Refusal>
-    ensures { result ≡ earlier_of (no_such is_there) cause }
+// Why no group is made where the registry or the gate isn't there: that, or the cause of its selectors where its number is less.
+fn absent_cause(cause: Option<Refusal>) -> Refusal
+    ensures { Some result ≡ earlier_of (Some Refusal.NoSuch) cause }
 {
     match cause {
-        Some(refusal) if is_there || refusal.number() < Refusal::NoSuch.number() => Some(refusal),
-        _ if is_there => None,
-        _ => Some(Refusal::NoSuch),
+        Some(refusal) if refusal.number() < Refusal::NoSuch.number() => refusal,
+        _ => Refusal::NoSuch,
+    }
+}
+
+// Why no group is made where memory has no room for it: memory goes after every other cause, for which its selectors are built and
+// dropped.
+fn starved_cause<S: BackendSelection>(
+    alloc: Global,
+    registry: &WorldRegistry,
+    configs: &[S::Config],
+) -> Refusal
+    ensures { (key_of : Member → Member) (events : List Event) → IsRegistryAfter key_gives key_of events registry.now
+        → result ≡ or_memory (making_cause (least (map (S.refusal []) configs.now)) (registered_after events)) }
+{
+    match least_refusal::<S>(alloc, configs) {
+        Some(refusal) => refusal,
+        None if registry.is_full() => Refusal::NumbersExhausted,
+        None => Refusal::OutOfMemory,
     }
 }
 

@@ -4,7 +4,7 @@ use Rattle.lb_world.specs.Answers.{lost_answer}
 use Rattle.lb_world.specs.Calls.{number_of}
 use Rattle.lb_rebuild_slots.specs.SlotsHistory as slots
 use Rattle.lb_rebuild_group.specs.GroupHistory as group
-use Rattle.lb_world.proofs.Words.{◌∙◌, ◌≡◌, Answer, answer_after, ap, at_one, at_slot, Before, Bool, cond, config, configs_of, EntryValue}
+use Rattle.lb_world.proofs.Words.{◌∙◌, ◌≡◌, Answer, right_answer, ap, at_one, at_slot, Before, Bool, cond, config, configs_of, EntryValue}
 use Rattle.lb_world.proofs.Words.{flight_after, GateValue, History, inl, group_events, length, Meaning, nat_lt, None, Option, past, past_of}
 use Rattle.lb_world.proofs.Words.{refl, Refusal, RegistryValue, site, Some, Step, sym, true, unless_refused, WorldRule, ℕ}
 use Rattle.lb_world.proofs.Entries.{next-core, next-refused, reading-told, same-flight, unshared}
@@ -23,7 +23,7 @@ module _ {C : Type 0} {M : Meaning C} {h : History C} {g : ℕ} {e : EntryValue 
   told-lost : (s : ℕ) (f : Option (Option ℕ)) (r : Option Refusal)
       → f ≡ at_slot (site e.core) s (flight_after (past_of s (group.slot_events (group_events g h))))
       → lose_refusal (site e.core) s (group.slot_events (group_events g h)) ≡ r
-      → answer_after M h (Step.lost g s) ≡ unless_refused r (Answer.Lost (number_of f))
+      → right_answer M h (Step.lost g s) ≡ unless_refused r (Answer.Lost (number_of f))
   told-lost s f r to is =
       let x = slots.extra (past_of s (group.slot_events (group_events g h))) in
       ap (λ o. at_one (config g s h) (λ c. lost_answer o)) (same-flight (slots.extra (past g s h)))

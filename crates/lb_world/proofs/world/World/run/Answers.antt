@@ -1,17 +1,8 @@
 -- A loop over the steps, in which the world stands for the history so far; the promises are laws of every run.
-use Rattle.lb_world.proofs.Drawing.{refused-stays}
-use Rattle.lb_world.proofs.Joining.{judged-by, view-follows}
-use Rattle.lb_world.proofs.Living.{lives-exactly}
-use Rattle.lb_world.proofs.Promised.{never-falls}
-use Rattle.lb_world.proofs.Selecting.{first-accepted}
-use Rattle.lb_world.proofs.Steps.{destroys, raises}
-use Rattle.lb_world.specs.Promises.{DestroysExactly, LivesExactly, NeverFalls, Promised, Raises, ViewFollows}
-use Rattle.lb_world.specs.Refused.{RefusedStays}
-use Rattle.lb_world.specs.Selected.{FirstAccepted}
+use Rattle.lb_world.proofs.Kept.{keeps-promises}
 use Rattle.lb_world.specs.Steps.{step_seen}
-use Rattle.lb_world.specs.Ever.{Always, EachStep, JudgedByOwn}
 use Rattle.lb_world.proofs.Words.{◌++◌, ◌∙◌, ◌∷◌, ◌≡◌, [], after, Answer, ap, arith, History, IsRun, length, length-map, length_push, List}
-use Rattle.lb_world.proofs.Words.{map, map-append, map-id, Meaning, meaning_of, promised, refl, Stands, Step, sym, YieldsList-end}
+use Rattle.lb_world.proofs.Words.{map, map-append, map-id, Meaning, meaning_of, refl, Stands, Step, sym, YieldsList-end}
 use Rattle.lb_world.proofs.Words.{YieldsList-from_vec, ℕ}
 use Rattle.lb_world.proofs.Tables.{stands-unrefused}
 use Rattle.lb_world.proofs.world.World.run.Goals as goal
@@ -24,16 +15,6 @@ after-push h [] [] st a e = refl
 after-push h [] (b ∷ bs) st a e = absurd (omega arith)
 after-push h (s ∷ ss) [] st a e = absurd (omega arith)
 after-push h (s ∷ ss) (b ∷ bs) st a e = after-push ((s, b) ∷ h) ss bs st a (omega arith)
-
-module _ {C : Type 0} (M : Meaning C) where
-  each-step : (P : History C → Step C → Answer → Type 0)
-      → ((h : History C) (st : Step C) (a : Answer) → IsRun M ((st, a) ∷ h) → P h st a) → (h : History C) → IsRun M h → EachStep P h
-  each-step P law [] run = tt
-  each-step P law ((st, a) ∷ h) run = (law h st a run, each-step P law h run.0)
-
-  always : (P : History C → Type 0) → ((h : History C) → IsRun M h → P h) → (h : History C) → IsRun M h → Always P h
-  always P law [] run = law [] run
-  always P law ((st, a) ∷ h) run = (law ((st, a) ∷ h) run, always P law h run.0)
 
 pub loop-step-preserved : goal.loop-step-preserved
 loop-step-preserved g c =
@@ -69,16 +50,7 @@ returns g c =
       stands = stood;
       run = λ h stands. (stood h stands).run;
       each = omega (arith, c.loop-step.answers.ok.0, c.args.steps.ok.0, c.loop-step.invariant.answered, ap length taken);
-      promised = λ h stands. always m (Promised m) (promised m) _ (stood h stands).run;
-      view_follows = λ h stands. always m (λ k. (i : ℕ) → ViewFollows i k) (view-follows m) _ (stood h stands).run;
-      lives_exactly = λ h stands. always m LivesExactly (lives-exactly m) _ (stood h stands).run;
-      judged = λ h stands. always m JudgedByOwn (judged-by m) _ (stood h stands).run;
-      never_falls = λ h stands. each-step m NeverFalls (never-falls m) _ (stood h stands).run;
-      first_accepted = λ h stands. each-step m (FirstAccepted m) (first-accepted m) _ (stood h stands).run;
-      raises = λ h stands. each-step m Raises (raises m) _ (stood h stands).run;
-      destroys_exactly = λ h stands. each-step m DestroysExactly (destroys m) _ (stood h stands).run;
-      refused_stays =
-          λ h stands. each-step m (RefusedStays m) (refused-stays m g.met.S.BackendSelection.few_words) _ (stood h stands).run;
+      promises = λ h stands. keeps-promises m g.met.S.BackendSelection.few_words _ (stood h stands).run;
       unrefused = λ h stands. stands-unrefused m c.loop-step.self _ (stood h stands);
       err = tt;
     }
