@@ -100,8 +100,8 @@ fn set<R: Wait + Clock + Copy + Drop>(
     registry.set_health_check(rt, check)
 }
 
-// What a pass came to: what a second check was answered before it, how many checks there were, whether two ran at the same time, how many
-// targets there are, and which cells are healthy.
+// What a pass came to: what a second check was answered before it, how many checks there were, how many of them ran at the same time
+// (one, or two and more), how many targets there are, and which cells are healthy.
 type Told = (Result<(), Refusal>, u64, u64, usize, [bool; 3]);
 
 // A pass with its checks at the same time or not, once a second check was set.
@@ -138,8 +138,8 @@ fn pass<R: Log + Threads + Wait + Clock + Copy + Send + Sync + Drop>(
     passed(rt, alloc, &registry, &seen, parallel)
 }
 
-// With `parallel` two checks meet, within ten thousand turns of a millisecond; without it, no two run at once. Each target is checked once, and
-// each verdict reaches its cell. A second check is refused, and the first stays.
+// With `parallel` two checks meet, within ten thousand turns of a millisecond; without it, no two run at once. Each target is checked
+// once, and each verdict reaches its cell. A second check is refused, and the first stays.
 #[test]
 fn passes_of_checks(rt: HostRuntime) {
     for (parallel, turns, most) in [(true, 10_000, 2), (false, 5, 1)] {

@@ -32,8 +32,8 @@ enum Signal {
     IsGone,
 }
 
-// Whether what happens beside a service came; how many checks there were, of more than three three, whether the service said that it is ready,
-// and whether the one target's cell is.
+// Whether what happens beside a service came; how many checks there were, counted up to three; whether the service said that it is
+// ready; and whether the one target's cell is ready.
 type Told = (bool, u64, bool, bool);
 
 // A case: whether the registry has no target at first, and whether each check waits until services are to end; the service's frequency, and
