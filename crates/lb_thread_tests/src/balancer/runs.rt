@@ -24,7 +24,7 @@ enum Case {
     Ended,
     // The discovery has a fault, and the run is done.
     Refused,
-    // The discovery has a fault until it was asked twice, and services are to end once something is served.
+    // The discovery has a fault until it is asked for the third time, and services are to end once something is served.
     Mended,
     // The discovery waits; then the run is done.
     Waits,
@@ -90,7 +90,8 @@ fn tells<R: Wait + Clock + Copy + Drop>(
 ) -> Told {
     let (line, wanted) = match case {
         Case::Ended | Case::Refused => return (true, 0, false),
-        Case::Mended => (&*bench.line, 2),
+        // Once it is asked for the third time, two were refused.
+        Case::Mended => (&*bench.line, 3),
         Case::Waits | Case::EndedInUpdate => (&*bench.line, 1),
         Case::EndedInCheck => (&*bench.checks, 1),
     };
