@@ -1,6 +1,5 @@
 -- What is accepted is what is ready.
 use Rattle.std.proofs.Common.{◌≡◌}
-use Rattle.lb_select_base.specs.Backends.{same_member}
 use Rattle.lb_balancer.specs.Shown.{is_up}
 use Rattle.lb_balancer.proofs.Judged.{of-told}
 use Rattle.lb_balancer.proofs.Memberships.{on-ok-more}
