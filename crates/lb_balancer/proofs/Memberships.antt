@@ -20,6 +20,11 @@ pub if-answered : {T E : Type 0} (r : Result T E) (P : Type 0) → P → OnOk r 
 if-answered (Ok t) P p = p
 if-answered (Err e) P p = tt
 
+-- what follows from an answer follows of it
+pub on-ok-more : {T E : Type 0} (r : Result T E) (P Q : Type 0) → OnOk r P → (P → Q) → OnOk r Q
+on-ok-more (Ok t) P Q p more = more p
+on-ok-more (Err e) P Q p more = tt
+
 by-setting : (b : Bool) (m : Member) (on : Bool) (views : List ViewEvent)
     → membership_after (if b then Set m on ∷ views else views) ≡ membership_after views
 by-setting true m on views = refl

@@ -1,8 +1,8 @@
 //! A balancer that threads share: an update discovers and builds under a lock of its own, and then what is served is exchanged.
 //! Locks are taken in the order update, served, registry, shown; the last is held for a copy of a pointer. That of the loads is held
-//! for one load, beside no other.
+//! for one load, beside no other. A selection takes the first four only where its lane doesn't have what is served (`kept`).
 ghost use Rattle.std.specs.Prelude.{◌≡◌, ◌⊎◌, ◌∷◌, [], ℕ, List, IfOk, IfErr, OnOk, OnErr, Ok, Err};
-ghost use Rattle.std.specs.Prelude.{Some, None, unwrap_or, false, IfSome, MatchOption};
+ghost use Rattle.std.specs.Prelude.{All, Some, None, unwrap_or, false, IfSome, MatchOption};
 ghost use Rattle.std.specs.Arc.{arc_value};
 ghost use Rattle.lb_select_base.specs.Backends.{Member, same_member};
 ghost use Rattle.lb_select_base.specs.Refusals.{Refuses, memory_apart};
@@ -15,6 +15,7 @@ ghost use Rattle.lb_balancer.specs.Shown.{SelectsOf, ShownValue, is_up};
 ghost use Rattle.lb_balancer.specs.SharedUpdates.{IsBuildRefusal, IsSharedRefusal, ReadsUpdate};
 
 use crate::backends::Backends;
+use crate::kept::KeptShown;
 use crate::serving::{BuiltSelector, Serving, built_of};
 use crate::shown::{Shown, Version};
 use lb_balancer_core::timings::UpdateTimings;
@@ -23,6 +24,7 @@ use lb_health_registry::keys::KeyRule;
 use lb_health_registry::registry::Registry;
 use lb_health_view::discovery::{DiscoverySource, ServiceDiscovery};
 use lb_health_view::view::{Settings, ViewCore};
+use lb_lanes::lanes::Lanes;
 use lb_select_base::backend::Backend;
 use lb_select_base::loads::Loads;
 use lb_select_base::moments::MomentSource;
@@ -74,17 +76,29 @@ type ShownLock<S> = KeyedLock<
     OfShown,
 >;
 
+// As many lanes as threads that select at once may want, a power of two.
+const LANES: usize = 64;
+
+// What a balancer has for its threads: the locks of what is served and of what is shown of it, the lanes, and the loads.
+struct Places<S: BackendSelection> {
+    serving: ServingLock<S>,
+    shown: ShownLock<S>,
+    lanes: Lanes<KeptShown<S>>,
+    loads: Arc<Mutex<Loads>>,
+}
+
 /// A balancer with one selector. Contracts see its discovery, and what its selectors are built with; what it serves changes under
 /// the hands of other threads. Its drop takes no lock: the next call of the registry removes its view.
 #[derive(Drop)]
 pub struct Balancing<S: BackendSelection, D, R: KeyRule + Drop, C> {
     discovery: DiscoverySource<D>,
-    config: Option<S::Config>,
+    pub(crate) config: Option<S::Config>,
     registry: Arc<HealthRegistry<R, C>>,
     view: ViewOwner,
     updates: Mutex<()>,
     serving: ServingLock<S>,
     shown: ShownLock<S>,
+    pub(crate) lanes: Lanes<KeptShown<S>>,
     timing: Mutex<Option<UpdateTimings>>,
     loads: Arc<Mutex<Loads>>,
     // Counts what may have changed what is ready, but for the registry's own changes.
@@ -93,14 +107,15 @@ pub struct Balancing<S: BackendSelection, D, R: KeyRule + Drop, C> {
 }
 
 impl<S: BackendSelection, D, R: KeyRule + Drop, C> Model for Balancing<S, D, R, C> {
-    ghost use Rattle.std.specs.Prelude.{◌≡◌, unwrap_or};
+    ghost use Rattle.std.specs.Prelude.{◌≡◌, All, unwrap_or};
     ghost use Rattle.lb_balancer.specs.SharedUpdates.{BalancerValue};
 
     ghost Value = { BalancerValue D S.Config };
 
     ghost view = { λ b. record { discovery = b.discovery; config = unwrap_or b.config S.default_config } };
 
-    ghost invariant = { λ b. (b.serving.table.shared.key.value ≡ b.config) × (b.shown.table.shared.key.value ≡ b.config) };
+    ghost invariant = { λ b. (b.serving.table.shared.key.value ≡ b.config) × (b.shown.table.shared.key.value ≡ b.config)
+        × All (λ lane. lane.slot ≡ b.config) b.lanes.lanes.items };
 }
 
 impl<
@@ -134,8 +149,8 @@ impl<
         let built = first_built(rt, alloc, shared, &config)?;
         let view = register(rt, alloc, shared)?;
         let owner = owned(rt, alloc, shared, view.id())?;
-        let locks = locks_over(rt, alloc, shared, Serving::new(view, built), &config)?;
-        Ok(Balancing::behind(discovery, config, registry, owner, locks, None))
+        let places = places_over(rt, alloc, shared, Serving::new(view, built), &config)?;
+        Ok(Balancing::behind(discovery, config, registry, owner, places, None))
     }
 
     // A balancer that serves this at first, over this registry, whose selectors are built with the default configuration.
@@ -154,23 +169,29 @@ impl<
         let shared = Arc::new(alloc, HealthRegistry::over(alloc, registry)?)?;
         let owner = owned(rt, alloc, &*shared, serving.view_id())?;
         owner.keep(serving.generation());
-        let locks = locks_over(rt, alloc, &*shared, serving, &None)?;
-        Ok(Balancing::behind(discovery, None, shared, owner, locks, Some(timing)))
+        let places = places_over(rt, alloc, &*shared, serving, &None)?;
+        Ok(Balancing::behind(discovery, None, shared, owner, places, Some(timing)))
     }
 
-    // The balancer behind these locks.
+    // The balancer over these places.
     fn behind(
         discovery: DiscoverySource<D>,
         config: Option<S::Config>,
         registry: Arc<HealthRegistry<R, C>>,
         view: ViewOwner,
-        locks: (ServingLock<S>, ShownLock<S>, Arc<Mutex<Loads>>),
+        places: Places<S>,
         timing: Option<UpdateTimings>,
     ) -> Balancing<S, D, R, C>
-        requires { (locks.0.table.shared.key.value ≡ config) × (locks.1.table.shared.key.value ≡ config) }
+        requires { (places.serving.table.shared.key.value ≡ config) × (places.shown.table.shared.key.value ≡ config)
+            × All (λ lane. lane.slot ≡ config) places.lanes.lanes.items }
         ensures { (result.discovery ≡ discovery) × (result.config ≡ unwrap_or config S.default_config) }
     {
-        let (serving, shown, loads) = locks;
+        let Places {
+            serving,
+            shown,
+            lanes,
+            loads,
+        } = places;
         Balancing {
             discovery,
             config,
@@ -179,6 +200,7 @@ impl<
             updates: Mutex::new(()),
             serving,
             shown,
+            lanes,
             timing: Mutex::new(timing),
             loads,
             changes: AtomicU64::new(0),
@@ -214,6 +236,7 @@ impl<
             build_duration,
         };
         *self.timing.lock(rt) = Some(timing);
+        self.spread(rt);
         Ok(())
     }
 
@@ -435,6 +458,7 @@ impl<
         registries.put(cells);
         self.serving.put(held);
         drop(gone);
+        self.spread(rt);
     }
 
     /// Sets the load of a backend's identity, which outlives each update. Refused `OutOfMemory` where memory is refused; nothing is set
@@ -478,7 +502,7 @@ impl<
     }
 
     // What was shown last.
-    fn latest<W: Wait>(&self, rt: &W) -> Result<Arc<Shown<S>>, Refusal>
+    pub(crate) fn latest<W: Wait>(&self, rt: &W) -> Result<Arc<Shown<S>>, Refusal>
         ensures config { IfOk result (λ s. (arc_value s).config ≡ self.now.config) }
         ensures refused { IfErr result (λ e. e ≡ Refusal.OutOfMemory) }
     {
@@ -601,16 +625,17 @@ fn owned<R: KeyRule + Drop, C: HealthCheck + Drop, W: Wait>(
     told
 }
 
-// The locks of what is served first, and of what is shown of it, and the loads, which are all 0.
-fn locks_over<S: BackendSelection, R: KeyRule + Drop, C: HealthCheck + Drop, W: Wait>(
+// The locks of what is served first, and of what is shown of it, empty lanes, and the loads, which are all 0.
+fn places_over<S: BackendSelection, R: KeyRule + Drop, C: HealthCheck + Drop, W: Wait>(
     rt: &W,
     alloc: Global,
     registry: &HealthRegistry<R, C>,
     serving: Serving<S>,
     config: &Option<S::Config>,
-) -> Result<(ServingLock<S>, ShownLock<S>, Arc<Mutex<Loads>>), Refusal>
+) -> Result<Places<S>, Refusal>
     requires { serving.config ≡ unwrap_or config.now S.default_config }
-    ensures made { IfOk result (λ l. (l.0.table.shared.key.value ≡ config.now) × (l.1.table.shared.key.value ≡ config.now)) }
+    ensures made { IfOk result (λ p. (p.serving.table.shared.key.value ≡ config.now) × (p.shown.table.shared.key.value ≡ config.now)
+        × All (λ lane. lane.slot ≡ config.now) p.lanes.lanes.items) }
     ensures refused { IfErr result (λ e. e ≡ Refusal.OutOfMemory) }
 {
     let version = Version {
@@ -618,14 +643,16 @@ fn locks_over<S: BackendSelection, R: KeyRule + Drop, C: HealthCheck + Drop, W: 
         registry: registry.changes(),
     };
     let loads = Arc::new(alloc, Mutex::new(Loads::new()))?;
+    let lanes = Lanes::new(alloc, LANES, config)?;
     let cells = registry.take(rt);
     let told = serving.show(alloc, &cells.value, &loads, version);
     registry.put(cells);
     let shown = Arc::new(alloc, told?)?;
     let key = Snapshot::of(config);
-    Ok((
-        KeyedLock::new(alloc, serving, &key)?,
-        KeyedLock::new(alloc, shown, &key)?,
+    Ok(Places {
+        serving: KeyedLock::new(alloc, serving, &key)?,
+        shown: KeyedLock::new(alloc, shown, &key)?,
+        lanes,
         loads,
-    ))
+    })
 }

@@ -5,6 +5,7 @@
 pub mod backends;
 pub mod balancing;
 pub mod drive;
+pub mod kept;
 pub mod load_balancer;
 pub mod making;
 pub mod port;

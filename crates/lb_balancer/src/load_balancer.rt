@@ -10,7 +10,8 @@ ghost use Rattle.lb_balancer.specs.SharedUpdates.{IsSharedRefusal, ReadsUpdate};
 
 use crate::backends::Backends;
 use crate::balancing::Balancing;
-use crate::shown::Shown;
+use crate::kept::hint_of;
+use crate::shown::{Shown, ready_ones};
 use lb_balancer_core::timings::UpdateTimings;
 use lb_health_check::health_check::{BoxedCheck, HealthCheck};
 use lb_health_registry::keys::{KeyRule, Rule};
@@ -143,9 +144,7 @@ impl<
             × SelectsOf same_member (λ b ready. ready ≡ is_up s.unready b) max_iterations (S.walks s.members s.config key.now) result) }
         ensures refused { IfErr result (λ e. e ≡ Refusal.OutOfMemory) }
     {
-        let shown = self.shared.shown(rt, alloc)?;
-        let shown: &Shown<S> = &*shown;
-        shown.select(rt, alloc, key, max_iterations)
+        self.select_with(rt, alloc, key, max_iterations, &ready_ones)
     }
 
     /// Selects as `select`, but the first for which `accept` answers true, when it is asked with a backend and whether it is ready. No
@@ -164,9 +163,18 @@ impl<
             (S.walks s.members s.config key.now) result) }
         ensures refused { IfErr result (λ e. e ≡ Refusal.OutOfMemory) }
     {
-        let shown = self.shared.shown(rt, alloc)?;
-        let shown: &Shown<S> = &*shown;
-        shown.select_with(rt, alloc, key, max_iterations, accept)
+        let hint = hint_of(key);
+        let found = self
+            .shared
+            .select_in_lane(rt, alloc, hint, key, max_iterations, accept);
+        if let Some(answer) = found {
+            return answer;
+        }
+        let served = self.shared.shown(rt, alloc)?;
+        let shown: &Shown<S> = &*served;
+        let answer = shown.select_with(rt, alloc, key, max_iterations, accept);
+        self.shared.refill(hint, served);
+        answer
     }
 
     /// Sets the load of a backend's identity, which outlives each update; a selector that goes by loads reads it from then on. Refused

@@ -137,7 +137,7 @@ impl<S: BackendSelection> Shown<S> {
 }
 
 // Accepts what is ready.
-fn ready_ones(_backend: &Backend, ready: bool) -> bool
+pub(crate) fn ready_ones(_backend: &Backend, ready: bool) -> bool
     ensures { result ≡ ready }
 {
     ready

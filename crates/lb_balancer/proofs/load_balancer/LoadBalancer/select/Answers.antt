@@ -1,15 +1,17 @@
--- The selection is one in what was shown.
-use Rattle.std.proofs.Common.{◌≡◌, ◌∙◌, ap}
-use Rattle.lb_select_base.specs.Backends.{same_member}
-use Rattle.lb_balancer.specs.Shown.{SelectsOf, ShownValue, is_up}
-use Rattle.lb_balancer.proofs.Memberships.{if-answered}
+-- What is accepted is what is ready.
+use Rattle.std.proofs.Common.{◌≡◌}
+use Rattle.lb_balancer.specs.Shown.{is_up}
+use Rattle.lb_balancer.proofs.Judged.{of-told}
+use Rattle.lb_balancer.proofs.Memberships.{on-ok-more}
 use Rattle.lb_balancer.proofs.load_balancer.LoadBalancer.select.Goals as goal
 
 pub returns-clause-answers : goal.returns-clause-answers
 returns-clause-answers g c =
-    let Found : Type 0 = (x : ShownValue g.row.S-Config.Denot) × (x.config ≡ c.args.self.now.shared.config)
-    × SelectsOf same_member (λ b ready. ready ≡ is_up x.unready b) c.args.max_iterations
-    (g.S.BackendSelection.walks x.members x.config c.args.key.now) c.select.result in
-    let config : c.deref-shown.result.now.config ≡ c.args.self.now.shared.config =
-    ap (λ (v : ShownValue g.row.S-Config.Denot). v.config) c.deref-shown.ensures ∙ c.in_ok-shown.ensures.config in
-    if-answered c.select.result Found (c.deref-shown.result.now, config, c.select.ensures.answers)
+    let r = c.select_with.result in
+    let walks = g.S.BackendSelection.walks in
+    on-ok-more r _ _ c.select_with.ensures.answers (λ found. (
+      found.0,
+      found.1,
+      of-told (λ b ready. ready ≡ is_up found.0.unready b) c.args.max_iterations (walks found.0.members found.0.config c.args.key.now) r
+          found.2 (λ p told a is. is.met),
+    ))

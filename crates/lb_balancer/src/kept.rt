@@ -1,0 +1,104 @@
+//! What a balancer's lanes have, and selections in it without a lock.
+//! A selection looks whether its lane has what is served now, by one load of the balancer's changes and one of the registry's.
+ghost use Rattle.std.specs.Prelude.{◌≡◌, IfErr, IfSome, OnOk};
+ghost use Rattle.std.specs.Arc.{arc_value};
+ghost use Rattle.lb_select_base.specs.Backends.{same_member};
+ghost use Rattle.lb_rebuild_group.specs.GroupCalls.{AcceptsBy};
+ghost use Rattle.lb_balancer.specs.Shown.{SelectsOf, ShownValue, is_up};
+
+use crate::balancing::Balancing;
+use crate::shown::Shown;
+use counted_slot::Fits;
+use lb_health_check::health_check::HealthCheck;
+use lb_health_registry::keys::KeyRule;
+use lb_health_view::discovery::ServiceDiscovery;
+use lb_select_base::backend::Backend;
+use lb_select_base::refusal::Refusal;
+use lb_select_base::walk::BackendSelection;
+use std::alloc::Global;
+use std::sync::{Arc, Wait};
+
+// The numbers of FNV-1a of 64 bits.
+const BASIS: u64 = 0xcbf2_9ce4_8422_2325;
+
+const PRIME: u64 = 0x100_0000_01b3;
+
+/// What is shown, in a lane. It is built with the balancer's configuration.
+#[derive(Drop)]
+pub struct KeptShown<S: BackendSelection> {
+    shown: Arc<Shown<S>>,
+}
+
+impl<S: BackendSelection> Fits for KeptShown<S> {
+    ghost use Rattle.std.specs.Prelude.{◌≡◌, unwrap_or};
+    ghost use Rattle.std.specs.Arc.{arc_value};
+
+    type Tag = Option<S::Config>;
+
+    ghost fits = { λ config kept. (arc_value kept.shown).config ≡ unwrap_or config S.default_config };
+}
+
+// The lane that a key's selections go to: keys spread over the lanes, so that threads seldom meet in one.
+pub(crate) fn hint_of(key: &[u8]) -> u64 {
+    let mut hash = BASIS;
+    for byte in key {
+        hash = (hash ^ u64::from(*byte)).wrapping_mul(PRIME);
+    }
+    hash ^ (hash >> 32)
+}
+
+impl<
+    S: BackendSelection,
+    D: ServiceDiscovery + Drop,
+    R: KeyRule + Drop,
+    C: HealthCheck + Drop,
+> Balancing<S, D, R, C> {
+    // Selects in what the hint's lane has, where that is what is served now. It takes no lock but those of random words and of loads.
+    pub(crate) fn select_in_lane<W: Wait, F: Fn(&Backend, bool) -> bool>(
+        &self,
+        rt: &W,
+        alloc: Global,
+        hint: u64,
+        key: &[u8],
+        max_iterations: usize,
+        accept: &F,
+    ) -> Option<Result<Option<Backend>, Refusal>>
+        requires { F.IsAlwaysCallable accept.now }
+        ensures answers { IfSome result (λ r. OnOk r ((s : ShownValue S.Config) × (s.config ≡ self.now.config)
+            × SelectsOf same_member (AcceptsBy F.Fn accept.now (λ b ready. ready ≡ is_up s.unready b)) max_iterations
+            (S.walks s.members s.config key.now) r)) }
+        ensures refused { IfSome result (λ r. IfErr r (λ e. e ≡ Refusal.OutOfMemory)) }
+    {
+        let seen = self.lanes.read(hint, &self.config)?;
+        let kept = seen.value()?;
+        let shown: &Shown<S> = &*kept.shown;
+        if shown.version() != self.version() {
+            return None;
+        }
+        Some(shown.select_with(rt, alloc, key, max_iterations, accept))
+    }
+
+    // Gives the hint's lane what is shown. Where something changed meanwhile, the lane is emptied, so that none has for long what isn't
+    // served.
+    pub(crate) fn refill(&self, hint: u64, shown: Arc<Shown<S>>)
+        requires { (arc_value shown).config ≡ self.now.config }
+    {
+        let version = shown.version();
+        let unneeded = self.lanes.renew(hint, KeptShown { shown }, &self.config);
+        drop(unneeded);
+        if version != self.version() {
+            drop(self.lanes.clear(hint));
+        }
+    }
+
+    // Gives each lane what was shown last. A lane that is read is emptied by its last reader.
+    pub(crate) fn spread<W: Wait>(&self, rt: &W) {
+        for lane in 0..self.lanes.count() {
+            let hint = lane as u64;
+            match self.latest(rt) {
+                Ok(shown) => self.refill(hint, shown),
+                Err(_) => drop(self.lanes.clear(hint)),
+            }
+        }
+    }
+}

@@ -1,0 +1,135 @@
+//! One lane: a value that threads read in place, with a word that counts them.
+//! Whoever renews a lane that is read marks it: no new reader comes then, and the last one empties it.
+ghost use Rattle.std.specs.Prelude.{◌≡◌, ◌%◌, ◌<◌, IfSome};
+ghost use Rattle.counted_slot.specs.Counting.{readers};
+
+use counted_slot::{Claim, Counted, FREE, Fits, MARKED, MOST_READERS, ONE_READER, PRESENT, TAKEN};
+
+// How often a reader tries one lane, since another reader may change its word between the look and the exchange.
+const READS: u32 = 2;
+
+/// A value that may be there, as large as two lines of memory, so that two lanes share none. Contracts see the key that each value of it
+/// fits, as `slot`.
+#[derive(Drop)]
+pub struct Lane<X: Fits + Drop> {
+    pub slot: Counted<Option<X>>,
+    padding: [u64; 14],
+}
+
+/// A value that is read in its lane. It is neither dropped nor exchanged while this lives.
+pub struct Seen<'a, X: Fits + Drop> {
+    pub(crate) slot: &'a Counted<Option<X>>,
+    pub hand: Claim<'a, Option<X>>,
+    ghost reads: { hand.right ≡ 1 },
+}
+
+fn state_of(word: u64) -> u64
+    ensures { result ≡ word % 4 }
+{
+    word % 4
+}
+
+fn reader_count(word: u64) -> u64
+    ensures { result ≡ readers word }
+{
+    word % 0x1_0000_0000 / 4
+}
+
+impl<X: Fits + Drop> Lane<X> {
+    // An empty lane for values that fit this key.
+    pub(crate) fn new(key: &X::Tag) -> Lane<X>
+        ensures { result.slot ≡ key.now }
+    {
+        Lane {
+            slot: Counted::new(None, key),
+            padding: [0; 14],
+        }
+    }
+
+    // Reads the value, where one is there and the lane isn't marked.
+    pub(crate) fn read(&self) -> Option<Seen<'_, X>>
+        ensures { IfSome result (λ s. s.hand.tag ≡ self.now.slot) }
+    {
+        for _ in 0..READS {
+            let word = self.slot.load();
+            if state_of(word) != PRESENT || reader_count(word) == MOST_READERS {
+                return None;
+            }
+            let (found, hand) = self.slot.turn(word, word + ONE_READER);
+            if found == word {
+                let slot = &self.slot;
+                return Some(Seen { slot, hand });
+            }
+            hand.done();
+        }
+        None
+    }
+
+    // Exchanges what is there for this, under the state `next`, where nobody reads it, and returns what was there. A lane that is read
+    // is marked, and one that another thread has taken is left to it: then this value is returned.
+    pub(crate) fn exchange(&self, value: Option<X>, next: u64) -> Option<X>
+        requires fits { IfSome value (λ x. X.fits self.now.slot x) }
+        requires state { next < 3 }
+    {
+        for _ in 0..u64::MAX {
+            let word = self.slot.load();
+            if state_of(word) == TAKEN {
+                return value;
+            }
+            if reader_count(word) == 0 {
+                let (found, hand) = self.slot.turn(word, word - state_of(word) + TAKEN);
+                if found == word {
+                    return hand.put(value, next);
+                }
+                hand.done();
+            } else if mark(&self.slot, word) {
+                return value;
+            }
+        }
+        value
+    }
+}
+
+// Marks what is read; whether it is marked, or was free all the same.
+fn mark<X: Fits + Drop>(slot: &Counted<Option<X>>, word: u64) -> bool {
+    if state_of(word) != PRESENT {
+        return true;
+    }
+    let (found, hand) = slot.turn(word, word - PRESENT + MARKED);
+    hand.done();
+    found == word
+}
+
+// Empties what nobody reads, if its word is still this one.
+fn empty<X: Fits + Drop>(slot: &Counted<Option<X>>, word: u64)
+    requires { (word % 4 < 3) × (readers word ≡ 0) }
+{
+    let (found, hand) = slot.turn(word, word - state_of(word) + TAKEN);
+    if found == word {
+        drop(hand.put(None, FREE));
+    } else {
+        hand.done();
+    }
+}
+
+impl<'a, X: Fits + Drop> Seen<'a, X> {
+    /// Returns the value, which fits the lane's key.
+    pub fn value(&self) -> Option<&X>
+        ensures { IfSome result (λ x. X.fits self.now.hand.tag x.now) }
+    {
+        match self.hand.get() {
+            Some(value) => Some(value),
+            None => None,
+        }
+    }
+}
+
+impl<'a, X: Fits + Drop> Drop for Seen<'a, X> {
+    fn drop(self) {
+        let Self { slot, hand } = self;
+        let word = hand.leave();
+        if state_of(word) == MARKED && reader_count(word) == 1 {
+            empty(slot, word - ONE_READER);
+        }
+    }
+}

@@ -1,0 +1,85 @@
+//! Lanes of one owner, which it fills with what it serves. All have the owner's key, which each value fits.
+ghost use Rattle.std.specs.Prelude.{◌≡◌, All, IfOk, IfSome, vec_len};
+
+use crate::lane::{Lane, Seen};
+use counted_slot::{FREE, Fits, PRESENT};
+use std::alloc::{AllocError, Global};
+
+// How many lanes a reader tries.
+const TRIES: u64 = 4;
+
+/// Lanes that threads share. Contracts see the key of each as its `slot`.
+#[derive(Drop)]
+pub struct Lanes<X: Fits + Drop> {
+    pub(crate) lanes: Vec<Lane<X>>,
+}
+
+impl<X: Fits + Drop> Lanes<X> {
+    /// Returns so many empty lanes, best a power of two: of another number some serve no hint. Refused where memory is.
+    pub fn new(alloc: Global, count: usize, key: &X::Tag) -> Result<Lanes<X>, AllocError>
+        ensures keyed { IfOk result (λ l. All (λ lane. lane.slot ≡ key.now) l.lanes.items) }
+        ensures count { IfOk result (λ l. vec_len l.lanes ≡ count) }
+    {
+        let mut lanes = Vec::with_capacity(alloc, count)?;
+        for _ in 0..count {
+            lanes.push(Lane::new(key))?;
+        }
+        Ok(Lanes { lanes })
+    }
+
+    // Where the lane of a hint is.
+    fn place(&self, hint: u64) -> usize {
+        hint as usize & self.lanes.len().wrapping_sub(1)
+    }
+
+    // The lane of a hint, which has the key of all.
+    fn lane<'a>(&'a self, hint: u64, key: &X::Tag) -> Option<&'a Lane<X>>
+        requires { All (λ lane. lane.slot ≡ key.now) self.now.lanes.items }
+        ensures { IfSome result (λ l. l.now.slot ≡ key.now) }
+    {
+        let _ = key;
+        self.lanes.get(self.place(hint))
+    }
+
+    /// Reads what the hint's lane has, or one of the next three. `None` where they are free, marked, or just taken.
+    pub fn read<'a>(&'a self, hint: u64, key: &X::Tag) -> Option<Seen<'a, X>>
+        requires { All (λ lane. lane.slot ≡ key.now) self.now.lanes.items }
+        ensures { IfSome result (λ s. s.hand.tag ≡ key.now) }
+    {
+        for step in 0..TRIES {
+            let lane = self.lane(hint.wrapping_add(step), key)?;
+            let seen = lane.read();
+            if seen.is_some() {
+                return seen;
+            }
+        }
+        None
+    }
+
+    /// Gives the hint's lane this value, and returns what isn't needed: the value that was there, or this one where the lane is read or
+    /// taken. A lane that is read is marked, so that its last reader empties it.
+    pub fn renew(&self, hint: u64, value: X, key: &X::Tag) -> Option<X>
+        requires keyed { All (λ lane. lane.slot ≡ key.now) self.now.lanes.items }
+        requires fits { X.fits key.now value }
+    {
+        match self.lane(hint, key) {
+            Some(lane) => lane.exchange(Some(value), PRESENT),
+            None => Some(value),
+        }
+    }
+
+    /// Empties the hint's lane, and returns what was there. Where the lane is read, its last reader empties it.
+    pub fn clear(&self, hint: u64) -> Option<X> {
+        match self.lanes.get(self.place(hint)) {
+            Some(lane) => lane.exchange(None, FREE),
+            None => None,
+        }
+    }
+
+    /// Returns how many lanes there are.
+    pub fn count(&self) -> usize
+        ensures { result ≡ vec_len self.now.lanes }
+    {
+        self.lanes.len()
+    }
+}
