@@ -15,6 +15,8 @@ mod ends;
 #[cfg(test)]
 mod groups;
 #[cfg(test)]
+mod lanes;
+#[cfg(test)]
 mod locks;
 #[cfg(test)]
 mod registries;
