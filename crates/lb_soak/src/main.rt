@@ -45,13 +45,12 @@ fn used<W: Log + Threads + Wait + Clock + Copy + Send + Sync + Drop + 'static>(
     crowd: &Crowd<W>,
     is_cancelled: bool,
 ) -> Ending {
-    let mut clock = RuntimeClock::new(*rt);
+    let clock = RuntimeClock::new(*rt);
     let missing = crowd.first.start_workers(alloc, clock);
     if missing != 0 || crowd.second.start_workers(alloc, clock) != 0 {
         return Ending::Unstarted;
     }
-    let (first, second) = (crowd.first.shared(), crowd.second.shared());
-    if !crowd_in(rt, alloc, first, second, 500, 20, &mut clock) {
+    if !crowd_in(rt, alloc, crowd.groups(), 500, 20) {
         return Ending::Refused;
     }
     if is_cancelled {

@@ -14,6 +14,7 @@ use lb_select_base::moments::MomentSource;
 use lb_select_base::refusal::Refusal;
 use lb_select_base::walk::BackendSelection;
 use lb_threads_group::group::SharedGroup;
+use lb_threads_registry::clock::RuntimeClock;
 use lb_threads_registry::gate::SelectorRebuildGate;
 use lb_threads_registry::keyed::NoRule;
 use lb_threads_registry::registry::HealthRegistry;
@@ -21,7 +22,7 @@ use std::alloc::Global;
 use std::collections::BTreeSet;
 use std::sync::{Arc, Wait};
 use std::thread;
-use std::thread::{JoinHandle, Threads};
+use std::thread::{Threads, join};
 use std::time::{Clock, Duration};
 
 /// A check that is never run.
@@ -264,76 +265,53 @@ pub fn serves<S: BackendSelection, R: KeyRule + Drop, C: HealthCheck + Drop, W: 
     false
 }
 
-// Starts a thread that selects so many times, and reads until slot 0 serves that generation; it answers as `selects_and_reads`. None where
-// it can't be started.
-fn starts_reader<
-    S: BackendSelection + Send + Sync + 'static,
-    R: KeyRule + Drop + Send + Sync + 'static,
-    C: HealthCheck + Drop + Send + Sync + 'static,
-    W: Threads + Wait + Copy + Send + 'static,
->(
+// Updates both groups so many times, one after the other; whether each update was the next generation.
+fn update_both<W: Wait + Clock + Copy + Drop>(
     rt: &W,
     alloc: Global,
-    group: &Arc<SharedGroup<S, R, C>>,
-    selections: u64,
-    last: u64,
-) -> Option<JoinHandle<bool>>
-where
-    S::Iter: Send + Sync + 'static,
-    S::Config: Send + Sync + 'static,
-    S::Walk: Send + Sync + 'static,
-{
-    let shared = Arc::try_clone(group).ok()?;
-    let own = *rt;
-    let started = thread::spawn(rt, move || {
-        let group: &SharedGroup<S, R, C> = &*shared;
-        selects_and_reads(&own, alloc, group, selections, last)
-    });
-    started.ok()
+    groups: [&Group<W>; 2],
+    updates: u64,
+) -> bool {
+    let [first, second] = groups;
+    let mut clock = RuntimeClock::new(*rt);
+    let told = update_often(rt, alloc, first, updates, &mut clock);
+    let other = update_often(rt, alloc, second, updates, &mut clock);
+    told == Ok(true) && other == Ok(true)
 }
 
-// What a thread answered; `false` where none was started.
-fn joined<W: Threads>(rt: &W, reader: Option<JoinHandle<bool>>) -> bool {
-    match reader {
-        Some(reader) => reader.join(rt),
-        None => false,
+// Four threads that select and read, two in each group; whether none was refused, and no reading fell.
+fn four_read<W: Threads + Wait + Clock + Copy + Send + Sync + Drop>(
+    rt: &W,
+    alloc: Global,
+    groups: [&Group<W>; 2],
+    selections: u64,
+    last: u64,
+) -> bool {
+    let [first, second] = groups;
+    let reads = |reader: usize| {
+        let group = if reader % 2 == 0 { first } else { second };
+        selects_and_reads(rt, alloc, group, selections, last)
+    };
+    match thread::map_indices(rt, alloc, 4, &reads) {
+        Ok(told) => told.as_slice() == [true; 4].as_slice(),
+        Err(_) => false,
     }
 }
 
-/// Four threads that select from two new groups so many times each, and read them by passes until the last update is served, while the
-/// caller's updates both so many times and their workers build; whether nothing was refused, each update was the next generation, and no
+/// Four threads that select from two new groups so many times each, and read them by passes until the last update is served, while another
+/// one updates both so many times and their workers build; whether nothing was refused, each update was the next generation, and no
 /// reading fell.
-pub fn crowd_in<
-    S: BackendSelection + Send + Sync + 'static,
-    R: KeyRule + Drop + Send + Sync + 'static,
-    C: HealthCheck + Drop + Send + Sync + 'static,
-    W: Threads + Wait + Clock + Copy + Send + 'static,
-    K: MomentSource,
->(
+pub fn crowd_in<W: Threads + Wait + Clock + Copy + Send + Sync + Drop>(
     rt: &W,
     alloc: Global,
-    first: &Arc<SharedGroup<S, R, C>>,
-    second: &Arc<SharedGroup<S, R, C>>,
+    groups: [&Group<W>; 2],
     selections: u64,
     updates: u64,
-    clock: &mut K,
-) -> bool
-where
-    S::Iter: Send + Sync + 'static,
-    S::Config: Send + Sync + 'static,
-    S::Walk: Send + Sync + 'static,
-{
-    let one = starts_reader(rt, alloc, first, selections, updates);
-    let two = starts_reader(rt, alloc, second, selections, updates);
-    let three = starts_reader(rt, alloc, first, selections, updates);
-    let four = starts_reader(rt, alloc, second, selections, updates);
-    let told = update_often(rt, alloc, &**first, updates, clock);
-    let other = update_often(rt, alloc, &**second, updates, clock);
-    let has_read = [
-        joined(rt, one),
-        joined(rt, two),
-        joined(rt, three),
-        joined(rt, four),
-    ];
-    told == Ok(true) && other == Ok(true) && has_read == [true; 4]
+) -> bool {
+    let (have_read, are_updated) = join(
+        rt,
+        || four_read(rt, alloc, groups, selections, updates),
+        || update_both(rt, alloc, groups, updates),
+    );
+    have_read && are_updated
 }

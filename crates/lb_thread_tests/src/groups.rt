@@ -8,7 +8,7 @@ mod turns;
 mod waking;
 
 use crate::counted::Counts;
-use crate::crowd::{Crowd, Group, Registry, Site, ends, is_free};
+use crate::crowd::{Crowd, Group, Handle, Registry, Site, ends, is_free};
 use lb_select_base::refusal::Refusal;
 use lb_threads_registry::registry::HealthRegistry;
 use log::Log;
@@ -74,18 +74,24 @@ fn played<W: Abort + Log + Threads + Wait + Clock + Copy + Send + Sync + Drop + 
     row: Row,
 ) -> Result<(), Refusal> {
     let crowd = Crowd::new(*rt, alloc, registry, false)?;
-    let one = Arc::try_clone(crowd.first.shared())?;
-    let other = Arc::try_clone(crowd.second.shared())?;
-    play(rt, alloc, &crowd, row)?;
+    let told = play(rt, alloc, &crowd, row);
     let Crowd {
         site,
         first,
         second,
     } = crowd;
-    drop(first);
-    drop(second);
-    assert_eq!(rt; left(rt, &site, one, other), [true; 5], "{row:?}");
+    let (one, other) = (let_go(first)?, let_go(second)?);
+    assert_eq!(rt;
+        (told, left(rt, &site, one, other)),
+        (Ok(()), [true; 5]),
+        "{row:?}"
+    );
     Ok(())
+}
+
+// A group whose handle is let go.
+fn let_go<W: Wait + Clock + Copy + Drop>(handle: Handle<W>) -> Result<Arc<Group<W>>, Refusal> {
+    Ok(Arc::try_clone(handle.shared())?)
 }
 
 // What groups leave whose handles are gone: both are cancelled and their workers end, more selectors than the slots and one never lived

@@ -45,10 +45,8 @@ fn begins<W: Clock>(counts: &Counts<W>, builds: u64) -> bool {
 pub fn served_in_a_crowd<
     W: Abort + Log + Threads + Wait + Clock + Copy + Send + Sync + Drop + 'static,
 >(rt: &W, alloc: Global, crowd: &Crowd<W>) {
-    assert_eq!(rt; start(rt, alloc, crowd), [0; 4]);
-    let mut clock = RuntimeClock::new(*rt);
-    let (first, second) = (crowd.first.shared(), crowd.second.shared());
-    let mut holds = crowd_in(rt, alloc, first, second, 2000, 50, &mut clock);
+    let missing = start(rt, alloc, crowd);
+    let mut holds = crowd_in(rt, alloc, crowd.groups(), 2000, 50);
     for group in crowd.groups() {
         for slot in 0..2 {
             holds = holds && serves(rt, group, slot, 50, TURNS);
@@ -56,7 +54,7 @@ pub fn served_in_a_crowd<
         group.cancel(rt);
         holds = holds && ends(rt, group, TURNS);
     }
-    assert!(rt; holds);
+    assert_eq!(rt; (missing, holds), ([0; 4], true));
 }
 
 /// A build of the first group that is held doesn't hold up a selection; once it goes on, what it built is served. Workers of groups that
@@ -66,7 +64,7 @@ pub fn selects_beside_a_build<
 >(rt: &W, alloc: Global, crowd: &Crowd<W>) -> Result<(), Refusal> {
     let [first, second] = crowd.groups();
     crowd.site.counts.hold(true);
-    assert_eq!(rt; start(rt, alloc, crowd), [0; 4]);
+    let missing = start(rt, alloc, crowd);
     let generation = crowd.first.update(alloc, &mut RuntimeClock::new(*rt))?;
     let has_begun = begins(&crowd.site.counts, 5);
     let beside = select_one(rt, alloc, first, 0)?;
@@ -85,7 +83,7 @@ pub fn selects_beside_a_build<
         ends(rt, second, TURNS),
         is_free(rt, &crowd.site.gate),
     ];
-    assert_eq!(rt; told, [true; 8]);
+    assert_eq!(rt; (missing, told), ([0; 4], [true; 8]));
     Ok(())
 }
 
@@ -96,7 +94,7 @@ pub fn cancels_a_build<
 >(rt: &W, alloc: Global, crowd: &Crowd<W>) -> Result<(), Refusal> {
     let [first, second] = crowd.groups();
     crowd.site.counts.hold(true);
-    assert_eq!(rt; start(rt, alloc, crowd), [0; 4]);
+    let missing = start(rt, alloc, crowd);
     crowd.first.update(alloc, &mut RuntimeClock::new(*rt))?;
     let has_begun = begins(&crowd.site.counts, 5);
     crowd.first.cancel();
@@ -115,6 +113,6 @@ pub fn cancels_a_build<
         is_free(rt, &crowd.site.gate),
         crowd.site.counts.live.load(SeqCst) == 4,
     ];
-    assert_eq!(rt; told, [true; 8]);
+    assert_eq!(rt; (missing, told), ([0; 4], [true; 8]));
     Ok(())
 }

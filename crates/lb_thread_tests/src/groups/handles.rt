@@ -64,9 +64,8 @@ pub fn without_workers<W: Abort + Wait + Clock + Copy + Drop>(
     alloc: Global,
     group: &Handle<W>,
 ) -> Result<(), Refusal> {
-    assert_eq!(rt; fresh(alloc, group)?, [true; 8]);
-    assert_eq!(rt; lent(rt, alloc, group)?, [true; 8]);
-    assert!(rt; !group.is_cancelled());
+    let told = [fresh(alloc, group)?, lent(rt, alloc, group)?];
+    assert_eq!(rt; (told, group.is_cancelled()), ([[true; 8]; 2], false));
     Ok(())
 }
 
@@ -95,7 +94,6 @@ pub fn starts_but_one<
     // The second slot counts as one with a worker, though none runs here.
     shared.leave_slot(1);
     let started = [missing, group.start_workers(alloc, clock)];
-    assert_eq!(rt; started, [1, 0]);
-    assert!(rt; becomes_ready(rt, group));
+    assert_eq!(rt; (started, becomes_ready(rt, group)), ([1, 0], true));
     Ok(())
 }

@@ -114,9 +114,10 @@ pub fn with_workers<W: Abort + Log + Threads + Wait + Clock + Copy + Send + Sync
     group: &Handle<W>,
 ) -> Result<(), Refusal> {
     let expected = Backend::new(alloc, "1.0.0.1:80")?;
-    assert_eq!(rt; told_before(rt, alloc, group)?, [true; 5]);
-    assert_eq!(rt; group.start_workers(alloc, RuntimeClock::new(*rt)), 0);
-    assert_eq!(rt; told_after(rt, alloc, group, &expected)?, [true; 5]);
-    assert_eq!(rt; served(alloc, group, &expected)?, [true; 7]);
+    let before = told_before(rt, alloc, group);
+    let missing = group.start_workers(alloc, RuntimeClock::new(*rt));
+    let after = told_after(rt, alloc, group, &expected);
+    let told = (before, missing, after, served(alloc, group, &expected));
+    assert_eq!(rt; told, (Ok([true; 5]), 0, Ok([true; 5]), Ok([true; 7])));
     Ok(())
 }

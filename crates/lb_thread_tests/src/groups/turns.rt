@@ -50,6 +50,41 @@ fn turn<S: BackendSelection, R: KeyRule + Drop, C: HealthCheck + Drop, W: Wait>(
     worker_turn(alloc, &mut port, 0, &mut Still {})
 }
 
+// What five turns of two groups come to, of the first and the second one, and then the second one once more.
+fn turns<S: BackendSelection, R: KeyRule + Drop, C: HealthCheck + Drop, W: Wait>(
+    rt: &W,
+    alloc: Global,
+    first: &SharedGroup<S, R, C>,
+    second: &SharedGroup<S, R, C>,
+) -> Result<[Turn; 5], Refusal> {
+    Ok([
+        turn(rt, alloc, first)?,
+        turn(rt, alloc, second)?,
+        turn(rt, alloc, first)?,
+        turn(rt, alloc, second)?,
+        turn(rt, alloc, second)?,
+    ])
+}
+
+// Whether slot 0 selects the backend of weight 1 at 1.0.0.1:80.
+fn selects_it<S: BackendSelection, R: KeyRule + Drop, C: HealthCheck + Drop, W: Wait>(
+    rt: &W,
+    alloc: Global,
+    group: &SharedGroup<S, R, C>,
+) -> Result<bool, Refusal> {
+    let expected = Backend::new(alloc, "1.0.0.1:80")?;
+    let selected = select_one(rt, alloc, group, 0)?;
+    Ok(selected.as_ref() == Some(&expected))
+}
+
+const TURNS_ON_ONE_GATE: [Turn; 5] = [
+    Turn::Published(1),
+    Turn::Busy,
+    Turn::Nothing,
+    Turn::Published(1),
+    Turn::Nothing,
+];
+
 /// While what one group retired is not destroyed, the other one builds nothing; then the permit is back. A turn with nothing to do says
 /// so, what was built is selected, and a cancelled group builds no more.
 pub fn turns_on_one_gate<
@@ -63,23 +98,27 @@ pub fn turns_on_one_gate<
     first: &SharedGroup<S, R, C>,
     second: &SharedGroup<S, R, C>,
 ) -> Result<(), Refusal> {
+    let generations = updates(rt, alloc, first, second)?;
+    let turns = turns(rt, alloc, first, second)?;
+    let is_selected = selects_it(rt, alloc, first)?;
+    first.cancel(rt);
+    let told = (generations, turns, is_selected, turn(rt, alloc, first)?);
+    assert_eq!(rt; told, ([1, 1], TURNS_ON_ONE_GATE, true, Turn::Cancelled));
+    Ok(())
+}
+
+// The generations of two groups that are updated once.
+fn updates<S: BackendSelection, R: KeyRule + Drop, C: HealthCheck + Drop, W: Wait>(
+    rt: &W,
+    alloc: Global,
+    first: &SharedGroup<S, R, C>,
+    second: &SharedGroup<S, R, C>,
+) -> Result<[u64; 2], Refusal> {
     let discovery = one_backend(alloc, 1)?;
-    let expected = Backend::new(alloc, "1.0.0.1:80")?;
-    let generations = [
+    Ok([
         update(rt, alloc, first, &discovery)?,
         update(rt, alloc, second, &discovery)?,
-    ];
-    assert_eq!(rt; generations, [1, 1]);
-    assert_eq!(rt; turn(rt, alloc, first)?, Turn::Published(1));
-    assert_eq!(rt; turn(rt, alloc, second)?, Turn::Busy);
-    assert_eq!(rt; turn(rt, alloc, first)?, Turn::Nothing);
-    assert_eq!(rt; turn(rt, alloc, second)?, Turn::Published(1));
-    assert_eq!(rt; turn(rt, alloc, second)?, Turn::Nothing);
-    let selected = select_one(rt, alloc, first, 0)?;
-    assert_eq!(rt; selected.as_ref(), Some(&expected));
-    first.cancel(rt);
-    assert_eq!(rt; turn(rt, alloc, first)?, Turn::Cancelled);
-    Ok(())
+    ])
 }
 
 /// A worker of a group that is let go cancels it, and ends; what it was to build is not built. A slot that isn't there has no worker.
@@ -160,7 +199,6 @@ pub fn refused_once<
     let text = sink.into_inner();
     let said =
         "[ERROR lb_threads_group::workers] load-balancing selector rebuild failed for generation 1: WeightTooLarge\n";
-    assert_eq!(rt; has_worked, Ok(true));
-    assert_eq!(rt; text.as_slice(), said.as_bytes());
+    assert_eq!(rt; (has_worked, text.as_slice()), (Ok(true), said.as_bytes()));
     Ok(())
 }
