@@ -66,16 +66,22 @@ fn rebuilds(world: &mut Worlds) -> bool {
     )
 }
 
-// What a selection of three candidates says of these words: none where there are too few, else whether it found the backend.
-fn found(world: &mut Worlds, words: &[u64]) -> Option<bool> {
-    match world.select(0, 0, b"k", 3, words) {
+// What an answer says of the words of its selection: none where there are too few, else whether it found the backend.
+fn told(answer: &Answer) -> Option<bool> {
+    match answer {
         Answer::Backend(backend, _tickets) => Some(backend.weight == 1),
         Answer::Refused(Refusal::NotEnoughWords) => None,
         _ => Some(false),
     }
 }
 
-// The same by a step, which owns the words.
+// What a selection of three candidates says of these words.
+fn found(world: &mut Worlds, words: &[u64]) -> Option<bool> {
+    let answer = world.select(0, 0, b"k", 3, words);
+    told(&answer)
+}
+
+// What a step, which owns the words, says of them.
 fn found_by_step(
     alloc: Global,
     world: &mut Worlds,
@@ -90,11 +96,7 @@ fn found_by_step(
         limit: 3,
         words: own,
     });
-    Ok(match answer {
-        Answer::Backend(backend, _tickets) => Some(backend.weight == 1),
-        Answer::Refused(Refusal::NotEnoughWords) => None,
-        _ => Some(false),
-    })
+    Ok(told(&answer))
 }
 
 // Serves a backend at random, and selects with three and with four words.
