@@ -1,4 +1,4 @@
-//! Rows of answers to a check: one check over one stream, and the line that tells what came.
+//! Rows of answers to a check: one check over one stream, and the line that says what came.
 use crate::check_tables::{Asked, Asks, Cut, DEFAULT, MadeStream, Where};
 use crate::files::file;
 use crate::streams::{Sink, Source};
