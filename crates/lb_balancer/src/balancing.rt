@@ -274,6 +274,7 @@ impl<
     ) -> Option<(BTreeSet<Backend>, Settings)>
         ensures { IfSome result (λ found. found ≡ (members, settings)) }
     {
+        // `_key` and `founded()` are for the prover alone: they show it the value's invariant, and do nothing at run time.
         let _key = &self.config;
         let mut held = self.serving.take(rt);
         if !held.value.is_membership(&members) {

@@ -82,6 +82,7 @@ impl<S: BackendSelection> Serving<S> {
     pub fn founded(&self)
         ensures { IsFounded self.now.view }
     {
+        // For the prover alone: this shows it the view's invariant, and does nothing at run time.
         let _view = &self.view;
     }
 

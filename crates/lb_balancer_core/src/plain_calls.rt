@@ -146,6 +146,7 @@ impl<'c, 'x, 'g, 'w, 'l, S: BackendSelection, R: KeyRule + Drop, G: Rng> GroupPo
     }
 
     fn ask(&mut self, slot: usize, now: u128) -> Result<Ask<S>, Refusal> {
+        // `past()` is for the prover alone: it shows it that some history explains the group, and does nothing at run time.
         self.core.past();
         self.core.ask(slot, self.gate, now)
     }

@@ -194,6 +194,7 @@ impl<S: BackendSelection, G: Rng + Drop> Served<S, G> {
     pub fn past(&self)
         ensures { (e : History) × Stands e self.now }
     {
+        // For the prover alone: this shows it the view's invariant, and does nothing at run time.
         let _view = &self.view;
     }
 

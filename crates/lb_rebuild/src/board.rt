@@ -121,6 +121,7 @@ impl Board {
         requires { pass.old.board ≡ self.now }
         ensures { IsLoad pass.old 0 result pass.new }
     {
+        // For the prover alone: this shows it the board's invariant, and does nothing at run time.
         let _slots = self.slots;
         self.load(0, pass)
     }

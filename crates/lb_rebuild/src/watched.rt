@@ -107,6 +107,7 @@ impl<S: BackendSelection> Watched<S> {
     pub fn founded(&self)
         ensures { IsFounded self.now.core }
     {
+        // `founded()`, `past()` and `_core` are for the prover alone: they show it the group's invariant, and do nothing at run time.
         self.core.founded();
     }
 

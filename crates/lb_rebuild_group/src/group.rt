@@ -124,6 +124,7 @@ impl<S: BackendSelection> GroupCore<S> {
     pub fn past(&self)
         ensures { (made : Made S.Config) × ((e : History) × Stands made e self.now) }
     {
+        // For the prover alone: this shows it the view's invariant, and does nothing at run time.
         let _view = &self.view;
     }
 

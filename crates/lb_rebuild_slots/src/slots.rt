@@ -127,6 +127,7 @@ impl<S: BackendSelection> Slots<S> {
     pub fn past(&self)
         ensures { (made : Made S.Config) × ((h : History) × StandsFor made h self.now) }
     {
+        // For the prover alone: this shows it the group's invariant, and does nothing at run time.
         let _newest = self.newest;
     }
 

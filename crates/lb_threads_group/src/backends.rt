@@ -24,6 +24,7 @@ impl<S: BackendSelection, R: KeyRule + Drop, C: HealthCheck + Drop> SharedGroup<
         ensures members { IfOk result (λ set. Seen self.now.core (λ v. After v (λ made e. (arc_value set).keys ≡ members_now e))) }
         ensures refused { OnErr result (result ≡ Err Refusal.OutOfMemory) }
     {
+        // `_gate` and `founded()` are for the prover alone: they show it the group's invariant, and do nothing at run time.
         let _gate = &self.gate;
         let held = self.lock.take(rt);
         let group = held.value.core();

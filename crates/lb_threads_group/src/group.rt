@@ -124,6 +124,7 @@ impl<S: BackendSelection, R: KeyRule + Drop, C: HealthCheck + Drop> SharedGroup<
 
     /// Stops the rebuilds for good, and marks the group's view for removal. It takes no memory.
     pub fn cancel<W: Wait>(&self, rt: &W) {
+        // `_gate`, `_board` and `founded()` are for the prover alone: they show it the group's invariant, and do nothing at run time.
         let _gate = &self.gate;
         let registries: &HealthRegistry<R, C> = &*self.registry;
         let mut held = self.lock.take(rt);

@@ -43,6 +43,7 @@ impl<S: BackendSelection, R: KeyRule + Drop, C: HealthCheck + Drop> SharedGroup<
         requires { pass.old.board ≡ self.now.board }
         ensures { IsLoad pass.old 0 result pass.new }
     {
+        // `_board` is for the prover alone: it shows it the group's invariant, and does nothing at run time.
         let _board = &self.board;
         self.board.backend_generation_as(pass)
     }

@@ -55,6 +55,7 @@ impl<'g, 'r, S: BackendSelection, R: KeyRule + Drop, C: HealthCheck + Drop, W: W
         let job = refused.into_job();
         let gates: &SelectorRebuildGate = &*group.gate;
         let mut held = group.lock.take(self.rt);
+        // `_gate` and `founded()` are for the prover alone: they show it the group's invariant, and do nothing at run time.
         held.value.founded();
         let mut cells = registries.take(self.rt);
         let mut gate = gates.take(self.rt);

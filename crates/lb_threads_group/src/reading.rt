@@ -19,6 +19,7 @@ impl<S: BackendSelection, R: KeyRule + Drop, C: HealthCheck + Drop> SharedGroup<
     pub fn backend_generation<W: Wait>(&self, rt: &W) -> u64
         ensures { Seen self.now.core (λ v. After v (λ made e. result ≡ newest (slot_events e))) }
     {
+        // `_gate` and `founded()` are for the prover alone: they show it the group's invariant, and do nothing at run time.
         let _gate = &self.gate;
         let held = self.lock.take(rt);
         let group = held.value.core();

@@ -90,6 +90,7 @@ impl SelectorRebuildGate {
     pub fn grant<R: Wait>(&self, rt: &R) -> Option<Permit>
         ensures { IfSome result (λ p. p ≡ self.now.id) }
     {
+        // `_lock` is for the prover alone: it shows it the lock's fact, and does nothing at run time.
         let _lock = &self.lock;
         let mut held = self.lock.take(rt);
         let permit = held.value.grant();

@@ -88,6 +88,7 @@ impl<S: BackendSelection> World<S> {
     pub fn past(&self)
         ensures { IsFounded (meaning_of S.BackendSelection) self.now }
     {
+        // For the prover alone: this shows it the world's invariant, and does nothing at run time.
         let _tables = &self.tables;
     }
 
