@@ -71,7 +71,7 @@ impl fmt::Display for ReplayLine {
     }
 }
 
-/// The exit status: 0 where the check passed, else 1.
+/// Returns the exit status: 0 where the check passed, else 1.
 pub(crate) fn exit_status(outcome: Result<(), CheckError>) -> u8
     ensures { result ≡ outcome_status outcome }
 {
