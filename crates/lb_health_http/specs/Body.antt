@@ -1,4 +1,4 @@
--- The body of an answer, by its framing, and what stands in the place of one.
+-- The body of an answer, by its framing, and what comes in the place of one.
 use Rattle.std.specs.Prelude.{◌≡◌, ℕ, ◌<◌, ◌≤◌, List, [], ◌++◌, length, ⊤, Result, Ok, Err}
 use Rattle.lb_stream.specs.Stream.{Takes}
 use Rattle.lb_health_check.specs.declared.error.CheckError.{CheckError}
@@ -14,7 +14,7 @@ HasBody (Sized n) after size rest = (size ≡ n) × Takes n after rest
 HasBody Chunked after size rest = HasChunked after size rest
 HasBody ToEnd after size rest = (size ≡ length after) × (rest ≡ [])
 
--- no body stands there
+-- there is no body
 abbrev pub HasNoBody : Framing → List ℕ → Type 0
 HasNoBody f after = (size : ℕ) (rest : List ℕ) → ¬ (HasBody f after size rest)
 

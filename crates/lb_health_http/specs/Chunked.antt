@@ -41,7 +41,7 @@ pub record HasTrailers (room : ℕ) (text rest : List ℕ) : Type 0 where
   pub size : length (flat_map print_trailer lines) ≤ room
   pub is : text ≡ flat_map print_trailer lines ++ (crlf_bytes ++ rest)
 
--- a last chunk's line, and what stands after it
+-- a last chunk's line, and what follows it
 pub record HasEnd (text rest : List ℕ) : Type 0 where
   pub line : ChunkLine
   pub valid : IsLine line

@@ -102,7 +102,7 @@ pub record PassesChunks (size : ℕ) (stream rest : List ℕ) : Type 0 where
       → (m : ℕ) × (n ≡ size + m) × HasChunked text m after
   pub large : (room : ℕ) (text after : List ℕ) → IsLargeChunked room text after → IsLargeChunked (size + room) (front ++ text) after
 
--- the last chunk's line was passed: a body stands there where trailers stand after it, and so on back
+-- the last chunk's line was passed: there is a body where trailers follow it, and so on back
 pub record PassesLast (stream rest : List ℕ) : Type 0 where
   pub front : List ℕ
   pub is : stream ≡ front ++ rest
