@@ -486,7 +486,7 @@ impl<
 
     /// Marks the view for removal from the registry, and releases its cells.
     ///
-    /// From the next call of the registry on its backends are no targets, a backend whose cell no other view keeps isn't ready, and
+    /// From the next call on that applies marks its backends are no targets, a backend whose cell no other view keeps isn't ready, and
     /// another membership is refused `NoSuch`. It takes no memory.
     pub fn leave<W: Wait>(&self, rt: &W) {
         let _key = &self.config;

@@ -136,7 +136,7 @@ impl<
     /// Returns the first accepted backend of the selector that a reader is in, or `None`.
     ///
     /// `accept` is asked once of each of the distinct backends among the first `max_iterations` candidates for `key`, in their order,
-    /// until it returns true. No lock is held.
+    /// until it returns true, while no lock is held.
     ///
     /// # Errors
     ///

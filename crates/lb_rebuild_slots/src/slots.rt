@@ -203,7 +203,7 @@ impl<S: BackendSelection> Slots<S> {
 
     /// Makes a membership the newest at the moment `now`, for which this group has just got the memory.
     ///
-    /// It takes none.
+    /// It takes no memory.
     pub fn commit(&mut self, prepared: Prepared<S::Config>, now: u128) -> Scheduled
         requires { Fits self.old prepared }
         ensures answers { IsCommitted prepared result }

@@ -237,7 +237,7 @@ impl<S: BackendSelection, R: KeyRule + Drop, C: HealthCheck + Drop> SharedGroup<
 
     /// Discovers, and makes what was discovered the newest membership. Returns the newest generation after it.
     ///
-    /// One update runs at a time. The discovery runs under no other lock.
+    /// One update runs at a time. The discovery runs under the lock of updates alone.
     ///
     /// # Errors
     ///

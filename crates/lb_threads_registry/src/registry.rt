@@ -139,8 +139,8 @@ impl<R: KeyRule + Drop, C: HealthCheck + Drop> HealthRegistry<R, C> {
 
     /// Returns the owner of a view of this registry, whose drop is noted without a lock.
     ///
-    /// After it the next call of the registry marks the view for removal, and releases the cells of the generation that the owner named
-    /// last.
+    /// After that drop the next call of the registry marks the view for removal, and releases the cells of the generation that the owner
+    /// named last.
     ///
     /// # Errors
     ///
