@@ -1,5 +1,6 @@
 #!/bin/bash
-# Whether the documents fit the repository: crates and definitions that are named, the example as it stands, lines that are short.
+# Whether the documents fit the repository: crates and definitions that are named, README's example and its
+# counts, lines that are short.
 # A line for each case; the last line is 'N passed, M failed'.
 set -euo pipefail
 unset CDPATH
@@ -8,7 +9,7 @@ cd "$(dirname "$(readlink -f "${BASH_SOURCE[0]}")")/.."
 passed=0
 failed=0
 
-# NAME COMMAND..: the command finds nothing to tell.
+# NAME COMMAND..: the command prints nothing.
 silent() {
     local said
     said=$("${@:2}" 2>&1) || said="it failed: $said"
@@ -58,6 +59,19 @@ absent_names() {
         grep -qE "\\b${path##*::}\\b" crates/pingora_load_balancing/src/"${path%%::*}".rt || echo "the facade has no $path"
     done
 }
+# Counts of README's table 'Reliability' that aren't the repository's.
+stale_counts() {
+    local edits=(crates/*/must-fail/*.edit) more=(tests/edits/*/*.edit) crate tests=() rows asked said
+    for crate in lb_tests lb_thread_tests; do
+        tests+=("$(grep -rhx ' *#\[test\]' "crates/$crate/src" | wc -l)")
+    done
+    rows=$(wc -l <crates/lb_rows/stdout)
+    asked=$(grep -c '^asked ' tests/lbcheck_cases.sh)
+    for said in "${#edits[@]} in each gate, ${#more[@]} more" "${rows} in each gate" "${tests[0]} and ${tests[1]} in each gate" \
+        " and $asked in each gate"; do
+        grep -qF "$said" README.md || echo "README doesn't say '$said'"
+    done
+}
 long_lines() { LC_ALL=C.UTF-8 grep -nE '.{141}' README.md docs/*.md || true; }
 # FROM TO TABLE: each row in a file that ends in FROM has one that ends in TO, and its name is in the table and in what is written.
 rows_that_lack() {
@@ -80,6 +94,7 @@ silent 'no file of definitions is named that is not there' absent_specs
 silent 'no document is named that is not there' absent_documents
 silent 'no name of the facade is named that is not there' absent_names
 silent 'the example in README is the one that is proved' example_of_readme
+silent 'the counts in README are those of the repository' stale_counts
 silent 'no line of a document is over 140 columns' long_lines
 silent 'each row has answers and is run' rows_without_answers
 

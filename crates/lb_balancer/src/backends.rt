@@ -1,4 +1,4 @@
-//! What a balancer is made of, and what of its backends is lent.
+//! The parts that a balancer is made from: its discovery, and the registry that its backends are checked in.
 ghost use Rattle.std.specs.Prelude.{◌≡◌, IfErr, IfOk, OnErr, true, false};
 ghost use Rattle.lb_health_registry.specs.Registry.{IsGrowthRefusal};
 
@@ -11,7 +11,7 @@ use lb_threads_registry::registry::HealthRegistry;
 use std::alloc::Global;
 use std::sync::Arc;
 
-/// A discovery, and the registry of health that its backends are to have a view of.
+/// A discovery, and the registry of health that its backends get a view of.
 #[derive(Drop)]
 pub struct Backends<D, R: KeyRule + Drop, C> {
     pub(crate) discovery: DiscoverySource<D>,
@@ -20,7 +20,9 @@ pub struct Backends<D, R: KeyRule + Drop, C> {
 }
 
 impl<D: Drop, N: KeyRule + Drop, C: HealthCheck + Drop> Backends<D, Rule<N>, C> {
-    /// With a registry of their own, keyed by identity, whose checks are theirs to run. Refused `OutOfMemory` where memory is.
+    /// Returns backends with a registry of their own, keyed by identity. Their balancer runs its checks.
+    ///
+    /// Refused `OutOfMemory` where memory is refused.
     pub fn new(
         alloc: Global,
         discovery: DiscoverySource<D>,
@@ -38,7 +40,7 @@ impl<D: Drop, N: KeyRule + Drop, C: HealthCheck + Drop> Backends<D, Rule<N>, C> 
 }
 
 impl<D: Drop, R: KeyRule + Drop, C: HealthCheck + Drop> Backends<D, R, C> {
-    /// With a registry that others share, whose checks somebody else runs.
+    /// Returns backends with a registry that others share. Their balancer doesn't run its checks.
     pub fn new_with_health_registry(
         discovery: DiscoverySource<D>,
         registry: Arc<HealthRegistry<R, C>>,

@@ -1,5 +1,5 @@
-//! A group of slots as its users own it: updates, selections and readings through a borrow, and workers that build beside them.
-//! Dropping it cancels it, with workers or without; what workers have under way is let end.
+//! `LoadBalancerGroup`: a group of slots as its users own it. Updates, selections and readings need a borrow only; workers build
+//! meanwhile. Dropping it cancels it; a build or a destruction that is under way then goes on to its end.
 ghost use Rattle.std.specs.Prelude.{◌≡◌, ◌+◌, [], None, false, map, length, IfErr, IfOk, MatchBool, OnErr};
 ghost use Rattle.std.specs.Arc.{arc_value};
 ghost use Rattle.lb_select_base.specs.Refusals.{least};
@@ -31,7 +31,7 @@ use lb_threads_registry::registry::HealthRegistry;
 use std::alloc::Global;
 use std::sync::{Arc, Mutex, Wait};
 
-/// A group of slots, each of which serves a selector of its own. Whoever makes it sets the frequencies before threads share it.
+/// A group of slots, each of which serves a selector of its own. Its frequencies are set before threads share it.
 ///
 /// It keeps the runtime on which it may wait, so that its drop can cancel it: rebuilds stop then, its workers end, and its view leaves
 /// the registry once nothing of it is in use.
@@ -54,7 +54,7 @@ pub struct LoadBalancerGroup<
     pub health_check_frequency: Option<u128>,
     /// How often backends are discovered, in nanoseconds; once where it is `None`.
     pub update_frequency: Option<u128>,
-    /// Whether the checks of one pass run beside each other.
+    /// Whether the checks of one pass run at the same time.
     pub parallel_health_check: bool,
 }
 
@@ -84,7 +84,9 @@ impl<
     R: KeyRule + Drop,
     C: HealthCheck + Drop,
 > LoadBalancerGroup<S, W, D, R, C> {
-    /// A group of one slot for each configuration, with a view of its own in the registry, at generation 0. No worker runs yet.
+    /// Returns a group of one slot for each configuration, with a view of its own in the registry, at generation 0.
+    ///
+    /// No worker runs yet.
     ///
     /// # Errors
     ///
@@ -134,12 +136,13 @@ impl<
         }
     }
 
-    /// Discovers, and makes what was discovered the newest membership; one update at a time. The clock is read at the start and after
-    /// the discovery. It builds nothing: workers do.
+    /// Discovers, and makes what was discovered the newest membership. Returns the newest generation after it.
+    ///
+    /// One update runs at a time. The clock is read at the start and after the discovery. Workers build the selectors.
     ///
     /// # Errors
     ///
-    /// As `SharedGroup::update`; the timing is then as before.
+    /// Those of `SharedGroup::update`; the timing is then as before.
     pub fn update<K: MomentSource>(&self, alloc: Global, clock: &mut K) -> Result<u64, Refusal>
         ensures { UpdatedUnder R.gives K.reads FoundBy self.now.discovery clock.old (arc_value self.now.shared) result clock.new }
     {
@@ -160,12 +163,13 @@ impl<
         told
     }
 
-    /// Selects the first that is ready of the distinct backends among the first `max_iterations` candidates of what the slot serves,
-    /// or `None` where none of them is ready or no such slot is there.
+    /// Returns the first ready backend among the distinct of the first `max_iterations` candidates of what the slot serves, or `None`.
+    ///
+    /// It is `None` too where no such slot is there.
     ///
     /// # Errors
     ///
-    /// As `select_with`.
+    /// Those of `select_with`.
     pub fn select(
         &self,
         alloc: Global,
@@ -179,12 +183,14 @@ impl<
         self.select_with(alloc, slot, key, max_iterations, &ready_ones)
     }
 
-    /// Selects as `select`, but the first for which `accept` answers true, when it is asked with a backend and whether it is ready. It
-    /// runs under no lock.
+    /// Returns the first backend that `accept` takes among the distinct candidates of what the slot serves, or `None`.
+    ///
+    /// `accept` is asked with a backend and whether it is ready, while no lock is held. Only the first `max_iterations` candidates are
+    /// looked at. It is `None` too where no such slot is there.
     ///
     /// # Errors
     ///
-    /// As `SharedGroup::select_with`.
+    /// Those of `SharedGroup::select_with`.
     pub fn select_with<F: Fn(&Backend, bool) -> bool>(
         &self,
         alloc: Global,
@@ -201,29 +207,34 @@ impl<
         shared.select_with(&self.rt, alloc, slot, key, max_iterations, accept)
     }
 
-    /// The group itself, for threads that hold it beyond a borrow or take its workers' turns. It is cancelled with this handle.
+    /// Returns the group itself, for threads that hold it beyond a borrow or take its workers' turns.
+    ///
+    /// It is cancelled with this handle.
     pub fn shared(&self) -> &Arc<SharedGroup<S, R, C>>
         ensures { result.now ≡ self.now.shared }
     {
         &self.shared
     }
 
-    /// Sets the check of the registry. Refused `HealthCheckSet` where one is set, which stays.
+    /// Sets the check of the registry.
+    ///
+    /// Refused `HealthCheckSet` where one is set, which stays.
     pub fn set_health_check(&self, check: C) -> Result<(), Refusal>
         ensures { IfErr result (λ e. e ≡ Refusal.HealthCheckSet) }
     {
         self.registry.set_health_check(&self.rt, check)
     }
 
-    /// Sets the load of a backend's identity, for all slots; a selector that goes by loads reads it from then on. Refused
-    /// `OutOfMemory` where memory is refused; nothing is set then.
+    /// Sets the load of a backend's identity, for all slots whose selectors go by loads.
+    ///
+    /// Refused `OutOfMemory` where memory is refused; nothing is set then.
     pub fn set_load(&self, alloc: Global, backend: &Backend, load: u64) -> Result<(), Refusal>
         ensures { IfErr result (λ e. e ≡ Refusal.OutOfMemory) }
     {
         self.shared.set_load(&self.rt, alloc, backend, load)
     }
 
-    /// Stops the rebuilds for good, as its drop does; selections and readings go on.
+    /// Stops the rebuilds for good, as its drop does. Selections and readings go on.
     pub fn cancel(&self) {
         self.shared.cancel(&self.rt);
     }

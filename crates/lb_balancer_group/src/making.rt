@@ -62,7 +62,7 @@ pub(crate) fn share<S: BackendSelection, R: KeyRule + Drop, C: HealthCheck + Dro
     Ok(Arc::new(alloc, shared)?)
 }
 
-// An update by a clock that notes its readings, which are those of the clock that it is lent.
+// Updates by a clock that notes its readings, which are those of the clock that it borrows.
 pub(crate) fn update_noting<
     'c,
     S: BackendSelection,

@@ -1,4 +1,4 @@
-//! What a group is made of beside the configurations of its slots.
+//! The parts that a group is made from, without the configurations of its slots.
 ghost use Rattle.std.specs.Prelude.{◌≡◌, [], IfErr, IfOk, true, false};
 ghost use Rattle.std.specs.Arc.{arc_value};
 ghost use Rattle.lb_health_registry.specs.Keys.{by_identity, rule_gives};
@@ -28,8 +28,9 @@ pub struct GroupParts<D, R: KeyRule + Drop, C> {
 }
 
 impl<D: Drop, N: KeyRule + Drop, C: HealthCheck + Drop> GroupParts<D, Rule<N>, C> {
-    /// With a gate and a registry of its own, keyed by identity, whose checks are the group's to run. Refused `OutOfMemory` where
-    /// memory is.
+    /// Returns parts with a gate and a registry of their own, keyed by identity. The group runs the registry's checks.
+    ///
+    /// Refused `OutOfMemory` where memory is refused.
     pub fn new(
         alloc: Global,
         discovery: DiscoverySource<D>,
@@ -51,7 +52,7 @@ impl<D: Drop, N: KeyRule + Drop, C: HealthCheck + Drop> GroupParts<D, Rule<N>, C
 }
 
 impl<D: Drop, R: KeyRule + Drop, C: HealthCheck + Drop> GroupParts<D, R, C> {
-    /// With a registry and a gate that others share; somebody else runs the registry's checks.
+    /// Returns parts with a registry and a gate that others share. The group doesn't run the registry's checks.
     pub fn shared(
         discovery: DiscoverySource<D>,
         registry: Arc<HealthRegistry<R, C>>,

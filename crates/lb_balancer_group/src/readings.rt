@@ -1,4 +1,4 @@
-//! What is read of a group that its users own: each call takes the group's lock once for each slot that it reads.
+//! Readings of a group that its users own. Each call takes the group's lock once for each slot that it reads.
 ghost use Rattle.std.specs.Prelude.{◌≡◌, ◌+◌, MatchBool, option_map};
 ghost use Rattle.std.specs.Arc.{arc_value};
 ghost use Rattle.lb_rebuild_slots.specs.SlotsCalls.{at_slot};
@@ -25,7 +25,9 @@ impl<
     R: KeyRule + Drop,
     C: HealthCheck + Drop,
 > LoadBalancerGroup<S, W, D, R, C> {
-    /// Returns how many slots there are. The board has a word for each, and one more for the newest generation.
+    /// Returns how many slots there are.
+    ///
+    /// The board has a word for each, and one more for the newest generation.
     pub fn selector_count(&self) -> usize
         ensures { (arc_value self.now.shared).board.words ≡ result + 1 }
     {
@@ -33,12 +35,12 @@ impl<
         shared.slot_count()
     }
 
-    /// How many slots have a worker now.
+    /// Returns how many slots have a worker now.
     pub fn worker_count(&self) -> usize {
         self.shared.worker_count()
     }
 
-    /// The newest generation of the backends; 0 before the first membership.
+    /// Returns the newest generation of the backends; 0 before the first membership.
     pub fn backend_generation(&self) -> u64
         ensures { Seen (arc_value self.now.shared).core (λ v. After v (λ made e. result ≡ newest (slot_events e))) }
     {
@@ -46,7 +48,7 @@ impl<
         shared.backend_generation(&self.rt)
     }
 
-    /// Whether the group is cancelled.
+    /// Returns whether the group is cancelled.
     pub fn is_cancelled(&self) -> bool
         ensures { Seen (arc_value self.now.shared).core (λ v. After v (λ made e. result ≡ is_cancelled (slot_events e))) }
     {
@@ -54,7 +56,7 @@ impl<
         shared.is_cancelled(&self.rt)
     }
 
-    /// The generation that a slot serves, or `None` where no such slot is there.
+    /// Returns the generation that a slot serves, or `None` where no such slot is there.
     pub fn selector_generation(&self, slot: usize) -> Option<u64>
         ensures { SawServed (arc_value self.now.shared).core slot result }
     {
@@ -62,7 +64,9 @@ impl<
         shared.selector_generation(&self.rt, slot)
     }
 
-    /// Whether each slot serves this generation or a newer one; true without slots. The slots are read one after another.
+    /// Returns whether each slot serves this generation or a newer one; true without slots.
+    ///
+    /// The slots are read one after another.
     pub fn selectors_ready_for(&self, generation: u64) -> bool
         ensures { MatchBool result (AllServe (arc_value self.now.shared).core generation)
             (OneLags (arc_value self.now.shared).core generation) }
@@ -88,7 +92,7 @@ impl<
         least
     }
 
-    /// The timing of a slot's last publication: `None` where no such slot is there, and none in it before the first.
+    /// Returns the timing of a slot's last publication: `None` where no such slot is there, and none in it before the first.
     pub fn selector_last_update_timing(&self, slot: usize) -> Option<Option<SelectorUpdateTimings>>
         ensures { Seen (arc_value self.now.shared).core (λ v. After v (λ made e. result
             ≡ at_slot made slot (option_map selector_timings (timing_after (past_of slot (slot_events e)))))) }
@@ -101,7 +105,7 @@ impl<
         }
     }
 
-    /// How many memberships came while an earlier one waited in a slot, or `None` where no such slot is there.
+    /// Returns how many memberships came while an earlier one waited in a slot, or `None` where no such slot is there.
     pub fn selector_coalesced_rebuilds(&self, slot: usize) -> Option<u64>
         ensures { Seen (arc_value self.now.shared).core (λ v. After v
             (λ made e. result ≡ at_slot made slot (coalesced (past_of slot (slot_events e))))) }
@@ -111,7 +115,7 @@ impl<
         Some(counts.coalesced)
     }
 
-    /// How many builds of a slot failed, up to 18446744073709551615, or `None` where no such slot is there.
+    /// Returns how many builds of a slot failed, up to 18446744073709551615, or `None` where no such slot is there.
     pub fn selector_failed_rebuilds(&self, slot: usize) -> Option<u64>
         ensures { Seen (arc_value self.now.shared).core (λ v. After v
             (λ made e. result ≡ at_slot made slot (failed (past_of slot (slot_events e))))) }
@@ -121,7 +125,7 @@ impl<
         Some(counts.failed)
     }
 
-    /// How long the last accepted update took; `None` before the first.
+    /// Returns how long the last accepted update took; `None` before the first.
     pub fn last_update_timing(&self) -> Option<UpdateTimings> {
         *self.timing.lock(&self.rt)
     }

@@ -1,11 +1,13 @@
 -- A good answer gives no fault but that of a device or of memory.
-use Rattle.std.proofs.Common.{◌≡◌, ℕ, ◌≤◌, inl, inr, Bool, true, false, List, [], ◌∷◌, ◌++◌, None, Some, Result, Ok, Err, length, refl, sym, ap, ◌∙◌, subst, arith}
+use Rattle.std.proofs.Common.{◌≡◌, ℕ, ◌≤◌, inl, inr, Bool, true, false, List, [], ◌∷◌, ◌++◌, None, Some, Result, Ok, Err, length, refl, sym}
+use Rattle.std.proofs.Common.{ap, ◌∙◌, subst, arith}
 use Rattle.std.specs.Bool.{⊤}
 use Rattle.http.specs.declared.response.Parts.{Parts}
 use Rattle.httparse.specs.Grammar.{ResponseHead, ReadsResponse, print_response, status_code}
 use Rattle.httparse.proofs.GrammarLemmas.{response_unique, response_prefix_free}
 use Rattle.lb_health_check.specs.declared.error.CheckError.{CheckError}
-use Rattle.lb_health_check.specs.declared.error.CheckError.TheVariants.{BadHead, HeadTooLarge, Interim, Status, Rejected, BadFraming, EndInMessage, BodyTooLarge, Write, Read, OutOfMemory}
+use Rattle.lb_health_check.specs.declared.error.CheckError.TheVariants.{BadHead, HeadTooLarge, Interim, Status, Rejected, BadFraming}
+use Rattle.lb_health_check.specs.declared.error.CheckError.TheVariants.{EndInMessage, BodyTooLarge, Write, Read, OutOfMemory}
 use Rattle.lb_health_http.specs.declared.framing.Framing.{Framing}
 use Rattle.lb_health_http.specs.declared.framing.Framing.TheVariants.{Nothing, Sized, Chunked, ToEnd}
 use Rattle.lb_health_http.specs.Body.{HasBody, IsLarge}
@@ -110,11 +112,11 @@ module _ (is_head : Bool) (limit : ℕ) (accepts : Parts → Bool) where
       cc
   only_good has_validator s rest other (Err BadFraming) (inr o) good =
       let body = its_body s other o.after o.head o.framing o.begins o.framed good in
-      let never = o.holds in
+      let never = o.holds.0 in
       never.3 never.1 good.size other (subst (λ (l : List ℕ). HasBody o.framing l good.size other) never.2 body)
   only_good has_validator s rest other (Err EndInMessage) (over, inl o) good = o.none good.head good.after good.begins.begins.reads
   only_good has_validator s rest other (Err EndInMessage) (over, inr o) good =
-      o.holds good.size other (its_body s other o.after o.head o.framing o.begins o.framed good)
+      o.holds.0 good.size other (its_body s other o.after o.head o.framing o.begins o.framed good)
   only_good has_validator s rest other (Err BodyTooLarge) o good =
       not_large o.framing o.after good.size other (its_body s other o.after o.head o.framing o.begins o.framed good) good.small rest o.holds
   only_good has_validator s rest other (Err Read) o good = tt

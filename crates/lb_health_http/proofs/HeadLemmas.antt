@@ -1,5 +1,6 @@
 -- Lemmas on a head that is being read: where it ends, and empty lines in front of it.
-use Rattle.std.proofs.Common.{◌≡◌, ◌≢◌, ℕ, ◌+◌, ◌<◌, ◌≤◌, ◌⊎◌, inl, inr, List, [], ◌∷◌, ◌++◌, None, codes, length, drop, refl, sym, ap, ◌∙◌, subst, append_assoc, append-nil, length-append, arith}
+use Rattle.std.proofs.Common.{◌≡◌, ◌≢◌, ℕ, ◌+◌, ◌<◌, ◌≤◌, ◌⊎◌, inl, inr, List, [], ◌∷◌, ◌++◌, None, codes, length, drop, refl, sym, ap, ◌∙◌}
+use Rattle.std.proofs.Common.{subst, append_assoc, append-nil, length-append, arith}
 use Rattle.std.specs.List.{flat_map}
 use Rattle.std.proofs.lemmas.Grind.{flat_map-append}
 use Rattle.httparse.specs.Grammar.{LineEnd, crlf, lf, print_end, print_blank, print_section, print_field, print_version, print_reason}
@@ -7,7 +8,7 @@ use Rattle.httparse.specs.Grammar.{ResponseHead, print_response, ReadsResponse, 
 use Rattle.httparse.proofs.GrammarLemmas.{ReadsResponse-append, print_response-append}
 use Rattle.lb_health_http.specs.Head.{BeginsWithHead, IsRefusedHead, IsOpenAtFeeds, HasBadHead, HasLargeHead, EndsInHead}
 use Rattle.lb_health_http.specs.Head.{IsBlankLine, AfterBlank}
-use Rattle.lb_health_http.specs.Steps.{NoFeed}
+use Rattle.lb_health_http.specs.Chunked.{NoFeed}
 use Rattle.lb_health_http.specs.declared.head.HeadParts.{HeadParts}
 use Rattle.std.specs.Char.{is_ascii_digit}
 use Rattle.lb_health_http.specs.declared.head.Seen.TheVariants.{Whole, Bad}

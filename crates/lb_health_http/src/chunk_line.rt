@@ -5,7 +5,8 @@ ghost use Rattle.std.specs.List.{prefix_len};
 ghost use Rattle.std.specs.Char.{is_ascii_hexdigit, digit_value};
 ghost use Rattle.std.specs.Str.Parse.{digits_value};
 ghost use Rattle.httparse.specs.Grammar.{AllPass};
-ghost use Rattle.lb_health_http.specs.Steps.{IsLineText, IsNoChunkLine, IsChunkLineOf};
+ghost use Rattle.lb_health_http.specs.Chunked.{IsLineText, IsNoChunkLine};
+ghost use Rattle.lb_health_http.specs.Steps.{IsChunkLineOf};
 ghost use Rattle.lb_health_http.specs.ChunkLines.{class_has, EndsChunkLine};
 
 use crate::line::is_end;
@@ -72,7 +73,7 @@ fn number_of(digits: &[u8]) -> u64
     number
 }
 
-// Whether what stands behind the digits and the spaces of a line ends it: `;` and a text, or nothing, and then CR LF.
+// Whether what follows the digits and the spaces of a line ends it: `;` and a text, or nothing, and then CR LF.
 fn ends_line(rest: &[u8]) -> bool
     requires { IsLineText rest.now }
     ensures { MatchBool result (EndsChunkLine rest.now) (¬ (EndsChunkLine rest.now)) }

@@ -1,6 +1,6 @@
 //! How long a check waits for its peer, and connections to one.
 //! No name is looked up: a backend's address is where it is reached.
-ghost use Rattle.std.specs.Prelude.{◌≡◌, ◌↔◌, Some, None, ◌*◌, ◌^◌, ◌<◌, max, IfSome};
+ghost use Rattle.std.specs.Prelude.{◌≡◌, ◌↔◌, Some, None, ◌*◌, ◌^◌, ◌<◌, max, Err, IfSome, OnErr};
 ghost use Rattle.std.specs.Duration.{as_nanos};
 ghost use Rattle.lb_health_http.specs.Check.{at_port};
 
@@ -76,12 +76,16 @@ pub(crate) fn with_port(addr: InetAddr, port: Option<u16>) -> InetAddr
     }
 }
 
-/// Connects to an internet address. Fault: `Connect`, also where the limit is exceeded.
+/// Connects to an internet address.
+///
+/// Fault: `Connect`, also where the limit is exceeded.
 pub(crate) fn connect<N: Net<Stream = TcpStream>>(
     net: &N,
     addr: InetAddr,
     limit: Option<u128>,
-) -> Result<TcpStream, CheckError> {
+) -> Result<TcpStream, CheckError>
+    ensures { OnErr result (result ≡ Err CheckError.Connect) }
+{
     let addr = SocketAddr::from(addr);
     let connected = match duration_of(limit) {
         Some(limit) => TcpStream::connect_timeout(net, &addr, limit),
@@ -90,7 +94,11 @@ pub(crate) fn connect<N: Net<Stream = TcpStream>>(
     connected.map_err(|_| CheckError::Connect)
 }
 
-/// Connects to a Unix socket. Fault: `Connect`.
-pub(crate) fn connect_unix<N: Net>(net: &N, path: &str) -> Result<UnixStream, CheckError> {
+/// Connects to a Unix socket.
+///
+/// Fault: `Connect`.
+pub(crate) fn connect_unix<N: Net>(net: &N, path: &str) -> Result<UnixStream, CheckError>
+    ensures { OnErr result (result ≡ Err CheckError.Connect) }
+{
     UnixStream::connect(net, path).map_err(|_| CheckError::Connect)
 }

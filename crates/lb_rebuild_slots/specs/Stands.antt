@@ -3,7 +3,8 @@ use Rattle.std.specs.Prelude.{◌≡◌, ◌+◌, ◌^◌, ◌<◌, ◌&&◌, �
 use Rattle.lb_rebuild_slots.specs.Gate.{GateId, GroupId}
 use Rattle.lb_rebuild_slots.specs.SlotsHistory.{History, Extra, nothing, flight, lost, retired, taken_out, past_of, newest, members_of}
 use Rattle.lb_rebuild_slots.specs.SlotsHistory.{scheduled_at, is_cancelled, granted, asked_at, served, served_members, order_members, extra}
-use Rattle.lb_rebuild_slots.specs.SlotsHistory.{is_lost_of, waits, readers, drawn, published, coalesced, superseded, failed, failures, failed_at}
+use Rattle.lb_rebuild_slots.specs.SlotsHistory.{is_lost_of, waits, readers, drawn, published, coalesced, superseded, failed, failures}
+use Rattle.lb_rebuild_slots.specs.SlotsHistory.{failed_at}
 use Rattle.lb_rebuild_slots.specs.SlotsHistory.{timing, IsSlotsHistory}
 use Rattle.lb_rebuild_slots.specs.Values.{OrderValue, SlotValue, SlotsValue, configs_of}
 use Rattle.lb_rebuild_slots.specs.declared.answers.Counts.{Counts}
@@ -85,15 +86,15 @@ pub record StandsFor {C : Type 0} (made : Made C) (h : History) (v : SlotsValue 
   pub bounded : newest h < 2 ^ 64
   pub shows : v ≡ group_after made h
 
--- some history stands behind the group
+-- some history explains the group
 abbrev pub IsFounded : {C : Type 0} → SlotsValue C → Type 0
 IsFounded {C} v = (made : Made C) × ((h : History) × StandsFor made h v)
 
--- what holds after each history that the group stands for
+-- what holds after each history that explains the group
 abbrev pub After : {C : Type 0} → SlotsValue C → (Made C → History → Type 0) → Type 0
 After {C} v P = (made : Made C) (h : History) → StandsFor made h v → P made h
 
--- after each history that the first group stands for, the second one stands for it with these events
+-- after each history that explains the first group, the same with these events explains the second one
 abbrev pub Becomes : {C : Type 0} → SlotsValue C → History → SlotsValue C → Type 0
 Becomes v events w = After v (λ made h. StandsFor made (events ++ h) w)
 

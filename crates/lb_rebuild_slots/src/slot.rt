@@ -1,11 +1,12 @@
-//! A slot of a group: the selector that it serves to its readers, the order that waits, and at most one extra selector.
-//! Its calls say exactly what they do to the slot; the group above tells them by its history.
+//! A slot of a group: the selector that it serves to its readers, the order that waits, and at most one extra selector. Its calls say
+//! exactly what they do to the slot; the group above describes them by its history.
 ghost use Rattle.std.specs.Prelude.{◌≡◌, ◌&&◌, not, Bool, true, [], ◌<◌, ◌⊎◌, ℕ, Some, None, IfOk, IfErr, OnErr, nat_lt, if◌then◌else◌};
 ghost use Rattle.std.specs.Fn.{FnReturnsAt};
 ghost use Rattle.lb_select_base.specs.Refusals.{Refuses};
 ghost use Rattle.lb_select_base.specs.Loads.{load_in};
 ghost use Rattle.lb_rebuild_slots.specs.SlotSeen.{permit_of};
-ghost use Rattle.lb_rebuild_slots.specs.SlotsHistory.{is_flight, is_under_way, is_retired_of, is_taken_out, taken_out_number, flight_number};
+ghost use Rattle.lb_rebuild_slots.specs.SlotsHistory.{is_flight, is_under_way, is_retired_of, is_taken_out, taken_out_number};
+ghost use Rattle.lb_rebuild_slots.specs.SlotsHistory.{flight_number};
 
 use crate::answers::{Ask, Counts, Publication, Selection, Timing};
 use crate::gate::{GateCore, Permit};
@@ -25,8 +26,8 @@ use std::collections::BTreeSet;
 use std::mem;
 use std::sync::Arc;
 
-// What stands in a slot beside what it serves, each with its generation. A flight goes from the slot's job to its failure or
-// publication; it is lost with its worker. What was taken out is on its way to the report of its destruction.
+// What a slot has apart from what it serves, each with its generation. A flight goes from the slot's job to its failure or publication; it
+// is lost with its worker. What was taken out is on its way to the report of its destruction.
 pub(crate) enum SlotStage<S: BackendSelection> {
     Free,
     Flight(u64),
@@ -35,9 +36,9 @@ pub(crate) enum SlotStage<S: BackendSelection> {
     TakenOut(u64),
 }
 
-// A slot: what it is configured with, what it serves and to how many readers, the order that waits for a permit, and what else
-// stands in it, with the readers left in it where it is retired. The moments are those of the last job's ask, of the membership
-// that it was for, and of the last failure of the newest generation.
+// A slot: what it is configured with, what it serves and to how many readers, the order that waits for a permit, and what else it has,
+// with the readers left in it where it is retired. The moments are those of the last job's ask, of the membership that it was for, and of
+// the last failure of the newest generation.
 pub(crate) struct Slot<S: BackendSelection> {
     pub(crate) config: Arc<S::Config>,
     pub(crate) serving: ServedSelector<S>,
@@ -58,7 +59,8 @@ impl<S: BackendSelection> Slot<S> {
     ghost use Rattle.lb_rebuild_slots.specs.SlotSeen.{slot_value, extra_of};
     ghost use Rattle.lb_rebuild_slots.specs.SlotCalls.{slot_waits, slot_answer, ask_told, asked_slot, asked_gate, IsJobOf, ordered_slot};
     ghost use Rattle.lb_rebuild_slots.specs.SlotCalls.{failed_slot, published_slot, abandoned_slot, lost_slot, entered_slot, reader_of};
-    ghost use Rattle.lb_rebuild_slots.specs.SlotCalls.{readers_at, left_slot, TakesAt, destroyed_slot, drawn_slot, superseded_more, SelectsFrom};
+    ghost use Rattle.lb_rebuild_slots.specs.SlotCalls.{readers_at, left_slot, TakesAt, destroyed_slot, drawn_slot, superseded_more};
+    ghost use Rattle.lb_rebuild_slots.specs.SlotCalls.{SelectsFrom};
     ghost use Rattle.lb_rebuild_slots.specs.SlotCalls.{TicketAt, FailsAt, PublishesAt, AbandonsAt, LosesAt, LeavesAt};
 
     // A slot that serves a selector of generation 0 over these backends, of which there are none.
@@ -215,7 +217,7 @@ impl<S: BackendSelection> Slot<S> {
         }
     }
 
-    // Ends the flight or the lost flight of a job that failed, and gives its permit; a job that is not awaited is handed back.
+    // Ends the flight or the lost flight of a job that failed, and gives its permit; a job that is not awaited is returned.
     pub(crate) fn fail(&mut self, newest: u64, job: Job<S>, now: u128) -> Result<Permit, Job<S>>
         ensures { FailsAt newest now job (slot_value self.old) result (slot_value self.new) }
     {
@@ -242,8 +244,8 @@ impl<S: BackendSelection> Slot<S> {
         }
     }
 
-    // Serves the selector of its flight, and retires that of a lost flight or of a cancelled group unserved. A selector that is
-    // not awaited is handed back.
+    // Serves the selector of its flight, and retires that of a lost flight or of a cancelled group unserved. A selector that is not
+    // awaited is returned.
     pub(crate) fn publish(
         &mut self,
         newest: u64,
@@ -261,7 +263,7 @@ impl<S: BackendSelection> Slot<S> {
         Ok(Publication::Abandoned(self.retire(newest, built)))
     }
 
-    // Retires the selector of its flight or lost flight unserved; one that is not awaited is handed back.
+    // Retires the selector of its flight or lost flight unserved; one that is not awaited is returned.
     pub(crate) fn abandon(&mut self, newest: u64, built: Built<S>) -> Result<(), Built<S>>
         ensures { AbandonsAt newest built (slot_value self.old) result (slot_value self.new) }
     {
@@ -384,7 +386,7 @@ impl<S: BackendSelection> Slot<S> {
         })
     }
 
-    // One reader less of its generation; a reader that it does not count is handed back.
+    // One reader less of its generation; a reader that it does not count is returned.
     pub(crate) fn leave(&mut self, reader: Reader<S>) -> Result<(), Reader<S>>
         ensures { LeavesAt reader (slot_value self.old) result (slot_value self.new) }
     {
@@ -564,7 +566,7 @@ impl<S: BackendSelection> Drop for Slot<S> {
     }
 }
 
-// Puts something where nothing stands.
+// Puts something where nothing is.
 fn fill<S: BackendSelection>(stage: &mut SlotStage<S>, next: SlotStage<S>)
     requires { stage.old ≡ SlotStage.Free }
     ensures { stage.new ≡ next }
