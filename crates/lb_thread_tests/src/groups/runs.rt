@@ -16,7 +16,6 @@ use lb_select_base::backend::Backend;
 use lb_select_base::refusal::Refusal;
 use lb_threads_registry::clock::RuntimeClock;
 use lb_threads_registry::keyed::NoRule;
-use log::Log;
 use std::alloc::Global;
 use std::collections::BTreeSet;
 use std::process::Abort;
@@ -24,7 +23,7 @@ use std::sync::atomic::AtomicU64;
 use std::sync::atomic::Ordering::SeqCst;
 use std::sync::{Arc, Wait};
 use std::thread;
-use std::thread::{Threads, join};
+use std::thread::join;
 use std::time::{Clock, Duration};
 
 // How many discoveries and how many checks there were.
@@ -215,24 +214,6 @@ fn end_after<W: Clock>(
     came
 }
 
-// A run that is told to end once so much was counted; whether that came, and what it left.
-fn run<W: Abort + Log + Threads + Wait + Clock + Copy + Send + Sync + Drop + 'static>(
-    rt: &W,
-    alloc: Global,
-    bench: &mut Bench<W>,
-    wanted: Wanted,
-) -> (bool, Left) {
-    let notifier = bench.begin(rt, alloc);
-    let (counts, calls, signal) = (&*bench.counts, &*bench.calls, &mut bench.signal);
-    let (group, watch, mut clock) = (&bench.group, &bench.watch, RuntimeClock::new(*rt));
-    let (came, _) = join(
-        rt,
-        || end_after(counts, calls, wanted, signal),
-        || group.run(alloc, &mut clock, watch, Some(notifier)),
-    );
-    (came, bench.left(rt, alloc))
-}
-
 // Runs that are told to end in their update, in their check, and while they wait for a build that is held. An update is let end: its
 // membership stands. So is a check: its verdict stands. A build doesn't hold up the end; it is let end, and served. No notifier is told.
 #[test]
@@ -244,11 +225,19 @@ fn what_is_under_way_is_let_end(rt: HostRuntime) {
         (2, 1, 1, false),
         (3, 2, 2, false),
     ] {
+        let notifier = bench.begin(&rt, alloc);
         let wanted = Wanted {
             updates,
             checks,
             builds,
         };
+        let (counts, calls, signal) = (&*bench.counts, &*bench.calls, &mut bench.signal);
+        let (group, watch, mut clock) = (&bench.group, &bench.watch, RuntimeClock::new(rt));
+        let (came, _) = join(
+            &rt,
+            || end_after(counts, calls, wanted, signal),
+            || group.run(alloc, &mut clock, watch, Some(notifier)),
+        );
         let left = Left {
             updates,
             checks,
@@ -257,7 +246,7 @@ fn what_is_under_way_is_let_end(rt: HostRuntime) {
             is_ready,
             is_told: false,
         };
-        assert_eq!(rt; run(&rt, alloc, &mut bench, wanted), (true, left));
+        assert_eq!(rt; (came, bench.left(&rt, alloc)), (true, left));
     }
     assert!(rt; bench.is_served(&rt));
 }
