@@ -1,3 +1,4 @@
+pub mod Selections
 pub mod SharedUpdates
 pub mod Shown
 pub mod Texts

@@ -1,9 +1,8 @@
 //! A balancer for one thread that selects all the time: it keeps what was served at its last selection.
-ghost use Rattle.std.specs.Prelude.{◌≡◌, IfErr, IfOk, OnOk};
+ghost use Rattle.std.specs.Prelude.{◌≡◌, ◌≤◌, IfErr, IfOk, OnOk};
 ghost use Rattle.std.specs.Arc.{arc_value};
-ghost use Rattle.lb_select_base.specs.Backends.{same_member};
 ghost use Rattle.lb_rebuild_group.specs.GroupCalls.{AcceptsBy};
-ghost use Rattle.lb_balancer.specs.Shown.{SelectsOf, ShownValue, is_up};
+ghost use Rattle.lb_balancer.specs.Selections.{SelectsFrom};
 
 use crate::balancing::Balancing;
 use crate::load_balancer::LoadBalancer;
@@ -57,18 +56,32 @@ impl<
     R: KeyRule + Drop,
     C: HealthCheck + Drop,
 > BalancerReader<'b, S, D, R, C> {
-    // Looks whether something changed since, and takes what is served now.
+    // Looks whether something changed since, and takes what is served now, which is no older than what was seen.
     fn look<W: Wait>(&mut self, rt: &W, alloc: Global) -> Result<(), Refusal>
         ensures same { self.new.balancing ≡ self.old.balancing }
+        ensures later { (arc_value self.old.seen).generation ≤ (arc_value self.new.seen).generation }
         ensures refused { IfErr result (λ e. e ≡ Refusal.OutOfMemory) }
     {
-        if self.seen.version() != self.balancing.version() {
-            self.seen = self.balancing.shown(rt, alloc)?;
+        if self.seen.version() == self.balancing.version() {
+            return Ok(());
+        }
+        let shown = self.balancing.shown(rt, alloc)?;
+        // Generations never fall, but no contract says so: callers know it by this look.
+        if self.seen.generation() <= shown.generation() {
+            self.seen = shown;
         }
         Ok(())
     }
 
-    /// Returns the first ready backend, as `LoadBalancer::select` does.
+    /// Returns the generation that the reader saw last. What it selects from later is of that generation or a newer one.
+    pub fn generation(&self) -> u64
+        ensures { result ≡ (arc_value self.now.seen).generation }
+    {
+        self.seen.generation()
+    }
+
+    /// Returns the first ready backend, as `LoadBalancer::select` does. What it is selected from is of no earlier generation than the
+    /// reader saw before.
     pub fn select<W: Wait>(
         &mut self,
         rt: &W,
@@ -76,8 +89,10 @@ impl<
         key: &[u8],
         max_iterations: usize,
     ) -> Result<Option<Backend>, Refusal>
-        ensures answers { OnOk result ((s : ShownValue S.Config) × (s.config ≡ self.old.balancing.now.config)
-            × SelectsOf same_member (λ b ready. ready ≡ is_up s.unready b) max_iterations (S.walks s.members s.config key.now) result) }
+        ensures answers { OnOk result
+            (SelectsFrom (λ was_ready. was_ready) max_iterations S.walks key.now (arc_value self.new.seen) result) }
+        ensures later { (arc_value self.old.seen).generation ≤ (arc_value self.new.seen).generation }
+        ensures config { (arc_value self.new.seen).config ≡ self.old.balancing.now.config }
         ensures refused { IfErr result (λ e. e ≡ Refusal.OutOfMemory) }
         ensures same { self.new.balancing ≡ self.old.balancing }
     {
@@ -96,9 +111,10 @@ impl<
         accept: &F,
     ) -> Result<Option<Backend>, Refusal>
         requires { F.IsAlwaysCallable accept.now }
-        ensures answers { OnOk result ((s : ShownValue S.Config) × (s.config ≡ self.old.balancing.now.config)
-            × SelectsOf same_member (AcceptsBy F.Fn accept.now (λ b ready. ready ≡ is_up s.unready b)) max_iterations
-            (S.walks s.members s.config key.now) result) }
+        ensures answers { OnOk result
+            (SelectsFrom (AcceptsBy F.Fn accept.now) max_iterations S.walks key.now (arc_value self.new.seen) result) }
+        ensures later { (arc_value self.old.seen).generation ≤ (arc_value self.new.seen).generation }
+        ensures config { (arc_value self.new.seen).config ≡ self.old.balancing.now.config }
         ensures refused { IfErr result (λ e. e ≡ Refusal.OutOfMemory) }
         ensures same { self.new.balancing ≡ self.old.balancing }
     {
