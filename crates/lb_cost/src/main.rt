@@ -1,5 +1,5 @@
 //! What the library's parts cost: `lb_cost WORD [WORD ..]`. The first word says what is measured, and the scripts of `bench/` print the
-//! results; without a word each is measured once in a small form, whose lines are always the same.
+//! results; `soak` runs groups under threads. Without a word each is done once in a small form, whose lines are always the same.
 #![tactic(auto)]
 
 mod board;
@@ -8,9 +8,11 @@ mod health;
 mod members;
 mod selects;
 mod shared;
+mod soak;
 mod words;
 
 use anyhow::Error;
+use log::Log;
 use std::alloc::Global;
 use std::env;
 use std::sync::Wait;
@@ -19,7 +21,7 @@ use std::time::Clock;
 use words::Usage;
 
 // Measures what a word says, by these numbers.
-fn measure<R: Threads + Wait + Clock + Input + Print + Copy + Sync>(
+fn measure<R: Log + Threads + Wait + Clock + Input + Print + Copy + Send + Sync + Drop + 'static>(
     rt: &R,
     alloc: Global,
     word: &str,
@@ -31,20 +33,21 @@ fn measure<R: Threads + Wait + Clock + Input + Print + Copy + Sync>(
         "health" => health::run(rt, alloc, numbers),
         "selects" => selects::run(rt, alloc),
         "shared" => shared::run(rt, alloc, numbers),
+        "soak" => soak::run(rt, alloc, numbers),
         _ => Err(Usage::UnknownWord)?,
     }
 }
 
 // Measures each once, in its small form.
-fn measure_all<R: Threads + Wait + Clock + Input + Print + Copy + Sync>(
-    rt: &R,
-    alloc: Global,
-) -> Result<(), Error> {
+fn measure_all<
+    R: Log + Threads + Wait + Clock + Input + Print + Copy + Send + Sync + Drop + 'static,
+>(rt: &R, alloc: Global) -> Result<(), Error> {
     for word in ["board", "group", "health"] {
         measure(rt, alloc, word, &[])?;
     }
     selects::few(rt, alloc)?;
-    shared::run(rt, alloc, &[])
+    shared::run(rt, alloc, &[])?;
+    soak::run(rt, alloc, &[])
 }
 
 fn main(rt: HostRuntime) -> Result<(), Error> {

@@ -1,5 +1,5 @@
-//! Tests of a balancer that threads share: what it serves beside updates, checks and flags, and what its run does, which no contract says of
-//! running threads.
+//! Tests of a balancer that threads share: what it serves during updates, checks and flags, and what its run does, which no contract says
+//! of running threads.
 mod beside;
 mod calls;
 mod fixtures;

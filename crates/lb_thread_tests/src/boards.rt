@@ -3,7 +3,6 @@ ghost use Rattle.std.specs.Prelude.{◌≡◌};
 
 use lb_rebuild::board::{Board, GroupPass, WritingPass};
 use std::alloc::Global;
-use std::test::Fail;
 use std::thread;
 use std::thread::{Threads, join};
 
@@ -73,8 +72,8 @@ fn four_read<R: Threads + Sync>(rt: &R, alloc: Global, board: &Board) -> bool {
 
 // No reading of a thread is below an earlier one of its pass, whatever is written meanwhile.
 #[test]
-fn four_readers_never_fall(rt: HostRuntime) -> Result<(), Fail> {
-    let (board, writer) = Board::new(rt.alloc(), 1)?;
+fn four_readers_never_fall(rt: HostRuntime) {
+    let (board, writer) = Board::new(rt.alloc(), 1).expect(&rt, "refused");
     let shared = &board;
     let host = &rt;
     let ((), never_fell) = join(
@@ -85,41 +84,38 @@ fn four_readers_never_fall(rt: HostRuntime) -> Result<(), Fail> {
         move || four_read(host, host.alloc(), shared),
     );
     assert!(rt; never_fell);
-    Ok(())
 }
 
 // What a board tells whose newest generation is 3 and whose one slot serves 2.
 #[test]
-fn readings_tell_the_words(rt: HostRuntime) -> Result<(), Fail> {
-    let (board, mut writer) = Board::new(rt.alloc(), 1)?;
+fn readings_tell_the_words(rt: HostRuntime) {
+    let (board, mut writer) = Board::new(rt.alloc(), 1).expect(&rt, "refused");
     let mut pass = board.pass();
     board.raise(&mut writer, 0, 3);
     board.raise(&mut writer, 1, 2);
-    let two = all_readings(&board, 0, 2, &mut pass);
-    assert_eq!(rt;
-        two,
+    let told = [
+        all_readings(&board, 0, 2, &mut pass),
+        all_readings(&board, 7, 3, &mut pass),
+    ];
+    let wanted = [
         Readings {
             newest: 3,
             served: Some(2),
-            is_ready: true
-        }
-    );
-    let three = all_readings(&board, 7, 3, &mut pass);
-    assert_eq!(rt;
-        three,
+            is_ready: true,
+        },
         Readings {
             newest: 3,
             served: None,
-            is_ready: false
-        }
-    );
-    Ok(())
+            is_ready: false,
+        },
+    ];
+    assert_eq!(rt; told, wanted);
 }
 
 // A pass that met another one reads nothing below what that one read.
 #[test]
-fn passes_meet(rt: HostRuntime) -> Result<(), Fail> {
-    let (board, mut writer) = Board::new(rt.alloc(), 1)?;
+fn passes_meet(rt: HostRuntime) {
+    let (board, mut writer) = Board::new(rt.alloc(), 1).expect(&rt, "refused");
     let mut one = board.pass();
     let mut other = board.pass();
     for generation in 1..1000 {
@@ -129,5 +125,4 @@ fn passes_meet(rt: HostRuntime) -> Result<(), Fail> {
         board.meet(&rt, &mut one, &mut other);
         assert!(rt; board.backend_generation_as(&mut other) >= seen);
     }
-    Ok(())
 }

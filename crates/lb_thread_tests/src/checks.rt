@@ -9,6 +9,7 @@ use lb_threads_registry::registry::HealthRegistry;
 use log::Log;
 use std::alloc::Global;
 use std::collections::BTreeSet;
+use std::process::Abort;
 use std::sync::atomic::AtomicU64;
 use std::sync::atomic::Ordering::SeqCst;
 use std::sync::{Arc, Wait};
@@ -70,28 +71,29 @@ impl<R: Clock> HealthCheck for Meeting<R> {
 }
 
 // The registry with a view of three backends, of weights 1 to 3.
-fn three_targets(alloc: Global, registry: KeyedRegistry) -> Result<KeyedRegistry, Refusal> {
+fn three_targets<R: Abort>(rt: &R, alloc: Global, registry: KeyedRegistry) -> KeyedRegistry {
     let mut registry = registry;
-    let id = registry.register_view(alloc)?;
+    let id = registry.register_view(alloc).expect(rt, "refused");
     let mut set = BTreeSet::new(alloc);
     for weight in 1..4 {
-        set.insert(Backend::new_with_weight(alloc, "1.0.0.1:80", weight)?)?;
+        let backend = Backend::new_with_weight(alloc, "1.0.0.1:80", weight).expect(rt, "refused");
+        set.insert(backend).expect(rt, "refused");
     }
-    registry.update_view(alloc, id, set)?;
-    Ok(registry)
+    registry.update_view(alloc, id, set).expect(rt, "refused");
+    registry
 }
 
 // A registry with a check of this type.
 type Registry<R> = HealthRegistry<Rule<NoRule>, Meeting<R>>;
 
 // Sets a check that waits for so many turns.
-fn set<R: Wait + Clock + Copy + Drop>(
+fn set<R: Abort + Wait + Clock + Copy + Drop>(
     rt: &R,
     registry: &Registry<R>,
     seen: &Arc<Seen>,
     turns: usize,
 ) -> Result<(), Refusal> {
-    let seen = Arc::try_clone(seen)?;
+    let seen = Arc::try_clone(seen).expect(rt, "refused");
     let check = Meeting {
         rt: *rt,
         turns,
@@ -105,36 +107,38 @@ fn set<R: Wait + Clock + Copy + Drop>(
 type Told = (Result<(), Refusal>, u64, u64, usize, [bool; 3]);
 
 // A pass with its checks at the same time or not, once a second check was set.
-fn passed<R: Log + Threads + Wait + Clock + Copy + Send + Sync + Drop>(
+fn passed<R: Abort + Log + Threads + Wait + Clock + Copy + Send + Sync + Drop>(
     rt: R,
     alloc: Global,
     registry: &Registry<R>,
     seen: &Arc<Seen>,
     parallel: bool,
-) -> Result<Told, Refusal> {
+) -> Told {
     let second = set(&rt, registry, seen, 0);
-    registry.run_health_check(&rt, alloc, parallel)?;
+    registry
+        .run_health_check(&rt, alloc, parallel)
+        .expect(&rt, "refused");
     let healthy = [
         registry.cell_ready(&rt, 0),
         registry.cell_ready(&rt, 1),
         registry.cell_ready(&rt, 2),
     ];
     let most = seen.most.load(SeqCst).min(2);
-    let targets = registry.target_count(&rt, alloc)?;
-    Ok((second, seen.checks.load(SeqCst), most, targets, healthy))
+    let targets = registry.target_count(&rt, alloc).expect(&rt, "refused");
+    (second, seen.checks.load(SeqCst), most, targets, healthy)
 }
 
 // A pass over three targets of a registry of its own, whose check waits for so many turns.
-fn pass<R: Log + Threads + Wait + Clock + Copy + Send + Sync + Drop>(
+fn pass<R: Abort + Log + Threads + Wait + Clock + Copy + Send + Sync + Drop>(
     rt: R,
     alloc: Global,
     parallel: bool,
     turns: usize,
-) -> Result<Told, Refusal> {
-    let seen = Arc::new(alloc, Seen::new())?;
-    let registry = three_targets(alloc, keyed_by_identity(alloc))?;
-    let registry: Registry<R> = HealthRegistry::over(alloc, registry)?;
-    set(&rt, &registry, &seen, turns)?;
+) -> Told {
+    let seen = Arc::new(alloc, Seen::new()).expect(&rt, "refused");
+    let registry = three_targets(&rt, alloc, keyed_by_identity(alloc));
+    let registry: Registry<R> = HealthRegistry::over(alloc, registry).expect(&rt, "refused");
+    set(&rt, &registry, &seen, turns).expect(&rt, "refused");
     passed(rt, alloc, &registry, &seen, parallel)
 }
 
@@ -150,6 +154,6 @@ fn passes_of_checks(rt: HostRuntime) {
             3,
             [true, false, true],
         );
-        assert_eq!(rt; pass(rt, rt.alloc(), parallel, turns), Ok(wanted));
+        assert_eq!(rt; pass(rt, rt.alloc(), parallel, turns), wanted);
     }
 }

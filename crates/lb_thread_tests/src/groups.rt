@@ -7,19 +7,14 @@ mod runs;
 mod turns;
 mod waking;
 
-use crate::counted::Counts;
-use crate::crowd::{Crowd, Group, Registry, Site, ends, is_free};
-use lb_select_base::refusal::Refusal;
+use lb_crowd::crowd::{Crowd, Registry};
 use lb_threads_registry::registry::HealthRegistry;
 use log::Log;
 use std::alloc::Global;
 use std::process::Abort;
-use std::sync::atomic::Ordering::SeqCst;
 use std::sync::{Arc, Wait};
-use std::test::Fail;
-use std::thread;
 use std::thread::Threads;
-use std::time::{Clock, Duration};
+use std::time::Clock;
 
 // How often the polls of these tests look, each ten milliseconds apart.
 const TURNS: u64 = 1000;
@@ -46,16 +41,13 @@ fn play<W: Abort + Log + Threads + Wait + Clock + Copy + Send + Sync + Drop + 's
     alloc: Global,
     crowd: &Crowd<W>,
     row: Row,
-) -> Result<(), Refusal> {
+) {
     let [first, second] = crowd.groups();
     match row {
         Row::WithoutWorkers => handles::without_workers(rt, alloc, &crowd.first),
         Row::WithWorkers => passes::with_workers(rt, alloc, &crowd.first),
         Row::StartsButOne => handles::starts_but_one(rt, alloc, &crowd.first),
-        Row::ServedInACrowd => {
-            builds::served_in_a_crowd(rt, alloc, crowd);
-            Ok(())
-        }
+        Row::ServedInACrowd => builds::served_in_a_crowd(rt, alloc, crowd),
         Row::SelectsBesideABuild => builds::selects_beside_a_build(rt, alloc, crowd),
         Row::CancelsABuild => builds::cancels_a_build(rt, alloc, crowd),
         Row::TurnsOnOneGate => turns::turns_on_one_gate(rt, alloc, first, second),
@@ -66,64 +58,24 @@ fn play<W: Abort + Log + Threads + Wait + Clock + Copy + Send + Sync + Drop + 's
     }
 }
 
-// Plays a case, lets go of both handles then, and looks at what the groups leave.
+// Plays a case, drops both handles then, and looks at what the groups leave.
 fn played<W: Abort + Log + Threads + Wait + Clock + Copy + Send + Sync + Drop + 'static>(
     rt: &W,
     alloc: Global,
     registry: &Arc<Registry>,
     row: Row,
-) -> Result<(), Refusal> {
-    let crowd = Crowd::new(*rt, alloc, registry, false)?;
-    let one = Arc::try_clone(crowd.first.shared())?;
-    let other = Arc::try_clone(crowd.second.shared())?;
-    play(rt, alloc, &crowd, row)?;
-    let Crowd {
-        site,
-        first,
-        second,
-    } = crowd;
-    drop(first);
-    drop(second);
-    assert_eq!(rt; left(rt, &site, one, other), [true; 5], "{row:?}");
-    Ok(())
-}
-
-// What groups leave whose handles are gone: both are cancelled and their workers end, more selectors than the slots and one never lived
-// and none lives on, and the permit is back.
-fn left<W: Wait + Clock + Copy + Drop>(
-    rt: &W,
-    site: &Site<W>,
-    one: Arc<Group<W>>,
-    other: Arc<Group<W>>,
-) -> [bool; 5] {
-    let are_cancelled = one.is_cancelled(rt) && other.is_cancelled(rt);
-    let have_ended = ends(rt, &*one, TURNS) && ends(rt, &*other, TURNS);
-    drop(one);
-    drop(other);
-    [
-        are_cancelled,
-        have_ended,
-        site.counts.most.load(SeqCst) <= 5,
-        is_free(rt, &site.gate),
-        lives_none(&site.counts),
-    ]
-}
-
-// Whether no selector lives any more, within a thousand turns of ten milliseconds: a worker that ended lets its group go a little later.
-fn lives_none<W: Clock>(counts: &Counts<W>) -> bool {
-    for _ in 0..TURNS {
-        if counts.live.load(SeqCst) == 0 {
-            return true;
-        }
-        thread::sleep(&counts.rt, Duration::from_millis(10));
-    }
-    false
+) {
+    let crowd = Crowd::new(*rt, alloc, registry).expect(rt, "refused");
+    play(rt, alloc, &crowd, row);
+    let left = crowd.leave(rt, TURNS).expect(rt, "refused");
+    assert_eq!(rt; left, [true; 5], "{row:?}");
 }
 
 #[test]
-fn rows_of_groups(rt: HostRuntime) -> Result<(), Fail> {
+fn rows_of_groups(rt: HostRuntime) {
     let alloc = rt.alloc();
-    let registry = Arc::new(alloc, HealthRegistry::new(alloc)?)?;
+    let registry = HealthRegistry::new(alloc).expect(&rt, "refused");
+    let registry = Arc::new(alloc, registry).expect(&rt, "refused");
     for row in [
         Row::WithoutWorkers,
         Row::WithWorkers,
@@ -137,7 +89,6 @@ fn rows_of_groups(rt: HostRuntime) -> Result<(), Fail> {
         Row::LastReaderWakes,
         Row::RebuildsGoOn,
     ] {
-        played(&rt, alloc, &registry, row)?;
+        played(&rt, alloc, &registry, row);
     }
-    Ok(())
 }

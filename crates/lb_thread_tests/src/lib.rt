@@ -1,5 +1,4 @@
-//! Tests of what threads share: locks, boards, checks, registries, services, balancers and groups. The crowd
-//! of groups whose selectors are counted is for `lb_soak` too.
+//! Tests of what threads share: locks, boards, checks, registries, services, balancers and groups. There is no code here but the tests'.
 #![tactic(auto)]
 
 #[cfg(test)]
@@ -8,8 +7,6 @@ mod balancer;
 mod boards;
 #[cfg(test)]
 mod checks;
-pub mod counted;
-pub mod crowd;
 #[cfg(test)]
 mod ends;
 #[cfg(test)]

@@ -3,7 +3,6 @@ use lb_threads_registry::gate::SelectorRebuildGate;
 use lb_threads_registry::lock::KeyedLock;
 use lb_threads_registry::rule::LockRule;
 use std::sync::Wait;
-use std::test::Fail;
 use std::thread;
 use std::thread::{Threads, join};
 
@@ -34,12 +33,12 @@ fn total<R: Wait>(rt: &R, lock: &KeyedLock<u64, (), OfAny>) -> u64 {
 
 // No addition is lost, whichever thread made it.
 #[test]
-fn every_addition_counts(rt: HostRuntime) -> Result<(), Fail> {
-    let lock = KeyedLock::new(rt.alloc(), 0, &())?;
+fn every_addition_counts(rt: HostRuntime) {
+    let lock = KeyedLock::new(rt.alloc(), 0, &()).expect(&rt, "refused");
     let shared = &lock;
-    let added = thread::map_indices(&rt, rt.alloc(), 4, &|_| add(&rt, shared, 5000))?;
-    assert_eq!(rt; (added.len(), total(&rt, shared)), (4, 20_000));
-    Ok(())
+    let added = thread::map_indices(&rt, rt.alloc(), 4, &|_| add(&rt, shared, 5000));
+    let count = added.expect(&rt, "refused").len();
+    assert_eq!(rt; (count, total(&rt, shared)), (4, 20_000));
 }
 
 // Grants the permit where it is there, and gives it back; whether it was there.
@@ -66,9 +65,8 @@ fn granted_beside<R: Threads + Wait + Sync>(
 
 // Of a gate whose permit is held, no other thread gets it; it does once the permit is back.
 #[test]
-fn one_permit_at_a_time(rt: HostRuntime) -> Result<(), Fail> {
-    let gate = SelectorRebuildGate::new(rt.alloc())?;
-    assert_eq!(rt; granted_beside(&rt, &gate), Some([false; 2]));
-    assert!(rt; granted(&rt, &gate));
-    Ok(())
+fn one_permit_at_a_time(rt: HostRuntime) {
+    let gate = SelectorRebuildGate::new(rt.alloc()).expect(&rt, "refused");
+    let told = (granted_beside(&rt, &gate), granted(&rt, &gate));
+    assert_eq!(rt; told, (Some([false; 2]), true));
 }

@@ -9,11 +9,11 @@ use lb_health_check::health_check::HealthCheck;
 use lb_health_registry::keys::Rule;
 use lb_select_base::backend::Backend;
 use lb_select_base::moments::MomentSource;
-use lb_select_base::refusal::Refusal;
 use lb_threads_registry::keyed::{KeyedRegistry, NoRule, keyed_by_identity};
 use lb_threads_registry::registry::HealthRegistry;
 use std::alloc::Global;
 use std::collections::BTreeSet;
+use std::process::Abort;
 use std::sync::atomic::AtomicU64;
 use std::sync::atomic::Ordering::SeqCst;
 use std::sync::{Arc, Wait};
@@ -71,13 +71,14 @@ impl<R: Clock> HealthCheck for Down<R> {
 pub type Checked<R> = HealthRegistry<Rule<NoRule>, Down<R>>;
 
 /// A registry with a view, its first, of the backend 1.0.0.1:80/1 or of none.
-pub fn registry_of(alloc: Global, is_empty: bool) -> Result<KeyedRegistry, Refusal> {
+pub fn registry_of<R: Abort>(rt: &R, alloc: Global, is_empty: bool) -> KeyedRegistry {
     let mut registry = keyed_by_identity(alloc);
-    let id = registry.register_view(alloc)?;
+    let id = registry.register_view(alloc).expect(rt, "refused");
     if !is_empty {
-        registry.update_view(alloc, id, one_backend(alloc)?)?;
+        let set = one_backend(rt, alloc);
+        registry.update_view(alloc, id, set).expect(rt, "refused");
     }
-    Ok(registry)
+    registry
 }
 
 /// A service over a registry, the count of the registry's checks, and the ends of what tells it to end and of what it notifies.
@@ -89,43 +90,44 @@ pub struct ServiceBench<R> {
     pub ends: Ends,
 }
 
-impl<R: Wait + Clock + Copy + Send + Sync + Drop> ServiceBench<R> {
+impl<R: Abort + Wait + Clock + Copy + Send + Sync + Drop> ServiceBench<R> {
     /// Over this registry, which has no check yet.
-    pub fn new(alloc: Global, registry: KeyedRegistry) -> Result<ServiceBench<R>, Refusal> {
-        let registry: Arc<Checked<R>> = Arc::new(alloc, HealthRegistry::over(alloc, registry)?)?;
-        let service = HealthCheckService::new(Arc::try_clone(&registry)?);
-        Ok(ServiceBench {
+    pub fn new(rt: &R, alloc: Global, registry: KeyedRegistry) -> ServiceBench<R> {
+        let registry = HealthRegistry::over(alloc, registry).expect(rt, "refused");
+        let registry: Arc<Checked<R>> = Arc::new(alloc, registry).expect(rt, "refused");
+        let service = HealthCheckService::new(Arc::try_clone(&registry).expect(rt, "refused"));
+        ServiceBench {
             service,
             registry,
-            checks: Arc::new(alloc, AtomicU64::new(0))?,
-            ends: Ends::new(alloc)?,
-        })
+            checks: Arc::new(alloc, AtomicU64::new(0)).expect(rt, "refused"),
+            ends: Ends::new(alloc).expect(rt, "refused"),
+        }
     }
 
     /// Sets the registry's check, which waits until services are to end or doesn't.
-    pub fn set_check(&self, rt: &R, waits: bool) -> Result<(), Refusal> {
-        let checks = Arc::try_clone(&self.checks)?;
+    pub fn set_check(&self, rt: &R, waits: bool) {
         let until = if waits {
-            Some(self.ends.watch.try_clone()?)
+            Some(self.ends.watch.try_clone().expect(rt, "refused"))
         } else {
             None
         };
-        self.registry.set_health_check(
-            rt,
-            Down {
-                rt: *rt,
-                checks,
-                until,
-            },
-        )
+        let check = Down {
+            rt: *rt,
+            checks: Arc::try_clone(&self.checks).expect(rt, "refused"),
+            until,
+        };
+        self.registry
+            .set_health_check(rt, check)
+            .expect(rt, "refused");
     }
 }
 
 /// The backend 1.0.0.1:80/1.
-pub fn one_backend(alloc: Global) -> Result<BTreeSet<Backend>, Refusal> {
+pub fn one_backend<R: Abort>(rt: &R, alloc: Global) -> BTreeSet<Backend> {
+    let backend = Backend::new(alloc, "1.0.0.1:80").expect(rt, "refused");
     let mut set = BTreeSet::new(alloc);
-    set.insert(Backend::new(alloc, "1.0.0.1:80")?)?;
-    Ok(set)
+    set.insert(backend).expect(rt, "refused");
+    set
 }
 
 /// Waits, for ten seconds at most, until so many checks were counted; whether they were.

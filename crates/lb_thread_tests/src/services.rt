@@ -6,10 +6,10 @@ use lb_select_base::refusal::Refusal;
 use log::sink::Locked;
 use log::{Level, Log, Logged};
 use std::alloc::Global;
+use std::process::Abort;
 use std::sync::Wait;
 use std::sync::atomic::AtomicU64;
 use std::sync::atomic::Ordering::SeqCst;
-use std::test::Fail;
 use std::thread;
 use std::thread::{Threads, join};
 use std::time::{Clock, Duration};
@@ -114,7 +114,7 @@ const ROWS: [Row; 5] = [
 ];
 
 // Does what happens beside a service; whether it came.
-fn happens<R: Wait + Clock + Drop>(
+fn happens<R: Abort + Wait + Clock + Drop>(
     rt: &R,
     alloc: Global,
     beside: Beside,
@@ -134,21 +134,21 @@ fn happens<R: Wait + Clock + Drop>(
 }
 
 // Publishes the view's first target a little later.
-fn publish_later<R: Wait + Clock + Drop>(
+fn publish_later<R: Abort + Wait + Clock + Drop>(
     rt: &R,
     alloc: Global,
     registry: &Checked<R>,
 ) -> Result<(), Refusal> {
     thread::sleep(rt, Duration::from_millis(20));
-    registry.update_view(rt, alloc, 1, one_backend(alloc)?)
+    registry.update_view(rt, alloc, 1, one_backend(rt, alloc))
 }
 
 // Sets up the service and its signal for a case.
-fn begin<R: Wait + Clock + Copy + Send + Sync + Drop>(
+fn begin<R: Abort + Wait + Clock + Copy + Send + Sync + Drop>(
     rt: &R,
     bench: &mut ServiceBench<R>,
     row: &Row,
-) -> Result<(), Refusal> {
+) {
     bench.service.health_check_frequency = row.frequency;
     bench.service.parallel_health_check = row.is_parallel;
     match row.signal {
@@ -156,11 +156,11 @@ fn begin<R: Wait + Clock + Copy + Send + Sync + Drop>(
         Signal::SendsTheEnd => send_end(&mut bench.ends.signal),
         Signal::IsGone => bench.ends.signal = None,
     }
-    bench.set_check(rt, row.waits)
+    bench.set_check(rt, row.waits);
 }
 
 // Runs the service, beside what happens meanwhile.
-fn runs<R: Log + Threads + Wait + Clock + Copy + Send + Sync + Drop>(
+fn runs<R: Abort + Log + Threads + Wait + Clock + Copy + Send + Sync + Drop>(
     rt: &R,
     alloc: Global,
     bench: &mut ServiceBench<R>,
@@ -188,21 +188,21 @@ fn runs<R: Log + Threads + Wait + Clock + Copy + Send + Sync + Drop>(
 }
 
 // A case, on a new service.
-fn played<R: Log + Threads + Wait + Clock + Copy + Send + Sync + Drop>(
+fn played<R: Abort + Log + Threads + Wait + Clock + Copy + Send + Sync + Drop>(
     rt: &R,
     alloc: Global,
     row: &Row,
-) -> Result<Told, Refusal> {
-    let mut bench = ServiceBench::new(alloc, registry_of(alloc, row.is_empty)?)?;
-    begin(rt, &mut bench, row)?;
-    Ok(runs(rt, alloc, &mut bench, row))
+) -> Told {
+    let mut bench = ServiceBench::new(rt, alloc, registry_of(rt, alloc, row.is_empty));
+    begin(rt, &mut bench, row);
+    runs(rt, alloc, &mut bench, row)
 }
 
 #[test]
 fn rows_of_services(rt: HostRuntime) {
     for row in &ROWS {
         let name = row.name;
-        assert_eq!(rt; played(&rt, rt.alloc(), row), Ok(row.wanted), "{name}");
+        assert_eq!(rt; played(&rt, rt.alloc(), row), row.wanted, "{name}");
     }
 }
 
@@ -224,11 +224,9 @@ fn run_without_check<R: Wait + Clock + Copy + Send + Sync + Drop, L: Log + Threa
 
 // A service without a check logs an error, and ends where nobody can send the end any more; it isn't ready.
 #[test]
-fn service_wants_a_check(rt: HostRuntime) -> Result<(), Fail> {
-    let mut bench: ServiceBench<HostRuntime> = ServiceBench::new(
-        rt.alloc(),
-        registry_of(rt.alloc(), false)?,
-    )?;
+fn service_wants_a_check(rt: HostRuntime) {
+    let registry = registry_of(&rt, rt.alloc(), false);
+    let mut bench = ServiceBench::new(&rt, rt.alloc(), registry);
     let sink = Locked::new(rt, Vec::new(rt.alloc()));
     run_without_check(
         &Logged::new(rt, Level::Debug, &sink),
@@ -241,5 +239,4 @@ fn service_wants_a_check(rt: HostRuntime) -> Result<(), Fail> {
     let is_said = text.as_slice().starts_with(line.as_bytes());
     let told = (text.len(), is_said, bench.ends.ready.is_ready());
     assert_eq!(rt; told, (2 * line.len(), true, false));
-    Ok(())
 }

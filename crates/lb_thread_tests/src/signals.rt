@@ -5,10 +5,9 @@ use crate::service_fixtures::Ticks;
 use lb_background::event::Event;
 use lb_background::ready::ready_pair;
 use lb_background::shutdown::{ShutdownSignal, ShutdownWatch, shutdown_pair};
-use lb_select_base::refusal::Refusal;
 use std::alloc::Global;
+use std::process::Abort;
 use std::sync::Wait;
-use std::test::Fail;
 use std::thread;
 use std::thread::join;
 use std::time::{Clock, Duration};
@@ -34,31 +33,33 @@ fn told(
 
 // The latest that was sent counts; a signal whose latest was the end leaves the end.
 #[test]
-fn latest_counts(rt: HostRuntime) -> Result<(), Fail> {
-    let (mut signal, watch) = shutdown_pair(rt.alloc())?;
-    let other = watch.try_clone()?;
-    assert_eq!(rt; watch.event(), None);
+fn latest_counts(rt: HostRuntime) {
+    let (mut signal, watch) = shutdown_pair(rt.alloc()).expect(&rt, "refused");
+    let other = watch.try_clone().expect(&rt, "refused");
+    let first = watch.event();
     let told = [
         told(&mut signal, &watch, &other, false),
         told(&mut signal, &watch, &other, true),
         told(&mut signal, &watch, &other, false),
         told(&mut signal, &watch, &other, true),
     ];
-    let (goes_on, ends) = (([None; 3], false), ([SHUTDOWN; 3], true));
-    assert_eq!(rt; told, [goes_on, ends, goes_on, ends]);
     drop(signal);
-    assert_eq!(rt; [watch.event(), other.event()], [SHUTDOWN; 2]);
-    Ok(())
+    let last = [watch.event(), other.event()];
+    let (goes_on, ends) = (([None; 3], false), ([SHUTDOWN; 3], true));
+    assert_eq!(rt;
+        (first, told, last),
+        (None, [goes_on, ends, goes_on, ends], [SHUTDOWN; 2])
+    );
 }
 
 // What a watch tells of a signal that is gone and sent these before, and whether that is the end.
-fn left(alloc: Global, sent: &[bool]) -> Result<(Option<Event>, bool), Refusal> {
-    let (mut signal, watch) = shutdown_pair(alloc)?;
+fn left<R: Abort>(rt: &R, alloc: Global, sent: &[bool]) -> (Option<Event>, bool) {
+    let (mut signal, watch) = shutdown_pair(alloc).expect(rt, "refused");
     for is_end in sent {
         signal.send(*is_end);
     }
     drop(signal);
-    Ok((watch.event(), watch.is_shut()))
+    (watch.event(), watch.is_shut())
 }
 
 // A signal that is gone is closed, unless its latest was the end.
@@ -70,7 +71,7 @@ fn dropped_signal_is_closed(rt: HostRuntime) {
         (&[false, true], (SHUTDOWN, true)),
     ];
     for (sent, wanted) in rows {
-        assert_eq!(rt; left(rt.alloc(), sent), Ok(wanted));
+        assert_eq!(rt; left(&rt, rt.alloc(), sent), wanted);
     }
 }
 
@@ -83,8 +84,8 @@ fn waited<R: Wait>(rt: &R, watch: &ShutdownWatch, heard: Option<Event>) -> (Opti
 
 // A wait ends at its moment, and before it where something else was sent than was heard.
 #[test]
-fn wait_ends_at_its_moment(rt: HostRuntime) -> Result<(), Fail> {
-    let (signal, watch) = shutdown_pair(rt.alloc())?;
+fn wait_ends_at_its_moment(rt: HostRuntime) {
+    let (signal, watch) = shutdown_pair(rt.alloc()).expect(&rt, "refused");
     let before = waited(&rt, &watch, None);
     drop(signal);
     let after = [waited(&rt, &watch, None), waited(&rt, &watch, CLOSED)];
@@ -92,7 +93,6 @@ fn wait_ends_at_its_moment(rt: HostRuntime) -> Result<(), Fail> {
         (before, after),
         ((None, 110), [(CLOSED, 10), (CLOSED, 110)])
     );
-    Ok(())
 }
 
 // Sends the end a little later.
@@ -103,8 +103,8 @@ fn send_later<R: Clock>(rt: &R, signal: &mut ShutdownSignal) {
 
 // A watch of a clock that stands still is woken by the signal of another thread.
 #[test]
-fn signal_wakes_a_watch(rt: HostRuntime) -> Result<(), Fail> {
-    let (mut signal, watch) = shutdown_pair(rt.alloc())?;
+fn signal_wakes_a_watch(rt: HostRuntime) {
+    let (mut signal, watch) = shutdown_pair(rt.alloc()).expect(&rt, "refused");
     let mut clock = Ticks { next: 0, step: 0 };
     let sends = &mut signal;
     let (_, event) = join(
@@ -113,21 +113,16 @@ fn signal_wakes_a_watch(rt: HostRuntime) -> Result<(), Fail> {
         || watch.wait_until(&rt, &mut clock, 1, None),
     );
     assert_eq!(rt; event, SHUTDOWN);
-    Ok(())
 }
 
 // A notifier tells its watch for good; one that is dropped tells nothing.
 #[test]
-fn notifier_tells_once(rt: HostRuntime) -> Result<(), Fail> {
-    let (notifier, watch) = ready_pair(rt.alloc())?;
+fn notifier_tells_once(rt: HostRuntime) {
+    let (notifier, watch) = ready_pair(rt.alloc()).expect(&rt, "refused");
+    let (dropped, other) = ready_pair(rt.alloc()).expect(&rt, "refused");
     let before = watch.is_ready();
     notifier.notify_ready();
-    assert_eq!(rt;
-        [before, watch.is_ready(), watch.is_ready()],
-        [false, true, true]
-    );
-    let (notifier, watch) = ready_pair(rt.alloc())?;
-    drop(notifier);
-    assert!(rt; !watch.is_ready());
-    Ok(())
+    drop(dropped);
+    let told = [before, watch.is_ready(), watch.is_ready(), other.is_ready()];
+    assert_eq!(rt; told, [false, true, true, false]);
 }

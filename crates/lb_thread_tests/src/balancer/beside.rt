@@ -1,11 +1,10 @@
 //! Selections beside updates and checks, in threads.
 use crate::balancer::fixtures::{Bench, ROWS, is_second, waited};
 use lb_select::selection::RoundRobin;
-use lb_select_base::refusal::Refusal;
 use log::Log;
+use std::process::Abort;
 use std::sync::Wait;
 use std::sync::atomic::Ordering::SeqCst;
-use std::test::Fail;
 use std::thread;
 use std::thread::Threads;
 use std::time::{Clock, Duration};
@@ -22,126 +21,124 @@ enum Case {
 }
 
 // Selects once the discovery was asked, and lets it answer then; whether it was asked, and nothing was selected.
-fn selects_meanwhile<R: Wait + Clock + Copy + Drop>(
+fn selects_meanwhile<R: Abort + Wait + Clock + Copy + Drop>(
     rt: &R,
     bench: &Bench<RoundRobin, R>,
-) -> Result<bool, Refusal> {
+) -> bool {
     let came = waited(rt, &bench.line.asked, 1);
-    let found = bench.balancer.select(rt, bench.alloc, b"k", 9);
+    let found = bench.select(rt, 9);
     bench.line.open.store(1, SeqCst);
-    Ok(came && found?.is_none())
+    came && found.is_none()
 }
 
 // What is shown now, whose generation is at least this one, and whether it is of one membership: each selected one is a member of it.
-fn shows_one<R: Wait + Clock + Copy + Drop>(
+fn shows_one<R: Abort + Wait + Clock + Copy + Drop>(
     rt: &R,
     bench: &Bench<RoundRobin, R>,
     before: u64,
-) -> Result<Option<u64>, Refusal> {
-    let shown = bench.balancer.shown(rt, bench.alloc)?;
+) -> Option<u64> {
+    let shown = bench.balancer.shown(rt, bench.alloc).expect(rt, "refused");
     let shown = &*shown;
     let generation = shown.generation();
-    let members = shown.get_backend()?;
+    let members = shown.get_backend().expect(rt, "refused");
+    let mut is_of_it = true;
     for _ in 0..4 {
-        let is_of_it = match shown.select(rt, bench.alloc, b"k", 9)? {
-            Some(backend) => members.contains(&backend),
-            None => generation == 0,
-        };
-        if generation < before || !is_of_it {
-            return Ok(None);
-        }
+        let found = shown.select(rt, bench.alloc, b"k", 9);
+        is_of_it = is_of_it
+            && match found.expect(rt, "refused") {
+                Some(backend) => members.contains(&backend),
+                None => generation == 0,
+            };
     }
-    Ok(Some(generation))
+    if generation < before || !is_of_it {
+        return None;
+    }
+    Some(generation)
 }
 
 // Whether what is shown is of one membership each time, and no generation is below one seen before.
-fn shows_ones<R: Wait + Clock + Copy + Drop>(
-    rt: &R,
-    bench: &Bench<RoundRobin, R>,
-) -> Result<bool, Refusal> {
+fn shows_ones<R: Abort + Wait + Clock + Copy + Drop>(rt: &R, bench: &Bench<RoundRobin, R>) -> bool {
     let mut before = 0;
     for _ in 0..1000 {
-        match shows_one(rt, bench, before)? {
+        match shows_one(rt, bench, before) {
             Some(generation) => before = generation,
-            None => return Ok(false),
+            None => return false,
         }
     }
-    Ok(true)
+    true
 }
 
 // Selects until the second backend was left out in two rounds of turns, for ten seconds at most; whether it was.
-fn turns_away<R: Wait + Clock + Copy + Drop>(
-    rt: &R,
-    bench: &Bench<RoundRobin, R>,
-) -> Result<bool, Refusal> {
-    let mut reader = bench.balancer.reader(rt, bench.alloc)?;
+fn turns_away<R: Abort + Wait + Clock + Copy + Drop>(rt: &R, bench: &Bench<RoundRobin, R>) -> bool {
+    let mut reader = bench.balancer.reader(rt, bench.alloc).expect(rt, "refused");
     let mut misses = 0u64;
     for _ in 0..5000 {
-        match reader.select(rt, bench.alloc, b"k", 9)? {
+        let found = reader.select(rt, bench.alloc, b"k", 9);
+        match found.expect(rt, "refused") {
             Some(backend) if !is_second(&backend) => misses = misses.saturating_add(1),
             _ => misses = 0,
         }
         if misses >= 6 {
-            return Ok(true);
+            break;
         }
         thread::sleep(rt, Duration::from_millis(2));
     }
-    Ok(false)
+    misses >= 6
 }
 
 // What a thread of a number does; whether all was as it is to be.
-fn part<R: Log + Threads + Wait + Clock + Copy + Send + Sync + Drop>(
+fn part<R: Abort + Log + Threads + Wait + Clock + Copy + Send + Sync + Drop>(
     rt: &R,
     bench: &Bench<RoundRobin, R>,
     case: Case,
     thread: usize,
-) -> Result<bool, Refusal> {
+) -> bool {
     match (case, thread) {
-        (Case::Asked, 0) => bench.update(rt, 1)?,
+        (Case::Asked, 0) => bench.update(rt, 1),
         (Case::Asked, 1) => return selects_meanwhile(rt, bench),
         (Case::Asked, _) => {}
-        (Case::Updated, 0) => bench.update(rt, 300)?,
+        (Case::Updated, 0) => bench.update(rt, 300),
         (Case::Updated, _) => return shows_ones(rt, bench),
-        (Case::Checked, 0) => bench.balancer.run_health_check(rt, bench.alloc, false)?,
+        (Case::Checked, 0) => bench
+            .balancer
+            .run_health_check(rt, bench.alloc, false)
+            .expect(rt, "refused"),
         (Case::Checked, 1) => return turns_away(rt, bench),
         (Case::Checked, _) => {}
     }
-    Ok(true)
+    true
 }
 
 // The parts of three threads, whether all was as it is to be in each, and the generation then.
-fn together<R: Log + Threads + Wait + Clock + Copy + Send + Sync + Drop>(
+fn together<R: Abort + Log + Threads + Wait + Clock + Copy + Send + Sync + Drop>(
     rt: &R,
     bench: &Bench<RoundRobin, R>,
     case: Case,
-) -> Result<(bool, u64), Refusal> {
-    let parts = thread::map_indices(rt, bench.alloc, 3, &|thread| part(rt, bench, case, thread))?;
-    let mut is_good = true;
-    for part in parts.as_slice() {
-        is_good = is_good && *part == Ok(true);
-    }
-    Ok((is_good, bench.balancer.backend_generation(rt)))
+) -> (bool, u64) {
+    let parts = thread::map_indices(rt, bench.alloc, 3, &|thread| part(rt, bench, case, thread));
+    let parts = parts.expect(rt, "refused");
+    let is_good = parts.as_slice() == [true; 3].as_slice();
+    (is_good, bench.balancer.backend_generation(rt))
 }
 
 // All cases; the check is set before the last one.
-fn cases<R: Log + Threads + Wait + Clock + Copy + Send + Sync + Drop>(
+fn cases<R: Abort + Log + Threads + Wait + Clock + Copy + Send + Sync + Drop>(
     rt: &R,
     bench: &Bench<RoundRobin, R>,
-) -> Result<[(bool, u64); 3], Refusal> {
+) -> [(bool, u64); 3] {
     bench.line.begin(false, ROWS);
-    let asked = together(rt, bench, Case::Asked)?;
-    let updated = together(rt, bench, Case::Updated)?;
-    bench.set_check(rt)?;
-    let checked = together(rt, bench, Case::Checked)?;
-    Ok([asked, updated, checked])
+    let asked = together(rt, bench, Case::Asked);
+    let updated = together(rt, bench, Case::Updated);
+    bench.set_check(rt);
+    let checked = together(rt, bench, Case::Checked);
+    [asked, updated, checked]
 }
 
 // While a discovery is asked selections go on, in what was served before. Beside updates each thread sees one membership at a time, with a
 // selector of it, and generations that only rise. A thread that keeps what it saw selects what is found down meanwhile no longer.
 #[test]
-fn selections_go_on(rt: HostRuntime) -> Result<(), Fail> {
-    let bench = Bench::new(&rt, rt.alloc())?;
-    let seen = cases(&rt, &bench)?;
+fn selections_go_on(rt: HostRuntime) {
+    let bench = Bench::new(&rt, rt.alloc());
+    let seen = cases(&rt, &bench);
     assert_eq!(rt; seen, [(true, 1), (true, 301), (true, 301)]);
-    Ok(())
 }

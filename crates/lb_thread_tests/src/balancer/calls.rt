@@ -1,122 +1,123 @@
 //! A shared balancer in one thread: what its calls do to what is served. What was seen is noted as a text.
 use crate::balancer::fixtures::{Bench, FAULT, HEAVY, InTurn, ROWS, SecondDown, note};
+use crate::service_fixtures::Ticks;
 use lb_balancer::reader::BalancerReader;
 use lb_health_registry::keys::Rule;
 use lb_select::selection::RoundRobin;
 use lb_select_base::backend::Backend;
-use lb_select_base::refusal::Refusal;
 use lb_threads_registry::keyed::NoRule;
 use log::Log;
 use std::alloc::Global;
+use std::process::Abort;
 use std::sync::Wait;
 use std::sync::atomic::Ordering::SeqCst;
-use std::test::Fail;
 use std::thread::Threads;
 use std::time::Clock;
 
 // Notes the generation, what the last accepted update took, and so many selections.
-fn look<R: Wait + Clock + Copy + Drop>(
+fn look<R: Abort + Wait + Clock + Copy + Drop>(
     rt: &R,
     bench: &Bench<RoundRobin, R>,
     times: u64,
     text: &mut String,
-) -> Result<(), Refusal> {
+) {
     let generation = bench.balancer.backend_generation(rt);
-    write!(text, "generation {generation}")?;
+    write!(text, "generation {generation}").expect(rt, "refused");
     if let Some(timing) = bench.balancer.last_update_timing(rt) {
         let (discovery, build) = (timing.discovery_duration, timing.build_duration);
-        write!(text, " took {discovery} {build}")?;
+        write!(text, " took {discovery} {build}").expect(rt, "refused");
     }
     for _ in 0..times {
-        bench.note(rt, 9, text)?;
+        bench.note(rt, 9, text);
     }
-    write!(text, "\n")?;
-    Ok(())
+    text.push('\n').expect(rt, "refused");
 }
 
 // Updates once where the discovery answers this, and notes a refusal.
-fn update<R: Wait + Clock + Copy + Drop>(
+fn update<R: Abort + Wait + Clock + Copy + Drop>(
     rt: &R,
     bench: &Bench<RoundRobin, R>,
     answers: u64,
     text: &mut String,
-) -> Result<(), Refusal> {
+) {
     bench.line.begin(true, answers);
-    match bench.update(rt, 1) {
-        Ok(()) => {}
-        Err(refusal) => write!(text, "refused {refusal}\n")?,
+    let mut clock = Ticks { next: 0, step: 5 };
+    if let Err(refusal) = bench.balancer.update(rt, bench.alloc, &mut clock) {
+        write!(text, "refused {refusal}\n").expect(rt, "refused");
     }
-    Ok(())
 }
 
 // An update, two that are refused, and one that isn't.
-fn updates<R: Wait + Clock + Copy + Drop>(
+fn updates<R: Abort + Wait + Clock + Copy + Drop>(
     rt: &R,
     bench: &Bench<RoundRobin, R>,
     text: &mut String,
-) -> Result<(), Refusal> {
-    look(rt, bench, 1, text)?;
-    update(rt, bench, ROWS, text)?;
-    look(rt, bench, 2, text)?;
-    update(rt, bench, FAULT, text)?;
-    update(rt, bench, HEAVY, text)?;
-    look(rt, bench, 1, text)?;
-    update(rt, bench, ROWS, text)?;
-    look(rt, bench, 1, text)
+) {
+    look(rt, bench, 1, text);
+    update(rt, bench, ROWS, text);
+    look(rt, bench, 2, text);
+    update(rt, bench, FAULT, text);
+    update(rt, bench, HEAVY, text);
+    look(rt, bench, 1, text);
+    update(rt, bench, ROWS, text);
+    look(rt, bench, 1, text);
 }
 
 // Three selections that look at one candidate each, and one of what isn't ready.
-fn sees<R: Wait + Clock + Copy + Drop>(
+fn sees<R: Abort + Wait + Clock + Copy + Drop>(
     rt: &R,
     alloc: Global,
     reader: &mut BalancerReader<'_, RoundRobin, InTurn<R>, Rule<NoRule>, SecondDown<R>>,
     text: &mut String,
-) -> Result<(), Refusal> {
+) {
     for _ in 0..3 {
-        let found = reader.select(rt, alloc, b"k", 1)?;
-        note(text, &found)?;
+        let found = reader.select(rt, alloc, b"k", 1).expect(rt, "refused");
+        note(rt, text, &found);
     }
     let unready = |_: &Backend, ready: bool| !ready;
-    let found = reader.select_with(rt, alloc, b"k", 9, &unready)?;
-    note(text, &found)
+    let found = reader.select_with(rt, alloc, b"k", 9, &unready);
+    note(rt, text, &found.expect(rt, "refused"));
 }
 
 // Checks between two readings of a reader.
-fn checks<R: Log + Threads + Wait + Clock + Copy + Send + Sync + Drop>(
+fn checks<R: Abort + Log + Threads + Wait + Clock + Copy + Send + Sync + Drop>(
     rt: &R,
     bench: &Bench<RoundRobin, R>,
     text: &mut String,
-) -> Result<(), Refusal> {
-    let mut reader = bench.balancer.reader(rt, bench.alloc)?;
-    let found = reader.select(rt, bench.alloc, b"k", 1)?;
-    note(text, &found)?;
-    bench.balancer.run_health_check(rt, bench.alloc, false)?;
-    write!(text, " checked {}", bench.checks.asked.load(SeqCst))?;
-    sees(rt, bench.alloc, &mut reader, text)
+) {
+    let (alloc, balancer) = (bench.alloc, &bench.balancer);
+    let mut reader = balancer.reader(rt, alloc).expect(rt, "refused");
+    let found = reader.select(rt, alloc, b"k", 1).expect(rt, "refused");
+    note(rt, text, &found);
+    balancer
+        .run_health_check(rt, alloc, false)
+        .expect(rt, "refused");
+    write!(text, " checked {}", bench.checks.asked.load(SeqCst)).expect(rt, "refused");
+    sees(rt, alloc, &mut reader, text);
 }
 
 // All calls.
-fn calls<R: Log + Threads + Wait + Clock + Copy + Send + Sync + Drop>(
+fn calls<R: Abort + Log + Threads + Wait + Clock + Copy + Send + Sync + Drop>(
     rt: &R,
     bench: &Bench<RoundRobin, R>,
     text: &mut String,
-) -> Result<(), Refusal> {
-    updates(rt, bench, text)?;
-    bench.set_check(rt)?;
-    bench.update(rt, 1)?;
-    checks(rt, bench, text)
+) {
+    updates(rt, bench, text);
+    bench.set_check(rt);
+    bench.update(rt, 1);
+    checks(rt, bench, text);
 }
 
 // Before the first update nothing is served; after it the members come in turn, and another membership starts from a new ticket. A fault of
 // the discovery and a membership that makes no selector leave generation, timing, members and turns.
 //
-// What a check finds down is selected no longer, by a thread that keeps what it saw neither. Before the checks the members come in turn; after
-// them the second one is looked at, the third drawn past the limit, and then the first comes again.
+// What a check finds down is selected no longer, by a thread that keeps what it saw neither. Before the checks the members come in turn;
+// after them the second one is looked at, the third drawn past the limit, and then the first comes again.
 #[test]
-fn calls_are_served(rt: HostRuntime) -> Result<(), Fail> {
-    let bench = Bench::new(&rt, rt.alloc())?;
+fn calls_are_served(rt: HostRuntime) {
+    let bench = Bench::new(&rt, rt.alloc());
     let mut text = String::new(rt.alloc());
-    calls(&rt, &bench, &mut text)?;
+    calls(&rt, &bench, &mut text);
     let wanted = "generation 0 none\n\
         generation 1 took 10 5 1.0.0.1:80/1 1.0.0.2:80/1\n\
         refused Discovery\n\
@@ -125,5 +126,4 @@ fn calls_are_served(rt: HostRuntime) -> Result<(), Fail> {
         generation 2 took 10 5 2.0.0.1:80/1\n \
         1.0.0.1:80/1 checked 3 none 1.0.0.1:80/1 none 1.0.0.2:80/1";
     assert_eq!(rt; text.as_str(), wanted);
-    Ok(())
 }

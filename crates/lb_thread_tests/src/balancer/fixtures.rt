@@ -13,6 +13,7 @@ use lb_select_base::walk::BackendSelection;
 use lb_threads_registry::keyed::NoRule;
 use std::alloc::Global;
 use std::collections::BTreeSet;
+use std::process::Abort;
 use std::sync::atomic::AtomicU64;
 use std::sync::atomic::Ordering::SeqCst;
 use std::sync::{Arc, Wait};
@@ -154,54 +155,63 @@ pub struct Bench<S: BackendSelection, R> {
     pub balancer: Tested<S, R>,
 }
 
-impl<S: BackendSelection, R: Wait + Clock + Copy + Drop> Bench<S, R> {
+impl<S: BackendSelection, R: Abort + Wait + Clock + Copy + Drop> Bench<S, R> {
     /// Over the discovery in turn; nothing is found yet, and both lines are open.
-    pub fn new(rt: &R, alloc: Global) -> Result<Bench<S, R>, Refusal> {
-        let line = Arc::new(alloc, Line::new())?;
+    pub fn new(rt: &R, alloc: Global) -> Bench<S, R> {
+        let line = Arc::new(alloc, Line::new()).expect(rt, "refused");
         let discovery = InTurn {
             rt: *rt,
-            line: Arc::try_clone(&line)?,
+            line: Arc::try_clone(&line).expect(rt, "refused"),
             turn: AtomicU64::new(0),
         };
-        let backends = Backends::new(alloc, DiscoverySource::Boxed(discovery))?;
-        Ok(Bench {
+        let discovery = DiscoverySource::Boxed(discovery);
+        let backends = Backends::new(alloc, discovery).expect(rt, "refused");
+        Bench {
             alloc,
             line,
-            checks: Arc::new(alloc, Line::new())?,
-            balancer: LoadBalancer::from_backends(rt, alloc, backends)?,
-        })
+            checks: Arc::new(alloc, Line::new()).expect(rt, "refused"),
+            balancer: LoadBalancer::from_backends(rt, alloc, backends).expect(rt, "refused"),
+        }
     }
 
     /// Sets the check.
-    pub fn set_check(&self, rt: &R) -> Result<(), Refusal> {
+    pub fn set_check(&self, rt: &R) {
         let check = SecondDown {
             rt: *rt,
-            line: Arc::try_clone(&self.checks)?,
+            line: Arc::try_clone(&self.checks).expect(rt, "refused"),
         };
-        self.balancer.set_health_check(rt, check)
+        self.balancer
+            .set_health_check(rt, check)
+            .expect(rt, "refused");
     }
 
     /// Updates so many times, by a clock whose first reading is 0.
-    pub fn update(&self, rt: &R, times: u64) -> Result<(), Refusal> {
+    pub fn update(&self, rt: &R, times: u64) {
         let mut clock = Ticks { next: 0, step: 5 };
         for _ in 0..times {
-            self.balancer.update(rt, self.alloc, &mut clock)?;
+            self.balancer
+                .update(rt, self.alloc, &mut clock)
+                .expect(rt, "refused");
         }
-        Ok(())
+    }
+
+    /// Selects of so many candidates.
+    pub fn select(&self, rt: &R, limit: usize) -> Option<Backend> {
+        self.balancer
+            .select(rt, self.alloc, b"k", limit)
+            .expect(rt, "refused")
     }
 
     /// Notes what is selected of so many candidates.
-    pub fn note(&self, rt: &R, limit: usize, text: &mut String) -> Result<(), Refusal> {
-        let found = self.balancer.select(rt, self.alloc, b"k", limit)?;
-        note(text, &found)
+    pub fn note(&self, rt: &R, limit: usize, text: &mut String) {
+        note(rt, text, &self.select(rt, limit));
     }
 }
 
 /// Notes a selected backend.
-pub fn note(text: &mut String, found: &Option<Backend>) -> Result<(), Refusal> {
+pub fn note<R: Abort>(rt: &R, text: &mut String, found: &Option<Backend>) {
     match found {
-        Some(backend) => write!(text, " {backend}")?,
-        None => write!(text, " none")?,
+        Some(backend) => write!(text, " {backend}").expect(rt, "refused"),
+        None => text.push_str(" none").expect(rt, "refused"),
     }
-    Ok(())
 }

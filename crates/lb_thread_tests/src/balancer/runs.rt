@@ -6,13 +6,11 @@ use lb_background::ready::{ReadyWatch, ServiceReadyNotifier};
 use lb_background::shutdown::{ShutdownSignal, ShutdownWatch};
 use lb_select::selection::RoundRobin;
 use lb_select_base::backend::Backend;
-use lb_select_base::refusal::Refusal;
 use log::sink::Locked;
 use log::{Level, Log, Logged};
 use std::process::Abort;
 use std::sync::Wait;
 use std::sync::atomic::Ordering::SeqCst;
-use std::test::Fail;
 use std::thread;
 use std::thread::{Threads, join};
 use std::time::{Clock, Duration};
@@ -38,16 +36,16 @@ enum Case {
 // was told.
 type Told = (bool, u64, bool);
 
-// What is there after the run: by how much the generation has risen, whether a member isn't ready, how often discovery and check were asked,
-// and whether the notifier was told.
+// What is there after the run: by how much the generation has risen, whether a member isn't ready, how often discovery and check were
+// asked, and whether the notifier was told.
 type Left = (u64, bool, u64, u64, bool);
 
 // Sets up the bench for a run.
-fn begin<R: Wait + Clock + Copy + Drop>(
+fn begin<R: Abort + Wait + Clock + Copy + Drop>(
     rt: &R,
     bench: &mut Bench<RoundRobin, R>,
     case: Case,
-) -> Result<(), Refusal> {
+) {
     let waits = case == Case::Waits || case == Case::EndedInUpdate;
     let has_fault = case == Case::Refused || case == Case::Mended;
     let goes_on = case == Case::Mended || case == Case::EndedInUpdate || case == Case::EndedInCheck;
@@ -58,9 +56,8 @@ fn begin<R: Wait + Clock + Copy + Drop>(
     if case == Case::EndedInCheck {
         bench.balancer.health_check_frequency = Some(10);
         bench.checks.begin(false, ROWS);
-        bench.set_check(rt)?;
+        bench.set_check(rt);
     }
-    Ok(())
 }
 
 // By how much the generation has risen.
@@ -160,27 +157,25 @@ fn run_beside<
 }
 
 // A case, with a signal and a notifier of its own.
-fn play<R: Threads + Wait + Clock + Copy + Send + Sync + Drop, W: Log + Threads + Wait + Sync>(
-    rt: &R,
-    logged: &W,
-    bench: &mut Bench<RoundRobin, R>,
-    case: Case,
-) -> Result<(Told, Left), Refusal> {
-    begin(rt, bench, case)?;
-    let mut ends = Ends::new(bench.alloc)?;
+fn play<
+    R: Abort + Threads + Wait + Clock + Copy + Send + Sync + Drop,
+    W: Log + Threads + Wait + Sync,
+>(rt: &R, logged: &W, bench: &mut Bench<RoundRobin, R>, case: Case) -> (Told, Left) {
+    begin(rt, bench, case);
+    let mut ends = Ends::new(bench.alloc).expect(rt, "refused");
     if case == Case::Ended {
         send_end(&mut ends.signal);
     }
-    Ok(run_beside(rt, logged, bench, case, &mut ends))
+    run_beside(rt, logged, bench, case, &mut ends)
 }
 
-// A run that is to end before it begins updates nothing. A refused update is one too: the notifier is told, and the run that has no other one
-// ends by itself. The notifier is told after the first update and not before. An update that runs when services are to end is let end, and
-// then the run ends without telling its notifier. So is a pass of checks: each verdict stands, and then the run ends.
+// A run that is to end before it begins updates nothing. A refused update is one too: the notifier is told, and the run that has no other
+// one ends by itself. The notifier is told after the first update and not before. An update that runs when services are to end goes on to
+// its end, and then the run ends without telling its notifier. So is a pass of checks: each verdict stands, and then the run ends.
 fn rows<
     R: Abort + Threads + Wait + Clock + Copy + Send + Sync + Drop,
     W: Log + Threads + Wait + Sync,
->(rt: &R, logged: &W, bench: &mut Bench<RoundRobin, R>) -> Result<(), Refusal> {
+>(rt: &R, logged: &W, bench: &mut Bench<RoundRobin, R>) {
     let rows: [(Case, (Told, Left)); 5] = [
         (Case::Ended, ((true, 0, false), (0, false, 0, 0, false))),
         (Case::Refused, ((true, 0, false), (0, false, 1, 0, true))),
@@ -192,28 +187,25 @@ fn rows<
         (Case::EndedInCheck, ((true, 1, true), (1, true, 1, 3, true))),
     ];
     for (case, wanted) in rows {
-        let seen = play(rt, logged, bench, case)?;
+        let seen = play(rt, logged, bench, case);
         assert_eq!(rt; seen, wanted, "{case:?}");
         if case == Case::Refused {
-            let (told, _) = play(rt, logged, bench, Case::Mended)?;
+            let (told, _) = play(rt, logged, bench, Case::Mended);
             assert_eq!(rt; told, (true, 0, true));
         }
     }
-    Ok(())
 }
 
-// Beside the rows: a refused update is logged, and the run goes on with the next one. One is refused in the case before that in which two are
-// or more.
+// A refused update is logged, and the run goes on with the next one. One is refused in the case before that in which two are or more.
 #[test]
-fn runs_end(rt: HostRuntime) -> Result<(), Fail> {
+fn runs_end(rt: HostRuntime) {
     let sink = Locked::new(rt, Vec::new(rt.alloc()));
     let logged = Logged::new(rt, Level::Debug, &sink);
-    let mut bench = Bench::new(&rt, rt.alloc())?;
-    rows(&rt, &logged, &mut bench)?;
+    let mut bench = Bench::new(&rt, rt.alloc());
+    rows(&rt, &logged, &mut bench);
     let text = sink.into_inner();
     let said = "[ERROR lb_balancer::run] load balancer update failed: Discovery\n\
         [ERROR lb_balancer::run] load balancer update failed: Discovery\n\
         [ERROR lb_balancer::run] load balancer update failed: Discovery\n";
     assert!(rt; text.as_slice().starts_with(said.as_bytes()));
-    Ok(())
 }

@@ -9,7 +9,6 @@ use std::alloc::Global;
 use std::net::Net;
 use std::process::Abort;
 use std::sync::Wait;
-use std::test::Fail;
 use std::time::Clock;
 
 // A balancer of these texts.
@@ -22,61 +21,71 @@ fn made_of<R: Net + Wait + Clock + Copy + Drop>(
     LoadBalancer::try_from_iter(rt, alloc, rt, texts.iter().copied(), clock)
 }
 
+// Notes what a balancer of the tests tells of a backend at this address: whether it is ready.
+fn note_ready<R: Abort + Wait + Clock + Copy + Drop>(
+    rt: &R,
+    alloc: Global,
+    balancer: &Tested<RoundRobin, R>,
+    address: &str,
+    text: &mut String,
+) {
+    let backend = Backend::new(alloc, address).expect(rt, "refused");
+    let is_ready = balancer.backends().ready(rt, &backend);
+    write!(text, " {is_ready}").expect(rt, "refused");
+}
+
 // Notes where the clock stands, the generation, what the last update took, how many members there are and are ready, and a selection.
-fn look<R: Wait + Clock + Copy + Drop>(
+fn look<R: Abort + Wait + Clock + Copy + Drop>(
     rt: &R,
     alloc: Global,
     balancer: &Tested<RoundRobin, R>,
     clock: &Ticks,
     text: &mut String,
-) -> Result<(), Refusal> {
+) {
     let generation = balancer.backend_generation(rt);
-    write!(text, "at {} generation {generation}", clock.next)?;
+    write!(text, "at {} generation {generation}", clock.next).expect(rt, "refused");
     if let Some(timing) = balancer.last_update_timing(rt) {
         let (discovery, build) = (timing.discovery_duration, timing.build_duration);
-        write!(text, " took {discovery} {build}")?;
+        write!(text, " took {discovery} {build}").expect(rt, "refused");
     }
-    let members = balancer.backends().get_backend(rt, alloc)?;
-    write!(text, " members {} ready", members.len())?;
-    for address in ["1.0.0.1:80", "1.1.1.1:80"] {
-        let backend = Backend::new(alloc, address)?;
-        write!(text, " {}", balancer.backends().ready(rt, &backend))?;
-    }
-    let found = balancer.select(rt, alloc, b"k", 1)?;
-    note(text, &found)?;
-    write!(text, "\n")?;
-    Ok(())
+    let members = balancer.backends().get_backend(rt, alloc);
+    let members = members.expect(rt, "refused").len();
+    write!(text, " members {members} ready").expect(rt, "refused");
+    note_ready(rt, alloc, balancer, "1.0.0.1:80", text);
+    note_ready(rt, alloc, balancer, "1.1.1.1:80", text);
+    let found = balancer.select(rt, alloc, b"k", 1).expect(rt, "refused");
+    note(rt, text, &found);
+    text.push('\n').expect(rt, "refused");
 }
 
 // A balancer of these texts, as it is made, and after a later update.
-fn served<R: Net + Wait + Clock + Copy + Drop>(
+fn served<R: Abort + Net + Wait + Clock + Copy + Drop>(
     rt: &R,
     alloc: Global,
     texts: &[&'static str],
     text: &mut String,
-) -> Result<(), Refusal> {
+) {
     let mut clock = Ticks { next: 0, step: 5 };
-    let balancer = made_of(rt, alloc, texts, &mut clock)?;
-    look(rt, alloc, &balancer, &clock, text)?;
-    balancer.update(rt, alloc, &mut clock)?;
-    look(rt, alloc, &balancer, &clock, text)
+    let balancer = made_of(rt, alloc, texts, &mut clock).expect(rt, "refused");
+    look(rt, alloc, &balancer, &clock, text);
+    balancer.update(rt, alloc, &mut clock).expect(rt, "refused");
+    look(rt, alloc, &balancer, &clock, text);
 }
 
-// What the texts spell is served from the first selection on; a later update finds the same. Without texts the membership is the empty one, as
-// before the first update, and nothing is built.
+// What the texts spell is served from the first selection on; a later update finds the same. Without texts the membership is the empty one,
+// as before the first update, and nothing is built.
 #[test]
-fn texts_are_served(rt: HostRuntime) -> Result<(), Fail> {
+fn texts_are_served(rt: HostRuntime) {
     let alloc = rt.alloc();
     let mut text = String::new(alloc);
-    served(&rt, alloc, &["1.1.1.1:80", "1.0.0.1:80"], &mut text)?;
-    served(&rt, alloc, &[], &mut text)?;
+    served(&rt, alloc, &["1.1.1.1:80", "1.0.0.1:80"], &mut text);
+    served(&rt, alloc, &[], &mut text);
     let wanted = "at 20 generation 1 took 10 5 members 2 ready true true 1.0.0.1:80/1\n\
         at 30 generation 1 took 5 0 members 2 ready true true 1.1.1.1:80/1\n\
         at 10 generation 0 took 5 0 members 0 ready false false none\n\
         at 20 generation 0 took 5 0 members 0 ready false false none\n";
     assert_eq!(rt; text.as_str(), wanted);
     refused(&rt, alloc);
-    Ok(())
 }
 
 // Texts that are refused.

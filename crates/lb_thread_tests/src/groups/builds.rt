@@ -1,9 +1,8 @@
 //! Workers of two groups on one gate: they build beside selections, one selector more than the slots at most, and end when their group
 //! does.
 use super::TURNS;
-use crate::counted::Counts;
-use crate::crowd::{Crowd, crowd_in, ends, is_free, select_one, serves};
-use lb_select_base::refusal::Refusal;
+use lb_crowd::counted::Counts;
+use lb_crowd::crowd::{Crowd, Group, crowd_in, ends, is_free, select_one, serves};
 use lb_threads_registry::clock::RuntimeClock;
 use log::Log;
 use std::alloc::Global;
@@ -40,12 +39,18 @@ fn begins<W: Clock>(counts: &Counts<W>, builds: u64) -> bool {
     false
 }
 
+// Whether slot 0 selects a backend now.
+fn selects<W: Abort + Wait + Clock + Copy + Drop>(rt: &W, alloc: Global, group: &Group<W>) -> bool {
+    let found = select_one(rt, alloc, group, 0).expect(rt, "refused");
+    found.is_some()
+}
+
 /// Four workers build what updates bring while four threads select and read, and then both groups are cancelled: no call is refused, each
 /// slot comes to serve the newest, and the workers end.
 pub fn served_in_a_crowd<
     W: Abort + Log + Threads + Wait + Clock + Copy + Send + Sync + Drop + 'static,
 >(rt: &W, alloc: Global, crowd: &Crowd<W>) {
-    assert_eq!(rt; start(rt, alloc, crowd), [0; 4]);
+    let missing = start(rt, alloc, crowd);
     let mut clock = RuntimeClock::new(*rt);
     let (first, second) = (crowd.first.shared(), crowd.second.shared());
     let mut holds = crowd_in(rt, alloc, first, second, 2000, 50, &mut clock);
@@ -56,48 +61,47 @@ pub fn served_in_a_crowd<
         group.cancel(rt);
         holds = holds && ends(rt, group, TURNS);
     }
-    assert!(rt; holds);
+    assert_eq!(rt; (missing, holds), ([0; 4], true));
 }
 
 /// A build of the first group that is held doesn't hold up a selection; once it goes on, what it built is served. Workers of groups that
 /// are let go end.
 pub fn selects_beside_a_build<
     W: Abort + Log + Threads + Wait + Clock + Copy + Send + Sync + Drop + 'static,
->(rt: &W, alloc: Global, crowd: &Crowd<W>) -> Result<(), Refusal> {
+>(rt: &W, alloc: Global, crowd: &Crowd<W>) {
     let [first, second] = crowd.groups();
     crowd.site.counts.hold(true);
-    assert_eq!(rt; start(rt, alloc, crowd), [0; 4]);
-    let generation = crowd.first.update(alloc, &mut RuntimeClock::new(*rt))?;
+    let missing = start(rt, alloc, crowd);
+    let generation = crowd.first.update(alloc, &mut RuntimeClock::new(*rt));
     let has_begun = begins(&crowd.site.counts, 5);
-    let beside = select_one(rt, alloc, first, 0)?;
+    let beside = selects(rt, alloc, first);
     crowd.site.counts.hold(false);
     let is_served = serves(rt, first, 0, 1, TURNS);
-    let after = select_one(rt, alloc, first, 0)?;
+    let after = selects(rt, alloc, first);
     first.let_go();
     second.let_go();
     let told = [
-        generation == 1,
+        generation == Ok(1),
         has_begun,
-        beside.is_none(),
+        !beside,
         is_served,
-        after.is_some(),
+        after,
         ends(rt, first, TURNS),
         ends(rt, second, TURNS),
         is_free(rt, &crowd.site.gate),
     ];
-    assert_eq!(rt; told, [true; 8]);
-    Ok(())
+    assert_eq!(rt; (missing, told), ([0; 4], [true; 8]));
 }
 
 /// Both groups are cancelled while a build of the first is held: the build is let end and is not served, its worker stays until then, and
 /// the permit comes back.
 pub fn cancels_a_build<
     W: Abort + Log + Threads + Wait + Clock + Copy + Send + Sync + Drop + 'static,
->(rt: &W, alloc: Global, crowd: &Crowd<W>) -> Result<(), Refusal> {
+>(rt: &W, alloc: Global, crowd: &Crowd<W>) {
     let [first, second] = crowd.groups();
     crowd.site.counts.hold(true);
-    assert_eq!(rt; start(rt, alloc, crowd), [0; 4]);
-    crowd.first.update(alloc, &mut RuntimeClock::new(*rt))?;
+    let missing = start(rt, alloc, crowd);
+    let generation = crowd.first.update(alloc, &mut RuntimeClock::new(*rt));
     let has_begun = begins(&crowd.site.counts, 5);
     crowd.first.cancel();
     crowd.second.cancel();
@@ -106,7 +110,7 @@ pub fn cancels_a_build<
     let is_out = !is_free(rt, &crowd.site.gate);
     crowd.site.counts.hold(false);
     let told = [
-        has_begun,
+        has_begun && generation == Ok(1),
         second_ends,
         first_stays,
         is_out,
@@ -115,6 +119,5 @@ pub fn cancels_a_build<
         is_free(rt, &crowd.site.gate),
         crowd.site.counts.live.load(SeqCst) == 4,
     ];
-    assert_eq!(rt; told, [true; 8]);
-    Ok(())
+    assert_eq!(rt; (missing, told), ([0; 4], [true; 8]));
 }

@@ -1,9 +1,8 @@
 //! What handles of groups answer: before their first update, after it, and once a worker was missing.
 use super::TURNS;
-use crate::crowd::{Group, Handle};
 use lb_balancer_group::start::start_workers_by;
+use lb_crowd::crowd::{Group, Handle};
 use lb_select_base::backend::Backend;
-use lb_select_base::refusal::Refusal;
 use lb_threads_registry::clock::RuntimeClock;
 use log::Log;
 use std::alloc::Global;
@@ -15,12 +14,22 @@ use std::thread;
 use std::thread::Threads;
 use std::time::{Clock, Duration};
 
-// What a handle answers before its first update.
-fn fresh<W: Wait + Clock + Copy + Drop>(
+// What a slot of a handle selects.
+fn selected<W: Abort + Wait + Clock + Copy + Drop>(
+    rt: &W,
     alloc: Global,
     group: &Handle<W>,
-) -> Result<[bool; 8], Refusal> {
-    Ok([
+) -> Option<Backend> {
+    group.select(alloc, 0, b"k", 4).expect(rt, "refused")
+}
+
+// What a handle answers before its first update.
+fn fresh<W: Abort + Wait + Clock + Copy + Drop>(
+    rt: &W,
+    alloc: Global,
+    group: &Handle<W>,
+) -> [bool; 9] {
+    [
         group.selector_count() == 2,
         group.worker_count() == 0,
         group.backend_generation() == 0,
@@ -28,34 +37,36 @@ fn fresh<W: Wait + Clock + Copy + Drop>(
         !group.selectors_ready_for(1),
         group.selector_generation(2).is_none(),
         group.last_update_timing().is_none(),
-        group.select(alloc, 0, b"k", 4)?.is_none(),
-    ])
+        selected(rt, alloc, group).is_none(),
+        !group.is_cancelled(),
+    ]
 }
 
 // What the lent backends of a handle tell before its first update, after it, and once a flag is set.
-fn lent<W: Wait + Clock + Copy + Drop>(
+fn lent<W: Abort + Wait + Clock + Copy + Drop>(
     rt: &W,
     alloc: Global,
     group: &Handle<W>,
-) -> Result<[bool; 8], Refusal> {
+) -> [bool; 9] {
     let backends = group.backends();
-    let one = Backend::new(alloc, "1.0.0.1:80")?;
-    let other = Backend::new(alloc, "1.0.0.2:80")?;
+    let one = Backend::new(alloc, "1.0.0.1:80").expect(rt, "refused");
+    let other = Backend::new(alloc, "1.0.0.2:80").expect(rt, "refused");
     let before = (backends.generation(), backends.ready(&one));
-    let generation = group.update(alloc, &mut RuntimeClock::new(*rt))?;
-    let members = backends.get_backend()?;
+    let generation = group.update(alloc, &mut RuntimeClock::new(*rt));
+    let members = backends.get_backend().expect(rt, "refused");
     let is_ready = backends.ready(&one);
     backends.set_enable(&one, false);
-    Ok([
+    [
         before == (0, false),
-        generation == 1,
+        generation == Ok(1),
         backends.generation() == 1,
         members.len() == 1 && members.contains(&one),
         is_ready,
         !backends.ready(&one),
         !backends.ready(&other),
-        group.select(alloc, 0, b"k", 4)?.is_none(),
-    ])
+        selected(rt, alloc, group).is_none(),
+        !group.is_cancelled(),
+    ]
 }
 
 /// A new handle tells that nothing was updated; its backends are read and marked without workers. It isn't cancelled.
@@ -63,11 +74,9 @@ pub fn without_workers<W: Abort + Wait + Clock + Copy + Drop>(
     rt: &W,
     alloc: Global,
     group: &Handle<W>,
-) -> Result<(), Refusal> {
-    assert_eq!(rt; fresh(alloc, group)?, [true; 8]);
-    assert_eq!(rt; lent(rt, alloc, group)?, [true; 8]);
-    assert!(rt; !group.is_cancelled());
-    Ok(())
+) {
+    let told = [fresh(rt, alloc, group), lent(rt, alloc, group)];
+    assert_eq!(rt; told, [[true; 9]; 2]);
 }
 
 // Whether each slot of a group serves its newest generation within a thousand turns of ten milliseconds.
@@ -85,9 +94,9 @@ fn becomes_ready<W: Wait + Clock + Copy + Drop>(rt: &W, group: &Handle<W>) -> bo
 /// is served.
 pub fn starts_but_one<
     W: Abort + Log + Threads + Wait + Clock + Copy + Send + Sync + Drop + 'static,
->(rt: &W, alloc: Global, group: &Handle<W>) -> Result<(), Refusal> {
+>(rt: &W, alloc: Global, group: &Handle<W>) {
     let mut clock = RuntimeClock::new(*rt);
-    group.update(alloc, &mut clock)?;
+    group.update(alloc, &mut clock).expect(rt, "refused");
     let asked = AtomicU64::new(0);
     let starts = |_slot: usize| asked.fetch_add(1, SeqCst) != 0;
     let shared: &Group<W> = &**group.shared();
@@ -95,7 +104,5 @@ pub fn starts_but_one<
     // The second slot counts as one with a worker, though none runs here.
     shared.leave_slot(1);
     let started = [missing, group.start_workers(alloc, clock)];
-    assert_eq!(rt; started, [1, 0]);
-    assert!(rt; becomes_ready(rt, group));
-    Ok(())
+    assert_eq!(rt; (started, becomes_ready(rt, group)), ([1, 0], true));
 }

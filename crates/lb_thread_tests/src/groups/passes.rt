@@ -3,10 +3,9 @@ ghost use Rattle.std.specs.Prelude.{◌≡◌};
 ghost use Rattle.std.specs.Arc.{arc_value};
 
 use super::TURNS;
-use crate::crowd::Handle;
+use lb_crowd::crowd::Handle;
 use lb_rebuild::board::GroupPass;
 use lb_select_base::backend::Backend;
-use lb_select_base::refusal::Refusal;
 use lb_threads_registry::clock::RuntimeClock;
 use log::Log;
 use std::alloc::Global;
@@ -21,16 +20,16 @@ fn told_before<W: Wait + Clock + Copy + Drop>(
     rt: &W,
     alloc: Global,
     group: &Handle<W>,
-) -> Result<[bool; 5], Refusal> {
+) -> [bool; 5] {
     let mut pass = group.pass();
-    let generation = group.update_as(alloc, &mut RuntimeClock::new(*rt), &mut pass)?;
-    Ok([
-        generation == 1,
+    let generation = group.update_as(alloc, &mut RuntimeClock::new(*rt), &mut pass);
+    [
+        generation == Ok(1),
         group.backend_generation_as(&mut pass) == 1,
         group.selector_generation_as(0, &mut pass) == Some(0),
         !group.selectors_ready_for_as(1, &mut pass),
         group.selector_generation_as(7, &mut pass).is_none(),
-    ])
+    ]
 }
 
 // Whether each slot serves generation 1 to a pass, within a thousand turns of ten milliseconds.
@@ -52,59 +51,71 @@ fn comes_to_serve<W: Wait + Clock + Copy + Drop>(
 }
 
 // The generation of a reader that enters slot 0 and leaves again, and what it selects.
-fn entered<W: Wait + Clock + Copy + Drop>(
+fn entered<W: Abort + Wait + Clock + Copy + Drop>(
+    rt: &W,
     alloc: Global,
     group: &Handle<W>,
     pass: &mut GroupPass,
-) -> Result<(u64, Option<Backend>), Refusal>
+) -> (u64, Option<Backend>)
     requires { pass.old.board ≡ (arc_value group.now.shared).board }
 {
-    let reader = group.enter_as(0, pass)?;
+    let reader = group.enter_as(0, pass).expect(rt, "refused");
     let generation = reader.generation();
     let answer = group.select_in(alloc, &reader, b"k", 1, &|_backend: &Backend| true);
     group.leave(reader);
-    Ok((generation, answer?))
+    (generation, answer.expect(rt, "refused"))
 }
 
 // What passes are told once the workers run: by one that waits for it, and by one that meets that. What a reader selects then.
-fn told_after<W: Wait + Clock + Copy + Drop>(
+fn told_after<W: Abort + Wait + Clock + Copy + Drop>(
     rt: &W,
     alloc: Global,
     group: &Handle<W>,
     expected: &Backend,
-) -> Result<[bool; 5], Refusal> {
+) -> [bool; 5] {
     let (mut pass, mut other) = (group.pass(), group.pass());
     let serves = comes_to_serve(rt, group, &mut pass);
     let served = group.selector_generation_as(0, &mut pass);
     group.meet(&mut pass, &mut other);
     let is_met = group.selectors_ready_for_as(1, &mut other);
-    let (generation, chosen) = entered(alloc, group, &mut other)?;
-    Ok([
+    let (generation, chosen) = entered(rt, alloc, group, &mut other);
+    [
         serves,
         served == Some(1),
         is_met,
         generation == 1,
         chosen.as_ref() == Some(expected),
-    ])
+    ]
+}
+
+// Whether a slot of a handle selects that backend.
+fn selects<W: Abort + Wait + Clock + Copy + Drop>(
+    rt: &W,
+    alloc: Global,
+    group: &Handle<W>,
+    slot: usize,
+    expected: Option<&Backend>,
+) -> bool {
+    let found = group.select(alloc, slot, b"k", 4).expect(rt, "refused");
+    found.as_ref() == expected
 }
 
 // What a handle answers once its workers served an update: what it selects from each slot and from one that isn't there, and its timings.
-fn served<W: Wait + Clock + Copy + Drop>(
+fn served<W: Abort + Wait + Clock + Copy + Drop>(
+    rt: &W,
     alloc: Global,
     group: &Handle<W>,
     expected: &Backend,
-) -> Result<[bool; 7], Refusal> {
-    let first = group.select(alloc, 0, b"k", 4)?;
-    let second = group.select(alloc, 1, b"k", 4)?;
-    Ok([
+) -> [bool; 7] {
+    [
         group.selectors_ready_for(group.backend_generation()),
-        first.as_ref() == Some(expected),
-        second.as_ref() == Some(expected),
-        group.select(alloc, 2, b"k", 4)?.is_none(),
+        selects(rt, alloc, group, 0, Some(expected)),
+        selects(rt, alloc, group, 1, Some(expected)),
+        selects(rt, alloc, group, 2, None),
         matches!(group.selector_last_update_timing(0), Some(Some(_))),
         matches!(group.last_update_timing(), Some(timing) if timing.build_duration == 0),
         !group.is_cancelled(),
-    ])
+    ]
 }
 
 /// An update is told to its pass at once, and what the slots serve once the workers have published, which serve what was found.
@@ -112,11 +123,12 @@ pub fn with_workers<W: Abort + Log + Threads + Wait + Clock + Copy + Send + Sync
     rt: &W,
     alloc: Global,
     group: &Handle<W>,
-) -> Result<(), Refusal> {
-    let expected = Backend::new(alloc, "1.0.0.1:80")?;
-    assert_eq!(rt; told_before(rt, alloc, group)?, [true; 5]);
-    assert_eq!(rt; group.start_workers(alloc, RuntimeClock::new(*rt)), 0);
-    assert_eq!(rt; told_after(rt, alloc, group, &expected)?, [true; 5]);
-    assert_eq!(rt; served(alloc, group, &expected)?, [true; 7]);
-    Ok(())
+) {
+    let expected = Backend::new(alloc, "1.0.0.1:80").expect(rt, "refused");
+    let before = told_before(rt, alloc, group);
+    let missing = group.start_workers(alloc, RuntimeClock::new(*rt));
+    assert_eq!(rt; (before, missing), ([true; 5], 0));
+    let after = told_after(rt, alloc, group, &expected);
+    let served = served(rt, alloc, group, &expected);
+    assert_eq!(rt; (after, served), ([true; 5], [true; 7]));
 }

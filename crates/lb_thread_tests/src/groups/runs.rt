@@ -1,12 +1,12 @@
 //! Runs of a group in the background that are told to end in the middle of an update, of a check, and of a build: what is under way is let
 //! end, and what it did stands.
 use super::TURNS;
-use crate::counted::{Counted, Counting, Counts};
-use crate::crowd::serves;
 use lb_background::ready::{ReadyWatch, ServiceReadyNotifier, ready_pair};
 use lb_background::shutdown::{ShutdownSignal, ShutdownWatch, shutdown_pair};
 use lb_balancer_group::group::LoadBalancerGroup;
 use lb_balancer_group::parts::GroupParts;
+use lb_crowd::counted::{Counted, Counting, Counts};
+use lb_crowd::crowd::serves;
 use lb_health_check::error::CheckError;
 use lb_health_check::health_check::HealthCheck;
 use lb_health_registry::keys::Rule;
@@ -18,10 +18,10 @@ use lb_threads_registry::clock::RuntimeClock;
 use lb_threads_registry::keyed::NoRule;
 use std::alloc::Global;
 use std::collections::BTreeSet;
+use std::process::Abort;
 use std::sync::atomic::AtomicU64;
 use std::sync::atomic::Ordering::SeqCst;
 use std::sync::{Arc, Wait};
-use std::test::Fail;
 use std::thread;
 use std::thread::join;
 use std::time::{Clock, Duration};
@@ -93,49 +93,47 @@ struct Bench<W: Wait + Clock + Copy + Drop> {
     group: Group<W>,
 }
 
-impl<W: Wait + Clock + Copy + Drop> Bench<W> {
+impl<W: Abort + Wait + Clock + Copy + Drop> Bench<W> {
     // With a registry of its own. The first build for an update is held.
-    fn new(rt: W, alloc: Global) -> Result<Bench<W>, Refusal> {
-        let (signal, watch) = shutdown_pair(alloc)?;
-        let counts = Arc::new(alloc, Counts::new(rt, false))?;
-        let calls = Arc::new(
-            alloc,
-            Calls {
-                updates: AtomicU64::new(0),
-                checks: AtomicU64::new(0),
-            },
-        )?;
-        let group = group_of(rt, alloc, &counts, &calls, &watch)?;
+    fn new(rt: W, alloc: Global) -> Bench<W> {
+        let (signal, watch) = shutdown_pair(alloc).expect(&rt, "refused");
+        let counts = Arc::new(alloc, Counts::new(rt, false)).expect(&rt, "refused");
+        let calls = Calls {
+            updates: AtomicU64::new(0),
+            checks: AtomicU64::new(0),
+        };
+        let calls = Arc::new(alloc, calls).expect(&rt, "refused");
+        let group = group_of(rt, alloc, &counts, &calls, &watch);
         counts.hold(true);
-        Ok(Bench {
+        Bench {
             counts,
             calls,
             signal,
             watch,
             ready: None,
             group,
-        })
+        }
     }
 
     // The notifier of a new run, which is not yet to end.
-    fn begin(&mut self, alloc: Global) -> Result<ServiceReadyNotifier, Refusal> {
-        let (notifier, ready) = ready_pair(alloc)?;
+    fn begin(&mut self, rt: &W, alloc: Global) -> ServiceReadyNotifier {
+        let (notifier, ready) = ready_pair(alloc).expect(rt, "refused");
         self.ready = Some(ready);
         self.signal.send(false);
-        Ok(notifier)
+        notifier
     }
 
     // What the last run left.
-    fn left(&self, alloc: Global) -> Result<Left, Refusal> {
-        let backend = Backend::new(alloc, "1.0.0.1:80")?;
-        Ok(Left {
+    fn left(&self, rt: &W, alloc: Global) -> Left {
+        let backend = Backend::new(alloc, "1.0.0.1:80").expect(rt, "refused");
+        Left {
             updates: self.calls.updates.load(SeqCst),
             checks: self.calls.checks.load(SeqCst),
             generation: self.group.backend_generation(),
             served: self.group.selector_generation(0),
             is_ready: self.group.backends().ready(&backend),
             is_told: matches!(&self.ready, Some(ready) if ready.is_ready()),
-        })
+        }
     }
 
     // Lets the build go on; whether it comes to be served.
@@ -157,32 +155,34 @@ struct Left {
     is_told: bool,
 }
 
-fn group_of<W: Wait + Clock + Copy + Drop>(
+fn group_of<W: Abort + Wait + Clock + Copy + Drop>(
     rt: W,
     alloc: Global,
     counts: &Arc<Counts<W>>,
     calls: &Arc<Calls>,
     watch: &ShutdownWatch,
-) -> Result<Group<W>, Refusal> {
-    let updates = slow_for(rt, calls, watch)?;
+) -> Group<W> {
+    let discovery = DiscoverySource::Boxed(slow_for(rt, calls, watch));
     let parts: GroupParts<Slow<W>, Rule<NoRule>, Slow<W>> = GroupParts::new(
-        alloc,
-        DiscoverySource::Boxed(updates),
-    )?;
+        alloc, discovery,
+    ).expect(&rt, "refused");
     parts
         .registry
-        .set_health_check(&rt, slow_for(rt, calls, watch)?)?;
+        .set_health_check(&rt, slow_for(rt, calls, watch))
+        .expect(&rt, "refused");
+    let counts = Arc::try_clone(counts).expect(&rt, "refused");
     let mut configs = Vec::new(alloc);
-    configs.push(Counting(Some(Arc::try_clone(counts)?)))?;
-    LoadBalancerGroup::from_backends_with_configs(rt, alloc, parts, configs)
+    configs.push(Counting(Some(counts))).expect(&rt, "refused");
+    let group = LoadBalancerGroup::from_backends_with_configs(rt, alloc, parts, configs);
+    group.expect(&rt, "refused")
 }
 
-fn slow_for<W: Drop>(rt: W, calls: &Arc<Calls>, watch: &ShutdownWatch) -> Result<Slow<W>, Refusal> {
-    Ok(Slow {
+fn slow_for<W: Abort + Copy + Drop>(rt: W, calls: &Arc<Calls>, watch: &ShutdownWatch) -> Slow<W> {
+    Slow {
         rt,
-        calls: Arc::try_clone(calls)?,
-        watch: watch.try_clone()?,
-    })
+        calls: Arc::try_clone(calls).expect(&rt, "refused"),
+        watch: watch.try_clone().expect(&rt, "refused"),
+    }
 }
 
 // How many discoveries, checks and builds there are to be before a run is told to end.
@@ -217,15 +217,15 @@ fn end_after<W: Clock>(
 // Runs that are told to end in their update, in their check, and while they wait for a build that is held. An update is let end: its
 // membership stands. So is a check: its verdict stands. A build doesn't hold up the end; it is let end, and served. No notifier is told.
 #[test]
-fn what_is_under_way_is_let_end(rt: HostRuntime) -> Result<(), Fail> {
+fn what_is_under_way_is_let_end(rt: HostRuntime) {
     let alloc = rt.alloc();
-    let mut bench = Bench::new(rt, alloc)?;
+    let mut bench = Bench::new(rt, alloc);
     for (updates, checks, builds, is_ready) in [
         (1, 0, 1, true),
         (2, 1, 1, false),
         (3, 2, 2, false),
     ] {
-        let notifier = bench.begin(alloc)?;
+        let notifier = bench.begin(&rt, alloc);
         let wanted = Wanted {
             updates,
             checks,
@@ -246,8 +246,7 @@ fn what_is_under_way_is_let_end(rt: HostRuntime) -> Result<(), Fail> {
             is_ready,
             is_told: false,
         };
-        assert_eq!(rt; (came, bench.left(alloc)?), (true, left));
+        assert_eq!(rt; (came, bench.left(&rt, alloc)), (true, left));
     }
     assert!(rt; bench.is_served(&rt));
-    Ok(())
 }

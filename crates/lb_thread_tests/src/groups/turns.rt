@@ -1,6 +1,6 @@
 //! Turns that the caller's thread takes for slot 0 of groups on one gate, and their workers' last ones.
-use crate::crowd::{one_backend, select_one};
 use lb_balancer_core::turn::{Turn, worker_turn};
+use lb_crowd::crowd::{one_backend, select_one};
 use lb_health_check::health_check::HealthCheck;
 use lb_health_registry::keys::KeyRule;
 use lb_health_view::discovery::{DiscoverySource, Static};
@@ -32,22 +32,37 @@ impl MomentSource for Still {
     }
 }
 
-fn update<S: BackendSelection, R: KeyRule + Drop, C: HealthCheck + Drop, W: Wait>(
+// Updates a group; the generation.
+fn update<S: BackendSelection, R: KeyRule + Drop, C: HealthCheck + Drop, W: Wait + Abort>(
     rt: &W,
     alloc: Global,
     group: &SharedGroup<S, R, C>,
-    discovery: &DiscoverySource<Static>,
-) -> Result<u64, Refusal> {
-    group.update(rt, alloc, discovery, &mut Still {})
+) -> u64 {
+    let discovery = one_backend(alloc, 1).expect(rt, "refused");
+    group
+        .update(rt, alloc, &discovery, &mut Still {})
+        .expect(rt, "refused")
 }
 
-fn turn<S: BackendSelection, R: KeyRule + Drop, C: HealthCheck + Drop, W: Wait>(
+// Takes a turn for slot 0.
+fn turn<S: BackendSelection, R: KeyRule + Drop, C: HealthCheck + Drop, W: Wait + Abort>(
     rt: &W,
     alloc: Global,
     group: &SharedGroup<S, R, C>,
-) -> Result<Turn, Refusal> {
+) -> Turn {
     let mut port = LockedPort { group, rt };
-    worker_turn(alloc, &mut port, 0, &mut Still {})
+    worker_turn(alloc, &mut port, 0, &mut Still {}).expect(rt, "refused")
+}
+
+// Whether slot 0 selects the one backend.
+fn selects<S: BackendSelection, R: KeyRule + Drop, C: HealthCheck + Drop, W: Wait + Abort>(
+    rt: &W,
+    alloc: Global,
+    group: &SharedGroup<S, R, C>,
+) -> bool {
+    let expected = Backend::new(alloc, "1.0.0.1:80").expect(rt, "refused");
+    let selected = select_one(rt, alloc, group, 0).expect(rt, "refused");
+    selected.as_ref() == Some(&expected)
 }
 
 /// While what one group retired is not destroyed, the other one builds nothing; then the permit is back. A turn with nothing to do says
@@ -57,29 +72,29 @@ pub fn turns_on_one_gate<
     R: KeyRule + Drop,
     C: HealthCheck + Drop,
     W: Wait + Abort,
->(
-    rt: &W,
-    alloc: Global,
-    first: &SharedGroup<S, R, C>,
-    second: &SharedGroup<S, R, C>,
-) -> Result<(), Refusal> {
-    let discovery = one_backend(alloc, 1)?;
-    let expected = Backend::new(alloc, "1.0.0.1:80")?;
-    let generations = [
-        update(rt, alloc, first, &discovery)?,
-        update(rt, alloc, second, &discovery)?,
+>(rt: &W, alloc: Global, first: &SharedGroup<S, R, C>, second: &SharedGroup<S, R, C>) {
+    let generations = [update(rt, alloc, first), update(rt, alloc, second)];
+    let turns = [
+        turn(rt, alloc, first),
+        turn(rt, alloc, second),
+        turn(rt, alloc, first),
+        turn(rt, alloc, second),
+        turn(rt, alloc, second),
     ];
-    assert_eq!(rt; generations, [1, 1]);
-    assert_eq!(rt; turn(rt, alloc, first)?, Turn::Published(1));
-    assert_eq!(rt; turn(rt, alloc, second)?, Turn::Busy);
-    assert_eq!(rt; turn(rt, alloc, first)?, Turn::Nothing);
-    assert_eq!(rt; turn(rt, alloc, second)?, Turn::Published(1));
-    assert_eq!(rt; turn(rt, alloc, second)?, Turn::Nothing);
-    let selected = select_one(rt, alloc, first, 0)?;
-    assert_eq!(rt; selected.as_ref(), Some(&expected));
+    let is_selected = selects(rt, alloc, first);
     first.cancel(rt);
-    assert_eq!(rt; turn(rt, alloc, first)?, Turn::Cancelled);
-    Ok(())
+    let wanted = [
+        Turn::Published(1),
+        Turn::Busy,
+        Turn::Nothing,
+        Turn::Published(1),
+        Turn::Nothing,
+    ];
+    let last = turn(rt, alloc, first);
+    assert_eq!(rt;
+        (generations, turns, is_selected, last),
+        ([1, 1], wanted, true, Turn::Cancelled)
+    );
 }
 
 /// A worker of a group that is let go cancels it, and ends; what it was to build is not built. A slot that isn't there has no worker.
@@ -88,9 +103,8 @@ pub fn worker_of_one_let_go<
     R: KeyRule + Drop,
     C: HealthCheck + Drop,
     W: Log + Wait + Abort,
->(rt: &W, alloc: Global, group: &SharedGroup<S, R, C>) -> Result<(), Refusal> {
-    let discovery = one_backend(alloc, 1)?;
-    let generation = update(rt, alloc, group, &discovery)?;
+>(rt: &W, alloc: Global, group: &SharedGroup<S, R, C>) {
+    let generation = update(rt, alloc, group);
     group.let_go();
     let was_cancelled = group.is_cancelled(rt);
     let told = [
@@ -103,7 +117,6 @@ pub fn worker_of_one_let_go<
         !work(rt, alloc, group, 7, &mut Still {}),
     ];
     assert_eq!(rt; told, [true; 7]);
-    Ok(())
 }
 
 // Two backends whose weights have no sum of 64 bits, always.
@@ -144,7 +157,7 @@ fn works_once<S: BackendSelection, R: KeyRule + Drop, C: HealthCheck + Drop, W: 
     group: &SharedGroup<S, R, C>,
 ) -> Result<bool, Refusal> {
     let heavy = too_heavy(alloc)?;
-    update(rt, alloc, group, &heavy)?;
+    group.update(rt, alloc, &heavy, &mut Still {})?;
     Ok(work(rt, alloc, group, 0, &mut LettingGo { group, reading: 0 }))
 }
 
@@ -154,13 +167,14 @@ pub fn refused_once<
     R: KeyRule + Drop,
     C: HealthCheck + Drop,
     W: Wait + Abort + Copy + Drop,
->(rt: &W, alloc: Global, group: &SharedGroup<S, R, C>) -> Result<(), Refusal> {
+>(rt: &W, alloc: Global, group: &SharedGroup<S, R, C>) {
     let sink = Locked::new(*rt, Vec::new(alloc));
     let has_worked = works_once(&Logged::new(*rt, Level::Debug, &sink), alloc, group);
     let text = sink.into_inner();
     let said =
         "[ERROR lb_threads_group::workers] load-balancing selector rebuild failed for generation 1: WeightTooLarge\n";
-    assert_eq!(rt; has_worked, Ok(true));
-    assert_eq!(rt; text.as_slice(), said.as_bytes());
-    Ok(())
+    assert_eq!(rt;
+        (has_worked, text.as_slice() == said.as_bytes()),
+        (Ok(true), true)
+    );
 }

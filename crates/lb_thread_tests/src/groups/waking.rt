@@ -2,12 +2,11 @@
 ghost use Rattle.std.specs.Prelude.{◌≡◌};
 
 use super::TURNS;
-use crate::crowd::{Crowd, is_free, one_backend, serves};
+use lb_crowd::crowd::{Crowd, is_free, one_backend, serves};
 use lb_health_check::health_check::HealthCheck;
 use lb_health_registry::keys::KeyRule;
 use lb_rebuild::board::GroupPass;
 use lb_select_base::moments::MomentSource;
-use lb_select_base::refusal::Refusal;
 use lb_select_base::walk::BackendSelection;
 use lb_threads_group::group::SharedGroup;
 use lb_threads_registry::clock::RuntimeClock;
@@ -27,26 +26,28 @@ const WOKEN: u64 = 50;
 // In nanoseconds.
 const FIVE_SECONDS: u128 = 5_000_000_000;
 
-// Updates a group to a backend of that weight.
-fn update<S: BackendSelection, R: KeyRule + Drop, C: HealthCheck + Drop, W: Wait + Clock + Copy>(
-    rt: &W,
-    alloc: Global,
-    group: &SharedGroup<S, R, C>,
-    weight: usize,
-) -> Result<u64, Refusal> {
-    let discovery = one_backend(alloc, weight)?;
-    group.update(rt, alloc, &discovery, &mut RuntimeClock::new(*rt))
+// Updates a group to a backend of that weight; the generation.
+fn update<
+    S: BackendSelection,
+    R: KeyRule + Drop,
+    C: HealthCheck + Drop,
+    W: Abort + Wait + Clock + Copy,
+>(rt: &W, alloc: Global, group: &SharedGroup<S, R, C>, weight: usize) -> u64 {
+    let discovery = one_backend(alloc, weight).expect(rt, "refused");
+    group
+        .update(rt, alloc, &discovery, &mut RuntimeClock::new(*rt))
+        .expect(rt, "refused")
 }
 
-// Updates a group; whether slot 0 comes to serve the generation.
-fn comes_to<S: BackendSelection, R: KeyRule + Drop, C: HealthCheck + Drop, W: Wait + Clock + Copy>(
-    rt: &W,
-    alloc: Global,
-    group: &SharedGroup<S, R, C>,
-    weight: usize,
-) -> Result<bool, Refusal> {
-    let generation = update(rt, alloc, group, weight)?;
-    Ok(serves(rt, group, 0, generation, TURNS))
+// Updates a group; whether that slot comes to serve the generation.
+fn comes_to<
+    S: BackendSelection,
+    R: KeyRule + Drop,
+    C: HealthCheck + Drop,
+    W: Abort + Wait + Clock + Copy,
+>(rt: &W, alloc: Global, group: &SharedGroup<S, R, C>, slot: usize, weight: usize) -> bool {
+    let generation = update(rt, alloc, group, weight);
+    serves(rt, group, slot, generation, TURNS)
 }
 
 // What slot 0 serves once it was updated under two readers, and was to be again, and one of the two has left: whether it serves what was
@@ -55,30 +56,31 @@ fn one_leaves<
     S: BackendSelection,
     R: KeyRule + Drop,
     C: HealthCheck + Drop,
-    W: Wait + Clock + Copy,
+    W: Abort + Wait + Clock + Copy,
 >(
     rt: &W,
     alloc: Global,
     group: &SharedGroup<S, R, C>,
     gate: &SelectorRebuildGate,
     pass: &mut GroupPass,
-) -> Result<[bool; 4], Refusal>
+) -> [bool; 5]
     requires { pass.old.board ≡ group.now.board }
 {
-    let reader = group.enter_as(rt, 0, pass)?;
-    let is_retired = comes_to(rt, alloc, group, 2);
+    let reader = group.enter_as(rt, 0, pass).expect(rt, "refused");
+    let is_retired = comes_to(rt, alloc, group, 0, 2);
     let due = update(rt, alloc, group, 1);
     // A worker that gave the permit back before wakes the others a little later.
     thread::sleep(rt, Duration::from_millis(20));
     let seen = group.wakes().seen();
     group.leave(rt, reader);
     let is_quiet = group.wakes().seen() == seen;
-    Ok([
-        is_retired? && due? == 3,
+    [
+        is_retired,
+        due == 3,
         is_quiet,
         group.selector_generation(rt, 0) == Some(2),
         !is_free(rt, gate),
-    ])
+    ]
 }
 
 // The same, and then the other one leaves.
@@ -86,15 +88,10 @@ fn both_leave<
     S: BackendSelection,
     R: KeyRule + Drop,
     C: HealthCheck + Drop,
-    W: Wait + Clock + Copy,
->(
-    rt: &W,
-    alloc: Global,
-    group: &SharedGroup<S, R, C>,
-    gate: &SelectorRebuildGate,
-) -> Result<[bool; 4], Refusal> {
+    W: Abort + Wait + Clock + Copy,
+>(rt: &W, alloc: Global, group: &SharedGroup<S, R, C>, gate: &SelectorRebuildGate) -> [bool; 5] {
     let mut pass = group.pass();
-    let reader = group.enter_as(rt, 0, &mut pass)?;
+    let reader = group.enter_as(rt, 0, &mut pass).expect(rt, "refused");
     let told = one_leaves(rt, alloc, group, gate, &mut pass);
     group.leave(rt, reader);
     told
@@ -104,46 +101,37 @@ fn both_leave<
 /// rebuild comes at once.
 pub fn last_reader_wakes<
     W: Abort + Log + Threads + Wait + Clock + Copy + Send + Sync + Drop + 'static,
->(rt: &W, alloc: Global, crowd: &Crowd<W>) -> Result<(), Refusal> {
+>(rt: &W, alloc: Global, crowd: &Crowd<W>) {
     let [group, _] = crowd.groups();
     let missing = crowd.first.start_workers(alloc, RuntimeClock::new(*rt));
-    let is_served = comes_to(rt, alloc, group, 1)? && serves(rt, group, 1, 1, TURNS);
-    let told = both_leave(rt, alloc, group, &crowd.site.gate)?;
+    let is_served = comes_to(rt, alloc, group, 0, 1) && serves(rt, group, 1, 1, TURNS);
+    let told = both_leave(rt, alloc, group, &crowd.site.gate);
     let are_woken = [
         serves(rt, group, 0, 3, WOKEN),
         serves(rt, group, 1, 3, WOKEN),
     ];
     assert_eq!(rt;
         (missing, is_served, told, are_woken),
-        (0, true, [true; 4], [true; 2])
+        (0, true, [true; 5], [true; 2])
     );
-    Ok(())
 }
 
 // A reader that is in a slot while it is updated to that weight, and stays for a millisecond in what is retired then; whether it was. The
 // slot serves the newest generation before: a build of an older one that came meanwhile would wait for this reader with the permit out.
-fn stays<S: BackendSelection, R: KeyRule + Drop, C: HealthCheck + Drop, W: Wait + Clock + Copy>(
-    rt: &W,
-    alloc: Global,
-    group: &SharedGroup<S, R, C>,
-    slot: usize,
-    weight: usize,
-) -> Result<bool, Refusal> {
+fn stays<
+    S: BackendSelection,
+    R: KeyRule + Drop,
+    C: HealthCheck + Drop,
+    W: Abort + Wait + Clock + Copy,
+>(rt: &W, alloc: Global, group: &SharedGroup<S, R, C>, slot: usize, weight: usize) -> bool {
     let mut pass = group.pass();
     let newest = group.backend_generation_as(&mut pass);
-    if !serves(rt, group, slot, newest, TURNS) {
-        return Ok(false);
-    }
-    let reader = group.enter_as(rt, slot, &mut pass)?;
-    let told = update(rt, alloc, group, weight);
-    let is_retired = match &told {
-        Ok(generation) => serves(rt, group, slot, *generation, TURNS),
-        Err(_) => false,
-    };
+    let is_newest = serves(rt, group, slot, newest, TURNS);
+    let reader = group.enter_as(rt, slot, &mut pass).expect(rt, "refused");
+    let is_retired = comes_to(rt, alloc, group, slot, weight);
     thread::sleep(rt, Duration::from_millis(1));
     group.leave(rt, reader);
-    told?;
-    Ok(is_retired)
+    is_newest && is_retired
 }
 
 // Eight readers that stay so, in the slots by turns; whether each did.
@@ -151,26 +139,26 @@ fn eight_stay<
     S: BackendSelection,
     R: KeyRule + Drop,
     C: HealthCheck + Drop,
-    W: Wait + Clock + Copy,
->(rt: &W, alloc: Global, group: &SharedGroup<S, R, C>) -> Result<bool, Refusal> {
+    W: Abort + Wait + Clock + Copy,
+>(rt: &W, alloc: Global, group: &SharedGroup<S, R, C>) -> bool {
     for weight in 1..5 {
-        if !stays(rt, alloc, group, 0, weight)? || !stays(rt, alloc, group, 1, weight + 10)? {
-            return Ok(false);
+        if !stays(rt, alloc, group, 0, weight) || !stays(rt, alloc, group, 1, weight + 10) {
+            return false;
         }
     }
-    Ok(true)
+    true
 }
 
 /// Eight readers, one after another, stay for a millisecond in what their slot retired, and hold up the next rebuild of both slots until
 /// then: all are served within five seconds. Workers that nobody wakes would take seven.
 pub fn rebuilds_go_on<
     W: Abort + Log + Threads + Wait + Clock + Copy + Send + Sync + Drop + 'static,
->(rt: &W, alloc: Global, crowd: &Crowd<W>) -> Result<(), Refusal> {
+>(rt: &W, alloc: Global, crowd: &Crowd<W>) {
     let [group, _] = crowd.groups();
     let mut clock = RuntimeClock::new(*rt);
     let missing = crowd.first.start_workers(alloc, clock);
     let begun = clock.now();
-    let have_stayed = eight_stay(rt, alloc, group)?;
+    let have_stayed = eight_stay(rt, alloc, group);
     let told = [
         missing == 0,
         have_stayed,
@@ -179,5 +167,4 @@ pub fn rebuilds_go_on<
         clock.now().saturating_sub(begun) < FIVE_SECONDS,
     ];
     assert_eq!(rt; told, [true; 5]);
-    Ok(())
 }

@@ -19,6 +19,7 @@ use lb_threads_registry::keyed::NoRule;
 use lb_threads_registry::registry::HealthRegistry;
 use std::alloc::Global;
 use std::collections::BTreeSet;
+use std::sync::atomic::Ordering::SeqCst;
 use std::sync::{Arc, Wait};
 use std::thread;
 use std::thread::{JoinHandle, Threads};
@@ -46,8 +47,11 @@ pub type Group<W> = SharedGroup<Counted<W>, Rule<NoRule>, NoCheck>;
 /// The handle of such a group.
 pub type Handle<W> = LoadBalancerGroup<Counted<W>, W, Static, Rule<NoRule>, NoCheck>;
 
-/// The registry of such groups. Whoever makes a site hands it in, since a function that made one would hide its boxed rule.
+/// The registry of such groups. The caller makes it, since a function that made one would hide its boxed rule.
 pub type Registry = HealthRegistry<Rule<NoRule>, NoCheck>;
+
+// What such a group is made of.
+type Parts = GroupParts<Static, Rule<NoRule>, NoCheck>;
 
 /// What groups share: the counts of their selectors, a registry and a gate.
 #[derive(Drop)]
@@ -69,15 +73,23 @@ impl<W: Wait + Clock + Copy + Drop> Site<W> {
 
     /// A group of two slots that serve selectors over no backends; its discovery finds one backend.
     pub fn group(&self, rt: W, alloc: Global) -> Result<Handle<W>, Refusal> {
-        let parts = GroupParts::shared(
-            one_backend(alloc, 1)?,
-            Arc::try_clone(&self.registry)?,
-            Arc::try_clone(&self.gate)?,
-        );
-        let mut configs = Vec::new(alloc);
-        configs.push(Counting(Some(Arc::try_clone(&self.counts)?)))?;
-        configs.push(Counting(Some(Arc::try_clone(&self.counts)?)))?;
+        let configs = self.configs(alloc)?;
+        let parts = self.parts(alloc)?;
         LoadBalancerGroup::from_backends_with_configs(rt, alloc, parts, configs)
+    }
+
+    fn configs(&self, alloc: Global) -> Result<Vec<Counting<W>>, Refusal> {
+        let mut configs = Vec::new(alloc);
+        for _ in 0..2 {
+            configs.push(Counting(Some(Arc::try_clone(&self.counts)?)))?;
+        }
+        Ok(configs)
+    }
+
+    fn parts(&self, alloc: Global) -> Result<Parts, Refusal> {
+        let registry = Arc::try_clone(&self.registry)?;
+        let gate = Arc::try_clone(&self.gate)?;
+        Ok(GroupParts::shared(one_backend(alloc, 1)?, registry, gate))
     }
 }
 
@@ -90,17 +102,11 @@ pub struct Crowd<W: Wait + Clock + Copy + Drop> {
 }
 
 impl<W: Wait + Clock + Copy + Drop> Crowd<W> {
-    /// Without workers, over this registry; builds from here on are held or not.
-    pub fn new(
-        rt: W,
-        alloc: Global,
-        registry: &Arc<Registry>,
-        held: bool,
-    ) -> Result<Crowd<W>, Refusal> {
+    /// Makes two groups without workers over this registry.
+    pub fn new(rt: W, alloc: Global, registry: &Arc<Registry>) -> Result<Crowd<W>, Refusal> {
         let site = Site::new(rt, alloc, registry)?;
         let first = site.group(rt, alloc)?;
         let second = site.group(rt, alloc)?;
-        site.counts.hold(held);
         Ok(Crowd {
             site,
             first,
@@ -112,6 +118,63 @@ impl<W: Wait + Clock + Copy + Drop> Crowd<W> {
     pub fn groups(&self) -> [&Group<W>; 2] {
         [&**self.first.shared(), &**self.second.shared()]
     }
+
+    /// Drops both handles, and tells what the groups leave: whether both are cancelled, their workers end within that many turns of ten
+    /// milliseconds, no more selectors than the slots and one ever lived, the permit is back, and no selector lives on.
+    ///
+    /// # Errors
+    ///
+    /// `OutOfMemory`: the groups are dropped then too.
+    pub fn leave(self, rt: &W, turns: u64) -> Result<[bool; 5], Refusal> {
+        let shared = self.shared()?;
+        let Crowd {
+            site,
+            first,
+            second,
+        } = self;
+        drop(first);
+        drop(second);
+        Ok(left(rt, &site, shared, turns))
+    }
+
+    fn shared(&self) -> Result<[Arc<Group<W>>; 2], Refusal> {
+        Ok([
+            Arc::try_clone(self.first.shared())?,
+            Arc::try_clone(self.second.shared())?,
+        ])
+    }
+}
+
+// What groups leave whose handles are gone.
+fn left<W: Wait + Clock + Copy + Drop>(
+    rt: &W,
+    site: &Site<W>,
+    shared: [Arc<Group<W>>; 2],
+    turns: u64,
+) -> [bool; 5] {
+    let [one, other] = shared;
+    let are_cancelled = one.is_cancelled(rt) && other.is_cancelled(rt);
+    let have_ended = ends(rt, &*one, turns) && ends(rt, &*other, turns);
+    drop(one);
+    drop(other);
+    [
+        are_cancelled,
+        have_ended,
+        site.counts.most.load(SeqCst) <= 5,
+        is_free(rt, &site.gate),
+        lives_none(&site.counts),
+    ]
+}
+
+// Whether no selector lives any more, within a thousand turns of ten milliseconds: a worker that ended lets its group go a little later.
+fn lives_none<W: Clock>(counts: &Counts<W>) -> bool {
+    for _ in 0..1000 {
+        if counts.live.load(SeqCst) == 0 {
+            return true;
+        }
+        thread::sleep(&counts.rt, Duration::from_millis(10));
+    }
+    false
 }
 
 /// The backend of this weight at 1.0.0.1:80, always.

@@ -1,5 +1,5 @@
 use Rattle.std.proofs.Common.{◌≡◌}
-use Rattle.lb_thread_tests.proofs.crowd.update_often.Given as goal
+use Rattle.lb_crowd.proofs.crowd.update_often.Given as goal
 
 abbrev pub invariant-loop-time : goal.invariant-loop-time
 invariant-loop-time g l = l.pass.board ≡ l.group.board

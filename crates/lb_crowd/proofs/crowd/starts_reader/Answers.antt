@@ -10,7 +10,7 @@ use Rattle.std.specs.contracts.sync.Arc as Arc
 use Rattle.lb_threads_group.specs.contracts.group.SharedGroup as shared
 use Rattle.lb_threads_group.proofs.Crossings.{shared_send, shared_sync}
 use Rattle.lb_balancer_group.proofs.Crossings.{sent}
-use Rattle.lb_thread_tests.proofs.crowd.starts_reader.Goals as goal
+use Rattle.lb_crowd.proofs.crowd.starts_reader.Goals as goal
 
 -- what the closure captures, in the order of its use: the group, the runtime, the allocator and the counts
 pub spawn-started-requires-send-F : goal.spawn-started-requires-send-F
