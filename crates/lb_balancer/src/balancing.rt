@@ -30,6 +30,7 @@ use lb_select_base::loads::Loads;
 use lb_select_base::moments::MomentSource;
 use lb_select_base::refusal::Refusal;
 use lb_select_base::walk::BackendSelection;
+use lb_threads_registry::LibraryOnly;
 use lb_threads_registry::lock::KeyedLock;
 use lb_threads_registry::owner::ViewOwner;
 use lb_threads_registry::registry::HealthRegistry;
@@ -280,7 +281,7 @@ impl<
             return Some((members, settings));
         }
         let registries: &HealthRegistry<R, C> = &*self.registry;
-        let mut cells = registries.take(rt);
+        let mut cells = registries.take(rt, LibraryOnly {});
         held.value.keep(alloc, &mut cells.value, members, settings);
         let gone = self.exchange(rt, alloc, &held.value, &cells.value);
         registries.put(cells);
@@ -306,7 +307,7 @@ impl<
             Err(Refusal::OutOfMemory) => {
                 let registries: &HealthRegistry<R, C> = &*self.registry;
                 let held = self.serving.take(rt);
-                let cells = registries.take(rt);
+                let cells = registries.take(rt, LibraryOnly {});
                 let cause = held.value.cause(&cells.value, members);
                 registries.put(cells);
                 self.serving.put(held);
@@ -333,7 +334,7 @@ impl<
         let mut held = self.serving.take(rt);
         held.value.founded();
         let registries: &HealthRegistry<R, C> = &*self.registry;
-        let mut cells = registries.take(rt);
+        let mut cells = registries.take(rt, LibraryOnly {});
         let (unserved, answer) = held
             .value
             .renew(alloc, &mut cells.value, members, settings, built);
@@ -439,7 +440,7 @@ impl<
         let _key = &self.config;
         let registries: &HealthRegistry<R, C> = &*self.registry;
         let held = self.serving.take(rt);
-        let cells = registries.take(rt);
+        let cells = registries.take(rt, LibraryOnly {});
         let ready = held.value.ready(&cells.value, backend);
         registries.put(cells);
         self.serving.put(held);
@@ -453,7 +454,7 @@ impl<
         let mut held = self.serving.take(rt);
         held.value.set_enable(backend, enabled);
         let registries: &HealthRegistry<R, C> = &*self.registry;
-        let cells = registries.take(rt);
+        let cells = registries.take(rt, LibraryOnly {});
         let gone = self.exchange(rt, alloc, &held.value, &cells.value);
         registries.put(cells);
         self.serving.put(held);
@@ -483,7 +484,7 @@ impl<
         let registries: &HealthRegistry<R, C> = &*self.registry;
         let held = self.serving.take(rt);
         held.value.founded();
-        let mut cells = registries.take(rt);
+        let mut cells = registries.take(rt, LibraryOnly {});
         held.value.leave(&mut cells.value);
         registries.put(cells);
         self.serving.put(held);
@@ -532,7 +533,7 @@ impl<
             return Ok((again, latest));
         }
         let registries: &HealthRegistry<R, C> = &*self.registry;
-        let cells = registries.take(rt);
+        let cells = registries.take(rt, LibraryOnly {});
         let told = serving.show(alloc, &cells.value, &self.loads, version);
         registries.put(cells);
         let shown = Arc::new(alloc, told?)?;
@@ -588,7 +589,7 @@ fn is_full<R: KeyRule + Drop, C: HealthCheck + Drop, W: Wait>(
     rt: &W,
     registry: &HealthRegistry<R, C>,
 ) -> bool {
-    let cells = registry.take(rt);
+    let cells = registry.take(rt, LibraryOnly {});
     let full = cells.value.is_full();
     registry.put(cells);
     full
@@ -603,7 +604,7 @@ fn register<R: KeyRule + Drop, C: HealthCheck + Drop, W: Wait>(
     ensures made { IfOk result (λ v. IsViewAfter [] v) }
     ensures refused { OnErr result (IsGrowthRefusal result) }
 {
-    let mut cells = registry.take(rt);
+    let mut cells = registry.take(rt, LibraryOnly {});
     let told = ViewCore::register(alloc, &mut cells.value);
     registry.put(cells);
     told
@@ -644,7 +645,7 @@ fn places_over<S: BackendSelection, R: KeyRule + Drop, C: HealthCheck + Drop, W:
     };
     let loads = Arc::new(alloc, Mutex::new(Loads::new()))?;
     let lanes = Lanes::new(alloc, LANES, config)?;
-    let cells = registry.take(rt);
+    let cells = registry.take(rt, LibraryOnly {});
     let told = serving.show(alloc, &cells.value, &loads, version);
     registry.put(cells);
     let shown = Arc::new(alloc, told?)?;

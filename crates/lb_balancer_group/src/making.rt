@@ -12,6 +12,7 @@ use lb_health_check::health_check::HealthCheck;
 use lb_health_registry::keys::KeyRule;
 use lb_health_view::discovery::{DiscoverySource, ServiceDiscovery};
 use lb_rebuild_group::group::GroupCore;
+use lb_rebuild_slots::library_only::LibraryOnly;
 use lb_select_base::moments::MomentSource;
 use lb_select_base::refusal::Refusal;
 use lb_select_base::walk::BackendSelection;
@@ -35,8 +36,8 @@ pub(crate) fn make<S: BackendSelection, R: KeyRule + Drop, C: HealthCheck + Drop
     ensures slots { IfOk result (λ g. length g.group.slots ≡ length configs.items) }
     ensures refused { IsMakingRefusal (least (map (S.refusal []) configs.items)) result }
 {
-    let mut cells = registry.take(rt);
-    let held = gate.take(rt);
+    let mut cells = registry.take(rt, LibraryOnly {});
+    let held = gate.take(rt, LibraryOnly {});
     let made = GroupCore::new(alloc, &mut cells.value, &held.value, configs);
     gate.put(held);
     registry.put(cells);

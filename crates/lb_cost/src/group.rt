@@ -11,6 +11,7 @@ use anyhow::Error;
 use lb_rebuild_slots::answers::Ask;
 use lb_rebuild_slots::gate::GateCore;
 use lb_rebuild_slots::job::{FailedBuild, Job};
+use lb_rebuild_slots::library_only::LibraryOnly;
 use lb_rebuild_slots::slots::Slots;
 use lb_select::least::LeastConnections;
 use lb_select_base::backend::Backend;
@@ -141,7 +142,7 @@ fn failed<R: Clock>(
     let answer = group.fail(job, gate, now);
     costs.end(FAIL, start);
     if let Err(job) = answer {
-        job.close();
+        job.close(LibraryOnly {});
     }
 }
 
@@ -161,19 +162,19 @@ fn published<R: Clock>(
     let built = match job.build(alloc, || 0) {
         Ok(built) => built,
         Err(FailedBuild { job, refusal }) => {
-            job.close();
+            job.close(LibraryOnly {});
             return Err(refusal);
         }
     };
     if until == BUILT {
-        built.close();
+        built.close(LibraryOnly {});
         return Ok(());
     }
     let start = costs.begin();
     let answer = group.publish(built);
     costs.end(PUBLISH, start);
     if let Err(built) = answer {
-        built.close();
+        built.close(LibraryOnly {});
     }
     Ok(())
 }
@@ -194,7 +195,7 @@ fn read<R: Clock>(
     let answer = group.leave(reader);
     costs.end(LEAVE, start);
     if let Err(reader) = answer {
-        reader.close();
+        reader.close(LibraryOnly {});
     }
     Ok(())
 }
@@ -218,7 +219,7 @@ fn destroyed<R: Clock>(
     let answer = group.destroyed(slot, permit, gate);
     costs.end(REPORT, start);
     if let Err(permit) = answer {
-        permit.spend();
+        permit.spend(LibraryOnly {});
     }
     Ok(())
 }

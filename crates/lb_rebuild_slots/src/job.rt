@@ -4,7 +4,8 @@ ghost use Rattle.std.specs.Prelude.{◌≡◌, ◌⊎◌, IfOk, IfErr};
 ghost use Rattle.std.specs.Arc.{arc_value};
 ghost use Rattle.lb_rebuild_slots.specs.Values.{order_of};
 
-use crate::gate::Permit;
+use crate::gate::JobPermit;
+use crate::library_only::LibraryOnly;
 use crate::place::SlotPlace;
 use lb_select_base::backend::Backend;
 use lb_select_base::refusal::Refusal;
@@ -38,7 +39,7 @@ impl<C: Drop> Model for Order<C> {
 pub struct Job<S: BackendSelection> {
     pub(crate) place: SlotPlace,
     pub(crate) order: Order<S::Config>,
-    pub(crate) permit: Permit,
+    pub(crate) permit: JobPermit,
 }
 
 impl<S: BackendSelection> Model for Job<S> {
@@ -53,7 +54,7 @@ impl<S: BackendSelection> Model for Job<S> {
 pub struct Built<S: BackendSelection> {
     pub(crate) place: SlotPlace,
     pub(crate) order: Order<S::Config>,
-    pub(crate) permit: Permit,
+    pub(crate) permit: JobPermit,
     pub(crate) selector: Arc<S>,
     pub(crate) ended: u128,
 }
@@ -138,7 +139,7 @@ impl<S: BackendSelection> Job<S> {
     }
 
     // Takes the job apart.
-    pub(crate) fn into_parts(self) -> (Order<S::Config>, Permit)
+    pub(crate) fn into_parts(self) -> (Order<S::Config>, JobPermit)
         ensures { (result.0 ≡ order_of self) × (result.1 ≡ self.permit) }
     {
         let Job {
@@ -149,8 +150,8 @@ impl<S: BackendSelection> Job<S> {
         (order, permit)
     }
 
-    /// Lets the job go for good: its gate never grants again.
-    pub fn close(self) {
+    /// Ends the job without giving its permit back: its gate never grants again. Only crates of the library can call it.
+    pub fn close(self, _by: LibraryOnly) {
         let Job {
             place: _,
             order: _,
@@ -196,8 +197,8 @@ impl<S: BackendSelection> Built<S> {
         }
     }
 
-    /// Lets the selector go for good: its gate never grants again.
-    pub fn close(self) {
+    /// Drops the selector without giving its permit back: its gate never grants again. Only crates of the library can call it.
+    pub fn close(self, _by: LibraryOnly) {
         let Built {
             place: _,
             order: _,

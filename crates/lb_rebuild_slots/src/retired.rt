@@ -3,7 +3,8 @@
 ghost use Rattle.std.specs.Prelude.{◌≡◌, ◌+◌, ◌%◌, ◌^◌};
 ghost use Rattle.std.specs.Arc.{arc_value};
 
-use crate::gate::Permit;
+use crate::gate::JobPermit;
+use crate::library_only::LibraryOnly;
 use crate::place::SlotPlace;
 use lb_select_base::walk::BackendSelection;
 use std::marker::Model;
@@ -48,7 +49,7 @@ impl<S: BackendSelection> ServedSelector<S> {
 pub struct Retired<S: BackendSelection> {
     pub(crate) place: SlotPlace,
     pub(crate) serving: ServedSelector<S>,
-    pub(crate) permit: Permit,
+    pub(crate) permit: JobPermit,
 }
 
 impl<S: BackendSelection> Model for Retired<S> {
@@ -73,13 +74,6 @@ impl<S: BackendSelection> Retired<S> {
         serving.generation
     }
 
-    // The next ticket of its counter, which contracts do not see.
-    pub(crate) fn draw(&mut self) -> u64
-        ensures { self.new ≡ self.old }
-    {
-        self.serving.draw()
-    }
-
     /// Drops the selector, outside all locks, and gives the permit that is to be reported.
     pub fn destroy(self) -> OwedPermit
         ensures { result ≡ record { group = self.group; slot = self.slot; gate = self.permit } }
@@ -98,7 +92,7 @@ impl<S: BackendSelection> Retired<S> {
 /// Contracts see the group and the slot that it is owed to, and of which gate it is.
 pub struct OwedPermit {
     pub(crate) place: SlotPlace,
-    pub(crate) permit: Permit,
+    pub(crate) permit: JobPermit,
 }
 
 impl Model for OwedPermit {
@@ -110,8 +104,8 @@ impl Model for OwedPermit {
 }
 
 impl OwedPermit {
-    /// Lets the permit go for good: its gate never grants again.
-    pub fn spend(self) {
+    /// Ends the permit without giving it back: its gate never grants again. Only crates of the library can call it.
+    pub fn spend(self, _by: LibraryOnly) {
         let OwedPermit { place: _, permit } = self;
         permit.spend();
     }
@@ -157,16 +151,17 @@ impl<S: BackendSelection> Reader<S> {
         self.generation
     }
 
-    /// The selector that was entered.
-    pub fn selector(&self) -> &Arc<S>
-        ensures members { S.members (arc_value result.now) ≡ self.now.members }
-        ensures config { S.built_with (arc_value result.now) ≡ self.now.config }
+    /// Returns a borrow of the selector that was entered, which ends before the reader leaves.
+    pub fn selector(&self) -> &S
+        ensures members { S.members result.now ≡ self.now.members }
+        ensures config { S.built_with result.now ≡ self.now.config }
     {
         &self.selector
     }
 
-    /// Lets the reader go for good: the selector that it is in can't be destroyed from then on.
-    pub fn close(self) {
+    /// Ends the reader without leaving: the selector that it is in can't be destroyed from then on. Only crates of the library can
+    /// call it.
+    pub fn close(self, _by: LibraryOnly) {
         let Reader {
             place: _,
             generation: _,

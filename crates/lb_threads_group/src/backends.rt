@@ -9,6 +9,7 @@ ghost use Rattle.lb_threads_group.specs.Group.{NewestReadyUnder, Seen};
 use crate::group::SharedGroup;
 use lb_health_check::health_check::HealthCheck;
 use lb_health_registry::keys::KeyRule;
+use lb_rebuild_slots::library_only::LibraryOnly;
 use lb_select_base::backend::Backend;
 use lb_select_base::refusal::Refusal;
 use lb_select_base::walk::BackendSelection;
@@ -39,7 +40,7 @@ impl<S: BackendSelection, R: KeyRule + Drop, C: HealthCheck + Drop> SharedGroup<
         let registries: &HealthRegistry<R, C> = &*self.registry;
         let held = self.lock.take(rt);
         held.value.founded();
-        let registry = registries.take(rt);
+        let registry = registries.take(rt, LibraryOnly {});
         let told = held.value.core().newest_ready(&registry.value, backend);
         registries.put(registry);
         self.lock.put(held);

@@ -13,6 +13,7 @@ use lb_health_registry::keys::KeyRule;
 use lb_rebuild::board::Board;
 use lb_rebuild::watched::Watched;
 use lb_rebuild_group::group::GroupCore;
+use lb_rebuild_slots::library_only::LibraryOnly;
 use lb_select_base::backend::Backend;
 use lb_select_base::loads::Loads;
 use lb_select_base::moments::MomentSource;
@@ -126,7 +127,7 @@ impl<S: BackendSelection, R: KeyRule + Drop, C: HealthCheck + Drop> SharedGroup<
         let _gate = &self.gate;
         let registries: &HealthRegistry<R, C> = &*self.registry;
         let mut held = self.lock.take(rt);
-        let mut registry = registries.take(rt);
+        let mut registry = registries.take(rt, LibraryOnly {});
         held.value.cancel(&mut registry.value);
         registries.put(registry);
         self.lock.put(held);

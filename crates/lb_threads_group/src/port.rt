@@ -13,6 +13,7 @@ use lb_health_registry::keys::KeyRule;
 use lb_health_view::view::Settings;
 use lb_rebuild_slots::answers::{Ask, Publication};
 use lb_rebuild_slots::job::Built;
+use lb_rebuild_slots::library_only::LibraryOnly;
 use lb_rebuild_slots::membership::Scheduled;
 use lb_rebuild_slots::retired::{OwedPermit, Reader, Retired};
 use lb_select_base::backend::Backend;
@@ -56,8 +57,8 @@ impl<'g, 'r, S: BackendSelection, R: KeyRule + Drop, C: HealthCheck + Drop, W: W
         let gates: &SelectorRebuildGate = &*group.gate;
         let mut held = group.lock.take(self.rt);
         held.value.founded();
-        let mut cells = registries.take(self.rt);
-        let mut gate = gates.take(self.rt);
+        let mut cells = registries.take(self.rt, LibraryOnly {});
+        let mut gate = gates.take(self.rt, LibraryOnly {});
         let told = held.value.fail(job, &mut cells.value, &mut gate.value, now);
         gates.put(gate);
         registries.put(cells);
@@ -65,7 +66,7 @@ impl<'g, 'r, S: BackendSelection, R: KeyRule + Drop, C: HealthCheck + Drop, W: W
         gates.wakes().wake();
         match told {
             Ok(()) => {}
-            Err(job) => job.close(),
+            Err(job) => job.close(LibraryOnly {}),
         }
     }
 
@@ -80,7 +81,7 @@ impl<'g, 'r, S: BackendSelection, R: KeyRule + Drop, C: HealthCheck + Drop, W: W
         match told {
             Ok(told) => told,
             Err(built) => {
-                built.close();
+                built.close(LibraryOnly {});
                 Publication::Abandoned(generation)
             }
         }
@@ -100,7 +101,7 @@ impl<'g, 'r, S: BackendSelection, R: KeyRule + Drop, C: HealthCheck + Drop, W: W
         group.wake_if(is_last);
         match told {
             Ok(()) => {}
-            Err(reader) => reader.close(),
+            Err(reader) => reader.close(LibraryOnly {}),
         }
     }
 }
@@ -138,7 +139,7 @@ impl<'g, 'r, S: BackendSelection, R: KeyRule + Drop, C: HealthCheck + Drop, W: W
         let _gate = &group.gate;
         let mut held = group.lock.take(self.rt);
         held.value.founded();
-        let mut cells = registries.take(self.rt);
+        let mut cells = registries.take(self.rt, LibraryOnly {});
         let told = held
             .value
             .schedule(alloc, &mut cells.value, discovered, settings, now);
@@ -153,7 +154,7 @@ impl<'g, 'r, S: BackendSelection, R: KeyRule + Drop, C: HealthCheck + Drop, W: W
         let gates: &SelectorRebuildGate = &*group.gate;
         let mut held = group.lock.take(self.rt);
         held.value.founded();
-        let mut gate = gates.take(self.rt);
+        let mut gate = gates.take(self.rt, LibraryOnly {});
         let told = held.value.ask(slot, &mut gate.value, now);
         gates.put(gate);
         group.lock.put(held);
@@ -176,7 +177,7 @@ impl<'g, 'r, S: BackendSelection, R: KeyRule + Drop, C: HealthCheck + Drop, W: W
         let _gate = &group.gate;
         let held = group.lock.take(self.rt);
         held.value.founded();
-        let cells = registries.take(self.rt);
+        let cells = registries.take(self.rt, LibraryOnly {});
         let told = held.value.core().ready(reader, &cells.value, backend);
         registries.put(cells);
         group.lock.put(held);
@@ -215,8 +216,8 @@ impl<'g, 'r, S: BackendSelection, R: KeyRule + Drop, C: HealthCheck + Drop, W: W
         let gates: &SelectorRebuildGate = &*group.gate;
         let mut held = group.lock.take(self.rt);
         held.value.founded();
-        let mut cells = registries.take(self.rt);
-        let mut gate = gates.take(self.rt);
+        let mut cells = registries.take(self.rt, LibraryOnly {});
+        let mut gate = gates.take(self.rt, LibraryOnly {});
         let told = held
             .value
             .destroyed(slot, permit, &mut cells.value, &mut gate.value);
@@ -226,7 +227,7 @@ impl<'g, 'r, S: BackendSelection, R: KeyRule + Drop, C: HealthCheck + Drop, W: W
         gates.wakes().wake();
         match told {
             Ok(()) => {}
-            Err(permit) => permit.spend(),
+            Err(permit) => permit.spend(LibraryOnly {}),
         }
     }
 

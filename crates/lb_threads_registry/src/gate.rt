@@ -6,6 +6,7 @@ use crate::lock::{KeyedLock, TakenValue};
 use crate::rule::LockRule;
 use crate::wakes::Wakes;
 use lb_rebuild_slots::gate::{GateCore, Permit};
+use lb_rebuild_slots::library_only::LibraryOnly;
 use lb_select_base::refusal::Refusal;
 use std::alloc::Global;
 use std::marker::Model;
@@ -68,8 +69,13 @@ impl SelectorRebuildGate {
         &self.wakes
     }
 
-    /// The gate itself, for one call of a group; `put` ends it. The thread sleeps while another one has it.
-    pub fn take<R: Wait>(&self, rt: &R) -> TakenValue<GateCore, Snapshot<GateCore>>
+    /// Takes the gate itself, for one call of a group; `put` ends it. The thread sleeps while another one has it. Only crates of the
+    /// library can call it.
+    pub fn take<R: Wait>(
+        &self,
+        rt: &R,
+        _by: LibraryOnly,
+    ) -> TakenValue<GateCore, Snapshot<GateCore>>
         ensures gate { result.value.id ≡ self.now.id }
         ensures here { result.seat.table_id ≡ self.now.lock }
     {

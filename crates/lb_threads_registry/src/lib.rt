@@ -11,3 +11,5 @@ pub mod owner;
 pub mod registry;
 pub mod rule;
 pub mod wakes;
+
+pub use lb_rebuild_slots::library_only::LibraryOnly;

@@ -18,6 +18,7 @@ use lb_health_registry::keys::{KeyRule, Rule};
 use lb_health_registry::registry::Registry;
 use lb_health_registry::targets::Target;
 use lb_health_view::registry::tell;
+use lb_rebuild_slots::library_only::LibraryOnly;
 use lb_select_base::backend::Backend;
 use lb_select_base::refusal::Refusal;
 use log::Log;
@@ -98,14 +99,15 @@ impl<R: KeyRule + Drop, C: HealthCheck + Drop> HealthRegistry<R, C> {
     fn configure<W: Wait>(&self, rt: &W)
         ensures { UnderRegistry R.gives self.now.start (λ x y. Becomes R.gives x (λ events. Configured false ∷ events) y) }
     {
-        let TakenValue { value, seat } = self.take(rt);
+        let TakenValue { value, seat } = self.take(rt, LibraryOnly {});
         let value = value.start_unhealthy();
         self.put(TakenValue { value, seat });
     }
 
     /// Takes the registry itself, for one call of a view or a group; `put` ends it. The thread sleeps while another one has it. Views
-    /// whose owners are gone are marked for removal first. A verdict goes through `observe`, which counts it where it flips a cell.
-    pub fn take<W: Wait>(&self, rt: &W) -> HeldRegistry<R>
+    /// whose owners are gone are marked for removal first. Only crates of the library can call it: a verdict goes through `observe`,
+    /// which counts it where it flips a cell.
+    pub fn take<W: Wait>(&self, rt: &W, _by: LibraryOnly) -> HeldRegistry<R>
         ensures registry { IsRegistryOf R.gives self.now.start result.value }
         ensures here { result.seat.table_id ≡ self.now.lock }
     {
@@ -188,7 +190,7 @@ impl<R: KeyRule + Drop, C: HealthCheck + Drop> HealthRegistry<R, C> {
             (λ key_of events count. count ≡ length (target_keys key_of (views_after events))) x result y) }
         ensures refused { OnErr result (IsGrowthRefusal result) }
     {
-        let mut held = self.take(rt);
+        let mut held = self.take(rt, LibraryOnly {});
         let told = held.value.target_count(alloc);
         self.put(held);
         told
@@ -204,7 +206,7 @@ impl<R: KeyRule + Drop, C: HealthCheck + Drop> HealthRegistry<R, C> {
             (λ key_of events targets. targets.items ≡ targets_after key_of events) x result y) }
         ensures refused { OnErr result (IsGrowthRefusal result) }
     {
-        let mut held = self.take(rt);
+        let mut held = self.take(rt, LibraryOnly {});
         let told = held.value.targets(alloc);
         self.put(held);
         told
@@ -241,7 +243,7 @@ impl<R: KeyRule + Drop, C: HealthCheck + Drop> HealthRegistry<R, C> {
             (record { ok = verdict; threshold = threshold }) result y) }
         ensures refused { OnErr result (result ≡ Err Refusal.NoSuch) }
     {
-        let mut held = self.take(rt);
+        let mut held = self.take(rt, LibraryOnly {});
         let answer = held.value.observe(cell, verdict, threshold);
         self.put(held);
         answer
@@ -256,7 +258,7 @@ impl<R: KeyRule + Drop, C: HealthCheck + Drop> HealthRegistry<R, C> {
     pub fn cell_ready<W: Wait>(&self, rt: &W, cell: u64) -> bool
         ensures { SeenIn R.gives self.now.start (λ x. IsCellReady R.gives x cell result) }
     {
-        let held = self.take(rt);
+        let held = self.take(rt, LibraryOnly {});
         let told = held.value.cell_ready(cell);
         self.put(held);
         told
@@ -272,7 +274,7 @@ impl<R: KeyRule + Drop, C: HealthCheck + Drop> HealthRegistry<R, C> {
         ensures registered { UnderRegistry R.gives self.now.start (λ x y. IsRegistered R.gives x result y) }
         ensures refused { OnErr result (IsGrowthRefusal result) }
     {
-        let mut held = self.take(rt);
+        let mut held = self.take(rt, LibraryOnly {});
         let told = held.value.register_view(alloc);
         self.put(held);
         told
@@ -294,7 +296,7 @@ impl<R: KeyRule + Drop, C: HealthCheck + Drop> HealthRegistry<R, C> {
         ensures updated { UnderRegistry R.gives self.now.start (λ x y. IsUpdated R.gives x id members.keys result y) }
         ensures refused { OnErr result (IsUpdateRefusal result) }
     {
-        let mut held = self.take(rt);
+        let mut held = self.take(rt, LibraryOnly {});
         let told = held.value.update_view(alloc, id, members);
         self.put(held);
         told
@@ -304,7 +306,7 @@ impl<R: KeyRule + Drop, C: HealthCheck + Drop> HealthRegistry<R, C> {
     pub fn remove_view<W: Wait>(&self, rt: &W, id: u64)
         ensures { UnderRegistry R.gives self.now.start (λ x y. Becomes R.gives x (λ events. Marked id ∷ events) y) }
     {
-        let mut held = self.take(rt);
+        let mut held = self.take(rt, LibraryOnly {});
         held.value.remove_view(id);
         self.put(held);
     }

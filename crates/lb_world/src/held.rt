@@ -5,6 +5,7 @@ ghost use Rattle.lb_world.specs.Views.{nothing, building, built, NotBuilding, No
 ghost use Rattle.lb_world.specs.Works.{work_value};
 
 use lb_rebuild_slots::job::{Built, Job};
+use lb_rebuild_slots::library_only::LibraryOnly;
 use lb_rebuild_slots::retired::Reader;
 use lb_select_base::walk::BackendSelection;
 use std::marker::Model;
@@ -37,8 +38,8 @@ impl<S: BackendSelection> InHand<S> {
         let InHand { work } = self;
         match work {
             Work::Nothing => {}
-            Work::Building(job) => job.close(),
-            Work::Built(built) => built.close(),
+            Work::Building(job) => job.close(LibraryOnly {}),
+            Work::Built(built) => built.close(LibraryOnly {}),
         }
     }
 
@@ -133,6 +134,6 @@ impl<S: BackendSelection> OpenReader<S> {
     // Lets the reader go with the world.
     pub(crate) fn close(self) {
         let OpenReader { group: _, reader } = self;
-        reader.close();
+        reader.close(LibraryOnly {});
     }
 }

@@ -11,6 +11,7 @@ use lb_health_view::discovery::Static;
 use lb_rebuild_slots::answers::{Ask, Publication, Selection};
 use lb_rebuild_slots::gate::GateCore;
 use lb_rebuild_slots::job::FailedBuild;
+use lb_rebuild_slots::library_only::LibraryOnly;
 use lb_select::selection::{BackendSelection, Random, RoundRobin};
 use lb_select_base::loads::Loads;
 use lb_select_base::refusal::Refusal;
@@ -65,14 +66,14 @@ fn rebuilt<S: BackendSelection>(
     let built = match job.build(alloc, || 23) {
         Ok(built) => built,
         Err(FailedBuild { job, refusal }) => {
-            job.close();
+            job.close(LibraryOnly {});
             return Err(refusal);
         }
     };
     match balancer.group.publish(built) {
         Ok(told) => Ok(Some(told)),
         Err(built) => {
-            built.close();
+            built.close(LibraryOnly {});
             Ok(None)
         }
     }

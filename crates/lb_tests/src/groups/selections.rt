@@ -9,6 +9,7 @@ use lb_rebuild_group::group::GroupCore;
 use lb_rebuild_slots::answers::{Ask, Selection};
 use lb_rebuild_slots::gate::GateCore;
 use lb_rebuild_slots::job::FailedBuild;
+use lb_rebuild_slots::library_only::LibraryOnly;
 use lb_select::selection::RoundRobin;
 use lb_select_base::backend::Backend;
 use lb_select_base::loads::Loads;
@@ -98,12 +99,12 @@ fn serve_both(
     let built = match job.build(alloc, || 0) {
         Ok(built) => built,
         Err(FailedBuild { job, refusal }) => {
-            job.close();
+            job.close(LibraryOnly {});
             return Err(refusal);
         }
     };
     if let Err(built) = group.publish(built) {
-        built.close();
+        built.close(LibraryOnly {});
     }
     Ok(())
 }

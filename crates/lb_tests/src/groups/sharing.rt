@@ -3,6 +3,7 @@ ghost use Rattle.lb_rebuild_slots.specs.Stands.{SameSite};
 
 use crate::groups::selections::one_slot;
 use lb_rebuild_slots::gate::GateCore;
+use lb_rebuild_slots::library_only::LibraryOnly;
 use lb_rebuild_slots::slots::Slots;
 use lb_select::selection::RoundRobin;
 use lb_select_base::refusal::Refusal;
@@ -16,17 +17,17 @@ fn both_entered(a: &mut Slots<RoundRobin>, b: &mut Slots<RoundRobin>) -> Result<
     let second = match b.enter(0) {
         Ok(reader) => reader,
         Err(refusal) => {
-            first.close();
+            first.close(LibraryOnly {});
             return Err(refusal);
         }
     };
     let mut counted = true;
     if let Err(reader) = a.leave(first) {
-        reader.close();
+        reader.close(LibraryOnly {});
         counted = false;
     }
     if let Err(reader) = b.leave(second) {
-        reader.close();
+        reader.close(LibraryOnly {});
         counted = false;
     }
     Ok(counted)

@@ -8,6 +8,7 @@ use crate::selection::noting::{Gone, Noting};
 use lb_rebuild_slots::answers::Ask;
 use lb_rebuild_slots::gate::GateCore;
 use lb_rebuild_slots::job::FailedBuild;
+use lb_rebuild_slots::library_only::LibraryOnly;
 use lb_rebuild_slots::slots::Slots;
 use lb_select_base::refusal::Refusal;
 use std::alloc::Global;
@@ -31,14 +32,14 @@ fn granted(alloc: Global, group: &mut Slots<Noting>, gate: &mut GateCore) -> Res
     let built = match job.build(alloc, || 0) {
         Ok(built) => built,
         Err(FailedBuild { job, refusal }) => {
-            job.close();
+            job.close(LibraryOnly {});
             return Err(refusal);
         }
     };
     match group.publish(built) {
         Ok(_) => Ok(true),
         Err(built) => {
-            built.close();
+            built.close(LibraryOnly {});
             Ok(false)
         }
     }
@@ -78,7 +79,7 @@ fn retires_in_order(
     let reported = match group.destroyed(0, permit, gate) {
         Ok(()) => true,
         Err(permit) => {
-            permit.spend();
+            permit.spend(LibraryOnly {});
             false
         }
     };
