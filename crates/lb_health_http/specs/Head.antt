@@ -1,6 +1,6 @@
 -- The head of an answer as a check takes it: one that the grammar of `httparse` reads, with a status of at least 100, at
 -- most 64 fields and at most 65536 bytes.
-use Rattle.std.specs.Prelude.{◌≡◌, ℕ, ◌<◌, ◌≤◌, ◌+◌, ◌⊎◌, List, [], ◌∷◌, ◌++◌, length, ⊤, Result, Ok, Err}
+use Rattle.std.specs.Prelude.{◌≡◌, ◌≢◌, ℕ, ◌<◌, ◌≤◌, ◌+◌, ◌⊎◌, List, [], ◌∷◌, ◌++◌, length, ⊤, Result, Ok, Err}
 use Rattle.httparse.specs.Grammar.{LineEnd, print_blank, ResponseHead, ReadsResponse, HasNoResponse, NeverHasResponse, MayBecomeResponse}
 use Rattle.httparse.specs.Grammar.{print_response, status_code}
 use Rattle.httparse.specs.Spans.{IsResponseWithin, IsResponseAt, ResponseOverflows, ResponseExceeds}
@@ -22,6 +22,10 @@ pub record BeginsWithHead (stream : List ℕ) (h : ResponseHead) (rest : List �
   pub reads : ReadsResponse stream h rest
   pub fit : IsFitHead h
 
+-- some bytes can follow that make a head of at most 64 fields
+abbrev pub MayBecomeHead : List ℕ → Type 0
+MayBecomeHead bytes = (more : List ℕ) × (h : ResponseHead) × ReadsResponse (bytes ++ more) h [] × (length h.fields ≤ 64)
+
 -- the bytes are a head and then the beginning of a 65th field or of more, and each head that begins them has more than 64
 pub record HasManyFields (bytes : List ℕ) : Type 0 where
   pub exceeds : ResponseExceeds 64 bytes
@@ -35,9 +39,9 @@ IsLowHead bytes = (h : ResponseHead) × ReadsResponse bytes h [] × (status_code
 abbrev pub IsRefusedHead : List ℕ → Type 0
 IsRefusedHead bytes = NeverHasResponse bytes ⊎ (HasManyFields bytes ⊎ IsLowHead bytes)
 
--- at each line feed of the text bytes can follow that make a head of what came up to there
+-- at each line feed of the text bytes can follow that make a head of at most 64 fields of what came up to there
 abbrev pub IsOpenAtFeeds : List ℕ → Type 0
-IsOpenAtFeeds text = (line rest : List ℕ) → text ≡ (line ++ 10 ∷ []) ++ rest → MayBecomeResponse (line ++ 10 ∷ [])
+IsOpenAtFeeds text = (line rest : List ℕ) → text ≡ (line ++ 10 ∷ []) ++ rest → MayBecomeHead (line ++ 10 ∷ [])
 
 -- within the limit the stream has a line feed at which what came up to there is refused, as it is at none before; the rest
 -- is what follows it
@@ -75,6 +79,15 @@ abbrev pub Sees : List ℕ → Seen → Type 0
 Sees bytes (Whole p) = (h : ResponseHead) × HasParts bytes p h
 Sees bytes Open = HasNoResponse bytes × MayBecomeResponse bytes
 Sees bytes Bad = NeverHasResponse bytes ⊎ HasManyFields bytes
+
+-- the bytes end in a line feed
+abbrev pub EndsInFeed : List ℕ → Type 0
+EndsInFeed bytes = (front : List ℕ) × (bytes ≡ front ++ 10 ∷ [])
+
+-- the bytes don't begin with an empty line
+pub record BeginsWithText (bytes : List ℕ) : Type 0 where
+  pub no_feed : (rest : List ℕ) → bytes ≢ 10 ∷ rest
+  pub no_crlf : (rest : List ℕ) → bytes ≢ 13 ∷ 10 ∷ rest
 
 -- the line has no byte but perhaps a carriage return
 abbrev pub IsBlankLine : List ℕ → Type 0

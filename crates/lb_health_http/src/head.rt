@@ -58,9 +58,25 @@ fn look_at(bytes: &[u8]) -> Seen
 
 // Whether a line that has just ended was empty.
 fn is_blank(line: &[u8]) -> bool
-    ensures { OnTrue result (IsBlankLine line.now) }
+    ensures { MatchBool result (IsBlankLine line.now) (¬ (IsBlankLine line.now)) }
 {
     line.is_empty() || (line.len() == 1 && line[0] == b'\r')
+}
+
+// Whether the bytes, which end in a line feed and hold no whole head, leave room for a head: an empty line next would end one.
+fn has_room(bytes: &mut Vec<u8>) -> Result<bool, CheckError>
+    requires none { HasNoResponse bytes.old.items }
+    requires open { MayBecomeResponse bytes.old.items }
+    requires feed { EndsInFeed bytes.old.items }
+    requires begins { BeginsWithText bytes.old.items }
+    ensures kept { OnOk result (bytes.new.items ≡ bytes.old.items) }
+    ensures room { IfOk result (λ room. MatchBool room (MayBecomeHead bytes.old.items) (HasManyFields bytes.old.items)) }
+    ensures refused { OnErr result (result ≡ Err CheckError.OutOfMemory) }
+{
+    bytes.push(b'\n')?;
+    let seen = look_at(bytes);
+    bytes.pop();
+    Ok(matches!(seen, Seen::Whole(_)))
 }
 
 /// Reads the head of an answer and no byte after it.
@@ -95,7 +111,11 @@ pub(crate) fn read_head<R: Read>(alloc: Global, reader: &mut Counted<R>) -> Resu
         match look_at(&bytes) {
             Seen::Whole(parts) if parts.found.code >= 100 => return Ok(Head { bytes, parts }),
             Seen::Whole(_) => return Err(CheckError::BadHead),
-            Seen::Open => {}
+            Seen::Open => match has_room(&mut bytes) {
+                Ok(true) => {}
+                Ok(false) => return Err(CheckError::BadHead),
+                Err(fault) => return Err(fault),
+            },
             Seen::Bad => return Err(CheckError::BadHead),
         }
     }
