@@ -1,3 +1,5 @@
+pub mod History
+pub mod Selections
 pub mod SharedUpdates
 pub mod Shown
 pub mod Texts

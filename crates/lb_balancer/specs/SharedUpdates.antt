@@ -6,15 +6,10 @@ use Rattle.lb_select_base.specs.Refusals.{memory_apart}
 use Rattle.lb_select_base.specs.declared.refusal.Refusal.{Refusal}
 use Rattle.lb_select_base.specs.declared.refusal.Refusal.TheVariants.{Discovery, OutOfMemory, GenerationsExhausted, NoSuch, NumbersExhausted}
 use Rattle.lb_health_view.specs.Discoveries.{Discovers, MayFault}
-use Rattle.lb_health_view.specs.declared.discovery.DiscoverySource.{DiscoverySource}
 use Rattle.lb_balancer_core.specs.Timings.{Reads}
+use Rattle.lb_balancer.specs.History.{BalancerValue}
 use Rattle.lb_background.specs.declared.event.Event.{Event}
 use Rattle.lb_background.specs.declared.event.Event.TheVariants as on
-
--- what a caller knows of a balancer: its discovery, and what its selectors are built with
-pub record BalancerValue (D C : Type 0) : Type 0 where
-  pub discovery : DiscoverySource D
-  pub config : C
 
 -- the clock was read at the start and at the end, and around the build where there was one
 abbrev pub ReadsUpdate : {K : Type 0} → (K → ℕ → K → Type 0) → K → K → Type 0
@@ -29,7 +24,7 @@ abbrev pub IsBuildRefusal : Option Refusal → Refusal → Type 0
 IsBuildRefusal build r = (memory_apart build ≡ Some r) ⊎ IsRoomRefusal r
 
 -- why an update is refused: the discovery answered a fault or was refused memory, or what it gave is refused
-abbrev pub IsSharedRefusal : {D C : Type 0} → (List Member → C → Option Refusal) → BalancerValue D C → Refusal → Type 0
+abbrev pub IsSharedRefusal : {D C R : Type 0} → (List Member → C → Option Refusal) → BalancerValue D C R → Refusal → Type 0
 IsSharedRefusal build b r =
     ((r ≡ Discovery) × MayFault b.discovery)
     ⊎ ((r ≡ OutOfMemory)

@@ -1,6 +1,8 @@
 //! What a balancer is made of, and what of its backends is lent.
-ghost use Rattle.std.specs.Prelude.{◌≡◌, IfErr, IfOk, OnErr, true, false};
-ghost use Rattle.lb_health_registry.specs.Registry.{IsGrowthRefusal};
+ghost use Rattle.std.specs.Prelude.{◌≡◌, [], IfErr, IfOk, true, false};
+ghost use Rattle.std.specs.Arc.{arc_value};
+ghost use Rattle.lb_health_registry.specs.Keys.{by_identity, rule_gives};
+ghost use Rattle.lb_health_registry.specs.Registry.{IsRegistryAfter};
 
 use lb_health_check::health_check::HealthCheck;
 use lb_health_registry::keys::{KeyRule, Rule};
@@ -26,12 +28,14 @@ impl<D: Drop, N: KeyRule + Drop, C: HealthCheck + Drop> Backends<D, Rule<N>, C> 
         discovery: DiscoverySource<D>,
     ) -> Result<Backends<D, Rule<N>, C>, Refusal>
         ensures parts { IfOk result (λ b. (b.discovery ≡ discovery) × (b.owns_checks ≡ true)) }
+        ensures registry { IfOk result (λ b. IsRegistryAfter (rule_gives N.gives) by_identity [] (arc_value b.registry).start) }
         ensures refused { IfErr result (λ e. e ≡ Refusal.OutOfMemory) }
     {
         let registry = HealthRegistry::over(alloc, Registry::with_rule(alloc, Rule::Identity))?;
+        let registry = Arc::new(alloc, registry)?;
         Ok(Backends {
             discovery,
-            registry: Arc::new(alloc, registry)?,
+            registry,
             owns_checks: true,
         })
     }

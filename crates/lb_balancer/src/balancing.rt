@@ -2,7 +2,7 @@
 //! Locks are taken in the order update, served, registry, shown; the last is held for a copy of a pointer. That of the loads is held
 //! for one load, beside no other. A selection takes the first four only where its lane doesn't have what is served (`kept`).
 ghost use Rattle.std.specs.Prelude.{◌≡◌, ◌⊎◌, ◌∷◌, [], ℕ, List, IfOk, IfErr, OnOk, OnErr, Ok, Err};
-ghost use Rattle.std.specs.Prelude.{All, Some, None, unwrap_or, false, IfSome, MatchOption};
+ghost use Rattle.std.specs.Prelude.{All, IfNone, IfSome, Some, unwrap_or};
 ghost use Rattle.std.specs.Arc.{arc_value};
 ghost use Rattle.lb_select_base.specs.Backends.{Member, same_member};
 ghost use Rattle.lb_select_base.specs.Refusals.{Refuses, memory_apart};
@@ -11,11 +11,16 @@ ghost use Rattle.lb_rebuild_group.specs.GroupCalls.{AcceptsBy};
 ghost use Rattle.lb_health_view.specs.Views.{IsViewAfter, IsViewRefusal};
 ghost use Rattle.lb_health_registry.specs.Registry.{IsGrowthRefusal};
 ghost use Rattle.lb_balancer_core.specs.Timings.{Reads};
-ghost use Rattle.lb_balancer.specs.Shown.{SelectsOf, ShownValue, is_up};
+ghost use Rattle.lb_health_view.specs.Discoveries.{Discovers};
+ghost use Rattle.lb_health_view.specs.RegistrySide.{settings_of};
+ghost use Rattle.lb_threads_registry.specs.Registry.{IsRegistryOf};
+ghost use Rattle.lb_balancer.specs.History.{AreDiscovered, BalancerEvent, Flags, IsLeftBy, IsNewest, IsReadyBeside, IsServedBy, IsShownBy};
+ghost use Rattle.lb_balancer.specs.History.{IsUpdatedBy, SeenServed, Takes, UnderServed, views_after};
+ghost use Rattle.lb_balancer.specs.Shown.{ShownValue};
 ghost use Rattle.lb_balancer.specs.SharedUpdates.{IsBuildRefusal, IsSharedRefusal, ReadsUpdate};
 
 use crate::backends::Backends;
-use crate::kept::KeptShown;
+use crate::origin::{KeptShown, OfServing, OfShown, Origin};
 use crate::serving::{BuiltSelector, Serving, built_of};
 use crate::shown::{Shown, Version};
 use lb_balancer_core::timings::UpdateTimings;
@@ -33,7 +38,6 @@ use lb_select_base::walk::BackendSelection;
 use lb_threads_registry::lock::KeyedLock;
 use lb_threads_registry::owner::ViewOwner;
 use lb_threads_registry::registry::HealthRegistry;
-use lb_threads_registry::rule::LockRule;
 use log::Log;
 use std::alloc::Global;
 use std::collections::BTreeSet;
@@ -45,60 +49,32 @@ use std::sync::atomic::Ordering::SeqCst;
 use std::sync::{Arc, Mutex, Wait};
 use std::thread::Threads;
 
-/// What is served is built with the balancer's configuration.
-pub struct OfServing {}
+type ServingLock<S, D, R, C> = KeyedLock<Serving<S>, Snapshot<Origin<S, D, R, C>>, OfServing>;
 
-impl<S: BackendSelection> LockRule<Serving<S>, Snapshot<Option<S::Config>>> for OfServing {
-    ghost use Rattle.std.specs.Prelude.{◌≡◌, unwrap_or};
-
-    ghost holds = { λ key s. s.config ≡ unwrap_or key.value S.default_config };
-}
-
-/// What is shown is built with the balancer's configuration.
-pub struct OfShown {}
-
-impl<S: BackendSelection> LockRule<Arc<Shown<S>>, Snapshot<Option<S::Config>>> for OfShown {
-    ghost use Rattle.std.specs.Prelude.{◌≡◌, unwrap_or};
-    ghost use Rattle.std.specs.Arc.{arc_value};
-
-    ghost holds = { λ key s. (arc_value s).config ≡ unwrap_or key.value S.default_config };
-}
-
-type ServingLock<S> = KeyedLock<
-    Serving<S>,
-    Snapshot<Option<<S as BackendSelection>::Config>>,
-    OfServing,
->;
-
-type ShownLock<S> = KeyedLock<
-    Arc<Shown<S>>,
-    Snapshot<Option<<S as BackendSelection>::Config>>,
-    OfShown,
->;
+type ShownLock<S, D, R, C> = KeyedLock<Arc<Shown<S>>, Snapshot<Origin<S, D, R, C>>, OfShown>;
 
 // As many lanes as threads that select at once may want, a power of two.
 const LANES: usize = 64;
 
 // What a balancer has for its threads: the locks of what is served and of what is shown of it, the lanes, and the loads.
-struct Places<S: BackendSelection> {
-    serving: ServingLock<S>,
-    shown: ShownLock<S>,
-    lanes: Lanes<KeptShown<S>>,
+struct Places<S: BackendSelection, D, R: KeyRule + Drop, C> {
+    serving: ServingLock<S, D, R, C>,
+    shown: ShownLock<S, D, R, C>,
+    lanes: Lanes<KeptShown<S, D, R, C>>,
     loads: Arc<Mutex<Loads>>,
 }
 
-/// A balancer with one selector. Contracts see its discovery, and what its selectors are built with; what it serves changes under
-/// the hands of other threads. Its drop takes no lock: the next call of the registry removes its view.
+/// A balancer with one selector. Contracts see what never changes: its discovery, what its selectors are built with, its registry, and
+/// the generation that it began with. Other threads change what it serves, so a call is told by some state of that: what some of its
+/// own updates and flags left. Its drop takes no lock: the next call of the registry removes its view.
 #[derive(Drop)]
 pub struct Balancing<S: BackendSelection, D, R: KeyRule + Drop, C> {
-    discovery: DiscoverySource<D>,
-    pub(crate) config: Option<S::Config>,
-    registry: Arc<HealthRegistry<R, C>>,
+    pub(crate) origin: Origin<S, D, R, C>,
     view: ViewOwner,
     updates: Mutex<()>,
-    serving: ServingLock<S>,
-    shown: ShownLock<S>,
-    pub(crate) lanes: Lanes<KeptShown<S>>,
+    serving: ServingLock<S, D, R, C>,
+    shown: ShownLock<S, D, R, C>,
+    pub(crate) lanes: Lanes<KeptShown<S, D, R, C>>,
     timing: Mutex<Option<UpdateTimings>>,
     loads: Arc<Mutex<Loads>>,
     // Counts what may have changed what is ready, but for the registry's own changes.
@@ -107,15 +83,15 @@ pub struct Balancing<S: BackendSelection, D, R: KeyRule + Drop, C> {
 }
 
 impl<S: BackendSelection, D, R: KeyRule + Drop, C> Model for Balancing<S, D, R, C> {
-    ghost use Rattle.std.specs.Prelude.{◌≡◌, All, unwrap_or};
-    ghost use Rattle.lb_balancer.specs.SharedUpdates.{BalancerValue};
+    ghost use Rattle.std.specs.Prelude.{◌≡◌, All};
+    ghost use Rattle.lb_balancer.specs.History.{BalancerValue};
 
-    ghost Value = { BalancerValue D S.Config };
+    ghost Value = { BalancerValue D S.Config R };
 
-    ghost view = { λ b. record { discovery = b.discovery; config = unwrap_or b.config S.default_config } };
+    ghost view = { λ b. b.origin };
 
-    ghost invariant = { λ b. (b.serving.table.shared.key.value ≡ b.config) × (b.shown.table.shared.key.value ≡ b.config)
-        × All (λ lane. lane.slot ≡ b.config) b.lanes.lanes.items };
+    ghost invariant = { λ b. (b.serving.table.shared.key.value ≡ b.origin) × (b.shown.table.shared.key.value ≡ b.origin)
+        × All (λ lane. lane.slot ≡ b.origin) b.lanes.lanes.items };
 }
 
 impl<
@@ -136,7 +112,8 @@ impl<
         backends: Backends<D, R, C>,
         config: Option<S::Config>,
     ) -> Result<Balancing<S, D, R, C>, Refusal>
-        ensures made { IfOk result (λ b. (b.discovery ≡ backends.discovery) × (b.config ≡ unwrap_or config S.default_config)) }
+        ensures made { IfOk result (λ b. (b.discovery ≡ backends.discovery) × (b.config ≡ unwrap_or config S.default_config)
+            × (b.registry ≡ (arc_value backends.registry).start) × (b.first ≡ 0)) }
         ensures refused { IfErr result (λ r. (memory_apart (S.refusal [] (unwrap_or config S.default_config)) ≡ Some r)
             ⊎ ((r ≡ Refusal.NumbersExhausted) ⊎ (r ≡ Refusal.OutOfMemory))) }
     {
@@ -149,8 +126,15 @@ impl<
         let built = first_built(rt, alloc, shared, &config)?;
         let view = register(rt, alloc, shared)?;
         let owner = owned(rt, alloc, shared, view.id())?;
-        let places = places_over(rt, alloc, shared, Serving::new(view, built), &config)?;
-        Ok(Balancing::behind(discovery, config, registry, owner, places, None))
+        let serving = Serving::new(view, built);
+        let origin = Origin {
+            discovery,
+            config,
+            registry,
+            first: 0,
+        };
+        let places = places_over(rt, alloc, serving, &origin)?;
+        Ok(Balancing::behind(origin, owner, places, None))
     }
 
     // A balancer that serves this at first, over this registry, whose selectors are built with the default configuration.
@@ -162,29 +146,36 @@ impl<
         serving: Serving<S>,
         timing: UpdateTimings,
     ) -> Result<Balancing<S, D, R, C>, Refusal>
-        requires { serving.config ≡ S.default_config }
-        ensures made { IfOk result (λ b. (b.discovery ≡ discovery) × (b.config ≡ S.default_config)) }
+        requires config { serving.config ≡ S.default_config }
+        requires updated { (events : List BalancerEvent) × AreDiscovered discovery events × IsViewAfter (views_after events) serving.view }
+        ensures made { IfOk result (λ b. (b.discovery ≡ discovery) × (b.config ≡ S.default_config) × (b.registry ≡ registry)
+            × IsNewest b.first serving) }
         ensures refused { IfErr result (λ e. e ≡ Refusal.OutOfMemory) }
     {
         let shared = Arc::new(alloc, HealthRegistry::over(alloc, registry)?)?;
         let owner = owned(rt, alloc, &*shared, serving.view_id())?;
-        owner.keep(serving.generation());
-        let places = places_over(rt, alloc, &*shared, serving, &None)?;
-        Ok(Balancing::behind(discovery, None, shared, owner, places, Some(timing)))
+        let first = serving.generation();
+        owner.keep(first);
+        let origin = Origin {
+            discovery,
+            config: None,
+            registry: shared,
+            first,
+        };
+        let places = places_over(rt, alloc, serving, &origin)?;
+        Ok(Balancing::behind(origin, owner, places, Some(timing)))
     }
 
     // The balancer over these places.
     fn behind(
-        discovery: DiscoverySource<D>,
-        config: Option<S::Config>,
-        registry: Arc<HealthRegistry<R, C>>,
+        origin: Origin<S, D, R, C>,
         view: ViewOwner,
-        places: Places<S>,
+        places: Places<S, D, R, C>,
         timing: Option<UpdateTimings>,
     ) -> Balancing<S, D, R, C>
-        requires { (places.serving.table.shared.key.value ≡ config) × (places.shown.table.shared.key.value ≡ config)
-            × All (λ lane. lane.slot ≡ config) places.lanes.lanes.items }
-        ensures { (result.discovery ≡ discovery) × (result.config ≡ unwrap_or config S.default_config) }
+        requires { (places.serving.table.shared.key.value ≡ origin) × (places.shown.table.shared.key.value ≡ origin)
+            × All (λ lane. lane.slot ≡ origin) places.lanes.lanes.items }
+        ensures { result ≡ origin }
     {
         let Places {
             serving,
@@ -193,9 +184,7 @@ impl<
             loads,
         } = places;
         Balancing {
-            discovery,
-            config,
-            registry,
+            origin,
             view,
             updates: Mutex::new(()),
             serving,
@@ -224,11 +213,12 @@ impl<
         clock: &mut K,
     ) -> Result<(), Refusal>
         ensures reads { OnOk result (ReadsUpdate K.reads clock.old clock.new) }
+        ensures updated { OnOk result (IsUpdatedBy self.now) }
         ensures refused { IfErr result (IsSharedRefusal S.refusal self.now) }
     {
         let _turn = self.updates.lock(rt);
         let start = clock.now();
-        let (members, settings) = self.discovery.discover(alloc)?;
+        let (members, settings) = self.origin.discovery().discover(alloc)?;
         let build_duration = self.take_in(rt, alloc, members, settings, clock)?;
         let end = clock.now();
         let timing = UpdateTimings {
@@ -249,6 +239,8 @@ impl<
         settings: Settings,
         clock: &mut K,
     ) -> Result<u128, Refusal>
+        requires { Discovers self.now.discovery members.keys (settings_of settings.entries) }
+        ensures updated { OnOk result (UnderServed self.now (Takes members.keys (settings_of settings.entries))) }
         ensures reads { OnOk result ((clock.new ≡ clock.old)
             ⊎ ((before : ℕ) × (after : ℕ) × Reads K.reads clock.old (before ∷ after ∷ []) clock.new)) }
         ensures refused { IfErr result (IsBuildRefusal (S.refusal members.keys self.now.config)) }
@@ -271,15 +263,17 @@ impl<
         members: BTreeSet<Backend>,
         settings: Settings,
     ) -> Option<(BTreeSet<Backend>, Settings)>
-        ensures { IfSome result (λ found. found ≡ (members, settings)) }
+        requires { Discovers self.now.discovery members.keys (settings_of settings.entries) }
+        ensures same { IfSome result (λ found. found ≡ (members, settings)) }
+        ensures updated { IfNone result (UnderServed self.now (Takes members.keys (settings_of settings.entries))) }
     {
-        let _key = &self.config;
+        let _key = &self.origin;
         let mut held = self.serving.take(rt);
         if !held.value.is_membership(&members) {
             self.serving.put(held);
             return Some((members, settings));
         }
-        let registries: &HealthRegistry<R, C> = &*self.registry;
+        let registries = self.origin.registry();
         let mut cells = registries.take(rt);
         held.value.keep(alloc, &mut cells.value, members, settings);
         let gone = self.exchange(rt, alloc, &held.value, &cells.value);
@@ -301,10 +295,10 @@ impl<
         ensures refused { IfErr result (IsBuildRefusal (S.refusal members.now.keys self.now.config)) }
     {
         let seed = self.seeds.fetch_add(1, SeqCst);
-        match built_of(alloc, members, &self.config, seed) {
+        match built_of(alloc, members, self.origin.config(), seed) {
             Ok(built) => Ok(built),
             Err(Refusal::OutOfMemory) => {
-                let registries: &HealthRegistry<R, C> = &*self.registry;
+                let registries = self.origin.registry();
                 let held = self.serving.take(rt);
                 let cells = registries.take(rt);
                 let cause = held.value.cause(&cells.value, members);
@@ -327,12 +321,14 @@ impl<
     ) -> Result<(), Refusal>
         requires members { S.members (arc_value built.selector) ≡ members.keys }
         requires config { S.built_with (arc_value built.selector) ≡ self.now.config }
-        ensures { OnErr result (IsViewRefusal result) }
+        requires discovered { Discovers self.now.discovery members.keys (settings_of settings.entries) }
+        ensures updated { OnOk result (UnderServed self.now (Takes members.keys (settings_of settings.entries))) }
+        ensures refused { OnErr result (IsViewRefusal result) }
     {
-        let _key = &self.config;
+        let _key = &self.origin;
         let mut held = self.serving.take(rt);
         held.value.founded();
-        let registries: &HealthRegistry<R, C> = &*self.registry;
+        let registries = self.origin.registry();
         let mut cells = registries.take(rt);
         let (unserved, answer) = held
             .value
@@ -359,11 +355,12 @@ impl<
         serving: &Serving<S>,
         registry: &Registry<R>,
     ) -> Option<Arc<Shown<S>>>
-        requires { serving.now.config ≡ self.now.config }
+        requires served { IsServedBy self.now serving.now }
+        requires registry { IsRegistryOf R.gives self.now.registry registry.now }
     {
         let version = Version {
             balancer: self.changes.load(SeqCst).wrapping_add(1),
-            registry: self.registry.changes(),
+            registry: self.origin.registry().changes(),
         };
         let gone = match serving.show(alloc, registry, &self.loads, version) {
             Ok(shown) => match Arc::new(alloc, shown) {
@@ -378,9 +375,10 @@ impl<
 
     // Shows this from now on; what was shown before.
     fn swap<W: Wait>(&self, rt: &W, shown: Arc<Shown<S>>) -> Arc<Shown<S>>
-        requires { (arc_value shown).config ≡ self.now.config }
+        requires { IsShownBy R.gives self.now (arc_value shown) }
+        ensures { IsShownBy R.gives self.now (arc_value result) }
     {
-        let _key = &self.config;
+        let _key = &self.origin;
         let mut held = self.shown.take(rt);
         let gone = mem::replace(&mut held.value, shown);
         self.shown.put(held);
@@ -391,13 +389,13 @@ impl<
     pub(crate) fn version(&self) -> Version {
         Version {
             balancer: self.changes.load(SeqCst),
-            registry: self.registry.changes(),
+            registry: self.origin.registry().changes(),
         }
     }
 
     /// What is served now: selections in it are all in one generation, with the readiness of one moment. Refused for memory alone.
     pub fn shown<W: Wait>(&self, rt: &W, alloc: Global) -> Result<Arc<Shown<S>>, Refusal>
-        ensures config { IfOk result (λ s. (arc_value s).config ≡ self.now.config) }
+        ensures shown { IfOk result (λ s. IsShownBy R.gives self.now (arc_value s)) }
         ensures refused { IfErr result (λ e. e ≡ Refusal.OutOfMemory) }
     {
         let latest = self.latest(rt)?;
@@ -405,7 +403,7 @@ impl<
             return Ok(latest);
         }
         drop(latest);
-        let _key = &self.config;
+        let _key = &self.origin;
         let held = self.serving.take(rt);
         let answer = self.show_again(rt, alloc, &held.value);
         self.serving.put(held);
@@ -415,8 +413,10 @@ impl<
     }
 
     /// The newest generation; 0 before the first membership.
-    pub fn generation<W: Wait>(&self, rt: &W) -> u64 {
-        let _key = &self.config;
+    pub fn generation<W: Wait>(&self, rt: &W) -> u64
+        ensures { SeenServed self.now (IsNewest result) }
+    {
+        let _key = &self.origin;
         let held = self.serving.take(rt);
         let generation = held.value.generation();
         self.serving.put(held);
@@ -429,15 +429,18 @@ impl<
         rt: &W,
         alloc: Global,
     ) -> Result<Arc<BTreeSet<Backend>>, Refusal>
+        ensures members { IfOk result (λ set. (s : ShownValue S.Config) × IsShownBy R.gives self.now s × ((arc_value set).keys ≡ s.members)) }
         ensures refused { IfErr result (λ e. e ≡ Refusal.OutOfMemory) }
     {
         self.shown(rt, alloc)?.get_backend()
     }
 
     /// Whether a backend is ready in the newest membership. It takes no memory.
-    pub fn ready<W: Wait>(&self, rt: &W, backend: &Backend) -> bool {
-        let _key = &self.config;
-        let registries: &HealthRegistry<R, C> = &*self.registry;
+    pub fn ready<W: Wait>(&self, rt: &W, backend: &Backend) -> bool
+        ensures { IsReadyBeside R.gives self.now backend.now result }
+    {
+        let _key = &self.origin;
+        let registries = self.origin.registry();
         let held = self.serving.take(rt);
         let cells = registries.take(rt);
         let ready = held.value.ready(&cells.value, backend);
@@ -448,11 +451,13 @@ impl<
 
     /// Enables or disables a backend of the newest membership, by identity; another is left alone. It needs no memory: where that is
     /// refused, the next selection shows it.
-    pub fn set_enable<W: Wait>(&self, rt: &W, alloc: Global, backend: &Backend, enabled: bool) {
-        let _key = &self.config;
+    pub fn set_enable<W: Wait>(&self, rt: &W, alloc: Global, backend: &Backend, enabled: bool)
+        ensures { UnderServed self.now (Flags backend.now enabled) }
+    {
+        let _key = &self.origin;
         let mut held = self.serving.take(rt);
         held.value.set_enable(backend, enabled);
-        let registries: &HealthRegistry<R, C> = &*self.registry;
+        let registries = self.origin.registry();
         let cells = registries.take(rt);
         let gone = self.exchange(rt, alloc, &held.value, &cells.value);
         registries.put(cells);
@@ -472,15 +477,17 @@ impl<
     ) -> Result<(), Refusal>
         ensures { IfErr result (λ e. e ≡ Refusal.OutOfMemory) }
     {
-        let _key = &self.config;
+        let _key = &self.origin;
         self.loads.lock(rt).set(alloc, backend, load)
     }
 
     /// Marks the view for removal from the registry, and lets its cells go: from the next call on that applies marks its backends are
     /// no targets, a backend whose cell nobody else keeps isn't ready, and another membership is refused `NoSuch`. It takes no memory.
-    pub fn leave<W: Wait>(&self, rt: &W) {
-        let _key = &self.config;
-        let registries: &HealthRegistry<R, C> = &*self.registry;
+    pub fn leave<W: Wait>(&self, rt: &W)
+        ensures { IsLeftBy R.gives self.now }
+    {
+        let _key = &self.origin;
+        let registries = self.origin.registry();
         let held = self.serving.take(rt);
         held.value.founded();
         let mut cells = registries.take(rt);
@@ -493,7 +500,7 @@ impl<
     pub fn set_health_check<W: Wait>(&self, rt: &W, check: C) -> Result<(), Refusal>
         ensures { IfErr result (λ e. e ≡ Refusal.HealthCheckSet) }
     {
-        self.registry.set_health_check(rt, check)
+        self.origin.registry().set_health_check(rt, check)
     }
 
     /// How long the last accepted update took; `None` before the first.
@@ -503,10 +510,10 @@ impl<
 
     // What was shown last.
     pub(crate) fn latest<W: Wait>(&self, rt: &W) -> Result<Arc<Shown<S>>, Refusal>
-        ensures config { IfOk result (λ s. (arc_value s).config ≡ self.now.config) }
+        ensures shown { IfOk result (λ s. IsShownBy R.gives self.now (arc_value s)) }
         ensures refused { IfErr result (λ e. e ≡ Refusal.OutOfMemory) }
     {
-        let _key = &self.config;
+        let _key = &self.origin;
         let held = self.shown.take(rt);
         let shown = Arc::try_clone(&held.value);
         self.shown.put(held);
@@ -521,8 +528,8 @@ impl<
         alloc: Global,
         serving: &Serving<S>,
     ) -> Result<(Arc<Shown<S>>, Arc<Shown<S>>), Refusal>
-        requires { serving.now.config ≡ self.now.config }
-        ensures config { IfOk result (λ s. (arc_value s.0).config ≡ self.now.config) }
+        requires { IsServedBy self.now serving.now }
+        ensures shown { IfOk result (λ s. IsShownBy R.gives self.now (arc_value s.0)) }
         ensures refused { IfErr result (λ e. e ≡ Refusal.OutOfMemory) }
     {
         let version = self.version();
@@ -531,7 +538,7 @@ impl<
             let again = Arc::try_clone(&latest)?;
             return Ok((again, latest));
         }
-        let registries: &HealthRegistry<R, C> = &*self.registry;
+        let registries = self.origin.registry();
         let cells = registries.take(rt);
         let told = serving.show(alloc, &cells.value, &self.loads, version);
         registries.put(cells);
@@ -560,7 +567,7 @@ impl<
     ) -> Result<(), Refusal>
         ensures { OnErr result (IsGrowthRefusal result) }
     {
-        self.registry.run_health_check(rt, alloc, parallel)
+        self.origin.registry().run_health_check(rt, alloc, parallel)
     }
 }
 
@@ -626,29 +633,35 @@ fn owned<R: KeyRule + Drop, C: HealthCheck + Drop, W: Wait>(
 }
 
 // The locks of what is served first, and of what is shown of it, empty lanes, and the loads, which are all 0.
-fn places_over<S: BackendSelection, R: KeyRule + Drop, C: HealthCheck + Drop, W: Wait>(
+fn places_over<
+    S: BackendSelection,
+    D: ServiceDiscovery + Drop,
+    R: KeyRule + Drop,
+    C: HealthCheck + Drop,
+    W: Wait,
+>(
     rt: &W,
     alloc: Global,
-    registry: &HealthRegistry<R, C>,
     serving: Serving<S>,
-    config: &Option<S::Config>,
-) -> Result<Places<S>, Refusal>
-    requires { serving.config ≡ unwrap_or config.now S.default_config }
-    ensures made { IfOk result (λ p. (p.serving.table.shared.key.value ≡ config.now) × (p.shown.table.shared.key.value ≡ config.now)
-        × All (λ lane. lane.slot ≡ config.now) p.lanes.lanes.items) }
+    origin: &Origin<S, D, R, C>,
+) -> Result<Places<S, D, R, C>, Refusal>
+    requires { IsServedBy origin.now serving }
+    ensures made { IfOk result (λ p. (p.serving.table.shared.key.value ≡ origin.now) × (p.shown.table.shared.key.value ≡ origin.now)
+        × All (λ lane. lane.slot ≡ origin.now) p.lanes.lanes.items) }
     ensures refused { IfErr result (λ e. e ≡ Refusal.OutOfMemory) }
 {
+    let registry = origin.registry();
     let version = Version {
         balancer: 0,
         registry: registry.changes(),
     };
     let loads = Arc::new(alloc, Mutex::new(Loads::new()))?;
-    let lanes = Lanes::new(alloc, LANES, config)?;
+    let lanes = Lanes::new(alloc, LANES, origin)?;
     let cells = registry.take(rt);
     let told = serving.show(alloc, &cells.value, &loads, version);
     registry.put(cells);
     let shown = Arc::new(alloc, told?)?;
-    let key = Snapshot::of(config);
+    let key = Snapshot::of(origin);
     Ok(Places {
         serving: KeyedLock::new(alloc, serving, &key)?,
         shown: KeyedLock::new(alloc, shown, &key)?,

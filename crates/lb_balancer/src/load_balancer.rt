@@ -1,11 +1,11 @@
 //! The balancer as its users share it: selections, updates, checks and readings through a borrow.
 ghost use Rattle.std.specs.Prelude.{◌≡◌, ◌⊎◌, [], IfOk, IfErr, OnOk, OnErr, Some, None, unwrap_or, false};
 ghost use Rattle.std.specs.Arc.{arc_value};
-ghost use Rattle.lb_select_base.specs.Backends.{same_member};
 ghost use Rattle.lb_select_base.specs.Refusals.{memory_apart};
 ghost use Rattle.lb_rebuild_group.specs.GroupCalls.{AcceptsBy};
 ghost use Rattle.lb_health_registry.specs.Registry.{IsGrowthRefusal};
-ghost use Rattle.lb_balancer.specs.Shown.{SelectsOf, ShownValue, is_up};
+ghost use Rattle.lb_balancer.specs.History.{IsLeftBy, IsNewest, IsShownBy, IsUpdatedBy, SeenServed};
+ghost use Rattle.lb_balancer.specs.Selections.{SelectsAtOneMoment};
 ghost use Rattle.lb_balancer.specs.SharedUpdates.{IsSharedRefusal, ReadsUpdate};
 
 use crate::backends::Backends;
@@ -63,7 +63,8 @@ impl<
         alloc: Global,
         backends: Backends<D, R, C>,
     ) -> Result<LoadBalancer<S, D, R, C>, Refusal>
-        ensures made { IfOk result (λ b. (b.shared.discovery ≡ backends.discovery) × (b.shared.config ≡ S.default_config)) }
+        ensures made { IfOk result (λ b. (b.shared.discovery ≡ backends.discovery) × (b.shared.config ≡ S.default_config)
+            × (b.shared.registry ≡ (arc_value backends.registry).start) × (b.shared.first ≡ 0)) }
         ensures parts { IfOk result (λ b. (b.owns_checks ≡ backends.owns_checks) × (b.health_check_frequency ≡ None)
             × (b.update_frequency ≡ None) × (b.parallel_health_check ≡ false)) }
         ensures refused { IfErr result (λ r. (memory_apart (S.refusal [] S.default_config) ≡ Some r)
@@ -85,7 +86,8 @@ impl<
         config: Option<S::Config>,
     ) -> Result<LoadBalancer<S, D, R, C>, Refusal>
         ensures made { IfOk result (λ b. (b.shared.discovery ≡ backends.discovery)
-            × (b.shared.config ≡ unwrap_or config S.default_config)) }
+            × (b.shared.config ≡ unwrap_or config S.default_config)
+            × (b.shared.registry ≡ (arc_value backends.registry).start) × (b.shared.first ≡ 0)) }
         ensures parts { IfOk result (λ b. (b.owns_checks ≡ backends.owns_checks) × (b.health_check_frequency ≡ None)
             × (b.update_frequency ≡ None) × (b.parallel_health_check ≡ false)) }
         ensures refused { IfErr result (λ r. (memory_apart (S.refusal [] (unwrap_or config S.default_config)) ≡ Some r)
@@ -118,6 +120,7 @@ impl<
         clock: &mut K,
     ) -> Result<(), Refusal>
         ensures reads { OnOk result (ReadsUpdate K.reads clock.old clock.new) }
+        ensures updated { OnOk result (IsUpdatedBy self.now.shared) }
         ensures refused { IfErr result (IsSharedRefusal S.refusal self.now.shared) }
     {
         self.shared.update(rt, alloc, clock)
@@ -125,7 +128,7 @@ impl<
 
     /// What is served now: all selections in it are in one generation, with the readiness of one moment. Refused for memory alone.
     pub fn shown<W: Wait>(&self, rt: &W, alloc: Global) -> Result<Arc<Shown<S>>, Refusal>
-        ensures config { IfOk result (λ s. (arc_value s).config ≡ self.now.shared.config) }
+        ensures shown { IfOk result (λ s. IsShownBy R.gives self.now.shared (arc_value s)) }
         ensures refused { IfErr result (λ e. e ≡ Refusal.OutOfMemory) }
     {
         self.shared.shown(rt, alloc)
@@ -140,8 +143,7 @@ impl<
         key: &[u8],
         max_iterations: usize,
     ) -> Result<Option<Backend>, Refusal>
-        ensures answers { OnOk result ((s : ShownValue S.Config) × (s.config ≡ self.now.shared.config)
-            × SelectsOf same_member (λ b ready. ready ≡ is_up s.unready b) max_iterations (S.walks s.members s.config key.now) result) }
+        ensures answers { SelectsAtOneMoment (λ was_ready. was_ready) max_iterations S.walks key.now R.gives self.now.shared result }
         ensures refused { IfErr result (λ e. e ≡ Refusal.OutOfMemory) }
     {
         self.select_with(rt, alloc, key, max_iterations, &ready_ones)
@@ -158,9 +160,7 @@ impl<
         accept: &F,
     ) -> Result<Option<Backend>, Refusal>
         requires { F.IsAlwaysCallable accept.now }
-        ensures answers { OnOk result ((s : ShownValue S.Config) × (s.config ≡ self.now.shared.config)
-            × SelectsOf same_member (AcceptsBy F.Fn accept.now (λ b ready. ready ≡ is_up s.unready b)) max_iterations
-            (S.walks s.members s.config key.now) result) }
+        ensures answers { SelectsAtOneMoment (AcceptsBy F.Fn accept.now) max_iterations S.walks key.now R.gives self.now.shared result }
         ensures refused { IfErr result (λ e. e ≡ Refusal.OutOfMemory) }
     {
         let hint = hint_of(key);
@@ -193,7 +193,9 @@ impl<
 
     /// Leaves the registry, which others may share: the view is marked for removal, as by `Balancing::leave`. A balancer that is dropped
     /// leaves it too, at the registry's next call.
-    pub fn leave<W: Wait>(&self, rt: &W) {
+    pub fn leave<W: Wait>(&self, rt: &W)
+        ensures { IsLeftBy R.gives self.now.shared }
+    {
         self.shared.leave(rt);
     }
 
@@ -212,7 +214,9 @@ impl<
     }
 
     /// The newest generation, which is the served one; 0 before the first membership.
-    pub fn backend_generation<W: Wait>(&self, rt: &W) -> u64 {
+    pub fn backend_generation<W: Wait>(&self, rt: &W) -> u64
+        ensures { SeenServed self.now.shared (IsNewest result) }
+    {
         self.shared.generation(rt)
     }
 

@@ -1,9 +1,9 @@
 //! A balancer in the hands of one thread, for threads that select all the time.
-ghost use Rattle.std.specs.Prelude.{◌≡◌, IfErr, IfOk, OnOk};
+ghost use Rattle.std.specs.Prelude.{◌≡◌, ◌≤◌, IfErr, IfOk, OnOk};
 ghost use Rattle.std.specs.Arc.{arc_value};
-ghost use Rattle.lb_select_base.specs.Backends.{same_member};
 ghost use Rattle.lb_rebuild_group.specs.GroupCalls.{AcceptsBy};
-ghost use Rattle.lb_balancer.specs.Shown.{SelectsOf, ShownValue, is_up};
+ghost use Rattle.lb_balancer.specs.History.{IsShownBy};
+ghost use Rattle.lb_balancer.specs.Selections.{SelectsFrom};
 
 use crate::balancing::Balancing;
 use crate::load_balancer::LoadBalancer;
@@ -24,7 +24,7 @@ use std::sync::{Arc, Wait};
 pub struct BalancerReader<'b, S: BackendSelection, D, R: KeyRule + Drop, C> {
     balancing: &'b Balancing<S, D, R, C>,
     seen: Arc<Shown<S>>,
-    ghost own: { (arc_value seen).config ≡ balancing.now.config },
+    ghost own: { IsShownBy R.gives balancing.now (arc_value seen) },
 }
 
 impl<
@@ -55,18 +55,28 @@ impl<
     R: KeyRule + Drop,
     C: HealthCheck + Drop,
 > BalancerReader<'b, S, D, R, C> {
-    // Looks whether something changed since, and sees what is served now.
+    // Looks whether something changed since, and sees what is served now, which is no older than what was seen.
     fn look<W: Wait>(&mut self, rt: &W, alloc: Global) -> Result<(), Refusal>
         ensures same { self.new.balancing ≡ self.old.balancing }
+        ensures later { (arc_value self.old.seen).generation ≤ (arc_value self.new.seen).generation }
         ensures refused { IfErr result (λ e. e ≡ Refusal.OutOfMemory) }
     {
-        if self.seen.version() != self.balancing.version() {
-            self.seen = self.balancing.shown(rt, alloc)?;
+        if self.seen.version() == self.balancing.version() {
+            return Ok(());
         }
+        let least = self.seen.generation();
+        self.seen = since(rt, alloc, self.balancing, least)?;
         Ok(())
     }
 
-    /// Selects as `LoadBalancer::select`.
+    /// Returns the generation that the reader saw last. What it selects from later is of that generation or a newer one.
+    pub fn generation(&self) -> u64
+        ensures { result ≡ (arc_value self.now.seen).generation }
+    {
+        self.seen.generation()
+    }
+
+    /// Selects as `LoadBalancer::select`, in what is served now: a generation that is never below the one that the reader saw last.
     pub fn select<W: Wait>(
         &mut self,
         rt: &W,
@@ -74,8 +84,8 @@ impl<
         key: &[u8],
         max_iterations: usize,
     ) -> Result<Option<Backend>, Refusal>
-        ensures answers { OnOk result ((s : ShownValue S.Config) × (s.config ≡ self.old.balancing.now.config)
-            × SelectsOf same_member (λ b ready. ready ≡ is_up s.unready b) max_iterations (S.walks s.members s.config key.now) result) }
+        ensures answers { OnOk result (SelectsFrom (λ was_ready. was_ready) max_iterations S.walks key.now (arc_value self.new.seen) result) }
+        ensures later { (arc_value self.old.seen).generation ≤ (arc_value self.new.seen).generation }
         ensures refused { IfErr result (λ e. e ≡ Refusal.OutOfMemory) }
         ensures same { self.new.balancing ≡ self.old.balancing }
     {
@@ -94,9 +104,8 @@ impl<
         accept: &F,
     ) -> Result<Option<Backend>, Refusal>
         requires { F.IsAlwaysCallable accept.now }
-        ensures answers { OnOk result ((s : ShownValue S.Config) × (s.config ≡ self.old.balancing.now.config)
-            × SelectsOf same_member (AcceptsBy F.Fn accept.now (λ b ready. ready ≡ is_up s.unready b)) max_iterations
-            (S.walks s.members s.config key.now) result) }
+        ensures answers { OnOk result (SelectsFrom (AcceptsBy F.Fn accept.now) max_iterations S.walks key.now (arc_value self.new.seen) result) }
+        ensures later { (arc_value self.old.seen).generation ≤ (arc_value self.new.seen).generation }
         ensures refused { IfErr result (λ e. e ≡ Refusal.OutOfMemory) }
         ensures same { self.new.balancing ≡ self.old.balancing }
     {
@@ -104,4 +113,30 @@ impl<
         let seen: &Shown<S> = &*self.seen;
         seen.select_with(rt, alloc, key, max_iterations, accept)
     }
+}
+
+// What the balancer shows, of this generation or a newer one. Its generations never fall, so the first look finds it.
+fn since<
+    S: BackendSelection,
+    D: ServiceDiscovery + Drop,
+    R: KeyRule + Drop,
+    C: HealthCheck + Drop,
+    W: Wait,
+>(
+    rt: &W,
+    alloc: Global,
+    balancing: &Balancing<S, D, R, C>,
+    least: u64,
+) -> Result<Arc<Shown<S>>, Refusal>
+    ensures shown { IfOk result (λ s. IsShownBy R.gives balancing.now (arc_value s)) }
+    ensures later { IfOk result (λ s. least ≤ (arc_value s).generation) }
+    ensures refused { IfErr result (λ e. e ≡ Refusal.OutOfMemory) }
+{
+    for _ in rt.forever() {
+        let shown = balancing.shown(rt, alloc)?;
+        if least <= shown.generation() {
+            return Ok(shown);
+        }
+    }
+    unreachable!()
 }

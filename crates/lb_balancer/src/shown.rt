@@ -2,9 +2,10 @@
 ghost use Rattle.std.specs.Prelude.{◌≡◌, ℕ, Bool, List, IfOk, IfErr, OnErr, Err, not};
 ghost use Rattle.std.specs.Arc.{arc_value};
 ghost use Rattle.std.specs.List.{list_any};
-ghost use Rattle.lb_select_base.specs.Backends.{Member, same_member};
+ghost use Rattle.lb_select_base.specs.Backends.{Member};
 ghost use Rattle.lb_rebuild_group.specs.GroupCalls.{AcceptsBy};
-ghost use Rattle.lb_balancer.specs.Shown.{SelectsOf, is_ready, is_up};
+ghost use Rattle.lb_balancer.specs.Selections.{SelectsFrom};
+ghost use Rattle.lb_balancer.specs.Shown.{is_ready, is_up};
 
 use crate::words::LoadedWords;
 use lb_select_base::backend::Backend;
@@ -97,8 +98,7 @@ impl<S: BackendSelection> Shown<S> {
         accept: &F,
     ) -> Result<Option<Backend>, Refusal>
         requires { F.IsAlwaysCallable accept.now }
-        ensures answers { SelectsOf same_member (AcceptsBy F.Fn accept.now (λ b ready. ready ≡ is_up self.now.unready b)) max_iterations
-            (S.walks self.now.members self.now.config key.now) result }
+        ensures answers { SelectsFrom (AcceptsBy F.Fn accept.now) max_iterations S.walks key.now self.now result }
     {
         let unready = &self.unready;
         let judged = |backend: &Backend| -> bool
@@ -129,8 +129,7 @@ impl<S: BackendSelection> Shown<S> {
         key: &[u8],
         max_iterations: usize,
     ) -> Result<Option<Backend>, Refusal>
-        ensures answers { SelectsOf same_member (λ b ready. ready ≡ is_up self.now.unready b) max_iterations
-            (S.walks self.now.members self.now.config key.now) result }
+        ensures answers { SelectsFrom (λ was_ready. was_ready) max_iterations S.walks key.now self.now result }
     {
         self.select_with(rt, alloc, key, max_iterations, &ready_ones)
     }

@@ -1,0 +1,21 @@
+-- Selections of a balancer that threads share.
+use Rattle.std.specs.Prelude.{◌≡◌, ℕ, Bool, List, Option, Result, OnOk}
+use Rattle.lb_select_base.specs.Backends.{Member, same_member}
+use Rattle.lb_select_base.specs.Draws.{Draw}
+use Rattle.lb_select_base.specs.declared.refusal.Refusal.{Refusal}
+use Rattle.lb_balancer.specs.History.{BalancerValue, IsShownBy}
+use Rattle.lb_balancer.specs.Shown.{SelectsOf, ShownValue, is_up}
+
+-- whether a backend was ready in what is shown
+abbrev pub WasReady : {C : Type 0} → ShownValue C → Member → Bool → Type 0
+WasReady s b ready = ready ≡ is_up s.unready b
+
+module _ {C : Type 0} (accepts : (Member → Bool → Type 0) → Member → Bool → Type 0) (limit : ℕ)
+    (walks : List Member → C → List ℕ → List Draw → List Member → Bool → Type 0) (key : List ℕ) where
+  -- a selection from what is shown: its candidates are those of its members, and what is asked of each is told whether it was ready
+  abbrev pub SelectsFrom : ShownValue C → Result (Option Member) Refusal → Type 0
+  SelectsFrom s r = SelectsOf same_member (accepts (WasReady s)) limit (walks s.members s.config key) r
+
+  -- a selection from what this balancer showed at some moment
+  abbrev pub SelectsAtOneMoment : {D R : Type 0} → (R → Member → Member → Type 0) → BalancerValue D C R → Result (Option Member) Refusal → Type 0
+  SelectsAtOneMoment gives b r = OnOk r ((s : ShownValue C) × IsShownBy gives b s × SelectsFrom s r)
