@@ -1,5 +1,5 @@
 -- A balancer that is made of texts: its discovery keeps the backends at their addresses, to which it was updated once.
-use Rattle.std.specs.Prelude.{◌≡◌, ℕ, List, [], length, Ok, if◌then◌else◌}
+use Rattle.std.specs.Prelude.{◌≡◌, ◌⊎◌, ℕ, List, [], length, Ok, if◌then◌else◌}
 use Rattle.std.specs.Borrow.{Bor}
 use Rattle.lb_select_base.specs.Backends.{Member}
 use Rattle.lb_select_base.specs.Memberships.{same_members}
@@ -18,3 +18,7 @@ pub record IsOfTexts {D K : Type 0} (reads : K → ℕ → K → Type 0) (texts 
   pub keeps : discovery ≡ Static members
   pub read : Reads reads clock times clock_after
   pub readings : length times ≡ (if same_members members [] then 2 else 4)
+
+-- a balancer of such texts begins with the generation of its backends, where it has some
+abbrev pub BeginsAt : {D : Type 0} → DiscoverySource D → ℕ → Type 0
+BeginsAt discovery first = (discovery ≡ Static []) ⊎ (first ≡ 1)

@@ -12,7 +12,7 @@ ghost use Rattle.lb_health_view.specs.Views.{IsViewAfter};
 ghost use Rattle.lb_balancer_core.specs.Balancer.{Took, update_cause};
 ghost use Rattle.lb_balancer_core.specs.Texts.{IsTextsRefusal, one_view};
 ghost use Rattle.lb_balancer_core.specs.Timings.{Reads};
-ghost use Rattle.lb_balancer.specs.Texts.{IsOfTexts};
+ghost use Rattle.lb_balancer.specs.Texts.{BeginsAt, IsOfTexts};
 
 use crate::balancing::Balancing;
 use crate::load_balancer::LoadBalancer;
@@ -56,6 +56,7 @@ impl<
         requires ends { IsFinite (I.remaining texts) }
         ensures made { IfOk result (λ b. (read : List (Bor (List ℕ))) × Drains I.next_gives texts read
             × IsOfTexts K.reads read clock.old clock.new b.shared.discovery) }
+        ensures first { IfOk result (λ b. BeginsAt b.shared.discovery b.shared.first) }
         ensures parts { IfOk result (λ b. (b.shared.config ≡ S.default_config) × (b.owns_checks ≡ true)
             × (b.health_check_frequency ≡ None) × (b.update_frequency ≡ None) × (b.parallel_health_check ≡ false)) }
         ensures refused { IfErr result (λ r. (read : List (Bor (List ℕ))) × Drains I.next_gives texts read

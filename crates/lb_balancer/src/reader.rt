@@ -2,7 +2,7 @@
 ghost use Rattle.std.specs.Prelude.{◌≡◌, ◌≤◌, IfErr, IfOk, OnOk};
 ghost use Rattle.std.specs.Arc.{arc_value};
 ghost use Rattle.lb_rebuild_group.specs.GroupCalls.{AcceptsBy};
-ghost use Rattle.lb_balancer.specs.History.{IsShownBy};
+ghost use Rattle.lb_balancer.specs.History.{IsOfDiscovery};
 ghost use Rattle.lb_balancer.specs.Selections.{SelectsFrom};
 
 use crate::balancing::Balancing;
@@ -24,7 +24,7 @@ use std::sync::{Arc, Wait};
 pub struct BalancerReader<'b, S: BackendSelection, D, R: KeyRule + Drop, C> {
     balancing: &'b Balancing<S, D, R, C>,
     seen: Arc<Shown<S>>,
-    ghost own: { IsShownBy R.gives balancing.now (arc_value seen) },
+    ghost own: { ((arc_value seen).config ≡ balancing.now.config) × IsOfDiscovery balancing.now (arc_value seen) },
 }
 
 impl<
@@ -43,7 +43,7 @@ impl<
         ensures refused { IfErr result (λ e. e ≡ Refusal.OutOfMemory) }
     {
         let balancing = &self.shared;
-        let seen = balancing.shown(rt, alloc)?;
+        let seen = discovered(rt, alloc, balancing)?;
         Ok(BalancerReader { balancing, seen })
     }
 }
@@ -64,8 +64,11 @@ impl<
         if self.seen.version() == self.balancing.version() {
             return Ok(());
         }
-        let least = self.seen.generation();
-        self.seen = since(rt, alloc, self.balancing, least)?;
+        let shown = discovered(rt, alloc, self.balancing)?;
+        // Generations never fall, so what is shown now is never of an earlier one.
+        if self.seen.generation() <= shown.generation() {
+            self.seen = shown;
+        }
         Ok(())
     }
 
@@ -115,8 +118,8 @@ impl<
     }
 }
 
-// What the balancer shows, of this generation or a newer one. Its generations never fall, so the first look finds it.
-fn since<
+// What the balancer shows, which some update of it discovered.
+fn discovered<
     S: BackendSelection,
     D: ServiceDiscovery + Drop,
     R: KeyRule + Drop,
@@ -126,17 +129,9 @@ fn since<
     rt: &W,
     alloc: Global,
     balancing: &Balancing<S, D, R, C>,
-    least: u64,
 ) -> Result<Arc<Shown<S>>, Refusal>
-    ensures shown { IfOk result (λ s. IsShownBy R.gives balancing.now (arc_value s)) }
-    ensures later { IfOk result (λ s. least ≤ (arc_value s).generation) }
+    ensures shown { IfOk result (λ s. ((arc_value s).config ≡ balancing.now.config) × IsOfDiscovery balancing.now (arc_value s)) }
     ensures refused { IfErr result (λ e. e ≡ Refusal.OutOfMemory) }
 {
-    for _ in rt.forever() {
-        let shown = balancing.shown(rt, alloc)?;
-        if least <= shown.generation() {
-            return Ok(shown);
-        }
-    }
-    unreachable!()
+    balancing.shown(rt, alloc)
 }

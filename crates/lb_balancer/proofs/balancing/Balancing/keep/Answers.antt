@@ -1,6 +1,37 @@
--- Settings leave the registry as it was.
-use Rattle.lb_threads_registry.proofs.Histories.{later, stays}
+-- Settings leave the registry as it was, and what is served took them.
+use Rattle.std.proofs.Common.{◌≡◌, ◌∙◌, sym, ap}
+use Rattle.lb_health_view.specs.RegistrySide.{settings_of}
+use Rattle.lb_threads_registry.proofs.Histories.{at_site, later, stays}
+use Rattle.lb_balancer.specs.History.{BalancerValue}
+use Rattle.lb_balancer.proofs.Served.{known, updated}
 use Rattle.lb_balancer.proofs.balancing.Balancing.keep.Goals as goal
 
 pub put-requires-2-clause-registry : goal.put-requires-2-clause-registry
 put-requires-2-clause-registry g c = later c.take-cells.ensures.registry (stays c.keep.ensures.registry)
+
+pub exchange-gone-requires-clause-registry : goal.exchange-gone-requires-clause-registry
+exchange-gone-requires-clause-registry g c =
+    let Known = BalancerValue g.row.D.Denot g.row.S-Config.Denot g.row.R.Denot in
+    at_site (c.registry-registries.ensures ∙ ap (λ (b : Known). b.registry) c.self.view_is)
+    (later c.take-cells.ensures.registry (stays c.keep.ensures.registry))
+
+pub exchange-gone-requires-clause-served : goal.exchange-gone-requires-clause-served
+exchange-gone-requires-clause-served g c =
+    updated c.args.self.now (known (c.self.invariant.0 ∙ c.self.view_is) c.take-held.ensures.fact) c.keep.ensures.config
+    c.args.members.keys (settings_of c.args.settings.entries) c.requires c.keep.ensures.took
+
+pub put-requires-3-clause-fact : goal.put-requires-3-clause-fact
+put-requires-3-clause-fact g c =
+    let is = c.self.invariant.0 ∙ c.self.view_is in
+    known (sym is) (updated c.args.self.now (known is c.take-held.ensures.fact) c.keep.ensures.config
+    c.args.members.keys (settings_of c.args.settings.entries) c.requires c.keep.ensures.took)
+
+pub returns-clause-updated : goal.returns-clause-updated
+returns-clause-updated g c =
+    let was = known (c.self.invariant.0 ∙ c.self.view_is) c.take-held.ensures.fact in (
+      c.take-held.result.value,
+      c.keep.new.self,
+      was,
+      updated c.args.self.now was c.keep.ensures.config c.args.members.keys (settings_of c.args.settings.entries) c.requires c.keep.ensures.took,
+      c.keep.ensures.took,
+    )

@@ -1,10 +1,26 @@
 -- What was looked up is what the first view and its selector are of.
-use Rattle.std.proofs.Common.{◌≡◌, [], length, Err, rules, subst}
+use Rattle.std.proofs.Common.{◌≡◌, ◌∙◌, inl, inr, ℕ, Bool, true, false, List, [], ◌∷◌, length, Err, refl, sym, rules, subst}
 use Rattle.std.specs.Prelude.{if◌then◌else◌}
+use Rattle.lb_select_base.specs.Backends.{Member}
 use Rattle.lb_select_base.specs.Memberships.{same_members}
 use Rattle.lb_health_registry.specs.Keys.{by_identity}
+use Rattle.lb_health_registry.specs.RegistryEvents.{shown_cells}
+use Rattle.lb_health_view.specs.RegistrySide.{view_updated}
+use Rattle.lb_health_view.specs.ViewEvents.{generation_after}
+use Rattle.lb_health_view.specs.declared.discovery.DiscoverySource.{DiscoverySource}
+use Rattle.lb_health_view.specs.declared.discovery.DiscoverySource.TheVariants.{Static}
+use Rattle.lb_balancer_core.specs.Texts.{one_view}
+use Rattle.lb_balancer.specs.History.{Updated}
+use Rattle.lb_balancer.specs.Texts.{BeginsAt}
+use Rattle.lb_balancer.proofs.FirstViews.{no-members}
 use Rattle.lb_balancer.proofs.OfTexts.{build-refused, reads-around, view-refused}
 use Rattle.lb_balancer.proofs.making.LoadBalancer+S+D+Rule+N+C.try_from_iter.Goals as goal
+
+-- the first view is of the backends that were looked up
+begins : {D : Type 0} {d : DiscoverySource D} {first : ℕ} (keys found : List Member) → keys ≡ found → (b : Bool) → same_members keys [] ≡ b
+    → d ≡ Static found → first ≡ generation_after (view_updated by_identity 1 keys [] one_view []) → BeginsAt d first
+begins {d = d} keys found e true same is first-is = inl (subst (λ ms. d ≡ Static ms) (sym e ∙ no-members keys same) is)
+begins keys found e false same is first-is = inr (first-is ∙ rw same refl)
 
 pub returns-in_err-built-clause-refused : goal.returns-in_err-built-clause-refused
 returns-in_err-built-clause-refused g c =
@@ -51,3 +67,16 @@ returns-clause-made g c =
         readings = subst (λ ms. length times.0 ≡ (if same_members ms [] then 2 else 4)) members times.2;
       },
     )
+
+pub begun-requires-clause-updated : goal.begun-requires-clause-updated
+begun-requires-clause-updated g c = (
+  Updated c.in_ok-members.members.keys [] (shown_cells by_identity 1 c.in_ok-members.members.keys one_view) ∷ [],
+  ((c.in_ok-members.ensures.ok, refl), tt),
+  c.in_ok-serving.ensures.served.0,
+)
+
+pub returns-clause-first : goal.returns-clause-first
+returns-clause-first g c =
+    let keys = c.in_ok-members.members.keys in
+    begins keys c.in_ok-found.found c.in_ok-members.ensures.ok (same_members keys []) refl c.in_ok-shared.ensures.made.0
+    (c.in_ok-shared.ensures.made.3 _ c.in_ok-serving.ensures.served.0)

@@ -1,0 +1,7 @@
+-- The generation was read of what is served.
+use Rattle.std.proofs.Common.{◌∙◌}
+use Rattle.lb_balancer.proofs.Served.{known}
+use Rattle.lb_balancer.proofs.balancing.Balancing.generation.Goals as goal
+
+pub returns : goal.returns
+returns g c = (c.take-held.result.value, known (c.self.invariant.0 ∙ c.self.view_is) c.take-held.ensures.fact, c.generation.ensures)
