@@ -362,11 +362,16 @@ impl<
             balancer: self.changes.load(SeqCst).wrapping_add(1),
             registry: self.origin.registry().changes(),
         };
-        let gone = match serving.show(alloc, registry, &self.loads, version) {
-            Ok(shown) => match Arc::new(alloc, shown) {
-                Ok(shown) => Some(self.swap(rt, shown)),
-                Err(_) => None,
-            },
+        let shown = shown_of(
+            alloc,
+            serving,
+            registry,
+            &self.loads,
+            version,
+            &self.origin,
+        );
+        let gone = match shown {
+            Ok(shown) => Some(self.swap(rt, shown)),
             Err(_) => None,
         };
         self.changes.fetch_add(1, SeqCst);
@@ -540,9 +545,16 @@ impl<
         }
         let registries = self.origin.registry();
         let cells = registries.take(rt);
-        let told = serving.show(alloc, &cells.value, &self.loads, version);
+        let told = shown_of(
+            alloc,
+            serving,
+            &cells.value,
+            &self.loads,
+            version,
+            &self.origin,
+        );
         registries.put(cells);
-        let shown = Arc::new(alloc, told?)?;
+        let shown = told?;
         let again = Arc::try_clone(&shown)?;
         Ok((again, self.swap(rt, shown)))
     }
@@ -632,6 +644,26 @@ fn owned<R: KeyRule + Drop, C: HealthCheck + Drop, W: Wait>(
     told
 }
 
+// What is served, as a state of the registry judges it.
+fn shown_of<S: BackendSelection, D, R: KeyRule + Drop, C>(
+    alloc: Global,
+    serving: &Serving<S>,
+    registry: &Registry<R>,
+    loads: &Arc<Mutex<Loads>>,
+    version: Version,
+    origin: &Origin<S, D, R, C>,
+) -> Result<Arc<Shown<S>>, Refusal>
+    requires served { IsServedBy origin.now serving.now }
+    requires registry { IsRegistryOf R.gives origin.now.registry registry.now }
+    ensures shown { IfOk result (λ s. IsShownBy R.gives origin.now (arc_value s)) }
+    ensures refused { IfErr result (λ e. e ≡ Refusal.OutOfMemory) }
+{
+    let _ = origin;
+    let shown = serving.show(alloc, registry, loads, version)?;
+    let shared = Arc::new(alloc, shown)?;
+    Ok(shared)
+}
+
 // The locks of what is served first, and of what is shown of it, empty lanes, and the loads, which are all 0.
 fn places_over<
     S: BackendSelection,
@@ -658,9 +690,9 @@ fn places_over<
     let loads = Arc::new(alloc, Mutex::new(Loads::new()))?;
     let lanes = Lanes::new(alloc, LANES, origin)?;
     let cells = registry.take(rt);
-    let told = serving.show(alloc, &cells.value, &loads, version);
+    let told = shown_of(alloc, &serving, &cells.value, &loads, version, origin);
     registry.put(cells);
-    let shown = Arc::new(alloc, told?)?;
+    let shown = told?;
     let key = Snapshot::of(origin);
     Ok(Places {
         serving: KeyedLock::new(alloc, serving, &key)?,

@@ -1,0 +1,13 @@
+-- What is shown is what is served, as the registry judges it.
+use Rattle.std.proofs.Common.{sym, subst}
+use Rattle.lb_balancer.specs.History.{IsShownBy}
+use Rattle.lb_balancer.specs.Shown.{ShownValue}
+use Rattle.lb_balancer.proofs.Served.{shown-of}
+use Rattle.lb_balancer.proofs.balancing.shown_of.Goals as goal
+
+pub returns-clause-shown : goal.returns-clause-shown
+returns-clause-shown g c =
+    let gives = g.R.KeyRule.gives in
+    let is = c.in_ok-shown.ensures in
+    let shown = shown-of gives c.args.origin.now c.requires.served c.requires.registry is.config is.shows is.judged in
+    subst (λ (x : ShownValue g.row.S-Config.Denot). IsShownBy gives c.args.origin.now x) (sym c.in_ok-shared.ensures) shown
