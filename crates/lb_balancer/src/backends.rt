@@ -11,12 +11,15 @@ use lb_threads_registry::registry::HealthRegistry;
 use std::alloc::Global;
 use std::sync::Arc;
 
-/// A discovery, and the registry of health that its backends are to have a view of.
+/// A discovery, and the registry of health that a balancer or a group of these backends is to have a view of.
 #[derive(Drop)]
 pub struct Backends<D, R: KeyRule + Drop, C> {
-    pub(crate) discovery: DiscoverySource<D>,
-    pub(crate) registry: Arc<HealthRegistry<R, C>>,
-    pub(crate) owns_checks: bool,
+    /// Where the backends come from.
+    pub discovery: DiscoverySource<D>,
+    /// The registry of health, which others may share.
+    pub registry: Arc<HealthRegistry<R, C>>,
+    /// Whether the balancer or group runs the checks of the registry.
+    pub owns_checks: bool,
 }
 
 impl<D: Drop, N: KeyRule + Drop, C: HealthCheck + Drop> Backends<D, Rule<N>, C> {

@@ -2,8 +2,9 @@
 ghost use Rattle.std.specs.Prelude.{◌≡◌};
 
 use crate::counted::{Counted, Counting, Counts};
+use lb_balancer::backends::Backends;
+use lb_balancer_group::configured::Configured;
 use lb_balancer_group::group::LoadBalancerGroup;
-use lb_balancer_group::parts::GroupParts;
 use lb_health_check::error::CheckError;
 use lb_health_check::health_check::HealthCheck;
 use lb_health_registry::keys::{KeyRule, Rule};
@@ -19,6 +20,7 @@ use lb_threads_registry::keyed::NoRule;
 use lb_threads_registry::registry::HealthRegistry;
 use std::alloc::Global;
 use std::collections::BTreeSet;
+use std::sync::atomic::Ordering::SeqCst;
 use std::sync::{Arc, Wait};
 use std::thread;
 use std::thread::{JoinHandle, Threads};
@@ -41,10 +43,10 @@ impl HealthCheck for NoCheck {
 }
 
 /// A group whose selectors are counted.
-pub type Group<W> = SharedGroup<Counted<W>, Rule<NoRule>, NoCheck>;
+pub type Group<W> = SharedGroup<Configured<Counted<W>>, Rule<NoRule>, NoCheck>;
 
 /// The handle of such a group.
-pub type Handle<W> = LoadBalancerGroup<Counted<W>, W, Static, Rule<NoRule>, NoCheck>;
+pub type Handle<W> = LoadBalancerGroup<Counted<W>, Static, Rule<NoRule>, NoCheck>;
 
 /// The registry of such groups. Whoever makes a site hands it in, since a function that made one would hide its boxed rule.
 pub type Registry = HealthRegistry<Rule<NoRule>, NoCheck>;
@@ -68,16 +70,16 @@ impl<W: Wait + Clock + Copy + Drop> Site<W> {
     }
 
     /// A group of two slots that serve selectors over no backends; its discovery finds one backend.
-    pub fn group(&self, rt: W, alloc: Global) -> Result<Handle<W>, Refusal> {
-        let parts = GroupParts::shared(
+    pub fn group(&self, rt: &W, alloc: Global) -> Result<Handle<W>, Refusal> {
+        let backends = Backends::new_with_health_registry(
             one_backend(alloc, 1)?,
             Arc::try_clone(&self.registry)?,
-            Arc::try_clone(&self.gate)?,
         );
         let mut configs = Vec::new(alloc);
-        configs.push(Counting(Some(Arc::try_clone(&self.counts)?)))?;
-        configs.push(Counting(Some(Arc::try_clone(&self.counts)?)))?;
-        LoadBalancerGroup::from_backends_with_configs(rt, alloc, parts, configs)
+        configs.push(Some(Counting(Some(Arc::try_clone(&self.counts)?))))?;
+        configs.push(Some(Counting(Some(Arc::try_clone(&self.counts)?))))?;
+        let group = LoadBalancerGroup::from_backends_with_configs(rt, alloc, backends, configs)?;
+        group.with_rebuild_gate(rt, alloc, Arc::try_clone(&self.gate)?)
     }
 }
 
@@ -98,8 +100,11 @@ impl<W: Wait + Clock + Copy + Drop> Crowd<W> {
         held: bool,
     ) -> Result<Crowd<W>, Refusal> {
         let site = Site::new(rt, alloc, registry)?;
-        let first = site.group(rt, alloc)?;
-        let second = site.group(rt, alloc)?;
+        let first = site.group(&rt, alloc)?;
+        let second = site.group(&rt, alloc)?;
+        // Each of the four slots has a selector now; those that were built to make the groups are gone.
+        site.counts.begun.store(4, SeqCst);
+        site.counts.most.store(4, SeqCst);
         site.counts.hold(held);
         Ok(Crowd {
             site,

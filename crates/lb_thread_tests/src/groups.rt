@@ -84,28 +84,30 @@ fn played<W: Abort + Log + Threads + Wait + Clock + Copy + Send + Sync + Drop + 
     } = crowd;
     drop(first);
     drop(second);
-    assert_eq!(rt; left(rt, &site, one, other), [true; 5], "{row:?}");
+    assert_eq!(rt; left(rt, alloc, &site, one, other), [true; 6], "{row:?}");
     Ok(())
 }
 
-// What groups leave whose handles are gone: both are cancelled and their workers end, more selectors than the slots and one never lived
-// and none lives on, and the permit is back.
+// What groups leave whose handles are gone: both are let go, and their workers cancel them and end; more selectors than the slots and one
+// never lived and none lives on; the permit is back; and the registry has no backend to check.
 fn left<W: Wait + Clock + Copy + Drop>(
     rt: &W,
+    alloc: Global,
     site: &Site<W>,
     one: Arc<Group<W>>,
     other: Arc<Group<W>>,
-) -> [bool; 5] {
-    let are_cancelled = one.is_cancelled(rt) && other.is_cancelled(rt);
+) -> [bool; 6] {
+    let are_let_go = one.is_let_go() && other.is_let_go();
     let have_ended = ends(rt, &*one, TURNS) && ends(rt, &*other, TURNS);
     drop(one);
     drop(other);
     [
-        are_cancelled,
+        are_let_go,
         have_ended,
         site.counts.most.load(SeqCst) <= 5,
         is_free(rt, &site.gate),
         lives_none(&site.counts),
+        site.registry.target_count(rt, alloc) == Ok(0),
     ]
 }
 

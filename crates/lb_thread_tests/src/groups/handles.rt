@@ -17,18 +17,19 @@ use std::time::{Clock, Duration};
 
 // What a handle answers before its first update.
 fn fresh<W: Wait + Clock + Copy + Drop>(
+    rt: &W,
     alloc: Global,
     group: &Handle<W>,
 ) -> Result<[bool; 8], Refusal> {
     Ok([
         group.selector_count() == 2,
         group.worker_count() == 0,
-        group.backend_generation() == 0,
-        group.selectors_ready_for(0),
-        !group.selectors_ready_for(1),
-        group.selector_generation(2).is_none(),
-        group.last_update_timing().is_none(),
-        group.select(alloc, 0, b"k", 4)?.is_none(),
+        group.backend_generation(rt) == 0,
+        group.selectors_ready_for(rt, 0),
+        !group.selectors_ready_for(rt, 1),
+        group.selector_generation(rt, 2).is_none(),
+        group.last_update_timing(rt).is_none(),
+        group.select(rt, alloc, 0, b"k", 4)?.is_none(),
     ])
 }
 
@@ -41,20 +42,20 @@ fn lent<W: Wait + Clock + Copy + Drop>(
     let backends = group.backends();
     let one = Backend::new(alloc, "1.0.0.1:80")?;
     let other = Backend::new(alloc, "1.0.0.2:80")?;
-    let before = (backends.generation(), backends.ready(&one));
-    let generation = group.update(alloc, &mut RuntimeClock::new(*rt))?;
-    let members = backends.get_backend()?;
-    let is_ready = backends.ready(&one);
-    backends.set_enable(&one, false);
+    let before = (backends.generation(rt), backends.ready(rt, &one));
+    let generation = group.update(rt, alloc, &mut RuntimeClock::new(*rt))?;
+    let members = backends.get_backend(rt)?;
+    let is_ready = backends.ready(rt, &one);
+    backends.set_enable(rt, &one, false);
     Ok([
         before == (0, false),
         generation == 1,
-        backends.generation() == 1,
+        backends.generation(rt) == 1,
         members.len() == 1 && members.contains(&one),
         is_ready,
-        !backends.ready(&one),
-        !backends.ready(&other),
-        group.select(alloc, 0, b"k", 4)?.is_none(),
+        !backends.ready(rt, &one),
+        !backends.ready(rt, &other),
+        group.select(rt, alloc, 0, b"k", 4)?.is_none(),
     ])
 }
 
@@ -64,16 +65,16 @@ pub fn without_workers<W: Abort + Wait + Clock + Copy + Drop>(
     alloc: Global,
     group: &Handle<W>,
 ) -> Result<(), Refusal> {
-    assert_eq!(rt; fresh(alloc, group)?, [true; 8]);
+    assert_eq!(rt; fresh(rt, alloc, group)?, [true; 8]);
     assert_eq!(rt; lent(rt, alloc, group)?, [true; 8]);
-    assert!(rt; !group.is_cancelled());
+    assert!(rt; !group.is_cancelled(rt));
     Ok(())
 }
 
 // Whether each slot of a group serves its newest generation within a thousand turns of ten milliseconds.
 fn becomes_ready<W: Wait + Clock + Copy + Drop>(rt: &W, group: &Handle<W>) -> bool {
     for _ in 0..TURNS {
-        if group.selectors_ready_for(group.backend_generation()) {
+        if group.selectors_ready_for(rt, group.backend_generation(rt)) {
             return true;
         }
         thread::sleep(rt, Duration::from_millis(10));
@@ -87,14 +88,14 @@ pub fn starts_but_one<
     W: Abort + Log + Threads + Wait + Clock + Copy + Send + Sync + Drop + 'static,
 >(rt: &W, alloc: Global, group: &Handle<W>) -> Result<(), Refusal> {
     let mut clock = RuntimeClock::new(*rt);
-    group.update(alloc, &mut clock)?;
+    group.update(rt, alloc, &mut clock)?;
     let asked = AtomicU64::new(0);
     let starts = |_slot: usize| asked.fetch_add(1, SeqCst) != 0;
     let shared: &Group<W> = &**group.shared();
     let missing = start_workers_by(shared, &starts);
     // The second slot counts as one with a worker, though none runs here.
     shared.leave_slot(1);
-    let started = [missing, group.start_workers(alloc, clock)];
+    let started = [missing, group.start_workers(rt, alloc, clock)];
     assert_eq!(rt; started, [1, 0]);
     assert!(rt; becomes_ready(rt, group));
     Ok(())

@@ -23,7 +23,7 @@ fn told_before<W: Wait + Clock + Copy + Drop>(
     group: &Handle<W>,
 ) -> Result<[bool; 5], Refusal> {
     let mut pass = group.pass();
-    let generation = group.update_as(alloc, &mut RuntimeClock::new(*rt), &mut pass)?;
+    let generation = group.update_as(rt, alloc, &mut RuntimeClock::new(*rt), &mut pass)?;
     Ok([
         generation == 1,
         group.backend_generation_as(&mut pass) == 1,
@@ -53,16 +53,17 @@ fn comes_to_serve<W: Wait + Clock + Copy + Drop>(
 
 // The generation of a reader that enters slot 0 and leaves again, and what it selects.
 fn entered<W: Wait + Clock + Copy + Drop>(
+    rt: &W,
     alloc: Global,
     group: &Handle<W>,
     pass: &mut GroupPass,
 ) -> Result<(u64, Option<Backend>), Refusal>
     requires { pass.old.board ≡ (arc_value group.now.shared).board }
 {
-    let reader = group.enter_as(0, pass)?;
+    let reader = group.enter_as(rt, 0, pass)?;
     let generation = reader.generation();
-    let answer = group.select_in(alloc, &reader, b"k", 1, &|_backend: &Backend| true);
-    group.leave(reader);
+    let answer = group.select_in(rt, alloc, &reader, b"k", 1, &|_backend: &Backend| true);
+    group.leave(rt, reader);
     Ok((generation, answer?))
 }
 
@@ -76,9 +77,9 @@ fn told_after<W: Wait + Clock + Copy + Drop>(
     let (mut pass, mut other) = (group.pass(), group.pass());
     let serves = comes_to_serve(rt, group, &mut pass);
     let served = group.selector_generation_as(0, &mut pass);
-    group.meet(&mut pass, &mut other);
+    group.meet(rt, &mut pass, &mut other);
     let is_met = group.selectors_ready_for_as(1, &mut other);
-    let (generation, chosen) = entered(alloc, group, &mut other)?;
+    let (generation, chosen) = entered(rt, alloc, group, &mut other)?;
     Ok([
         serves,
         served == Some(1),
@@ -90,20 +91,21 @@ fn told_after<W: Wait + Clock + Copy + Drop>(
 
 // What a handle answers once its workers served an update: what it selects from each slot and from one that isn't there, and its timings.
 fn served<W: Wait + Clock + Copy + Drop>(
+    rt: &W,
     alloc: Global,
     group: &Handle<W>,
     expected: &Backend,
 ) -> Result<[bool; 7], Refusal> {
-    let first = group.select(alloc, 0, b"k", 4)?;
-    let second = group.select(alloc, 1, b"k", 4)?;
+    let first = group.select(rt, alloc, 0, b"k", 4)?;
+    let second = group.select(rt, alloc, 1, b"k", 4)?;
     Ok([
-        group.selectors_ready_for(group.backend_generation()),
+        group.selectors_ready_for(rt, group.backend_generation(rt)),
         first.as_ref() == Some(expected),
         second.as_ref() == Some(expected),
-        group.select(alloc, 2, b"k", 4)?.is_none(),
-        matches!(group.selector_last_update_timing(0), Some(Some(_))),
-        matches!(group.last_update_timing(), Some(timing) if timing.build_duration == 0),
-        !group.is_cancelled(),
+        group.select(rt, alloc, 2, b"k", 4)?.is_none(),
+        group.selector_last_update_timing(rt, 0).is_some(),
+        matches!(group.last_update_timing(rt), Some(timing) if timing.build_duration == 0),
+        !group.is_cancelled(rt),
     ])
 }
 
@@ -115,8 +117,8 @@ pub fn with_workers<W: Abort + Log + Threads + Wait + Clock + Copy + Send + Sync
 ) -> Result<(), Refusal> {
     let expected = Backend::new(alloc, "1.0.0.1:80")?;
     assert_eq!(rt; told_before(rt, alloc, group)?, [true; 5]);
-    assert_eq!(rt; group.start_workers(alloc, RuntimeClock::new(*rt)), 0);
+    assert_eq!(rt; group.start_workers(rt, alloc, RuntimeClock::new(*rt)), 0);
     assert_eq!(rt; told_after(rt, alloc, group, &expected)?, [true; 5]);
-    assert_eq!(rt; served(alloc, group, &expected)?, [true; 7]);
+    assert_eq!(rt; served(rt, alloc, group, &expected)?, [true; 7]);
     Ok(())
 }

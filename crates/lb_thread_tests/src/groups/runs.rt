@@ -5,8 +5,8 @@ use crate::counted::{Counted, Counting, Counts};
 use crate::crowd::serves;
 use lb_background::ready::{ReadyWatch, ServiceReadyNotifier, ready_pair};
 use lb_background::shutdown::{ShutdownSignal, ShutdownWatch, shutdown_pair};
+use lb_balancer::backends::Backends;
 use lb_balancer_group::group::LoadBalancerGroup;
-use lb_balancer_group::parts::GroupParts;
 use lb_health_check::error::CheckError;
 use lb_health_check::health_check::HealthCheck;
 use lb_health_registry::keys::Rule;
@@ -80,7 +80,7 @@ impl<W: Clock> HealthCheck for Slow<W> {
     }
 }
 
-type Group<W> = LoadBalancerGroup<Counted<W>, W, Slow<W>, Rule<NoRule>, Slow<W>>;
+type Group<W> = LoadBalancerGroup<Counted<W>, Slow<W>, Rule<NoRule>, Slow<W>>;
 
 // A group of one slot, the counts of its selectors and of its calls, what tells its runs to end, and what its last run notified.
 #[derive(Drop)]
@@ -106,6 +106,8 @@ impl<W: Wait + Clock + Copy + Drop> Bench<W> {
             },
         )?;
         let group = group_of(rt, alloc, &counts, &calls, &watch)?;
+        // The slot has a selector now.
+        counts.begun.store(1, SeqCst);
         counts.hold(true);
         Ok(Bench {
             counts,
@@ -126,14 +128,14 @@ impl<W: Wait + Clock + Copy + Drop> Bench<W> {
     }
 
     // What the last run left.
-    fn left(&self, alloc: Global) -> Result<Left, Refusal> {
+    fn left(&self, rt: &W, alloc: Global) -> Result<Left, Refusal> {
         let backend = Backend::new(alloc, "1.0.0.1:80")?;
         Ok(Left {
             updates: self.calls.updates.load(SeqCst),
             checks: self.calls.checks.load(SeqCst),
-            generation: self.group.backend_generation(),
-            served: self.group.selector_generation(0),
-            is_ready: self.group.backends().ready(&backend),
+            generation: self.group.backend_generation(rt),
+            served: self.group.selector_generation(rt, 0),
+            is_ready: self.group.backends().ready(rt, &backend),
             is_told: matches!(&self.ready, Some(ready) if ready.is_ready()),
         })
     }
@@ -165,16 +167,15 @@ fn group_of<W: Wait + Clock + Copy + Drop>(
     watch: &ShutdownWatch,
 ) -> Result<Group<W>, Refusal> {
     let updates = slow_for(rt, calls, watch)?;
-    let parts: GroupParts<Slow<W>, Rule<NoRule>, Slow<W>> = GroupParts::new(
+    let backends: Backends<Slow<W>, Rule<NoRule>, Slow<W>> = Backends::new(
         alloc,
         DiscoverySource::Boxed(updates),
     )?;
-    parts
-        .registry
-        .set_health_check(&rt, slow_for(rt, calls, watch)?)?;
     let mut configs = Vec::new(alloc);
-    configs.push(Counting(Some(Arc::try_clone(counts)?)))?;
-    LoadBalancerGroup::from_backends_with_configs(rt, alloc, parts, configs)
+    configs.push(Some(Counting(Some(Arc::try_clone(counts)?))))?;
+    let group = LoadBalancerGroup::from_backends_with_configs(&rt, alloc, backends, configs)?;
+    group.set_health_check(&rt, slow_for(rt, calls, watch)?)?;
+    Ok(group)
 }
 
 fn slow_for<W: Drop>(rt: W, calls: &Arc<Calls>, watch: &ShutdownWatch) -> Result<Slow<W>, Refusal> {
@@ -236,7 +237,7 @@ fn what_is_under_way_is_let_end(rt: HostRuntime) -> Result<(), Fail> {
         let (came, _) = join(
             &rt,
             || end_after(counts, calls, wanted, signal),
-            || group.run(alloc, &mut clock, watch, Some(notifier)),
+            || group.run(&rt, alloc, &mut clock, watch, Some(notifier)),
         );
         let left = Left {
             updates,
@@ -246,7 +247,7 @@ fn what_is_under_way_is_let_end(rt: HostRuntime) -> Result<(), Fail> {
             is_ready,
             is_told: false,
         };
-        assert_eq!(rt; (came, bench.left(alloc)?), (true, left));
+        assert_eq!(rt; (came, bench.left(&rt, alloc)?), (true, left));
     }
     assert!(rt; bench.is_served(&rt));
     Ok(())
