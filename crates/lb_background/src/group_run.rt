@@ -48,7 +48,7 @@ impl GroupRun {
     /// Takes an event with its moment and `least`, the least generation that a slot serves then (18446744073709551615 where there is no
     /// slot), and answers what is to be done: what is right after the run's history. An event that doesn't fit what was answered last
     /// is answered by that again. It takes no memory.
-    pub fn step(&mut self, now: u128, least: u64, event: Event) -> Action
+    pub fn step(&mut self, now: u128, event: Event, least: u64) -> Action
         ensures history { (h : List Heard) → IsAfter self.old h → IsAfter self.new (heard now least event result ∷ h) }
         ensures plan { self.new.plan ≡ self.old.plan }
     {

@@ -55,9 +55,9 @@ impl ServiceRun {
         }
     }
 
-    /// Takes an event with its moment and the count of targets then, and answers what is to be done: what is right after the run's
+    /// Takes an event with its moment and `count`, the count of targets then, and answers what is to be done: what is right after the run's
     /// history. An event that doesn't fit what was answered last is answered by that again. It takes no memory.
-    pub fn step(&mut self, now: u128, count: u64, event: Event) -> Action
+    pub fn step(&mut self, now: u128, event: Event, count: u64) -> Action
         ensures history { (h : List Heard) → IsServiceAfter self.old h → IsServiceAfter self.new (heard now count event result ∷ h) }
         ensures plan { self.new.plan ≡ self.old.plan }
     {
