@@ -58,6 +58,19 @@ absent_names() {
         grep -qE "\\b${path##*::}\\b" crates/pingora_load_balancing/src/"${path%%::*}".rt || echo "the facade has no $path"
     done
 }
+# Counts of README's table 'Reliability' that aren't the repository's.
+stale_counts() {
+    local edits=(crates/*/must-fail/*.edit) more=(tests/edits/*/*.edit) crate tests=() rows asked said
+    for crate in lb_tests lb_thread_tests; do
+        tests+=("$(grep -rhx ' *#\[test\]' "crates/$crate/src" | wc -l)")
+    done
+    rows=$(wc -l <crates/lb_rows/stdout)
+    asked=$(grep -c '^asked ' tests/lbcheck_cases.sh)
+    for said in "${#edits[@]} in each gate, ${#more[@]} more" "${rows} in each gate" "${tests[0]} and ${tests[1]} in each gate" \
+        " and $asked in each gate"; do
+        grep -qF "$said" README.md || echo "README doesn't say '$said'"
+    done
+}
 long_lines() { LC_ALL=C.UTF-8 grep -nE '.{141}' README.md docs/*.md || true; }
 # FROM TO TABLE: each row in a file that ends in FROM has one that ends in TO, and its name is in the table and in what is written.
 rows_that_lack() {
@@ -80,6 +93,7 @@ silent 'no file of definitions is named that is not there' absent_specs
 silent 'no document is named that is not there' absent_documents
 silent 'no name of the facade is named that is not there' absent_names
 silent 'the example in README is the one that is proved' example_of_readme
+silent 'the counts in README are those of the repository' stale_counts
 silent 'no line of a document is over 140 columns' long_lines
 silent 'each row has answers and is run' rows_without_answers
 

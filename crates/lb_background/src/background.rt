@@ -29,8 +29,9 @@ impl Model for BackgroundSchedule {
 }
 
 impl BackgroundSchedule {
-    /// A schedule made at `now`: each task that is there is next at that moment. `None` is a task that is absent, `Some(None)` one
-    /// that is done once, `Some(Some(f))` one that is done again `f` after each time.
+    /// Returns a schedule made at `now`: each task that is there is next at that moment.
+    ///
+    /// `None` is a task that is absent, `Some(None)` one that is done once, `Some(Some(f))` one that is done again `f` after each time.
     pub fn new(
         update: Option<Option<u128>>,
         check: Option<Option<u128>>,
@@ -46,21 +47,22 @@ impl BackgroundSchedule {
         }
     }
 
-    /// Whether an update is due at `now`: its next moment is `now` or earlier.
+    /// Returns whether an update is due at `now`: its next moment is `now` or earlier.
     pub fn update_is_due(&self, now: u128) -> bool
         ensures { result ≡ due self.now.update_next now }
     {
         is_due(self.update_next, now)
     }
 
-    /// Whether a health check is due at `now`: its next moment is `now` or earlier.
+    /// Returns whether a health check is due at `now`: its next moment is `now` or earlier.
     pub fn health_check_is_due(&self, now: u128) -> bool
         ensures { result ≡ due self.now.check_next now }
     {
         is_due(self.check_next, now)
     }
 
-    /// The update is done, in a turn of that base: it is next by its frequency after the base, or never where it is one-time.
+    /// Notes that the update is done, in a turn of that base: it is next by its frequency after the base, or never where it is one-time.
+    ///
     /// Of an absent task nothing changes.
     pub fn update_finished_at(&mut self, base: u128)
         ensures { self.new ≡ update_finished self.old base }
@@ -68,14 +70,17 @@ impl BackgroundSchedule {
         self.update_next = next_after(self.update, base);
     }
 
-    /// The health check is done, in a turn of that base: as `update_finished_at`.
+    /// Notes that the health check is done, in a turn of that base: it is next by its frequency after the base, or never where it is
+    /// one-time.
+    ///
+    /// Of an absent task nothing changes.
     pub fn health_check_finished_at(&mut self, base: u128)
         ensures { self.new ≡ check_finished self.old base }
     {
         self.check_next = next_after(self.check, base);
     }
 
-    /// The least next moment; 4294967295 seconds after `now` where no task has one.
+    /// Returns the least next moment; 4294967295 seconds after `now` where no task has one.
     pub fn next(&self, now: u128) -> u128
         ensures { result ≡ next_moment self.now now }
     {
@@ -85,14 +90,14 @@ impl BackgroundSchedule {
         }
     }
 
-    /// The next moment of the health check.
+    /// Returns the next moment of the health check.
     pub fn next_health_check(&self) -> Option<u128>
         ensures { result ≡ self.now.check_next }
     {
         self.check_next
     }
 
-    /// Whether there is a health check, and it is one-time.
+    /// Returns whether there is a health check, and it is one-time.
     pub fn health_check_is_once(&self) -> bool
         ensures { result ≡ is_once self.now.check }
     {
@@ -102,7 +107,7 @@ impl BackgroundSchedule {
         }
     }
 
-    /// Whether no task has a next moment.
+    /// Returns whether no task has a next moment.
     pub fn is_idle(&self) -> bool
         ensures { result ≡ is_idle self.now }
     {

@@ -1,5 +1,5 @@
-//! How a balancer runs in the background: its updates, its notifier and its health checks, without a thread.
-//! Who runs it does what a step answers, and tells what came of it by the next step.
+//! The run of a balancer in the background, as a state machine: its updates, its notifier and its health checks. The caller does what a
+//! step returns, and gives what came of it to the next step.
 ghost use Rattle.std.specs.Prelude.{◌≡◌, List, [], ◌∷◌};
 ghost use Rattle.lb_background.specs.History.{Heard, IsAfter, heard};
 ghost use Rattle.lb_background.specs.Runs.{balancer_plan};
@@ -24,8 +24,10 @@ impl Model for LoadBalancerRun {
 }
 
 impl LoadBalancerRun {
-    /// A run that was told nothing. Updates and health checks are one-time where their frequency is `None`, in nanoseconds; there are
-    /// health checks where the balancer owns them.
+    /// Returns a run that has taken no event.
+    ///
+    /// Updates and health checks are one-time where their frequency is `None`, in nanoseconds; there are health checks where the balancer
+    /// owns them.
     pub fn new(
         update_frequency: Option<u128>,
         health_check_frequency: Option<u128>,
@@ -45,8 +47,9 @@ impl LoadBalancerRun {
         }
     }
 
-    /// Takes an event with its moment, and answers what is to be done: what is right after the run's history. An event that doesn't fit
-    /// what was answered last is answered by that again. It takes no memory.
+    /// Takes an event with its moment, and returns what is to be done: what is right after the run's history.
+    ///
+    /// For an event that doesn't fit what was returned last, that is returned again. It takes no memory.
     pub fn step(&mut self, now: u128, event: Event) -> Action
         ensures history { (h : List Heard) → IsAfter self.old h → IsAfter self.new (heard now 0 event result ∷ h) }
         ensures plan { self.new.plan ≡ self.old.plan }

@@ -9,8 +9,9 @@ use crate::port::ServicePort;
 use crate::service_run::ServiceRun;
 use std::sync::Wait;
 
-/// Starts a run, does by the port what the run answers, and tells the run what came of it, until it answers the end. Before anything
-/// is done, the port is looked at: where the service is to end, the run is told that instead.
+/// Drives a run to its end: does by the port what the run asks for, and gives the run the event that came of it.
+///
+/// Before anything is done, the port is asked whether the service is to end; where it is, the run gets that event instead.
 pub fn drive<R: Wait, P: ServicePort>(rt: &R, run: ServiceRun, port: &mut P)
     requires fresh { IsServiceAfter run [] }
     requires checks { P.can_check }

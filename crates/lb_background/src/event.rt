@@ -1,16 +1,16 @@
-//! What a run of a balancer is told, and what it answers that is to be done next.
-//! Who runs a balancer does what was answered, and tells what came of it with the moment at which it came.
+//! The events that a run takes, and the actions that it returns. The caller does what was returned, and gives the run what came of it with
+//! the moment at which it came.
 
 use lb_select_base::refusal::Refusal;
 
-/// What a run is told.
+/// An event that a run takes.
 #[derive(Clone, Copy, Debug, PartialEq, Eq)]
 pub enum Event {
     /// The run begins.
     Start,
     /// An update is done: the newest generation, or why there is none.
     Updated(Result<u64, Refusal>),
-    /// The notifier was told that the balancer is ready.
+    /// The notifier was notified that the balancer is ready.
     Told,
     /// The health checks are done.
     Checked,
@@ -24,7 +24,7 @@ pub enum Event {
     ViewRemoved,
     /// The run is to end.
     Shutdown,
-    /// Nobody can signal the end any more.
+    /// No signal of the end can come any more.
     Closed,
 }
 
@@ -35,7 +35,7 @@ pub enum Action {
     Update,
     /// To run the health checks.
     Check,
-    /// To tell the notifier that the balancer is ready.
+    /// To notify the notifier that the balancer is ready.
     Ready,
     /// To wait until this moment, or for an event.
     SleepUntil(u128),

@@ -1,5 +1,5 @@
-//! How a group of slots runs in the background: as a balancer, but that its notifier is told where each slot serves what was updated.
-//! Who runs it does what a step answers, and tells what came of it by the next step.
+//! The run of a group of slots in the background, as a state machine: as that of a balancer, but its notifier waits until each slot serves
+//! what was updated last. The caller does what a step returns, and gives what came of it to the next step.
 ghost use Rattle.std.specs.Prelude.{◌≡◌, List, [], ◌∷◌};
 ghost use Rattle.lb_background.specs.History.{Heard, IsAfter, heard};
 ghost use Rattle.lb_background.specs.Runs.{group_plan};
@@ -24,8 +24,10 @@ impl Model for GroupRun {
 }
 
 impl GroupRun {
-    /// A run that was told nothing. Updates and health checks are one-time where their frequency is `None`, in nanoseconds; there are
-    /// health checks where the group owns them.
+    /// Returns a run that has taken no event.
+    ///
+    /// Updates and health checks are one-time where their frequency is `None`, in nanoseconds; there are health checks where the group
+    /// owns them.
     pub fn new(
         update_frequency: Option<u128>,
         health_check_frequency: Option<u128>,
@@ -45,9 +47,10 @@ impl GroupRun {
         }
     }
 
-    /// Takes an event with its moment and `least`, the least generation that a slot serves then (18446744073709551615 where there is no
-    /// slot), and answers what is to be done: what is right after the run's history. An event that doesn't fit what was answered last
-    /// is answered by that again. It takes no memory.
+    /// Takes an event with its moment and `least`, and returns what is to be done: what is right after the run's history.
+    ///
+    /// `least` is the least generation that a slot serves then, and 18446744073709551615 where there is no slot. For an event that doesn't
+    /// fit what was returned last, that is returned again. It takes no memory.
     pub fn step(&mut self, now: u128, event: Event, least: u64) -> Action
         ensures history { (h : List Heard) → IsAfter self.old h → IsAfter self.new (heard now least event result ∷ h) }
         ensures plan { self.new.plan ≡ self.old.plan }

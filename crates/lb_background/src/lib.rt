@@ -1,6 +1,6 @@
-//! What runs in the background: when the tasks of a balancer, a group or a service are due, the signal that ends a run, the notifier
-//! that tells that a service is ready, and the service that checks the targets of a registry.
-//! Schedules and runs have no clock and no threads: moments are passed in, in nanoseconds.
+//! What runs in the background: when the tasks of a balancer, a group or a service are due, the signal that ends a run, the notifier that
+//! a service is ready, and the service that checks the targets of a registry. Schedules and runs have no clock and no threads: moments are
+//! passed in, in nanoseconds.
 #![tactic(auto)]
 
 pub mod background;

@@ -1,4 +1,4 @@
-//! How a service tells that it is ready: a notifier that tells it once, and watches that see it.
+//! How a service reports that it is ready: a notifier that reports it once, and watches that see it.
 ghost use Rattle.std.specs.Prelude.{◌≡◌, IfErr};
 
 use lb_select_base::refusal::Refusal;
@@ -7,19 +7,19 @@ use std::sync::Arc;
 use std::sync::atomic::AtomicBool;
 use std::sync::atomic::Ordering::SeqCst;
 
-/// What tells, once, that a service is ready. One that is dropped tells nothing.
+/// A notifier that reports once that a service is ready. One that is dropped reports nothing.
 #[derive(Drop)]
 pub struct ServiceReadyNotifier {
     line: Arc<AtomicBool>,
 }
 
-/// What sees whether a service is ready.
+/// A watch of whether a service is ready.
 #[derive(Drop)]
 pub struct ReadyWatch {
     line: Arc<AtomicBool>,
 }
 
-/// A notifier that has told nothing, and a watch of it.
+/// Returns a notifier that has reported nothing, and a watch of it.
 ///
 /// # Errors
 ///
@@ -35,14 +35,14 @@ pub fn ready_pair(alloc: Global) -> Result<(ServiceReadyNotifier, ReadyWatch), R
 }
 
 impl ServiceReadyNotifier {
-    /// Tells that the service is ready. It takes no memory.
+    /// Reports that the service is ready. It takes no memory.
     pub fn notify_ready(self) {
         self.line.store(true, SeqCst);
     }
 }
 
 impl ReadyWatch {
-    /// Whether the notifier told that the service is ready. It takes no memory.
+    /// Returns whether the notifier reported that the service is ready, without taking memory.
     pub fn is_ready(&self) -> bool {
         self.line.load(SeqCst)
     }

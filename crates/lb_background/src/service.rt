@@ -1,4 +1,5 @@
-//! The service that checks the targets of a registry in the background, under the registry's own lock and beside other threads.
+//! The service that checks the targets of a registry in the background, while other threads use the registry. Each verdict takes the
+//! registry's own lock.
 ghost use Rattle.std.specs.Prelude.{◌≡◌, None, false, []};
 ghost use Rattle.lb_background.specs.Services.{IsServiceAfter};
 
@@ -29,12 +30,14 @@ pub struct HealthCheckService<R: KeyRule + Drop, C> {
     /// How long after a pass of checks the next one begins, in nanoseconds. Without it the targets are checked once, as soon as there
     /// are some.
     pub health_check_frequency: Option<u128>,
-    /// Whether the checks of a pass run beside each other.
+    /// Whether the checks of a pass run at the same time.
     pub parallel_health_check: bool,
 }
 
 impl<R: KeyRule + Drop + Send, C: HealthCheck + Drop + Send + Sync> HealthCheckService<R, C> {
-    /// A service of this registry that checks once, one target after another. The registry's check is to be set before `run`.
+    /// Returns a service of this registry that checks once, one target after another.
+    ///
+    /// The registry's check is to be set before `run`.
     pub fn new(registry: Arc<HealthRegistry<R, C>>) -> HealthCheckService<R, C>
         ensures frequency { result.health_check_frequency ≡ None }
         ensures parallel { result.parallel_health_check ≡ false }
@@ -46,9 +49,10 @@ impl<R: KeyRule + Drop + Send, C: HealthCheck + Drop + Send + Sync> HealthCheckS
         }
     }
 
-    /// Checks the targets until all that was to be done is done, or the watch tells that services are to end; a pass that runs then is
-    /// let end. The notifier is told after the first pass. Without a check of the registry an error is logged, nobody is told, and
-    /// with a notifier the service stays until it is to end.
+    /// Checks the targets, once or by the frequency, and returns when all was done or the watch says that services are to end.
+    ///
+    /// A pass that is under way then goes on to its end. The notifier is called after the first pass. Without a check of the registry an
+    /// error is logged, the notifier isn't called, and with a notifier the service stays until it is to end.
     pub fn run<W: Log + Threads + Wait + Sync, K: MomentSource>(
         &self,
         rt: &W,
@@ -110,7 +114,7 @@ struct LockedService<'g, 'p, 'r, 'c, 'w, F, R: KeyRule + Drop, C, W, K> {
     notifier: Option<ServiceReadyNotifier>,
 }
 
-// Of what other threads change nothing is said: the registry, and what the watch tells.
+// Nothing is said of what other threads change: the registry, and what the watch says.
 impl<
     'g,
     'p,

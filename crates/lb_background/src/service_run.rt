@@ -1,5 +1,5 @@
-//! How a service that only checks the health of targets runs in the background, without a thread.
-//! Who runs it does what a step answers, and tells what came of it by the next step.
+//! The run of a service that only checks the health of targets, as a state machine. The caller does what a step returns, and gives what
+//! came of it to the next step.
 ghost use Rattle.std.specs.Prelude.{◌≡◌, ◌∷◌, List, []};
 ghost use Rattle.lb_background.specs.History.{Heard, heard};
 ghost use Rattle.lb_background.specs.Runs.{service_plan};
@@ -39,7 +39,9 @@ impl Model for ServiceRun {
 }
 
 impl ServiceRun {
-    /// A run that was told nothing. Where a check is set it is one-time if `frequency`, in nanoseconds, is `None`.
+    /// Returns a run that has taken no event.
+    ///
+    /// Where a check is set it is one-time if `frequency`, in nanoseconds, is `None`.
     pub fn new(frequency: Option<u128>, has_check: bool, has_notifier: bool) -> ServiceRun
         ensures made { result ≡ fresh_service (service_plan frequency has_check has_notifier) }
         ensures history { IsServiceAfter result [] }
@@ -55,7 +57,7 @@ impl ServiceRun {
         }
     }
 
-    /// Takes an event with its moment and `count`, the count of targets then, and answers what is to be done: what is right after the run's
+    /// Takes an event with its moment and `count`, the count of targets then, and returns what is to be done: what is right after the run's
     /// history. An event that doesn't fit what was answered last is answered by that again. It takes no memory.
     pub fn step(&mut self, now: u128, event: Event, count: u64) -> Action
         ensures history { (h : List Heard) → IsServiceAfter self.old h → IsServiceAfter self.new (heard now count event result ∷ h) }
@@ -95,7 +97,7 @@ impl ServiceRun {
         }
     }
 
-    // The answer to an event that is noted.
+    // The action after an event that is noted.
     fn answer(&self, was_begun: bool, count: u64, event: &Event) -> Action
         ensures { result ≡ service_answer self.now was_begun count event.now }
     {

@@ -1,5 +1,5 @@
-//! How a service is told to end: a signal, and watches that tell what stands and sleep until it changes.
-//! What stands is one word that the signal alone stores, so that neither it nor a watch takes a lock.
+//! The signal by which services end, and the watches that read it and sleep until it changes. The state is one word that the signal alone
+//! stores, so that neither it nor a watch takes a lock.
 ghost use Rattle.std.specs.Prelude.{◌≡◌, ◌≤◌, false, IfErr, IfOk};
 ghost use Rattle.lb_background.specs.Signals.{event_of, signal, told, word_of, EndsUntil, IsOfSignal};
 
@@ -30,7 +30,7 @@ struct SignalWord {
     ghost one: { table.shared.table_id.words ≡ 1 },
 }
 
-/// What tells services to end. Contracts see of which pair it is, and whether the latest that it sent is the end.
+/// The signal by which services end. Contracts see of which pair it is, and whether the latest that it sent is the end.
 pub struct ShutdownSignal {
     line: Arc<SignalWord>,
     seat: Seat<(), SignalMark>,
@@ -68,7 +68,7 @@ impl Model for ShutdownWatch {
     ghost view = { λ w. (arc_value w.line).table.shared.table_id };
 }
 
-/// A signal that has sent nothing, and a watch of it.
+/// Returns a signal that has sent nothing, and a watch of it.
 ///
 /// # Errors
 ///
@@ -86,7 +86,7 @@ pub fn shutdown_pair(alloc: Global) -> Result<(ShutdownSignal, ShutdownWatch), R
 }
 
 impl ShutdownSignal {
-    /// Tells the watches that services are to end, or with `false` that they aren't: the latest counts. It takes no memory.
+    /// Sends the watches that services are to end, or with `false` that they aren't: the latest counts. It takes no memory.
     pub fn send(&mut self, ends: bool)
         ensures { self.new ≡ signal self.old.pair ends }
     {
@@ -100,7 +100,7 @@ impl ShutdownSignal {
 }
 
 impl Drop for ShutdownSignal {
-    // Unless services are to end, the watches are told that nobody can tell it any more.
+    // Unless services are to end, the watches find that no signal can come any more.
     fn drop(self) {
         let ShutdownSignal { line, mut seat } = self;
         let shared = &line.table.shared;
@@ -112,14 +112,18 @@ impl Drop for ShutdownSignal {
 }
 
 impl ShutdownWatch {
-    /// What stands: `Shutdown` where the latest that was sent is the end, else `Closed` where the signal is gone. It takes no memory.
+    /// Returns `Shutdown` where the latest that was sent is the end, else `Closed` where the signal is gone, else `None`.
+    ///
+    /// It takes no memory.
     pub fn event(&self) -> Option<Event>
         ensures { IsOfSignal result }
     {
         event_of(self.line.table.shared.peek(0))
     }
 
-    /// The same beside the pair's own signal: `Shutdown` exactly where the latest that it sent is the end. It changes nothing.
+    /// Returns what `event` does, by the pair's own signal: `Shutdown` exactly where the latest that it sent is the end.
+    ///
+    /// It changes nothing.
     pub fn event_beside(&self, signal: &mut ShutdownSignal) -> Option<Event>
         requires { signal.old.pair ≡ self.now }
         ensures event { result ≡ told signal.old.latest }
@@ -128,12 +132,13 @@ impl ShutdownWatch {
         event_of(self.line.table.shared.load::<Finds>(&mut signal.seat, 0))
     }
 
-    /// Whether services are to end. It takes no memory.
+    /// Returns whether services are to end, without taking memory.
     pub fn is_shut(&self) -> bool {
         self.line.table.shared.peek(0) == SHUTDOWN
     }
 
-    /// Waits until something else stands than `heard`, or until the moment has come, and answers what stands then.
+    /// Waits until the watch's event differs from `heard`, or until the moment has come, and returns the event then.
+    ///
     /// It reads the clock once a second at least. It takes no memory.
     pub fn wait_until<R: Wait, C: MomentSource>(
         &self,
@@ -156,7 +161,7 @@ impl ShutdownWatch {
         unreachable!()
     }
 
-    /// A watch of the same signal.
+    /// Returns a watch of the same signal.
     ///
     /// # Errors
     ///

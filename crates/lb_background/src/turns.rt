@@ -75,7 +75,7 @@ impl Turns {
         }
     }
 
-    // Takes one event, and answers what is to be done.
+    // Takes one event, and returns what is to be done.
     pub(crate) fn step(&mut self, now: u128, given: u64, event: Event) -> Action
         ensures state { self.new ≡ with_last (noted self.old now event) result }
         ensures action { result ≡ action_at (noted self.old now event) (stage_of self.old event) given }

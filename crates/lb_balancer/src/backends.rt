@@ -1,4 +1,4 @@
-//! What a balancer is made of, and what of its backends is lent.
+//! The parts that a balancer is made from: its discovery, and the registry that its backends are checked in.
 ghost use Rattle.std.specs.Prelude.{◌≡◌, IfErr, IfOk, OnErr, true, false};
 ghost use Rattle.lb_health_registry.specs.Registry.{IsGrowthRefusal};
 
@@ -23,7 +23,9 @@ pub struct Backends<D, R: KeyRule + Drop, C> {
 }
 
 impl<D: Drop, N: KeyRule + Drop, C: HealthCheck + Drop> Backends<D, Rule<N>, C> {
-    /// With a registry of their own, keyed by identity, whose checks are theirs to run. Refused `OutOfMemory` where memory is.
+    /// Returns backends with a registry of their own, keyed by identity. Their balancer runs its checks.
+    ///
+    /// Refused `OutOfMemory` where memory is refused.
     pub fn new(
         alloc: Global,
         discovery: DiscoverySource<D>,
@@ -41,7 +43,7 @@ impl<D: Drop, N: KeyRule + Drop, C: HealthCheck + Drop> Backends<D, Rule<N>, C> 
 }
 
 impl<D: Drop, R: KeyRule + Drop, C: HealthCheck + Drop> Backends<D, R, C> {
-    /// With a registry that others share, whose checks somebody else runs.
+    /// Returns backends with a registry that others share. Their balancer doesn't run its checks.
     pub fn new_with_health_registry(
         discovery: DiscoverySource<D>,
         registry: Arc<HealthRegistry<R, C>>,

@@ -1,6 +1,6 @@
-//! A balancer that threads share: an update discovers and builds under a lock of its own, and then what is served is exchanged.
-//! Locks are taken in the order update, served, registry, shown; the last is held for a copy of a pointer. That of the loads is held
-//! for one load, beside no other. A selection takes the first four only where its lane doesn't have what is served (`kept`).
+//! A balancer that threads share: an update discovers and builds under a lock of its own, and then what is served is exchanged. Locks are
+//! taken in the order update, served, registry, shown; the last is held for a copy of a pointer. The lock of the loads is held for one
+//! load, while no other is taken. A selection takes the first four only where its lane doesn't have what is served (`kept`).
 ghost use Rattle.std.specs.Prelude.{◌≡◌, ◌⊎◌, ◌∷◌, [], ℕ, List, IfOk, IfErr, OnOk, OnErr, Ok, Err};
 ghost use Rattle.std.specs.Prelude.{All, Some, None, unwrap_or, false, IfSome, MatchOption};
 ghost use Rattle.std.specs.Arc.{arc_value};
@@ -76,7 +76,7 @@ type ShownLock<S> = KeyedLock<
     OfShown,
 >;
 
-// As many lanes as threads that select at once may want, a power of two.
+// The number of lanes: as many as threads that select at once may want, a power of two.
 const LANES: usize = 64;
 
 // What a balancer has for its threads: the locks of what is served and of what is shown of it, the lanes, and the loads.
@@ -87,8 +87,8 @@ struct Places<S: BackendSelection> {
     loads: Arc<Mutex<Loads>>,
 }
 
-/// A balancer with one selector. Contracts see its discovery, and what its selectors are built with; what it serves changes under
-/// the hands of other threads. Its drop takes no lock: the next call of the registry removes its view.
+/// A balancer with one selector. Contracts see its discovery, and what its selectors are built with; other threads may change what it
+/// serves at any time. Its drop takes no lock: the next call of the registry removes its view.
 #[derive(Drop)]
 pub struct Balancing<S: BackendSelection, D, R: KeyRule + Drop, C> {
     discovery: DiscoverySource<D>,
@@ -124,7 +124,7 @@ impl<
     R: KeyRule + Drop,
     C: HealthCheck + Drop,
 > Balancing<S, D, R, C> {
-    /// A balancer with a view of its own in the registry, at generation 0, with a selector over no backends.
+    /// Returns a balancer with a view of its own in the registry, at generation 0, with a selector over no backends.
     ///
     /// # Errors
     ///
@@ -208,9 +208,10 @@ impl<
         }
     }
 
-    /// Discovers, builds where the membership is another one, and then exchanges what is served. One update runs at a time; while it
-    /// discovers and builds, selections go on in what was served before. The clock is read at the start and at the end, and for
-    /// another membership also before and after the build.
+    /// Discovers, builds where the membership is another one, and then exchanges what is served.
+    ///
+    /// One update runs at a time; while it discovers and builds, selections go on in what was served before. The clock is read at the
+    /// start and at the end, and for another membership also before and after the build.
     ///
     /// # Errors
     ///
@@ -263,7 +264,7 @@ impl<
         Ok(after.saturating_sub(before))
     }
 
-    // Takes settings where the membership is the same; else hands back what was discovered.
+    // Takes settings where the membership is the same; else returns what was discovered.
     fn keep<W: Wait>(
         &self,
         rt: &W,
@@ -273,6 +274,7 @@ impl<
     ) -> Option<(BTreeSet<Backend>, Settings)>
         ensures { IfSome result (λ found. found ≡ (members, settings)) }
     {
+        // `_key` and `founded()` are for the prover alone: they show it the value's invariant, and do nothing at run time.
         let _key = &self.config;
         let mut held = self.serving.take(rt);
         if !held.value.is_membership(&members) {
@@ -289,7 +291,7 @@ impl<
         None
     }
 
-    // The selector of another membership. Refused for the least cause that stands, and for memory only where there is none.
+    // Builds the selector of another membership. Refused for the least cause that applies, and for memory only where there is none.
     fn build<W: Wait>(
         &self,
         rt: &W,
@@ -316,7 +318,7 @@ impl<
         }
     }
 
-    // Serves the selector of another membership from now on. What isn't served then is let go outside the locks.
+    // Serves the selector of another membership from now on. What isn't served then is dropped outside the locks.
     fn renew<W: Wait>(
         &self,
         rt: &W,
@@ -350,8 +352,8 @@ impl<
         answer
     }
 
-    // Shows what is served now, and then counts the change; what was shown before is answered. Where memory is refused, the next
-    // selection shows it.
+    // Shows what is served now, and then counts the change. Returns what was shown before. Where memory is refused, the next selection
+    // shows it.
     fn exchange<W: Wait>(
         &self,
         rt: &W,
@@ -376,7 +378,7 @@ impl<
         gone
     }
 
-    // Shows this from now on; what was shown before.
+    // Shows this from now on. Returns what was shown before.
     fn swap<W: Wait>(&self, rt: &W, shown: Arc<Shown<S>>) -> Arc<Shown<S>>
         requires { (arc_value shown).config ≡ self.now.config }
     {
@@ -395,7 +397,9 @@ impl<
         }
     }
 
-    /// What is served now: selections in it are all in one generation, with the readiness of one moment. Refused for memory alone.
+    /// Returns what is served now.
+    ///
+    /// Selections in it are all in one generation, with the readiness of one moment. Refused for memory alone.
     pub fn shown<W: Wait>(&self, rt: &W, alloc: Global) -> Result<Arc<Shown<S>>, Refusal>
         ensures config { IfOk result (λ s. (arc_value s).config ≡ self.now.config) }
         ensures refused { IfErr result (λ e. e ≡ Refusal.OutOfMemory) }
@@ -414,7 +418,7 @@ impl<
         Ok(shown)
     }
 
-    /// The newest generation; 0 before the first membership.
+    /// Returns the newest generation; 0 before the first membership.
     pub fn generation<W: Wait>(&self, rt: &W) -> u64 {
         let _key = &self.config;
         let held = self.serving.take(rt);
@@ -423,7 +427,9 @@ impl<
         generation
     }
 
-    /// Returns the newest membership. Refused `OutOfMemory` where memory is refused.
+    /// Returns the newest membership.
+    ///
+    /// Refused `OutOfMemory` where memory is refused.
     pub fn get_backend<W: Wait>(
         &self,
         rt: &W,
@@ -434,7 +440,7 @@ impl<
         self.shown(rt, alloc)?.get_backend()
     }
 
-    /// Whether a backend is ready in the newest membership. It takes no memory.
+    /// Returns whether a backend is ready in the newest membership, without taking memory.
     pub fn ready<W: Wait>(&self, rt: &W, backend: &Backend) -> bool {
         let _key = &self.config;
         let registries: &HealthRegistry<R, C> = &*self.registry;
@@ -446,8 +452,9 @@ impl<
         ready
     }
 
-    /// Enables or disables a backend of the newest membership, by identity; another is left alone. It needs no memory: where that is
-    /// refused, the next selection shows it.
+    /// Enables or disables a backend of the newest membership, by identity; another is left alone.
+    ///
+    /// It needs no memory: where that is refused, the next selection shows it.
     pub fn set_enable<W: Wait>(&self, rt: &W, alloc: Global, backend: &Backend, enabled: bool) {
         let _key = &self.config;
         let mut held = self.serving.take(rt);
@@ -461,8 +468,9 @@ impl<
         self.spread(rt);
     }
 
-    /// Sets the load of a backend's identity, which outlives each update. Refused `OutOfMemory` where memory is refused; nothing is set
-    /// then.
+    /// Sets the load of a backend's identity, which outlives each update.
+    ///
+    /// Refused `OutOfMemory` where memory is refused; nothing is set then.
     pub fn set_load<W: Wait>(
         &self,
         rt: &W,
@@ -476,8 +484,10 @@ impl<
         self.loads.lock(rt).set(alloc, backend, load)
     }
 
-    /// Marks the view for removal from the registry, and lets its cells go: from the next call on that applies marks its backends are
-    /// no targets, a backend whose cell nobody else keeps isn't ready, and another membership is refused `NoSuch`. It takes no memory.
+    /// Marks the view for removal from the registry, and releases its cells.
+    ///
+    /// From the next call on that applies marks its backends are no targets, a backend whose cell no other view keeps isn't ready, and
+    /// another membership is refused `NoSuch`. It takes no memory.
     pub fn leave<W: Wait>(&self, rt: &W) {
         let _key = &self.config;
         let registries: &HealthRegistry<R, C> = &*self.registry;
@@ -489,14 +499,16 @@ impl<
         self.serving.put(held);
     }
 
-    /// Sets the check of the registry. Refused `HealthCheckSet` where one is set, which stays.
+    /// Sets the check of the registry.
+    ///
+    /// Refused `HealthCheckSet` where one is set, which stays.
     pub fn set_health_check<W: Wait>(&self, rt: &W, check: C) -> Result<(), Refusal>
         ensures { IfErr result (λ e. e ≡ Refusal.HealthCheckSet) }
     {
         self.registry.set_health_check(rt, check)
     }
 
-    /// How long the last accepted update took; `None` before the first.
+    /// Returns how long the last accepted update took; `None` before the first.
     pub fn last_update_timing<W: Wait>(&self, rt: &W) -> Option<UpdateTimings> {
         *self.timing.lock(rt)
     }
@@ -547,11 +559,11 @@ impl<
     R: KeyRule + Drop + Send,
     C: HealthCheck + Drop + Send + Sync,
 > Balancing<S, D, R, C> {
-    /// Checks the targets of the whole registry once, if a check is set, beside each other or not.
+    /// Checks the targets of the whole registry once, if a check is set: one after another, or with `parallel` at the same time.
     ///
     /// # Errors
     ///
-    /// As `HealthRegistry::run_health_check`.
+    /// Those of `HealthRegistry::run_health_check`.
     pub fn run_health_check<W: Log + Threads + Wait + Sync>(
         &self,
         rt: &W,
@@ -564,7 +576,7 @@ impl<
     }
 }
 
-// The selector over no backends. That no number is left for a view goes before the want of memory.
+// The selector over no backends. Where no number is left for a view, that is the refusal, before one for memory.
 fn first_built<S: BackendSelection, R: KeyRule + Drop, C: HealthCheck + Drop, W: Wait>(
     rt: &W,
     alloc: Global,

@@ -8,8 +8,9 @@ use lb_background::balancer_run::LoadBalancerRun;
 use lb_background::event::{Action, Event};
 use std::sync::Wait;
 
-/// Starts a run, does by the port what the run answers, and tells the run what came of it, until it answers the end. Before anything
-/// is done, the port is looked at: where the balancer is to end, the run is told that instead.
+/// Drives a run to its end: does by the port what the run asks for, and gives the run the event that came of it.
+///
+/// Before anything is done, the port is asked whether the balancer is to end; where it is, the run gets that event instead.
 pub fn drive<R: Wait, P: BalancerPort>(rt: &R, run: LoadBalancerRun, port: &mut P)
     requires fresh { IsAfter run [] }
     requires checks { P.can_check }

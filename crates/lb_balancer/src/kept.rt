@@ -1,5 +1,5 @@
-//! What a balancer's lanes have, and selections in it without a lock.
-//! A selection looks whether its lane has what is served now, by one load of the balancer's changes and one of the registry's.
+//! What a balancer keeps in its lanes, and selections in it without a lock. A selection finds out by two loads whether its lane has what
+//! is served now: one of the balancer's changes and one of the registry's.
 ghost use Rattle.std.specs.Prelude.{◌≡◌, IfErr, IfSome, OnOk};
 ghost use Rattle.std.specs.Arc.{arc_value};
 ghost use Rattle.lb_select_base.specs.Backends.{same_member};

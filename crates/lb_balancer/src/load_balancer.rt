@@ -1,4 +1,4 @@
-//! The balancer as its users share it: selections, updates, checks and readings through a borrow.
+//! `LoadBalancer`: a balancer that threads share. Selections, updates, checks and readings need a borrow only.
 ghost use Rattle.std.specs.Prelude.{◌≡◌, ◌⊎◌, [], IfOk, IfErr, OnOk, OnErr, Some, None, unwrap_or, false};
 ghost use Rattle.std.specs.Arc.{arc_value};
 ghost use Rattle.lb_select_base.specs.Backends.{same_member};
@@ -26,7 +26,7 @@ use std::alloc::Global;
 use std::sync::{Arc, Wait};
 use std::thread::Threads;
 
-/// A balancer with one selector that threads share. Whoever makes it sets the frequencies before it is shared.
+/// A balancer with one selector that threads share. Its frequencies are set before it is shared.
 ///
 /// A selection goes on in what was served when it began: one generation, its selector, and which of its members were ready. Its drop
 /// takes no lock and no memory: the next call of the registry removes its view, so that its backends are checked no longer.
@@ -43,7 +43,7 @@ pub struct LoadBalancer<
     pub health_check_frequency: Option<u128>,
     /// How often backends are discovered, in nanoseconds; once where it is `None`.
     pub update_frequency: Option<u128>,
-    /// Whether the checks of one pass run side by side.
+    /// Whether the checks of one pass run at the same time.
     pub parallel_health_check: bool,
 }
 
@@ -53,11 +53,13 @@ impl<
     R: KeyRule + Drop,
     C: HealthCheck + Drop,
 > LoadBalancer<S, D, R, C> {
-    /// A balancer over these backends, whose selectors are built with the default configuration. Nothing updated it yet.
+    /// Returns a balancer over these backends, whose selectors are built with the default configuration.
+    ///
+    /// It is at generation 0: nothing updated it yet.
     ///
     /// # Errors
     ///
-    /// As `from_backends_with_config`.
+    /// Those of `from_backends_with_config`.
     pub fn from_backends<W: Wait>(
         rt: &W,
         alloc: Global,
@@ -72,7 +74,9 @@ impl<
         LoadBalancer::from_backends_with_config(rt, alloc, backends, None)
     }
 
-    /// The same, whose selectors are built with this configuration; without one, with the default one.
+    /// Returns a balancer over these backends, whose selectors are built with this configuration, or with the default one for `None`.
+    ///
+    /// It is at generation 0: nothing updated it yet.
     ///
     /// # Errors
     ///
@@ -102,9 +106,10 @@ impl<
         })
     }
 
-    /// Discovers, builds where the membership is another one, and then exchanges what is served. One update runs at a time; while it
-    /// discovers and builds, selections go on in what was served before. The clock is read at the start and at the end, and for
-    /// another membership also before and after the build.
+    /// Discovers, builds where the membership is another one, and then exchanges what is served.
+    ///
+    /// One update runs at a time; while it discovers and builds, selections go on in what was served before. The clock is read at the
+    /// start and at the end, and for another membership also before and after the build.
     ///
     /// # Errors
     ///
@@ -123,7 +128,9 @@ impl<
         self.shared.update(rt, alloc, clock)
     }
 
-    /// What is served now: all selections in it are in one generation, with the readiness of one moment. Refused for memory alone.
+    /// Returns what is served now, for several selections at one moment.
+    ///
+    /// All selections in it are in one generation, with the readiness of one moment. Refused for memory alone.
     pub fn shown<W: Wait>(&self, rt: &W, alloc: Global) -> Result<Arc<Shown<S>>, Refusal>
         ensures config { IfOk result (λ s. (arc_value s).config ≡ self.now.shared.config) }
         ensures refused { IfErr result (λ e. e ≡ Refusal.OutOfMemory) }
@@ -131,8 +138,9 @@ impl<
         self.shared.shown(rt, alloc)
     }
 
-    /// Selects the first that is ready of the distinct backends among the first `max_iterations` candidates of the walk for `key`, in
-    /// what is served now. Refused for memory alone.
+    /// Returns the first ready backend among the distinct of the first `max_iterations` candidates for `key`, or `None`.
+    ///
+    /// The candidates and their readiness are those of what is served now. Refused for memory alone.
     pub fn select<W: Wait>(
         &self,
         rt: &W,
@@ -147,8 +155,9 @@ impl<
         self.select_with(rt, alloc, key, max_iterations, &ready_ones)
     }
 
-    /// Selects as `select`, but the first for which `accept` answers true, when it is asked with a backend and whether it is ready. No
-    /// lock is held meanwhile.
+    /// Returns the first backend that `accept` takes among the distinct of the first `max_iterations` candidates for `key`, or `None`.
+    ///
+    /// `accept` is asked with a backend and whether it is ready, while no lock is held. Refused for memory alone.
     pub fn select_with<W: Wait, F: Fn(&Backend, bool) -> bool>(
         &self,
         rt: &W,
@@ -177,8 +186,9 @@ impl<
         answer
     }
 
-    /// Sets the load of a backend's identity, which outlives each update; a selector that goes by loads reads it from then on. Refused
-    /// `OutOfMemory` where memory is refused; nothing is set then.
+    /// Sets the load of a backend's identity, for selectors that go by loads.
+    ///
+    /// It outlives each update. Refused `OutOfMemory` where memory is refused; nothing is set then.
     pub fn set_load<W: Wait>(
         &self,
         rt: &W,
@@ -191,32 +201,35 @@ impl<
         self.shared.set_load(rt, alloc, backend, load)
     }
 
-    /// Leaves the registry, which others may share: the view is marked for removal, as by `Balancing::leave`. A balancer that is dropped
-    /// leaves it too, at the registry's next call.
+    /// Leaves the registry, which others may share: the view is marked for removal, as by `Balancing::leave`.
+    ///
+    /// A balancer that is dropped leaves it too, at the registry's next call.
     pub fn leave<W: Wait>(&self, rt: &W) {
         self.shared.leave(rt);
     }
 
-    /// Sets the check of the registry. Refused `HealthCheckSet` where one is set, which stays.
+    /// Sets the check of the registry.
+    ///
+    /// Refused `HealthCheckSet` where one is set, which stays.
     pub fn set_health_check<W: Wait>(&self, rt: &W, check: C) -> Result<(), Refusal>
         ensures { IfErr result (λ e. e ≡ Refusal.HealthCheckSet) }
     {
         self.shared.set_health_check(rt, check)
     }
 
-    /// What the balancer serves from: its generation, which of its backends are ready, and their flags.
+    /// Returns what the balancer serves from: its generation, which of its backends are ready, and their flags.
     pub fn backends(&self) -> &Balancing<S, D, R, C>
         ensures { result.now ≡ self.now.shared }
     {
         &self.shared
     }
 
-    /// The newest generation, which is the served one; 0 before the first membership.
+    /// Returns the newest generation, which is the served one; 0 before the first membership.
     pub fn backend_generation<W: Wait>(&self, rt: &W) -> u64 {
         self.shared.generation(rt)
     }
 
-    /// How long the last accepted update took; `None` before the first.
+    /// Returns how long the last accepted update took; `None` before the first.
     pub fn last_update_timing<W: Wait>(&self, rt: &W) -> Option<UpdateTimings> {
         self.shared.last_update_timing(rt)
     }

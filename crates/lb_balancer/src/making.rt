@@ -1,4 +1,4 @@
-//! A balancer that is made of texts: what it serves first is there before threads share it, so its refusals are told exactly.
+//! Makes a balancer from texts. It serves its backends before threads share it, so its refusals are stated exactly.
 ghost use Rattle.std.specs.Prelude.{◌≡◌, ◌⊎◌, [], ◌∷◌, ℕ, List, length, None, Some, true, false, IfOk, IfErr, OnOk, if◌then◌else◌};
 ghost use Rattle.std.specs.Arc.{arc_value};
 ghost use Rattle.std.specs.Borrow.{Bor};
@@ -38,13 +38,16 @@ impl<
     N: KeyRule + Drop,
     C: HealthCheck + Drop,
 > LoadBalancer<S, D, Rule<N>, C> {
-    /// A balancer of the backends of weight 1 at the addresses of the texts, updated once; its discovery always answers these. A text
-    /// that std reads as a socket address has that one; of another text, `host:port`, the network looks up the host. The registry is
-    /// its own. The clock is read at the start and at the end, and where there are backends also before and after the build.
+    /// Returns a balancer of the backends of weight 1 at the addresses of the texts, updated once.
+    ///
+    /// Its discovery always finds these. A text that std reads as a socket address has that one; of another text, `host:port`, the network
+    /// looks up the host. The registry is its own. The clock is read at the start and at the end, and where there are backends also before
+    /// and after the build.
     ///
     /// # Errors
     ///
-    /// As `Static::try_from_iter`; then the cause for which the backends make no selector; and `OutOfMemory` where memory is refused.
+    /// Those of `Static::try_from_iter`; then the cause for which the backends make no selector; and `OutOfMemory` where memory is
+    /// refused.
     pub fn try_from_iter<'a, W: Wait, T: Net, I: Iterator<Item = &'a str> + Drop, K: MomentSource>(
         rt: &W,
         alloc: Global,

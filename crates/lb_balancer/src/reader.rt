@@ -1,4 +1,4 @@
-//! A balancer in the hands of one thread, for threads that select all the time.
+//! A balancer for one thread that selects all the time: it keeps what was served at its last selection.
 ghost use Rattle.std.specs.Prelude.{◌≡◌, IfErr, IfOk, OnOk};
 ghost use Rattle.std.specs.Arc.{arc_value};
 ghost use Rattle.lb_select_base.specs.Backends.{same_member};
@@ -33,7 +33,9 @@ impl<
     R: KeyRule + Drop,
     C: HealthCheck + Drop,
 > LoadBalancer<S, D, R, C> {
-    /// The balancer for a thread of its own. Refused for memory alone.
+    /// Returns a reader of the balancer, for one thread.
+    ///
+    /// Refused for memory alone.
     pub fn reader<'b, W: Wait>(
         &'b self,
         rt: &W,
@@ -55,7 +57,7 @@ impl<
     R: KeyRule + Drop,
     C: HealthCheck + Drop,
 > BalancerReader<'b, S, D, R, C> {
-    // Looks whether something changed since, and sees what is served now.
+    // Looks whether something changed since, and takes what is served now.
     fn look<W: Wait>(&mut self, rt: &W, alloc: Global) -> Result<(), Refusal>
         ensures same { self.new.balancing ≡ self.old.balancing }
         ensures refused { IfErr result (λ e. e ≡ Refusal.OutOfMemory) }
@@ -66,7 +68,7 @@ impl<
         Ok(())
     }
 
-    /// Selects as `LoadBalancer::select`.
+    /// Returns the first ready backend, as `LoadBalancer::select` does.
     pub fn select<W: Wait>(
         &mut self,
         rt: &W,
@@ -84,7 +86,7 @@ impl<
         seen.select(rt, alloc, key, max_iterations)
     }
 
-    /// Selects as `LoadBalancer::select_with`.
+    /// Returns the first backend that `accept` takes, as `LoadBalancer::select_with` does.
     pub fn select_with<W: Wait, F: Fn(&Backend, bool) -> bool>(
         &mut self,
         rt: &W,

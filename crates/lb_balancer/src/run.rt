@@ -1,4 +1,4 @@
-//! A balancer in the background: it updates and checks by its frequencies, beside the threads that select from it.
+//! Runs a balancer in the background: it updates and checks by its frequencies, while threads select from it.
 ghost use Rattle.std.specs.Prelude.{◌≡◌, []};
 ghost use Rattle.lb_background.specs.History.{IsAfter};
 
@@ -27,9 +27,11 @@ impl<
     R: KeyRule + Drop + Send,
     C: HealthCheck + Drop + Send + Sync,
 > LoadBalancer<S, D, R, C> {
-    /// Updates, and checks where the balancer owns its checks, each once or by its frequency, until all that was to be done is done, or
-    /// the watch tells that services are to end; an update or a pass of checks that runs then is let end. The notifier is told after
-    /// the first update, be it refused. A refused update is logged and leaves what is served; a refused pass counts as one.
+    /// Updates, and checks where the balancer owns its checks, each once or by its frequency.
+    ///
+    /// It returns when all was done, or when the watch says that services are to end; an update or a pass of checks that is under way then
+    /// goes on to its end. The notifier is called after the first update, even if that was refused. A refused update is logged and changes
+    /// nothing that is served; a refused pass counts as one.
     pub fn run<W: Log + Threads + Wait + Sync, K: MomentSource>(
         &self,
         rt: &W,
@@ -99,7 +101,7 @@ struct SharedPort<'b, 'p, 'r, 'c, 'w, F, S: BackendSelection, D, R: KeyRule + Dr
     notifier: Option<ServiceReadyNotifier>,
 }
 
-// Of what other threads change nothing is said: what is served, and what the watch tells.
+// Nothing is said of what other threads change: what is served, and what the watch says.
 impl<
     'b,
     'p,

@@ -1,5 +1,5 @@
-//! What a balancer serves, as a plain value: a view, the selector of its newest membership, and the selector's words.
-//! Who has it lent has one call done; nothing is built and nothing is let go here.
+//! What a balancer serves, as a plain value: a view, the selector of its newest membership, and the selector's words. Each call is made
+//! under a lock; nothing is built and nothing is dropped here.
 ghost use Rattle.std.specs.Prelude.{◌≡◌, List, ◌∷◌, IfOk, IfErr, OnOk, OnErr, Err, Bool, true, not, unwrap_or};
 ghost use Rattle.std.specs.Arc.{arc_value};
 ghost use Rattle.lb_select_base.specs.Backends.{Member};
@@ -37,8 +37,7 @@ pub struct BuiltSelector<S: BackendSelection> {
     pub words: Arc<SharedWords>,
 }
 
-/// A view, and the selector of its newest membership. Contracts tell the view by the history of its events; some history stands
-/// behind each.
+/// A view, and the selector of its newest membership. Contracts see the view by the history of its events; each view has some history.
 #[derive(Drop)]
 pub struct Serving<S: BackendSelection> {
     view: ViewCore,
@@ -65,7 +64,7 @@ impl<S: BackendSelection> Model for Serving<S> {
 }
 
 impl<S: BackendSelection> Serving<S> {
-    /// This view with this selector of its newest membership.
+    /// Returns what is served by this view with this selector of its newest membership.
     pub fn new(view: ViewCore, built: BuiltSelector<S>) -> Serving<S>
         requires { (views : List ViewEvent) × IsViewAfter views view × (S.members (arc_value built.selector) ≡ membership_after views) }
         ensures { result ≡ record {
@@ -77,10 +76,13 @@ impl<S: BackendSelection> Serving<S> {
         Serving { view, built }
     }
 
-    /// Some history stands behind the view, so that what holds after each of its histories holds after one. It does nothing.
+    /// States that some history explains the view, so that what holds after each of its histories holds after one.
+    ///
+    /// Only for the prover: it does nothing at run time.
     pub fn founded(&self)
         ensures { IsFounded self.now.view }
     {
+        // For the prover alone: this shows it the view's invariant, and does nothing at run time.
         let _view = &self.view;
     }
 
@@ -91,14 +93,14 @@ impl<S: BackendSelection> Serving<S> {
         self.view.id()
     }
 
-    /// The newest generation; 0 before the first membership.
+    /// Returns the newest generation; 0 before the first membership.
     pub fn generation(&self) -> u64
         ensures { (views : List ViewEvent) → IsViewAfter views self.now.view → result ≡ generation_after views }
     {
         self.view.generation()
     }
 
-    /// Whether the newest membership is this one, by identity. It takes no memory.
+    /// Returns whether the newest membership is this one, by identity, without taking memory.
     pub fn is_membership(&self, members: &BTreeSet<Backend>) -> bool
         ensures { result ≡ same_members members.now.keys self.now.members }
     {
@@ -127,12 +129,13 @@ impl<S: BackendSelection> Serving<S> {
             .update(alloc, registry, members, settings, |_members| ());
     }
 
-    /// Shows another membership, and serves the selector that is built of it. The same membership changes nothing but flags. What isn't
-    /// served then is handed out: what was served before, or what was built in vain.
+    /// Shows another membership, and serves the selector that is built of it. Returns what isn't served then.
+    ///
+    /// The same membership changes nothing but flags. What is returned is what was served before, or what was built in vain.
     ///
     /// # Errors
     ///
-    /// As `ViewCore::update`: view, selector, words and registry are then as before.
+    /// Those of `ViewCore::update`: view, selector, words and registry are then as before.
     pub fn renew<R: KeyRule + Drop>(
         &mut self,
         alloc: Global,
@@ -166,7 +169,7 @@ impl<S: BackendSelection> Serving<S> {
         }
     }
 
-    /// Why another membership is refused by view and registry, or that memory is refused. It takes no memory.
+    /// Returns why another membership is refused by view and registry, or that memory is refused, without taking memory.
     pub fn cause<R: KeyRule + Drop>(
         &self,
         registry: &Registry<R>,
@@ -186,14 +189,16 @@ impl<S: BackendSelection> Serving<S> {
         Refusal::OutOfMemory
     }
 
-    /// Whether a backend is ready in the newest membership. It takes no memory.
+    /// Returns whether a backend is ready in the newest membership, without taking memory.
     pub fn ready<R: KeyRule + Drop>(&self, registry: &Registry<R>, backend: &Backend) -> bool
         ensures { IsJudged R.gives self.now.view registry.now backend.now result }
     {
         self.view.ready(registry, backend)
     }
 
-    /// Enables or disables a backend that the newest membership lists, by identity; another is left alone. It takes no memory.
+    /// Enables or disables a backend that the newest membership lists, by identity; another is left alone.
+    ///
+    /// It takes no memory.
     pub fn set_enable(&mut self, backend: &Backend, enabled: bool)
         ensures view { (views : List ViewEvent) → IsViewAfter views self.old.view
             → IsViewAfter (Set backend.now enabled ∷ views) self.new.view }
@@ -203,7 +208,9 @@ impl<S: BackendSelection> Serving<S> {
         self.view.set_enable(backend, enabled);
     }
 
-    /// Marks the view for removal from the registry, and lets the cells of its newest generation go. It takes no memory.
+    /// Marks the view for removal from the registry, and releases the cells of its newest generation.
+    ///
+    /// It takes no memory.
     pub fn leave<R: KeyRule + Drop>(&self, registry: &mut Registry<R>)
         ensures { (key_of : Member → Member) (views : List ViewEvent) (events : List Event) → IsViewAfter views self.now.view
             → IsRegistryAfter R.gives key_of events registry.old
@@ -214,8 +221,9 @@ impl<S: BackendSelection> Serving<S> {
         registry.release(self.view.id(), self.view.generation());
     }
 
-    /// What is served now, with these loads: each member that isn't ready, by the registry as it is. Refused `OutOfMemory` where
-    /// memory is.
+    /// Returns what is served now, with these loads, and which members aren't ready by the registry as it is.
+    ///
+    /// Refused `OutOfMemory` where memory is refused.
     pub fn show<R: KeyRule + Drop>(
         &self,
         alloc: Global,
@@ -240,8 +248,9 @@ impl<S: BackendSelection> Serving<S> {
     }
 }
 
-/// The selector of a set with words of its own, by this configuration, or by the default one. Refused for the cause for which there
-/// is no selector, and for memory only where there is none.
+/// Returns the selector of a set with words of its own, built by this configuration, or by the default one.
+///
+/// Refused for the cause for which there is no selector, and for memory only where there is none.
 pub(crate) fn built_of<S: BackendSelection>(
     alloc: Global,
     members: &BTreeSet<Backend>,

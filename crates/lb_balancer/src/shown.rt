@@ -57,14 +57,16 @@ impl<S: BackendSelection> Model for Shown<S> {
 }
 
 impl<S: BackendSelection> Shown<S> {
-    /// The generation.
+    /// Returns the generation.
     pub fn generation(&self) -> u64
         ensures { result ≡ self.now.generation }
     {
         self.generation
     }
 
-    /// The members. Refused `OutOfMemory` where std refuses one more owner.
+    /// Returns the members.
+    ///
+    /// Refused `OutOfMemory` where std refuses one more owner.
     pub fn get_backend(&self) -> Result<Arc<BTreeSet<Backend>>, Refusal>
         ensures members { IfOk result (λ set. (arc_value set).keys ≡ self.now.members) }
         ensures refused { OnErr result (result ≡ Err Refusal.OutOfMemory) }
@@ -73,21 +75,21 @@ impl<S: BackendSelection> Shown<S> {
         Ok(members)
     }
 
-    /// Whether a backend is a member that was ready. It takes no memory.
+    /// Returns whether a backend is a member that was ready, without taking memory.
     pub fn ready(&self, backend: &Backend) -> bool
         ensures { result ≡ is_ready self.now backend.now }
     {
         self.members.contains(backend) && !self.unready.contains(backend)
     }
 
-    /// How often balancer and registry had changed.
+    /// Returns how often balancer and registry had changed.
     pub(crate) fn version(&self) -> Version {
         self.version
     }
 
-    /// Selects the first for which `accept` answers true, when it is asked with a backend and whether it was ready, of the distinct
-    /// backends among the first `max_iterations` candidates of the walk for `key`. No lock is held while it is asked. Refused for
-    /// memory alone.
+    /// Returns the first backend that `accept` takes among the distinct of the first `max_iterations` candidates for `key`, or `None`.
+    ///
+    /// `accept` is asked with a backend and whether it was ready, while no lock is held. Refused for memory alone.
     pub fn select_with<W: Wait, F: Fn(&Backend, bool) -> bool>(
         &self,
         rt: &W,
@@ -121,7 +123,9 @@ impl<S: BackendSelection> Shown<S> {
         )
     }
 
-    /// Selects as `select_with`, the first that was ready.
+    /// Returns the first backend that was ready, as `select_with` finds it.
+    ///
+    /// Refused for memory alone.
     pub fn select<W: Wait>(
         &self,
         rt: &W,

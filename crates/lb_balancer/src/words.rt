@@ -4,7 +4,7 @@ use lb_select_base::loads::Loads;
 use lb_select_base::words::{LentWords, WordSource};
 use std::sync::{Mutex, Wait};
 
-// The words of a selector with the loads of its balancer, in the hands of one walk. Other threads draw and set them too.
+// The words of a selector with the loads of its balancer, borrowed for one walk. Other threads draw and set them too.
 #[derive(Drop)]
 pub(crate) struct LoadedWords<'a, R> {
     pub(crate) words: LentWords<'a, R>,

@@ -36,12 +36,12 @@ pub struct LoadBalancerCore<S: BackendSelection, G: Drop, D> {
 }
 
 impl<S: BackendSelection, G: Rng + Drop, D: ServiceDiscovery + Drop> LoadBalancerCore<S, G, D> {
-    /// A balancer with a view of its own in the registry, at generation 0, whose selectors are built with the default configuration.
-    /// Nothing updated it yet.
+    /// Returns a balancer with a view of its own in the registry, at generation 0, whose selectors are built with the default
+    /// configuration.
     ///
     /// # Errors
     ///
-    /// As `from_backends_with_config`.
+    /// Those of `from_backends_with_config`.
     pub fn from_backends<R: KeyRule + Drop>(
         alloc: Global,
         registry: &mut Registry<R>,
@@ -66,11 +66,11 @@ impl<S: BackendSelection, G: Rng + Drop, D: ServiceDiscovery + Drop> LoadBalance
         LoadBalancerCore::from_backends_with_config(alloc, registry, discovery, None, generator)
     }
 
-    /// The same, whose selectors are built with this configuration; without one, with the default one.
+    /// Returns a balancer as `from_backends` does, whose selectors are built with this configuration, or with the default one for `None`.
     ///
     /// # Errors
     ///
-    /// As `Served::new`; the registry is then as before.
+    /// Those of `Served::new`; the registry is then as before.
     pub fn from_backends_with_config<R: KeyRule + Drop>(
         alloc: Global,
         registry: &mut Registry<R>,
@@ -103,13 +103,14 @@ impl<S: BackendSelection, G: Rng + Drop, D: ServiceDiscovery + Drop> LoadBalance
         }
     }
 
-    /// Discovers, and updates what is served as `Served::update`. The clock is read at the start and at the end, and for another
-    /// membership also before and after the build.
+    /// Discovers, and updates what is served as `Served::update` does.
+    ///
+    /// The clock is read at the start and at the end, and for another membership also before and after the build.
     ///
     /// # Errors
     ///
-    /// `Discovery` where the discovery answers a fault; `OutOfMemory` where it is refused memory; and as `Served::update`. All but
-    /// the clock is then as before.
+    /// `Discovery` where the discovery fails; `OutOfMemory` where it is refused memory; and those of `Served::update`. All but the clock
+    /// is then as before.
     pub fn update<R: KeyRule + Drop, K: MomentSource>(
         &mut self,
         alloc: Global,
@@ -144,8 +145,7 @@ impl<S: BackendSelection, G: Rng + Drop, D: ServiceDiscovery + Drop> LoadBalance
         Ok(())
     }
 
-    /// Selects the first that is ready of the distinct backends among the first `max_iterations` candidates of the walk for `key`, as
-    /// `Served::select`.
+    /// Returns the first ready backend among the distinct of the first `max_iterations` candidates for `key`, as `Served::select` does.
     pub fn select<R: KeyRule + Drop>(
         &mut self,
         alloc: Global,
@@ -161,7 +161,9 @@ impl<S: BackendSelection, G: Rng + Drop, D: ServiceDiscovery + Drop> LoadBalance
         self.served.select(alloc, registry, key, max_iterations)
     }
 
-    /// Selects as `select`, but the first for which `accept` answers true, when it is asked with a backend and whether it is ready.
+    /// Returns the first backend that `accept` takes, as `select` does the first ready one.
+    ///
+    /// `accept` is asked with a backend and whether it is ready.
     pub fn select_with<R: KeyRule + Drop, F: Fn(&Backend, bool) -> bool>(
         &mut self,
         alloc: Global,
@@ -181,7 +183,9 @@ impl<S: BackendSelection, G: Rng + Drop, D: ServiceDiscovery + Drop> LoadBalance
             .select_with(alloc, registry, key, max_iterations, accept)
     }
 
-    /// Sets the check of the registry that is lent. Refused `HealthCheckSet` where one is set, which stays.
+    /// Sets the check of the borrowed registry.
+    ///
+    /// Refused `HealthCheckSet` where one is set, which stays.
     pub fn set_health_check<R: KeyRule + Drop, C: HealthCheck + Drop>(
         &self,
         registry: &mut HealthRegistry<R, C>,
@@ -193,7 +197,7 @@ impl<S: BackendSelection, G: Rng + Drop, D: ServiceDiscovery + Drop> LoadBalance
         registry.set_health_check(check)
     }
 
-    /// How long the last accepted update took; `None` before the first.
+    /// Returns how long the last accepted update took; `None` before the first.
     pub fn last_update_timing(&self) -> Option<UpdateTimings>
         ensures { result ≡ self.now.timing }
     {

@@ -10,8 +10,7 @@ use std::marker::Model;
 
 /// A job whose build was tried and refused, with the refusal. It goes back to its port, and cannot be dropped.
 ///
-/// Contracts see both. The refusal is the cause that stands in the job's members and configuration, or `OutOfMemory` where there
-/// is none.
+/// Contracts see both. The refusal is the cause that the job's members and configuration give, or `OutOfMemory` where there is none.
 pub struct RefusedJob<S: BackendSelection> {
     job: Job<S>,
     refusal: Refusal,
@@ -28,7 +27,7 @@ impl<S: BackendSelection> Model for RefusedJob<S> {
 }
 
 impl<S: BackendSelection> RefusedJob<S> {
-    /// Why the build was refused.
+    /// Returns why the build was refused.
     pub fn refusal(&self) -> Refusal
         ensures refusal { result ≡ self.now.refusal }
         ensures cause { IsCauseOf S.refusal self.now.task result }
@@ -36,14 +35,14 @@ impl<S: BackendSelection> RefusedJob<S> {
         self.refusal
     }
 
-    /// The generation that was to be built.
+    /// Returns the generation that was to be built.
     pub fn generation(&self) -> u64
         ensures { result ≡ self.now.task.generation }
     {
         self.job.generation()
     }
 
-    /// The job, for the group that it is of.
+    /// Returns the job, for the group that it is of.
     pub fn into_job(self) -> Job<S>
         ensures { result ≡ self.task }
     {
@@ -52,7 +51,9 @@ impl<S: BackendSelection> RefusedJob<S> {
     }
 }
 
-/// Builds the selector of a job. It runs outside all locks, and may take long. When it ended `Built::ended_at` is to say.
+/// Builds the selector of a job.
+///
+/// It runs outside all locks, and may take long. `Built::ended_at` is to say when it ended.
 ///
 /// # Errors
 ///

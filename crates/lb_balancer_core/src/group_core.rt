@@ -42,11 +42,11 @@ pub struct LoadBalancerGroupCore<S: BackendSelection, D> {
 }
 
 impl<S: BackendSelection, D: ServiceDiscovery + Drop> LoadBalancerGroupCore<S, D> {
-    /// A group of one slot for each configuration, with a view of its own in the registry, at generation 0.
+    /// Returns a group of one slot for each configuration, with a view of its own in the registry, at generation 0.
     ///
     /// # Errors
     ///
-    /// As `GroupCore::new`; the registry is then as before.
+    /// Those of `GroupCore::new`; the registry is then as before.
     pub fn from_backends_with_configs<R: KeyRule + Drop>(
         alloc: Global,
         registry: &mut Registry<R>,
@@ -80,13 +80,14 @@ impl<S: BackendSelection, D: ServiceDiscovery + Drop> LoadBalancerGroupCore<S, D
         }
     }
 
-    /// Discovers, and schedules what was discovered in the group. The clock is read at the start and after the discovery; the
-    /// second moment is that of the membership.
+    /// Discovers, and schedules what was discovered in the group.
+    ///
+    /// The clock is read at the start and after the discovery; the second moment is that of the membership.
     ///
     /// # Errors
     ///
-    /// `Discovery` where the discovery answers a fault; `OutOfMemory` where it is refused memory; and as `GroupCore::schedule`.
-    /// Group, registry and timing are then as before.
+    /// `Discovery` where the discovery fails; `OutOfMemory` where it is refused memory; and those of `GroupCore::schedule`. Group,
+    /// registry and timing are then as before.
     pub fn update<R: KeyRule + Drop, K: MomentSource>(
         &mut self,
         alloc: Global,
@@ -117,7 +118,7 @@ impl<S: BackendSelection, D: ServiceDiscovery + Drop> LoadBalancerGroupCore<S, D
         Ok(scheduled)
     }
 
-    /// Selects from what a slot serves, as `GroupCore::select`.
+    /// Selects the first ready backend of what a slot serves, as `GroupCore::select` does.
     pub fn select<R: KeyRule + Drop>(
         &mut self,
         alloc: Global,
@@ -139,7 +140,9 @@ impl<S: BackendSelection, D: ServiceDiscovery + Drop> LoadBalancerGroupCore<S, D
             .select(alloc, registry, slot, key, max_iterations, random, loads)
     }
 
-    /// Selects as `select`, but the first for which `accept` answers true, when it is asked with a backend and whether it is ready.
+    /// Selects the first backend that `accept` takes, as `select` does the first ready one.
+    ///
+    /// `accept` is asked with a backend and whether it is ready.
     pub fn select_with<R: KeyRule + Drop, F: Fn(&Backend, bool) -> bool>(
         &mut self,
         alloc: Global,
@@ -171,7 +174,7 @@ impl<S: BackendSelection, D: ServiceDiscovery + Drop> LoadBalancerGroupCore<S, D
         )
     }
 
-    /// How many slots there are.
+    /// Returns how many slots there are.
     pub fn selector_count(&self) -> usize
         ensures { After self.now.group (λ made e. result ≡ length made.configs) }
     {
@@ -183,21 +186,21 @@ impl<S: BackendSelection, D: ServiceDiscovery + Drop> LoadBalancerGroupCore<S, D
         usize::MAX
     }
 
-    /// The newest generation of the backends; 0 before the first membership.
+    /// Returns the newest generation of the backends; 0 before the first membership.
     pub fn backend_generation(&self) -> u64
         ensures { After self.now.group (λ made e. result ≡ newest (slot_events e)) }
     {
         self.group.newest()
     }
 
-    /// The generation that a slot serves, or `None` where no such slot is there.
+    /// Returns the generation that a slot serves, or `None` where no such slot is there.
     pub fn selector_generation(&self, slot: usize) -> Option<u64>
         ensures { After self.now.group (λ made e. result ≡ at_slot made slot (served (past_of slot (slot_events e)))) }
     {
         self.group.served(slot)
     }
 
-    /// Whether each slot serves this generation or a newer one; true without slots.
+    /// Returns whether each slot serves this generation or a newer one; true without slots.
     pub fn selectors_ready_for(&self, generation: u64) -> bool
         ensures { After self.now.group (λ made e. IsTrue result
             ↔ ((slot : ℕ) → slot < length made.configs → generation ≤ served_at slot e)) }
@@ -212,7 +215,7 @@ impl<S: BackendSelection, D: ServiceDiscovery + Drop> LoadBalancerGroupCore<S, D
         true
     }
 
-    /// The timing of a slot's last publication: `None` where no such slot is there, and none in it before the first.
+    /// Returns the timing of a slot's last publication: `None` where no such slot is there, and none in it before the first.
     pub fn selector_last_update_timing(&self, slot: usize) -> Option<Option<SelectorUpdateTimings>>
         ensures { After self.now.group (λ made e. result
             ≡ at_slot made slot (option_map selector_timings (timing_after (past_of slot (slot_events e))))) }
@@ -224,7 +227,7 @@ impl<S: BackendSelection, D: ServiceDiscovery + Drop> LoadBalancerGroupCore<S, D
         }
     }
 
-    /// How many memberships came while an earlier one waited in a slot, or `None` where no such slot is there.
+    /// Returns how many memberships came while an earlier one waited in a slot, or `None` where no such slot is there.
     pub fn selector_coalesced_rebuilds(&self, slot: usize) -> Option<u64>
         ensures { After self.now.group (λ made e. result ≡ at_slot made slot (coalesced (past_of slot (slot_events e)))) }
     {
@@ -232,7 +235,7 @@ impl<S: BackendSelection, D: ServiceDiscovery + Drop> LoadBalancerGroupCore<S, D
         Some(counts.coalesced)
     }
 
-    /// How many builds of a slot failed, up to 18446744073709551615, or `None` where no such slot is there.
+    /// Returns how many builds of a slot failed, up to 18446744073709551615, or `None` where no such slot is there.
     pub fn selector_failed_rebuilds(&self, slot: usize) -> Option<u64>
         ensures { After self.now.group (λ made e. result ≡ at_slot made slot (failed (past_of slot (slot_events e)))) }
     {
@@ -240,7 +243,9 @@ impl<S: BackendSelection, D: ServiceDiscovery + Drop> LoadBalancerGroupCore<S, D
         Some(counts.failed)
     }
 
-    /// Sets the check of the registry that is lent. Refused `HealthCheckSet` where one is set, which stays.
+    /// Sets the check of the borrowed registry.
+    ///
+    /// Refused `HealthCheckSet` where one is set, which stays.
     pub fn set_health_check<R: KeyRule + Drop, C: HealthCheck + Drop>(
         &self,
         registry: &mut HealthRegistry<R, C>,
@@ -252,7 +257,7 @@ impl<S: BackendSelection, D: ServiceDiscovery + Drop> LoadBalancerGroupCore<S, D
         registry.set_health_check(check)
     }
 
-    /// The backends, lent with the registry: what is read of them, their flags and the checks.
+    /// Returns a borrow of the backends with the registry: readings, their flags and the checks.
     pub fn backends<'a, 'x, R: KeyRule + Drop, C: HealthCheck + Drop>(
         &'a mut self,
         registry: &'x mut HealthRegistry<R, C>,
@@ -267,7 +272,7 @@ impl<S: BackendSelection, D: ServiceDiscovery + Drop> LoadBalancerGroupCore<S, D
         }
     }
 
-    /// How long the last accepted update took; `None` before the first.
+    /// Returns how long the last accepted update took; `None` before the first.
     pub fn last_update_timing(&self) -> Option<UpdateTimings>
         ensures { result ≡ self.now.timing }
     {

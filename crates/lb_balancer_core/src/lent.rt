@@ -1,4 +1,4 @@
-//! The backends of a balancer, lent: what is read of them, the flags and the checks, and no call that updates them.
+//! The backends of a balancer, borrowed: readings, flags and checks, but no call that updates them.
 ghost use Rattle.std.specs.Prelude.{◌≡◌, ◌↔◌, ◌≤◌, ◌^◌, ◌∷◌, List, Err, IfOk, IsErrOf, IsTrue, OnOk, OnErr};
 ghost use Rattle.std.specs.Arc.{arc_value};
 ghost use Rattle.lb_select_base.specs.Backends.{Member};
@@ -26,7 +26,7 @@ use std::alloc::Global;
 use std::collections::BTreeSet;
 use std::sync::Arc;
 
-/// The backends of a balancer in the hands of a caller.
+/// The backends of a balancer, borrowed from it.
 #[derive(Drop)]
 pub struct LentBackends<'a, S: BackendSelection, D, R, C> {
     pub(crate) balancer: &'a mut LoadBalancer<S, D, R, C>,
@@ -39,7 +39,7 @@ impl<'a, S: BackendSelection, D, R: KeyRule + Drop, C: HealthCheck + Drop> LentB
     R,
     C,
 > {
-    /// The newest generation; 0 before the first membership.
+    /// Returns the newest generation; 0 before the first membership.
     pub fn generation(&self) -> u64
         ensures { After self.now.balancer.now.core.served (λ e. result ≡ generation_after (view_events e)) }
     {
@@ -47,7 +47,9 @@ impl<'a, S: BackendSelection, D, R: KeyRule + Drop, C: HealthCheck + Drop> LentB
         balancer.core.served.generation()
     }
 
-    /// The newest membership. Refused `OutOfMemory` where std refuses one more owner.
+    /// Returns the newest membership.
+    ///
+    /// Refused `OutOfMemory` where std refuses one more owner.
     pub fn get_backend(&self) -> Result<Arc<BTreeSet<Backend>>, Refusal>
         ensures members { IfOk result (λ set. After self.now.balancer.now.core.served (λ e. (arc_value set).keys ≡ members_now e)) }
         ensures refused { OnErr result (result ≡ Err Refusal.OutOfMemory) }
@@ -56,7 +58,7 @@ impl<'a, S: BackendSelection, D, R: KeyRule + Drop, C: HealthCheck + Drop> LentB
         balancer.core.served.get_backend()
     }
 
-    /// Whether a backend is ready in the newest membership. It takes no memory.
+    /// Returns whether a backend is ready in the newest membership, without taking memory.
     pub fn ready(&self, backend: &Backend) -> bool
         ensures { (key_of : Member → Member) (events : List Event)
             → IsRegistryAfter R.gives key_of events self.now.balancer.now.registry.registry
@@ -69,7 +71,9 @@ impl<'a, S: BackendSelection, D, R: KeyRule + Drop, C: HealthCheck + Drop> LentB
             .ready(&balancer.registry.registry, backend)
     }
 
-    /// Enables or disables a backend that a living snapshot lists, by identity; another is left alone. It takes no memory.
+    /// Enables or disables a backend that a living snapshot lists, by identity; another is left alone.
+    ///
+    /// It takes no memory.
     pub fn set_enable(&mut self, backend: &Backend, enabled: bool)
         ensures same_reference { self.new.balancer.ghost_name ≡ self.old.balancer.ghost_name }
         ensures stands { After self.old.balancer.now.core.served
@@ -115,7 +119,7 @@ impl<'a, S: BackendSelection, D, R: KeyRule + Drop, C: HealthCheck + Drop> LentB
     }
 }
 
-/// The backends of a group balancer with the registry that it is lent, in the hands of a caller.
+/// The backends of a group balancer, borrowed from it with its registry.
 #[derive(Drop)]
 pub struct LentGroupBackends<'a, 'x, S: BackendSelection, D, R, C> {
     pub(crate) balancer: &'a mut LoadBalancerGroupCore<S, D>,
@@ -130,7 +134,7 @@ impl<'a, 'x, S: BackendSelection, D, R: KeyRule + Drop, C: HealthCheck + Drop> L
     R,
     C,
 > {
-    /// The newest generation; 0 before the first membership.
+    /// Returns the newest generation; 0 before the first membership.
     pub fn generation(&self) -> u64
         ensures { group.After self.now.balancer.now.group (λ made e. result ≡ newest (slot_events e)) }
     {
@@ -138,7 +142,9 @@ impl<'a, 'x, S: BackendSelection, D, R: KeyRule + Drop, C: HealthCheck + Drop> L
         balancer.group.newest()
     }
 
-    /// The newest membership. Refused `OutOfMemory` where std refuses one more owner.
+    /// Returns the newest membership.
+    ///
+    /// Refused `OutOfMemory` where std refuses one more owner.
     pub fn get_backend(&self) -> Result<Arc<BTreeSet<Backend>>, Refusal>
         ensures members { IfOk result (λ set. group.After self.now.balancer.now.group
             (λ made e. (arc_value set).keys ≡ history.members_now e)) }
@@ -148,7 +154,7 @@ impl<'a, 'x, S: BackendSelection, D, R: KeyRule + Drop, C: HealthCheck + Drop> L
         balancer.group.get_backend()
     }
 
-    /// Whether a backend is ready in the newest membership. It takes no memory.
+    /// Returns whether a backend is ready in the newest membership, without taking memory.
     pub fn ready(&self, backend: &Backend) -> bool
         ensures { (key_of : Member → Member) (events : List Event)
             → IsRegistryAfter R.gives key_of events self.now.health.now.registry
@@ -160,7 +166,9 @@ impl<'a, 'x, S: BackendSelection, D, R: KeyRule + Drop, C: HealthCheck + Drop> L
         balancer.group.newest_ready(&health.registry, backend)
     }
 
-    /// Enables or disables a backend that a living snapshot lists, by identity; another is left alone. It takes no memory.
+    /// Enables or disables a backend that a living snapshot lists, by identity; another is left alone.
+    ///
+    /// It takes no memory.
     pub fn set_enable(&mut self, backend: &Backend, enabled: bool)
         ensures same_references { (self.new.balancer.ghost_name ≡ self.old.balancer.ghost_name)
             × (self.new.health.ghost_name ≡ self.old.health.ghost_name) }

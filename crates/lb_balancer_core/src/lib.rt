@@ -1,6 +1,6 @@
-//! Balancers as plain values: a discovery with the selector, or the group of slots, that is built from its backends.
-//! It has the calls of a group as a trait too (`GroupPort`), with an update, a selection and a worker's turn over any such port.
-//! The registry, the gate and the clock are borrowed by the calls; threads and locks come above.
+//! Balancers as plain values: a discovery and the selector, or the group of slots, that is built from what it finds. It has the calls of a
+//! group as a trait too (`GroupPort`), with an update, a selection and a worker's turn over any such port. The registry, the gate and the
+//! clock are borrowed by the calls; threads and locks are in crates above.
 #![tactic(auto)]
 
 pub mod balancer_core;

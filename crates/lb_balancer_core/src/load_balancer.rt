@@ -1,5 +1,5 @@
-//! Backends with one selector, which an update builds: what is served is always the newest generation.
-//! The registry is the backends' own; whoever has the balancer updates it and runs its checks.
+//! Backends with one selector, which an update builds: what is served is always the newest generation. The registry is the backends' own;
+//! the balancer's owner updates it and runs its checks.
 ghost use Rattle.std.specs.Prelude.{◌≡◌, ◌∷◌, [], ℕ, List, Ok, Err, None, Some, false, unwrap_or, IfOk, IfErr, IsSome, OnOk, OnErr};
 ghost use Rattle.std.specs.Borrow.{Bor};
 ghost use Rattle.std.specs.Iterator.{Drains, IsFinite};
@@ -49,7 +49,7 @@ pub struct LoadBalancer<
     pub health_check_frequency: Option<u128>,
     /// How often backends are discovered, in nanoseconds; once where it is `None`.
     pub update_frequency: Option<u128>,
-    /// Whether the checks of one pass run side by side.
+    /// Whether the checks of one pass run at the same time.
     pub parallel_health_check: bool,
 }
 
@@ -59,12 +59,13 @@ impl<
     R: KeyRule + Drop,
     C: HealthCheck + Drop,
 > LoadBalancer<S, D, R, C> {
-    /// A balancer over these backends, whose selectors are built with the default configuration, the first one of the membership
-    /// that they have.
+    /// Returns a balancer over these backends, whose selectors are built with the default configuration.
+    ///
+    /// The first one is built of the membership that they have.
     ///
     /// # Errors
     ///
-    /// As `from_backends_with_config`.
+    /// Those of `from_backends_with_config`.
     pub fn from_backends(
         alloc: Global,
         backends: Backends<D, R, C>,
@@ -79,7 +80,7 @@ impl<
         LoadBalancer::from_backends_with_config(alloc, backends, None)
     }
 
-    /// The same, whose selectors are built with this configuration; without one, with the default one.
+    /// Returns a balancer over these backends, whose selectors are built with this configuration, or with the default one for `None`.
     ///
     /// # Errors
     ///
@@ -119,7 +120,7 @@ impl<
         }
     }
 
-    /// The same, whose random words are this generator's from now on.
+    /// Returns the balancer with this generator, whose words are its random words from now on.
     pub fn with_generator(self, generator: Pcg64) -> LoadBalancer<S, D, R, C>
         ensures same { result ≡ record self {
           core = record self.core {
@@ -154,12 +155,13 @@ impl<
         }
     }
 
-    /// Discovers, and updates what is served, as `LoadBalancerCore::update`. The clock is read at the start and at the end, and for
-    /// another membership also before and after the build.
+    /// Discovers, and updates what is served, as `LoadBalancerCore::update` does.
+    ///
+    /// The clock is read at the start and at the end, and for another membership also before and after the build.
     ///
     /// # Errors
     ///
-    /// As `LoadBalancerCore::update`. All but the clock is then as before.
+    /// Those of `LoadBalancerCore::update`. All but the clock is then as before.
     pub fn update<K: MomentSource>(&mut self, alloc: Global, clock: &mut K) -> Result<(), Refusal>
         ensures updated { OnOk result (IsUpdated R.gives self.old.core.discovery self.old.core.served self.old.registry.registry
             S.refusal K.reads clock.old clock.new self.new.core.served self.new.registry.registry self.new.core.timing) }
@@ -185,7 +187,8 @@ impl<
         self.core.update(alloc, &mut self.registry.registry, clock)
     }
 
-    /// Selects the first that is ready of the distinct backends among the first `max_iterations` candidates of the walk for `key`.
+    /// Returns the first ready backend among the distinct of the first `max_iterations` candidates for `key`, or `None`.
+    ///
     /// Selector and readiness are those of the newest generation. Refused for memory alone; the words that were drawn stay drawn.
     pub fn select(
         &mut self,
@@ -208,7 +211,9 @@ impl<
             .select(alloc, &self.registry.registry, key, max_iterations)
     }
 
-    /// Selects as `select`, but the first for which `accept` answers true, when it is asked with a backend and whether it is ready.
+    /// Returns the first backend that `accept` takes, as `select` does the first ready one.
+    ///
+    /// `accept` is asked with a backend and whether it is ready.
     pub fn select_with<F: Fn(&Backend, bool) -> bool>(
         &mut self,
         alloc: Global,
@@ -232,7 +237,9 @@ impl<
         self.core.select_with(alloc, &self.registry.registry, key, max_iterations, accept)
     }
 
-    /// Sets the load of a backend's identity, which outlives each update. Refused for memory alone, and then nothing is set.
+    /// Sets the load of a backend's identity, which outlives each update.
+    ///
+    /// Refused for memory alone, and then nothing is set.
     pub fn set_load(&mut self, alloc: Global, backend: &Backend, load: u64) -> Result<(), Refusal>
         ensures set { IfOk result (λ _. SetsLoad (load_in self.old.core.served.words.loads) backend.now load
             (load_in self.new.core.served.words.loads)) }
@@ -250,7 +257,9 @@ impl<
         self.core.served.set_load(alloc, backend, load)
     }
 
-    /// Sets the check of the registry. Refused `HealthCheckSet` where one is set, which stays.
+    /// Sets the check of the registry.
+    ///
+    /// Refused `HealthCheckSet` where one is set, which stays.
     pub fn set_health_check(&mut self, check: C) -> Result<(), Refusal>
         ensures set { self.old.registry.check ≡ None
             → (result ≡ Ok tt) × (self.new ≡ record self.old { registry = record self.old.registry { check = Some check } }) }
@@ -259,7 +268,7 @@ impl<
         self.registry.set_health_check(check)
     }
 
-    /// The backends, lent: what is read of them, their flags and the checks.
+    /// Returns a borrow of the backends: readings, their flags and the checks.
     pub fn backends(&mut self) -> LentBackends<'_, S, D, R, C>
         ensures same_reference { result.balancer.ghost_name ≡ self.entry.ghost_name }
         ensures same { result.balancer.now ≡ self.old }
@@ -267,7 +276,7 @@ impl<
         LentBackends { balancer: self }
     }
 
-    /// How long the last accepted update took; `None` before the first.
+    /// Returns how long the last accepted update took; `None` before the first.
     pub fn last_update_timing(&self) -> Option<UpdateTimings>
         ensures { result ≡ self.now.core.timing }
     {
@@ -281,12 +290,14 @@ impl<
     N: KeyRule + Drop,
     C: HealthCheck + Drop,
 > LoadBalancer<S, D, Rule<N>, C> {
-    /// A balancer of the backends of weight 1 at the addresses of the texts, updated once; its discovery always answers these. A text
-    /// that std reads as a socket address has that one; of another text, `host:port`, the network looks up the host.
+    /// Returns a balancer of the backends of weight 1 at the addresses of the texts, updated once.
+    ///
+    /// Its discovery always finds these. A text that std reads as a socket address has that one; of another text, `host:port`, the network
+    /// looks up the host.
     ///
     /// # Errors
     ///
-    /// As `Static::try_from_iter`, `from_backends` and `update`.
+    /// Those of `Static::try_from_iter`, `from_backends` and `update`.
     pub fn try_from_iter<'a, T: Net, I: Iterator<Item = &'a str> + Drop, K: MomentSource>(
         alloc: Global,
         net: &T,

@@ -1,4 +1,4 @@
-//! The plain group with what its calls are lent: its registry, its gate, random words and loads.
+//! The plain group with what its calls borrow: its registry, its gate, random words and loads.
 ghost use Rattle.std.specs.Prelude.{◌≡◌};
 
 use lb_health_registry::registry::Registry;
@@ -7,7 +7,7 @@ use lb_rebuild_slots::gate::GateCore;
 use lb_select_base::loads::Loads;
 use lb_select_base::walk::BackendSelection;
 
-/// A plain group in the hands of a caller that has its registry, its gate, a generator of random words and the loads of backends.
+/// A plain group, borrowed with its registry, its gate, a generator of random words and the loads of backends.
 #[derive(Drop)]
 pub struct PlainPort<'c, 'x, 'g, 'w, 'l, S: BackendSelection, R, G> {
     pub core: &'c mut GroupCore<S>,

@@ -1,5 +1,5 @@
-//! The plain group as a port: its calls are the group's own, lent the registry and the gate that are its own too.
-//! And a worker's turn over it, at a slot that is due.
+//! Implements `GroupPort` over a plain group: its calls are the group's own, on the registry and the gate that it borrows. And a worker's
+//! turn over it, at a slot that is due.
 ghost use Rattle.std.specs.Prelude.{◌≡◌, false};
 ghost use Rattle.lb_select_base.specs.Loads.{load_in};
 ghost use Rattle.lb_balancer_core.specs.Plain.{OwnsJob, OwnsReader, OwnsPermit, IsScheduled, IsAsked, IsEntered, IsReadyFor, IsDrawn};
@@ -38,8 +38,9 @@ impl<'c, 'x, 'g, 'w, 'l, S: BackendSelection, R: KeyRule + Drop, G: Rng> PlainPo
     R,
     G,
 > {
-    /// A worker's turn at a slot that waits and is due, of a group that is not cancelled, whose gate is free. It ends with the newest
-    /// generation served, or with one failed build more.
+    /// Takes a worker's turn at a slot that waits and is due, of a group that is not cancelled, whose gate is free.
+    ///
+    /// It ends with the newest generation served, or with one failed build more.
     pub fn due_turn<K: MomentSource>(
         &mut self,
         alloc: Global,
@@ -145,6 +146,7 @@ impl<'c, 'x, 'g, 'w, 'l, S: BackendSelection, R: KeyRule + Drop, G: Rng> GroupPo
     }
 
     fn ask(&mut self, slot: usize, now: u128) -> Result<Ask<S>, Refusal> {
+        // `past()` is for the prover alone: it shows it that some history explains the group, and does nothing at run time.
         self.core.past();
         self.core.ask(slot, self.gate, now)
     }

@@ -1,5 +1,5 @@
-//! A port: the calls of a group, each told by one relation between the port before, the answer and the port after.
-//! What is written against a port runs over a plain group as over one behind locks.
+//! A port: the calls of a group, each stated by one relation between the port before, the answer and the port after. Code over a port runs
+//! over a plain group as over one behind locks.
 ghost use Rattle.std.specs.Prelude.{ℕ, Bool, List, Result, IfOk};
 ghost use Rattle.lb_select_base.specs.Backends.{Member};
 ghost use Rattle.lb_select_base.specs.Draws.{Draw};
@@ -24,7 +24,7 @@ use lb_select_base::walk::BackendSelection;
 use std::alloc::Global;
 use std::collections::BTreeSet;
 
-/// What takes refused jobs, built selectors and readers back, each of which it gave out itself.
+/// A port that takes back refused jobs, built selectors and readers, each of which it gave out itself.
 pub trait TakesBack<J, B, R> {
     // Which of them are its own.
     ghost owns_refused: { Self → J → Type 0 };
@@ -33,7 +33,7 @@ pub trait TakesBack<J, B, R> {
 
     ghost owns_reader: { Self → R → Type 0 };
 
-    // What taking one back leaves, and what it answers.
+    // What taking one back leaves, and what it returns.
     ghost failed: { Self → J → ℕ → Self → Type 0 };
 
     ghost published: { Self → B → Publication → Self → Type 0 };
@@ -99,20 +99,20 @@ pub trait GroupPort<S: BackendSelection>: TakesBack<RefusedJob<S>, Built<S>, Rea
         ensures answer { entered self.old slot result self.new }
         ensures own { IfOk result (λ r. Self.owns_reader self.new r) };
 
-    /// Whether a backend is ready in the snapshot that a reader entered.
+    /// Returns whether a backend is ready in the snapshot that a reader entered.
     fn ready(&mut self, reader: &Reader<S>, backend: &Backend) -> bool
         requires { Self.owns_reader self.old reader.now }
         ensures { readies self.old reader.now backend.now result self.new };
 
-    /// The next ticket of the selector that a reader entered.
+    /// Returns the next ticket of the selector that a reader entered.
     fn ticket(&mut self, reader: &Reader<S>) -> u64
         ensures { draws self.old reader.now (ticket_drawn result) self.new };
 
-    /// The next random word for a reader.
+    /// Returns the next random word for a reader.
     fn random(&mut self, reader: &Reader<S>) -> u64
         ensures { draws self.old reader.now (random_drawn result) self.new };
 
-    /// The load of a backend, for a reader.
+    /// Returns the load of a backend, for a reader.
     fn load(&self, reader: &Reader<S>, backend: &Backend) -> u64
         ensures { draws self.now reader.now (load_drawn backend.now result) self.now };
 
@@ -121,7 +121,7 @@ pub trait GroupPort<S: BackendSelection>: TakesBack<RefusedJob<S>, Built<S>, Rea
         ensures answer { taken self.old slot result self.new }
         ensures own { IfOk result (λ r. owns_permit self.new slot (owed_of r)) };
 
-    /// The report that the selector which was taken out of that slot is destroyed.
+    /// Takes the report that the selector which was taken out of that slot is destroyed.
     fn destroyed(&mut self, slot: usize, permit: OwedPermit)
         requires { owns_permit self.old slot permit }
         ensures { reported self.old slot permit self.new };

@@ -1,5 +1,5 @@
-//! A selection from a group by its port: a reader enters, its selector's walk is searched, and the reader leaves.
-//! Each call of the port is one step, and others' steps may fall between.
+//! A selection from a group by its port: a reader enters, its selector's walk is searched, and the reader leaves. Each call of the port is
+//! one step, and other threads' steps may fall between.
 ghost use Rattle.std.specs.Prelude.{◌≡◌};
 ghost use Rattle.lb_balancer_core.specs.Looks.{Answers, SelectsBy, SelectedThrough};
 
@@ -12,8 +12,10 @@ use lb_select_base::seen::SeenBackends;
 use lb_select_base::walk::BackendSelection;
 use std::alloc::Global;
 
-/// The first that `accept` accepts of the distinct backends among the first `max_iterations` candidates of what the slot serves,
-/// asked with each and whether it is ready, or `None` where none of them is accepted or no such slot is there.
+/// Returns the first backend that `accept` takes among the distinct candidates of what the slot serves, or `None`.
+///
+/// `accept` is asked with a backend and whether it is ready. Only the first `max_iterations` candidates are looked at. It is `None` too
+/// where no such slot is there.
 ///
 /// # Errors
 ///
@@ -59,7 +61,7 @@ fn select_for<S: BackendSelection, P: GroupPort<S>, F: Fn(&Backend, bool) -> boo
     first_accepted(alloc, &mut words, key, limit, accept)
 }
 
-// A reader's selector, lent for as long as the reader: the walk then stands beside the words, and counts no `Arc`.
+// A reader's selector, borrowed for as long as the reader: the walk is then apart from the words, and counts no `Arc`.
 fn lent_by<'r, S: BackendSelection>(reader: &'r Reader<S>) -> &'r S
     ensures members { S.members result.now ≡ reader.now.members }
     ensures config { S.built_with result.now ≡ reader.now.config }

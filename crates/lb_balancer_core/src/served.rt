@@ -36,7 +36,7 @@ use std::sync::Arc;
 /// A view of a registry, and the selector that is served: one of the view's newest membership, with a source of words whose
 /// counter of tickets began at 0 when it was built.
 ///
-/// Contracts tell it by the history of its events; some history stands behind each.
+/// Contracts describe it by the history of its events; some history explains each.
 #[derive(Drop)]
 pub struct Served<S: BackendSelection, G: Drop> {
     view: ViewCore,
@@ -69,7 +69,8 @@ impl<S: BackendSelection, G: Drop> Model for Served<S, G> {
 }
 
 impl<S: BackendSelection, G: Rng + Drop> Served<S, G> {
-    /// A view in the registry, at generation 0, with a selector over no backends: by this configuration, or by the default one.
+    /// Returns a view in the registry, at generation 0, with a selector over no backends, built by this configuration or by the default
+    /// one.
     ///
     /// # Errors
     ///
@@ -97,7 +98,7 @@ impl<S: BackendSelection, G: Rng + Drop> Served<S, G> {
     {
         let selector = match selector_of::<S>(alloc, &BTreeSet::new(alloc), &config) {
             Ok(selector) => selector,
-            // That no number is left for a view goes before the want of memory.
+            // Where no number is left for a view, that is the refusal, before one for memory.
             Err(Refusal::OutOfMemory) if registry.is_full() => {
                 return Err(Refusal::NumbersExhausted);
             }
@@ -135,9 +136,10 @@ impl<S: BackendSelection, G: Rng + Drop> Served<S, G> {
         })
     }
 
-    /// Takes what was discovered. Another membership than the newest becomes the next generation, and a selector that is built of it
-    /// is served from then on; the clock is read before and after the build, and what it took is answered. The same membership
-    /// changes nothing but flags, and the clock is not read.
+    /// Takes what was discovered, and returns how long the build took, or `None` where the membership is the same.
+    ///
+    /// Another membership than the newest becomes the next generation, and a selector that is built of it is served from then on; the
+    /// clock is read before and after the build. The same membership changes nothing but flags, and the clock is not read.
     ///
     /// # Errors
     ///
@@ -186,28 +188,33 @@ impl<S: BackendSelection, G: Rng + Drop> Served<S, G> {
         Ok(Some(after.saturating_sub(before)))
     }
 
-    /// Some history of what is served, for whoever knows none.
+    /// States that some history explains what is served.
+    ///
+    /// Only for the prover: it does nothing at run time.
     pub fn past(&self)
         ensures { (e : History) × Stands e self.now }
     {
+        // For the prover alone: this shows it the view's invariant, and does nothing at run time.
         let _view = &self.view;
     }
 
-    /// The number of the view in its registry.
+    /// Returns the number of the view in its registry.
     pub fn id(&self) -> u64
         ensures { result ≡ self.now.view.id }
     {
         self.view.id()
     }
 
-    /// The newest generation, which is the served one; 0 before the first membership.
+    /// Returns the newest generation, which is the served one; 0 before the first membership.
     pub fn generation(&self) -> u64
         ensures { After self.now (λ e. result ≡ generation_after (view_events e)) }
     {
         self.view.generation()
     }
 
-    /// The newest membership. Refused `OutOfMemory` where std refuses one more owner.
+    /// Returns the newest membership.
+    ///
+    /// Refused `OutOfMemory` where std refuses one more owner.
     pub fn get_backend(&self) -> Result<Arc<BTreeSet<Backend>>, Refusal>
         ensures members { IfOk result (λ set. After self.now (λ e. (arc_value set).keys ≡ members_now e)) }
         ensures refused { OnErr result (result ≡ Err Refusal.OutOfMemory) }
@@ -215,7 +222,7 @@ impl<S: BackendSelection, G: Rng + Drop> Served<S, G> {
         self.view.get_backend()
     }
 
-    /// Whether a backend is ready in the newest membership. It takes no memory.
+    /// Returns whether a backend is ready in the newest membership, without taking memory.
     pub fn ready<R: KeyRule + Drop>(&self, registry: &Registry<R>, backend: &Backend) -> bool
         ensures { (key_of : Member → Member) (events : List Event) → IsRegistryAfter R.gives key_of events registry.now
             → After self.now (λ e. Judges key_of events e backend.now result) }
@@ -223,7 +230,9 @@ impl<S: BackendSelection, G: Rng + Drop> Served<S, G> {
         self.view.ready(registry, backend)
     }
 
-    /// Enables or disables a backend that a living snapshot lists, by identity; another is left alone. It takes no memory.
+    /// Enables or disables a backend that a living snapshot lists, by identity; another is left alone.
+    ///
+    /// It takes no memory.
     pub fn set_enable(&mut self, backend: &Backend, enabled: bool)
         ensures stands { After self.old (λ e. Stands (Set backend.now enabled ∷ e) self.new) }
         ensures kept { self.new ≡ record self.old { view = self.new.view } }
@@ -232,7 +241,7 @@ impl<S: BackendSelection, G: Rng + Drop> Served<S, G> {
         self.view.set_enable(backend, enabled);
     }
 
-    /// The same, whose random words are this generator's from now on.
+    /// Returns what is served with this generator, whose words are its random words from now on.
     pub fn with_generator(self, generator: G) -> Served<S, G>
         ensures same { result ≡ record self { words = record self.words { generator = generator } } }
         ensures stands { After self (λ e. Stands e result) }
@@ -242,7 +251,9 @@ impl<S: BackendSelection, G: Rng + Drop> Served<S, G> {
         served
     }
 
-    /// Sets the load of a backend's identity. Refused for memory alone, and then nothing is set; the words to come stay.
+    /// Sets the load of a backend's identity.
+    ///
+    /// Refused for memory alone, and then nothing is set; the words to come stay.
     pub fn set_load(&mut self, alloc: Global, backend: &Backend, load: u64) -> Result<(), Refusal>
         ensures set { IfOk result (λ _. SetsLoad (load_in self.old.words.loads) backend.now load (load_in self.new.words.loads)) }
         ensures refused { IfErr result (λ r. (r ≡ Refusal.OutOfMemory)
@@ -253,9 +264,10 @@ impl<S: BackendSelection, G: Rng + Drop> Served<S, G> {
         self.words.set_load(alloc, backend, load)
     }
 
-    /// Selects the first for which `accept` answers true, when it is asked with a backend and whether it is ready, of the distinct
-    /// backends among the first `max_iterations` candidates of the walk for `key`. Selector and readiness are those of the newest
-    /// generation. Refused for memory alone; the words that were drawn stay drawn.
+    /// Returns the first backend that `accept` takes among the distinct of the first `max_iterations` candidates for `key`, or `None`.
+    ///
+    /// `accept` is asked with a backend and whether it is ready. Selector and readiness are those of the newest generation. Refused for
+    /// memory alone; the words that were drawn stay drawn.
     pub fn select_with<R: KeyRule + Drop, F: Fn(&Backend, bool) -> bool>(
         &mut self,
         alloc: Global,
@@ -286,7 +298,7 @@ impl<S: BackendSelection, G: Rng + Drop> Served<S, G> {
         )
     }
 
-    /// Selects as `select_with`, the first that is ready.
+    /// Returns the first ready backend, as `select_with` finds it.
     pub fn select<R: KeyRule + Drop>(
         &mut self,
         alloc: Global,
@@ -328,7 +340,7 @@ fn ready_ones(_backend: &Backend, ready: bool) -> bool
     ready
 }
 
-// The selector of another membership; refused for the least cause that stands, and for memory only where there is none.
+// The selector of another membership; refused for the least cause that applies, and for memory only where there is none.
 fn build<S: BackendSelection, R: KeyRule + Drop>(
     alloc: Global,
     view: &ViewCore,

@@ -1,4 +1,4 @@
-//! Where an update gets its backends from: a discovery of which contracts know what it answered.
+//! Sources of an update's backends: a discovery of which contracts know what it returned.
 ghost use Rattle.std.specs.Prelude.{List, Bool, Result};
 ghost use Rattle.lb_select_base.specs.Backends.{Member};
 ghost use Rattle.lb_select_base.specs.declared.refusal.Refusal.{Refusal};
@@ -8,12 +8,12 @@ use lb_health_view::discovery::{Discovered, DiscoverySource, ServiceDiscovery};
 use lb_select_base::refusal::Refusal;
 use std::alloc::Global;
 
-/// A source of backends. What it may answer is one relation.
+/// A source of backends. What it may return is one relation.
 pub trait BackendSource {
-    // What the source may answer: the members with the settings, or a fault.
+    // What the source may return: the members with the settings, or a fault.
     ghost finds: { Self → Result (List Member × List (Member × Bool)) Refusal → Type 0 };
 
-    /// The backends that are there now.
+    /// Returns the backends that are there now.
     ///
     /// # Errors
     ///

@@ -6,7 +6,7 @@ use lb_rebuild_slots::answers::Timing;
 /// How long the last accepted update took.
 #[derive(Clone, Copy, Debug, PartialEq, Eq)]
 pub struct UpdateTimings {
-    /// What the update took beside the build.
+    /// How long the update took without the build.
     pub discovery_duration: u128,
     /// What the build of the selector took; 0 where none was built, and for groups, whose slots are built apart.
     pub build_duration: u128,
@@ -23,7 +23,7 @@ pub struct SelectorUpdateTimings {
     pub build_duration: u128,
 }
 
-/// The timing of a slot by these names.
+/// Returns the timing of a slot by these names.
 impl From<Timing> for SelectorUpdateTimings {
     ghost use Rattle.std.specs.Prelude.{◌≡◌};
     ghost use Rattle.lb_balancer_core.specs.Timings.{selector_timings};

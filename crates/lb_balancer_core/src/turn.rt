@@ -30,9 +30,10 @@ pub enum Turn {
     Busy,
 }
 
-/// Destroys and reports the slot's retired selector where it could be taken, asks for the next build, and publishes what was
-/// built, or fails its job at the moment after where that build was refused. The clock is read once before the ask, and once after a
-/// build.
+/// Takes a worker's turn at a slot: destroys what it retired, asks for the next build, and publishes what was built.
+///
+/// A retired selector is destroyed and reported where it could be taken. Where a build was refused, its job fails at the moment after. The
+/// clock is read once before the ask, and once after a build.
 ///
 /// # Errors
 ///

@@ -8,7 +8,7 @@ use lb_select_base::refusal::Refusal;
 use lb_select_base::walk::BackendSelection;
 use std::alloc::Global;
 
-/// Discovers, and schedules once what was discovered, at the clock's second reading. Answers the newest generation after it.
+/// Discovers, and schedules once what was discovered, at the clock's second reading. Returns the newest generation after it.
 ///
 /// # Errors
 ///

@@ -7,7 +7,7 @@ use lb_select_base::backend::Backend;
 use lb_select_base::walk::BackendSelection;
 use lb_select_base::words::WordSource;
 
-// A port in the hands of one reader.
+// A port, borrowed for one reader.
 #[derive(Drop)]
 pub(crate) struct ReaderWords<'p, 'r, S: BackendSelection, P> {
     pub(crate) port: &'p mut P,

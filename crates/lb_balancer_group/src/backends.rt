@@ -1,5 +1,4 @@
-//! The backends of a group, lent: what is read of them, their flags and the checks, and no call that updates them.
-//! Each call is one of the shared group, whose lock is taken once.
+//! The backends of a group, borrowed: readings, flags and checks, but no call that updates them. Each call takes the group's lock once.
 ghost use Rattle.std.specs.Prelude.{◌≡◌, Err, IfOk, OnErr};
 ghost use Rattle.std.specs.Arc.{arc_value};
 ghost use Rattle.lb_health_registry.specs.Registry.{IsGrowthRefusal};
@@ -23,7 +22,7 @@ use std::collections::BTreeSet;
 use std::sync::{Arc, Wait};
 use std::thread::Threads;
 
-/// The backends of a group in the hands of a caller.
+/// The backends of a group, borrowed from it.
 #[derive(Drop)]
 pub struct SharedBackends<'g, S, D, R, C>
 where
@@ -41,7 +40,7 @@ impl<
     R: KeyRule + Drop,
     C: HealthCheck + Drop,
 > LoadBalancerGroup<S, D, R, C> {
-    /// The backends, lent.
+    /// Returns a borrow of the group's backends.
     pub fn backends<'g>(&'g self) -> SharedBackends<'g, S, D, R, C>
         ensures { result.group.now ≡ self.now }
     {
@@ -56,14 +55,16 @@ impl<
     R: KeyRule + Drop,
     C: HealthCheck + Drop,
 > SharedBackends<'g, S, D, R, C> {
-    /// The newest generation; 0 before the first membership.
+    /// Returns the newest generation; 0 before the first membership.
     pub fn generation<W: Wait>(&self, rt: &W) -> u64
         ensures { Seen (arc_value self.now.group.now.shared).core (λ v. After v (λ made e. result ≡ newest (slot_events e))) }
     {
         self.group.backend_generation(rt)
     }
 
-    /// The newest membership. Refused `OutOfMemory` where std refuses one more owner.
+    /// Returns the newest membership.
+    ///
+    /// Refused `OutOfMemory` where std refuses one more owner.
     pub fn get_backend<W: Wait>(&self, rt: &W) -> Result<Arc<BTreeSet<Backend>>, Refusal>
         ensures members { IfOk result (λ set. Seen (arc_value self.now.group.now.shared).core
             (λ v. After v (λ made e. (arc_value set).keys ≡ members_now e))) }
@@ -74,7 +75,7 @@ impl<
         shared.get_backend(rt)
     }
 
-    /// Whether a backend is ready in the newest membership. It takes no memory.
+    /// Returns whether a backend is ready in the newest membership, without taking memory.
     pub fn ready<W: Wait>(&self, rt: &W, backend: &Backend) -> bool
         ensures { NewestReadyUnder R.gives (arc_value self.now.group.now.shared) backend.now result }
     {
@@ -83,7 +84,9 @@ impl<
         shared.ready(rt, backend)
     }
 
-    /// Enables or disables a backend that a living snapshot lists, by identity; another is left alone. It takes no memory.
+    /// Enables or disables a backend that a living snapshot lists, by identity; another is left alone.
+    ///
+    /// It takes no memory.
     pub fn set_enable<W: Wait>(&self, rt: &W, backend: &Backend, enabled: bool) {
         let group = self.group;
         let shared: &SharedGroup<Configured<S>, R, C> = &*group.shared;
@@ -98,8 +101,9 @@ impl<
     R: KeyRule + Drop + Send,
     C: HealthCheck + Drop + Send + Sync,
 > SharedBackends<'g, S, D, R, C> {
-    /// Applies the marks that wait in the registry, and then checks each of its targets once, if it has a check: with `parallel` beside
-    /// each other.
+    /// Checks each target of the registry once, if a check is set, after it applied the marks that wait in the registry.
+    ///
+    /// With `parallel` the checks run at the same time.
     ///
     /// # Errors
     ///

@@ -8,8 +8,9 @@ use lb_background::event::{Action, Event};
 use lb_background::group_run::GroupRun;
 use std::sync::Wait;
 
-/// Starts a run, does by the port what the run answers, and tells the run what came of it, until it answers the end. Before anything
-/// is done, the port is looked at: where the run is to end, it is told that instead.
+/// Drives a run to its end: does by the port what the run asks for, and gives the run the event that came of it.
+///
+/// Before anything is done, the port is asked whether the run is to end; where it is, the run gets that event instead.
 pub fn drive<R: Wait, P: RunPort>(rt: &R, run: GroupRun, port: &mut P)
     requires fresh { IsAfter run [] }
     requires can { P.can_run }

@@ -1,5 +1,5 @@
-//! A group of slots as its users own it: updates, selections and readings through a borrow, and workers that build beside them.
-//! Its drop takes no lock: its workers cancel it, and the registry's next call removes its view.
+//! `LoadBalancerGroup`: a group of slots as its users own it. Updates, selections and readings need a borrow only; workers build
+//! meanwhile. Its drop takes no lock: its workers cancel it, and the registry's next call removes its view.
 ghost use Rattle.std.specs.Prelude.{◌≡◌, ◌+◌, [], None, false, map, length, IfErr, IfOk, MatchBool, OnErr};
 ghost use Rattle.std.specs.Arc.{arc_value};
 ghost use Rattle.lb_select_base.specs.Refusals.{least};
@@ -35,7 +35,7 @@ use lb_threads_registry::registry::HealthRegistry;
 use std::alloc::Global;
 use std::sync::{Arc, Mutex, Wait};
 
-/// A group of slots, each of which serves a selector of its own. Its maker sets the frequencies before threads share it.
+/// A group of slots, each of which serves a selector of its own. Its frequencies are set before threads share it.
 ///
 /// Its drop takes no lock and no memory: its workers cancel it at their next turn, let a build that runs end, destroy what their slots
 /// retired and end; the next call of the registry removes its view, so that its backends are checked no longer.
@@ -59,7 +59,7 @@ pub struct LoadBalancerGroup<
     pub health_check_frequency: Option<u128>,
     /// How often backends are discovered, in nanoseconds; once where it is `None`.
     pub update_frequency: Option<u128>,
-    /// Whether the checks of one pass run beside each other.
+    /// Whether the checks of one pass run at the same time.
     pub parallel_health_check: bool,
 }
 
@@ -178,12 +178,13 @@ impl<
         Ok(group)
     }
 
-    /// Discovers, and makes what was discovered the newest membership; one update at a time. The clock is read at the start and after
-    /// the discovery. It builds nothing: workers do.
+    /// Discovers, and makes what was discovered the newest membership. Returns the newest generation after it.
+    ///
+    /// One update runs at a time. The clock is read at the start and after the discovery. Workers build the selectors.
     ///
     /// # Errors
     ///
-    /// As `SharedGroup::update`; the timing is then as before.
+    /// Those of `SharedGroup::update`; the timing is then as before.
     pub fn update<W: Wait, K: MomentSource>(
         &self,
         rt: &W,
@@ -209,12 +210,13 @@ impl<
         told
     }
 
-    /// Selects the first that is ready of the distinct backends among the first `max_iterations` candidates of what the slot serves,
-    /// or `None` where none of them is ready or no such slot is there.
+    /// Returns the first ready backend among the distinct of the first `max_iterations` candidates of what the slot serves, or `None`.
+    ///
+    /// It is `None` too where no such slot is there.
     ///
     /// # Errors
     ///
-    /// As `select_with`.
+    /// Those of `select_with`.
     pub fn select<W: Wait>(
         &self,
         rt: &W,
@@ -229,12 +231,14 @@ impl<
         self.select_with(rt, alloc, slot, key, max_iterations, &ready_ones)
     }
 
-    /// Selects as `select`, but the first for which `accept` answers true, when it is asked with a backend and whether it is ready. It
-    /// runs under no lock.
+    /// Returns the first backend that `accept` takes among the distinct candidates of what the slot serves, or `None`.
+    ///
+    /// `accept` is asked with a backend and whether it is ready, while no lock is held. Only the first `max_iterations` candidates are
+    /// looked at. It is `None` too where no such slot is there.
     ///
     /// # Errors
     ///
-    /// As `SharedGroup::select_with`.
+    /// Those of `SharedGroup::select_with`.
     pub fn select_with<W: Wait, F: Fn(&Backend, bool) -> bool>(
         &self,
         rt: &W,
@@ -252,22 +256,27 @@ impl<
         shared.select_with(rt, alloc, slot, key, max_iterations, accept)
     }
 
-    /// The group itself, for threads that hold it beyond a borrow or take its workers' turns. It is cancelled with this handle.
+    /// Returns the group itself, for threads that hold it beyond a borrow or take its workers' turns.
+    ///
+    /// It is cancelled with this handle.
     pub fn shared(&self) -> &Arc<SharedGroup<Configured<S>, R, C>>
         ensures { result.now ≡ self.now.shared }
     {
         &self.shared
     }
 
-    /// Sets the check of the registry. Refused `HealthCheckSet` where one is set, which stays.
+    /// Sets the check of the registry.
+    ///
+    /// Refused `HealthCheckSet` where one is set, which stays.
     pub fn set_health_check<W: Wait>(&self, rt: &W, check: C) -> Result<(), Refusal>
         ensures { IfErr result (λ e. e ≡ Refusal.HealthCheckSet) }
     {
         self.registry.set_health_check(rt, check)
     }
 
-    /// Sets the load of a backend's identity, for all slots; a selector that goes by loads reads it from then on. Refused
-    /// `OutOfMemory` where memory is refused; nothing is set then.
+    /// Sets the load of a backend's identity, for all slots whose selectors go by loads.
+    ///
+    /// Refused `OutOfMemory` where memory is refused; nothing is set then.
     pub fn set_load<W: Wait>(
         &self,
         rt: &W,

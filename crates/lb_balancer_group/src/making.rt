@@ -193,7 +193,7 @@ fn is_full<R: KeyRule + Drop, C: HealthCheck + Drop, W: Wait>(
     full
 }
 
-// An update by a clock that notes its readings, which are those of the clock that it is lent.
+// Updates by a clock that notes its readings, which are those of the clock that it borrows.
 pub(crate) fn update_noting<
     'c,
     S: BackendSelection,

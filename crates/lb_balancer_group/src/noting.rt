@@ -3,7 +3,7 @@ ghost use Rattle.std.specs.Prelude.{◌≡◌};
 
 use lb_select_base::moments::MomentSource;
 
-/// A clock that is lent, and what was read of it. Contracts of its user see the clock that it is.
+/// A clock that is borrowed, and what was read of it. Contracts of its user see the borrowed clock.
 #[derive(Drop)]
 pub(crate) struct Noting<'c, K> {
     pub(crate) clock: &'c mut K,

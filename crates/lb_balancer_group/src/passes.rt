@@ -1,5 +1,5 @@
-//! What passes read of a group that its users own, and the updates, entries and selections that go with a pass.
-//! A reading loads words of the group's board: it takes no lock and waits for nobody.
+//! Readings by passes of a group that its users own, and the updates, entries and selections that go with a pass. A reading loads words of
+//! the group's board: it takes no lock and never waits.
 ghost use Rattle.std.specs.Prelude.{◌≡◌, ◌≤◌, ◌<◌, ◌+◌, Ok, IfOk, IfErr, IfSome, IfNone, MatchBool};
 ghost use Rattle.std.specs.Arc.{arc_value};
 ghost use Rattle.std.specs.Fn.{FnReturnsAt};
@@ -29,7 +29,7 @@ impl<
     R: KeyRule + Drop,
     C: HealthCheck + Drop,
 > LoadBalancerGroup<S, D, R, C> {
-    /// A new pass over the group's generations. It takes no lock and no memory.
+    /// Returns a new pass over the group's generations, without a lock or memory.
     pub fn pass(&self) -> GroupPass
         ensures { result.board ≡ (arc_value self.now.shared).board }
     {
@@ -37,7 +37,9 @@ impl<
         shared.pass()
     }
 
-    /// The newest generation, by one load. It waits for nobody, and takes no lock and no memory.
+    /// Returns the newest generation, by one load.
+    ///
+    /// It never waits, and takes no lock and no memory.
     pub fn backend_generation_as(&self, pass: &mut GroupPass) -> u64
         requires { pass.old.board ≡ (arc_value self.now.shared).board }
         ensures { IsLoad pass.old 0 result pass.new }
@@ -46,8 +48,9 @@ impl<
         shared.backend_generation_as(pass)
     }
 
-    /// The generation that a slot serves, by one load, or `None` without a load where no such slot is there. It waits for nobody, and
-    /// takes no lock and no memory.
+    /// Returns the generation that a slot serves, by one load, or `None` without a load where no such slot is there.
+    ///
+    /// It never waits, and takes no lock and no memory.
     pub fn selector_generation_as(&self, slot: usize, pass: &mut GroupPass) -> Option<u64>
         requires { pass.old.board ≡ (arc_value self.now.shared).board }
         ensures some { IfSome result (λ g. (slot + 1 < (arc_value self.now.shared).board.words)
@@ -58,8 +61,9 @@ impl<
         shared.selector_generation_as(slot, pass)
     }
 
-    /// Whether each slot serves this generation or a later one; true where there is no slot. It waits for nobody, and takes no lock
-    /// and no memory.
+    /// Returns whether each slot serves this generation or a later one; true where there is no slot.
+    ///
+    /// It never waits, and takes no lock and no memory.
     pub fn selectors_ready_for_as(&self, generation: u64, pass: &mut GroupPass) -> bool
         requires { pass.old.board ≡ (arc_value self.now.shared).board }
         ensures answer { MatchBool result (AreServed (arc_value self.now.shared).board pass.new generation)
@@ -70,7 +74,7 @@ impl<
         shared.selectors_ready_for_as(generation, pass)
     }
 
-    /// Lets two passes see what either has seen: afterwards neither is below the other as it was, in any word.
+    /// Joins what two passes have seen: afterwards neither is below what either was, in any word.
     pub fn meet<W: Wait>(&self, rt: &W, pass: &mut GroupPass, other: &mut GroupPass)
         requires pass { pass.old.board ≡ (arc_value self.now.shared).board }
         requires other { other.old.board ≡ (arc_value self.now.shared).board }
@@ -82,11 +86,13 @@ impl<
         shared.meet(rt, pass, other);
     }
 
-    /// Updates the group as `update`, and has the pass see it: the generation that is answered is not past what the pass has seen.
+    /// Updates the group as `update` does, and has the pass see the newest generation, which is returned.
+    ///
+    /// The generation that is returned is not past what the pass has seen.
     ///
     /// # Errors
     ///
-    /// As `update`.
+    /// Those of `update`.
     pub fn update_as<W: Wait, K: MomentSource>(
         &self,
         rt: &W,
@@ -108,12 +114,13 @@ impl<
         told
     }
 
-    /// Enters the selector that a slot serves, by a load of its word under the group's lock: the reader is in the generation that the
-    /// pass saw last.
+    /// Enters the selector that a slot serves, in the generation that the pass saw last.
+    ///
+    /// The slot's word is loaded under the group's lock.
     ///
     /// # Errors
     ///
-    /// As `SharedGroup::enter_as`. Nobody has entered then.
+    /// Those of `SharedGroup::enter_as`. No reader has entered then.
     pub fn enter_as<W: Wait>(
         &self,
         rt: &W,
@@ -132,8 +139,10 @@ impl<
         shared.enter_as(rt, slot, pass)
     }
 
-    /// Selects from the selector that a reader is in: the first accepted of the distinct backends among the first `max_iterations`
-    /// candidates of its walk for `key`. `accept` is asked once of each, in their order, until it answers true. It runs under no lock.
+    /// Returns the first accepted backend of the selector that a reader is in, or `None`.
+    ///
+    /// `accept` is asked once of each of the distinct backends among the first `max_iterations` candidates for `key`, in their order,
+    /// until it returns true, while no lock is held.
     ///
     /// # Errors
     ///

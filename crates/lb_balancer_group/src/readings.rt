@@ -1,4 +1,4 @@
-//! What is read of a group that its users own: each call takes the group's lock once for each slot that it reads.
+//! Readings of a group that its users own. Each call takes the group's lock once for each slot that it reads.
 ghost use Rattle.std.specs.Prelude.{◌≡◌, ◌+◌, MatchBool};
 ghost use Rattle.std.specs.Arc.{arc_value};
 ghost use Rattle.lb_rebuild_slots.specs.SlotsCalls.{at_slot};
@@ -24,7 +24,9 @@ impl<
     R: KeyRule + Drop,
     C: HealthCheck + Drop,
 > LoadBalancerGroup<S, D, R, C> {
-    /// Returns how many slots there are. The board has a word for each, and one more for the newest generation.
+    /// Returns how many slots there are.
+    ///
+    /// The board has a word for each, and one more for the newest generation.
     pub fn selector_count(&self) -> usize
         ensures { (arc_value self.now.shared).board.words ≡ result + 1 }
     {
@@ -32,12 +34,12 @@ impl<
         shared.slot_count()
     }
 
-    /// How many slots have a worker now.
+    /// Returns how many slots have a worker now.
     pub fn worker_count(&self) -> usize {
         self.shared.worker_count()
     }
 
-    /// The newest generation of the backends; 0 before the first membership.
+    /// Returns the newest generation of the backends; 0 before the first membership.
     pub fn backend_generation<W: Wait>(&self, rt: &W) -> u64
         ensures { Seen (arc_value self.now.shared).core (λ v. After v (λ made e. result ≡ newest (slot_events e))) }
     {
@@ -45,7 +47,7 @@ impl<
         shared.backend_generation(rt)
     }
 
-    /// Whether the group is cancelled.
+    /// Returns whether the group is cancelled.
     pub fn is_cancelled<W: Wait>(&self, rt: &W) -> bool
         ensures { Seen (arc_value self.now.shared).core (λ v. After v (λ made e. result ≡ is_cancelled (slot_events e))) }
     {
@@ -53,7 +55,7 @@ impl<
         shared.is_cancelled(rt)
     }
 
-    /// The generation that a slot serves, or `None` where no such slot is there.
+    /// Returns the generation that a slot serves, or `None` where no such slot is there.
     pub fn selector_generation<W: Wait>(&self, rt: &W, slot: usize) -> Option<u64>
         ensures { SawServed (arc_value self.now.shared).core slot result }
     {
@@ -61,7 +63,9 @@ impl<
         shared.selector_generation(rt, slot)
     }
 
-    /// Whether each slot serves this generation or a newer one; true without slots. The slots are read one after another.
+    /// Returns whether each slot serves this generation or a newer one; true without slots.
+    ///
+    /// The slots are read one after another.
     pub fn selectors_ready_for<W: Wait>(&self, rt: &W, generation: u64) -> bool
         ensures { MatchBool result (AllServe (arc_value self.now.shared).core generation)
             (OneLags (arc_value self.now.shared).core generation) }
@@ -103,7 +107,7 @@ impl<
         }
     }
 
-    /// How many memberships came while an earlier one waited in a slot, or `None` where no such slot is there.
+    /// Returns how many memberships came while an earlier one waited in a slot, or `None` where no such slot is there.
     pub fn selector_coalesced_rebuilds<W: Wait>(&self, rt: &W, slot: usize) -> Option<u64>
         ensures { Seen (arc_value self.now.shared).core (λ v. After v
             (λ made e. result ≡ at_slot made slot (coalesced (past_of slot (slot_events e))))) }
@@ -113,7 +117,7 @@ impl<
         Some(counts.coalesced)
     }
 
-    /// How many builds of a slot failed, up to 18446744073709551615, or `None` where no such slot is there.
+    /// Returns how many builds of a slot failed, up to 18446744073709551615, or `None` where no such slot is there.
     pub fn selector_failed_rebuilds<W: Wait>(&self, rt: &W, slot: usize) -> Option<u64>
         ensures { Seen (arc_value self.now.shared).core (λ v. After v
             (λ made e. result ≡ at_slot made slot (failed (past_of slot (slot_events e))))) }
@@ -123,7 +127,7 @@ impl<
         Some(counts.failed)
     }
 
-    /// How long the last accepted update took; `None` before the first.
+    /// Returns how long the last accepted update took; `None` before the first.
     pub fn last_update_timing<W: Wait>(&self, rt: &W) -> Option<UpdateTimings> {
         *self.timing.lock(rt)
     }

@@ -1,4 +1,4 @@
-//! A group in the background: its workers, its updates on their schedule, its checks where it owns them, and its notifier.
+//! Runs a group in the background: its workers, its updates on their schedule, its checks where it owns them, and its notifier.
 ghost use Rattle.std.specs.Prelude.{[], OnErr};
 ghost use Rattle.lb_health_registry.specs.Registry.{IsGrowthRefusal};
 ghost use Rattle.lb_background.specs.History.{IsAfter};
@@ -39,8 +39,9 @@ where
     S::Config: Send + Sync + 'static,
     S::Walk: Send + Sync + 'static,
 {
-    /// Starts a worker for each slot that has none, and answers how many couldn't be started; their slots wait for the next call. Each
-    /// worker reads a copy of the clock, and ends once the group is cancelled and what its slot retired is destroyed and reported.
+    /// Starts a worker for each slot that has none. Returns how many couldn't be started; their slots wait for the next call.
+    ///
+    /// Each worker reads a copy of the clock, and ends once the group is cancelled and what its slot retired is destroyed and reported.
     pub fn start_workers<
         W: Log + Threads + Wait + Copy + Send + 'static,
         K: MomentSource + Copy + Send + 'static,
@@ -60,12 +61,13 @@ where
     S::Config: Send + Sync + 'static,
     S::Walk: Send + Sync + 'static,
 {
-    /// Applies the marks that wait in the registry, and then checks each of its targets once, if a check is set; beside each other where
-    /// `parallel_health_check` says so.
+    /// Checks each target of the registry once, if a check is set, after it applied the marks that wait in the registry.
+    ///
+    /// The checks run at the same time where `parallel_health_check` says so.
     ///
     /// # Errors
     ///
-    /// As `HealthRegistry::run_health_check`, before the first check.
+    /// Those of `HealthRegistry::run_health_check`, before the first check.
     pub fn run_health_check<W: Log + Threads + Wait + Sync>(
         &self,
         rt: &W,
@@ -77,10 +79,11 @@ where
             .run_health_check(rt, alloc, self.parallel_health_check)
     }
 
-    /// Updates the group and, where it owns them, runs the checks of its registry, each on its schedule, until all that was to be done is
-    /// done or the watch tells that the run is to end; an update, a check or a build that is under way then is let end. At each turn the
-    /// missing workers are started. The notifier is told once each slot serves what was updated last. An update that is refused is
-    /// logged, and a pass of checks that is refused counts as one.
+    /// Updates the group and, where it owns them, runs the checks of its registry, each on its schedule.
+    ///
+    /// It returns when all was done, or when the watch says that the run is to end; an update, a check or a build that is under way then
+    /// goes on to its end. At each turn the missing workers are started. The notifier is called once each slot serves what was updated
+    /// last. An update that is refused is logged, and a pass of checks that is refused counts as one.
     pub fn run<
         W: Log + Threads + Wait + Copy + Send + Sync + 'static,
         K: MomentSource + Copy + Send + 'static,
@@ -166,11 +169,11 @@ where
     clock: &'c mut K,
     watch: &'w ShutdownWatch,
     notifier: Option<ServiceReadyNotifier>,
-    // The least generation that the run was told last.
+    // The least generation that the run was given last.
     told: u64,
 }
 
-// Of what other threads change nothing is said: what the slots serve, the registry, and what the watch tells.
+// Nothing is said of what other threads change: what the slots serve, the registry, and what the watch says.
 impl<
     'r,
     'g,

@@ -1,4 +1,4 @@
-//! Starting the workers of a group that threads share.
+//! Starts the workers of a group that threads share.
 
 use lb_health_check::health_check::HealthCheck;
 use lb_health_registry::keys::KeyRule;
@@ -12,7 +12,7 @@ use std::sync::{Arc, Wait};
 use std::thread;
 use std::thread::Threads;
 
-/// Starts a worker for each slot that has none, and answers how many couldn't be started. Each reads a copy of the clock.
+/// Starts a worker for each slot that has none, which reads a copy of the clock. Returns how many couldn't be started.
 pub fn start_workers<
     S: BackendSelection + Send + Sync + 'static,
     R: KeyRule + Drop + Send + Sync + 'static,
@@ -32,8 +32,9 @@ where
     )
 }
 
-/// Starts by `starts`, which answers whether it could, a worker for each slot that has none. Answers how many couldn't be started; their
-/// slots have none then.
+/// Starts by `starts` a worker for each slot that has none. Returns how many couldn't be started; their slots have none then.
+///
+/// `starts` returns whether it could start one.
 pub fn start_workers_by<
     S: BackendSelection,
     R: KeyRule + Drop,

@@ -1,5 +1,5 @@
-//! How many readings of the newest generation threads make beside updates: `board READERS READINGS [times]`. `bench/board` compares it with
-//! plain loads of a word.
+//! How many readings of the newest generation threads make while updates go on: `board READERS READINGS [times]`. `bench/board` compares
+//! it with plain loads of a word.
 ghost use Rattle.std.specs.Prelude.{◌≡◌};
 
 use crate::words::{number_at, print_line};

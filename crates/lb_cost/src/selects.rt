@@ -57,7 +57,7 @@ fn selected<S: BackendSelection>(
 }
 
 impl Line<'_> {
-    // The run of a line's words. A weight that is no number stands for mixed ones.
+    // The run of a line's words. A weight that is no number means mixed ones.
     fn of(line: &str) -> Option<Line<'_>> {
         let mut words = line.split(' ');
         let kind = words.next()?;

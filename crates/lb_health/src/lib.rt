@@ -1,5 +1,5 @@
-//! Health of backends: what a check is, the checks over TCP and HTTP, the registry of cells, views with their discovery, and passes.
-//! Each part is a crate of its own (`lb_health_check`, `lb_health_http`, `lb_health_registry`, `lb_health_view`); this one passes them on.
+//! Health of backends: what a check is, the checks over TCP and HTTP, the registry of cells, views with their discovery, and passes. Each
+//! part is a crate of its own (`lb_health_check`, `lb_health_http`, `lb_health_registry`, `lb_health_view`); this one re-exports them.
 #![tactic(auto)]
 
 #[cfg(test)]

@@ -1,7 +1,8 @@
 -- Faults of a check: their numbers, and their names without what they carry.
 use Rattle.std.specs.Prelude.{ℕ, List, codes}
 use Rattle.lb_health_check.specs.declared.error.CheckError.{CheckError}
-use Rattle.lb_health_check.specs.declared.error.CheckError.TheVariants.{Connect, Write, Read, BadHead, HeadTooLarge, Interim, Status, Rejected}
+use Rattle.lb_health_check.specs.declared.error.CheckError.TheVariants.{Connect, Write, Read, BadHead, HeadTooLarge, Interim, Status}
+use Rattle.lb_health_check.specs.declared.error.CheckError.TheVariants.{Rejected}
 use Rattle.lb_health_check.specs.declared.error.CheckError.TheVariants.{BadFraming, EndInMessage, BodyTooLarge, OutOfMemory}
 
 -- the number of a fault

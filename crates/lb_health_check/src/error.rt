@@ -1,5 +1,4 @@
-//! Why a check failed, by name and number.
-//! The log line of a backend that becomes unhealthy tells the name alone.
+//! Why a check failed, by name and number. The log line of a backend that becomes unhealthy has the name alone.
 ghost use Rattle.std.specs.Prelude.{◌≡◌};
 ghost use Rattle.lb_health_check.specs.Faults.{fault_number, fault_name};
 
@@ -34,7 +33,7 @@ pub enum CheckError {
     /// 8: the validator refused the head.
     #[error("Rejected")]
     Rejected,
-    /// 9: the fields that tell where the body ends contradict each other, or the body is not framed as they tell.
+    /// 9: the fields that say where the body ends contradict each other, or the body is not framed as they say.
     #[error("BadFraming")]
     BadFraming,
     /// 10: the stream ended before the message did.
@@ -49,7 +48,7 @@ pub enum CheckError {
 }
 
 impl CheckError {
-    /// The number of the fault, 1 to 12.
+    /// Returns the number of the fault, 1 to 12.
     pub fn number(&self) -> u64
         ensures { result ≡ fault_number self.now }
     {
@@ -69,7 +68,7 @@ impl CheckError {
         }
     }
 
-    /// The name of the fault, without what it carries.
+    /// Returns the name of the fault, without what it carries.
     pub fn name(&self) -> &'static str
         ensures { result.now ≡ fault_name self.now }
     {

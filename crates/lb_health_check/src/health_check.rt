@@ -1,5 +1,5 @@
-//! What a check of a backend is, and what it is told.
-//! A check over the network holds the network that it is lent, its observer and its summary as type parameters of its own.
+//! The trait of a check of backends, its observers and its summaries. A check over the network contains the network that it uses, its
+//! observer and its summary as type parameters of its own.
 ghost use Rattle.std.specs.Prelude.{◌≡◌, ℕ, Bool, IfOk, OnErr, Err, string_bytes};
 ghost use Rattle.lb_select_base.specs.AddressText.{member_text};
 ghost use Rattle.lb_select_base.specs.declared.refusal.Refusal.{Refusal};
@@ -19,16 +19,17 @@ pub trait HealthCheck {
     /// Checks the backend: `Ok` where it is healthy, and otherwise why it is not.
     fn check(&self, alloc: Global, target: &Backend) -> Result<(), CheckError>;
 
-    /// Is told that the backend became healthy, or unhealthy. By default it does nothing.
+    /// Reports that the backend became healthy, or unhealthy. By default it does nothing.
     fn health_status_change(&self, _target: &Backend, _healthy: bool) {}
 
-    /// How log lines name the backend: by default its address, a slash and its weight. Where it is refused, the line is left
-    /// out.
+    /// Returns how log lines name the backend: by default its address, a slash and its weight.
+    ///
+    /// Where it is refused, the line is left out.
     fn backend_summary(&self, alloc: Global, target: &Backend) -> Result<String, Refusal> {
         identity_summary(alloc, target)
     }
 
-    /// How many verdicts of this kind in a row change the health of a backend; 0 acts as 1.
+    /// Returns how many verdicts of this kind in a row change the health of a backend; 0 acts as 1.
     fn health_threshold(&self, success: bool) -> usize
         ensures { result ≡ threshold self.now success };
 }
@@ -56,9 +57,9 @@ impl HealthCheck for BoxedCheck {
     }
 }
 
-/// Is told of changes of health.
+/// An observer of changes of health.
 pub trait HealthObserve {
-    /// The backend became healthy, or unhealthy.
+    /// Takes the report that the backend became healthy, or unhealthy.
     fn observe(&self, target: &Backend, healthy: bool);
 }
 
@@ -73,7 +74,9 @@ impl HealthObserve for HealthObserveCallback {
 
 /// How a check names a backend in log lines.
 pub trait BackendSummary {
-    /// The text for the backend. Refused `OutOfMemory` where there is no room for it.
+    /// Returns the text for the backend.
+    ///
+    /// Refused `OutOfMemory` where there is no room for it.
     fn summary(&self, alloc: Global, target: &Backend) -> Result<String, Refusal>;
 }
 
@@ -90,7 +93,9 @@ impl BackendSummary for IdentitySummary {
     }
 }
 
-/// An address, a slash and a weight: the backend's identity as text. Refused `OutOfMemory` where there is no room for it.
+/// Returns an address, a slash and a weight: the backend's identity as text.
+///
+/// Refused `OutOfMemory` where there is no room for it.
 pub fn identity_summary(alloc: Global, target: &Backend) -> Result<String, Refusal>
     ensures text { IfOk result (λ text. string_bytes text ≡ member_text target.now) }
     ensures refused { OnErr result (result ≡ Err OutOfMemory) }

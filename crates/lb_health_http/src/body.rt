@@ -12,7 +12,9 @@ use lb_stream::counted::Counted;
 use std::alloc::Global;
 use std::io::Read;
 
-/// Passes over so many bytes. Faults: `Read`, `EndInMessage`.
+/// Passes over so many bytes.
+///
+/// Faults: `Read`, `EndInMessage`.
 pub(crate) fn skip<R: Read>(reader: &mut Counted<R>, length: u64) -> Result<(), CheckError>
     ensures outcome { OnBytes (R.remaining (inner_of reader.old)) (R.remaining (inner_of reader.new)) (SkipOutcome length result) }
     ensures own { result ≢ Err CheckError.Write }
@@ -67,8 +69,9 @@ fn read_to_end<R: Read>(reader: &mut Counted<R>, limit: u64) -> Result<(), Check
     }
 }
 
-/// Passes over the body and no byte after it. `limit` is the most bytes that it may have. Faults: `Read`, `BadFraming`,
-/// `EndInMessage`, `BodyTooLarge`, `OutOfMemory`.
+/// Passes over the body and no byte after it.
+///
+/// `limit` is the most bytes that it may have. Faults: `Read`, `BadFraming`, `EndInMessage`, `BodyTooLarge`, `OutOfMemory`.
 pub(crate) fn read_body<R: Read>(
     alloc: Global,
     reader: &mut Counted<R>,

@@ -64,8 +64,9 @@ fn next_chunk<R: Read>(alloc: Global, reader: &mut Counted<R>, room: u64) -> Res
     }
 }
 
-/// Passes over a body in chunks, its trailers and the empty line after them. Faults: `Read`, `BadFraming`, `EndInMessage`,
-/// `BodyTooLarge` at the line of the chunk that would pass the limit, `OutOfMemory`.
+/// Passes over a body in chunks, its trailers and the empty line after them.
+///
+/// Faults: `Read`, `BadFraming`, `EndInMessage`, `BodyTooLarge` at the line of the chunk that would pass the limit, `OutOfMemory`.
 pub(crate) fn read_chunked<R: Read>(
     alloc: Global,
     reader: &mut Counted<R>,

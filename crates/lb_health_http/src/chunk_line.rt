@@ -72,7 +72,7 @@ fn number_of(digits: &[u8]) -> u64
     number
 }
 
-// Whether what stands behind the digits and the spaces of a line ends it: `;` and a text, or nothing, and then CR LF.
+// Whether what follows the digits and the spaces of a line ends it: `;` and a text, or nothing, and then CR LF.
 fn ends_line(rest: &[u8]) -> bool
     requires { IsLineText rest.now }
     ensures { MatchBool result (EndsChunkLine rest.now) (¬ (EndsChunkLine rest.now)) }

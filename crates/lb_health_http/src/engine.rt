@@ -1,4 +1,4 @@
-//! One exchange: the request is written and one answer is read, whole and framed, or the fault is told.
+//! One exchange: the request is written and one answer is read, whole and framed, or the fault is returned.
 ghost use Rattle.std.specs.Prelude.{◌≡◌, ◌≢◌, ℕ, List, false, true, is_some, OnOk};
 ghost use Rattle.std.specs.Io.KnownBytes.{Appends};
 ghost use Rattle.http.specs.Request.{head_of};
@@ -71,16 +71,15 @@ fn read_answer<V: Validate, R: Read>(
     answer(alloc, head_alone, validator, max_body_bytes, reader)
 }
 
-/// Writes the request and reads one answer.
+/// Writes the request and reads one answer: `Ok` exactly for a whole, framed message that is accepted.
 ///
-/// `Ok` where the stream begins with a whole message whose status isn't below 200, whose head the validator accepts (without
-/// one, whose status is 200), and whose body has at most `max_body_bytes` bytes. Then the request's bytes were written and
-/// flushed, and no byte after the message was read. Faults: `Write` and `Read` where the device failed, `OutOfMemory` where a growth was
-/// refused, and otherwise what the answer is at fault with, which `CheckError` tells; no other fault is answered to a good
-/// answer. What was read and written stays so.
+/// The stream then begins with a whole message whose status isn't below 200, whose head the validator accepts (without one, whose status
+/// is 200), and whose body has at most `max_body_bytes` bytes. The request's bytes were written and flushed, and no byte after the message
+/// was read. Faults: `Write` and `Read` where the device failed, `OutOfMemory` where a growth was refused, and otherwise what is wrong
+/// with the answer, as `CheckError` says; no other fault is returned for a good answer. What was read and written stays so.
 ///
-/// The caller owes streams of which no call has failed yet. A reader over a device belongs in a buffer, since the head is
-/// read byte by byte.
+/// The caller gives streams of which no call has failed yet. A reader over a device belongs in a buffer, since the head is read byte by
+/// byte.
 pub fn check_over<V: Validate, R: Read, W: Write>(
     alloc: Global,
     req: &Request<()>,

@@ -1,5 +1,5 @@
-//! How the body of an answer is framed, by its head.
-//! Fields that contradict each other frame nothing: a repeated length, a length beside a transfer coding, an unknown coding.
+//! How the body of an answer is framed, by its head. Fields that contradict each other frame nothing: a repeated length, a length together
+//! with a transfer coding, an unknown coding.
 ghost use Rattle.std.specs.Prelude.{◌≡◌, ◌∷◌, []};
 ghost use Rattle.lb_health_http.specs.Framing.{Finds, framing_of, length_value};
 
@@ -56,8 +56,9 @@ fn length_of(digits: &[u8]) -> Option<u64>
     Some(value)
 }
 
-/// Returns how the head frames its body, or `None` where it contradicts itself. `minor` is the minor number of the version, and
-/// `is_head` says that the request asked for the head alone.
+/// Returns how the head frames its body, or `None` where it contradicts itself.
+///
+/// `minor` is the minor number of the version, and `is_head` says that the request asked for the head alone.
 pub(crate) fn frame(is_head: bool, minor: u8, head: &Parts) -> Option<Framing>
     ensures { result ≡ framing_of is_head minor head.now }
 {

@@ -34,9 +34,9 @@ pub struct HttpHealthCheck<N, V = AcceptStatus, O = NoObserver, S = IdentitySumm
     pub consecutive_success: usize,
     /// How many failures in a row make a backend unhealthy; 0 acts as 1.
     pub consecutive_failure: usize,
-    /// How long it waits.
+    /// How long it waits for its peer.
     pub peer_template: HttpPeer,
-    /// What is asked.
+    /// The request that is sent.
     pub req: Request<()>,
     /// What is accepted; without a validator the status 200.
     pub validator: Option<V>,
@@ -44,16 +44,18 @@ pub struct HttpHealthCheck<N, V = AcceptStatus, O = NoObserver, S = IdentitySumm
     pub max_body_bytes: u64,
     /// The port that is checked in place of the backend's own. It means nothing to a Unix socket.
     pub port_override: Option<u16>,
-    /// What is told when the health of a backend changes.
+    /// The observer of changes of a backend's health.
     pub health_changed_callback: Option<O>,
     /// How log lines name a backend.
     pub backend_summary_callback: S,
 }
 
 impl<N> HttpHealthCheck<N> {
-    /// Returns a check over that network that asks `host` for `/`: thresholds of 1, a second to connect and for each read, no
-    /// limit for writes, a body of at most 1048576 bytes, no validator, no other port and no observer. Refused
-    /// `InvalidAddress` exactly where the host is no header value, and `OutOfMemory`.
+    /// Returns a check over that network that asks `host` for `/`.
+    ///
+    /// Its thresholds are 1; it waits a second to connect and for each read, and has no limit for writes; a body has at most 1048576
+    /// bytes. It has no validator, no other port and no observer. Refused `InvalidAddress` exactly where the host is no header value, and
+    /// `OutOfMemory`.
     pub fn new(alloc: Global, net: N, host: &str) -> Result<HttpHealthCheck<N>, Refusal>
     where
         N: Drop,
@@ -171,9 +173,9 @@ impl<N, V: Drop, O: Drop, S: Drop> HttpHealthCheck<N, V, O, S> {
 }
 
 impl<N, V: Validate, O, S> HttpHealthCheck<N, V, O, S> {
-    /// Writes this check's request and reads one answer, over any streams, with this check's validator and limit: `check_over`.
+    /// Writes this check's request and reads one answer, over any streams, as the function `check_over` does.
     ///
-    /// The caller owes streams of which no call has failed yet.
+    /// This check's validator and limit hold. The caller gives streams of which no call has failed yet.
     pub fn check_over<R: Read, W: Write>(
         &self,
         alloc: Global,

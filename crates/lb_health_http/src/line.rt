@@ -10,8 +10,9 @@ use lb_stream::counted::Counted;
 use std::alloc::Global;
 use std::io::Read;
 
-/// Reads a line of at most `most` bytes, with its line feed. Faults: `Read`, `BadFraming` where the line is longer,
-/// `EndInMessage`, `OutOfMemory`.
+/// Reads a line of at most `most` bytes, with its line feed.
+///
+/// Faults: `Read`, `BadFraming` where the line is longer, `EndInMessage`, `OutOfMemory`.
 pub(crate) fn read_line<R: Read>(
     alloc: Global,
     reader: &mut Counted<R>,
@@ -42,7 +43,9 @@ pub(crate) fn read_line<R: Read>(
     Err(CheckError::BadFraming)
 }
 
-/// Reads one byte, which must be that one. Faults: `Read`, `BadFraming`, `EndInMessage`.
+/// Reads one byte, which must be that one.
+///
+/// Faults: `Read`, `BadFraming`, `EndInMessage`.
 pub(crate) fn expect<R: Read>(reader: &mut Counted<R>, byte: u8) -> Result<(), CheckError>
     ensures outcome { OnBytes (R.remaining (inner_of reader.old)) (R.remaining (inner_of reader.new)) (ExpectOutcome byte result) }
     ensures own { result ≢ Err CheckError.Write }

@@ -76,7 +76,9 @@ pub(crate) fn with_port(addr: InetAddr, port: Option<u16>) -> InetAddr
     }
 }
 
-/// Connects to an internet address. Fault: `Connect`, also where the limit is exceeded.
+/// Connects to an internet address.
+///
+/// Fault: `Connect`, also where the limit is exceeded.
 pub(crate) fn connect<N: Net<Stream = TcpStream>>(
     net: &N,
     addr: InetAddr,
@@ -90,7 +92,9 @@ pub(crate) fn connect<N: Net<Stream = TcpStream>>(
     connected.map_err(|_| CheckError::Connect)
 }
 
-/// Connects to a Unix socket. Fault: `Connect`.
+/// Connects to a Unix socket.
+///
+/// Fault: `Connect`.
 pub(crate) fn connect_unix<N: Net>(net: &N, path: &str) -> Result<UnixStream, CheckError> {
     UnixStream::connect(net, path).map_err(|_| CheckError::Connect)
 }

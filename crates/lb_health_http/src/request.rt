@@ -17,8 +17,9 @@ use lb_stream::counted::Counted;
 use std::alloc::{AllocError, Global};
 use std::io::Write;
 
-/// Returns the request for `/` of that host, with that method. Refused `InvalidAddress` where the host is no header value,
-/// `OutOfMemory` where there is no room for it.
+/// Returns the request for `/` of that host, with that method.
+///
+/// Refused `InvalidAddress` where the host is no header value, `OutOfMemory` where there is no room for it.
 pub fn request_for(alloc: Global, method: Method, host: &str) -> Result<Request<()>, Refusal>
     ensures text { IfOk result (λ req. text_of (head_of req) ≡ default_text method host.now) }
     ensures invalid { result ≡ Err Refusal.InvalidAddress ↔ ¬ (IsFieldValue host.now) }
@@ -37,7 +38,9 @@ pub fn request_for(alloc: Global, method: Method, host: &str) -> Result<Request<
     }
 }
 
-/// Returns the request's bytes. A URI that shows no path asks for `/`.
+/// Returns the request's bytes.
+///
+/// A URI that shows no path asks for `/`.
 pub(crate) fn request_bytes(alloc: Global, req: &Request<()>) -> Result<Vec<u8>, AllocError>
     ensures { IfOk result (λ text. text.items ≡ text_of (head_of req.now)) }
 {
@@ -74,7 +77,9 @@ pub(crate) fn is_head(req: &Request<()>) -> bool
     req.method().as_str().as_bytes() == b"HEAD".as_slice()
 }
 
-/// Writes the bytes and flushes the writer. Fault: `Write`, with some front of the bytes written.
+/// Writes the bytes and flushes the writer.
+///
+/// Fault: `Write`, with some front of the bytes written.
 pub(crate) fn send<W: Write>(writer: &mut Counted<W>, text: &[u8]) -> Result<(), CheckError>
     ensures ok { OnOk result (Appends (W.contents (inner_of writer.old)) (W.contents (inner_of writer.new)) text.now) }
     ensures part { OnErr result (AppendsFront (W.contents (inner_of writer.old)) (W.contents (inner_of writer.new)) text.now) }

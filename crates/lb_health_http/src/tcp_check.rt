@@ -18,9 +18,9 @@ pub struct TcpHealthCheck<N, O = NoObserver, S = IdentitySummary> {
     pub consecutive_success: usize,
     /// How many failures in a row make a backend unhealthy; 0 acts as 1.
     pub consecutive_failure: usize,
-    /// How long it waits.
+    /// How long it waits for its peer.
     pub peer_template: BasicPeer,
-    /// What is told when the health of a backend changes.
+    /// The observer of changes of a backend's health.
     pub health_changed_callback: Option<O>,
     summary: S,
 }

@@ -29,7 +29,9 @@ fn is_trailer(line: &[u8]) -> bool
     true
 }
 
-/// Passes over the trailers and the empty line after them. Faults: `Read`, `BadFraming`, `EndInMessage`, `OutOfMemory`.
+/// Passes over the trailers and the empty line after them.
+///
+/// Faults: `Read`, `BadFraming`, `EndInMessage`, `OutOfMemory`.
 pub(crate) fn read_trailers<R: Read>(
     alloc: Global,
     reader: &mut Counted<R>,

@@ -1,5 +1,6 @@
 -- Starts and cells: equal keys have one cell, a change takes its keys one by one, and what it keeps of the cells before it.
-use Rattle.std.proofs.Common.{◌≡◌, ◌<◌, ◌≤◌, ◌+◌, ℕ, Bool, true, false, cond, not, ◌&&◌, ◌||◌, List, [], ◌∷◌, ◌++◌, length, reverse, filter, Option, Some, None, refl, sym, ap, ◌∙◌, arith, true≢false, length-append}
+use Rattle.std.proofs.Common.{◌≡◌, ◌<◌, ◌≤◌, ◌+◌, ℕ, Bool, true, false, cond, not, ◌&&◌, ◌||◌, List, [], ◌∷◌, ◌++◌, length, reverse, filter}
+use Rattle.std.proofs.Common.{Option, Some, None, refl, sym, ap, ◌∙◌, arith, true≢false, length-append}
 use Rattle.std.proofs.Math.Bool.{or-false}
 use Rattle.std.proofs.lemmas.List.{reverse-append, length-reverse}
 use Rattle.std.proofs.lemmas.List.Elements.{filter-append}
@@ -41,7 +42,8 @@ pub record IsAbove (n : ℕ) (o : Option ℕ) : Type 0 where
   pub is : o ≡ Some number
   pub above : n ≤ number
 
-above_by : (b : Bool) (n m : ℕ) (o : Option ℕ) (any : Bool) → (b || any) ≡ true → m ≤ n → (any ≡ true → IsAbove m o) → IsAbove m (cond b (Some n) o)
+above_by : (b : Bool) (n m : ℕ) (o : Option ℕ) (any : Bool) → (b || any) ≡ true → m ≤ n → (any ≡ true → IsAbove m o)
+    → IsAbove m (cond b (Some n) o)
 above_by true n m o any e l h = record { number = n; is = refl; above = l }
 above_by false n m o any e l h = h e
 
@@ -68,13 +70,15 @@ module _ {K : Type 0} {same : K → K → Bool} (laws : IsEquivalence same) wher
   latest_past : (ys ss : List K) (k : K) → list_any (same k) ys ≡ false → latest_start same (ys ++ ss) k ≡ latest_start same ss k
   latest_past [] ss k e = refl
   latest_past (y ∷ ys) ss k e =
-      past_by (same k y) (length (ys ++ ss)) (latest_start same (ys ++ ss) k) (latest_start same ss k) (list_any (same k) ys) e (latest_past ys ss k)
+      past_by (same k y) (length (ys ++ ss)) (latest_start same (ys ++ ss) k) (latest_start same ss k) (list_any (same k) ys) e
+      (latest_past ys ss k)
 
   -- a start of the key itself has a higher number than all before
   latest_above : (ys ss : List K) (k : K) → list_any (same k) ys ≡ true → IsAbove (length ss) (latest_start same (ys ++ ss) k)
   latest_above [] ss k e = absurd (cc)
   latest_above (y ∷ ys) ss k e =
-      above_by (same k y) (length (ys ++ ss)) (length ss) (latest_start same (ys ++ ss) k) (list_any (same k) ys) e (omega (arith, length-append ys ss)) (latest_above ys ss k)
+      above_by (same k y) (length (ys ++ ss)) (length ss) (latest_start same (ys ++ ss) k) (list_any (same k) ys) e
+      (omega (arith, length-append ys ss)) (latest_above ys ss k)
 
   -- the keys that start are those of the change that were no targets
   new_starts :
@@ -133,7 +137,8 @@ module _ {K : Type 0} {same : K → K → Bool} (laws : IsEquivalence same) wher
       let now = cond_is (is_target same (keys ∷ all) k) (latest_start same (starts same (keys ∷ all)) k) c e in
       either (is_target same all k)
       (λ t. ap (λ b. cond b (latest_start same (starts same all) k) None) t ∙ sym (latest-kept all keys k t) ∙ now.1)
-      (λ f. let high = latest-fresh all keys k f now.0 in absurd (omega (arith, high.above, same_Some high.number c (sym high.is ∙ now.1), l)))
+      (λ f. let high = latest-fresh all keys k f now.0
+      in absurd (omega (arith, high.above, same_Some high.number c (sym high.is ∙ now.1), l)))
 
   pushed_by :
       (t : Bool) (x : K) (r s : List K)
@@ -172,7 +177,8 @@ module _ {K : Type 0} {same : K → K → Bool} (laws : IsEquivalence same) wher
       (all : List (List K)) (xs : List K) (x : K)
       → latest_start same (starts same ((xs ++ x ∷ []) ∷ all)) x ≡ number_of all xs x
   latest_itself all xs x =
-      let push : latest_start same (starts same ((xs ++ x ∷ []) ∷ all)) x ≡ latest_start same (cond (is_target same all x) (starts same (xs ∷ all)) (x ∷ starts same (xs ∷ all))) x
+      let push : latest_start same (starts same ((xs ++ x ∷ []) ∷ all)) x ≡ latest_start same
+      (cond (is_target same all x) (starts same (xs ∷ all)) (x ∷ starts same (xs ∷ all))) x
       = ap (λ ss. latest_start same ss x) (starts-push all xs x) in
       either (is_target same all x)
       (λ t.

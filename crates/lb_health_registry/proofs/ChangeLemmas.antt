@@ -1,5 +1,6 @@
 -- Changes of the views: the marks that are applied, the membership of one view, and the cells that its snapshot holds.
-use Rattle.std.proofs.Common.{◌≡◌, ◌+◌, ℕ, zero, suc, ◌==◌, Bool, true, false, cond, not, ◌&&◌, ◌||◌, List, [], ◌∷◌, map, length, filter, fold, position, set, Option, Some, None, refl, sym, ap, subst, ◌∙◌, arith, true≢false, nat_lt}
+use Rattle.std.proofs.Common.{◌≡◌, ◌+◌, ℕ, zero, suc, ◌==◌, Bool, true, false, cond, not, ◌&&◌, ◌||◌, List, [], ◌∷◌, map, length, filter}
+use Rattle.std.proofs.Common.{fold, position, set, Option, Some, None, refl, sym, ap, subst, ◌∙◌, arith, true≢false, nat_lt}
 use Rattle.std.specs.BTreeMap.{insert_entry}
 use Rattle.std.specs.BTreeSet.{insert_key}
 use Rattle.std.specs.List.{list_any, filter_map, cons_option, prefix_len, slice_get, AllByRecursion as Each}
@@ -44,14 +45,16 @@ pub live-at_view :
 live-at_view id members [] = refl
 live-at_view id members (v ∷ vs) = by_view (is_view id v) refl v.marked refl (live-at_view id members vs) where
   by_view :
-      (b : Bool) → is_view id v ≡ b → (m : Bool) → v.marked ≡ m → live (at_view id (with_members members) vs) ≡ at_view id (with_members members) (live vs)
+      (b : Bool) → is_view id v ≡ b → (m : Bool) → v.marked ≡ m
+      → live (at_view id (with_members members) vs) ≡ at_view id (with_members members) (live vs)
       → live (cond b (with_members members v ∷ vs) (v ∷ at_view id (with_members members) vs))
       ≡ at_view id (with_members members) (cond (not m) (v ∷ live vs) (live vs))
   by_view true f true e ih = absurd (true≢false (sym e ∙ unmarked_by (v.id == id) v.marked f))
   by_view true f false e ih =
       ap (λ t. cond (not t) (with_members members v ∷ live vs) (live vs)) e
       ∙ sym (ap (λ t. cond t (with_members members v ∷ live vs) (v ∷ at_view id (with_members members) (live vs))) f)
-  by_view false f true e ih = ap (λ t. cond (not t) (v ∷ live (at_view id (with_members members) vs)) (live (at_view id (with_members members) vs))) e ∙ ih
+  by_view false f true e ih =
+      ap (λ t. cond (not t) (v ∷ live (at_view id (with_members members) vs)) (live (at_view id (with_members members) vs))) e ∙ ih
   by_view false f false e ih =
       ap (λ t. cond (not t) (v ∷ live (at_view id (with_members members) vs)) (live (at_view id (with_members members) vs))) e
       ∙ ap (λ ys. v ∷ ys) ih
@@ -115,7 +118,8 @@ members_at see id xs place x found at =
 pub at_nowhere : (id : ℕ) (f : ViewValue → ViewValue) (vs : List ViewValue) → has_view id vs ≡ false → at_view id f vs ≡ vs
 at_nowhere id f [] e = refl
 at_nowhere id f (v ∷ vs) e = nowhere_by (is_view id v) e (at_nowhere id f vs) where
-  nowhere_by : (b : Bool) → (b || has_view id vs) ≡ false → (has_view id vs ≡ false → at_view id f vs ≡ vs) → cond b (f v ∷ vs) (v ∷ at_view id f vs) ≡ v ∷ vs
+  nowhere_by : (b : Bool) → (b || has_view id vs) ≡ false → (has_view id vs ≡ false → at_view id f vs ≡ vs)
+      → cond b (f v ∷ vs) (v ∷ at_view id f vs) ≡ v ∷ vs
   nowhere_by true e ih = absurd (true≢false e)
   nowhere_by false e ih = ap (λ ws. v ∷ ws) (ih e)
 
@@ -163,11 +167,13 @@ has_live id (v ∷ vs) = by_mark v.marked refl (has_live id vs) where
   by_mark :
       (m : Bool) → v.marked ≡ m → has_view id (live vs) ≡ has_view id vs
       → has_view id (cond (not m) (v ∷ live vs) (live vs)) ≡ (is_view id v || has_view id vs)
-  by_mark true e ih = ih ∙ sym (ap (λ b. ((v.id == id) && not b) || has_view id vs) e ∙ ap (λ b. b || has_view id vs) (and_false (v.id == id)))
+  by_mark true e ih = ih ∙ sym (ap (λ b. ((v.id == id) && not b) || has_view id vs) e
+      ∙ ap (λ b. b || has_view id vs) (and_false (v.id == id)))
   by_mark false e ih = ap (λ b. is_view id v || b) ih
 
 module _ (P : ℕ → Type 0) where
-  each-insert_entry : (es : List (Member × ℕ)) (k : Member) (v : ℕ) → Each P (values_of es) → P v → Each P (values_of (insert_entry member_cmp es k v))
+  each-insert_entry : (es : List (Member × ℕ)) (k : Member) (v : ℕ) → Each P (values_of es) → P v
+      → Each P (values_of (insert_entry member_cmp es k v))
   each-insert_entry [] k v all it = (it, tt)
   each-insert_entry (e ∷ es) k v all it = inserted (member_cmp k e.0) (each-insert_entry es k v all.1 it) where
     inserted :
@@ -181,12 +187,14 @@ module _ (P : ℕ → Type 0) where
       (pairs : List (Member × ℕ)) (es : List (Member × ℕ)) → Each P (values_of es) → Each (λ p. P p.1) pairs
       → Each P (values_of (fold (λ entries p. insert_entry member_cmp entries p.0 p.1) es pairs))
   each-in_map [] es all more = all
-  each-in_map (p ∷ pairs) es all more = each-in_map pairs (insert_entry member_cmp es p.0 p.1) (each-insert_entry es p.0 p.1 all more.0) more.1
+  each-in_map (p ∷ pairs) es all more = each-in_map pairs (insert_entry member_cmp es p.0 p.1) (each-insert_entry es p.0 p.1 all more.0)
+      more.1
 
   each-insert_key : (xs : List ℕ) (x : ℕ) → Each P xs → P x → Each P (insert_key nat_cmp xs x)
   each-insert_key [] x all it = (it, tt)
   each-insert_key (y ∷ ys) x all it = inserted (nat_cmp x y) (each-insert_key ys x all.1 it) where
-    inserted : (o : Ordering) → Each P (insert_key nat_cmp ys x) → Each P (match_ordering o (x ∷ y ∷ ys) (y ∷ ys) (y ∷ insert_key nat_cmp ys x))
+    inserted : (o : Ordering) → Each P (insert_key nat_cmp ys x)
+        → Each P (match_ordering o (x ∷ y ∷ ys) (y ∷ ys) (y ∷ insert_key nat_cmp ys x))
     inserted Less ih = (it, (all.0, all.1))
     inserted Equal ih = all
     inserted Greater ih = (all.0, ih)
@@ -198,7 +206,8 @@ module _ (P : ℕ → Type 0) where
   each-any : (c : ℕ) (xs : List ℕ) → Each P xs → list_any (eq_by_cmp nat_cmp c) xs ≡ true → P c
   each-any c [] all e = absurd (cc)
   each-any c (x ∷ xs) all e = any_by (eq_by_cmp nat_cmp c x) refl e (each-any c xs all.1) where
-    any_by : (b : Bool) → eq_by_cmp nat_cmp c x ≡ b → (b || list_any (eq_by_cmp nat_cmp c) xs) ≡ true → (list_any (eq_by_cmp nat_cmp c) xs ≡ true → P c) → P c
+    any_by : (b : Bool) → eq_by_cmp nat_cmp c x ≡ b → (b || list_any (eq_by_cmp nat_cmp c) xs) ≡ true
+        → (list_any (eq_by_cmp nat_cmp c) xs ≡ true → P c) → P c
     any_by true t e ih = subst P (sym (eqb-true c x (sym (unsigned_tied c x) ∙ t))) all.0
     any_by false t e ih = ih e
 

@@ -1,5 +1,6 @@
 -- Which cells are kept through a history: those of a live snapshot until it is released, and none that was kept no longer.
-use Rattle.std.proofs.Common.{◌≡◌, ◌<◌, ◌≤◌, ℕ, ◌==◌, inl, inr, Bool, true, false, cond, not, ◌&&◌, ◌||◌, List, [], ◌∷◌, ◌++◌, filter, Option, Some, None, true≢false, refl, sym, ap, ◌∙◌, arith}
+use Rattle.std.proofs.Common.{◌≡◌, ◌<◌, ◌≤◌, ℕ, ◌==◌, inl, inr, Bool, true, false, cond, not, ◌&&◌, ◌||◌, List, [], ◌∷◌, ◌++◌, filter}
+use Rattle.std.proofs.Common.{Option, Some, None, true≢false, refl, sym, ap, ◌∙◌, arith}
 use Rattle.std.proofs.lemmas.List.Folds.{list_any-append}
 use Rattle.std.specs.List.{list_any}
 use Rattle.std.specs.Option.{IsSomeAnd, is_some}
@@ -8,7 +9,9 @@ use borrow.Author.Tests.{eqb-true}
 use Rattle.lb_select_base.specs.Backends.{Member, member_cmp, same_member}
 use Rattle.lb_health_registry.specs.CellEvents as cell
 use Rattle.lb_health_registry.specs.CellEvents.{CellEvent, Hold, is_hold_of, changes, holds_after, is_held, given_after, IsKept}
-use Rattle.lb_health_registry.specs.RegistryEvents.{Event, Registered, Applied, Updated, Marked, Observed, Held, Released, Configured, at_view, with_members, members_of, views_after, cell_events, cells_given, cells_by, cells_in, changes_after, held_cells, holds_cell, is_release, is_released, IsCellKept}
+use Rattle.lb_health_registry.specs.RegistryEvents.{Event, Registered, Applied, Updated, Marked, Observed, Held, Released, Configured}
+use Rattle.lb_health_registry.specs.RegistryEvents.{at_view, with_members, members_of, views_after, cell_events, cells_given, cells_by}
+use Rattle.lb_health_registry.specs.RegistryEvents.{cells_in, changes_after, held_cells, holds_cell, is_release, is_released, IsCellKept}
 use Rattle.lb_health_registry.specs.Targets.{live, target_keys}
 use Rattle.lb_health_registry.proofs.CellLemmas.{old_cell, starts-grow}
 use Rattle.lb_health_registry.proofs.ChangeLemmas.{cells_kept}
@@ -45,19 +48,22 @@ module _ (key_of : Member → Member) where
       last false e = e
 
       by_hold :
-          (b : Bool) → is_held c es ≡ b → (b || (list_any (eq_by_cmp nat_cmp c) (cells_in (cells_by key_of (changes es) members)) || false)) ≡ true
+          (b : Bool) → is_held c es ≡ b → (b || (list_any (eq_by_cmp nat_cmp c) (cells_in (cells_by key_of (changes es) members)) || false))
+          ≡ true
           → IsKept member_cmp es c
       by_hold true was e = inr was
       by_hold false was e = inl (cells_kept key_of (changes es) members c (last _ e))
 
   -- a release keeps no more
-  released_back : (es : List (CellEvent Member)) (id generation c : ℕ) → IsKept member_cmp (cell.Released id generation ∷ es) c → IsKept member_cmp es c
+  released_back : (es : List (CellEvent Member)) (id generation c : ℕ) → IsKept member_cmp (cell.Released id generation ∷ es) c
+      → IsKept member_cmp es c
   released_back es id generation c (inl h) = inl h
   released_back es id generation c (inr h) =
       inr (any-filtered (λ (x : Hold). list_any (eq_by_cmp nat_cmp c) x.cells) (λ x. not (is_hold_of id generation x)) (holds_after es) h)
 
   -- an event keeps no cell that has a number and wasn't kept
-  step_back : (e : Event) (events : List Event) (c : ℕ) → c < cells_given key_of events → IsCellKept key_of c (e ∷ events) → IsCellKept key_of c events
+  step_back : (e : Event) (events : List Event) (c : ℕ) → c < cells_given key_of events → IsCellKept key_of c (e ∷ events)
+      → IsCellKept key_of c events
   step_back Registered events c l h = h
   step_back Applied events c l h = changed_back (cell_events key_of events) (target_keys key_of (live (views_after events))) c l h
   step_back (Updated id members) events c l h =
@@ -85,13 +91,15 @@ module _ (key_of : Member → Member) where
   given_later (e ∷ later) events = omega (arith, given_later later events, given_more e (later ++ events))
 
   pub kept_all_along :
-      (later events : List Event) (c : ℕ) → c < cells_given key_of events → IsCellKept key_of c (later ++ events) → IsCellKept key_of c events
+      (later events : List Event) (c : ℕ) → c < cells_given key_of events → IsCellKept key_of c (later ++ events)
+      → IsCellKept key_of c events
   kept_all_along [] events c l h = h
   kept_all_along (e ∷ later) events c l h =
       kept_all_along later events c l (step_back e (later ++ events) c (omega (arith, l, given_later later events)) h)
 
 -- what passes a test and the filter is left
-any_left : {X : Type 0} (p q : X → Bool) (xs : List X) → ((x : X) → p x ≡ true → q x ≡ true) → list_any p xs ≡ true → list_any p (filter q xs) ≡ true
+any_left : {X : Type 0} (p q : X → Bool) (xs : List X) → ((x : X) → p x ≡ true → q x ≡ true) → list_any p xs ≡ true
+    → list_any p (filter q xs) ≡ true
 any_left p q [] h e = e
 any_left {X} p q (x ∷ xs) h e = left_by (p x) refl (q x) refl e (any_left p q xs h) where
   left_by :
@@ -134,7 +142,8 @@ module _ (key_of : Member → Member) where
   held_still id g c (Observed d v) events apart h = h
   held_still id g c (Held view generation) events apart h =
       let now : Hold = record { view = view; generation = generation; cells = held_cells key_of view events } in
-      list_any-append (holds id g c) (holds_after (cell_events key_of events)) (now ∷ []) ∙ ap (λ b. b || list_any (holds id g c) (now ∷ [])) h
+      list_any-append (holds id g c) (holds_after (cell_events key_of events)) (now ∷ [])
+      ∙ ap (λ b. b || list_any (holds id g c) (now ∷ [])) h
   held_still id g c (Released view generation) events apart h =
       any_left (holds id g c) (λ x. not (is_hold_of view generation x)) (holds_after (cell_events key_of events))
       (λ x. other_stays id g view generation c x apart) h
@@ -169,7 +178,8 @@ module _ (key_of : Member → Member) where
       ∙ ap (λ b. list_any (holds id g c) (holds_after (cell_events key_of events)) || (b || false)) it
       ∙ or_true (list_any (holds id g c) (holds_after (cell_events key_of events)))
 
-  held_is : (c : ℕ) (id g : ℕ) (hs : List Hold) → list_any (holds id g c) hs ≡ true → list_any (λ h. list_any (eq_by_cmp nat_cmp c) h.cells) hs ≡ true
+  held_is : (c : ℕ) (id g : ℕ) (hs : List Hold) → list_any (holds id g c) hs ≡ true
+      → list_any (λ h. list_any (eq_by_cmp nat_cmp c) h.cells) hs ≡ true
   held_is c id g [] e = e
   held_is c id g (h ∷ hs) e = is_by (holds id g c h) refl e (held_is c id g hs) where
     is_by :
@@ -185,6 +195,7 @@ module _ (key_of : Member → Member) where
   held_kept events id g c h = inr (held_is c id g (holds_after (cell_events key_of events)) h)
 
   pub snapshot_kept :
-      (events later : List Event) (id g c : ℕ) → list_any (eq_by_cmp nat_cmp c) (held_cells key_of id events) ≡ true → is_released id g later ≡ false
+      (events later : List Event) (id g c : ℕ) → list_any (eq_by_cmp nat_cmp c) (held_cells key_of id events) ≡ true
+      → is_released id g later ≡ false
       → holds_cell key_of id g c (later ++ Held id g ∷ events) ≡ true
   snapshot_kept events later id g c e apart = held_later later (Held id g ∷ events) id g c apart (held_now events id g c e)

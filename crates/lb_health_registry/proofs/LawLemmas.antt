@@ -1,5 +1,6 @@
 -- The laws: verdicts of different cells commute, targets keep their cells, numbers are new, and each target has a cell.
-use Rattle.std.proofs.Common.{◌≡◌, ◌≢◌, ◌≤◌, ℕ, ◌==◌, Bool, true, false, cond, ◌||◌, List, [], ◌∷◌, length, Option, Some, None, suc, true≢false, refl, sym, ap, subst, ◌∙◌}
+use Rattle.std.proofs.Common.{◌≡◌, ◌≢◌, ◌≤◌, ℕ, ◌==◌, Bool, true, false, cond, ◌||◌, List, [], ◌∷◌, length, Option, Some, None, suc}
+use Rattle.std.proofs.Common.{true≢false, refl, sym, ap, subst, ◌∙◌}
 use Rattle.std.proofs.lemmas.Map.Entries.{length-values_of}
 use Rattle.std.proofs.lemmas.Option.{same_Some}
 use Rattle.std.specs.declared.cmp.Ordering.{Ordering}
@@ -51,7 +52,8 @@ table-commutes cmp events c d v w t ne table =
       holds = table.holds;
       targets = table.targets;
       kept = λ e h.
-          let V : List Verdict → Type 0 = λ vs. IsSomeAnd (value_at nat_cmp t.cells e) (λ x. IsHealthAfter (start_of (eq_by_cmp cmp) e events) vs x.health) in
+          let V : List Verdict → Type 0 = λ vs. IsSomeAnd (value_at nat_cmp t.cells e)
+          (λ x. IsHealthAfter (start_of (eq_by_cmp cmp) e events) vs x.health) in
           subst V (verdicts-commute events c d e v w ne) (table.kept e h);
       ungiven = λ e l. (sym (verdicts-commute events c d e v w ne) ∙ (table.ungiven e l).0, (table.ungiven e l).1);
     }

@@ -1,5 +1,6 @@
 -- Where no mark waits, the targets are those that the last change left, so that another change to them starts nothing.
-use Rattle.std.proofs.Common.{◌≡◌, ℕ, Bool, true, false, cond, not, ◌||◌, List, [], ◌∷◌, ◌++◌, ◌+◌, length, reverse, filter, map, Option, Some, None, MatchOption, Bor, Vec, Global, vec_len, refl, sym, ap, ◌∙◌, true≢false}
+use Rattle.std.proofs.Common.{◌≡◌, ℕ, Bool, true, false, cond, not, ◌||◌, List, [], ◌∷◌, ◌++◌, ◌+◌, length, reverse, filter, map, Option}
+use Rattle.std.proofs.Common.{Some, None, MatchOption, Bor, Vec, Global, vec_len, refl, sym, ap, ◌∙◌, true≢false}
 use Rattle.std.proofs.lemmas.Grind.{flat_map-append}
 use Rattle.std.proofs.lemmas.List.{append-nil}
 use Rattle.std.proofs.lemmas.List.Folds.{list_any-append}
@@ -13,7 +14,9 @@ use Rattle.lb_select_base.specs.Backends.{Member}
 use Rattle.lb_select_base.specs.Unique.{distinct}
 use Rattle.lb_health_registry.specs.CellEvents.{CellEvent, Changed, changes}
 use Rattle.lb_health_registry.specs.Internal.Changing.{last_keys, left_of, IsStarted}
-use Rattle.lb_health_registry.specs.RegistryEvents.{Event, Registered, Applied, Updated, Marked, Observed, Held, Released, Configured, is_view, at_view, with_mark, new_view, registered_after, views_after, changes_after, cell_events}
+use Rattle.lb_health_registry.specs.RegistryEvents.{Event, Registered, Applied, Updated, Marked, Observed, Held, Released, Configured}
+use Rattle.lb_health_registry.specs.RegistryEvents.{is_view, at_view, with_mark, new_view, registered_after, views_after, changes_after}
+use Rattle.lb_health_registry.specs.RegistryEvents.{cell_events}
 use Rattle.lb_health_registry.specs.Starts.{starts, latest_start, cell_now, IsNumbered}
 use Rattle.lb_health_registry.specs.Table.{TableValue, IsTableAfter}
 use Rattle.lb_health_registry.specs.Targets.{ViewValue, view_value, candidates, candidates_of, same_key, in_order, live, target_keys}
@@ -43,16 +46,19 @@ all_live (v ∷ vs) e =
 unmarked_at : (id : ℕ) (views : List ViewValue) → marks_in (at_view id with_mark views) ≡ false → at_view id with_mark views ≡ views
 unmarked_at id [] e = refl
 unmarked_at id (v ∷ vs) e =
-    elim (is_view id v) as (λ b. marks_in (cond b (with_mark v ∷ vs) (v ∷ at_view id with_mark vs)) ≡ false → cond b (with_mark v ∷ vs) (v ∷ at_view id with_mark vs) ≡ v ∷ vs) [
+    elim (is_view id v) as (λ b. marks_in (cond b (with_mark v ∷ vs) (v ∷ at_view id with_mark vs)) ≡ false
+    → cond b (with_mark v ∷ vs) (v ∷ at_view id with_mark vs) ≡ v ∷ vs) [
       | true ↦ λ m. absurd (true≢false m)
       | false ↦ λ m. ap (λ ws. v ∷ ws) (unmarked_at id vs (or_second v.marked (marks_in (at_view id with_mark vs)) m))
     ] e
 
 -- a view without members has no targets
-new_targets : (key_of : Member → Member) (views : List ViewValue) (id : ℕ) → target_keys key_of (views ++ new_view id ∷ []) ≡ target_keys key_of views
+new_targets : (key_of : Member → Member) (views : List ViewValue) (id : ℕ)
+    → target_keys key_of (views ++ new_view id ∷ []) ≡ target_keys key_of views
 new_targets key_of views id =
     ap (λ cs. values_of (in_order (distinct same_key cs)))
-    (flat_map-append (λ (w : ViewValue). candidates_of key_of w.id w.members) views (new_view id ∷ []) ∙ append-nil (candidates key_of views))
+    (flat_map-append (λ (w : ViewValue). candidates_of key_of w.id w.members) views (new_view id ∷ [])
+    ∙ append-nil (candidates key_of views))
 
 -- the targets are those that the last change left
 pub left_keys :
@@ -62,7 +68,8 @@ left_keys key_of [] e = refl
 left_keys key_of (Registered ∷ events) e =
     new_targets key_of (views_after events) (registered_after events + 1)
     ∙ left_keys key_of events
-    (or_first (marks_in (views_after events)) _ (sym (list_any-append (λ (v : ViewValue). v.marked) (views_after events) (new_view (registered_after events + 1) ∷ [])) ∙ e))
+    (or_first (marks_in (views_after events)) _
+    (sym (list_any-append (λ (v : ViewValue). v.marked) (views_after events) (new_view (registered_after events + 1) ∷ [])) ∙ e))
 left_keys key_of (Applied ∷ events) e = refl
 left_keys key_of (Updated id members ∷ events) e = refl
 left_keys key_of (Marked id ∷ events) e =
@@ -75,7 +82,8 @@ left_keys key_of (Configured healthy ∷ events) e = left_keys key_of events e
 
 -- the keys that the marks leave, where they were asked for only if one waits
 pub left_is :
-    (Rule : (Member → Member) → Type 0) (key_of : Member → Member) (events : List Event) (items seen : List View) (marked : Option (Vec Member Global))
+    (Rule : (Member → Member) → Type 0) (key_of : Member → Member) (events : List Event) (items seen : List View)
+    (marked : Option (Vec Member Global))
     (o : Option (Bor (List Member)))
     → Rule key_of → map view_value items ≡ views_after events → seen ≡ items
     → MatchOption marked (list_any (λ (v : View). v.marked) seen ≡ false)
@@ -120,7 +128,8 @@ module _ {K : Type 0} {same : K → K → Bool} (laws : IsEquivalence same) wher
       ap (λ ks. starts same (ks ∷ now ∷ all)) e ∙ ap (λ ks. reverse ks ++ starts same (now ∷ all)) (none_new [] now)
 
   -- and leaves each cell
-  pub same_cells : (all : List (List K)) (keys : List K) → keys ≡ last_keys all → (k : K) → cell_now same (keys ∷ all) k ≡ cell_now same all k
+  pub same_cells : (all : List (List K)) (keys : List K) → keys ≡ last_keys all → (k : K)
+      → cell_now same (keys ∷ all) k ≡ cell_now same all k
   same_cells [] keys e k = ap (λ ks. cell_now same (ks ∷ []) k) e
   same_cells (now ∷ all) keys e k =
       ap (λ ks. cond (list_any (same k) ks) (latest_start same (starts same (keys ∷ now ∷ all)) k) None) e
@@ -135,7 +144,11 @@ module _ {K : Type 0} {cmp : K → K → Ordering} (total : IsTotalOrder cmp) wh
       (all : List (List K)) (keys : List K) (by_key : List (K × ℕ)) (next : ℕ) → keys ≡ last_keys all
       → IsNumbered cmp all by_key next → IsNumbered cmp (keys ∷ all) by_key next
   left-numbered all keys by_key next e n =
-      record { given = n.given ∙ ap length (sym (same_starts laws all keys e)); cells = λ q. n.cells q ∙ sym (same_cells laws all keys e q) }
+      record {
+        given = n.given ∙ ap length (sym (same_starts laws all keys e));
+        cells = λ q. n.cells q
+            ∙ sym (same_cells laws all keys e q);
+      }
 
   -- so it is the one after that change already
   pub started-left :

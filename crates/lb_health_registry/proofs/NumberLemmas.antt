@@ -1,5 +1,6 @@
 -- The numbering of a change's keys, one by one, with the cells that it stores; and how many keys start.
-use Rattle.std.proofs.Common.{◌≡◌, ◌<◌, ◌≤◌, ◌+◌, ◌^◌, ℕ, Bool, true, false, cond, not, List, [], ◌∷◌, ◌++◌, length, reverse, filter, count_by, Option, Some, None, refl, sym, ap, subst, ◌∙◌, arith, length-append, ◌≢◌}
+use Rattle.std.proofs.Common.{◌≡◌, ◌<◌, ◌≤◌, ◌+◌, ◌^◌, ℕ, Bool, true, false, cond, not, List, [], ◌∷◌, ◌++◌, length, reverse, filter}
+use Rattle.std.proofs.Common.{count_by, Option, Some, None, refl, sym, ap, subst, ◌∙◌, arith, length-append, ◌≢◌}
 use Rattle.std.proofs.lemmas.List.{length-reverse}
 use Rattle.std.proofs.lemmas.List.Sums.{length-filter}
 use Rattle.std.proofs.lemmas.Option.{same_Some}
@@ -13,7 +14,8 @@ use Rattle.lb_health_registry.specs.declared.table.Cell.{Cell}
 use Rattle.lb_health_registry.specs.Internal.Changing.{AreStored}
 use Rattle.lb_health_registry.specs.Starts.{is_target, starts, latest_start, cell_now, value_at, IsNumbered}
 use Rattle.lb_health_registry.specs.Verdicts.{IsHealthAfter}
-use Rattle.lb_health_registry.proofs.CellLemmas.{either, cond_is, cell_now-same, cell_now-lt, cell_now-some, starts-push, starts-grow, cell_now-push, number_of}
+use Rattle.lb_health_registry.proofs.CellLemmas.{either, cond_is, cell_now-same, cell_now-lt, cell_now-some, starts-push, starts-grow}
+use Rattle.lb_health_registry.proofs.CellLemmas.{cell_now-push, number_of}
 
 -- another number is at another place
 pub below_apart : (c d : ℕ) → d < c → d ≢ c
@@ -28,7 +30,8 @@ module _ {K : Type 0} {cmp : K → K → Ordering} (total : IsTotalOrder cmp) wh
       (all : List (List K)) (by_key : List (K × ℕ)) (next : ℕ) → IsNumbered cmp all by_key next → IsNumbered cmp ([] ∷ all) [] next
   numbered-none all by_key next n = record { given = n.given; cells = λ q. refl }
 
-  pub stored-none : (all : List (List K)) (first : ℕ) (start : Bool) (cells : List (ℕ × Cell K)) → AreStored cmp first start ([] ∷ all) cells
+  pub stored-none : (all : List (List K)) (first : ℕ) (start : Bool) (cells : List (ℕ × Cell K))
+      → AreStored cmp first start ([] ∷ all) cells
   stored-none all first start cells k c e l = absurd (cc)
 
   -- one more key, which keeps its cell
@@ -45,7 +48,8 @@ module _ {K : Type 0} {cmp : K → K → Ordering} (total : IsTotalOrder cmp) wh
       = ap (λ b. cond b (cell_now same all x) (Some (length (starts same (xs ∷ all))))) t ∙ had in
       record {
         given =
-            n.given ∙ ap length (sym (starts-push laws all xs x ∙ ap (λ b. cond b (starts same (xs ∷ all)) (x ∷ starts same (xs ∷ all))) t));
+            n.given ∙ ap length (sym (starts-push laws all xs x
+            ∙ ap (λ b. cond b (starts same (xs ∷ all)) (x ∷ starts same (xs ∷ all))) t));
         cells = λ q.
             u q ∙ ap (cond (same x q) (Some cell)) (n.cells q)
             ∙ sym (cell_now-push laws all xs x q ∙ ap (λ o. cond (same x q) o (cell_now same (xs ∷ all) q)) number);
@@ -145,7 +149,8 @@ module _ {K : Type 0} {cmp : K → K → Ordering} (total : IsTotalOrder cmp) wh
       let laws = eq_by_cmp_equiv total in
       let longer : length (starts same ((xs ++ x ∷ []) ∷ all)) ≡ length (x ∷ starts same (xs ∷ all))
       = ap length (starts-push laws all xs x ∙ ap (λ b. cond b (starts same (xs ∷ all)) (x ∷ starts same (xs ∷ all))) f) in
-      let all_of : length (starts same (keys ∷ all)) ≡ length (starts same (((xs ++ x ∷ []) ++ ys) ∷ all)) = ap (λ ks. length (starts same (ks ∷ all))) whole in
+      let all_of : length (starts same (keys ∷ all)) ≡ length (starts same (((xs ++ x ∷ []) ++ ys) ∷ all)) =
+      ap (λ ks. length (starts same (ks ∷ all))) whole in
       omega (arith, given, longer, all_of, starts-grow laws all (xs ++ x ∷ []) ys, full)
 
   -- how many of the keys start, counted by the numbers that there are

@@ -1,6 +1,7 @@
 -- The places of the targets: no two candidates have one, where memberships are sets and views have different numbers. So the
 -- targets in their order are as many as those of the candidates that are first of their key.
-use Rattle.std.proofs.Common.{◌≡◌, ◌≤◌, ◌+◌, ◌==◌, ℕ, Bool, true, false, cond, not, ◌&&◌, ◌||◌, List, [], ◌∷◌, ◌++◌, length, filter, fold, refl, sym, ap, subst, ◌∙◌, arith, rules, true≢false, nat_lt, if◌then◌else◌}
+use Rattle.std.proofs.Common.{◌≡◌, ◌≤◌, ◌+◌, ◌==◌, ℕ, Bool, true, false, cond, not, ◌&&◌, ◌||◌, List, [], ◌∷◌, ◌++◌, length, filter, fold}
+use Rattle.std.proofs.Common.{refl, sym, ap, subst, ◌∙◌, arith, rules, true≢false, nat_lt, if◌then◌else◌}
 use Rattle.std.proofs.lemmas.List.Folds.{list_any-append}
 use Rattle.std.specs.BTreeMap.{insert_entry}
 use Rattle.std.specs.Cmp.{IsEquivalence, IsTotalOrder, eq_by_cmp_equiv, unsigned_tied}
@@ -15,7 +16,9 @@ use borrow.Author.Tests.{lt-ltb, ne_eqb}
 use Rattle.lb_select_base.specs.Backends.{Member, member_cmp, same_member}
 use Rattle.lb_select_base.specs.Unique.{firsts, distinct}
 use Rattle.lb_health_registry.specs.declared.targets.TargetPlace.{TargetPlace}
-use Rattle.lb_health_registry.specs.RegistryEvents.{Event, Registered, Applied, Updated, Marked, Observed, Held, Released, Configured, AreSets, is_view, at_view, with_members, with_mark, new_view, registered_after, views_after}
+use Rattle.lb_health_registry.specs.RegistryEvents.{Event, Registered, Applied, Updated, Marked, Observed, Held, Released, Configured}
+use Rattle.lb_health_registry.specs.RegistryEvents.{AreSets, is_view, at_view, with_members, with_mark, new_view, registered_after}
+use Rattle.lb_health_registry.specs.RegistryEvents.{views_after}
 use Rattle.lb_health_registry.specs.Targets.{ViewValue, live, place_cmp, Candidate, same_key, candidates_of, candidates, target_keys}
 
 and_false : (b : Bool) → (b && false) ≡ false
@@ -74,7 +77,8 @@ abbrev pub ArePlaced : List Candidate → Type 0
 ArePlaced [] = Unit {0}
 ArePlaced (c ∷ cs) = Apart c.place cs × ArePlaced cs
 
-placed-append : (xs ys : List Candidate) → ArePlaced xs → ArePlaced ys → Each (λ (c : Candidate). Apart c.place ys) xs → ArePlaced (xs ++ ys)
+placed-append : (xs ys : List Candidate) → ArePlaced xs → ArePlaced ys → Each (λ (c : Candidate). Apart c.place ys) xs
+    → ArePlaced (xs ++ ys)
 placed-append [] ys a b e = b
 placed-append (x ∷ xs) ys a b e =
     (each-append (λ (d : Candidate). same_place x.place d.place ≡ false) xs ys a.0 e.0, placed-append xs ys a.1 b e.1)
@@ -108,9 +112,13 @@ AreApart [] = Unit {0}
 AreApart (v ∷ vs) = IsNew v.id vs × (IsStrictlySortedBy member_cmp v.members × AreApart vs)
 
 module _ (key_of : Member → Member) where
-  own_apart : (id : ℕ) (b : Member) (ms : List Member) → Each (λ (m : Member). member_cmp b m ≡ Less) ms → Apart (record { backend = b; view = id }) (candidates_of key_of id ms)
+  own_apart : (id : ℕ) (b : Member) (ms : List Member) → Each (λ (m : Member). member_cmp b m ≡ Less) ms
+      → Apart (record { backend = b; view = id }) (candidates_of key_of id ms)
   own_apart id b [] e = tt
-  own_apart id b (m ∷ ms) e = (apart_by_backend (record { backend = b; view = id }) (record { backend = m; view = id }) e.0, own_apart id b ms e.1)
+  own_apart id b (m ∷ ms) e = (
+    apart_by_backend (record { backend = b; view = id }) (record { backend = m; view = id }) e.0,
+    own_apart id b ms e.1,
+  )
 
   own_placed : (id : ℕ) (ms : List Member) → IsStrictlySortedBy member_cmp ms → ArePlaced (candidates_of key_of id ms)
   unfolding IsStrictlySortedBy
@@ -124,19 +132,23 @@ module _ (key_of : Member → Member) where
   views_apart : (p : TargetPlace) (vs : List ViewValue) → IsNew p.view vs → Apart p (candidates key_of vs)
   views_apart p [] e = tt
   views_apart p (w ∷ vs) e =
-      each-append (λ (d : Candidate). same_place p d.place ≡ false) (candidates_of key_of w.id w.members) (candidates key_of vs) (view_apart p w.id w.members e.0) (views_apart p vs e.1)
+      each-append (λ (d : Candidate). same_place p d.place ≡ false) (candidates_of key_of w.id w.members) (candidates key_of vs)
+      (view_apart p w.id w.members e.0) (views_apart p vs e.1)
 
-  all_apart : (id : ℕ) (ms : List Member) (vs : List ViewValue) → IsNew id vs → Each (λ (c : Candidate). Apart c.place (candidates key_of vs)) (candidates_of key_of id ms)
+  all_apart : (id : ℕ) (ms : List Member) (vs : List ViewValue) → IsNew id vs
+      → Each (λ (c : Candidate). Apart c.place (candidates key_of vs)) (candidates_of key_of id ms)
   all_apart id [] vs e = tt
   all_apart id (m ∷ ms) vs e = (views_apart (record { backend = m; view = id }) vs e, all_apart id ms vs e)
 
   placed : (vs : List ViewValue) → AreApart vs → ArePlaced (candidates key_of vs)
   placed [] a = tt
   placed (v ∷ vs) a =
-      placed-append (candidates_of key_of v.id v.members) (candidates key_of vs) (own_placed v.id v.members a.1.0) (placed vs a.1.1) (all_apart v.id v.members vs a.0)
+      placed-append (candidates_of key_of v.id v.members) (candidates key_of vs) (own_placed v.id v.members a.1.0) (placed vs a.1.1)
+      (all_apart v.id v.members vs a.0)
 
 -- the views after events are apart
-at-new : (n id : ℕ) (f : ViewValue → ViewValue) (same_id : (v : ViewValue) → (f v).id ≡ v.id) (vs : List ViewValue) → IsNew n vs → IsNew n (at_view id f vs)
+at-new : (n id : ℕ) (f : ViewValue → ViewValue) (same_id : (v : ViewValue) → (f v).id ≡ v.id) (vs : List ViewValue) → IsNew n vs
+    → IsNew n (at_view id f vs)
 at-new n id f same_id [] a = tt
 at-new n id f same_id (v ∷ vs) a = at_by (is_view id v) (at-new n id f same_id vs a.1) where
   at_by : (b : Bool) → IsNew n (at_view id f vs) → IsNew n (cond b (f v ∷ vs) (v ∷ at_view id f vs))
@@ -164,7 +176,8 @@ live-apart (v ∷ vs) a = live_by (not v.marked) (live-apart vs a.1.1) where
 abbrev pub UpTo : ℕ → List ViewValue → Type 0
 UpTo n vs = Each (λ (w : ViewValue). w.id ≤ n) vs
 
-at-up : (n id : ℕ) (f : ViewValue → ViewValue) (same_id : (v : ViewValue) → (f v).id ≡ v.id) (vs : List ViewValue) → UpTo n vs → UpTo n (at_view id f vs)
+at-up : (n id : ℕ) (f : ViewValue → ViewValue) (same_id : (v : ViewValue) → (f v).id ≡ v.id) (vs : List ViewValue) → UpTo n vs
+    → UpTo n (at_view id f vs)
 at-up n id f same_id [] a = tt
 at-up n id f same_id (v ∷ vs) a = at_by (is_view id v) (at-up n id f same_id vs a.1) where
   at_by : (b : Bool) → UpTo n (at_view id f vs) → UpTo n (cond b (f v ∷ vs) (v ∷ at_view id f vs))
@@ -188,7 +201,8 @@ apart_up (Registered ∷ e) s =
     let last : n + 1 ≤ n + 1 = omega arith in
     let later : (w : ViewValue) → w.id ≤ n → w.id ≤ n + 1 = λ w l. omega (arith, l) in (
       new-apart n (views_after e) ih.1 ih.0,
-      each-append (λ (w : ViewValue). w.id ≤ n + 1) (views_after e) (new_view (n + 1) ∷ []) (each-impl (λ (w : ViewValue). w.id ≤ n) later (views_after e) ih.1) (last, tt),
+      each-append (λ (w : ViewValue). w.id ≤ n + 1) (views_after e) (new_view (n + 1) ∷ [])
+          (each-impl (λ (w : ViewValue). w.id ≤ n) later (views_after e) ih.1) (last, tt),
     )
 apart_up (Applied ∷ e) s =
     let ih = apart_up e s in
@@ -220,12 +234,14 @@ len_cons {A} p x xs = passes (p x) where
 
 -- at a place that is new the entry is one more
 counted :
-    (p : Member → Bool) (es : List (TargetPlace × Member)) (k : TargetPlace) (v : Member) → Each (λ (e : TargetPlace × Member). same_place k e.0 ≡ false) es
+    (p : Member → Bool) (es : List (TargetPlace × Member)) (k : TargetPlace) (v : Member)
+    → Each (λ (e : TargetPlace × Member). same_place k e.0 ≡ false) es
     → length (filter p (values_of (insert_entry place_cmp es k v))) ≡ length (filter p (v ∷ values_of es))
 counted p [] k v a = refl
 counted p (e ∷ es) k v a = at_by (place_cmp k e.0) refl (counted p es k v a.1) where
   at_by :
-      (o : Ordering) → place_cmp k e.0 ≡ o → length (filter p (values_of (insert_entry place_cmp es k v))) ≡ length (filter p (v ∷ values_of es))
+      (o : Ordering) → place_cmp k e.0 ≡ o → length (filter p (values_of (insert_entry place_cmp es k v))) ≡ length
+      (filter p (v ∷ values_of es))
       → length (filter p (values_of (match_ordering o ((k, v) ∷ e ∷ es) ((e.0, v) ∷ es) (e ∷ insert_entry place_cmp es k v))))
       ≡ length (filter p (v ∷ e.1 ∷ values_of es))
   at_by Less t ih = refl
@@ -241,7 +257,8 @@ counted p (e ∷ es) k v a = at_by (place_cmp k e.0) refl (counted p es k v a.1)
       )
 
 each-insert :
-    (P : TargetPlace → Type 0) (es : List (TargetPlace × Member)) (k : TargetPlace) (v : Member) → Each (λ (e : TargetPlace × Member). P e.0) es → P k
+    (P : TargetPlace → Type 0) (es : List (TargetPlace × Member)) (k : TargetPlace) (v : Member)
+    → Each (λ (e : TargetPlace × Member). P e.0) es → P k
     → Each (λ (e : TargetPlace × Member). P e.0) (insert_entry place_cmp es k v)
 each-insert P [] k v a it = (it, tt)
 each-insert P (e ∷ es) k v a it = at_by (place_cmp k e.0) (each-insert P es k v a.1 it) where
@@ -256,7 +273,8 @@ each-insert P (e ∷ es) k v a it = at_by (place_cmp k e.0) (each-insert P es k 
 abbrev pub AreNew : List (TargetPlace × Member) → List Candidate → Type 0
 AreNew es cs = Each (λ (c : Candidate). Each (λ (e : TargetPlace × Member). same_place c.place e.0 ≡ false) es) cs
 
-still_new : (es : List (TargetPlace × Member)) (c : Candidate) (cs : List Candidate) → Apart c.place cs → AreNew es cs → AreNew (insert_entry place_cmp es c.place c.key) cs
+still_new : (es : List (TargetPlace × Member)) (c : Candidate) (cs : List Candidate) → Apart c.place cs → AreNew es cs
+    → AreNew (insert_entry place_cmp es c.place c.key) cs
 still_new es c [] a n = tt
 still_new es c (d ∷ cs) a n = (
   each-insert (λ p. same_place d.place p ≡ false) es c.place c.key n.0 ((eq_by_cmp_equiv place_total).symm d.place c.place ∙ a.0),
@@ -284,7 +302,8 @@ none_new (c ∷ cs) = (tt, none_new cs)
 any_count : {A : Type 0} (p : A → Bool) (xs : List A) → list_any p xs ≡ nat_lt 0 (length (filter p xs))
 any_count p [] = refl
 any_count p (x ∷ xs) = any_by (p x) (any_count p xs) where
-  any_by : (b : Bool) → list_any p xs ≡ nat_lt 0 (length (filter p xs)) → (b || list_any p xs) ≡ nat_lt 0 (length (cond b (x ∷ filter p xs) (filter p xs)))
+  any_by : (b : Bool) → list_any p xs ≡ nat_lt 0 (length (filter p xs))
+      → (b || list_any p xs) ≡ nat_lt 0 (length (cond b (x ∷ filter p xs) (filter p xs)))
   any_by true ih = sym (lt-ltb 0 (length (x ∷ filter p xs)) (omega arith))
   any_by false ih = ih
 
@@ -302,7 +321,8 @@ module _ (P : Candidate → Bool) (alike : (c d : Candidate) → same_key c d �
       or_true true = refl
       or_true false = refl
 
-  repeated : (a px f r : Bool) → (px ≡ true → a ≡ true) → ((a || (px || false)) || f) ≡ ((a || (px || false)) || r) → (a || f) ≡ (a || (px || r))
+  repeated : (a px f r : Bool) → (px ≡ true → a ≡ true) → ((a || (px || false)) || f) ≡ ((a || (px || false)) || r)
+      → (a || f) ≡ (a || (px || r))
   repeated true px f r h ih = refl
   repeated false true f r h ih = absurd (true≢false (sym (h refl)))
   repeated false false f r h ih = ih
@@ -320,7 +340,8 @@ module _ (P : Candidate → Bool) (alike : (c d : Candidate) → same_key c d �
   firsts_by x before xs f ih true e = repeated (list_any P before) (P x) (list_any P f) (list_any P xs) (any_known x before e) ih
   firsts_by x before xs f ih false e = first (list_any P before) (P x) (list_any P f) (list_any P xs) ih
 
-  any-firsts : (before xs : List Candidate) → (list_any P before || list_any P (firsts same_key before xs)) ≡ (list_any P before || list_any P xs)
+  any-firsts : (before xs : List Candidate) → (list_any P before || list_any P (firsts same_key before xs)) ≡
+      (list_any P before || list_any P xs)
   any-firsts before [] = refl
   any-firsts before (x ∷ xs) =
       let f : List Candidate = firsts same_key (before ++ x ∷ []) xs in

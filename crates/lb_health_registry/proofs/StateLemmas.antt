@@ -1,5 +1,7 @@
 -- Views and table together after a change: the marks applied, one view's membership exchanged, and a refused change put back.
-use Rattle.std.proofs.Common.{◌≡◌, ◌<◌, ◌≤◌, ◌^◌, ℕ, zero, suc, inl, inr, Bool, true, false, cond, ◌||◌, List, [], ◌∷◌, map, length, filter, not, position, set, get_or, Some, Result, Ok, Err, IfOk, OnOk, ◌++◌, ◌+◌, refl, sym, ap, subst, ◌∙◌, nat_lt, length-append, take, ◌-◌, arith, ◌↔◌, IsTrue, true≢false, ⊎_elim}
+use Rattle.std.proofs.Common.{◌≡◌, ◌<◌, ◌≤◌, ◌^◌, ℕ, zero, suc, inl, inr, Bool, true, false, cond, ◌||◌, List, [], ◌∷◌, map, length, filter}
+use Rattle.std.proofs.Common.{not, position, set, get_or, Some, Result, Ok, Err, IfOk, OnOk, ◌++◌, ◌+◌, refl, sym, ap, subst, ◌∙◌, nat_lt}
+use Rattle.std.proofs.Common.{length-append, take, ◌-◌, arith, ◌↔◌, IsTrue, true≢false, ⊎_elim}
 use Rattle.std.proofs.lemmas.Bool.{cases_lt}
 use Rattle.std.proofs.lemmas.List.{map-append, take-append-le, take_all}
 use Rattle.std.proofs.lemmas.Option.{cond_some, same_Some, slice_get_read}
@@ -20,7 +22,9 @@ use Rattle.lb_health_registry.specs.Internal.Changing.{IsStarted}
 use Rattle.lb_health_registry.specs.Fresh.{fresh}
 use Rattle.lb_health_registry.specs.Internal.Replacing.{IsShown, IsPrepared, IsReplaced}
 use Rattle.lb_health_registry.specs.Registry.{IsStateAfter, RegistryValue, IsRegistryAfter, IsGrowthRefusal}
-use Rattle.lb_health_registry.specs.RegistryEvents.{Event, Registered, Applied, Updated, is_view, at_view, with_members, new_view, has_view, members_of, after_update, after_show, cells_by, cells_in, changes_after, registered_after, views_after, cell_events, cells_given}
+use Rattle.lb_health_registry.specs.RegistryEvents.{Event, Registered, Applied, Updated, is_view, at_view, with_members, new_view, has_view}
+use Rattle.lb_health_registry.specs.RegistryEvents.{members_of, after_update, after_show, cells_by, cells_in, changes_after}
+use Rattle.lb_health_registry.specs.RegistryEvents.{registered_after, views_after, cell_events, cells_given}
 use Rattle.lb_health_registry.specs.Table.{TableValue, IsTableAfter, IsPruned}
 use Rattle.lb_health_registry.specs.Targets.{ViewValue, view_value, live, target_keys}
 use Rattle.lb_health_registry.proofs.ChangeLemmas.{map-filter, live-at_view, at_place, members_at, cells_kept, has_live}
@@ -28,7 +32,8 @@ use Rattle.lb_health_registry.proofs.FreshLemmas.{marks_start_none, updated_give
 
 -- the view at the place that a search gave
 pub at_found :
-    {X : Type 0} (p : X → Bool) (xs : List X) (place : ℕ) (x : X) → position p xs ≡ Some place → x ≡ get_or xs place x → slice_get xs place ≡ Some x
+    {X : Type 0} (p : X → Bool) (xs : List X) (place : ℕ) (x : X) → position p xs ≡ Some place → x ≡ get_or xs place x
+    → slice_get xs place ≡ Some x
 at_found p xs place x found at =
     let n : ℕ = prefix_len (λ z. not (p z)) xs in
     let there = cond_some (nat_lt n (length xs)) n place found in
@@ -58,7 +63,8 @@ applied key_of events items kept keys t more state is keyed table only =
 
 -- the views after one's membership is exchanged, before the marks are applied
 exchanged :
-    (key_of : Member → Member) (events : List Event) (id place : ℕ) (members : List Member) (items : List View) (x y : View) (t : TableValue Member)
+    (key_of : Member → Member) (events : List Event) (id place : ℕ) (members : List Member) (items : List View) (x y : View)
+    (t : TableValue Member)
     → IsStateAfter key_of events (map view_value items) t → position (λ v. is_view id (view_value v)) items ≡ Some place
     → slice_get items place ≡ Some x → view_value y ≡ with_members members (view_value x)
     → live (map view_value (set items place y)) ≡ views_after (Updated id members ∷ Applied ∷ events)
@@ -69,7 +75,8 @@ exchanged key_of events id place members items x y t state found at is =
 
 -- what both changes do to the cells
 pub later_is :
-    (key_of : Member → Member) (events : List Event) (id place : ℕ) (members marked : List Member) (items : List View) (x y : View) (t : TableValue Member)
+    (key_of : Member → Member) (events : List Event) (id place : ℕ) (members marked : List Member) (items : List View) (x y : View)
+    (t : TableValue Member)
     → IsStateAfter key_of events (map view_value items) t → position (λ v. is_view id (view_value v)) items ≡ Some place
     → slice_get items place ≡ Some x → view_value y ≡ with_members members (view_value x)
     → marked ≡ target_keys key_of (live (map view_value items))
@@ -79,7 +86,8 @@ later_is key_of events id place members marked items x y t state found at is key
     let now = exchanged key_of events id place members items x y t state found at is in
     let before : marked ≡ target_keys key_of (live (views_after events)) = keyed ∙ ap (λ vs. target_keys key_of (live vs)) state.listed in
     ap (λ vs. Changed (target_keys key_of vs) ∷ Changed marked ∷ cell_events key_of events) now
-    ∙ ap (λ ks. Changed (target_keys key_of (views_after (Updated id members ∷ Applied ∷ events))) ∷ Changed ks ∷ cell_events key_of events) before
+    ∙ ap (λ ks. Changed (target_keys key_of (views_after (Updated id members ∷ Applied ∷ events))) ∷ Changed ks ∷ cell_events key_of events)
+    before
 
 -- a view's membership is exchanged
 pub replaced :
@@ -90,14 +98,16 @@ pub replaced :
     → marked ≡ target_keys key_of (live (map view_value items))
     → kept ≡ filter (λ (v : View). not v.marked) (set items place y)
     → IsPrepared key_of (cell_events key_of events)
-    (Changed (target_keys key_of (live (map view_value (set items place y)))) ∷ Changed marked ∷ cell_events key_of events) members numbering shown t2
+    (Changed (target_keys key_of (live (map view_value (set items place y)))) ∷ Changed marked ∷ cell_events key_of events) members
+    numbering shown t2
     → ((before later : List (CellEvent Member)) → IsStarted member_cmp before later t2 numbering.by_key.entries numbering.next
     → IsTableAfter member_cmp later more)
     → ((before later : List (CellEvent Member)) → IsStarted member_cmp before later t2 numbering.by_key.entries numbering.next
     → IsPruned member_cmp later more)
     → IsStrictlySortedBy member_cmp members → cells_given key_of (Updated id members ∷ Applied ∷ events) < 2 ^ 64
     → IsReplaced key_of (Updated id members ∷ Applied ∷ events) members shown (map view_value kept) more
-replaced key_of events id place members marked items kept x y t t2 more numbering shown state found at is keyed left prepared commits prunes sorted fits =
+replaced key_of events id place members marked items kept x y t t2 more numbering shown state found at is keyed left prepared commits prunes
+    sorted fits =
     let later = later_is key_of events id place members marked items x y t state found at is keyed in
     let AfterAll : List (CellEvent Member) → Type 0 = λ es. IsTableAfter member_cmp es more in
     let OnlyAfter : List (CellEvent Member) → Type 0 = λ es. IsPruned member_cmp es more in
@@ -137,7 +147,8 @@ on_both (Err e) h k f = tt
 pub seen :
     {R : Type 0} (gives : R → Member → Member → Type 0) (key_of : Member → Member) (events : List Event) (v w : RegistryValue R)
     → v ≡ w → IsRegistryAfter gives key_of events w → IsRegistryAfter gives key_of events v
-seen {R} gives key_of events v w e r = let After : RegistryValue R → Type 0 = λ u. IsRegistryAfter gives key_of events u in subst After (sym e) r
+seen {R} gives key_of events v w e r = let After : RegistryValue R → Type 0 = λ u. IsRegistryAfter gives key_of events u
+    in subst After (sym e) r
 
 -- a view is registered, and waits for the marks to be applied
 pub registered :
@@ -181,7 +192,8 @@ pub updates_as :
     → same_members members x.members.keys ≡ b → after_update id members events ≡ cond b events (Updated id members ∷ Applied ∷ events)
 updates_as b id place members events items x listed found at is =
     let there : members_of id (views_after events) ≡ x.members.keys
-    = ap (members_of id) (sym listed) ∙ members_at view_value id items place x found (at_found (λ v. is_view id (view_value v)) items place x found at) in
+    = ap (members_of id) (sym listed)
+    ∙ members_at view_value id items place x found (at_found (λ v. is_view id (view_value v)) items place x found at) in
     ap (λ t. cond t events (Updated id members ∷ Applied ∷ events)) (ap (same_members members) there ∙ is)
 
 -- room for one more live snapshot changes nothing
@@ -191,28 +203,33 @@ pub roomier :
 roomier key_of events views t held is state =
     let After : List Hold → Type 0 = λ hs. IsStateAfter key_of events views (record t { held = hs }) in subst After (sym is) state
 
-members_shown : (id : ℕ) (members : List Member) (vs : List ViewValue) → has_view id vs ≡ true → members_of id (at_view id (with_members members) vs) ≡ members
+members_shown : (id : ℕ) (members : List Member) (vs : List ViewValue) → has_view id vs ≡ true
+    → members_of id (at_view id (with_members members) vs) ≡ members
 members_shown id members [] e = absurd (cc)
 members_shown id members (v ∷ vs) e = shown_by (is_view id v) refl e (members_shown id members vs) where
   shown_by :
-      (b : Bool) → is_view id v ≡ b → (b || has_view id vs) ≡ true → (has_view id vs ≡ true → members_of id (at_view id (with_members members) vs) ≡ members)
+      (b : Bool) → is_view id v ≡ b → (b || has_view id vs) ≡ true
+      → (has_view id vs ≡ true → members_of id (at_view id (with_members members) vs) ≡ members)
       → members_of id (cond b (with_members members v ∷ vs) (v ∷ at_view id (with_members members) vs)) ≡ members
   shown_by true f e ih = ap (λ b. cond b members (members_of id vs)) f
   shown_by false f e ih = ap (λ b. cond b v.members (members_of id (at_view id (with_members members) vs))) f ∙ ih e
 
 -- a view's next snapshot is held
 pub shows :
-    (key_of : Member → Member) (events : List Event) (id generation : ℕ) (members : List Member) (shown : ViewCells) (views : List ViewValue)
+    (key_of : Member → Member) (events : List Event) (id generation : ℕ) (members : List Member) (shown : ViewCells)
+    (views : List ViewValue)
     (t more : TableValue Member)
     → IsReplaced key_of (Updated id members ∷ Applied ∷ events) members shown views t → has_view id (views_after events) ≡ true
     → ((es : List (CellEvent Member)) → IsTableAfter member_cmp es t
     → ((c : ℕ) → list_any (eq_by_cmp nat_cmp c) shown.numbers.keys ≡ true → IsKept member_cmp es c)
     → IsTableAfter member_cmp (cell.Held id generation shown.numbers.keys ∷ es) more)
-    → ((es : List (CellEvent Member)) → IsPruned member_cmp es t → IsPruned member_cmp (cell.Held id generation shown.numbers.keys ∷ es) more)
+    → ((es : List (CellEvent Member)) → IsPruned member_cmp es t
+    → IsPruned member_cmp (cell.Held id generation shown.numbers.keys ∷ es) more)
     → IsStateAfter key_of (after_show id generation members events) views more
 shows key_of events id generation members shown views t more out has holds only =
     let now = Updated id members ∷ Applied ∷ events in
-    let there : members_of id (views_after now) ≡ members = members_shown id members (live (views_after events)) (has_live id (views_after events) ∙ has) in
+    let there : members_of id (views_after now) ≡ members = members_shown id members (live (views_after events))
+    (has_live id (views_after events) ∙ has) in
     let numbers : shown.numbers.keys ≡ cells_in (cells_by key_of (changes_after key_of now) (members_of id (views_after now)))
     = out.cells.numbers ∙ ap (λ ms. cells_in (cells_by key_of (changes_after key_of now) ms)) (sym there) in
     let HeldAs : List ℕ → Type 0 = λ cs. IsTableAfter member_cmp (cell.Held id generation cs ∷ cell_events key_of now) more in
@@ -235,7 +252,8 @@ pub popped :
 popped xs old more x n is long rest =
     let one : n - 1 ≡ length xs = omega (arith, long, ap length is, length-append xs (x ∷ [])) in
     let short : length xs ≤ length xs = omega arith in
-    rest ∙ ap (λ k. take k old) one ∙ ap (take (length xs)) is ∙ take-append-le (length xs) xs (x ∷ []) short ∙ take_all (length xs) xs short
+    rest ∙ ap (λ k. take k old) one ∙ ap (take (length xs)) is ∙ take-append-le (length xs) xs (x ∷ []) short
+    ∙ take_all (length xs) xs short
 
 -- marks that are applied leave numbers
 pub never_lacks :
@@ -245,17 +263,20 @@ never_lacks key_of events views t state l = omega (arith, l, marks_start_none ke
 
 -- whether numbers are left for a view's change, told by the keys that its membership starts
 pub lacks_told :
-    (key_of : Member → Member) (events : List Event) (id : ℕ) (members : List Member) (items seen : List View) (t : TableValue Member) (b : Bool)
+    (key_of : Member → Member) (events : List Event) (id : ℕ) (members : List Member) (items seen : List View) (t : TableValue Member)
+    (b : Bool)
     → IsStateAfter key_of events (map view_value items) t → IsStrictlySortedBy member_cmp members → has_view id (views_after events) ≡ true
     → seen ≡ items → (IsTrue b ↔ (2 ^ 64 ≤ t.next + length (fresh key_of (live (map view_value seen)) id members)))
     → (IsTrue b ↔ (2 ^ 64 ≤ cells_given key_of (Updated id members ∷ Applied ∷ events)))
 lacks_told key_of events id members items seen t b state sorted has is told =
     let count : List ViewValue → ℕ = λ vs. length (fresh key_of (live vs) id members) in
-    let views : count (map view_value seen) ≡ count (views_after events) = ap (λ (vs : List View). count (map view_value vs)) is ∙ ap count state.listed in
+    let views : count (map view_value seen) ≡ count (views_after events) = ap (λ (vs : List View). count (map view_value vs)) is
+    ∙ ap count state.listed in
     let given : cells_given key_of (Updated id members ∷ Applied ∷ events) ≡ t.next + count (map view_value seen)
     = omega (arith, updated_given key_of events id members state.sets sorted has, views, state.cells.numbering.given) in
     (λ e. omega (arith, told.0 e, given), λ l. told.1 (omega (arith, l, given)))
 
 -- a number is left where none is lacking
 pub left_numbers : (b : Bool) (n : ℕ) → b ≡ false → (IsTrue b ↔ (2 ^ 64 ≤ n)) → n < 2 ^ 64
-left_numbers b n f told = ⊎_elim (λ (l : n < 2 ^ 64). l) (λ (l : 2 ^ 64 ≤ n). absurd (true≢false (sym (told.1 l) ∙ f))) (cases_lt n (2 ^ 64))
+left_numbers b n f told = ⊎_elim (λ (l : n < 2 ^ 64). l) (λ (l : 2 ^ 64 ≤ n). absurd (true≢false (sym (told.1 l) ∙ f)))
+    (cases_lt n (2 ^ 64))

@@ -1,5 +1,6 @@
 -- The table of cells after each event: what is stored stays right.
-use Rattle.std.proofs.Common.{◌≡◌, ◌<◌, ◌≤◌, ℕ, ◌==◌, ◌⊎◌, inl, inr, ⊎_elim, Bool, true, false, cond, not, ◌||◌, List, [], ◌∷◌, ◌++◌, map, filter, Option, Some, None, Result, Ok, Err, OnErr, refl, sym, ap, subst, ◌∙◌, arith, true≢false}
+use Rattle.std.proofs.Common.{◌≡◌, ◌<◌, ◌≤◌, ℕ, ◌==◌, ◌⊎◌, inl, inr, ⊎_elim, Bool, true, false, cond, not, ◌||◌, List, [], ◌∷◌, ◌++◌, map}
+use Rattle.std.proofs.Common.{filter, Option, Some, None, Result, Ok, Err, OnErr, refl, sym, ap, subst, ◌∙◌, arith, true≢false}
 use Rattle.std.proofs.Math.Bool.{or-false}
 use Rattle.std.proofs.lemmas.List.Folds.{list_any-append}
 use Rattle.std.proofs.lemmas.Map.{lookup-none}
@@ -18,7 +19,8 @@ use Rattle.std.proofs.lemmas.Bool.{cases_lt}
 use borrow.Author.Tests.{eqb-true, eq-eqb, ne_eqb, lt-ltb, le-ltb}
 use Rattle.lb_health_registry.specs.declared.table.Cell.{Cell}
 use Rattle.lb_health_registry.specs.declared.table.Held as declared
-use Rattle.lb_health_registry.specs.CellEvents.{CellEvent, Hold, Changed, Observed, Held, Released, is_hold_of, changes, verdicts_of, holds_after, configured, is_held, given_after, start_of, IsKept}
+use Rattle.lb_health_registry.specs.CellEvents.{CellEvent, Hold, Changed, Observed, Held, Released, is_hold_of, changes, verdicts_of}
+use Rattle.lb_health_registry.specs.CellEvents.{holds_after, configured, is_held, given_after, start_of, IsKept}
 use Rattle.lb_health_registry.specs.Internal.Changing.{AreStored, is_cell, keeps_cell, Extends, IsStarted}
 use Rattle.lb_health_registry.specs.Starts.{cell_now, value_at, IsNumbered}
 use Rattle.lb_health_registry.specs.Table.{TableValue, hold_of, IsTableAfter, IsPruned}
@@ -44,7 +46,8 @@ pub at_other : (c d : ℕ) → (d == c) ≡ false → is_at (nat_cmp d) c ≡ fa
 at_other c d f = unsigned_tied d c ∙ f
 
 -- a look-up in what a filter by key and value leaves
-filtered_none : {X : Type 0} (test : ℕ → Bool) (p : ℕ × X → Bool) (es : List (ℕ × X)) → lookup test es ≡ None → lookup test (filter p es) ≡ None
+filtered_none : {X : Type 0} (test : ℕ → Bool) (p : ℕ × X → Bool) (es : List (ℕ × X)) → lookup test es ≡ None
+    → lookup test (filter p es) ≡ None
 filtered_none test p [] e = refl
 filtered_none {X} test p (x ∷ es) e = none_by (test x.0) refl (p x) refl e (filtered_none test p es) where
   none_by :
@@ -55,7 +58,8 @@ filtered_none {X} test p (x ∷ es) e = none_by (test x.0) refl (p x) refl e (fi
   none_by false f false g e ih = ih e
 
 rest_distinct :
-    {X : Type 0} (y : ℕ × X) (es : List (ℕ × X)) → IsDistinct (eq_by_cmp nat_cmp) (keys_of (y ∷ es)) → IsDistinct (eq_by_cmp nat_cmp) (keys_of es)
+    {X : Type 0} (y : ℕ × X) (es : List (ℕ × X)) → IsDistinct (eq_by_cmp nat_cmp) (keys_of (y ∷ es))
+    → IsDistinct (eq_by_cmp nat_cmp) (keys_of es)
 unfolding IsDistinct
 rest_distinct y es d = d.1
 
@@ -98,7 +102,8 @@ any-filtered {X} p q (x ∷ xs) e = any_by (q x) (p x) refl e (any-filtered p q 
 -- live snapshots as the table has them, and as contracts see them
 pub any_holds :
     (c : ℕ) (hs : List declared.Held)
-    → list_any (λ h. list_any (eq_by_cmp nat_cmp c) h.cells) (map hold_of hs) ≡ list_any (λ h. list_any (eq_by_cmp nat_cmp c) h.cells.keys) hs
+    → list_any (λ h. list_any (eq_by_cmp nat_cmp c) h.cells) (map hold_of hs) ≡ list_any (λ h. list_any (eq_by_cmp nat_cmp c) h.cells.keys)
+    hs
 any_holds c [] = refl
 any_holds c (h ∷ hs) = ap (λ b. list_any (eq_by_cmp nat_cmp c) h.cells.keys || b) (any_holds c hs)
 
@@ -170,7 +175,8 @@ module _ {K : Type 0} {cmp : K → K → Ordering} (total : IsTotalOrder cmp) wh
       (events later : List (CellEvent K)) (keys : List K) → Extends cmp events later → Extends cmp events (Changed keys ∷ later)
   extends-more events later keys x =
       let same : K → K → Bool = eq_by_cmp cmp in
-      let more : given_after same later ≤ given_after same (Changed keys ∷ later) = starts-grow (eq_by_cmp_equiv total) (changes later) [] keys in
+      let more : given_after same later ≤ given_after same (Changed keys ∷ later) = starts-grow (eq_by_cmp_equiv total) (changes later)
+      [] keys in
       record {
         verdicts = x.verdicts;
         holds = x.holds;
@@ -202,7 +208,8 @@ module _ {K : Type 0} {cmp : K → K → Ordering} (total : IsTotalOrder cmp) wh
 
   -- one more change
   pub started-more :
-      (events later : List (CellEvent K)) (keys : List K) (t : TableValue K) (by_key by_more : List (K × ℕ)) (next more : ℕ) (cells : List (ℕ × Cell K))
+      (events later : List (CellEvent K)) (keys : List K) (t : TableValue K) (by_key by_more : List (K × ℕ)) (next more : ℕ)
+      (cells : List (ℕ × Cell K))
       → IsStarted cmp events later t by_key next
       → ((c : ℕ) → c < next → value_at nat_cmp cells c ≡ value_at nat_cmp t.cells c)
       → IsNumbered cmp (keys ∷ changes later) by_more more
@@ -224,7 +231,8 @@ module _ {K : Type 0} {cmp : K → K → Ordering} (total : IsTotalOrder cmp) wh
       → IsStarted cmp events later t by_key next → ((c : ℕ) → c < next → value_at nat_cmp cells c ≡ value_at nat_cmp t.cells c)
       → IsTableAfter cmp events (record t { cells = cells })
   refused-stays events later t by_key next cells s others =
-      table-stays events t cells s.table (λ c h. others c (omega (arith, kept-given events t s.table c h, s.extends.grows, s.numbering.given)))
+      table-stays events t cells s.table
+      (λ c h. others c (omega (arith, kept-given events t s.table c h, s.extends.grows, s.numbering.given)))
 
   -- the live snapshots have the same cells after changes
   held-still : (events later : List (CellEvent K)) → Extends cmp events later → (c : ℕ) → is_held c later ≡ is_held c events
@@ -299,7 +307,8 @@ module _ {K : Type 0} {cmp : K → K → Ordering} (total : IsTotalOrder cmp) wh
       (events : List (CellEvent K)) (t : TableValue K) → IsTableAfter cmp events t → (c : ℕ) (x : Cell K)
       → value_at nat_cmp t.cells c ≡ Some x → IsKept cmp events c → keeps_cell cmp t.by_key t.held c x.key ≡ true
   kept-keeps events t table c x e (inl (k, h)) =
-      let same : eq_by_cmp cmp k x.key ≡ true = some_at (λ (y : Cell K). eq_by_cmp cmp k y.key ≡ true) (value_at nat_cmp t.cells c) x e (table.targets k c h) in
+      let same : eq_by_cmp cmp k x.key ≡ true = some_at (λ (y : Cell K). eq_by_cmp cmp k y.key ≡ true) (value_at nat_cmp t.cells c) x e
+      (table.targets k c h) in
       let at : value_at cmp t.by_key x.key ≡ Some c
       = table.numbering.cells x.key ∙ sym (cell_now-same (eq_by_cmp_equiv total) (changes events) k x.key same) ∙ h in
       ap (λ o. is_cell c o || list_any (λ h. list_any (eq_by_cmp nat_cmp c) h.cells) t.held) at
@@ -324,7 +333,8 @@ module _ {K : Type 0} {cmp : K → K → Ordering} (total : IsTotalOrder cmp) wh
       → value_at nat_cmp t.cells c ≡ Some x → IsKept cmp events c
       → IsHealthAfter (start_of (eq_by_cmp cmp) c events) (verdicts_of c events) x.health
   kept-health events t table c x e h =
-      some_at (λ (y : Cell K). IsHealthAfter (start_of (eq_by_cmp cmp) c events) (verdicts_of c events) y.health) (value_at nat_cmp t.cells c) x e (table.kept c h)
+      some_at (λ (y : Cell K). IsHealthAfter (start_of (eq_by_cmp cmp) c events) (verdicts_of c events) y.health)
+      (value_at nat_cmp t.cells c) x e (table.kept c h)
 
   -- without the cells that aren't kept
   pub prunes :
@@ -337,7 +347,8 @@ module _ {K : Type 0} {cmp : K → K → Ordering} (total : IsTotalOrder cmp) wh
       table-stays events t more table (λ c h. prune_at c h (value_at nat_cmp t.cells c) refl distinct)
     where
       prune_at :
-          (c : ℕ) → IsKept cmp events c → (o : Option (Cell K)) → value_at nat_cmp t.cells c ≡ o → IsDistinct (eq_by_cmp nat_cmp) (keys_of t.cells)
+          (c : ℕ) → IsKept cmp events c → (o : Option (Cell K)) → value_at nat_cmp t.cells c ≡ o
+          → IsDistinct (eq_by_cmp nat_cmp) (keys_of t.cells)
           → value_at nat_cmp more c ≡ value_at nat_cmp t.cells c
       prune_at c h None e d = absurd (kept-stored events t table c e h)
       prune_at c h (Some x) e d =
@@ -355,21 +366,25 @@ module _ {K : Type 0} {cmp : K → K → Ordering} (total : IsTotalOrder cmp) wh
       left : ℕ × Cell K → Bool
       left e = keeps_cell cmp t.by_key t.held e.0 e.1.key
 
-      left_at : (o : Option (Cell K)) → value_at nat_cmp t.cells c ≡ o → IsDistinct (eq_by_cmp nat_cmp) (keys_of t.cells) → IsKept cmp events c
+      left_at : (o : Option (Cell K)) → value_at nat_cmp t.cells c ≡ o → IsDistinct (eq_by_cmp nat_cmp) (keys_of t.cells)
+          → IsKept cmp events c
       left_at None e d =
           absurd
           (true≢false
           (sym some
-          ∙ ap is_some (ap (λ es. value_at nat_cmp es c) is ∙ filtered_none (is_at (nat_cmp c)) (λ (e : ℕ × Cell K). keeps_cell cmp t.by_key t.held e.0 e.1.key) t.cells e)))
+          ∙ ap is_some (ap (λ es. value_at nat_cmp es c) is
+          ∙ filtered_none (is_at (nat_cmp c)) (λ (e : ℕ × Cell K). keeps_cell cmp t.by_key t.held e.0 e.1.key) t.cells e)))
       left_at (Some x) e d =
           let at : value_at nat_cmp more c ≡ cond (keeps_cell cmp t.by_key t.held c x.key) (Some x) None
-          = ap (λ es. value_at nat_cmp es c) is ∙ filtered (λ (e : ℕ × Cell K). keeps_cell cmp t.by_key t.held e.0 e.1.key) c t.cells x d e in
+          = ap (λ es. value_at nat_cmp es c) is
+          ∙ filtered (λ (e : ℕ × Cell K). keeps_cell cmp t.by_key t.held e.0 e.1.key) c t.cells x d e in
           either (keeps_cell cmp t.by_key t.held c x.key) (λ b. keeps-kept events t table c x b)
           (λ b. absurd (true≢false (sym some ∙ ap is_some (at ∙ ap (λ b. cond b (Some x) None) b))))
 
   -- a verdict reaches a cell
   pub observed :
-      (events : List (CellEvent K)) (t : TableValue K) → IsTableAfter cmp events t → (c : ℕ) (v : Verdict) (x made : Cell K) (more : List (ℕ × Cell K))
+      (events : List (CellEvent K)) (t : TableValue K) → IsTableAfter cmp events t
+      → (c : ℕ) (v : Verdict) (x made : Cell K) (more : List (ℕ × Cell K))
       → value_at nat_cmp t.cells c ≡ Some x → IsKept cmp events c → made.key ≡ x.key
       → IsHealthAfter (start_of (eq_by_cmp cmp) c events) (v ∷ verdicts_of c events) made.health
       → ((d : ℕ) → value_at nat_cmp more d ≡ cond (is_at (nat_cmp c) d) (Some made) (value_at nat_cmp t.cells d))
@@ -402,14 +417,16 @@ module _ {K : Type 0} {cmp : K → K → Ordering} (total : IsTotalOrder cmp) wh
           let same : eq_by_cmp cmp k x.key ≡ true
           = some_at (λ (y : Cell K). eq_by_cmp cmp k y.key ≡ true) (value_at nat_cmp t.cells d) x
           (ap (value_at nat_cmp t.cells) (sym (eqb-true c d s)) ∙ e) (table.targets k d f) in
-          some_from (λ (y : Cell K). eq_by_cmp cmp k y.key ≡ true) (value_at nat_cmp more d) made (at_same d s) (ap (eq_by_cmp cmp k) key ∙ same)
+          some_from (λ (y : Cell K). eq_by_cmp cmp k y.key ≡ true) (value_at nat_cmp more d) made (at_same d s) (ap (eq_by_cmp cmp k) key
+          ∙ same)
       target_at k d f false s =
           let P : Option (Cell K) → Type 0 = λ o. IsSomeAnd o (λ y. eq_by_cmp cmp k y.key ≡ true) in
           subst P (sym (at_apart d s)) (table.targets k d f)
 
       kept_at :
           (d : ℕ) → IsKept cmp events d → (b : Bool) → (c == d) ≡ b
-          → IsSomeAnd (value_at nat_cmp more d) (λ y. IsHealthAfter (start_of (eq_by_cmp cmp) d events) (verdicts_of d (Observed c v ∷ events)) y.health)
+          → IsSomeAnd (value_at nat_cmp more d)
+          (λ y. IsHealthAfter (start_of (eq_by_cmp cmp) d events) (verdicts_of d (Observed c v ∷ events)) y.health)
       kept_at d f true s =
           let P : ℕ → Type 0 = λ n. IsHealthAfter (start_of (eq_by_cmp cmp) n events) (v ∷ verdicts_of n events) made.health in
           let V : List Verdict → Type 0 = λ vs. IsHealthAfter (start_of (eq_by_cmp cmp) d events) vs made.health in
@@ -450,7 +467,8 @@ module _ {K : Type 0} {cmp : K → K → Ordering} (total : IsTotalOrder cmp) wh
         ∙ ap (λ b. b || list_any has (record { view = view; generation = generation; cells = cells } ∷ [])) h)
 
   pub holding :
-      (events : List (CellEvent K)) (t : TableValue K) → IsTableAfter cmp events t → (view generation : ℕ) (cells : List ℕ) (more : List Hold)
+      (events : List (CellEvent K)) (t : TableValue K) → IsTableAfter cmp events t
+      → (view generation : ℕ) (cells : List ℕ) (more : List Hold)
       → ((c : ℕ) → list_any (eq_by_cmp nat_cmp c) cells ≡ true → IsKept cmp events c)
       → more ≡ t.held ++ record { view = view; generation = generation; cells = cells } ∷ []
       → IsTableAfter cmp (Held view generation cells ∷ events) (record t { held = more })
@@ -470,7 +488,8 @@ module _ {K : Type 0} {cmp : K → K → Ordering} (total : IsTotalOrder cmp) wh
       held_as :
           (c : ℕ) → is_held c (Held view generation cells ∷ events) ≡ (is_held c events || list_any (eq_by_cmp nat_cmp c) cells)
       held_as c =
-          list_any-append (λ (h : Hold). list_any (eq_by_cmp nat_cmp c) h.cells) (holds_after events) (record { view = view; generation = generation; cells = cells } ∷ [])
+          list_any-append (λ (h : Hold). list_any (eq_by_cmp nat_cmp c) h.cells) (holds_after events)
+          (record { view = view; generation = generation; cells = cells } ∷ [])
           ∙ ap (λ b. is_held c events || b) (or-false (list_any (eq_by_cmp nat_cmp c) cells))
 
       kept_at : (c : ℕ) → IsKept cmp (Held view generation cells ∷ events) c → IsKept cmp events c
@@ -505,7 +524,8 @@ module _ {K : Type 0} {cmp : K → K → Ordering} (total : IsTotalOrder cmp) wh
       }
     where
       still : (c : ℕ) → is_held c (Released view generation ∷ events) ≡ true → is_held c events ≡ true
-      still c b = any-filtered (λ (h : Hold). list_any (eq_by_cmp nat_cmp c) h.cells) (λ h. not (is_hold_of view generation h)) (holds_after events) b
+      still c b = any-filtered (λ (h : Hold). list_any (eq_by_cmp nat_cmp c) h.cells) (λ h. not (is_hold_of view generation h))
+          (holds_after events) b
 
       kept_at : (c : ℕ) → IsKept cmp (Released view generation ∷ events) c → IsKept cmp events c
       kept_at c (inl h) = inl h

@@ -27,14 +27,16 @@ pub member_laws : IsEquivalence same_member
 member_laws = eq_by_cmp_equiv member_total
 
 -- a candidate whose key has its target already
-distinct-known : (cs : List Candidate) (c : Candidate) → list_any (same_key c) cs ≡ true → distinct same_key (cs ++ c ∷ []) ≡ distinct same_key cs
+distinct-known : (cs : List Candidate) (c : Candidate) → list_any (same_key c) cs ≡ true
+    → distinct same_key (cs ++ c ∷ []) ≡ distinct same_key cs
 distinct-known cs c e =
     distinct-append same_key cs (c ∷ [])
     ∙ ap (λ b. distinct same_key cs ++ cond b [] (c ∷ [])) e
     ∙ append-nil (distinct same_key cs)
 
 -- the first candidate of its key
-distinct-new : (cs : List Candidate) (c : Candidate) → list_any (same_key c) cs ≡ false → distinct same_key (cs ++ c ∷ []) ≡ distinct same_key cs ++ c ∷ []
+distinct-new : (cs : List Candidate) (c : Candidate) → list_any (same_key c) cs ≡ false
+    → distinct same_key (cs ++ c ∷ []) ≡ distinct same_key cs ++ c ∷ []
 distinct-new cs c e = distinct-append same_key cs (c ∷ []) ∙ ap (λ b. distinct same_key cs ++ cond b [] (c ∷ [])) e
 
 -- whether a key has its target, after one more candidate
@@ -51,7 +53,8 @@ known_by false false h = refl
 known_by false true h = h refl
 
 pub gathers-known :
-    (cs : List Candidate) (g : Gathered) (c : Candidate) → Gathers cs g → contains member_cmp g.taken c.key ≡ true → Gathers (cs ++ c ∷ []) g
+    (cs : List Candidate) (g : Gathered) (c : Candidate) → Gathers cs g → contains member_cmp g.taken c.key ≡ true
+    → Gathers (cs ++ c ∷ []) g
 gathers-known cs g c before known =
     record {
       taken = λ q.
@@ -94,7 +97,8 @@ gathering-known key_of id rest more whole g b k so is key known =
     record {
       passed = so.passed ++ c ∷ [];
       gathers = gathers-known so.passed g c so.gathers (ap (contains member_cmp g.taken) (sym key) ∙ known);
-      left = append_assoc so.passed (c ∷ []) (candidates_of key_of id more) ∙ ap (λ ms. so.passed ++ candidates_of key_of id ms) (sym is) ∙ so.left;
+      left = append_assoc so.passed (c ∷ []) (candidates_of key_of id more) ∙ ap (λ ms. so.passed ++ candidates_of key_of id ms) (sym is)
+          ∙ so.left;
     }
 
 -- one more member, which is the target of its key
@@ -113,13 +117,15 @@ gathering-first key_of id rest more whole g h b c k l so is key new copy twin ta
           (λ q. taken q ∙ ap (λ m. cond (same_member m q) true (contains member_cmp g.taken q)) (twin ∙ key))
           (order ∙ ap (λ m. insert_entry place_cmp g.order.entries (record { backend = m; view = id }) k) copy
           ∙ ap (λ m. insert_entry place_cmp g.order.entries (record { backend = b; view = id }) m) key);
-      left = append_assoc so.passed (d ∷ []) (candidates_of key_of id more) ∙ ap (λ ms. so.passed ++ candidates_of key_of id ms) (sym is) ∙ so.left;
+      left = append_assoc so.passed (d ∷ []) (candidates_of key_of id more) ∙ ap (λ ms. so.passed ++ candidates_of key_of id ms) (sym is)
+          ∙ so.left;
     }
 
 -- one more view: by its mark
 pub candidates-push :
     (key_of : Member → Member) (views : List ViewValue) (v : ViewValue)
-    → candidates key_of (live (views ++ v ∷ [])) ≡ cond v.marked (candidates key_of (live views)) (candidates key_of (live views) ++ candidates_of key_of v.id v.members)
+    → candidates key_of (live (views ++ v ∷ [])) ≡ cond v.marked (candidates key_of (live views))
+    (candidates key_of (live views) ++ candidates_of key_of v.id v.members)
 candidates-push key_of views v =
     ap (candidates key_of) (filter-append (λ (w : ViewValue). not w.marked) views (v ∷ []))
     ∙ flat_map-append (λ (w : ViewValue). candidates_of key_of w.id w.members) (live views) (live (v ∷ []))
@@ -127,6 +133,7 @@ candidates-push key_of views v =
   where
     pushed :
         (before own : List Candidate) (m : Bool) (w : ViewValue)
-        → before ++ flat_map (λ (w : ViewValue). candidates_of key_of w.id w.members) (cond (not m) (v ∷ []) []) ≡ cond m before (before ++ candidates_of key_of v.id v.members)
+        → before ++ flat_map (λ (w : ViewValue). candidates_of key_of w.id w.members) (cond (not m) (v ∷ []) []) ≡ cond m before
+        (before ++ candidates_of key_of v.id v.members)
     pushed before own true w = append-nil before
     pushed before own false w = ap (λ ys. before ++ ys) (append-nil (candidates_of key_of v.id v.members))

@@ -34,7 +34,7 @@ pub(crate) struct ViewCells {
     pub(crate) numbers: BTreeSet<u64>,
 }
 
-// Where the view of this number stands, unless its removal waits.
+// The place of the view of this number, unless its removal waits.
 pub(crate) fn place_of(views: &[View], id: u64) -> Option<usize>
     ensures { result ≡ position (λ v. is_view id (view_value v)) views.now }
 {

@@ -37,7 +37,7 @@ impl Default for Health {
 }
 
 impl Health {
-    /// A health that begins so, with no verdict against it. It takes no memory.
+    /// Returns a health that begins so, with no verdict against it. It takes no memory.
     pub fn starting(healthy: bool) -> Health
         ensures { IsHealthAfter healthy [] result }
     {
@@ -47,15 +47,16 @@ impl Health {
         }
     }
 
-    /// Whether the backend is healthy.
+    /// Returns whether the backend is healthy.
     pub fn ready(&self) -> bool
         ensures { result ≡ self.now.healthy }
     {
         self.healthy
     }
 
-    /// Takes a verdict of a check. The state flips where this verdict, with those just before it that said the same, are as many
-    /// as the threshold; 0 acts as 1. Answers whether it flipped.
+    /// Takes a verdict of a check, and returns whether the state flipped.
+    ///
+    /// It flips where this verdict, with those just before it that said the same, are as many as the threshold; 0 acts as 1.
     pub fn observe_health(&mut self, verdict: bool, threshold: usize) -> bool
         ensures after { (start : Bool) (earlier : List Verdict) → IsHealthAfter start earlier self.old
             → IsHealthAfter start (record { ok = verdict; threshold = threshold } ∷ earlier) self.new }

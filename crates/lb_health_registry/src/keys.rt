@@ -31,12 +31,14 @@ pub trait KeyRule {
 
     ghost gives: { Self → Member → Member → Type 0 };
 
-    /// The key of a backend. Refused `OutOfMemory` where there is no room for it.
+    /// Returns the key of a backend.
+    ///
+    /// Refused `OutOfMemory` where there is no room for it.
     fn key(&self, alloc: Global, backend: &Backend) -> Result<Backend, Refusal>
         ensures ok { IfOk result (λ k. gives self.now backend.now k) }
         ensures refused { OnErr result (result ≡ Err Refusal.OutOfMemory) };
 
-    /// Whether two backends have one key. It takes no memory.
+    /// Returns whether two backends have one key, without taking memory.
     fn same(&self, backend: &Backend, other: &Backend) -> bool
         ensures { (key_of : Member → Member) → IsRuleOf gives self.now key_of
             → result ≡ same_member (key_of backend.now) (key_of other.now) };
@@ -53,7 +55,7 @@ pub struct ByNumber {
 }
 
 impl ByNumber {
-    /// Keys by this function.
+    /// Returns the rule by this function: backends of one number share a cell.
     pub fn new(number: Number) -> ByNumber
         requires { Number.IsAlwaysCallable number }
         ensures { result.number ≡ number }

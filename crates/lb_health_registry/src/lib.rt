@@ -1,5 +1,5 @@
-//! The health of backends: cells that verdicts of checks change, and the registry that gives cells to the targets of its views.
-//! A registry is told by the history of its calls, newest first: each thing that can be seen of it is a short recursion over that list.
+//! The health of backends: cells that verdicts of checks change, and the registry that gives cells to the targets of its views. Contracts
+//! describe a registry by the history of its calls, newest first: each thing that can be seen of it is a short recursion over that list.
 #![tactic(auto)]
 
 mod change;

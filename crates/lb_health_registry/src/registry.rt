@@ -1,5 +1,5 @@
-//! The registry of health: its views, and the cells that their targets share by health key.
-//! Contracts tell it by the history of its calls, newest first; a refused call leaves each history as it was, and applies no mark.
+//! The registry of health: its views, and the cells that their targets share by health key. Contracts describe it by the history of its
+//! calls, newest first; a refused call leaves each history as it was, and applies no mark.
 ghost use Rattle.std.specs.Prelude.{◌≡◌, ◌≢◌, ◌↔◌, ◌+◌, ◌<◌, ◌≤◌, ◌^◌, ℕ, List, [], ◌∷◌, length, true, false, IsTrue, IfOk};
 ghost use Rattle.std.specs.Prelude.{OnOk, OnErr, IsOk, IsErrOf, Err, ◌++◌, vec_len, vec_capacity};
 ghost use Rattle.std.specs.List.{filter_map};
@@ -27,7 +27,7 @@ use std::marker::Model;
 
 /// A registry whose backends share cells by a rule: its views with their memberships, and the cells of their targets.
 ///
-/// Contracts see plain lists: the views, and what is stored of the cells. They are told by the history of the registry's calls.
+/// Contracts see plain lists: the views, and what is stored of the cells. They are stated by the history of the registry's calls.
 #[derive(Drop)]
 pub struct Registry<R> {
     rule: R,
@@ -56,21 +56,21 @@ impl<R> Model for Registry<R> {
 pub type RegistryCore = Registry<Rule<ByNumber>>;
 
 impl Registry<Rule<ByNumber>> {
-    /// A registry without views, whose backends share a cell where their address and weight are the same.
+    /// Returns a registry without views that is keyed by identity: backends share a cell where their address and weight are the same.
     pub fn new(alloc: Global) -> RegistryCore
         ensures { IsRegistryAfter ⟦<Rule<ByNumber> as KeyRule>⟧.gives by_identity [] result }
     {
         Registry::with_rule(alloc, Rule::Identity)
     }
 
-    /// A registry without views, whose backends share a cell where their address is the same.
+    /// Returns a registry without views that is keyed by address: backends share a cell where their address is the same.
     pub fn by_address(alloc: Global) -> RegistryCore
         ensures { IsRegistryAfter ⟦<Rule<ByNumber> as KeyRule>⟧.gives by_address [] result }
     {
         Registry::with_rule(alloc, Rule::Address)
     }
 
-    /// A registry without views, whose backends share a cell where the caller's rule gives them the same number.
+    /// Returns a registry without views that is keyed by the caller's rule: backends share a cell where it gives them the same number.
     pub fn with_equivalence(alloc: Global, rule: ByNumber) -> RegistryCore
         ensures { (key_of : Member → Member) → IsRuleOf ⟦<ByNumber as KeyRule>⟧.gives rule key_of
             → IsRegistryAfter ⟦<Rule<ByNumber> as KeyRule>⟧.gives key_of [] result }
@@ -80,7 +80,7 @@ impl Registry<Rule<ByNumber>> {
 }
 
 impl<R: KeyRule + Drop> Registry<R> {
-    /// A registry without views, whose backends share cells by this rule. Cells begin healthy.
+    /// Returns a registry without views, whose backends share cells by this rule. Cells begin healthy.
     pub fn with_rule(alloc: Global, rule: R) -> Registry<R>
         ensures { (key_of : Member → Member) → IsRuleOf R.gives rule key_of → IsRegistryAfter R.gives key_of [] result }
     {
@@ -92,7 +92,7 @@ impl<R: KeyRule + Drop> Registry<R> {
         }
     }
 
-    /// The registry with cells that begin unhealthy from now on; those that are there stay. It takes no memory.
+    /// Returns the registry with cells that begin unhealthy from now on; those that are there stay. It takes no memory.
     pub fn start_unhealthy(mut self) -> Registry<R>
         ensures { (key_of : Member → Member) (events : List Event) → IsRegistryAfter R.gives key_of events self
             → IsRegistryAfter R.gives key_of (Configured false ∷ events) result }
@@ -101,7 +101,9 @@ impl<R: KeyRule + Drop> Registry<R> {
         self
     }
 
-    /// Registers a view without backends, and answers its number: 1 for the first, and so on. The marks that wait are applied.
+    /// Registers a view without backends, and returns its number: 1 for the first, and so on.
+    ///
+    /// The marks that wait are applied.
     ///
     /// # Errors
     ///
@@ -140,7 +142,9 @@ impl<R: KeyRule + Drop> Registry<R> {
         }
     }
 
-    /// Whether no number is left for one more view: 18446744073709551615 were registered. It takes no memory.
+    /// Returns whether no number is left for one more view: 18446744073709551615 were registered.
+    ///
+    /// It takes no memory.
     pub fn is_full(&self) -> bool
         ensures { (key_of : Member → Member) (events : List Event) → IsRegistryAfter R.gives key_of events self.now
             → (IsTrue result ↔ (2 ^ 64 ≤ registered_after events + 1)) }
@@ -148,7 +152,9 @@ impl<R: KeyRule + Drop> Registry<R> {
         self.registered == u64::MAX
     }
 
-    /// Whether fewer numbers are left than a view's update to this membership starts cells. It takes no memory.
+    /// Returns whether fewer numbers are left than a view's update to this membership starts cells.
+    ///
+    /// It takes no memory.
     pub fn lacks_numbers(&self, members: &BTreeSet<Backend>) -> bool
         ensures { (key_of : Member → Member) (events : List Event) (id : ℕ) → IsRegistryAfter R.gives key_of events self.now
             → has_view id (views_after events) ≡ true
@@ -157,7 +163,7 @@ impl<R: KeyRule + Drop> Registry<R> {
         lacks_numbers(&self.rule, &self.views, members, self.table.numbering.next)
     }
 
-    /// How many numbers are left for cells. It takes no memory.
+    /// Returns how many numbers are left for cells, without taking memory.
     pub fn numbers_left(&self) -> u64
         ensures { (key_of : Member → Member) (events : List Event) → IsRegistryAfter R.gives key_of events self.now
             → result + cells_given key_of events + 1 ≡ 2 ^ 64 }
@@ -165,7 +171,9 @@ impl<R: KeyRule + Drop> Registry<R> {
         u64::MAX - self.table.numbering.next
     }
 
-    /// Whether a backend of a view whose removal doesn't wait has the key of this one, which so starts no cell. It takes no memory.
+    /// Returns whether a backend of a view whose removal doesn't wait has the key of this one, which so starts no cell.
+    ///
+    /// It takes no memory.
     pub fn has_key(&self, backend: &Backend) -> bool
         ensures { (key_of : Member → Member) (events : List Event) → IsRegistryAfter R.gives key_of events self.now
             → result ≡ has_key key_of (live (views_after events)) (key_of backend.now) }
@@ -173,7 +181,9 @@ impl<R: KeyRule + Drop> Registry<R> {
         is_taken(&self.rule, &self.views, backend)
     }
 
-    /// Whether two backends have one key, by which they share a cell. It takes no memory.
+    /// Returns whether two backends have one key, by which they share a cell.
+    ///
+    /// It takes no memory.
     pub fn same_key(&self, backend: &Backend, other: &Backend) -> bool
         ensures { (key_of : Member → Member) (events : List Event) → IsRegistryAfter R.gives key_of events self.now
             → result ≡ same_member (key_of backend.now) (key_of other.now) }
@@ -181,7 +191,9 @@ impl<R: KeyRule + Drop> Registry<R> {
         self.rule.same(backend, other)
     }
 
-    /// Whether there is a view of this number whose removal doesn't wait. It takes no memory.
+    /// Returns whether there is a view of this number whose removal doesn't wait.
+    ///
+    /// It takes no memory.
     pub fn has_view(&self, id: u64) -> bool
         ensures { (key_of : Member → Member) (events : List Event) → IsRegistryAfter R.gives key_of events self.now
             → result ≡ has_view id (views_after events) }
@@ -192,8 +204,9 @@ impl<R: KeyRule + Drop> Registry<R> {
         }
     }
 
-    /// Gives a view another membership, after the marks that wait are applied. The same membership, by identity, changes nothing
-    /// and applies no mark.
+    /// Gives a view another membership, after the marks that wait are applied.
+    ///
+    /// The same membership, by identity, changes nothing and applies no mark.
     ///
     /// # Errors
     ///
@@ -236,12 +249,14 @@ impl<R: KeyRule + Drop> Registry<R> {
         Ok(())
     }
 
-    /// Gives a view another membership, as `update_view` does of one that differs, and lets it live as the snapshot of this
-    /// generation: its cells are kept until it is released. Answers the cell of each backend.
+    /// Gives a view another membership, as `update_view` does, and returns the cell of each backend.
+    ///
+    /// The same membership counts as another one too. It lives as the snapshot of this generation: its cells are kept until it is
+    /// released.
     ///
     /// # Errors
     ///
-    /// As `update_view`.
+    /// Those of `update_view`.
     pub fn show_view(
         &mut self,
         alloc: Global,
@@ -295,8 +310,9 @@ impl<R: KeyRule + Drop> Registry<R> {
         self.table.release(id, generation);
     }
 
-    /// Marks a view for removal: the next call that applies marks removes it. A view that isn't there or has a mark stays so.
-    /// It takes no memory.
+    /// Marks a view for removal: the next call that applies marks removes it.
+    ///
+    /// A view that isn't there or has a mark stays so. It takes no memory.
     pub fn remove_view(&mut self, id: u64)
         ensures { (key_of : Member → Member) (events : List Event) → IsRegistryAfter R.gives key_of events self.old
             → IsRegistryAfter R.gives key_of (Marked id ∷ events) self.new }
@@ -306,8 +322,9 @@ impl<R: KeyRule + Drop> Registry<R> {
         }
     }
 
-    /// Takes a verdict of a check for a cell, with the threshold that holds for it (0 acts as 1), and answers whether the cell's
-    /// health flipped. It takes no memory.
+    /// Takes a verdict of a check for a cell, and returns whether the cell's health flipped.
+    ///
+    /// The threshold is the one that holds for this verdict; 0 acts as 1. It takes no memory.
     ///
     /// # Errors
     ///
@@ -326,7 +343,7 @@ impl<R: KeyRule + Drop> Registry<R> {
         self.table.observe(cell, verdict, threshold)
     }
 
-    /// Whether a cell is kept and healthy. It takes no memory.
+    /// Returns whether a cell is kept and healthy, without taking memory.
     pub fn cell_ready(&self, cell: u64) -> bool
         ensures { (key_of : Member → Member) (events : List Event) → IsRegistryAfter R.gives key_of events self.now
             → (IsTrue result ↔ (IsCellKept key_of cell events × (cell_health key_of cell events ≡ true))) }
@@ -334,7 +351,7 @@ impl<R: KeyRule + Drop> Registry<R> {
         self.table.cell_ready(cell)
     }
 
-    /// How many targets there are, after the marks that wait are applied.
+    /// Returns how many targets there are, after the marks that wait are applied.
     ///
     /// # Errors
     ///
@@ -356,11 +373,11 @@ impl<R: KeyRule + Drop> Registry<R> {
         Ok(count)
     }
 
-    /// The targets with their cells, by identity and then by view, after the marks that wait are applied.
+    /// Returns the targets with their cells, by identity and then by view, after the marks that wait are applied.
     ///
     /// # Errors
     ///
-    /// As `target_count`.
+    /// Those of `target_count`.
     pub fn targets(&mut self, alloc: Global) -> Result<Vec<Target>, Refusal>
         ensures ok { OnOk result ((key_of : Member → Member) (events : List Event) → IsRegistryAfter R.gives key_of events self.old
             → IsRegistryAfter R.gives key_of (Applied ∷ events) self.new) }

@@ -1,5 +1,5 @@
-//! A row that tells of cells by their numbers whether they are healthy, so that most are found without a search.
-//! What the row doesn't tell of is searched for by its owner.
+//! A row that says of cells by their numbers whether they are healthy, so that most are found without a search. What the row doesn't know
+//! is searched for by its owner.
 ghost use Rattle.std.specs.Prelude.{◌≡◌, ◌≢◌, ℕ, Bool, Option, Some, IfSome};
 ghost use Rattle.lb_health_registry.specs.Row.{Tells, TellsFrom};
 
@@ -13,7 +13,7 @@ pub(crate) struct Row {
 }
 
 impl Row {
-    /// A row that tells nothing. It takes no memory.
+    /// Returns a row that knows nothing, without taking memory.
     pub(crate) fn new(alloc: Global) -> Row
         ensures { (f : ℕ → Option Bool) → Tells f result }
     {
@@ -23,12 +23,12 @@ impl Row {
         }
     }
 
-    /// How many cells it can tell of.
+    /// Returns how many cells it can know of.
     pub(crate) fn len(&self) -> usize {
         self.told.len()
     }
 
-    /// Whether the cell is healthy, where the row tells it.
+    /// Returns whether the cell is healthy, where the row knows it.
     #[inline]
     pub(crate) fn get(&self, cell: u64) -> Option<bool>
         ensures { (f : ℕ → Option Bool) → Tells f self.now → IfSome result (λ healthy. f cell ≡ Some healthy) }
@@ -37,7 +37,7 @@ impl Row {
         *self.told.get(place as usize)?
     }
 
-    /// Tells of a cell that it is healthy or that it isn't, where the row has a place for its number.
+    /// Notes that a cell is healthy or that it isn't, where the row has a place for its number.
     pub(crate) fn set(&mut self, cell: u64, healthy: bool)
         ensures { (f g : ℕ → Option Bool) → Tells f self.old → ((d : ℕ) → d ≢ cell → g d ≡ f d) → g cell ≡ Some healthy → Tells g self.new }
     {
@@ -65,7 +65,7 @@ impl Row {
     }
 }
 
-// So many places that tell nothing; none where memory is refused.
+// So many places that know nothing; none where memory is refused.
 fn unknown(alloc: Global, count: usize) -> Vec<Option<bool>>
     ensures { (f : ℕ → Option Bool) (first : ℕ) → TellsFrom f first result.items }
 {

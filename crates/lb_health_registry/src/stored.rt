@@ -1,5 +1,5 @@
-//! The cells that a registry stores, by number, and a row that tells which of most of them are healthy.
-//! Contracts see the cells in the order of their numbers.
+//! The cells that a registry stores, by number, and a row that knows which of most of them are healthy. Contracts see the cells in the
+//! order of their numbers.
 ghost use Rattle.std.specs.Prelude.{◌≡◌, ◌≢◌, ℕ, [], map, filter, cond, OnOk, OnErr, Err, Some, None};
 ghost use Rattle.std.specs.BTreeMap.{is_at};
 ghost use Rattle.std.specs.Option.{option_copied};
@@ -43,7 +43,7 @@ impl<K: Ord + Drop> Model for StoredCells<K> {
 }
 
 impl<K: HealthKey> StoredCells<K> {
-    /// No cells.
+    /// Returns a store without cells.
     pub(crate) fn new(alloc: Global) -> StoredCells<K>
         ensures { result ≡ [] }
     {
@@ -54,14 +54,14 @@ impl<K: HealthKey> StoredCells<K> {
         }
     }
 
-    /// The cell of this number.
+    /// Returns the cell of this number.
     pub(crate) fn get(&self, cell: u64) -> Option<&Cell<K>>
         ensures value { option_copied result ≡ value_at nat_cmp self.now cell }
     {
         self.by_number.get(&cell)
     }
 
-    /// Whether the cell of this number is healthy, where it is stored.
+    /// Returns whether the cell of this number is healthy, where it is stored.
     pub(crate) fn is_healthy(&self, cell: u64) -> Option<bool>
         ensures { result ≡ stored_health self.now cell }
     {
@@ -84,7 +84,9 @@ impl<K: HealthKey> StoredCells<K> {
         }
     }
 
-    /// Stores a cell under this number. Refused for memory alone; then all is as before.
+    /// Stores a cell under this number.
+    ///
+    /// Refused for memory alone; then all is as before.
     pub(crate) fn insert(&mut self, cell: u64, stored: Cell<K>) -> Result<(), Refusal>
         ensures stored { OnOk result (value_at nat_cmp self.new cell ≡ Some stored) }
         ensures others { (d : ℕ) → d ≢ cell → value_at nat_cmp self.new d ≡ value_at nat_cmp self.old d }
@@ -121,7 +123,7 @@ impl<K: HealthKey> StoredCells<K> {
     }
 }
 
-// Tells anew which of the cells are healthy, from the first one on. It takes no memory.
+// Notes anew which of the cells are healthy, from the first one on. It takes no memory.
 fn retell<K: HealthKey>(row: &mut Row, cells: &BTreeMap<u64, Cell<K>>)
     ensures { Tells (stored_health cells.now.entries) row.new }
 {

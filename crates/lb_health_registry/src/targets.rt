@@ -20,7 +20,7 @@ pub struct View {
     pub(crate) members: BTreeSet<Backend>,
 }
 
-/// Where a backend stands among the targets: by identity, then by the number of its view.
+/// The place of a backend among the targets: by identity, then by the number of its view.
 #[derive(Debug, Drop, PartialEq, Eq, PartialOrd, Ord)]
 pub struct TargetPlace {
     pub(crate) backend: Backend,

@@ -1,5 +1,5 @@
-//! The backends of one discovery: a view with the registry that it belongs to.
-//! Whoever has it updates it and runs its checks; the forms that threads share stand above.
+//! The backends of one discovery: a view with the registry that it belongs to, as a plain value. Its owner updates it and runs its checks;
+//! the forms that threads share are in crates above.
 ghost use Rattle.std.specs.Prelude.{◌≡◌, ◌↔◌, ◌+◌, ◌^◌, ◌≤◌, ◌∷◌, ℕ, Bool, List, [], Ok, Err, Some, None, IfOk, OnOk, OnErr};
 ghost use Rattle.std.specs.Prelude.{IsErrOf, IsSome, IsTrue, MatchOption, false};
 ghost use Rattle.std.specs.Arc.{arc_value};
@@ -31,7 +31,7 @@ use std::collections::BTreeSet;
 use std::marker::Model;
 use std::sync::Arc;
 
-/// A discovery, a registry, and the view of the one in the other. Some history stands behind the view.
+/// A discovery, a registry, and the view of the one in the other. Some history explains the view.
 #[derive(Drop)]
 pub struct Backends<D, R, C> {
     discovery: DiscoverySource<D>,
@@ -39,7 +39,7 @@ pub struct Backends<D, R, C> {
     view: ViewCore,
 }
 
-/// The name of `Backends` where it is handed round as the view of a registry.
+/// The name of `Backends` where it is the view of a registry.
 pub type BackendView<D, R, C> = Backends<D, R, C>;
 
 impl<D, R, C> Model for Backends<D, R, C> {
@@ -62,7 +62,7 @@ pub struct BackendsParts<D, R, C> {
 }
 
 impl<D, R, C> Backends<D, R, C> {
-    /// What the backends are made of, for whoever updates them otherwise.
+    /// Returns what the backends are made of, for callers that update them otherwise.
     pub fn into_parts(self) -> BackendsParts<D, R, C>
         ensures parts { (result.discovery ≡ self.discovery) × (result.registry ≡ self.health) × (result.view ≡ self.view) }
         ensures founded { IsFounded result.view }
@@ -81,7 +81,9 @@ impl<D, R, C> Backends<D, R, C> {
 }
 
 impl<D: ServiceDiscovery + Drop, N: KeyRule + Drop, C: HealthCheck + Drop> Backends<D, Rule<N>, C> {
-    /// A view of this discovery in a registry of its own, keyed by identity, without a check: generation 0, without backends.
+    /// Returns a view of this discovery in a registry of its own, keyed by identity, without a check.
+    ///
+    /// It is at generation 0, without backends.
     ///
     /// # Errors
     ///
@@ -101,7 +103,7 @@ impl<D: ServiceDiscovery + Drop, N: KeyRule + Drop, C: HealthCheck + Drop> Backe
 }
 
 impl<D: ServiceDiscovery + Drop, R: KeyRule + Drop, C: HealthCheck + Drop> Backends<D, R, C> {
-    /// A view of this discovery, registered in the registry: generation 0, without backends.
+    /// Returns a view of this discovery, registered in the registry: generation 0, without backends.
     ///
     /// # Errors
     ///
@@ -132,14 +134,14 @@ impl<D: ServiceDiscovery + Drop, R: KeyRule + Drop, C: HealthCheck + Drop> Backe
         })
     }
 
-    /// The newest generation.
+    /// Returns the newest generation.
     pub fn generation(&self) -> u64
         ensures { (views : List ViewEvent) → IsViewAfter views self.now.view → result ≡ generation_after views }
     {
         self.view.generation()
     }
 
-    /// Whether a backend is ready in the newest membership. It takes no memory.
+    /// Returns whether a backend is ready in the newest membership, without taking memory.
     pub fn ready(&self, backend: &Backend) -> bool
         ensures { (key_of : Member → Member) (views : List ViewEvent) (events : List Event) → IsViewAfter views self.now.view
             → IsRegistryAfter R.gives key_of events self.now.health.registry
@@ -159,7 +161,9 @@ impl<D: ServiceDiscovery + Drop, R: KeyRule + Drop, C: HealthCheck + Drop> Backe
         self.view.set_enable(backend, enabled);
     }
 
-    /// The newest membership. Refused `OutOfMemory` where std refuses one more owner.
+    /// Returns the newest membership.
+    ///
+    /// Refused `OutOfMemory` where std refuses one more owner.
     pub fn get_backend(&self) -> Result<Arc<BTreeSet<Backend>>, Refusal>
         ensures members { IfOk result (λ set. (views : List ViewEvent) → IsViewAfter views self.now.view
             → (arc_value set).keys ≡ membership_after views) }
@@ -168,7 +172,9 @@ impl<D: ServiceDiscovery + Drop, R: KeyRule + Drop, C: HealthCheck + Drop> Backe
         self.view.get_backend()
     }
 
-    /// Sets the check of the registry. Refused `HealthCheckSet` where one is set.
+    /// Sets the check of the registry.
+    ///
+    /// Refused `HealthCheckSet` where one is set.
     pub fn set_health_check(&mut self, check: C) -> Result<(), Refusal>
         ensures set { self.old.health.check ≡ None
             → (result ≡ Ok tt) × (self.new.health ≡ record self.old.health { check = Some check }) }
@@ -179,13 +185,13 @@ impl<D: ServiceDiscovery + Drop, R: KeyRule + Drop, C: HealthCheck + Drop> Backe
         self.registry.set_health_check(check)
     }
 
-    /// Discovers, and updates the view by it. `changed` is lent a membership that is another one once it is the newest; its
-    /// answer comes back, or `None` where the membership is the same.
+    /// Discovers, and updates the view by it. Returns what `changed` returned, or `None` where the membership is the same.
+    ///
+    /// `changed` borrows a membership that is another one, once it is the newest.
     ///
     /// # Errors
     ///
-    /// `Discovery` where the discovery answers a fault; as `ViewCore::update` beside it. View, flags and registry are then as
-    /// before.
+    /// `Discovery` where the discovery fails, and those of `ViewCore::update`. View, flags and registry are then as before.
     pub fn update<T, F: FnOnce(&BTreeSet<Backend>) -> T>(
         &mut self,
         alloc: Global,

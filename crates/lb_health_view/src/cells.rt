@@ -1,5 +1,5 @@
-//! The cells of a snapshot, by backend, and hints by which most of them are found without a search.
-//! A hint tells of one backend at an IPv4 address; what it doesn't tell of is searched for.
+//! The cells of a snapshot, by backend, and hints by which most of them are found without a search. A hint is for one backend at an IPv4
+//! address; a cell without a hint is searched for.
 ghost use Rattle.std.specs.Prelude.{◌≡◌, ℕ, List, IfSome, Some};
 ghost use Rattle.lb_select_base.specs.AddressText.{bare_member};
 ghost use Rattle.lb_select_base.specs.Backends.{Member, ipv4};
@@ -44,7 +44,7 @@ impl Model for Cells {
 }
 
 impl Cells {
-    /// These cells. Where memory is refused for the hints, there are none.
+    /// Returns these cells, with hints. Where memory is refused for the hints, there are none.
     pub(crate) fn new(alloc: Global, by_backend: BTreeMap<Backend, u64>) -> Cells
         ensures { result ≡ by_backend.entries }
     {
@@ -52,7 +52,7 @@ impl Cells {
         Cells { by_backend, hints }
     }
 
-    /// The cell of a backend, by identity. It takes no memory.
+    /// Returns the cell of a backend, by identity, without taking memory.
     pub(crate) fn get(&self, backend: &Backend) -> Option<u64>
         ensures { result ≡ value_at self.now backend.now }
     {
@@ -62,7 +62,7 @@ impl Cells {
         }
     }
 
-    // The cell of a backend, where a hint tells it.
+    // The cell of a backend, where a hint says it.
     #[inline]
     fn hinted(&self, backend: &Backend) -> Option<u64>
         ensures { IfSome result (λ cell. value_at self.now backend.now ≡ Some cell) }
@@ -80,7 +80,7 @@ impl Cells {
     }
 }
 
-// The cell of the backend of this address and weight, where the hint at the place tells it.
+// The cell of the backend of this address and weight, where the hint at the place says it.
 #[inline]
 fn told(
     hints: &[Option<Hint>],
@@ -100,7 +100,7 @@ fn told(
     }
 }
 
-// Where the hint of an IPv4 address stands among so many: any place would do, but addresses that follow one another are spread.
+// The place of the hint of an IPv4 address among so many: any place would do, but addresses that follow one another are spread.
 #[inline]
 fn place_of(octets: &[u8; 4], port: u16, count: usize) -> usize {
     let number = u64::from(port) << 32 | u64::from(u32::from_be_bytes(*octets));
@@ -151,7 +151,7 @@ fn note(hints: &mut Vec<Option<Hint>>, backend: &Backend, cell: u64)
     }
 }
 
-// The place, where none stands there, or else the one after it.
+// The place, where it has no hint, or else the one after it.
 fn free_place(hints: &[Option<Hint>], place: usize) -> usize {
     match hints.get(place) {
         Some(Some(_)) => place.wrapping_add(1),

@@ -21,7 +21,9 @@ pub type Discovered = (BTreeSet<Backend>, Settings);
 
 /// A source of backends.
 pub trait ServiceDiscovery {
-    /// The backends that are there now. A fault is `Discovery`; `OutOfMemory` where memory is refused.
+    /// Returns the backends that are there now.
+    ///
+    /// A fault is `Discovery`; `OutOfMemory` where memory is refused.
     fn discover(&self, alloc: Global) -> Result<Discovered, Refusal>;
 }
 
@@ -34,7 +36,7 @@ impl ServiceDiscovery for BoxedDiscovery {
     }
 }
 
-/// A set of backends that stays, without settings. Contracts see the backends in order.
+/// A fixed set of backends, without settings. Contracts see the backends in order.
 #[derive(Drop)]
 pub struct Static {
     backends: BTreeSet<Backend>,
@@ -50,14 +52,14 @@ impl Model for Static {
 }
 
 impl Static {
-    /// The discovery of these backends.
+    /// Returns the discovery of these backends.
     pub fn new(backends: BTreeSet<Backend>) -> Static
         ensures { result ≡ backends.keys }
     {
         Static { backends }
     }
 
-    /// The discovery of no backend.
+    /// Returns the discovery of no backend.
     pub fn default(alloc: Global) -> Static
         ensures { result ≡ [] }
     {
@@ -66,10 +68,12 @@ impl Static {
         }
     }
 
-    /// The backends of weight 1 at the addresses of the texts, each once. A text that std reads as a socket address has that one,
-    /// and no network is asked; of another text, `host:port`, the network looks up the host, and may give any addresses.
+    /// Returns the backends of weight 1 at the addresses of the texts, each once.
     ///
-    /// What a network gives for a name, and that a text without a host and a port has no address, no contract tells.
+    /// A text that std reads as a socket address has that one, and no network is asked; of another text, `host:port`, the network looks up
+    /// the host, and may give any addresses.
+    ///
+    /// No contract says what a network gives for a name, or that a text without a host and a port has no address.
     ///
     /// # Errors
     ///
@@ -97,7 +101,9 @@ impl Static {
         }
     }
 
-    /// A copy of the backends. Refused `OutOfMemory` where there is no room for it.
+    /// Returns a copy of the backends.
+    ///
+    /// Refused `OutOfMemory` where there is no room for it.
     pub fn get(&self) -> Result<BTreeSet<Backend>, Refusal>
         ensures ok { IfOk result (λ set. set.keys ≡ self.now) }
         ensures refused { OnErr result (result ≡ Err Refusal.OutOfMemory) }
@@ -117,7 +123,7 @@ impl ServiceDiscovery for Static {
     }
 }
 
-/// The discovery of a view: a set that stays, or the caller's.
+/// The discovery of a view: a fixed set, or the caller's.
 #[derive(Drop)]
 pub enum DiscoverySource<D = BoxedDiscovery> {
     Static(Static),
@@ -125,7 +131,9 @@ pub enum DiscoverySource<D = BoxedDiscovery> {
 }
 
 impl<D: ServiceDiscovery> ServiceDiscovery for DiscoverySource<D> {
-    /// As the discovery that it is. A caller's fault is `Discovery`, whatever refusal tells it, save `OutOfMemory`.
+    /// Returns the backends that the set or the caller's discovery gives now.
+    ///
+    /// A caller's fault becomes `Discovery`, whatever its refusal, save `OutOfMemory`.
     fn discover(&self, alloc: Global) -> Result<Discovered, Refusal>
         ensures ok { IfOk result (λ found. Discovers self.now found.0.keys (settings_of found.1.entries)) }
         ensures refused { OnErr result (IsDiscoveryRefusal result) }

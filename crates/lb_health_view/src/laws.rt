@@ -1,5 +1,4 @@
-//! Laws of views, as functions whose contracts state them.
-//! No program needs to call one.
+//! Laws of views, as functions whose contracts state them. They do nothing at run time; no program needs to call one.
 ghost use Rattle.std.specs.Prelude.{◌≡◌, ◌<◌, ◌↔◌, ◌∷◌, ℕ, Bool, List, true, IsTrue};
 ghost use Rattle.lb_select_base.specs.Backends.{Member};
 ghost use Rattle.lb_health_registry.specs.Registry.{IsRegistryAfter};
@@ -14,8 +13,8 @@ use lb_health_registry::keys::KeyRule;
 use lb_health_registry::registry::Registry;
 use lb_select_base::backend::Backend;
 
-/// A law: a snapshot that is held lives on through an update of its view, with its members and its cells, and the registry goes
-/// on holding these cells for it.
+/// A snapshot that is held lives on through an update of its view, with its members and its cells, and the registry goes on keeping these
+/// cells for it.
 pub fn updates_keep_held_snapshots()
     ensures view { (key_of : Member → Member) (views : List ViewEvent) (events : List Event) (id : ℕ) (members : List Member)
         (settings : List (Member × Bool)) (s : SnapshotValue) → IsAmong s (snapshots_after views) → 0 < s.holds
@@ -26,8 +25,8 @@ pub fn updates_keep_held_snapshots()
         → holds_cell key_of id s.generation c (registry_updated key_of id members views events) ≡ true }
 {}
 
-/// A flag set in one view changes readiness in no other: after it, readiness in another view goes by the same history of that
-/// view and of the registry as before.
+/// A flag set in one view changes readiness in no other: after it, readiness in another view is by the same history of that view and of
+/// the registry as before.
 pub fn flags_are_of_one_view<R: KeyRule + Drop>(
     view: &mut ViewCore,
     other: &ViewCore,

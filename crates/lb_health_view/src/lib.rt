@@ -1,5 +1,5 @@
-//! Views of backends and their health: discovery, memberships in numbered generations, flags, readiness, and passes of checks.
-//! A view is told by the history of its events, and a registry of cells by its own; a call says what it adds to each.
+//! Views of backends and their health: discovery, memberships in numbered generations, flags, readiness, and passes of checks. Contracts
+//! describe a view by the history of its events, and a registry of cells by its own; a call says what it adds to each.
 #![tactic(auto)]
 
 pub mod backends;

@@ -1,5 +1,5 @@
-//! A registry of health with its check, and the passes that check its targets one by one.
-//! A verdict reaches the cell of its target; where that flips, the check is told, and then a line is logged.
+//! A registry of health with its check, and the passes that check its targets one by one. A verdict reaches the cell of its target; where
+//! that flips, the check's observer is called, and then a line is logged.
 ghost use Rattle.std.specs.Prelude.{◌≡◌, ◌↔◌, ◌≤◌, ◌^◌, ◌∷◌, [], Bool, false, List, map, length, Ok, Err, Some, None, IfOk, OnOk, OnErr};
 ghost use Rattle.std.specs.Prelude.{IsErrOf, IsSome};
 ghost use Rattle.lb_select_base.specs.Backends.{Member};
@@ -24,7 +24,7 @@ use std::marker::Model;
 /// A registry of health and the check of its targets, which is set once.
 #[derive(Drop)]
 pub struct HealthRegistry<R, C> {
-    /// The registry itself, for a call that is lent one.
+    /// The registry itself, for a call that borrows one.
     pub registry: Registry<R>,
     check: Option<C>,
 }
@@ -38,7 +38,9 @@ impl<R, C> Model for HealthRegistry<R, C> {
 }
 
 impl<N: KeyRule + Drop, C: HealthCheck + Drop> HealthRegistry<Rule<N>, C> {
-    /// A registry without views and without a check, whose backends share a cell where their address and weight are the same.
+    /// Returns a registry that is keyed by identity, without views and without a check.
+    ///
+    /// Its backends share a cell where their address and weight are the same.
     pub fn new(alloc: Global) -> HealthRegistry<Rule<N>, C>
         ensures registry { IsRegistryAfter (rule_gives N.gives) by_identity [] result.registry }
         ensures check { result.check ≡ None }
@@ -49,7 +51,9 @@ impl<N: KeyRule + Drop, C: HealthCheck + Drop> HealthRegistry<Rule<N>, C> {
         }
     }
 
-    /// The same, whose backends share a cell where their address is the same.
+    /// Returns a registry that is keyed by address, without views and without a check.
+    ///
+    /// Its backends share a cell where their address is the same.
     pub fn by_address(alloc: Global) -> HealthRegistry<Rule<N>, C>
         ensures registry { IsRegistryAfter (rule_gives N.gives) by_address [] result.registry }
         ensures check { result.check ≡ None }
@@ -60,7 +64,9 @@ impl<N: KeyRule + Drop, C: HealthCheck + Drop> HealthRegistry<Rule<N>, C> {
         }
     }
 
-    /// The same, whose backends share a cell where the caller's rule gives them the same key, as `ByNumber` does by a number.
+    /// Returns a registry that is keyed by the caller's rule, without views and without a check.
+    ///
+    /// Its backends share a cell where the rule gives them the same key, as `ByNumber` does by a number.
     pub fn with_equivalence(alloc: Global, rule: N) -> HealthRegistry<Rule<N>, C>
         ensures registry { (key_of : Member → Member) → IsRuleOf N.gives rule key_of
             → IsRegistryAfter (rule_gives N.gives) key_of [] result.registry }
@@ -74,7 +80,7 @@ impl<N: KeyRule + Drop, C: HealthCheck + Drop> HealthRegistry<Rule<N>, C> {
 }
 
 impl<R: KeyRule + Drop, C: HealthCheck + Drop> HealthRegistry<R, C> {
-    /// This registry, without a check.
+    /// Returns this registry, without a check.
     pub fn over(registry: Registry<R>) -> HealthRegistry<R, C>
         ensures registry { result.registry ≡ registry }
         ensures check { result.check ≡ None }
@@ -85,7 +91,7 @@ impl<R: KeyRule + Drop, C: HealthCheck + Drop> HealthRegistry<R, C> {
         }
     }
 
-    /// The registry with cells that begin unhealthy from now on; those that are there stay. It takes no memory.
+    /// Returns the registry with cells that begin unhealthy from now on; those that are there stay. It takes no memory.
     pub fn start_unhealthy(self) -> HealthRegistry<R, C>
         ensures registry { (key_of : Member → Member) (events : List Event) → IsRegistryAfter R.gives key_of events self.registry
             → IsRegistryAfter R.gives key_of (Configured false ∷ events) result.registry }
@@ -98,7 +104,9 @@ impl<R: KeyRule + Drop, C: HealthCheck + Drop> HealthRegistry<R, C> {
         }
     }
 
-    /// Sets the check. Refused `HealthCheckSet` where one is set, which stays.
+    /// Sets the check.
+    ///
+    /// Refused `HealthCheckSet` where one is set, which stays.
     pub fn set_health_check(&mut self, check: C) -> Result<(), Refusal>
         ensures set { self.old.check ≡ None → (result ≡ Ok tt) × (self.new ≡ record self.old { check = Some check }) }
         ensures refused { IsSome self.old.check → (result ≡ Err Refusal.HealthCheckSet) × (self.new ≡ self.old) }
@@ -110,7 +118,7 @@ impl<R: KeyRule + Drop, C: HealthCheck + Drop> HealthRegistry<R, C> {
         Ok(())
     }
 
-    /// How many targets there are, after the marks that wait are applied.
+    /// Returns how many targets there are, after the marks that wait are applied.
     ///
     /// # Errors
     ///
@@ -133,11 +141,11 @@ impl<R: KeyRule + Drop, C: HealthCheck + Drop> HealthRegistry<R, C> {
         self.registry.target_count(alloc)
     }
 
-    /// The targets with their cells, by identity and then by view, after the marks that wait are applied.
+    /// Returns the targets with their cells, by identity and then by view, after the marks that wait are applied.
     ///
     /// # Errors
     ///
-    /// As `target_count`.
+    /// Those of `target_count`.
     pub fn targets(&mut self, alloc: Global) -> Result<Vec<Target>, Refusal>
         ensures ok { OnOk result ((key_of : Member → Member) (events : List Event)
             → IsRegistryAfter R.gives key_of events self.old.registry
@@ -156,12 +164,13 @@ impl<R: KeyRule + Drop, C: HealthCheck + Drop> HealthRegistry<R, C> {
         self.registry.targets(alloc)
     }
 
-    /// Applies the marks that wait, and then checks each target once, one after another, if a check is set. Each verdict reaches
-    /// the cell of its target.
+    /// Applies the marks that wait, and then checks each target once, one after another, if a check is set.
+    ///
+    /// Each verdict reaches the cell of its target.
     ///
     /// # Errors
     ///
-    /// As `target_count`, before the first check.
+    /// Those of `target_count`, before the first check.
     pub fn run_health_check<L: Log>(&mut self, rt: &L, alloc: Global) -> Result<(), Refusal>
         ensures ok { OnOk result ((key_of : Member → Member) (events : List Event)
             → IsRegistryAfter R.gives key_of events self.old.registry
@@ -202,7 +211,7 @@ fn check_all<R: KeyRule + Drop, C: HealthCheck, L: Log>(
     }
 }
 
-// Checks a target, hands the verdict to its cell, and tells of a flip.
+// Checks a target, gives the verdict to its cell, and reports a flip.
 fn check_one<R: KeyRule + Drop, C: HealthCheck, L: Log>(
     rt: &L,
     alloc: Global,
@@ -226,8 +235,10 @@ fn check_one<R: KeyRule + Drop, C: HealthCheck, L: Log>(
     }
 }
 
-/// Tells the check that the health of a backend flipped, and then the log: `.. becomes healthy`, or `.. becomes unhealthy` with the
-/// name of the fault. Where the summary is refused for memory, there is no line.
+/// Reports to the check that the health of a backend flipped, and then logs it.
+///
+/// The line is `.. becomes healthy`, or `.. becomes unhealthy` with the name of the fault. Where the summary is refused for memory, there
+/// is no line.
 pub fn tell<C: HealthCheck, L: Log>(
     rt: &L,
     alloc: Global,

@@ -1,5 +1,5 @@
-//! The view of a registry: a membership in numbered generations, the snapshots that live, and the flags of their backends.
-//! It is told by the list of its events, newest first.
+//! The view of a registry: a membership in numbered generations, the snapshots that live, and the flags of their backends. Contracts
+//! describe it by the list of its events, newest first.
 ghost use Rattle.std.specs.Prelude.{◌≡◌, ◌≢◌, ◌+◌, ◌<◌, ◌^◌, ◌∷◌, [], All, IfOk, IsOk, OnOk, OnErr};
 ghost use Rattle.std.specs.Prelude.{IsErrOf, IsSome, IsTrue, MatchOption, Err, List, ℕ, true, false, ◌↔◌, ◌≤◌};
 ghost use Rattle.std.specs.List.{list_any, list_all};
@@ -67,7 +67,9 @@ impl Model for ViewCore {
 }
 
 impl ViewCore {
-    /// The view of this number, at generation 0. Refused `OutOfMemory` where there is no room for it.
+    /// Returns the view of this number, at generation 0.
+    ///
+    /// Refused `OutOfMemory` where there is no room for it.
     pub fn new(alloc: Global, id: u64) -> Result<ViewCore, Refusal>
         ensures made { IfOk result (λ v. IsViewAfter [] v × (v.id ≡ id)) }
         ensures refused { OnErr result (result ≡ Err Refusal.OutOfMemory) }
@@ -87,7 +89,9 @@ impl ViewCore {
         })
     }
 
-    /// A view that is registered in the registry, at generation 0. The marks that wait there are applied.
+    /// Returns a view that is registered in the registry, at generation 0.
+    ///
+    /// The marks that wait there are applied.
     ///
     /// # Errors
     ///
@@ -117,28 +121,30 @@ impl ViewCore {
         Ok(view)
     }
 
-    /// The number of the view in its registry.
+    /// Returns the number of the view in its registry.
     pub fn id(&self) -> u64
         ensures { result ≡ self.now.id }
     {
         self.id
     }
 
-    /// The newest generation; 0 before the first membership.
+    /// Returns the newest generation; 0 before the first membership.
     pub fn generation(&self) -> u64
         ensures { (views : List ViewEvent) → IsViewAfter views self.now → result ≡ generation_after views }
     {
         self.current.generation
     }
 
-    /// The membership of the newest generation, lent. It takes no memory.
+    /// Returns a borrow of the membership of the newest generation.
     pub fn members(&self) -> &BTreeSet<Backend>
         ensures { (views : List ViewEvent) → IsViewAfter views self.now → result.now.keys ≡ membership_after views }
     {
         &self.current.members
     }
 
-    /// The membership of the newest generation. Refused `OutOfMemory` where std refuses one more owner.
+    /// Returns the membership of the newest generation.
+    ///
+    /// Refused `OutOfMemory` where std refuses one more owner.
     pub fn get_backend(&self) -> Result<Arc<BTreeSet<Backend>>, Refusal>
         ensures members { IfOk result (λ set. (views : List ViewEvent) → IsViewAfter views self.now
             → (arc_value set).keys ≡ membership_after views) }
@@ -148,7 +154,7 @@ impl ViewCore {
         Ok(members)
     }
 
-    /// Whether the flag of a backend that a living snapshot lists is set to enabled. It takes no memory.
+    /// Returns whether the flag of a backend that a living snapshot lists is set to enabled. It takes no memory.
     pub fn is_enabled(&self, backend: &Backend) -> bool
         ensures { (views : List ViewEvent) → IsViewAfter views self.now → listed views backend.now ≡ true
             → result ≡ flag_after views backend.now }
@@ -159,7 +165,9 @@ impl ViewCore {
         self.flags.get(backend).copied().unwrap_or(true)
     }
 
-    /// Enables or disables a backend that a living snapshot lists, by identity; another is left alone. It takes no memory.
+    /// Enables or disables a backend that a living snapshot lists, by identity; another is left alone.
+    ///
+    /// It takes no memory.
     pub fn set_enable(&mut self, backend: &Backend, enabled: bool)
         ensures after { (views : List ViewEvent) → IsViewAfter views self.old → IsViewAfter (Set backend.now enabled ∷ views) self.new }
         ensures id { self.new.id ≡ self.old.id }
@@ -174,16 +182,18 @@ impl ViewCore {
         }
     }
 
-    /// Whether the snapshot of this generation may be held once more: it is held fewer than 18446744073709551615 times, or none
-    /// lives. It takes no memory.
+    /// Returns whether the snapshot of this generation may be held once more.
+    ///
+    /// It may while it is held fewer than 18446744073709551615 times, or none lives. It takes no memory.
     pub fn can_hold(&self, generation: u64) -> bool
         ensures { IsTrue result ↔ All (λ s. s.generation ≡ generation → s.holds + 1 < 2 ^ 64) self.now.snapshots }
     {
         have_room(&self.current, self.earlier.as_slice(), generation)
     }
 
-    /// Holds the snapshot of this generation once more; where none lives, nothing changes. The caller keeps the count below
-    /// 18446744073709551615, as `can_hold` tells. It takes no memory.
+    /// Holds the snapshot of this generation once more; where none lives, nothing changes.
+    ///
+    /// The caller keeps the count below 18446744073709551615, as `can_hold` says. It takes no memory.
     pub fn hold(&mut self, generation: u64)
         requires { All (λ s. s.generation ≡ generation → s.holds + 1 < 2 ^ 64) self.old.snapshots }
         ensures after { (views : List ViewEvent) → IsViewAfter views self.old → IsViewAfter (Held generation ∷ views) self.new }
@@ -196,7 +206,7 @@ impl ViewCore {
         }
     }
 
-    // Lets go of one hold of the snapshot of this generation, and leaves it where it stands.
+    // Takes back one hold of the snapshot of this generation, and leaves the snapshot where it is.
     fn hold_less(&mut self, generation: u64)
         ensures { self.new ≡ record self.old { snapshots = at_generation generation held_less self.old.snapshots } }
     {
@@ -230,9 +240,10 @@ impl ViewCore {
         self.current.generation == generation || is_among(self.earlier.as_slice(), generation)
     }
 
-    /// Lets go of one hold of the snapshot of this generation. Where it was the last of a snapshot that isn't the current one,
-    /// the snapshot ends: its cells are kept no longer by it, and flags of backends that none lists any more are forgotten. It
-    /// takes no memory.
+    /// Takes back one hold of the snapshot of this generation.
+    ///
+    /// Where it was the last of a snapshot that isn't the current one, the snapshot ends: its cells are kept no longer by it, and flags of
+    /// backends that none lists any more are forgotten. It takes no memory.
     pub fn release<R: KeyRule + Drop>(&mut self, registry: &mut Registry<R>, generation: u64)
         ensures view { (views : List ViewEvent) → IsViewAfter views self.old → IsViewAfter (Released generation ∷ views) self.new }
         ensures registry { (key_of : Member → Member) (views : List ViewEvent) (events : List Event) → IsViewAfter views self.old
@@ -247,7 +258,9 @@ impl ViewCore {
         }
     }
 
-    /// Whether a backend is ready in the newest membership: listed, enabled, and its cell kept and healthy. It takes no memory.
+    /// Returns whether a backend is ready in the newest membership: listed, enabled, and its cell kept and healthy.
+    ///
+    /// It takes no memory.
     pub fn ready<R: KeyRule + Drop>(&self, registry: &Registry<R>, backend: &Backend) -> bool
         ensures { (key_of : Member → Member) (views : List ViewEvent) (events : List Event) → IsViewAfter views self.now
             → IsRegistryAfter R.gives key_of events registry.now
@@ -256,8 +269,9 @@ impl ViewCore {
         self.ready_in(registry, self.current.generation, backend)
     }
 
-    /// Whether a backend is ready in the snapshot of this generation, by the cells of that snapshot; not where none lives. It
-    /// takes no memory.
+    /// Returns whether a backend is ready in the snapshot of this generation, by the cells of that snapshot.
+    ///
+    /// It isn't where no such snapshot lives. It takes no memory.
     pub fn ready_in<R: KeyRule + Drop>(
         &self,
         registry: &Registry<R>,
@@ -290,22 +304,23 @@ impl ViewCore {
             → (list_any (same_member backend.now) (snapshot_of snapshot.now).members ≡ true → listed views backend.now ≡ true)
             → (IsTrue result ↔ IsReadyIn key_of views events backend.now (snapshot_of snapshot.now)) }
     {
-        // The cells are those of members alone, so one search tells both.
+        // The cells are those of members alone, so one search finds both.
         if !is_healthy(registry, snapshot, backend) {
             return false;
         }
         self.is_enabled(backend)
     }
 
-    /// Takes what was discovered: a set whose identities differ from the newest membership becomes the next generation, and then
-    /// `changed` is lent it; otherwise nothing changes but flags. Then the settings reach the members of the newest membership.
-    /// Answers what `changed` gave, or `None` where the membership is the same.
+    /// Takes what was discovered. Returns what `changed` returned, or `None` where the membership is the same.
+    ///
+    /// A set whose identities differ from the newest membership becomes the next generation, and then `changed` borrows it; otherwise
+    /// nothing changes but flags. Then the settings reach the members of the newest membership.
     ///
     /// # Errors
     ///
-    /// `GenerationsExhausted` where the membership is another one and the newest generation is 18446744073709551615; `NoSuch`
-    /// where the registry has no such view; `NumbersExhausted` where no number is left for a cell; `OutOfMemory` where memory is
-    /// refused and no other cause stands. View, flags and registry are then as before.
+    /// `GenerationsExhausted` where the membership is another one and the newest generation is 18446744073709551615; `NoSuch` where the
+    /// registry has no such view; `NumbersExhausted` where no number is left for a cell; `OutOfMemory` where memory is refused and no
+    /// other cause applies. View, flags and registry are then as before.
     pub fn update<R: KeyRule + Drop, T, F: FnOnce(&BTreeSet<Backend>) -> T>(
         &mut self,
         alloc: Global,
@@ -466,7 +481,7 @@ impl ViewCore {
         self.current.members.contains(backend)
     }
 
-    /// Whether the newest membership is this one, by identity. It takes no memory.
+    /// Returns whether the newest membership is this one, by identity, without taking memory.
     pub fn is_membership(&self, members: &BTreeSet<Backend>) -> bool
         ensures { (views : List ViewEvent) → IsViewAfter views self.now
             → result ≡ same_members members.now.keys (membership_after views) }

@@ -1,5 +1,5 @@
-//! One lane: a value that threads read in place, with a word that counts them.
-//! Whoever renews a lane that is read marks it: no new reader comes then, and the last one empties it.
+//! One lane: a value that threads read in place, with a word that counts them. A thread that renews a lane which is read marks it: no new
+//! reader comes then, and the last one empties it.
 ghost use Rattle.std.specs.Prelude.{◌≡◌, ◌%◌, ◌<◌, IfSome};
 ghost use Rattle.counted_slot.specs.Counting.{readers};
 
@@ -65,7 +65,7 @@ impl<X: Fits + Drop> Lane<X> {
         None
     }
 
-    // Exchanges what is there for this, under the state `next`, where nobody reads it, and returns what was there. A lane that is read
+    // Exchanges what is there for this, under the state `next`, where no thread reads it, and returns what was there. A lane that is read
     // is marked, and one that another thread has taken is left to it: then this value is returned.
     pub(crate) fn exchange(&self, value: Option<X>, next: u64) -> Option<X>
         requires fits { IfSome value (λ x. X.fits self.now.slot x) }
@@ -90,7 +90,7 @@ impl<X: Fits + Drop> Lane<X> {
     }
 }
 
-// Marks what is read; whether it is marked, or was free all the same.
+// Marks what is read. Returns whether it is marked, or was free all the same.
 fn mark<X: Fits + Drop>(slot: &Counted<Option<X>>, word: u64) -> bool {
     if state_of(word) != PRESENT {
         return true;
@@ -100,7 +100,7 @@ fn mark<X: Fits + Drop>(slot: &Counted<Option<X>>, word: u64) -> bool {
     found == word
 }
 
-// Empties what nobody reads, if its word is still this one.
+// Empties a value that no thread reads, if its word is still this one.
 fn empty<X: Fits + Drop>(slot: &Counted<Option<X>>, word: u64)
     requires { (word % 4 < 3) × (readers word ≡ 0) }
 {

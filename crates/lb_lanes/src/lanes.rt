@@ -15,7 +15,9 @@ pub struct Lanes<X: Fits + Drop> {
 }
 
 impl<X: Fits + Drop> Lanes<X> {
-    /// Returns so many empty lanes, best a power of two: of another number some serve no hint. Refused where memory is.
+    /// Returns so many empty lanes, best a power of two: of another number some serve no hint.
+    ///
+    /// Refused where memory is refused.
     pub fn new(alloc: Global, count: usize, key: &X::Tag) -> Result<Lanes<X>, AllocError>
         ensures keyed { IfOk result (λ l. All (λ lane. lane.slot ≡ key.now) l.lanes.items) }
         ensures count { IfOk result (λ l. vec_len l.lanes ≡ count) }
@@ -41,7 +43,9 @@ impl<X: Fits + Drop> Lanes<X> {
         self.lanes.get(self.place(hint))
     }
 
-    /// Reads what the hint's lane has, or one of the next three. `None` where they are free, marked, or just taken.
+    /// Reads what the hint's lane has, or one of the next three.
+    ///
+    /// `None` where they are free, marked, or just taken.
     pub fn read<'a>(&'a self, hint: u64, key: &X::Tag) -> Option<Seen<'a, X>>
         requires { All (λ lane. lane.slot ≡ key.now) self.now.lanes.items }
         ensures { IfSome result (λ s. s.hand.tag ≡ key.now) }
@@ -57,7 +61,9 @@ impl<X: Fits + Drop> Lanes<X> {
     }
 
     /// Gives the hint's lane this value, and returns what isn't needed: the value that was there, or this one where the lane is read or
-    /// taken. A lane that is read is marked, so that its last reader empties it.
+    /// taken.
+    ///
+    /// A lane that is read is marked, so that its last reader empties it.
     pub fn renew(&self, hint: u64, value: X, key: &X::Tag) -> Option<X>
         requires keyed { All (λ lane. lane.slot ≡ key.now) self.now.lanes.items }
         requires fits { X.fits key.now value }
@@ -68,7 +74,9 @@ impl<X: Fits + Drop> Lanes<X> {
         }
     }
 
-    /// Empties the hint's lane, and returns what was there. Where the lane is read, its last reader empties it.
+    /// Empties the hint's lane, and returns what was there.
+    ///
+    /// Where the lane is read, its last reader empties it.
     pub fn clear(&self, hint: u64) -> Option<X> {
         match self.lanes.get(self.place(hint)) {
             Some(lane) => lane.exchange(None, FREE),

@@ -1,5 +1,6 @@
 -- The law of attempts, over every list of events.
-use Rattle.std.proofs.Common.{◌≡◌, ◌<◌, ◌||◌, Bool, true, false, List, [], ◌∷◌, ◌++◌, length, nat_lt, if◌then◌else◌, arith, refl, length-append}
+use Rattle.std.proofs.Common.{◌≡◌, ◌<◌, ◌||◌, Bool, true, false, List, [], ◌∷◌, ◌++◌, length, nat_lt, if◌then◌else◌, arith, refl}
+use Rattle.std.proofs.Common.{length-append}
 use Rattle.std.specs.List.{AllByRecursion}
 use Rattle.std.proofs.lemmas.Bool.Decides.{nat_tests}
 use Rattle.lb_select_base.specs.Backends.{Member, same_member}
@@ -35,7 +36,8 @@ reached_by : (next : Next) (tried : List Member) → IsFair (record { tried = tr
 reached_by next tried fair room = record { fair = fair; room = room }
 
 -- the choice of a selection
-selected_reached : (is : Bool) (tried : List Member) (backend : Member) → was_tried tried backend ≡ is → IsReached (record { tried = tried; next = Select })
+selected_reached : (is : Bool) (tried : List Member) (backend : Member) → was_tried tried backend ≡ is
+    → IsReached (record { tried = tried; next = Select })
     → IsReached (if is then record { tried = tried; next = Close } else record { tried = tried ++ backend ∷ []; next = Connect })
 selected_reached true tried backend is r = record {
   fair = record { few = r.fair.few; distinct = r.fair.distinct };

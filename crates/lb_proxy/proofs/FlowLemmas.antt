@@ -1,5 +1,6 @@
 -- Lemmas on the buffer of a direction: the bytes that wait are a range of it.
-use Rattle.std.proofs.Common.{◌≡◌, ◌≢◌, ℕ, ◌+◌, ◌-◌, ◌<◌, ◌≤◌, List, [], ◌∷◌, ◌++◌, length, take, drop, slice_range, arith, refl, sym, ap, subst, ◌∙◌, take-append-drop, drop-drop, length-drop, length-take}
+use Rattle.std.proofs.Common.{◌≡◌, ◌≢◌, ℕ, ◌+◌, ◌-◌, ◌<◌, ◌≤◌, List, [], ◌∷◌, ◌++◌, length, take, drop, slice_range, arith, refl, sym, ap}
+use Rattle.std.proofs.Common.{subst, ◌∙◌, take-append-drop, drop-drop, length-drop, length-take}
 use Rattle.std.proofs.Math.Seq.{take-add}
 use Rattle.std.proofs.lemmas.List.{append-nil, drop-take, drop-append-le, length-take-le, take_all}
 use Rattle.lb_proxy.specs.declared.relay.Phase.{Phase}
@@ -17,7 +18,8 @@ pub length-range : (xs : List ℕ) (start end : ℕ) → start ≤ end → end �
 length-range xs start end le within = omega (arith, length-take (end - start) (drop start xs), length-drop start xs)
 
 -- a range stays where the front does
-pub range_kept : (old new : List ℕ) (start end : ℕ) → start ≤ end → take end new ≡ take end old → slice_range new start end ≡ slice_range old start end
+pub range_kept : (old new : List ℕ) (start end : ℕ) → start ≤ end → take end new ≡ take end old
+    → slice_range new start end ≡ slice_range old start end
 range_kept old new start end le front = range_is new start end le ∙ ap (drop start) front ∙ sym (range_is old start end le)
 
 -- what is read behind a range is appended to it
@@ -33,7 +35,8 @@ range_more old new start end count le within front =
     ∙ ap (λ l. l ++ take count (drop end new)) (sym (range_is old start end le))
 
 -- a range without its first count bytes
-pub range_after : (xs : List ℕ) (start end count : ℕ) → count ≤ end - start → slice_range xs (start + count) end ≡ drop count (slice_range xs start end)
+pub range_after : (xs : List ℕ) (start end count : ℕ) → count ≤ end - start
+    → slice_range xs (start + count) end ≡ drop count (slice_range xs start end)
 range_after xs start end count within =
     let whole : count + (end - (start + count)) ≡ end - start = omega arith in
     ap (take (end - (start + count))) (sym (drop-drop count start xs))
@@ -74,7 +77,8 @@ read_some items news start end count phase can le within whole front some =
     let fits : length (take count (drop end news)) ≤ 32768 - end = omega arith in
     let left : 32768 - (end + count) ≡ (32768 - end) - length (take count (drop end news)) = omega arith in
     let reached : end ≤ length news = omega arith in
-    subst (λ event. Step (seen items start end phase) event (seen news start (end + count) phase)) (sym (read_is (take count (drop end news)) given))
+    subst (λ event. Step (seen items start end phase) event (seen news start (end + count) phase))
+    (sym (read_is (take count (drop end news)) given))
     (can, fits, flow_is _ _ _ _ _ _ (range_more items news start end count le reached front) left can.is_open)
 
 -- a read that gave none
@@ -90,7 +94,8 @@ wrote_some items start end count phase le within most other =
     let long : length (slice_range items start end) ≡ end - start = length-range items start end le within in
     let enough : count ≤ end - start = omega arith in
     let more : start + count ≤ end = omega arith in
-    let rest : length (slice_range items (start + count) end) ≡ end - (start + count) = length-range items (start + count) end more within in
+    let rest : length (slice_range items (start + count) end) ≡ end - (start + count) =
+    length-range items (start + count) end more within in
     let some : 0 < length (slice_range items start end) = omega arith in
     let left : 0 < length (slice_range items (start + count) end) = omega arith in (
       some,

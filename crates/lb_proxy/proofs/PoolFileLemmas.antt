@@ -1,5 +1,7 @@
 -- Lemmas on what a pool's file spells.
-use Rattle.std.proofs.Common.{rules, ◌≡◌, ◌≢◌, ◌⊎◌, ℕ, suc, ◌+◌, ◌^◌, ◌<◌, ◌≤◌, ◌==◌, ◌&&◌, Bool, true, false, List, [], ◌∷◌, ◌++◌, Option, Some, None, Result, Ok, Err, is_ok, length, nat_lt, slice_index, filter_map, take, drop, get_or, Bor, arith, refl, sym, ap, subst, ◌∙◌, append_assoc, length-append, take-append-drop, lit<, inl, inr}
+use Rattle.std.proofs.Common.{rules, ◌≡◌, ◌≢◌, ◌⊎◌, ℕ, suc, ◌+◌, ◌^◌, ◌<◌, ◌≤◌, ◌==◌, ◌&&◌, Bool, true, false, List, [], ◌∷◌, ◌++◌, Option}
+use Rattle.std.proofs.Common.{Some, None, Result, Ok, Err, is_ok, length, nat_lt, slice_index, filter_map, take, drop, get_or, Bor, arith}
+use Rattle.std.proofs.Common.{refl, sym, ap, subst, ◌∙◌, append_assoc, length-append, take-append-drop, lit<, inl, inr}
 use Rattle.std.specs.Char.{is_ascii_digit}
 use Rattle.std.specs.List.{AllByRecursion, cons_option, list_all, position_or_len, before_first, after_first}
 use Rattle.std.specs.Result.{result_ok}
@@ -19,7 +21,8 @@ use Rattle.lb_select_base.specs.Backends.{Address}
 use Rattle.lb_select_base.specs.declared.refusal.Refusal.TheVariants.{OutOfMemory}
 use Rattle.lb_proxy.specs.declared.pool_file.PoolBackend.{PoolBackend}
 use Rattle.lb_proxy.specs.declared.pool_file.PoolCause.{PoolCause}
-use Rattle.lb_proxy.specs.PoolFile.{lines_of, lines_left, mark_of, divided, is_number, weight_of, line_of, given, entry_of, IsRight, IsFirstWrong}
+use Rattle.lb_proxy.specs.PoolFile.{lines_of, lines_left, mark_of, divided, is_number, weight_of, line_of, given, entry_of, IsRight}
+use Rattle.lb_proxy.specs.PoolFile.{IsFirstWrong}
 
 -- a text with no line feed is one line
 pub one_line : (text : List ℕ) → position_or_len (λ byte. byte == 10) text ≡ length text → lines_of text ≡ text ∷ []
@@ -151,7 +154,8 @@ pub next_line : (lines : List (List ℕ)) (n : ℕ) (backends : List PoolBackend
     → lines_of unread.now ≡ line ∷ left → IsRead lines n backends (line ∷ left)
 next_line lines n backends rest unread line left read is cut = subst (IsRead lines n backends) (ap lines_left is ∙ cut) read
 
-right_more : (done : List (List ℕ)) (line : List ℕ) → AllByRecursion IsRight done → IsRight line → AllByRecursion IsRight (done ++ line ∷ [])
+right_more : (done : List (List ℕ)) (line : List ℕ) → AllByRecursion IsRight done → IsRight line
+    → AllByRecursion IsRight (done ++ line ∷ [])
 right_more [] line right this = (this, tt)
 right_more (x ∷ xs) line right this = (right.0, right_more xs line right.1 this)
 
@@ -161,7 +165,8 @@ found_more done line b is =
     filter_map-append entry_of done (line ∷ []) ∙ ap (λ r. filter_map entry_of done ++ cons_option (given r) []) is
 
 -- one more line is read, which is right
-pub read_more : (lines : List (List ℕ)) (n : ℕ) (backends : List PoolBackend) (line : List ℕ) (left : List (List ℕ)) (b : Option PoolBackend)
+pub read_more : (lines : List (List ℕ)) (n : ℕ) (backends : List PoolBackend) (line : List ℕ) (left : List (List ℕ))
+    (b : Option PoolBackend)
     → IsRead lines n backends (line ∷ left) → line_of line ≡ Ok b → IsRead lines (n + 1) (backends ++ cons_option b []) left
 read_more lines n backends line left b read is = record {
   done = read.done ++ line ∷ [];

@@ -1,10 +1,12 @@
 -- The law of a connection, over every list of what can happen to it.
-use Rattle.std.proofs.Common.{◌≡◌, ◌≢◌, ℕ, ◌+◌, ◌-◌, ◌<◌, ◌≤◌, true, false, List, [], ◌∷◌, ◌++◌, length, arith, refl, sym, ap, subst, ◌∙◌, append_assoc, length-append}
+use Rattle.std.proofs.Common.{◌≡◌, ◌≢◌, ℕ, ◌+◌, ◌-◌, ◌<◌, ◌≤◌, true, false, List, [], ◌∷◌, ◌++◌, length, arith, refl, sym, ap, subst, ◌∙◌}
+use Rattle.std.proofs.Common.{append_assoc, length-append}
 use Rattle.std.proofs.lemmas.List.{append-nil}
 use Rattle.lb_proxy.specs.declared.relay.Phase.TheVariants.{Open, Ending, Shut}
 use Rattle.lb_proxy.specs.declared.relay.Side.{Side}
 use Rattle.lb_proxy.specs.declared.relay.Side.TheVariants.{Client, Backend}
-use Rattle.lb_proxy.specs.Relay.{FlowState, idle, Event, read, wrote, ended, shut, room_by, Step, Run, read_by, written_by, HasEnded, IsRelayed}
+use Rattle.lb_proxy.specs.Relay.{FlowState, idle, Event, read, wrote, ended, shut, room_by, Step, Run, read_by, written_by, HasEnded}
+use Rattle.lb_proxy.specs.Relay.{IsRelayed}
 use Rattle.lb_proxy.specs.Relay.{RelayState, fresh, flow_of, Happening, from, failure, RelayRun, events_of, IsConnection}
 
 -- what waited and what was read is what was written and what waits
@@ -68,7 +70,8 @@ run_split old (event ∷ before) after new run =
     (rest.0, (run.0, run.1, rest.1), rest.2)
 
 -- what was open and is not has ended in between
-has_ended : (old : FlowState) (events : List Event) (new : FlowState) → Run old events new → old.phase ≡ Open → new.phase ≢ Open → HasEnded events
+has_ended : (old : FlowState) (events : List Event) (new : FlowState) → Run old events new → old.phase ≡ Open → new.phase ≢ Open
+    → HasEnded events
 has_ended old [] new run was_open closed = closed (ap (λ s. s.phase) run ∙ was_open)
 has_ended old (read bytes ∷ events) new run was_open closed = has_ended run.0 events new run.2 (ap (λ s. s.phase) run.1.2) closed
 has_ended old (wrote bytes ∷ events) new run was_open closed = has_ended run.0 events new run.2 (run.1.3 ∙ was_open) closed
@@ -146,7 +149,8 @@ starts Backend events last run = run
 -- the law of a connection
 pub connected : (happenings : List Happening) (last : RelayState) → RelayRun fresh happenings last → IsConnection happenings last
 connected happenings last run = record {
-  relayed = λ source. relayed (events_of source happenings) (flow_of source last) (starts source (events_of source happenings) (flow_of source last) (direction source fresh happenings last run));
+  relayed = λ source. relayed (events_of source happenings) (flow_of source last)
+      (starts source (events_of source happenings) (flow_of source last) (direction source fresh happenings last run));
   after_failure = λ before after is.
       let cut = relay_split fresh before (failure ∷ after) last (subst (λ hs. RelayRun fresh hs last) is run) in
       after_failed cut.2.0 after last cut.2.2 (ap (λ r. r.failed) cut.2.1.1);

@@ -77,15 +77,19 @@ impl Attempts {
         self.tried.last()
     }
 
-    /// Returns whether a backend of this identity was tried. A selection is to pass over those.
+    /// Returns whether a backend of this identity was tried.
+    ///
+    /// A selection is to pass over those.
     pub fn was_tried(&self, backend: &Backend) -> bool
         ensures { result ≡ was_tried self.now.tried backend.now }
     {
         self.tried.contains(backend)
     }
 
-    /// Goes on by an event. An event that answers nothing that was to be done changes nothing. Memory is taken for a backend that
-    /// was selected; an `Err` changes nothing.
+    /// Goes on by an event.
+    ///
+    /// An event that answers nothing that was to be done changes nothing. Memory is taken for a backend that was selected; an `Err`
+    /// changes nothing.
     pub fn step(&mut self, event: AttemptEvent) -> Result<(), AllocError>
         ensures ok { OnOk result (self.new ≡ after self.old event) }
         ensures err { OnErr result (self.new ≡ self.old) }

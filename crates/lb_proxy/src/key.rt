@@ -30,8 +30,9 @@ impl<'a> Key<'a> {
         }
     }
 
-    /// Returns the bytes of the key, by the address of the client, the target of the request and what the field says. A request
-    /// without that field is selected by its client.
+    /// Returns the bytes of the key, by the address of the client, the target of the request and what the field says.
+    ///
+    /// A request without that field is selected by its client.
     pub fn bytes<'b>(self, source: &'b [u8], uri: &'b [u8], header: Option<&'b [u8]>) -> &'b [u8]
         ensures { result.now ≡ key_bytes (key_seen self.entry) source.now uri.now (option_map (λ value. value.now) header.entry) }
     {

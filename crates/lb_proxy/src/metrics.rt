@@ -12,7 +12,7 @@ pub enum MetricKind {
     Gauge,
 }
 
-/// What tells a value of a metric from its other values.
+/// A label: it makes a value of a metric differ from its other values.
 #[derive(Clone, Copy)]
 pub struct Label<'a> {
     pub name: &'a str,
@@ -28,7 +28,9 @@ pub fn push_head(text: &mut Vec<u8>, name: &str, kind: MetricKind) -> Result<(),
     text.extend_from_slice(kind_text(kind))
 }
 
-/// Appends the line of a value. A label may say anything: what would end it is escaped.
+/// Appends the line of a value.
+///
+/// A label may say anything: what would end it is escaped.
 pub fn push_value(
     text: &mut Vec<u8>,
     name: &str,

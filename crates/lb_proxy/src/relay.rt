@@ -21,7 +21,7 @@ pub enum Phase {
     Open,
     /// Its source has ended; what is left is to be written.
     Ending,
-    /// All is written, and its sink was told that no more comes.
+    /// All is written, and its sink knows that no more comes.
     Shut,
 }
 
@@ -75,7 +75,7 @@ impl Flow {
         self.start < self.end
     }
 
-    // Whether its sink is to be told that no more comes.
+    // Whether its sink has to get the end of the stream.
     fn wants_shut(&self) -> bool
         ensures { IsTrue result ↔ CanShut self.now }
     {
@@ -136,7 +136,7 @@ impl Flow {
         }
     }
 
-    // Whether its sink was told that no more comes.
+    // Whether its sink got the end of the stream.
     fn is_shut(&self) -> bool
         ensures { IsTrue result ↔ (self.now.phase ≡ Phase.Shut) }
     {
@@ -146,7 +146,7 @@ impl Flow {
         }
     }
 
-    // Notes that its sink was told that no more comes.
+    // Notes that its sink got the end of the stream.
     fn shut(&mut self)
         requires { CanShut self.old }
         ensures { Step self.old shut self.new }
@@ -216,14 +216,16 @@ impl Relay {
         !self.failed && self.flow(source).wants_write()
     }
 
-    /// Returns whether the sink is to be told that the source has ended: all that came before is written.
+    /// Returns whether the sink has to get the end of the stream: the source has ended, and all that came before is written.
     pub fn wants_shut(&self, source: Side) -> bool
         ensures { IsTrue result ↔ (IsLive self.now × CanShut (flow_of source self.now)) }
     {
         !self.failed && self.flow(source).wants_shut()
     }
 
-    /// Reads from the source once; no byte says that it has ended. An `Err` changes nothing and takes no byte.
+    /// Reads from the source once; no byte says that it has ended.
+    ///
+    /// An `Err` changes nothing and takes no byte.
     pub fn read_from<R: Read>(&mut self, source: Side, reader: &mut R) -> io::Result<usize>
         requires live { IsLive self.old }
         requires room { CanRead (flow_of source self.old) }
@@ -239,7 +241,9 @@ impl Relay {
         }
     }
 
-    /// Writes what waits to the sink of this source once. An `Err` changes nothing and gives no byte.
+    /// Writes what waits to the sink of this source once.
+    ///
+    /// An `Err` changes nothing and gives no byte.
     pub fn write_to<W: Write>(&mut self, source: Side, writer: &mut W) -> io::Result<usize>
         requires live { IsLive self.old }
         requires some { CanWrite (flow_of source self.old) }
@@ -255,7 +259,7 @@ impl Relay {
         }
     }
 
-    /// Notes that the sink of this source was told of the end.
+    /// Notes that the sink of this source got the end of the stream.
     pub fn shut(&mut self, source: Side)
         requires live { IsLive self.old }
         requires due { CanShut (flow_of source self.old) }
@@ -275,7 +279,7 @@ impl Relay {
         self.failed = true;
     }
 
-    /// Returns whether nothing more is to be done: a side failed, or both have ended and were told so.
+    /// Returns whether nothing more is to be done: a side failed, or both have ended and the other side knows.
     pub fn is_over(&self) -> bool
         ensures { IsTrue result ↔ IsOver self.now }
     {

@@ -1,5 +1,5 @@
-//! The board of a group's generations, and passes over it.
-//! Readings take no lock and wait for nobody. A pass never falls: what it has once seen it never sees less of.
+//! The board of a group's generations, and passes over it. Readings take no lock and never wait. A pass never falls: what it has once seen
+//! it never sees less of.
 ghost use Rattle.std.specs.Prelude.{◌≡◌, ◌≢◌, ◌≤◌, ◌<◌, ◌+◌, replicate, IfOk, IfErr, IfSome, IfNone, MatchBool, slice_index};
 ghost use Rattle.lb_rebuild.specs.Pass.{IsLoad, IsLater, AreServed, HasSeenBelow, HasMet, raised_words};
 
@@ -73,7 +73,7 @@ impl Model for WritingPass {
 }
 
 impl Board {
-    /// A board for so many slots, whose words are 0, and the one pass that writes it.
+    /// Returns a board for so many slots, whose words are 0, and the one pass that writes it.
     ///
     /// # Errors
     ///
@@ -91,7 +91,7 @@ impl Board {
         Ok((Board { table, slots }, WritingPass { seat }))
     }
 
-    /// A new pass. It takes no lock and no memory.
+    /// Returns a new pass, without a lock or memory.
     pub fn pass(&self) -> GroupPass
         ensures { result.board ≡ self.now }
     {
@@ -99,7 +99,7 @@ impl Board {
         GroupPass { seat }
     }
 
-    /// How many words there are: one for the newest generation, and one for each slot.
+    /// Returns how many words there are: one for the newest generation, and one for each slot.
     pub fn word_count(&self) -> usize
         ensures { (result ≡ self.now.words) × (0 < result) }
     {
@@ -114,17 +114,21 @@ impl Board {
         self.table.shared.load::<LoadsWord>(&mut pass.seat, word)
     }
 
-    /// The newest generation, by one load. It waits for nobody, and takes no lock and no memory.
+    /// Returns the newest generation, by one load.
+    ///
+    /// It never waits, and takes no lock and no memory.
     pub fn backend_generation_as(&self, pass: &mut GroupPass) -> u64
         requires { pass.old.board ≡ self.now }
         ensures { IsLoad pass.old 0 result pass.new }
     {
+        // For the prover alone: this shows it the board's invariant, and does nothing at run time.
         let _slots = self.slots;
         self.load(0, pass)
     }
 
-    /// The generation that a slot serves, by one load, or `None` without a load where no such slot is there. It waits for nobody, and
-    /// takes no lock and no memory.
+    /// Returns the generation that a slot serves, by one load, or `None` without a load where no such slot is there.
+    ///
+    /// It never waits, and takes no lock and no memory.
     pub fn selector_generation_as(&self, slot: usize, pass: &mut GroupPass) -> Option<u64>
         requires { pass.old.board ≡ self.now }
         ensures some { IfSome result (λ g. (slot + 1 < self.now.words) × IsLoad pass.old (slot + 1) g pass.new) }
@@ -136,8 +140,9 @@ impl Board {
         Some(self.load(slot + 1, pass))
     }
 
-    /// Whether each slot serves this generation or a later one; true where there is no slot. A load of each slot's word in turn, up to
-    /// the first that is below. It waits for nobody, and takes no lock and no memory.
+    /// Returns whether each slot serves this generation or a later one; true where there is no slot.
+    ///
+    /// It loads each slot's word in turn, up to the first that is below. It never waits, and takes no lock and no memory.
     pub fn selectors_ready_for_as(&self, generation: u64, pass: &mut GroupPass) -> bool
         requires { pass.old.board ≡ self.now }
         ensures answer { MatchBool result (AreServed self.now pass.new generation)
@@ -169,7 +174,7 @@ impl Board {
         unreachable!()
     }
 
-    /// Lets two passes see what either has seen: afterwards neither is below the other as it was, in any word.
+    /// Joins what two passes have seen: afterwards neither is below what either was, in any word.
     pub fn meet<R: Wait>(&self, rt: &R, pass: &mut GroupPass, other: &mut GroupPass)
         requires { (pass.old.board ≡ self.now) × (other.old.board ≡ self.now) }
         ensures pass { HasMet self.now other.old pass.new }

@@ -1,5 +1,5 @@
-//! The board of a group: its newest generation and what each slot serves, as words that are read in single loads, without a lock.
-//! It passes on the gate and the slots of `lb_rebuild_slots` and the group of `lb_rebuild_group`.
+//! The board of a group: its newest generation and what each slot serves, as words that are read in single loads, without a lock. It
+//! re-exports the gate and the slots of `lb_rebuild_slots` and the group of `lb_rebuild_group`.
 #![tactic(auto)]
 
 pub mod board;

@@ -1,5 +1,5 @@
-//! Between a group's lock and its core: the group as it was, and the pass that writes its board.
-//! A membership that is another one and a publication raise one word each, inside the call that makes them; no other call does.
+//! A group with the pass that writes its board, as one value under the group's lock. A membership that is another one and a publication
+//! raise one word each, inside the call that makes them; no other call does.
 ghost use Rattle.std.specs.Prelude.{◌≡◌, ◌≤◌, ◌+◌, ◌^◌, ◌∷◌, ◌++◌, [], List, true, false, None, Ok, Err};
 ghost use Rattle.std.specs.Prelude.{IfOk, IfErr, OnOk, OnErr, IsErrOf, slice_get, length, replicate};
 ghost use Rattle.std.specs.Arc.{arc_value};
@@ -38,8 +38,8 @@ use std::collections::BTreeSet;
 use std::marker::Model;
 use std::sync::Arc;
 
-/// A group that is joined with its view, and the board on which its generations stand. The words of the board are the group's newest
-/// generation and what each slot serves, after every call.
+/// A group that is joined with its view, and the board of its generations. The words of the board are the group's newest generation and
+/// what each slot serves, after every call.
 ///
 /// Contracts see the board, the group, and what was written on the board.
 #[derive(Drop)]
@@ -68,7 +68,7 @@ impl<S: BackendSelection> Model for Watched<S> {
 }
 
 impl<S: BackendSelection> Watched<S> {
-    /// The group as it is, on a board of its own, which is handed out too.
+    /// Returns the group as it is, on a board of its own, and that board.
     ///
     /// # Errors
     ///
@@ -94,30 +94,36 @@ impl<S: BackendSelection> Watched<S> {
         ))
     }
 
-    /// The group itself, for the calls that only read.
+    /// Returns the group itself, for the calls that only read.
     pub fn core(&self) -> &GroupCore<S>
         ensures { result.now ≡ self.now.core }
     {
         &self.core
     }
 
-    /// Some history stands behind the group, so that what holds after each of its histories holds after one. It does nothing.
+    /// States that some history explains the group, so that what holds after each of its histories holds after one.
+    ///
+    /// Only for the prover: it does nothing at run time.
     pub fn founded(&self)
         ensures { IsFounded self.now.core }
     {
+        // `founded()`, `past()` and `_core` are for the prover alone: they show it the group's invariant, and do nothing at run time.
         self.core.founded();
     }
 
-    /// What was written on the board is the group's newest generation and what its slots serve, for whoever needs to know it.
+    /// States that what was written on the board is the group's newest generation and what its slots serve.
+    ///
+    /// Only for the prover: it does nothing at run time.
     pub fn agrees(&self)
         ensures { self.now.written ≡ words_of self.now.core.group }
     {
         let _core = &self.core;
     }
 
-    /// Makes what was discovered the newest membership where it has other backends than the newest one, at the moment `now`: the
-    /// view shows it, and each slot gets an order for it. Then the settings reach the backends of the newest membership, that of
-    /// before or this one.
+    /// Makes what was discovered the newest membership where it has other backends than the newest one, at the moment `now`: the view
+    /// shows it, and each slot gets an order for it.
+    ///
+    /// Then the settings reach the backends of the newest membership, that of before or this one.
     ///
     /// # Errors
     ///
@@ -179,6 +185,7 @@ impl<S: BackendSelection> Watched<S> {
     }
 
     /// Stops the rebuilds for good, and marks the view for removal: the registry forgets it at the next call that applies marks.
+    ///
     /// Selections and readers go on, and what is under way can still come back. It takes no memory.
     pub fn cancel<R: KeyRule + Drop>(&mut self, registry: &mut Registry<R>)
         ensures stands { Becomes self.old.core (in_group (Cancelled ∷ [])) self.new.core }
@@ -192,7 +199,9 @@ impl<S: BackendSelection> Watched<S> {
         self.core.cancel(registry);
     }
 
-    /// Asks for the build that a slot needs next; a job holds the newest snapshot. It takes no memory.
+    /// Asks for the build that a slot needs next; a job holds the newest snapshot.
+    ///
+    /// It takes no memory.
     ///
     /// # Errors
     ///
@@ -212,8 +221,9 @@ impl<S: BackendSelection> Watched<S> {
         self.core.ask(slot, gate, now)
     }
 
-    /// Ends the flight or the lost flight of a job that failed, gives its permit back, and lets its snapshot go. A slot whose job
-    /// was of the newest generation waits again. It takes no memory.
+    /// Ends the flight or the lost flight of a job that failed, gives its permit back, and releases its snapshot.
+    ///
+    /// A slot whose job was of the newest generation waits again. It takes no memory.
     ///
     /// # Errors
     ///
@@ -244,8 +254,9 @@ impl<S: BackendSelection> Watched<S> {
         self.core.fail(job, registry, gate, now)
     }
 
-    /// Serves the selector of a flight, and retires what its slot served before with its readers. In a cancelled group, and for a
-    /// lost flight, the selector is retired unserved, as by `abandon`. It takes no memory.
+    /// Serves the selector of a flight, and retires what its slot served before with its readers.
+    ///
+    /// In a cancelled group, and for a lost flight, the selector is retired unserved, as by `abandon`. It takes no memory.
     ///
     /// # Errors
     ///
@@ -274,8 +285,9 @@ impl<S: BackendSelection> Watched<S> {
         }
     }
 
-    /// Retires the selector of a flight or of a lost flight unserved. A slot whose selector was of the newest generation waits
-    /// again. It takes no memory.
+    /// Retires the selector of a flight or of a lost flight unserved.
+    ///
+    /// A slot whose selector was of the newest generation waits again. It takes no memory.
     ///
     /// # Errors
     ///
@@ -294,8 +306,9 @@ impl<S: BackendSelection> Watched<S> {
         self.core.abandon(built)
     }
 
-    /// Ends a slot's flight as lost: its job or its selector goes on with the permit, but is not served any more. It takes no
-    /// memory.
+    /// Ends a slot's flight as lost: its job or its selector goes on with the permit, but is not served any more.
+    ///
+    /// It takes no memory.
     ///
     /// # Errors
     ///
@@ -329,7 +342,9 @@ impl<S: BackendSelection> Watched<S> {
         self.core.enter(slot)
     }
 
-    /// The next ticket of the selector that a reader is in, as for a group alone. It takes no memory.
+    /// Returns the next ticket of the selector that a reader is in, as a group without a view does.
+    ///
+    /// It takes no memory.
     pub fn ticket(&mut self, reader: &Reader<S>) -> u64
         ensures answers { After self.old.core (λ made e. IsTicket made (slot_events e) reader.now.slot reader.now.generation result) }
         ensures stands { After self.old.core (λ made e. Stands made
@@ -342,7 +357,9 @@ impl<S: BackendSelection> Watched<S> {
         self.core.ticket(reader)
     }
 
-    /// Gives an entry back to its slot. It takes no memory.
+    /// Gives an entry back to its slot.
+    ///
+    /// It takes no memory.
     ///
     /// # Errors
     ///
@@ -359,7 +376,9 @@ impl<S: BackendSelection> Watched<S> {
         self.core.leave(reader)
     }
 
-    /// Takes a retired selector out of its slot, to be destroyed and then reported. It takes no memory.
+    /// Takes a retired selector out of its slot, to be destroyed and then reported.
+    ///
+    /// It takes no memory.
     ///
     /// # Errors
     ///
@@ -378,8 +397,9 @@ impl<S: BackendSelection> Watched<S> {
         self.core.take_retired(slot)
     }
 
-    /// The report that the selector which was taken out of that slot is destroyed; its permit goes back to the gate, and its
-    /// snapshot is let go. It takes no memory.
+    /// Takes the report that the selector which was taken out of that slot is destroyed.
+    ///
+    /// Its permit goes back to the gate, and its snapshot is released. It takes no memory.
     ///
     /// # Errors
     ///
@@ -409,7 +429,9 @@ impl<S: BackendSelection> Watched<S> {
         self.core.destroyed(slot, permit, registry, gate)
     }
 
-    /// Enables or disables a backend that a living snapshot lists, by identity; another is left alone. It takes no memory.
+    /// Enables or disables a backend that a living snapshot lists, by identity; another is left alone.
+    ///
+    /// It takes no memory.
     pub fn set_enable(&mut self, backend: &Backend, enabled: bool)
         ensures stands { Becomes self.old.core (Set backend.now enabled ∷ []) self.new.core }
         ensures site { SameSite self.old.core self.new.core }

@@ -48,8 +48,8 @@ use std::sync::Arc;
 /// A group of slots with the view of a registry: each slot serves one selector, built from one of the view's memberships, and the
 /// view keeps the snapshots of the generations that a slot serves, builds, or still has to destroy.
 ///
-/// Contracts see the group and the view, and tell both by one history; some history stands behind every joined group. A registry,
-/// a gate, jobs, built selectors, readers and permits that are handed to its calls are its own.
+/// Contracts see the group and the view, and describe both by one history; some history explains every joined group. A registry, a gate,
+/// jobs, built selectors, readers and permits that its calls take are its own.
 #[derive(Drop)]
 pub struct GroupCore<S: BackendSelection> {
     group: slots::Slots<S>,
@@ -67,8 +67,9 @@ impl<S: BackendSelection> Model for GroupCore<S> {
 }
 
 impl<S: BackendSelection> GroupCore<S> {
-    /// A group of one slot for each configuration, with a view of its own in the registry. Each slot serves a selector over no
-    /// backends, and `gate` allows its extra selectors one at a time.
+    /// Returns a group of one slot for each configuration, with a view of its own in the registry.
+    ///
+    /// Each slot serves a selector over no backends, and `gate` allows its extra selectors one at a time.
     ///
     /// # Errors
     ///
@@ -98,7 +99,7 @@ impl<S: BackendSelection> GroupCore<S> {
         let slots = configs.len();
         let group = match slots::Slots::new(alloc, gate, configs) {
             Ok(group) => group,
-            // That no number is left for a view goes before the want of memory.
+            // Where no number is left for a view, that is the refusal, before one for memory.
             Err(Refusal::OutOfMemory) if registry.is_full() => {
                 return Err(Refusal::NumbersExhausted);
             }
@@ -117,23 +118,27 @@ impl<S: BackendSelection> GroupCore<S> {
         slots::Slots::apart(&mut a.group, &mut b.group);
     }
 
-    /// Some history of the group and its view, for whoever knows none.
+    /// States that some history of calls explains the group and its view.
+    ///
+    /// Only for the prover: it does nothing at run time.
     pub fn past(&self)
         ensures { (made : Made S.Config) × ((e : History) × Stands made e self.now) }
     {
+        // For the prover alone: this shows it the view's invariant, and does nothing at run time.
         let _view = &self.view;
     }
 
-    /// The number of the group's view in its registry.
+    /// Returns the number of the group's view in its registry.
     pub fn id(&self) -> u64
         ensures { result ≡ self.now.view.id }
     {
         self.view.id()
     }
 
-    /// Makes what was discovered the newest membership where it has other backends than the newest one, at the moment `now`: the
-    /// view shows it, and each slot gets an order for it. Then the settings reach the backends of the newest membership, that of
-    /// before or this one.
+    /// Makes what was discovered the newest membership where it has other backends than the newest one, at the moment `now`: the view
+    /// shows it, and each slot gets an order for it.
+    ///
+    /// Then the settings reach the backends of the newest membership, that of before or this one.
     ///
     /// # Errors
     ///
@@ -193,6 +198,7 @@ impl<S: BackendSelection> GroupCore<S> {
     }
 
     /// Stops the rebuilds for good, and marks the view for removal: the registry forgets it at the next call that applies marks.
+    ///
     /// Selections and readers go on, and what is under way can still come back. It takes no memory.
     pub fn cancel<R: KeyRule + Drop>(&mut self, registry: &mut Registry<R>)
         ensures stands { Becomes self.old (in_group (Cancelled ∷ [])) self.new }
@@ -204,7 +210,9 @@ impl<S: BackendSelection> GroupCore<S> {
         registry.remove_view(self.view.id());
     }
 
-    /// Asks for the build that a slot needs next; a job holds the newest snapshot. It takes no memory.
+    /// Asks for the build that a slot needs next; a job holds the newest snapshot.
+    ///
+    /// It takes no memory.
     ///
     /// # Errors
     ///
@@ -225,8 +233,9 @@ impl<S: BackendSelection> GroupCore<S> {
         Ok(answer)
     }
 
-    /// Ends the flight or the lost flight of a job that failed, gives its permit back, and lets its snapshot go. A slot whose job
-    /// was of the newest generation waits again. It takes no memory.
+    /// Ends the flight or the lost flight of a job that failed, gives its permit back, and releases its snapshot.
+    ///
+    /// A slot whose job was of the newest generation waits again. It takes no memory.
     ///
     /// # Errors
     ///
@@ -260,8 +269,9 @@ impl<S: BackendSelection> GroupCore<S> {
         Ok(())
     }
 
-    /// Serves the selector of a flight, and retires what its slot served before with its readers. In a cancelled group, and for a
-    /// lost flight, the selector is retired unserved, as by `abandon`. It takes no memory.
+    /// Serves the selector of a flight, and retires what its slot served before with its readers.
+    ///
+    /// In a cancelled group, and for a lost flight, the selector is retired unserved, as by `abandon`. It takes no memory.
     ///
     /// # Errors
     ///
@@ -277,8 +287,9 @@ impl<S: BackendSelection> GroupCore<S> {
         self.group.publish(built)
     }
 
-    /// Retires the selector of a flight or of a lost flight unserved. A slot whose selector was of the newest generation waits
-    /// again. It takes no memory.
+    /// Retires the selector of a flight or of a lost flight unserved.
+    ///
+    /// A slot whose selector was of the newest generation waits again. It takes no memory.
     ///
     /// # Errors
     ///
@@ -294,8 +305,9 @@ impl<S: BackendSelection> GroupCore<S> {
         self.group.abandon(built)
     }
 
-    /// Ends a slot's flight as lost: its job or its selector goes on with the permit, but is not served any more. It takes no
-    /// memory.
+    /// Ends a slot's flight as lost: its job or its selector goes on with the permit, but is not served any more.
+    ///
+    /// It takes no memory.
     ///
     /// # Errors
     ///
@@ -323,8 +335,9 @@ impl<S: BackendSelection> GroupCore<S> {
         self.group.enter(slot)
     }
 
-    /// Whether a backend is ready in the snapshot of the generation that a reader entered: listed in it, enabled, and the cell that
-    /// it has there kept and healthy. It takes no memory.
+    /// Returns whether a backend is ready in the snapshot of the generation that a reader entered.
+    ///
+    /// It is where it is listed in it, enabled, and the cell that it has there is kept and healthy. It takes no memory.
     pub fn ready<R: KeyRule + Drop>(
         &self,
         reader: &Reader<S>,
@@ -338,7 +351,9 @@ impl<S: BackendSelection> GroupCore<S> {
         self.view.ready_in(registry, reader.generation(), backend)
     }
 
-    /// The next ticket of the selector that a reader is in, as for a group alone. It takes no memory.
+    /// Returns the next ticket of the selector that a reader is in, as a group without a view does.
+    ///
+    /// It takes no memory.
     pub fn ticket(&mut self, reader: &Reader<S>) -> u64
         ensures answers { After self.old (λ made e. IsTicket made (slot_events e) reader.now.slot reader.now.generation result) }
         ensures stands { After self.old (λ made e. Stands made
@@ -348,7 +363,9 @@ impl<S: BackendSelection> GroupCore<S> {
         self.group.ticket(reader)
     }
 
-    /// Gives an entry back to its slot. It takes no memory.
+    /// Gives an entry back to its slot.
+    ///
+    /// It takes no memory.
     ///
     /// # Errors
     ///
@@ -362,7 +379,9 @@ impl<S: BackendSelection> GroupCore<S> {
         self.group.leave(reader)
     }
 
-    /// Takes a retired selector out of its slot, to be destroyed and then reported. It takes no memory.
+    /// Takes a retired selector out of its slot, to be destroyed and then reported.
+    ///
+    /// It takes no memory.
     ///
     /// # Errors
     ///
@@ -377,8 +396,9 @@ impl<S: BackendSelection> GroupCore<S> {
         self.group.take_retired(slot)
     }
 
-    /// The report that the selector which was taken out of that slot is destroyed; its permit goes back to the gate, and its
-    /// snapshot is let go. It takes no memory.
+    /// Takes the report that the selector which was taken out of that slot is destroyed.
+    ///
+    /// Its permit goes back to the gate, and its snapshot is released. It takes no memory.
     ///
     /// # Errors
     ///
@@ -413,9 +433,10 @@ impl<S: BackendSelection> GroupCore<S> {
         Ok(())
     }
 
-    /// Selects from what a slot serves: the first that is ready, in the snapshot of the generation that is served, of the distinct
-    /// backends among the first `limit` candidates of the selector's walk for `key`. Tickets, random words, loads, refusals and a slot
-    /// that is not there are as for a group alone. For readiness it takes no memory.
+    /// Selects the first ready backend among the distinct of the first `limit` candidates of what a slot serves.
+    ///
+    /// Readiness is that in the snapshot of the generation that is served. Tickets, random words, loads, refusals and a slot that is not
+    /// there are as in a group without a view. For readiness it takes no memory.
     pub fn select<R: KeyRule + Drop>(
         &mut self,
         alloc: Global,
@@ -445,7 +466,9 @@ impl<S: BackendSelection> GroupCore<S> {
         )
     }
 
-    /// Selects as `select`, but the first for which `accept` answers true, when it is asked with a backend and whether it is ready.
+    /// Selects the first backend that `accept` takes, as `select` does the first ready one.
+    ///
+    /// `accept` is asked with a backend and whether it is ready.
     pub fn select_with<R: KeyRule + Drop, F: Fn(&Backend, bool) -> bool>(
         &mut self,
         alloc: Global,
@@ -475,14 +498,16 @@ impl<S: BackendSelection> GroupCore<S> {
             .select_with(alloc, slot, key, limit, random, loads, &judged)
     }
 
-    /// Some history stands behind this group, so that what holds after each of its histories holds after one. It does nothing.
+    /// States that some history explains this group, so that what holds after each of its histories holds after one.
+    ///
+    /// Only for the prover: it does nothing at run time.
     pub fn founded(&self)
         ensures { IsFounded self.now }
     {
         let _ = &self.group;
     }
 
-    /// Whether a backend is ready in the newest membership. It takes no memory.
+    /// Returns whether a backend is ready in the newest membership, without taking memory.
     pub fn newest_ready<R: KeyRule + Drop>(&self, registry: &Registry<R>, backend: &Backend) -> bool
         ensures { (key_of : Member → Member) (events : List Event) → IsRegistryAfter R.gives key_of events registry.now
             → After self.now (λ made e. IsTrue result
@@ -492,7 +517,9 @@ impl<S: BackendSelection> GroupCore<S> {
         self.view.ready_in(registry, newest, backend)
     }
 
-    /// Enables or disables a backend that a living snapshot lists, by identity; another is left alone. It takes no memory.
+    /// Enables or disables a backend that a living snapshot lists, by identity; another is left alone.
+    ///
+    /// It takes no memory.
     pub fn set_enable(&mut self, backend: &Backend, enabled: bool)
         ensures stands { Becomes self.old (Set backend.now enabled ∷ []) self.new }
         ensures site { SameSite self.old self.new }
@@ -500,7 +527,9 @@ impl<S: BackendSelection> GroupCore<S> {
         self.view.set_enable(backend, enabled);
     }
 
-    /// The membership of the newest generation. Refused `OutOfMemory` where std refuses one more owner.
+    /// Returns the membership of the newest generation.
+    ///
+    /// Refused `OutOfMemory` where std refuses one more owner.
     pub fn get_backend(&self) -> Result<Arc<BTreeSet<Backend>>, Refusal>
         ensures members { IfOk result (λ set. After self.now (λ made e. (arc_value set).keys ≡ members_now e)) }
         ensures refused { OnErr result (result ≡ Err Refusal.OutOfMemory) }
@@ -508,42 +537,42 @@ impl<S: BackendSelection> GroupCore<S> {
         self.view.get_backend()
     }
 
-    /// The newest generation; 0 before the first membership.
+    /// Returns the newest generation; 0 before the first membership.
     pub fn newest(&self) -> u64
         ensures { After self.now (λ made e. result ≡ newest_after (slot_events e)) }
     {
         self.group.newest()
     }
 
-    /// Whether the group is cancelled.
+    /// Returns whether the group is cancelled.
     pub fn is_cancelled(&self) -> bool
         ensures { After self.now (λ made e. result ≡ is_cancelled (slot_events e)) }
     {
         self.group.is_cancelled()
     }
 
-    /// The generation that a slot serves, or `None` where no such slot is there.
+    /// Returns the generation that a slot serves, or `None` where no such slot is there.
     pub fn served(&self, slot: usize) -> Option<u64>
         ensures { After self.now (λ made e. result ≡ at_slot made slot (served_after (past_of slot (slot_events e)))) }
     {
         self.group.served(slot)
     }
 
-    /// The generation of a slot's flight, or none: `None` where no such slot is there.
+    /// Returns the generation of a slot's flight, or none: `None` where no such slot is there.
     pub fn flight(&self, slot: usize) -> Option<Option<u64>>
         ensures { After self.now (λ made e. result ≡ at_slot made slot (flight_after (past_of slot (slot_events e)))) }
     {
         self.group.flight(slot)
     }
 
-    /// Whether a slot waits for a job or a publication of the newest generation: `None` where no such slot is there.
+    /// Returns whether a slot waits for a job or a publication of the newest generation: `None` where no such slot is there.
     pub fn is_waiting(&self, slot: usize) -> Option<bool>
         ensures { After self.now (λ made e. result ≡ at_slot made slot (waits_after (past_of slot (slot_events e)))) }
     {
         self.group.is_waiting(slot)
     }
 
-    /// How many readers are in what a slot serves: `None` where no such slot is there.
+    /// Returns how many readers are in what a slot serves: `None` where no such slot is there.
     pub fn readers(&self, slot: usize) -> Option<u64>
         ensures { After self.now (λ made e. result
             ≡ at_slot made slot (readers_after (served_after (past_of slot (slot_events e))) (past_of slot (slot_events e)))) }
@@ -551,21 +580,21 @@ impl<S: BackendSelection> GroupCore<S> {
         self.group.readers(slot)
     }
 
-    /// The membership of the newest generation. It takes no memory.
+    /// Returns a borrow of the membership of the newest generation.
     pub fn members(&self) -> &BTreeSet<Backend>
         ensures { After self.now (λ made e. result.now.keys ≡ members_now e) }
     {
         self.group.members()
     }
 
-    /// The counts of a slot, or `None` where no such slot is there.
+    /// Returns the counts of a slot, or `None` where no such slot is there.
     pub fn counts(&self, slot: usize) -> Option<Counts>
         ensures { After self.now (λ made e. result ≡ at_slot made slot (counts_after (past_of slot (slot_events e)))) }
     {
         self.group.counts(slot)
     }
 
-    /// The timing of a slot's last publication: `None` where no such slot is there, and none in it before the first.
+    /// Returns the timing of a slot's last publication: `None` where no such slot is there, and none in it before the first.
     pub fn timing(&self, slot: usize) -> Option<Option<Timing>>
         ensures { After self.now (λ made e. result ≡ at_slot made slot (timing_after (past_of slot (slot_events e)))) }
     {
@@ -573,7 +602,7 @@ impl<S: BackendSelection> GroupCore<S> {
     }
 }
 
-// What an update of the view to another membership is refused for where memory is refused: the least of the causes that stand.
+// Why another membership is refused by the view where memory is refused: the least of the causes that apply.
 fn cause_without_memory<R: KeyRule + Drop>(
     view: &ViewCore,
     registry: &Registry<R>,
@@ -595,7 +624,7 @@ fn cause_without_memory<R: KeyRule + Drop>(
     Refusal::OutOfMemory
 }
 
-// Gets at hand what the group takes for a membership; refused for memory only where no other cause stands.
+// Gets at hand what the group takes for a membership; refused for memory only where no other cause applies.
 fn prepared<S: BackendSelection, R: KeyRule + Drop>(
     alloc: Global,
     group: &slots::Slots<S>,

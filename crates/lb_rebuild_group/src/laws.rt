@@ -1,5 +1,5 @@
-//! What holds of every history of a group that is joined with its view: laws over definitions alone, each a function whose
-//! contract is the law.
+//! Laws of every history of a group that is joined with its view, over definitions alone: each is a function that does nothing at run time
+//! and whose contract is the law.
 ghost use Rattle.std.specs.Prelude.{◌≡◌, ◌⊎◌, ◌<◌, ◌∷◌, ℕ};
 ghost use Rattle.lb_rebuild_slots.specs.SlotsHistory.{IsSlotsHistory, past_of, newest, readers};
 ghost use Rattle.lb_rebuild_group.specs.GroupHistory.{History, slot_events};

@@ -1,11 +1,11 @@
-//! What the calls of a group answer: to an ask, to a built selector, to a selection, and the numbers of a slot.
-//! Moments and spans are in nanoseconds.
+//! The answers of a group's calls: to an ask, to a built selector, to a selection, and the numbers of a slot. Moments and spans are in
+//! nanoseconds.
 use crate::job::Job;
 use lb_select_base::backend::Backend;
 use lb_select_base::refusal::Refusal;
 use lb_select_base::walk::BackendSelection;
 
-/// What a slot that was asked for its next build answers. The answer holds a job where there is one, so it cannot be dropped.
+/// What a slot that is asked for its next build returns. The answer contains a job where there is one, so it cannot be dropped.
 pub enum Ask<S: BackendSelection> {
     /// The group is cancelled; there will be no builds any more.
     Cancelled,

@@ -12,7 +12,7 @@ use std::marker::Model;
 
 /// The right to one extra selector, from the grant of a gate until it is given back to the same gate.
 ///
-/// It cannot be dropped: whoever has it spends it, or hands it on. Contracts see which gate it is of.
+/// It cannot be dropped: its owner spends it, or passes it on. Contracts see which gate it is of.
 pub struct Permit {
     seat: Seat<(), GateMark>,
 }
@@ -56,7 +56,7 @@ impl Model for GateCore {
 }
 
 impl GateCore {
-    /// A free gate that differs from every other gate.
+    /// Returns a free gate that differs from every other gate.
     ///
     /// # Errors
     ///
@@ -72,7 +72,7 @@ impl GateCore {
         })
     }
 
-    /// The gate's permit, or `None` exactly where it is out. It takes no memory.
+    /// Grants the gate's permit and returns it, or `None` exactly where it is out. It takes no memory.
     pub fn grant(&mut self) -> Option<Permit>
         ensures some { IfSome result (λ p. (self.old.out ≡ false) × (p ≡ self.old.id) × (self.new ≡ gate self.old.id true)) }
         ensures none { IfNone result ((self.old.out ≡ true) × (self.new ≡ self.old)) }
@@ -82,7 +82,7 @@ impl GateCore {
         Some(Permit { seat })
     }
 
-    /// Takes back the gate's own permit, and the gate is free again.
+    /// Takes back the gate's own permit: the gate is free again.
     pub fn give_back(&mut self, permit: Permit)
         requires { permit ≡ self.old.id }
         ensures { self.new ≡ gate self.old.id false }
@@ -113,7 +113,7 @@ impl Permit {
         seats_apart(&mut a.seat, &mut b.seat);
     }
 
-    /// Lets the permit go for good, as for a value that is dropped with a permit in it: its gate never grants again.
+    /// Ends the permit for good, as for a value that is dropped with a permit in it: its gate never grants again.
     pub fn spend(self) {
         let Permit { seat: _ } = self;
     }

@@ -1,5 +1,5 @@
-//! What tells a group from every other one. Only clauses see it, and it has no bytes.
-//! It is the first seat of a table of its own, and two seats of one number are never of one table.
+//! The identity of a group, by which it differs from every other one. Only clauses see it, and it has no bytes. It is the first seat of a
+//! table of its own, and two seats of one number are never of one table.
 ghost use Rattle.std.specs.Prelude.{◌≡◌, ◌≢◌, IfErr};
 
 use crate::gate::seats_apart;
@@ -37,7 +37,7 @@ impl TableRule<(), (), ()> for Silent {
 }
 
 impl Identity {
-    /// An identity that differs from every other one.
+    /// Returns an identity that differs from every other one.
     ///
     /// # Errors
     ///

@@ -75,7 +75,7 @@ impl<S: BackendSelection> Model for Built<S> {
 }
 
 impl<S: BackendSelection> Job<S> {
-    /// The slot that it is for.
+    /// Returns the slot that it is for.
     pub fn slot(&self) -> usize
         ensures { result ≡ self.now.slot }
     {
@@ -83,14 +83,16 @@ impl<S: BackendSelection> Job<S> {
         place.slot
     }
 
-    /// The generation that it is to build.
+    /// Returns the generation that it is to build.
     pub fn generation(&self) -> u64
         ensures { result ≡ self.now.generation }
     {
         self.order.generation
     }
 
-    /// Builds the selector, and then reads the clock once. It runs outside all locks, and may take long.
+    /// Builds the selector, and then reads the clock once.
+    ///
+    /// It runs outside all locks, and may take long.
     ///
     /// # Errors
     ///
@@ -149,7 +151,7 @@ impl<S: BackendSelection> Job<S> {
         (order, permit)
     }
 
-    /// Lets the job go for good: its gate never grants again.
+    /// Ends the job for good: its gate never grants again.
     pub fn close(self) {
         let Job {
             place: _,
@@ -161,7 +163,7 @@ impl<S: BackendSelection> Job<S> {
 }
 
 impl<S: BackendSelection> Built<S> {
-    /// The slot that it is for.
+    /// Returns the slot that it is for.
     pub fn slot(&self) -> usize
         ensures { result ≡ self.now.task.slot }
     {
@@ -169,14 +171,14 @@ impl<S: BackendSelection> Built<S> {
         place.slot
     }
 
-    /// The generation that was built.
+    /// Returns the generation that was built.
     pub fn generation(&self) -> u64
         ensures { result ≡ self.now.task.generation }
     {
         self.order.generation
     }
 
-    /// The same selector, the build of which ended at that moment: for a clock that isn't lent to `build`.
+    /// Returns the selector with that moment as the end of its build, for a clock that `build` doesn't borrow.
     pub fn ended_at(self, ended: u128) -> Built<S>
         ensures { result ≡ record self { ended = ended } }
     {
@@ -196,7 +198,7 @@ impl<S: BackendSelection> Built<S> {
         }
     }
 
-    /// Lets the selector go for good: its gate never grants again.
+    /// Ends the selector for good: its gate never grants again.
     pub fn close(self) {
         let Built {
             place: _,

@@ -1,5 +1,5 @@
-//! What holds of every history of a group: laws over definitions alone, each a function whose contract is the law.
-//! Callers cite them to learn more of an answer than its clause says.
+//! Laws of every history of a group, over definitions alone: each is a function that does nothing at run time and whose contract is the
+//! law. Callers cite them to learn more of an answer than its clause says.
 ghost use Rattle.std.specs.Prelude.{◌≡◌, ◌∷◌, Bool, ℕ, slice_get};
 ghost use Rattle.lb_rebuild_slots.specs.SlotsCalls.{IsJob};
 ghost use Rattle.lb_rebuild_slots.specs.SlotsHistory.{At, Granted, SlotsEvent, History, IsPast, IsFaithful, IsSlotsHistory, ask_answer};
@@ -21,7 +21,7 @@ pub fn extras_are_accounted()
     ensures { (h : History) → IsPast h → Accounted h }
 {}
 
-/// Over the slots of a group: what was granted and has not ended is what stands in them.
+/// Over the slots of a group, what was granted and has not ended is what the slots have as extras.
 pub fn slots_account()
     ensures { (n : ℕ) (h : History) → IsSlotsHistory h → IsWithin n h → SlotsAccount n h }
 {}

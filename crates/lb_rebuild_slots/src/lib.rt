@@ -1,6 +1,6 @@
-//! Slots whose selectors are rebuilt one at a time: what each serves, what it builds, and what it still has to destroy; and the gate
-//! whose one permit lets at most one extra selector exist at a time.
-//! The contracts tell each call by the history of its events; threads and locks come above.
+//! Slots whose selectors are rebuilt one at a time: what each serves, what it builds, and what it still has to destroy; and the gate whose
+//! one permit lets at most one extra selector exist at a time. The contracts describe each call by the history of its events; threads and
+//! locks are in crates above.
 #![tactic(auto)]
 
 pub mod answers;

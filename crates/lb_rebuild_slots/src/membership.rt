@@ -23,7 +23,7 @@ use std::sync::Arc;
 pub enum SlotTurn {
     /// The slot had a flight or waited; it goes on, and is asked for the new membership later.
     Running,
-    /// The slot had neither; it waits from now on for somebody to ask.
+    /// The slot had neither; it waits from now on until it is asked.
     Start,
 }
 

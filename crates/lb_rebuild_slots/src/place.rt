@@ -1,5 +1,5 @@
-//! Where a value that went out of a group belongs: which group, and which of its slots.
-//! A job, a selector and a reader carry it, so that contracts see whether what comes back is the group's own.
+//! Where a value that went out of a group belongs: which group, and which of its slots. A job, a selector and a reader contain it, so that
+//! contracts see whether what comes back is the group's own.
 use crate::identity::Identity;
 use std::marker::Model;
 use std::snapshot::Snapshot;

@@ -65,7 +65,7 @@ impl<S: BackendSelection> Model for Retired<S> {
 }
 
 impl<S: BackendSelection> Retired<S> {
-    /// The generation that it was built for.
+    /// Returns the generation that it was built for.
     pub fn generation(&self) -> u64
         ensures { result ≡ self.now.generation }
     {
@@ -80,7 +80,7 @@ impl<S: BackendSelection> Retired<S> {
         self.serving.draw()
     }
 
-    /// Drops the selector, outside all locks, and gives the permit that is to be reported.
+    /// Drops the selector, outside all locks, and returns the permit that is to be reported.
     pub fn destroy(self) -> OwedPermit
         ensures { result ≡ record { group = self.group; slot = self.slot; gate = self.permit } }
     {
@@ -110,7 +110,7 @@ impl Model for OwedPermit {
 }
 
 impl OwedPermit {
-    /// Lets the permit go for good: its gate never grants again.
+    /// Ends the permit for good: its gate never grants again.
     pub fn spend(self) {
         let OwedPermit { place: _, permit } = self;
         permit.spend();
@@ -142,7 +142,7 @@ impl<S: BackendSelection> Model for Reader<S> {
 }
 
 impl<S: BackendSelection> Reader<S> {
-    /// The slot that was entered.
+    /// Returns the slot that was entered.
     pub fn slot(&self) -> usize
         ensures { result ≡ self.now.slot }
     {
@@ -150,14 +150,14 @@ impl<S: BackendSelection> Reader<S> {
         place.slot
     }
 
-    /// The generation of the selector that was entered.
+    /// Returns the generation of the selector that was entered.
     pub fn generation(&self) -> u64
         ensures { result ≡ self.now.generation }
     {
         self.generation
     }
 
-    /// The selector that was entered.
+    /// Returns the selector that was entered.
     pub fn selector(&self) -> &Arc<S>
         ensures members { S.members (arc_value result.now) ≡ self.now.members }
         ensures config { S.built_with (arc_value result.now) ≡ self.now.config }
@@ -165,7 +165,7 @@ impl<S: BackendSelection> Reader<S> {
         &self.selector
     }
 
-    /// Lets the reader go for good: the selector that it is in can't be destroyed from then on.
+    /// Ends the reader for good: the selector that it is in can't be destroyed from then on.
     pub fn close(self) {
         let Reader {
             place: _,

@@ -1,5 +1,5 @@
-//! A slot of a group: the selector that it serves to its readers, the order that waits, and at most one extra selector.
-//! Its calls say exactly what they do to the slot; the group above tells them by its history.
+//! A slot of a group: the selector that it serves to its readers, the order that waits, and at most one extra selector. Its calls say
+//! exactly what they do to the slot; the group above describes them by its history.
 ghost use Rattle.std.specs.Prelude.{◌≡◌, ◌&&◌, not, Bool, true, [], ◌<◌, ◌⊎◌, ℕ, Some, None, IfOk, IfErr, OnErr, nat_lt, if◌then◌else◌};
 ghost use Rattle.std.specs.Fn.{FnReturnsAt};
 ghost use Rattle.lb_select_base.specs.Refusals.{Refuses};
@@ -25,8 +25,8 @@ use std::collections::BTreeSet;
 use std::mem;
 use std::sync::Arc;
 
-// What stands in a slot beside what it serves, each with its generation. A flight goes from the slot's job to its failure or
-// publication; it is lost with its worker. What was taken out is on its way to the report of its destruction.
+// What a slot has apart from what it serves, each with its generation. A flight goes from the slot's job to its failure or publication; it
+// is lost with its worker. What was taken out is on its way to the report of its destruction.
 pub(crate) enum SlotStage<S: BackendSelection> {
     Free,
     Flight(u64),
@@ -35,9 +35,9 @@ pub(crate) enum SlotStage<S: BackendSelection> {
     TakenOut(u64),
 }
 
-// A slot: what it is configured with, what it serves and to how many readers, the order that waits for a permit, and what else
-// stands in it, with the readers left in it where it is retired. The moments are those of the last job's ask, of the membership
-// that it was for, and of the last failure of the newest generation.
+// A slot: what it is configured with, what it serves and to how many readers, the order that waits for a permit, and what else it has,
+// with the readers left in it where it is retired. The moments are those of the last job's ask, of the membership that it was for, and of
+// the last failure of the newest generation.
 pub(crate) struct Slot<S: BackendSelection> {
     pub(crate) config: Arc<S::Config>,
     pub(crate) serving: ServedSelector<S>,
@@ -215,7 +215,7 @@ impl<S: BackendSelection> Slot<S> {
         }
     }
 
-    // Ends the flight or the lost flight of a job that failed, and gives its permit; a job that is not awaited is handed back.
+    // Ends the flight or the lost flight of a job that failed, and gives its permit; a job that is not awaited is returned.
     pub(crate) fn fail(&mut self, newest: u64, job: Job<S>, now: u128) -> Result<Permit, Job<S>>
         ensures { FailsAt newest now job (slot_value self.old) result (slot_value self.new) }
     {
@@ -242,8 +242,8 @@ impl<S: BackendSelection> Slot<S> {
         }
     }
 
-    // Serves the selector of its flight, and retires that of a lost flight or of a cancelled group unserved. A selector that is
-    // not awaited is handed back.
+    // Serves the selector of its flight, and retires that of a lost flight or of a cancelled group unserved. A selector that is not
+    // awaited is returned.
     pub(crate) fn publish(
         &mut self,
         newest: u64,
@@ -261,7 +261,7 @@ impl<S: BackendSelection> Slot<S> {
         Ok(Publication::Abandoned(self.retire(newest, built)))
     }
 
-    // Retires the selector of its flight or lost flight unserved; one that is not awaited is handed back.
+    // Retires the selector of its flight or lost flight unserved; one that is not awaited is returned.
     pub(crate) fn abandon(&mut self, newest: u64, built: Built<S>) -> Result<(), Built<S>>
         ensures { AbandonsAt newest built (slot_value self.old) result (slot_value self.new) }
     {
@@ -384,7 +384,7 @@ impl<S: BackendSelection> Slot<S> {
         })
     }
 
-    // One reader less of its generation; a reader that it does not count is handed back.
+    // One reader less of its generation; a reader that it does not count is returned.
     pub(crate) fn leave(&mut self, reader: Reader<S>) -> Result<(), Reader<S>>
         ensures { LeavesAt reader (slot_value self.old) result (slot_value self.new) }
     {
@@ -564,7 +564,7 @@ impl<S: BackendSelection> Drop for Slot<S> {
     }
 }
 
-// Puts something where nothing stands.
+// Puts something where nothing is.
 fn fill<S: BackendSelection>(stage: &mut SlotStage<S>, next: SlotStage<S>)
     requires { stage.old ≡ SlotStage.Free }
     ensures { stage.new ≡ next }

@@ -42,8 +42,8 @@ use std::sync::Arc;
 
 /// A group of slots, each of which serves one selector, and gets the next one by way of a job, a build and a publication.
 ///
-/// Contracts see a record that is a function of the group's history; some history stands behind every group. A group that is
-/// dropped with a retired selector in it keeps the permit of that selector for good.
+/// Contracts see a record that is a function of the group's history; some history explains every group. A group that is dropped with a
+/// retired selector in it keeps the permit of that selector for good.
 #[derive(Drop)]
 pub struct Slots<S: BackendSelection> {
     identity: Identity,
@@ -87,8 +87,9 @@ impl<S: BackendSelection> Model for Slots<S> {
 }
 
 impl<S: BackendSelection> Slots<S> {
-    /// A group of one slot for each configuration, whose extra selectors `gate` allows one at a time. Each slot serves a selector
-    /// over no backends.
+    /// Returns a group of one slot for each configuration, whose extra selectors `gate` allows one at a time.
+    ///
+    /// Each slot serves a selector over no backends.
     ///
     /// # Errors
     ///
@@ -120,15 +121,20 @@ impl<S: BackendSelection> Slots<S> {
         Identity::apart(&mut a.identity, &mut b.identity);
     }
 
-    /// Some history of the group, for whoever knows none.
+    /// States that some history of calls explains this group.
+    ///
+    /// Only for the prover: it does nothing at run time.
     pub fn past(&self)
         ensures { (made : Made S.Config) × ((h : History) × StandsFor made h self.now) }
     {
+        // For the prover alone: this shows it the group's invariant, and does nothing at run time.
         let _newest = self.newest;
     }
 
-    /// Makes this membership the newest where it has other backends than the newest one, at the moment `now`, and gives each
-    /// slot an order for it. The same membership changes nothing: the attachments of the backends stay those of the first.
+    /// Makes this membership the newest where it has other backends than the newest one, at the moment `now`, and gives each slot an order
+    /// for it.
+    ///
+    /// The same membership changes nothing: the attachments of the backends stay those of the first.
     ///
     /// # Errors
     ///
@@ -155,12 +161,14 @@ impl<S: BackendSelection> Slots<S> {
         }
     }
 
-    /// Gets at hand all the memory that this membership takes, where it has other backends than the newest one; `None` where it
-    /// has the same. Nothing changes yet, so a caller can do more that may be refused before it commits.
+    /// Gets at hand all the memory that this membership takes, where it has other backends than the newest one; `None` where it has the
+    /// same.
+    ///
+    /// Nothing changes yet, so a caller can do more that may be refused before it commits.
     ///
     /// # Errors
     ///
-    /// As `schedule`.
+    /// Those of `schedule`.
     pub fn prepare(
         &self,
         alloc: Global,
@@ -193,7 +201,9 @@ impl<S: BackendSelection> Slots<S> {
         }))
     }
 
-    /// Makes a membership the newest at the moment `now`, for which this group has just got the memory. It takes none.
+    /// Makes a membership the newest at the moment `now`, for which this group has just got the memory.
+    ///
+    /// It takes no memory.
     pub fn commit(&mut self, prepared: Prepared<S::Config>, now: u128) -> Scheduled
         requires { Fits self.old prepared }
         ensures answers { IsCommitted prepared result }
@@ -217,7 +227,9 @@ impl<S: BackendSelection> Slots<S> {
         }
     }
 
-    /// Stops the rebuilds for good. Selections and readers go on, and what is under way can still come back.
+    /// Stops the rebuilds for good.
+    ///
+    /// Selections and readers go on, and what is under way can still come back.
     pub fn cancel(&mut self)
         ensures stands { Becomes self.old (Cancelled ∷ []) self.new }
         ensures site { SameSite self.old self.new }
@@ -225,7 +237,9 @@ impl<S: BackendSelection> Slots<S> {
         self.cancelled = true;
     }
 
-    /// Asks for the build that a slot needs next. It takes no memory.
+    /// Asks for the build that a slot needs next.
+    ///
+    /// It takes no memory.
     ///
     /// # Errors
     ///
@@ -249,8 +263,9 @@ impl<S: BackendSelection> Slots<S> {
         Ok(self.slots[slot].ask(place, newest, scheduled, cancelled, gate, now))
     }
 
-    /// Ends the flight or the lost flight of a job that failed, and gives its permit back. A slot whose job was of the newest
-    /// generation waits again. It takes no memory.
+    /// Ends the flight or the lost flight of a job that failed, and gives its permit back.
+    ///
+    /// A slot whose job was of the newest generation waits again. It takes no memory.
     ///
     /// # Errors
     ///
@@ -276,8 +291,9 @@ impl<S: BackendSelection> Slots<S> {
         Ok(())
     }
 
-    /// Serves the selector of a flight, and retires what its slot served before with its readers. In a cancelled group, and for a
-    /// lost flight, the selector is retired unserved, as by `abandon`. It takes no memory.
+    /// Serves the selector of a flight, and retires what its slot served before with its readers.
+    ///
+    /// In a cancelled group, and for a lost flight, the selector is retired unserved, as by `abandon`. It takes no memory.
     ///
     /// # Errors
     ///
@@ -296,8 +312,9 @@ impl<S: BackendSelection> Slots<S> {
         self.slots[slot].publish(newest, cancelled, built)
     }
 
-    /// Retires the selector of a flight or of a lost flight unserved. A slot whose selector was of the newest generation waits
-    /// again. It takes no memory.
+    /// Retires the selector of a flight or of a lost flight unserved.
+    ///
+    /// A slot whose selector was of the newest generation waits again. It takes no memory.
     ///
     /// # Errors
     ///
@@ -315,8 +332,9 @@ impl<S: BackendSelection> Slots<S> {
         self.slots[slot].abandon(newest, built)
     }
 
-    /// Ends a slot's flight as lost: its job or its selector goes on with the permit, but is not served any more. It takes no
-    /// memory.
+    /// Ends a slot's flight as lost: its job or its selector goes on with the permit, but is not served any more.
+    ///
+    /// It takes no memory.
     ///
     /// # Errors
     ///
@@ -352,8 +370,9 @@ impl<S: BackendSelection> Slots<S> {
         self.slots[slot].enter(place)
     }
 
-    /// The next ticket of the selector that a reader is in, in its slot and of its generation. Contracts tell it while that selector
-    /// is served. It takes no memory.
+    /// Returns the next ticket of the selector that a reader is in, in its slot and of its generation.
+    ///
+    /// Contracts say which while that selector is served. It takes no memory.
     pub fn ticket(&mut self, reader: &Reader<S>) -> u64
         ensures answers { After self.old (λ made h. IsTicket made h reader.now.slot reader.now.generation result) }
         ensures stands { After self.old (λ made h. StandsFor made
@@ -367,7 +386,9 @@ impl<S: BackendSelection> Slots<S> {
         self.slots[slot].ticket(reader.generation())
     }
 
-    /// Gives an entry back to its slot. It takes no memory.
+    /// Gives an entry back to its slot.
+    ///
+    /// It takes no memory.
     ///
     /// # Errors
     ///
@@ -385,7 +406,9 @@ impl<S: BackendSelection> Slots<S> {
         self.slots[slot].leave(reader)
     }
 
-    /// Takes a retired selector out of its slot, to be destroyed and then reported. It takes no memory.
+    /// Takes a retired selector out of its slot, to be destroyed and then reported.
+    ///
+    /// It takes no memory.
     ///
     /// # Errors
     ///
@@ -404,8 +427,9 @@ impl<S: BackendSelection> Slots<S> {
         self.slots[slot].take_retired(place)
     }
 
-    /// The report that the selector which was taken out of that slot is destroyed; its permit goes back to the gate. It takes no
-    /// memory.
+    /// Takes the report that the selector which was taken out of that slot is destroyed; its permit goes back to the gate.
+    ///
+    /// It takes no memory.
     ///
     /// # Errors
     ///
@@ -436,12 +460,13 @@ impl<S: BackendSelection> Slots<S> {
         Ok(())
     }
 
-    /// Selects from what a slot serves: the first that `accept` accepts of the distinct backends among the first `limit` candidates
-    /// of the selector's walk for `key`. Tickets go on from those that earlier selections drew; random words are the ones handed in,
-    /// and loads those that are lent. A slot that is not there selects nothing.
+    /// Selects the first backend that `accept` takes among the distinct of the first `limit` candidates of what a slot serves.
     ///
-    /// The selection is refused `NotEnoughWords` where walks over the selector may draw random words and at most `limit` of them
-    /// are handed in, and then no word is drawn; or `OutOfMemory`. The answer says how many words were drawn, refused or not.
+    /// Tickets go on from those that earlier selections drew; random words and loads are the given ones. A slot that is not there selects
+    /// nothing.
+    ///
+    /// The selection is refused `NotEnoughWords` where walks over the selector may draw random words and at most `limit` of them are
+    /// given, and then no word is drawn; or `OutOfMemory`. The answer says how many words were drawn, refused or not.
     pub fn select_with<F: Fn(&Backend) -> bool>(
         &mut self,
         alloc: Global,
@@ -468,21 +493,21 @@ impl<S: BackendSelection> Slots<S> {
         self.slots[slot].select(alloc, key, limit, random, loads, accept)
     }
 
-    /// The newest generation; 0 before the first membership.
+    /// Returns the newest generation; 0 before the first membership.
     pub fn newest(&self) -> u64
         ensures { After self.now (λ made h. result ≡ newest_after h) }
     {
         self.newest
     }
 
-    /// Whether the group is cancelled.
+    /// Returns whether the group is cancelled.
     pub fn is_cancelled(&self) -> bool
         ensures { After self.now (λ made h. result ≡ is_cancelled h) }
     {
         self.cancelled
     }
 
-    /// The generation that a slot serves, or `None` where no such slot is there.
+    /// Returns the generation that a slot serves, or `None` where no such slot is there.
     pub fn served(&self, slot: usize) -> Option<u64>
         ensures { After self.now (λ made h. result ≡ at_slot made slot (served_after (past_of slot h))) }
     {
@@ -493,7 +518,7 @@ impl<S: BackendSelection> Slots<S> {
         Some(serving.generation)
     }
 
-    /// The generation of the selector that was taken out of a slot and is not yet reported destroyed, or `None` where there is
+    /// Returns the generation of the selector that was taken out of a slot and is not yet reported destroyed, or `None` where there is
     /// none.
     pub fn taken_out(&self, slot: usize) -> Option<u64>
         ensures { After self.now (λ made h. result ≡ taken_out_at made slot h) }
@@ -504,7 +529,7 @@ impl<S: BackendSelection> Slots<S> {
         self.slots[slot].taken_out()
     }
 
-    /// The generation of a slot's flight, or none: `None` where no such slot is there.
+    /// Returns the generation of a slot's flight, or none: `None` where no such slot is there.
     pub fn flight(&self, slot: usize) -> Option<Option<u64>>
         ensures { After self.now (λ made h. result ≡ at_slot made slot (flight_after (past_of slot h))) }
     {
@@ -514,7 +539,7 @@ impl<S: BackendSelection> Slots<S> {
         Some(self.slots[slot].flight())
     }
 
-    /// Whether a slot waits for a job or a publication of the newest generation: `None` where no such slot is there.
+    /// Returns whether a slot waits for a job or a publication of the newest generation: `None` where no such slot is there.
     pub fn is_waiting(&self, slot: usize) -> Option<bool>
         ensures { After self.now (λ made h. result ≡ at_slot made slot (waits_after (past_of slot h))) }
     {
@@ -524,7 +549,7 @@ impl<S: BackendSelection> Slots<S> {
         Some(self.slots[slot].waits(self.newest))
     }
 
-    /// How many readers are in what a slot serves: `None` where no such slot is there.
+    /// Returns how many readers are in what a slot serves: `None` where no such slot is there.
     pub fn readers(&self, slot: usize) -> Option<u64>
         ensures { After self.now (λ made h.
             result ≡ at_slot made slot (readers_after (served_after (past_of slot h)) (past_of slot h))) }
@@ -535,14 +560,14 @@ impl<S: BackendSelection> Slots<S> {
         Some(self.slots[slot].readers)
     }
 
-    /// The membership of the newest generation. It takes no memory.
+    /// Returns a borrow of the membership of the newest generation.
     pub fn members(&self) -> &BTreeSet<Backend>
         ensures { After self.now (λ made h. result.now.keys ≡ members_of (newest_after h) h) }
     {
         &self.current
     }
 
-    /// The counts of a slot, or `None` where no such slot is there.
+    /// Returns the counts of a slot, or `None` where no such slot is there.
     pub fn counts(&self, slot: usize) -> Option<Counts>
         ensures { After self.now (λ made h. result ≡ at_slot made slot (counts_after (past_of slot h))) }
     {
@@ -552,7 +577,7 @@ impl<S: BackendSelection> Slots<S> {
         Some(self.slots[slot].counts)
     }
 
-    /// The timing of a slot's last publication: `None` where no such slot is there, and none in it before the first.
+    /// Returns the timing of a slot's last publication: `None` where no such slot is there, and none in it before the first.
     pub fn timing(&self, slot: usize) -> Option<Option<Timing>>
         ensures { After self.now (λ made h. result ≡ at_slot made slot (timing_after (past_of slot h))) }
     {

@@ -1,5 +1,5 @@
-//! Words that are handed in for one selection, with a count of how many of them were drawn, and the loads that it is lent.
-//! A slot keeps the counter of tickets between selections; the count begins anew.
+//! Words that are given for one selection, with a count of how many of them were drawn, and the loads that it borrows. A slot keeps the
+//! counter of tickets between selections; the count begins anew.
 ghost use Rattle.std.specs.Prelude.{◌≡◌};
 
 use lb_select_base::backend::Backend;
@@ -7,7 +7,7 @@ use lb_select_base::loads::Loads;
 use lb_select_base::words::{HandedWords, WordSource};
 use std::marker::Model;
 
-// Words that are handed in, how many were drawn, and loads.
+// Given words, how many were drawn, and loads.
 #[derive(Drop)]
 pub(crate) struct DrawnWords<'a> {
     words: HandedWords<'a>,

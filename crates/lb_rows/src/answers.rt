@@ -1,4 +1,4 @@
-//! Rows of answers to a check: one check over one stream, and the line that tells what came.
+//! Rows of answers to a check: one check over one stream, and the line that says what came.
 use crate::check_tables::{Asked, Asks, Cut, DEFAULT, MadeStream, Where};
 use crate::files::file;
 use crate::streams::{Sink, Source};
@@ -13,7 +13,7 @@ use std::rt::Files;
 // How many bytes the request of a row has: `GET / HTTP/1.1`, `host: h`, and an empty line.
 const REQUEST_LENGTH: usize = 27;
 
-/// Whether a check of the stream in a file tells the line in its file of the answer.
+/// Returns whether a check of the stream in a file gives the line in its file of the answer.
 pub(crate) fn filed_agrees<R: Files + AllocGlobal>(
     rt: &R,
     name: &str,
@@ -24,13 +24,13 @@ pub(crate) fn filed_agrees<R: Files + AllocGlobal>(
     line_agrees(rt.alloc(), asked, stream.as_slice(), line.as_slice())
 }
 
-/// Whether a default check of a stream that is made tells the line of its row.
+/// Returns whether a default check of a stream that is made gives the line of its row.
 pub(crate) fn made_agrees(alloc: Global, row: &MadeStream) -> io::Result<bool> {
     let stream = row.stream.bytes(alloc)?;
     line_agrees(alloc, DEFAULT, stream.as_slice(), row.line)
 }
 
-/// Whether a default check of the row's message tells the fault of each cut, and none where nothing is cut.
+/// Returns whether a default check of the row's message gives the fault of each cut, and none where nothing is cut.
 pub(crate) fn cut_agrees<R: Files + AllocGlobal>(rt: &R, row: &Cut) -> io::Result<bool> {
     let stream = file(rt, row.message, "stream")?;
     let message = stream.as_slice();
@@ -79,7 +79,7 @@ fn cut_check_agrees(
     Ok(outcome == wanted && (unread == 0 || matches!(&at, Where::Write)))
 }
 
-// Whether a check of the stream tells that line.
+// Whether a check of the stream gives that line.
 fn line_agrees(alloc: Global, asked: Asked, stream: &[u8], line: &[u8]) -> io::Result<bool> {
     let source = Source {
         left: stream,

@@ -2,7 +2,7 @@
 use std::rt::Files;
 use std::{fs, io};
 
-/// The bytes of the file with that name and ending.
+/// Returns the bytes of the file with that name and ending.
 pub(crate) fn file<R: Files + AllocGlobal>(
     rt: &R,
     name: &str,

@@ -22,7 +22,7 @@ pub(crate) struct Made {
 }
 
 impl Made {
-    /// The bytes.
+    /// Returns the bytes.
     pub(crate) fn bytes(&self, alloc: Global) -> io::Result<Vec<u8>> {
         let mut bytes = self.before.to_vec(alloc)?;
         self.push_rest(alloc, &mut bytes)?;

@@ -19,7 +19,7 @@ use std::net::{Net, TcpListener, TcpStream};
 use std::sync::atomic::{AtomicU64, Ordering};
 use std::thread::{Threads, join};
 
-// Counts what it is told.
+// Counts the changes that are reported to it.
 #[derive(Drop)]
 struct Flips<'a> {
     told: &'a AtomicU64,

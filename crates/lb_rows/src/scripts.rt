@@ -10,7 +10,7 @@ use std::alloc::Global;
 use std::io;
 use std::rt::Files;
 
-/// Whether a script in a file is answered as its file of answers tells, also as a list of steps.
+/// Returns whether a script in a file is answered as its file of answers says, also as a list of steps.
 pub(crate) fn filed_agrees<R: Files + AllocGlobal>(rt: &R, name: &str) -> io::Result<bool> {
     let script = file(rt, name, "script")?;
     let answers = file(rt, name, "answers")?;
@@ -24,7 +24,7 @@ fn both_agree(alloc: Global, script: &[u8], answers: &[u8]) -> io::Result<bool> 
     Ok(by_script && by_steps)
 }
 
-/// Whether a script that is made is answered as its row says.
+/// Returns whether a script that is made is answered as its row says.
 pub(crate) fn made_agrees(alloc: Global, row: &MadeScript) -> io::Result<bool> {
     let script = row.script.bytes(alloc)?;
     Ok(script_agrees(alloc, script.as_slice(), row.fails, row.answers))
@@ -65,7 +65,7 @@ fn last_answer(answers: &[u8]) -> &[u8] {
     lines.rsplit(|byte| *byte == b'\n').next().unwrap_or(lines)
 }
 
-/// The answers to steps: all lines but an error.
+/// Returns the answers to steps: all lines but an error.
 pub(crate) fn step_answers(answers: &[u8]) -> &[u8] {
     let error = if status_of(answers) == 1 {
         last_answer(answers).len() + 1

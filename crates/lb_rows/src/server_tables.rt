@@ -145,7 +145,7 @@ pub(crate) const SERVERS: [Server; 11] = [
     },
 ];
 
-/// Two passes of a check over a backend: whether it is ready after each, and how many flips the observer is told of.
+/// Two passes of a check over a backend: whether it is ready after each, and how many flips the observer gets.
 pub(crate) struct Pass {
     pub(crate) name: &'static str,
     pub(crate) by: By,

@@ -10,7 +10,7 @@ use lb_world::step::Step;
 use std::alloc::Global;
 use std::io;
 
-/// Whether one run of all the script's steps gives the answers to its lines.
+/// Returns whether one run of all the script's steps gives the answers to its lines.
 pub(crate) fn run_agrees(alloc: Global, script: &[u8], answers: &[u8]) -> io::Result<bool> {
     let answers = step_answers(answers);
     let count = answers.iter().filter(|byte| **byte == b'\n').count();

@@ -31,7 +31,7 @@ pub(crate) struct Sink {
 }
 
 impl Sink {
-    /// A writer that takes everything.
+    /// Returns a writer that takes everything.
     pub(crate) fn new(alloc: Global) -> Sink {
         Sink {
             written: Vec::new(alloc),

@@ -1,5 +1,5 @@
-//! A whole script: one answer for each line, and one more line where it ends early.
-//! The text is that of a world's run, whatever reader and writer stand at the ends.
+//! Runs a whole script: one answer for each line, and one more line where it ends early. The text is that of a world's run, whatever the
+//! reader and the writer are.
 ghost use Rattle.std.specs.Prelude.{◌≡◌, ℕ, ◌++◌, false, true, codes, OnOk, OnErr, IfSome, is_none};
 ghost use Rattle.std.specs.Io.KnownBytes.{Appends};
 ghost use Rattle.lb_world.specs.Meanings.{meaning_of};
@@ -18,13 +18,13 @@ use std::alloc::Global;
 use std::io;
 use std::io::{Read, Write};
 
-/// Answers each line of the reader's script on the writer, from a world that is empty at first, and answers the status.
+/// Answers each line of the reader's script on the writer, from a world that is empty at first, and returns the status.
 ///
-/// The status is 0, or 1 where an `error` line ended the script or a write failed. A line ends the script with `error`, its
-/// number from 1 and a name: `BadLine` where it is none that a script may have there, `LineTooLong` where it has more than
-/// 16777216 bytes, `OutOfMemory` where memory was refused at it, and `Read` where a read failed before the line was whole; the
-/// whole lines before it are answered then. Nothing is read after that. Where a write failed, what was written is a beginning
-/// of such a text. Answers are flushed before each read and at the end: who waits for an answer before giving more has it.
+/// The status is 0, or 1 where an `error` line ended the script or a write failed. A line ends the script with `error`, its number from 1
+/// and a name: `BadLine` where it is none that a script may have there, `LineTooLong` where it has more than 16777216 bytes, `OutOfMemory`
+/// where memory was refused at it, and `Read` where a read failed before the line was whole; the whole lines before it are answered then.
+/// Nothing is read after that. Where a write failed, what was written is a beginning of such a text. Answers are flushed before each read
+/// and at the end, so a peer that waits for an answer before it sends more has it.
 pub fn run_script<R, W>(alloc: Global, reader: &mut Counted<R>, writer: &mut Counted<W>) -> u8
 where
     R: Read,
@@ -43,7 +43,7 @@ where
     run_script_with::<Chosen, R, W>(alloc, reader, writer)
 }
 
-/// The same over any selector that is configured by a kind.
+/// Answers each line as `run_script` does, over any selector that is configured by a kind.
 pub fn run_script_with<S, R, W>(
     alloc: Global,
     reader: &mut Counted<R>,

@@ -1,5 +1,5 @@
-//! One line of a script at a time: it is read, its step is taken, and the text of the answer joins what waits to be written.
-//! What a run keeps between its lines stands here; the buffers are used again for each line.
+//! One line of a script at a time: it is read, its step is taken, and the text of the answer joins what waits to be written. A run's state
+//! between its lines is here; the buffers are used again for each line.
 ghost use Rattle.std.specs.Prelude.{◌≡◌, ◌≢◌, ℕ, List, [], ◌∷◌, ◌++◌, Err, Some, true, OnOk, OnErr};
 ghost use Rattle.std.specs.Io.KnownBytes.{Appends, Keeps, prepend_known};
 ghost use Rattle.lb_world.specs.History.{History};
@@ -56,7 +56,7 @@ pub(crate) struct Session<S: BackendSelection> {
 }
 
 impl<S: BackendSelection<Config = Kind>> Session<S> {
-    /// A run that has read nothing.
+    /// Returns a run that has read nothing.
     pub(crate) fn new(alloc: Global) -> Session<S>
         ensures stands { Stands (meaning_of S.BackendSelection) result.world [] }
         ensures ahead { result.ahead ≡ [] }
@@ -71,8 +71,10 @@ impl<S: BackendSelection<Config = Kind>> Session<S> {
         }
     }
 
-    /// Answers the next line: one that was read ahead as it lies there, else one that is read first. Before a read all that waits
-    /// is written and flushed; while lines were read ahead, their answers wait together, 32768 bytes and one answer at most.
+    /// Answers the next line: one that was read ahead in place, else one that is read first.
+    ///
+    /// Before a read all that waits is written and flushed; while lines were read ahead, their answers wait together, 32768 bytes and one
+    /// answer at most.
     pub(crate) fn take_turn<R: Read, W: Write>(
         &mut self,
         alloc: Global,
@@ -206,7 +208,7 @@ fn answer<S: BackendSelection<Config = Kind>>(
     }
 }
 
-// The same for a selection, read from its line already. Most lines are one.
+// Answers a selection, read from its line already. Most lines are one.
 fn answer_selection<S: BackendSelection<Config = Kind>>(
     alloc: Global,
     world: &mut World<S>,
@@ -230,7 +232,7 @@ fn answer_selection<S: BackendSelection<Config = Kind>>(
     Ok(())
 }
 
-// The same for any line. It stands apart, so that what other steps need is no part of a selection's time.
+// Answers every other line. It is a function of its own, so that a selection does not pay for what other steps need.
 #[inline(never)]
 fn answer_other<S: BackendSelection<Config = Kind>>(
     alloc: Global,

@@ -29,8 +29,9 @@ pub fn push_backend(alloc: Global, text: &mut Vec<u8>, backend: &Backend) -> Res
     }
 }
 
-/// Appends the answer that is a backend and a line feed, or nothing where memory is refused. Most answers are this one: it is spelled
-/// in `bytes`, whose content has no meaning before or after, and copied once.
+/// Appends the answer that is a backend and a line feed, or nothing where memory is refused.
+///
+/// Most answers are this one: it is spelled in `bytes`, whose content has no meaning before or after, and copied once.
 pub fn push_backend_line(
     alloc: Global,
     text: &mut Vec<u8>,
@@ -55,8 +56,8 @@ pub fn push_backend_line(
     }
 }
 
-// Puts a byte before the text that begins at `start`, and answers where the longer text begins. A place that is no field beside
-// the bytes stays in a register.
+// Puts a byte before the text that begins at `start`, and returns where the longer text begins. A place that is not a field next to the
+// bytes stays in a register.
 fn put_byte(bytes: &mut [u8; CAPACITY], start: usize, byte: u8) -> usize
     requires { (0 < start) × (start ≤ 144) }
     ensures text { drop result bytes.new ≡ byte ∷ drop start bytes.old }

@@ -1,5 +1,5 @@
-//! Backends as a script spells them: an address, a slash and a weight, and in an update a mark before these.
-//! An address that can't be one is told apart from a word that no backend is spelled as.
+//! Backends as a script spells them: an address, a slash and a weight, and in an update a mark before these. An address that can't be one
+//! differs from a word that no backend is spelled as.
 ghost use Rattle.std.specs.Prelude.{◌≡◌, option_map};
 ghost use Rattle.lb_script_text.specs.StepLines.{Reads, backend_of, mark_of, listing_of, listings_of, address_and_weight};
 
@@ -11,7 +11,7 @@ use lb_select_base::refusal::Refusal;
 use lb_world::step::Listing;
 use std::alloc::Global;
 
-/// The backends of an update that the words spell, each `None` where its address is refused. Memory is taken.
+/// Returns the backends of an update that the words spell, each `None` where its address is refused. It takes memory.
 pub fn listings(alloc: Global, words: Words<'_>) -> Result<Vec<Listing>, ScriptError>
     ensures { Reads (λ listed. listed.items) (listings_of words.entry) result }
 {
@@ -44,7 +44,9 @@ fn strip_mark(word: &str) -> (Option<bool>, &str)
     }
 }
 
-/// A backend with nothing attached, or `None` where its address is refused. Memory is taken for a path.
+/// Returns a backend with nothing attached, or `None` where its address is refused.
+///
+/// Memory is taken for a path.
 pub fn backend(alloc: Global, word: &str) -> Result<Option<Backend>, ScriptError>
     ensures { Reads (λ found. found) (backend_of word.now) result }
 {

@@ -19,7 +19,7 @@ pub enum ScriptError {
 }
 
 impl ScriptError {
-    /// The name of the error.
+    /// Returns the name of the error.
     pub fn name(&self) -> &'static str
         ensures { result.now ≡ script_error_name self.now }
     {

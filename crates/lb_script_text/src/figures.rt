@@ -1,5 +1,5 @@
-//! The parts of answers: a word with a number, a word by a flag, and what is told of slots and of targets.
-//! A part is appended to the answer's text.
+//! The parts of answers: a word with a number, a word by a flag, and the lists of slots and of targets. A part is appended to the answer's
+//! text.
 ghost use Rattle.std.specs.Prelude.{◌≡◌, ◌++◌, codes, decimal, length, OnOk, if◌then◌else◌};
 ghost use Rattle.lb_script_text.specs.Texts.{flight_text, tallies_text, counts_text, timing_text, target_text, targets_text};
 

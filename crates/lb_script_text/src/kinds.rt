@@ -47,7 +47,7 @@ pub enum Chosen {
     Least(Arc<LeastConnections>),
 }
 
-/// What a walk over a lent selector of one of the kinds keeps. The two weighted kinds keep the same.
+/// What a walk over a borrowed selector of one of the kinds keeps. The two weighted kinds keep the same.
 #[derive(Drop)]
 pub enum ChosenWalk {
     Weighted(WeightedWalk),

@@ -3,7 +3,7 @@
 ghost use Rattle.std.specs.Prelude.{◌≡◌, ◌^◌, [], ◌∷◌};
 ghost use Rattle.lb_script_text.specs.Numbers.{has_plain_front, number_of};
 
-/// The number below 2^64 that the word spells, if it spells one.
+/// Returns the number below 2^64 that the word spells, if it spells one.
 pub fn number(word: &str) -> Option<u64>
     ensures { result ≡ number_of (2 ^ 64) word.now }
 {
@@ -30,7 +30,7 @@ fn digit(byte: u8) -> Option<u64>
     }
 }
 
-/// The number below 2^128 that the word spells, if it spells one.
+/// Returns the number below 2^128 that the word spells, if it spells one.
 pub fn wide_number(word: &str) -> Option<u128>
     ensures { result ≡ number_of (2 ^ 128) word.now }
 {

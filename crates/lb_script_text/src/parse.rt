@@ -25,7 +25,9 @@ pub enum LineStep<'a> {
 }
 
 impl<'a> LineStep<'a> {
-    /// The step by itself, apart from the line. Memory is taken for a key.
+    /// Returns the step by itself, apart from the line.
+    ///
+    /// Memory is taken for a key.
     pub fn into_step(self, alloc: Global) -> Result<Step<Kind>, AllocError>
         ensures { IfOk result (λ step. step_seen step ≡ line_step_seen self.entry) }
     {
@@ -42,8 +44,9 @@ impl<'a> LineStep<'a> {
     }
 }
 
-/// The step that the line asks for, the line given without its line feed. A bad line where it asks for none; memory is
-/// taken where the step has a list or a path.
+/// Returns the step that the line asks for, the line given without its line feed.
+///
+/// A bad line where it asks for none; memory is taken where the step has a list or a path.
 pub fn parse(alloc: Global, line: &[u8]) -> Result<LineStep<'_>, ScriptError>
     ensures { Reads line_step_seen (step_of line.now) result }
 {

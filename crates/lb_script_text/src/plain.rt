@@ -64,7 +64,7 @@ fn slot_step(first: &str, words: Words<'_>) -> Option<Step<Kind>>
     lone_step(first, words)
 }
 
-// A step that names one number, tells a verdict or makes something, by its first word.
+// A step that names one number, gives a verdict or makes something, by its first word.
 fn lone_step(first: &str, words: Words<'_>) -> Option<Step<Kind>>
     ensures { option_map step_seen result ≡ lone_step_of first.now words.entry }
 {

@@ -1,5 +1,5 @@
-//! A selection whose line has the plain form, read straight from the line's bytes.
-//! Most lines of a script are these: no word is cut twice, and the bytes needn't be told to be text first.
+//! A selection whose line has the plain form, read straight from the line's bytes. Most lines of a script are these: no word is cut twice,
+//! and the bytes needn't be checked to be text first.
 ghost use Rattle.std.specs.Prelude.{◌≡◌, ◌≤◌, Some, length, take, IfSome};
 ghost use Rattle.std.specs.Str.{IsAscii};
 ghost use Rattle.lb_script_text.specs.LineSteps.{selection_seen};
@@ -9,7 +9,7 @@ ghost use Rattle.lb_script_text.specs.Words.{BeginsWith, IsPlainWord, words_of};
 // A number below this one may be followed by another digit, and the number that they spell has 64 bits.
 const SHORT_NUMBER: u64 = 1_000_000_000_000_000_000;
 
-/// A selection that a line asks for, with no random words handed in. Its key is lent from the line, so that it takes no memory.
+/// A selection that a line asks for, with no random words. Its key is borrowed from the line, so that it takes no memory.
 #[derive(Clone, Copy)]
 pub struct SelectionLine<'a> {
     pub group: u64,
@@ -18,8 +18,10 @@ pub struct SelectionLine<'a> {
     pub limit: usize,
 }
 
-/// The selection that the line asks for, if the line has the plain form: four words of ASCII after `select`, each after one space,
-/// and no number of more than 19 digits. A line that it answers nothing to may still ask for a selection, or for another step.
+/// Returns the selection that the line asks for, if the line has the plain form, else `None`.
+///
+/// The plain form is four words of ASCII after `select`, each after one space, and no number of more than 19 digits. A line without it may
+/// still ask for a selection, or for another step.
 pub fn plain_selection(line: &[u8]) -> Option<SelectionLine<'_>>
     ensures { IfSome result (λ selection. step_of line.now ≡ Some (selection_seen selection)) }
 {

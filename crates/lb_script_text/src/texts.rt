@@ -11,7 +11,7 @@ use lb_select_base::refusal::Refusal;
 use lb_world::answer::Answer;
 use std::alloc::{AllocError, Global};
 
-/// Memory in which lines of answers are spelled before they are appended. It is used again for each; what it holds has no meaning.
+/// Memory in which lines of answers are spelled before they are appended. It is used again for each; its content has no meaning.
 #[derive(Drop)]
 pub struct Scratch {
     spelled: Vec<u8>,
@@ -19,7 +19,7 @@ pub struct Scratch {
 }
 
 impl Scratch {
-    /// Scratch that has taken no memory yet.
+    /// Returns scratch that has taken no memory yet.
     pub fn new(alloc: Global) -> Scratch {
         Scratch {
             spelled: Vec::new(alloc),
@@ -44,7 +44,7 @@ pub fn push_line(
     }
 }
 
-// The same for any answer. It is spelled apart, so that nothing of it is appended where memory is refused.
+// Appends any other answer. It is spelled apart, so that nothing of it is appended where memory is refused.
 fn push_other_line(
     alloc: Global,
     text: &mut Vec<u8>,

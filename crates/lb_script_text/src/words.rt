@@ -7,7 +7,7 @@ use std::marker::Model;
 
 /// The words of a line that are not yet taken, each without the spaces around it.
 ///
-/// Between two spaces in a row, before a space at the front and after one at the end stands an empty word.
+/// Between two spaces in a row, before a space at the front and after one at the end is an empty word.
 #[derive(Drop)]
 pub struct Words<'a> {
     rest: Option<&'a str>,
@@ -24,7 +24,7 @@ impl<'a> Model for Words<'a> {
 }
 
 impl<'a> Words<'a> {
-    /// All words of the line.
+    /// Returns all words of the line.
     pub fn of(line: &'a str) -> Words<'a>
         ensures { result ≡ words_of line.now }
     {

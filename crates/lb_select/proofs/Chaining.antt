@@ -30,7 +30,8 @@ entries_more s k o =
     let e : k + 1 ≡ suc k = omega arith in
     let z : 0 + k ≡ k = omega arith in
     let f : ℕ → ℕ × ℕ = λ q. (state_chain s q, o) in
-    ap (λ n. map f (range_with_len 0 n)) e ∙ ap (map f) (range_push 0 k) ∙ ap (λ n. map f (range_with_len 0 k ++ n ∷ [])) z ∙ map_push f (range_with_len 0 k) k
+    ap (λ n. map f (range_with_len 0 n)) e ∙ ap (map f) (range_push 0 k) ∙ ap (λ n. map f (range_with_len 0 k ++ n ∷ [])) z
+    ∙ map_push f (range_with_len 0 k) k
 
 fed_append : (s : ℕ) (xs ys : List ℕ) → crc_fed s (xs ++ ys) ≡ crc_fed (crc_fed s xs) ys
 fed_append s [] ys = refl

@@ -1,5 +1,6 @@
 -- Counting by lists that have each number once.
-use Rattle.std.proofs.Common.{◌≡◌, ◌≢◌, ℕ, suc, ◌<◌, ◌≤◌, ◌⊎◌, inl, inr, true, false, nat_eq, List, [], ◌∷◌, length, refl, sym, ap, subst, ◌∙◌, arith}
+use Rattle.std.proofs.Common.{◌≡◌, ◌≢◌, ℕ, suc, ◌<◌, ◌≤◌, ◌⊎◌, inl, inr, true, false, nat_eq, List, [], ◌∷◌, length, refl, sym, ap, subst}
+use Rattle.std.proofs.Common.{◌∙◌, arith}
 use Rattle.std.specs.List.{Contains, IsDistinct, AllByRecursion}
 use Rattle.std.proofs.lemmas.Bool.Decides.{eqb_tells}
 use Rattle.std.proofs.lemmas.Map.Keys.{IsDistinct-head, IsDistinct-tail, IsDistinct-cons}
@@ -9,14 +10,19 @@ use Rattle.lb_select.proofs.Lists.{here, there, head_or_rest, nothing_in_none, l
 -- an element that is apart from all of a list
 pub apart_from_all : (x : ℕ) (xs : List ℕ) → ((y : ℕ) → Contains xs y → x ≢ y) → AllByRecursion (λ y. nat_eq x y ≡ false) xs
 apart_from_all x [] h = tt
-apart_from_all x (y ∷ ys) h =
-    (elim (eqb_tells x y) [ inl same ↦ absurd (h y (here y ys) same.1) | inr other ↦ other.0 ], apart_from_all x ys (λ z m. h z (there y ys z m)))
+apart_from_all x (y ∷ ys) h = (
+  elim (eqb_tells x y) [ inl same ↦ absurd (h y (here y ys) same.1) | inr other ↦ other.0 ],
+  apart_from_all x ys (λ z m. h z (there y ys z m)),
+)
 
 pub all_apart : (x : ℕ) (xs : List ℕ) → AllByRecursion (λ y. nat_eq x y ≡ false) xs → (y : ℕ) → Contains xs y → x ≢ y
 all_apart x [] h y m e = nothing_in_none y m
 all_apart x (z ∷ zs) h y m e =
     elim (head_or_rest z zs y m) [
-      | inl same ↦ elim (eqb_tells x z) [ inl t ↦ (let wrong : true ≡ false = sym t.0 ∙ h.0 in absurd (cc)) | inr t ↦ absurd (t.1 (e ∙ sym same)) ]
+      | inl same ↦ elim (eqb_tells x z) [
+        | inl t ↦ (let wrong : true ≡ false = sym t.0 ∙ h.0 in absurd (cc))
+        | inr t ↦ absurd (t.1 (e ∙ sym same))
+      ]
       | inr later ↦ all_apart x zs h.1 y later e
     ]
 
@@ -24,7 +30,8 @@ pub distinct_cons : (x : ℕ) (xs : List ℕ) → ((y : ℕ) → Contains xs y �
 distinct_cons x xs h d = IsDistinct-cons nat_eq x xs (apart_from_all x xs h) d
 
 -- a list with one element less
-without : (ys : List ℕ) (z : ℕ) → Contains ys z → (rest : List ℕ) × (length ys ≡ suc (length rest)) × ((q : ℕ) → Contains ys q → q ≢ z → Contains rest q)
+without : (ys : List ℕ) (z : ℕ) → Contains ys z → (rest : List ℕ) × (length ys ≡ suc (length rest))
+    × ((q : ℕ) → Contains ys q → q ≢ z → Contains rest q)
 without [] z m = absurd (nothing_in_none z m)
 without (y ∷ ys) z m =
     elim (head_or_rest y ys z m) [
@@ -45,7 +52,8 @@ no_more [] ys d h = omega arith
 no_more (x ∷ xs) ys d h =
     let w = without ys x (h x (here x xs)) in
     let apart : (y : ℕ) → Contains xs y → x ≢ y = all_apart x xs (IsDistinct-head nat_eq x xs d) in
-    let r : length xs ≤ length w.0 = no_more xs w.0 (IsDistinct-tail nat_eq x xs d) (λ q m. w.2 q (h q (there x xs q m)) (λ e. apart q m (sym e))) in
+    let r : length xs ≤ length w.0 = no_more xs w.0 (IsDistinct-tail nat_eq x xs d)
+    (λ q m. w.2 q (h q (there x xs q m)) (λ e. apart q m (sym e))) in
     let e : length ys ≡ suc (length w.0) = w.1 in
     omega arith
 
@@ -75,7 +83,10 @@ once_each (x ∷ xs) =
         w.0,
         record {
           once = w.1.once;
-          all = λ q m. elim (head_or_rest x xs q m) [ inl e ↦ (let P : ℕ → Type 0 = λ z. Contains w.0 z in subst P e known) | inr t ↦ w.1.all q t ];
+          all = λ q m. elim (head_or_rest x xs q m) [
+            | inl e ↦ (let P : ℕ → Type 0 = λ z. Contains w.0 z in subst P e known)
+            | inr t ↦ w.1.all q t
+          ];
           only = λ q m. there x xs q (w.1.only q m);
         },
       )
@@ -96,7 +107,8 @@ once_each (x ∷ xs) =
     ]
 
 -- those of a list whose measure is below a limit
-pub those_below : (f : ℕ → ℕ) (limit : ℕ) (xs : List ℕ) → IsDistinct nat_eq xs → (ys : List ℕ) × Lists (λ q. Contains xs q × (f q < limit)) ys
+pub those_below : (f : ℕ → ℕ) (limit : ℕ) (xs : List ℕ) → IsDistinct nat_eq xs → (ys : List ℕ)
+    × Lists (λ q. Contains xs q × (f q < limit)) ys
 those_below f limit [] d = ([], record { once = d; all = λ q m. m.0; only = λ q m. absurd (nothing_in_none q m) })
 those_below f limit (x ∷ xs) d =
     let w = those_below f limit xs (IsDistinct-tail nat_eq x xs d) in
@@ -121,7 +133,8 @@ those_below f limit (x ∷ xs) d =
         record {
           once = w.1.once;
           all = λ q m. elim (head_or_rest x xs q m.0) [
-            | inl e ↦ (let l : limit ≤ f x = outside.1 in let b : f q < limit = m.1 in let same : f x ≡ f q = ap f e in absurd (omega arith))
+            | inl e ↦ (let l : limit ≤ f x = outside.1 in let b : f q < limit = m.1 in let same : f x ≡ f q = ap f e
+                in absurd (omega arith))
             | inr t ↦ w.1.all q (t, m.1)
           ];
           only = λ q m. (there x xs q (w.1.only q m).0, (w.1.only q m).1);

@@ -1,5 +1,6 @@
 -- The table of CRCs: to shift bits out is linear, so what the low byte of a state becomes can be looked up.
-use Rattle.std.proofs.Common.{◌≡◌, ℕ, zero, suc, ◌+◌, ◌*◌, ◌/◌, ◌%◌, ◌^◌, ◌<◌, ◌⊎◌, inl, inr, ◌==◌, ◌&&◌, Bool, true, false, List, [], ◌∷◌, length, get_or, refl, sym, ap, ◌∙◌, arith, add-zero, zero-add, lit<}
+use Rattle.std.proofs.Common.{◌≡◌, ℕ, zero, suc, ◌+◌, ◌*◌, ◌/◌, ◌%◌, ◌^◌, ◌<◌, ◌⊎◌, inl, inr, ◌==◌, ◌&&◌, Bool, true, false, List, [], ◌∷◌}
+use Rattle.std.proofs.Common.{length, get_or, refl, sym, ap, ◌∙◌, arith, add-zero, zero-add, lit<}
 use Rattle.std.specs.Prelude.{bit_xor}
 use Rattle.std.proofs.lemmas.Bool.{eqb-true}
 use Rattle.std.specs.Int.Bits.{xor_shr, xor_mod, xor_comm, xor_assoc, xor_self, xor_zero_r, xor_shifted, xor_block, xor_lt}
@@ -45,8 +46,10 @@ second_odd a b p q =
 
 twice : (x y z : ℕ) → bit_xor x y ≡ bit_xor (bit_xor x z) (bit_xor y z)
 twice x y z =
-    let moved : bit_xor (bit_xor x z) y ≡ bit_xor (bit_xor x y) z = xor_assoc x z y ∙ ap (bit_xor x) (xor_comm z y) ∙ sym (xor_assoc x y z) in
-    let gone : bit_xor (bit_xor (bit_xor x y) z) z ≡ bit_xor x y = xor_assoc (bit_xor x y) z z ∙ ap (bit_xor (bit_xor x y)) (xor_self z) ∙ xor_zero_r (bit_xor x y) in
+    let moved : bit_xor (bit_xor x z) y ≡ bit_xor (bit_xor x y) z = xor_assoc x z y ∙ ap (bit_xor x) (xor_comm z y)
+    ∙ sym (xor_assoc x y z) in
+    let gone : bit_xor (bit_xor (bit_xor x y) z) z ≡ bit_xor x y = xor_assoc (bit_xor x y) z z ∙ ap (bit_xor (bit_xor x y)) (xor_self z)
+    ∙ xor_zero_r (bit_xor x y) in
     sym gone ∙ ap (λ w. bit_xor w z) (sym moved) ∙ xor_assoc (bit_xor x z) y z
 
 both_odd : (a b : ℕ) → a % 2 ≡ 1 → b % 2 ≡ 1 → crc_bit (bit_xor a b) ≡ bit_xor (crc_bit a) (crc_bit b)
@@ -82,15 +85,18 @@ split_state : (state byte : ℕ) → byte < 256 → bit_xor state byte ≡ bit_x
 split_state state byte h =
     let low : state % 256 < 2 ^ 8 = omega arith in
     let whole : state ≡ state / 256 * 2 ^ 8 + state % 256 = omega arith in
-    let kept : bit_xor (state / 256 * 2 ^ 8 + state % 256) (0 * 2 ^ 8 + byte) ≡ bit_xor (state / 256) 0 * 2 ^ 8 + bit_xor (state % 256) byte = xor_block 8 (state / 256) 0 (state % 256) byte low h in
-    ap (λ s. bit_xor s byte) whole ∙ ap (bit_xor (state / 256 * 2 ^ 8 + state % 256)) (let e : byte ≡ 0 * 2 ^ 8 + byte = omega arith in e) ∙ kept ∙ ap (λ x. x * 2 ^ 8 + bit_xor (state % 256) byte) (xor_zero_r (state / 256))
+    let kept : bit_xor (state / 256 * 2 ^ 8 + state % 256) (0 * 2 ^ 8 + byte) ≡ bit_xor (state / 256) 0 * 2 ^ 8 + bit_xor
+    (state % 256) byte = xor_block 8 (state / 256) 0 (state % 256) byte low h in
+    ap (λ s. bit_xor s byte) whole ∙ ap (bit_xor (state / 256 * 2 ^ 8 + state % 256)) (let e : byte ≡ 0 * 2 ^ 8 + byte = omega arith in e)
+    ∙ kept ∙ ap (λ x. x * 2 ^ 8 + bit_xor (state % 256) byte) (xor_zero_r (state / 256))
     ∙ sym (xor_shifted (state / 256) 8 (bit_xor (state % 256) byte) (xor_lt 8 (state % 256) byte low h))
 
 byte_split : (state byte : ℕ) → byte < 256 → crc_byte state byte ≡ bit_xor (crc_bits (bit_xor (state % 256) byte)) (state / 256)
 unfolding crc_byte
 byte_split state byte h =
     let e : byte % 256 ≡ byte = omega arith in
-    ap (λ z. crc_bits (bit_xor state z)) e ∙ ap crc_bits (split_state state byte h) ∙ bits_linear (state / 256 * 256) (bit_xor (state % 256) byte)
+    ap (λ z. crc_bits (bit_xor state z)) e ∙ ap crc_bits (split_state state byte h)
+    ∙ bits_linear (state / 256 * 256) (bit_xor (state % 256) byte)
     ∙ ap (λ x. bit_xor x (crc_bits (bit_xor (state % 256) byte))) (bits_back (state / 256))
     ∙ xor_comm (state / 256) (crc_bits (bit_xor (state % 256) byte))
 
@@ -168,7 +174,8 @@ fed_word state n =
     ∙ ap (λ z. bit_xor (crc_bits (bit_xor state z)) (n / 256)) (sym e)
 
 -- a step by the table
-pub step_by_table : (state byte : ℕ) → byte < 256 → bit_xor (get_or TABLE (bit_xor (state % 256) byte) 0) (state / 256) ≡ crc_byte state byte
+pub step_by_table : (state byte : ℕ) → byte < 256
+    → bit_xor (get_or TABLE (bit_xor (state % 256) byte) 0) (state / 256) ≡ crc_byte state byte
 step_by_table state byte h =
     ap (λ x. bit_xor x (state / 256)) (table_row (bit_xor (state % 256) byte) (xor_lt 8 (state % 256) byte (omega arith) h))
     ∙ sym (byte_split state byte h)
@@ -224,14 +231,18 @@ word_by_tables state n s h =
     let x = bit_xor state n in
     let small : x < 2 ^ 32 = xor_lt 32 state n s h in
     let first : get_or TABLE_32 (x % 256) 0 ≡ shifted 4 (x % 256) = row_of 4 TABLE_32 table_32_right (x % 256) (omega arith) in
-    let second : get_or TABLE_24 (x / 256 % 256) 0 ≡ shifted 3 (x / 256 % 256) = row_of 3 TABLE_24 table_24_right (x / 256 % 256) (omega arith) in
-    let third : get_or TABLE_16 (x / 65536 % 256) 0 ≡ shifted 2 (x / 65536 % 256) = row_of 2 TABLE_16 table_16_right (x / 65536 % 256) (omega arith) in
-    let last : get_or TABLE (x / 16777216) 0 ≡ shifted 1 (x / 16777216) = row_of 1 TABLE table_right (x / 16777216) (omega (arith, small)) in
+    let second : get_or TABLE_24 (x / 256 % 256) 0 ≡ shifted 3 (x / 256 % 256) = row_of 3 TABLE_24 table_24_right (x / 256 % 256)
+    (omega arith) in
+    let third : get_or TABLE_16 (x / 65536 % 256) 0 ≡ shifted 2 (x / 65536 % 256) = row_of 2 TABLE_16 table_16_right (x / 65536 % 256)
+    (omega arith) in
+    let last : get_or TABLE (x / 16777216) 0 ≡ shifted 1 (x / 16777216) = row_of 1 TABLE table_right (x / 16777216)
+    (omega (arith, small)) in
     let two : x / 256 / 256 ≡ x / 65536 = omega arith in
     let three : x / 65536 / 256 ≡ x / 16777216 = omega arith in
     let four : shifted 2 (x / 65536) ≡ bit_xor (shifted 2 (x / 65536 % 256)) (shifted 1 (x / 16777216))
     = shifted_split 1 (x / 65536) ∙ ap (λ z. bit_xor (shifted 2 (x / 65536 % 256)) (shifted 1 z)) three in
     let five : shifted 3 (x / 256) ≡ bit_xor (shifted 3 (x / 256 % 256)) (bit_xor (shifted 2 (x / 65536 % 256)) (shifted 1 (x / 16777216)))
-    = shifted_split 2 (x / 256) ∙ ap (λ z. bit_xor (shifted 3 (x / 256 % 256)) (shifted 2 z)) two ∙ ap (bit_xor (shifted 3 (x / 256 % 256))) four in
+    = shifted_split 2 (x / 256) ∙ ap (λ z. bit_xor (shifted 3 (x / 256 % 256)) (shifted 2 z)) two
+    ∙ ap (bit_xor (shifted 3 (x / 256 % 256))) four in
     let six = shifted_split 3 x ∙ ap (bit_xor (shifted 4 (x % 256))) five in
     rw (first, second, third, last) (sym six ∙ fed_whole state n h)

@@ -71,8 +71,10 @@ words_are_one gives_word tells key [] (v ∷ others) ds es same h k e = absurd (
 words_are_one gives_word tells key (w ∷ words) [] ds es same h k e = absurd (omega arith)
 words_are_one gives_word tells key (w ∷ words) (v ∷ others) ds es same (now, later, whole, gave, rest) (early, after, all, given, more) e =
     let (first, next) = tells key now early later after w v (sym whole ∙ same ∙ all) gave given in
-    let moved : Words gives_word (to_le_bytes w64 w) others after = subst (λ x. Words gives_word (to_le_bytes w64 x) others after) (sym first) more in
-    let tail : words ≡ others = words_are_one gives_word tells (to_le_bytes w64 w) words others later after next rest moved (omega arith) in cc
+    let moved : Words gives_word (to_le_bytes w64 w) others after = subst (λ x. Words gives_word (to_le_bytes w64 x) others after)
+    (sym first) more in
+    let tail : words ≡ others = words_are_one gives_word tells (to_le_bytes w64 w) words others later after next rest moved (omega arith)
+    in cc
 
 -- as many words come after the first as candidates do
 later_counted :
@@ -86,7 +88,8 @@ walks_are_one gives_word tells ms sorted key draws cs bs e f h k same =
     let counted = later_counted ms h.word h.later cs h.candidates in
     let also = later_counted ms k.word k.later bs k.candidates in
     let words : h.word ∷ h.later ≡ k.word ∷ k.later =
-    words_are_one gives_word tells key (h.word ∷ h.later) (k.word ∷ k.later) draws draws refl h.drawn k.drawn (omega (arith, counted, also)) in
+    words_are_one gives_word tells key (h.word ∷ h.later) (k.word ∷ k.later) draws draws refl h.drawn k.drawn
+    (omega (arith, counted, also)) in
     let word : h.word ≡ k.word = cc words in
     let later : h.later ≡ k.later = cc words in
     let moved : AreCandidates ms k.word k.later cs = subst₂ (λ x l. AreCandidates ms x l cs) word later h.candidates in

@@ -1,10 +1,12 @@
 -- The backends of a set, one after another, and the points that they add.
-use Rattle.std.proofs.Common.{◌≡◌, ℕ, zero, suc, ◌+◌, ◌*◌, ◌<◌, ◌≤◌, ◌⊎◌, inl, inr, true, cond, List, [], ◌∷◌, ◌++◌, length, take, map, refl, sym, ap, subst, ◌∙◌, arith, length-append, zero-add}
+use Rattle.std.proofs.Common.{◌≡◌, ℕ, zero, suc, ◌+◌, ◌*◌, ◌<◌, ◌≤◌, ◌⊎◌, inl, inr, true, cond, List, [], ◌∷◌, ◌++◌, length, take, map}
+use Rattle.std.proofs.Common.{refl, sym, ap, subst, ◌∙◌, arith, length-append, zero-add}
 use Rattle.std.specs.Prelude.{Some, None, Option, slice_get, option_and_then}
 use Rattle.std.specs.List.{Contains, range_with_len}
 use Rattle.std.proofs.lemmas.Option.{same_Some}
 use Rattle.std.proofs.lemmas.List.Sums.{sum_by-append}
-use Rattle.std.proofs.lemmas.List.Elements.{Contains-push, Contains-push_cases, Contains-append_left, Contains-append_right, Contains-append_cases}
+use Rattle.std.proofs.lemmas.List.Elements.{Contains-push, Contains-push_cases, Contains-append_left, Contains-append_right}
+use Rattle.std.proofs.lemmas.List.Elements.{Contains-append_cases}
 use Rattle.lb_select_base.specs.Backends.{Member}
 use Rattle.lb_select_base.specs.Seen.{inet_seen}
 use Rattle.lb_select_base.specs.declared.backend.InetAddr.{InetAddr}
@@ -37,14 +39,16 @@ get_pushed (z ∷ xs) y zero x h = inl h
 get_pushed (z ∷ xs) y (suc i) x h = elim (get_pushed xs y i x h) [ inl a ↦ inl a | inr b ↦ inr (ap suc b.0, b.1) ]
 
 -- the parts of a read through a read
-pub and_then_parts : {X Y : Type 0} (f : X → Option Y) (o : Option X) (y : Y) → option_and_then f o ≡ Some y → (x : X) × (o ≡ Some x) × (f x ≡ Some y)
+pub and_then_parts : {X Y : Type 0} (f : X → Option Y) (o : Option X) (y : Y) → option_and_then f o ≡ Some y → (x : X) × (o ≡ Some x)
+    × (f x ≡ Some y)
 and_then_parts f None y h = absurd (cc)
 and_then_parts f (Some x) y h = (x, refl, h)
 
 -- the numbers below n
 in_range : (a n k : ℕ) → k < n → Contains (range_with_len a n) (a + k)
 in_range a zero k h = absurd (omega arith)
-in_range a (suc n) zero h = let e : a ≡ a + 0 = omega arith in let P : ℕ → Type 0 = λ z. Contains (a ∷ range_with_len (a + 1) n) z in subst P e (here a (range_with_len (a + 1) n))
+in_range a (suc n) zero h = let e : a ≡ a + 0 = omega arith in let P : ℕ → Type 0 = λ z. Contains (a ∷ range_with_len (a + 1) n) z
+    in subst P e (here a (range_with_len (a + 1) n))
 in_range a (suc n) (suc k) h =
     let e : a + 1 + k ≡ a + suc k = omega arith in
     let P : ℕ → Type 0 = λ z. Contains (a ∷ range_with_len (a + 1) n) z in
@@ -60,7 +64,8 @@ of_range a (suc n) q m =
     ]
 
 pub to_range : (n k : ℕ) → k < n → Contains (range_with_len 0 n) k
-to_range n k h = let e : 0 + k ≡ k = omega arith in let P : ℕ → Type 0 = λ z. Contains (range_with_len 0 n) z in subst P e (in_range 0 n k h)
+to_range n k h = let e : 0 + k ≡ k = omega arith in let P : ℕ → Type 0 = λ z. Contains (range_with_len 0 n) z
+    in subst P e (in_range 0 n k h)
 
 pub from_range : (n k : ℕ) → Contains (range_with_len 0 n) k → k < n
 from_range n k m = let l : k < 0 + n = of_range 0 n k m in omega arith
@@ -82,7 +87,8 @@ weight_more ms m =
     let e : ring_weight (ms ++ m ∷ []) ≡ ring_weight ms + (0 + weight m) = sum_by-append weight ms (m ∷ []) in
     e ∙ ap (λ z. ring_weight ms + z) (zero-add (weight m))
 
-module _ (ms : List Member) (i : ℕ) (owners : List ℕ) (points : List (ℕ × ℕ)) (h : IsFilled ms i owners points) (m : Member) (at : slice_get ms i ≡ Some m) where
+module _ (ms : List Member) (i : ℕ) (owners : List ℕ) (points : List (ℕ × ℕ)) (h : IsFilled ms i owners points) (m : Member)
+    (at : slice_get ms i ≡ Some m) where
   pub weight_up : ring_weight (take (i + 1) ms) ≡ ring_weight (take i ms) + cond (is_internet m.address) m.weight 0
   weight_up = ap ring_weight (take_more ms i m at) ∙ weight_more (take i ms) m
 
@@ -94,7 +100,8 @@ module _ (ms : List Member) (i : ℕ) (owners : List ℕ) (points : List (ℕ ×
     bearing = λ b c. (let l : b < i = (h.bearing b c).0 in let g : b < i + 1 = omega arith in g, (h.bearing b c).1);
     all = λ b n l bears. elim (less_tells b i) [
       | inl before ↦ h.all b n before.1 bears
-      | inr after ↦ (let le : i ≤ b = after.1 in let e : b ≡ i = omega arith in let P : ℕ → Type 0 = λ x. Bears ms x n in absurd (none_here n (subst P e bears)))
+      | inr after ↦ (let le : i ≤ b = after.1 in let e : b ≡ i = omega arith in let P : ℕ → Type 0 = λ x. Bears ms x n
+          in absurd (none_here n (subst P e bears)))
     ];
     small = h.small;
     given = h.given;
@@ -123,7 +130,8 @@ module _ (ms : List Member) (i : ℕ) (owners : List ℕ) (points : List (ℕ ×
         let number : length owners ≡ e.1 = ap (λ (z : ℕ × ℕ). z.1) w.2 in
         record {
           member = m;
-          owner = ap (λ n. option_and_then (slice_get ms) (slice_get (owners ++ i ∷ []) n)) (sym number) ∙ ap (option_and_then (slice_get ms)) (get_seam owners i) ∙ at;
+          owner = ap (λ n. option_and_then (slice_get ms) (slice_get (owners ++ i ∷ []) n)) (sym number)
+              ∙ ap (option_and_then (slice_get ms)) (get_seam owners i) ∙ at;
           number = w.0;
           within = from_range (points_per_weight * m.weight) w.0 w.1;
           point_is = ap (λ (z : ℕ × ℕ). z.0) w.2;
@@ -137,29 +145,36 @@ module _ (ms : List Member) (i : ℕ) (owners : List ℕ) (points : List (ℕ ×
             | inr t ↦ absurd (nothing_in_none y t)
           ]);
       few = (let a : length owners ≤ ring_weight (take i ms) = h.few in
-          let e : ring_weight (take (i + 1) ms) ≡ ring_weight (take i ms) + m.weight = weight_up ∙ ap (λ b. ring_weight (take i ms) + cond b m.weight 0) bears.internet in
+          let e : ring_weight (take (i + 1) ms) ≡ ring_weight (take i ms) + m.weight = weight_up
+          ∙ ap (λ b. ring_weight (take i ms) + cond b m.weight 0) bears.internet in
           let w : 0 < m.weight = bears.weighs in
           let l : length (owners ++ i ∷ []) ≡ length owners + 1 = length-append owners (i ∷ []) in omega arith);
       bearing = λ b c. elim (Contains-push_cases owners i b c) [
         | inl old ↦ (let l : b < i = (h.bearing b old).0 in let g : b < i + 1 = omega arith in g, (h.bearing b old).1)
-        | inr new ↦ (let P : ℕ → Type 0 = λ x. (x < i + 1) × ((n : Member) × Bears ms x n) in subst P new (let g : i < i + 1 = omega arith in g, (m, bears)))
+        | inr new ↦ (let P : ℕ → Type 0 = λ x. (x < i + 1) × ((n : Member) × Bears ms x n)
+            in subst P new (let g : i < i + 1 = omega arith in g, (m, bears)))
       ];
       all = λ b n l bears'. elim (less_tells b i) [
         | inl before ↦ Contains-append_left owners (i ∷ []) b (h.all b n before.1 bears')
-        | inr after ↦ (let le : i ≤ b = after.1 in let e : i ≡ b = omega arith in let P : ℕ → Type 0 = λ x. Contains (owners ++ i ∷ []) x in subst P e (Contains-push owners i))
+        | inr after ↦ (let le : i ≤ b = after.1 in let e : i ≡ b = omega arith in let P : ℕ → Type 0 = λ x. Contains (owners ++ i ∷ []) x
+            in subst P e (Contains-push owners i))
       ];
       small = small;
       given = λ e c. elim (Contains-append_cases points added e c) [ inl old ↦ old_owner e (h.given e old) | inr new ↦ new_owner e new ];
       whole = λ number n k o l.
           let b = and_then_parts (slice_get ms) (slice_get (owners ++ i ∷ []) number) n o in
           elim (get_pushed owners i number b.0 b.1) [
-            | inl old ↦ Contains-append_left points added (crc_chain n.address k, number) (h.whole number n k (ap (option_and_then (slice_get ms)) old ∙ b.2) l)
+            | inl old ↦ Contains-append_left points added (
+              crc_chain n.address k,
+              number,
+            ) (h.whole number n k (ap (option_and_then (slice_get ms)) old ∙ b.2) l)
             | inr new ↦ (
                 let P : ℕ → Type 0 = λ x. slice_get ms x ≡ Some n in
                 let one : m ≡ n = same_Some m n (sym at ∙ subst P (sym new.1) b.2) in
                 let within : k < points_per_weight * m.weight = subst (λ (z : Member). k < points_per_weight * z.weight) (sym one) l in
                 let f : ℕ → ℕ × ℕ = λ q. (crc_chain m.address q, length owners) in
-                let c : Contains added (crc_chain m.address k, length owners) = in_map f (range_with_len 0 (points_per_weight * m.weight)) k (to_range (points_per_weight * m.weight) k within) in
+                let c : Contains added (crc_chain m.address k, length owners) = in_map f (range_with_len 0 (points_per_weight * m.weight)) k
+                (to_range (points_per_weight * m.weight) k within) in
                 let Q : ℕ → Type 0 = λ x. Contains (points ++ added) (crc_chain m.address k, x) in
                 let R : Member → Type 0 = λ z. Contains (points ++ added) (crc_chain z.address k, number) in
                 subst R one (subst Q (sym new.0) (Contains-append_right points added (crc_chain m.address k, length owners) c)))
@@ -171,13 +186,17 @@ map_same f g [] h = refl
 map_same f g (x ∷ xs) h = ap (λ y. y ∷ map f xs) (h x) ∙ ap (λ ys. g x ∷ ys) (map_same f g xs h)
 
 -- the same, with the points by the state of a CRC that was fed the address's text
-pub filled_chain : (ms : List Member) (i : ℕ) (owners : List ℕ) (points : List (ℕ × ℕ)) → IsFilled ms i owners points → (m : Member) → slice_get ms i ≡ Some m
-    → Bears ms i m → (state count number : ℕ) → state ≡ crc_fed 0xFFFFFFFF (hashed_text m.address) → count ≡ points_per_weight * m.weight → number ≡ length owners
-    → HasSmallPoints (points ++ chain_entries state count number) → IsFilled ms (i + 1) (owners ++ i ∷ []) (points ++ chain_entries state count number)
+pub filled_chain : (ms : List Member) (i : ℕ) (owners : List ℕ) (points : List (ℕ × ℕ)) → IsFilled ms i owners points → (m : Member)
+    → slice_get ms i ≡ Some m
+    → Bears ms i m → (state count number : ℕ) → state ≡ crc_fed 0xFFFFFFFF (hashed_text m.address) → count ≡ points_per_weight * m.weight
+    → number ≡ length owners
+    → HasSmallPoints (points ++ chain_entries state count number)
+    → IsFilled ms (i + 1) (owners ++ i ∷ []) (points ++ chain_entries state count number)
 filled_chain ms i owners points h m at bears state count number s c n small =
     let f : ℕ → ℕ → ℕ × ℕ = λ q k. (state_chain state k, q) in
     let g : ℕ → ℕ × ℕ = λ k. (crc_chain m.address k, length owners) in
-    let point : (k : ℕ) → state_chain state k ≡ crc_chain m.address k = λ k. ap (λ t. state_chain t k) s ∙ chain_of_state (hashed_text m.address) k in
+    let point : (k : ℕ) → state_chain state k ≡ crc_chain m.address k = λ k. ap (λ t. state_chain t k) s
+    ∙ chain_of_state (hashed_text m.address) k in
     let same : chain_entries state count number ≡ map g (range_with_len 0 (points_per_weight * m.weight)) =
     ap (λ q. map (f q) (range_with_len 0 count)) n ∙ ap (λ r. map (f (length owners)) (range_with_len 0 r)) c
     ∙ map_same (f (length owners)) g (range_with_len 0 (points_per_weight * m.weight)) (λ k. ap (λ p. (p, length owners)) (point k)) in

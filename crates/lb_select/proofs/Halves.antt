@@ -20,7 +20,8 @@ pub record Halved (sums : List ℕ) (count place start size old now : ℕ) : Typ
   pub digits : (k : ℕ) → HasBinaryDigits (size - 1) k → HasBinaryDigits (count - 1) (made + k)
 
 -- at first all are left
-pub halved_none : (sums : List ℕ) (count place reads : ℕ) → length sums ≡ count → IsBelowLast sums place → Halved sums count place 0 count reads reads
+pub halved_none : (sums : List ℕ) (count place reads : ℕ) → length sums ≡ count → IsBelowLast sums place
+    → Halved sums count place 0 count reads reads
 halved_none sums count place reads long below = record {
   some = omega (arith, below.ends);
   within = omega arith;
@@ -72,7 +73,12 @@ halved_above {sums} {count} {place} {start} {size} half read next p rising long 
     record {
       some = omega (arith, half_is, two);
       within = omega (arith, half_is, p.within);
-      before = λ i h. omega (arith, rising i (start + half - 1) (omega (arith, h)) (omega (arith, p.within, half_is, two, long)), middle, low);
+      before = λ i h. omega (
+        arith,
+        rising i (start + half - 1) (omega (arith, h)) (omega (arith, p.within, half_is, two, long)),
+        middle,
+        low,
+      );
       last = p.last;
       ends = omega (arith, p.ends, half_is);
       above = p.above;

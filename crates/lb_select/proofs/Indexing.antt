@@ -1,5 +1,6 @@
 -- An index of points by buckets: how it is made from the lowest bucket on, and what a search knows by it.
-use Rattle.std.proofs.Common.{◌≡◌, ℕ, zero, suc, ◌+◌, ◌-◌, ◌/◌, ◌^◌, ◌<◌, ◌≤◌, inl, inr, List, [], ◌∷◌, ◌++◌, length, get_or, arith, subst, sym, length-append, ap, ◌∙◌}
+use Rattle.std.proofs.Common.{◌≡◌, ℕ, zero, suc, ◌+◌, ◌-◌, ◌/◌, ◌^◌, ◌<◌, ◌≤◌, inl, inr, List, [], ◌∷◌, ◌++◌, length, get_or, arith, subst}
+use Rattle.std.proofs.Common.{sym, length-append, ap, ◌∙◌}
 use Rattle.std.proofs.Math.Pow.{shr_mono}
 use Rattle.std.proofs.lemmas.List.{get_or_default, get_or_push, get_or_append_left}
 use Rattle.std.specs.List.{AllWithin}
@@ -33,7 +34,8 @@ begins_there entries r shift bucket at w below here = record {
 
 -- one entry more is below a bucket
 pub one_below : (entries : List (ℕ × ℕ)) (shift bucket at : ℕ) (e : ℕ × ℕ) → AllWithin (λ e. bucket_of shift e.0 < bucket) entries 0 at
-    → at < length entries → bucket_of shift (point_of (get_or entries at e)) < bucket → AllWithin (λ e. bucket_of shift e.0 < bucket) entries 0 (at + 1)
+    → at < length entries → bucket_of shift (point_of (get_or entries at e)) < bucket
+    → AllWithin (λ e. bucket_of shift e.0 < bucket) entries 0 (at + 1)
 one_below entries shift bucket at e below inside h = λ k d low high.
     elim (less_tells k at) [
       | inl t ↦ below k d low t.1
@@ -48,7 +50,10 @@ index_below : (entries : List (ℕ × ℕ)) → Rises point_of entries → (k : 
 index_below entries r zero h = omega arith
 index_below entries r (suc k) h =
     let before : k ≤ point_of (get_or entries k (0, 0)) = index_below entries r k (omega (arith, h)) in
-    let rises : point_of (get_or entries k (0, 0)) < point_of (get_or entries (suc k) (0, 0)) = below_at point_of entries r k (suc k) (0, 0) (omega arith) h in
+    let rises : point_of (get_or entries k (0, 0)) < point_of (get_or entries (suc k) (0, 0)) = below_at point_of entries r k (suc k) (
+      0,
+      0,
+    ) (omega arith) h in
     omega (arith, before, rises)
 
 -- so what is counted before a bucket has 32 bits
@@ -71,31 +76,36 @@ pub record IsBegun (entries : List (ℕ × ℕ)) (shift bucket at : ℕ) (starts
   pub begins : (b : ℕ) → b < length starts → BeginsAt shift entries b (get_or starts b 0)
 
 -- a search by the index: what is before its bucket is below its place, what is behind the bucket is not
-left_between : (entries : List (ℕ × ℕ)) (shift place first end : ℕ) → BeginsAt shift entries (bucket_of shift place) first → first ≤ end → end ≤ length entries
+left_between : (entries : List (ℕ × ℕ)) (shift place first end : ℕ) → BeginsAt shift entries (bucket_of shift place) first → first ≤ end
+    → end ≤ length entries
     → AllWithin (λ e. bucket_of shift place < bucket_of shift e.0) entries end (length entries) → IsLeft place entries first (end - first)
 left_between entries shift place first end b order within over = record {
   within = omega (arith, order, within);
   below = λ k d low high. lower_place shift (point_of (get_or entries k d)) place (b.below k d low high);
   above = λ k d low high.
-      let l : place < point_of (get_or entries k d) = lower_place shift place (point_of (get_or entries k d)) (over k d (omega (arith, low, order)) high) in omega (arith, l);
+      let l : place < point_of (get_or entries k d) = lower_place shift place (point_of (get_or entries k d))
+      (over k d (omega (arith, low, order)) high) in omega (arith, l);
 }
 
 pub left_inner : (entries : List (ℕ × ℕ)) (shift place first end : ℕ) → BeginsAt shift entries (bucket_of shift place) first
     → BeginsAt shift entries (bucket_of shift place + 1) end → IsLeft place entries first (end - first)
 left_inner entries shift place first end b n =
     let order : first ≤ end = elim (less_tells end first) [
-      | inl t ↦ (let low : bucket_of shift (point_of (get_or entries end (0, 0))) < bucket_of shift place = b.below end (0, 0) (omega arith) t.1 in
+      | inl t ↦ (let low : bucket_of shift (point_of (get_or entries end (0, 0))) < bucket_of shift place =
+          b.below end (0, 0) (omega arith) t.1 in
           let high : bucket_of shift place + 1 ≤ bucket_of shift (point_of (get_or entries end (0, 0)))
           = n.above end (0, 0) (omega arith) (omega (arith, t.1, b.within)) in absurd (omega (arith, low, high)))
       | inr t ↦ t.1
     ] in
     left_between entries shift place first end b order n.within
-    (λ k d low high. let h : bucket_of shift place + 1 ≤ bucket_of shift (point_of (get_or entries k d)) = n.above k d low high in omega (arith, h))
+    (λ k d low high. let h : bucket_of shift place + 1 ≤ bucket_of shift (point_of (get_or entries k d)) = n.above k d low high
+    in omega (arith, h))
 
 pub left_last : (entries : List (ℕ × ℕ)) (shift place first end : ℕ) → BeginsAt shift entries (bucket_of shift place) first
     → end ≡ length entries → IsLeft place entries first (end - first)
 left_last entries shift place first end b e =
-    left_between entries shift place first end b (omega (arith, e, b.within)) (omega (arith, e)) (λ k d low high. absurd (omega (arith, e, low, high)))
+    left_between entries shift place first end b (omega (arith, e, b.within)) (omega (arith, e))
+    (λ k d low high. absurd (omega (arith, e, low, high)))
 
 -- the start of one bucket more
 pub begun_more : (entries : List (ℕ × ℕ)) (shift bucket at now : ℕ) (starts new : List ℕ) → IsBegun entries shift bucket at starts
@@ -111,7 +121,8 @@ begun_more entries shift bucket at now starts new h b e = record {
             let Q : List ℕ → Type 0 = λ z. BeginsAt shift entries q (get_or z q 0) in
             subst Q (sym e) (subst P (sym (get_or_append_left starts (now ∷ []) 0 q t.1)) here))
         | inr t ↦ (let most : q < length (starts ++ now ∷ []) = (let P : List ℕ → Type 0 = λ z. q < length z in subst P e in') in
-            let last : length starts ≡ q = (let n : length (starts ++ now ∷ []) ≡ length starts + 1 = length-append starts (now ∷ []) in omega (arith, t.1, most, n)) in
+            let last : length starts ≡ q = (let n : length (starts ++ now ∷ []) ≡ length starts + 1 = length-append starts (now ∷ [])
+            in omega (arith, t.1, most, n)) in
             let same : bucket ≡ q = omega (arith, last, h.many) in
             let P : ℕ → Type 0 = λ z. BeginsAt shift entries q z in
             let Q : List ℕ → Type 0 = λ z. BeginsAt shift entries q (get_or z q 0) in
@@ -134,7 +145,8 @@ pub begun_all : (entries : List (ℕ × ℕ)) (shift bucket at : ℕ) (starts : 
     → bucket ≡ (2 ^ 32 - 1) / 2 ^ shift + 1 → IsIndexOf entries shift starts
 begun_all entries shift bucket at starts h few all = record {
   few = few;
-  all = λ place low. let l : bucket_of shift place ≤ (2 ^ 32 - 1) / 2 ^ shift = shr_mono shift (omega (arith, low)) in omega (arith, l, all, h.many);
+  all = λ place low. let l : bucket_of shift place ≤ (2 ^ 32 - 1) / 2 ^ shift = shr_mono shift (omega (arith, low))
+      in omega (arith, l, all, h.many);
   begins = h.begins;
 }
 

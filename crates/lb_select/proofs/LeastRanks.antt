@@ -1,5 +1,6 @@
 -- Candidates by least connections: the place of a backend in the order is the number of those before it.
-use Rattle.std.specs.Prelude.{◌≡◌, ℕ, zero, suc, ◌+◌, ◌*◌, ◌<◌, ◌≤◌, ◌==◌, Bool, true, false, List, [], ◌∷◌, ◌++◌, map, length, get_or, Some, cond, Contains, count_by, refl}
+use Rattle.std.specs.Prelude.{◌≡◌, ℕ, zero, suc, ◌+◌, ◌*◌, ◌<◌, ◌≤◌, ◌==◌, Bool, true, false, List, [], ◌∷◌, ◌++◌, map, length, get_or}
+use Rattle.std.specs.Prelude.{Some, cond, Contains, count_by, refl}
 use Rattle.std.proofs.Common.{arith, sym, ap, subst, ◌∙◌, ⊎_elim, Less, Equal, Greater, eq-eqb}
 use Rattle.std.specs.List.{filter, slice_get, AllZip}
 use Rattle.std.specs.List.Sorted.{IsStrictlySortedBy, IsSortedBy}
@@ -31,7 +32,8 @@ count_split :
 count_split f d [] k within before after = omega (arith, within)
 count_split f d (x ∷ xs) zero within before after =
     let here = ap {B = ℕ} (λ b. cond b 1 0) (after 0 (omega arith) (omega arith)) in
-    let rest = count_split f d xs zero (omega arith) (λ j h. absurd (omega (arith, h))) (λ j h l. after (suc j) (omega arith) (omega (arith, l))) in
+    let rest = count_split f d xs zero (omega arith) (λ j h. absurd (omega (arith, h)))
+    (λ j h l. after (suc j) (omega arith) (omega (arith, l))) in
     sum_by-cons (λ y. cond (f y) 1 0) x xs ∙ omega (arith, here, rest)
 count_split f d (x ∷ xs) (suc k) within before after =
     let here = ap {B = ℕ} (λ b. cond b 1 0) (before 0 (omega arith)) in
@@ -123,7 +125,8 @@ alike ms sorted m r this e s that =
 
 -- the partner of an element of the second list
 partner :
-    {A B : Type 0} (R : A → B → Type 0) (xs : List A) (ys : List B) (y : B) → AllZip R xs ys → Contains ys y → (x : A) × Contains xs x × R x y
+    {A B : Type 0} (R : A → B → Type 0) (xs : List A) (ys : List B) (y : B) → AllZip R xs ys → Contains ys y → (x : A) × Contains xs x
+    × R x y
 partner R [] [] y h within = absurd (omega (arith, within.1))
 partner R [] (v ∷ ys) y h within = absurd h
 partner R (u ∷ xs) [] y h within = absurd h
@@ -146,7 +149,8 @@ candidate_at may_give ms order k r c p at is =
     let (e, among, tells) = partner (IsReading ms) p.given.read p.readings r p.given.each given in
     let one : e.0 ≡ c = same_Some e.0 c (sym tells.at ∙ is) in
     let this : IsReading ms (c, r.load) r = record { at = is; weight = tells.weight ∙ ap (λ (m : Member). m.weight) one; load = refl } in
-    let pair : e ≡ (c, r.load) = ap {A = Member} {B = Member × ℕ} (λ m. (m, e.1)) one ∙ ap {A = ℕ} {B = Member × ℕ} (λ l. (c, l)) (sym tells.load) in (
+    let pair : e ≡ (c, r.load) = ap {A = Member} {B = Member × ℕ} (λ m. (m, e.1)) one
+    ∙ ap {A = ℕ} {B = Member × ℕ} (λ l. (c, l)) (sym tells.load) in (
       r.load,
       subst (Contains p.given.read) pair among,
       sym (count_zip (IsReading ms) (λ e. is_lt (load_cmp e (c, r.load))) (λ s. is_lt (reading_cmp s r))
@@ -167,12 +171,14 @@ few_candidates ms order ds (c ∷ cs) e rest =
 
 -- a walk: the loads are read, then the candidates come
 pub walk_begins :
-    (may_give : Draw → Type 0) (ms : List Member) (order : List Reading) (p : IsArranged may_give ms order) (es : List Draw) (cs : List Member) (e : Bool) → IsLeastRest ms order 0 es cs e
+    (may_give : Draw → Type 0) (ms : List Member) (order : List Reading) (p : IsArranged may_give ms order) (es : List Draw)
+    (cs : List Member) (e : Bool) → IsLeastRest ms order 0 es cs e
     → IsLeastWalk ms (map (λ e. load e.0 e.1) p.given.read ++ es) cs e
 walk_begins may_give ms order p es cs e rest = record {
   read = p.given.read;
   whole = p.given.whole ∙ ap (filter weighs) (take_all (length ms) ms (omega arith));
-  drawn = ap (λ xs. map (λ (e : Member × ℕ). load e.0 e.1) p.given.read ++ xs) rest.undrawn ∙ append-nil (map (λ (e : Member × ℕ). load e.0 e.1) p.given.read);
+  drawn = ap (λ xs. map (λ (e : Member × ℕ). load e.0 e.1) p.given.read ++ xs) rest.undrawn
+      ∙ append-nil (map (λ (e : Member × ℕ). load e.0 e.1) p.given.read);
   candidates = λ k c h.
       let (r, at, is) = rest.candidates k c h in
       let here : 0 + k ≡ k = omega arith in

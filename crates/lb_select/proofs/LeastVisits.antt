@@ -1,5 +1,6 @@
 -- A whole walk by least connections gives each backend of weight above 0 once, and no other.
-use Rattle.std.specs.Prelude.{◌≡◌, ℕ, zero, suc, ◌<◌, ◌≤◌, Bool, true, false, List, [], ◌∷◌, map, length, Some, cond, Contains, count_by, refl}
+use Rattle.std.specs.Prelude.{◌≡◌, ℕ, zero, suc, ◌<◌, ◌≤◌, Bool, true, false, List, [], ◌∷◌, map, length, Some, cond, Contains, count_by}
+use Rattle.std.specs.Prelude.{refl}
 use Rattle.std.proofs.Common.{arith, sym, ap, subst, ◌∙◌, ⊎_elim, true≢false, is_eq, Less}
 use Rattle.std.specs.List.{filter, slice_get, AllZip, AllByRecursion as Each}
 use Rattle.std.specs.List.Sorted.{IsStrictlySortedBy}
@@ -127,7 +128,8 @@ same_rank : (rs : List Reading) (a b : Reading) → Contains rs a → Contains r
 same_rank rs a b one other same =
     ⊎_elim
     (λ tied. tied)
-    (λ apart. by (comes_before a b) refl (⊎_elim (λ lt. λ e. absurd (omega (arith, lt, e))) (λ gt. λ e. absurd (omega (arith, gt, e))) apart))
+    (λ apart. by (comes_before a b) refl (⊎_elim (λ lt. λ e. absurd (omega (arith, lt, e))) (λ gt. λ e. absurd (omega (arith, gt, e)))
+    apart))
     (cases_order a.index b.index)
   where
     by : (t : Bool) → comes_before a b ≡ t → (b.index ≡ a.index → ⊥) → a.index ≡ b.index
@@ -163,7 +165,8 @@ readings_of ms (e ∷ read) inside heavy =
     (r ∷ rs, (record { at = at; weight = refl; load = refl }, rest))
 
 partner_of :
-    {A B : Type 0} (R : A → B → Type 0) (xs : List A) (ys : List B) (x : A) → AllZip R xs ys → Contains xs x → (y : B) × Contains ys y × R x y
+    {A B : Type 0} (R : A → B → Type 0) (xs : List A) (ys : List B) (x : A) → AllZip R xs ys → Contains xs x → (y : B) × Contains ys y
+    × R x y
 partner_of R [] ys x h (k, within, is) = absurd (omega (arith, within))
 partner_of R (u ∷ xs) [] x h within = absurd h
 partner_of {A} {B} R (u ∷ xs) (v ∷ ys) x h (zero, within, is) =
@@ -184,7 +187,8 @@ entry_of (e ∷ read) m (suc k, within, is) =
     let (l, (i, inside, same)) = entry_of read m (k, omega (arith, within), is) in
     (l, (suc i, omega (arith, inside), same))
 
-member_at : (read : List (Member × ℕ)) (m : Member) (l : ℕ) (k : ℕ) → slice_get read k ≡ Some (m, l) → slice_get (map (λ e. e.0) read) k ≡ Some m
+member_at : (read : List (Member × ℕ)) (m : Member) (l : ℕ) (k : ℕ) → slice_get read k ≡ Some (m, l)
+    → slice_get (map (λ e. e.0) read) k ≡ Some m
 member_at [] m l k e = absurd (none-some (m, l) e)
 member_at (x ∷ read) m l zero e = ap {A = Member × ℕ} (λ p. Some p.0) (same_Some x (m, l) e)
 member_at (x ∷ read) m l (suc k) e = member_at read m l k e
@@ -205,7 +209,8 @@ one_load read m l n sorted one other =
     (λ (apart, tied). absurd (true≢false (sym (ap is_eq (tied_itself member_cmp_total m)) ∙ tied)))
     (tied_at member_cmp_total (map (λ (e : Member × ℕ). e.0) read) i j m m sorted (member_at read m l i p) (member_at read m n j q))
 
-module _ (ms : List Member) (sorted : IsStrictlySortedBy member_cmp ms) (draws : List Draw) (cs : List Member) (w : IsLeastWalk ms draws cs true) where
+module _ (ms : List Member) (sorted : IsStrictlySortedBy member_cmp ms) (draws : List Draw) (cs : List Member)
+    (w : IsLeastWalk ms draws cs true) where
   rs : (rs : List Reading) × AllZip (IsReading ms) w.read rs
   rs =
       let P : List Member → Type 0 = λ xs. Each (λ m. Contains ms m) xs in
@@ -265,7 +270,11 @@ module _ (ms : List Member) (sorted : IsStrictlySortedBy member_cmp ms) (draws :
       let (l, among, rank) = w.candidates k m at in
       let (i, p) = entry_at w.read (m, l) among in
       let place = member_at w.read m l i p in
-      let named : Contains (map (λ (e : Member × ℕ). e.0) w.read) m = (i, slice_get_within _ i m place, get_or_from_slice_get _ i m m place) in
+      let named : Contains (map (λ (e : Member × ℕ). e.0) w.read) m = (
+        i,
+        slice_get_within _ i m place,
+        get_or_from_slice_get _ i m m place,
+      ) in
       let P : List Member → Type 0 = λ xs. Contains xs m in
       let kept : Contains (filter weighs ms) m = subst P w.whole named in (
         each_at (λ x. Contains ms x) (filter weighs ms) m (each_kept (λ x. Contains ms x) weighs ms (each_among ms ms (λ x h. h))) kept,

@@ -27,7 +27,8 @@ pub rest_more :
 rest_more ms order at r c here is es cs e rest =
     record { undrawn = rest.undrawn; candidates = each; end = λ over. omega (arith, rest.end over) }
   where
-    each : (k : ℕ) (b : Member) → slice_get (c ∷ cs) k ≡ Some b → (s : Reading) × (slice_get order (at + k) ≡ Some s) × (slice_get ms s.index ≡ Some b)
+    each : (k : ℕ) (b : Member) → slice_get (c ∷ cs) k ≡ Some b → (s : Reading) × (slice_get order (at + k) ≡ Some s)
+        × (slice_get ms s.index ≡ Some b)
     each zero b h = let same : at + 0 ≡ at = omega arith in (r, ap (slice_get order) same ∙ here, is ∙ h)
     each (suc k) b h =
         let (s, there, tells) = rest.candidates k b h in
@@ -35,13 +36,15 @@ rest_more ms order at r c here is es cs e rest =
         (s, ap (slice_get order) same ∙ there, tells)
 
 -- what is read is of backends of the set
-all_inside : (ms : List Member) (read : List (Member × ℕ)) (rs : List Reading) → AllZip (IsReading ms) read rs → Each (λ r. r.index < length ms) rs
+all_inside : (ms : List Member) (read : List (Member × ℕ)) (rs : List Reading) → AllZip (IsReading ms) read rs
+    → Each (λ r. r.index < length ms) rs
 all_inside ms [] [] h = tt
 all_inside ms [] (r ∷ rs) h = absurd h
 all_inside ms (e ∷ read) [] h = absurd h
 all_inside ms (e ∷ read) (r ∷ rs) h = (slice_get_within ms r.index e.0 h.0.at, all_inside ms read rs h.1)
 
-pub arranged_inside : (may_give : Draw → Type 0) (ms : List Member) (order : List Reading) → IsArranged may_give ms order → All (λ r. r.index < length ms) order
+pub arranged_inside : (may_give : Draw → Type 0) (ms : List Member) (order : List Reading) → IsArranged may_give ms order
+    → All (λ r. r.index < length ms) order
 arranged_inside may_give ms order p =
     All-permutation (λ r. r.index < length ms) p.readings order p.same
     (All-from_recursion (λ r. r.index < length ms) p.readings (all_inside ms p.given.read p.readings p.given.each))
@@ -51,7 +54,11 @@ pub told :
     (ms : List Member) (order : List Reading) (at : ℕ) (r : Reading) → All (λ s. s.index < length ms) order → slice_get order at ≡ Some r
     → (r.index < length ms) × ((c : Member) × (slice_get ms r.index ≡ Some c))
 told ms order at r inside here =
-    let within : r.index < length ms = All-contains (λ s. s.index < length ms) order r inside (at, slice_get_within order at r here, get_or_from_slice_get order at r r here) in
+    let within : r.index < length ms = All-contains (λ s. s.index < length ms) order r inside (
+      at,
+      slice_get_within order at r here,
+      get_or_from_slice_get order at r r here,
+    ) in
     (within, element_at ms r.index within)
 
 -- so a step gives it

@@ -1,5 +1,6 @@
 -- Lists in rising order: what comes before an element, the list cut in two and put together the other way round.
-use Rattle.std.proofs.Common.{◌≡◌, ℕ, zero, suc, ◌+◌, ◌-◌, ◌<◌, ◌≤◌, ◌⊎◌, inl, inr, true, false, nat_eq, nat_lt, List, [], ◌∷◌, ◌++◌, length, get_or, take, drop, refl, sym, ap, subst, ◌∙◌, arith}
+use Rattle.std.proofs.Common.{◌≡◌, ℕ, zero, suc, ◌+◌, ◌-◌, ◌<◌, ◌≤◌, ◌⊎◌, inl, inr, true, false, nat_eq, nat_lt, List, [], ◌∷◌, ◌++◌}
+use Rattle.std.proofs.Common.{length, get_or, take, drop, refl, sym, ap, subst, ◌∙◌, arith}
 use Rattle.std.specs.List.{Contains, IsDistinct, AllByRecursion}
 use Rattle.std.proofs.lemmas.List.{take-append-drop}
 use Rattle.std.proofs.lemmas.List.Elements.{Contains-get_or, Contains-append_cases, Contains-append_left, Contains-append_right}
@@ -23,13 +24,16 @@ module _ {X : Type 0} where
 
   -- an element of a part is an element of the whole
   pub in_take : (n : ℕ) (xs : List X) (y : X) → Contains (take n xs) y → Contains xs y
-  in_take n xs y h = let P : List X → Type 0 = λ zs. Contains zs y in subst P (take-append-drop n xs) (Contains-append_left (take n xs) (drop n xs) y h)
+  in_take n xs y h = let P : List X → Type 0 = λ zs. Contains zs y
+      in subst P (take-append-drop n xs) (Contains-append_left (take n xs) (drop n xs) y h)
 
   pub in_drop : (n : ℕ) (xs : List X) (y : X) → Contains (drop n xs) y → Contains xs y
-  in_drop n xs y h = let P : List X → Type 0 = λ zs. Contains zs y in subst P (take-append-drop n xs) (Contains-append_right (take n xs) (drop n xs) y h)
+  in_drop n xs y h = let P : List X → Type 0 = λ zs. Contains zs y
+      in subst P (take-append-drop n xs) (Contains-append_right (take n xs) (drop n xs) y h)
 
   pub in_parts : (n : ℕ) (xs : List X) (y : X) → Contains xs y → Contains (take n xs) y ⊎ Contains (drop n xs) y
-  in_parts n xs y h = let P : List X → Type 0 = λ zs. Contains zs y in Contains-append_cases (take n xs) (drop n xs) y (subst P (sym (take-append-drop n xs)) h)
+  in_parts n xs y h = let P : List X → Type 0 = λ zs. Contains zs y
+      in Contains-append_cases (take n xs) (drop n xs) y (subst P (sym (take-append-drop n xs)) h)
 
   module _ (f : X → ℕ) where
     pub first_below : (x : X) (xs : List X) → Rises f (x ∷ xs) → (y : X) → Contains xs y → f x < f y
@@ -42,11 +46,13 @@ module _ {X : Type 0} where
     pub below_at : (xs : List X) → Rises f xs → (i j : ℕ) (d : X) → i < j → j < length xs → f (get_or xs i d) < f (get_or xs j d)
     below_at [] r i j d h k = absurd (omega arith)
     below_at (x ∷ xs) r i zero d h k = absurd (omega arith)
-    below_at (x ∷ xs) r zero (suc j) d h k = let w : j < length xs = omega arith in first_below x xs r (get_or xs j d) (Contains-get_or xs j d w)
+    below_at (x ∷ xs) r zero (suc j) d h k = let w : j < length xs = omega arith
+        in first_below x xs r (get_or xs j d) (Contains-get_or xs j d w)
     below_at (x ∷ xs) r (suc i) (suc j) d h k = below_at xs (rest_rises x xs r) i j d (omega arith) (omega arith)
 
     -- two rising lists, one above the other
-    pub rises_append : (xs ys : List X) → Rises f xs → Rises f ys → ((x y : X) → Contains xs x → Contains ys y → f x < f y) → Rises f (xs ++ ys)
+    pub rises_append : (xs ys : List X) → Rises f xs → Rises f ys → ((x y : X) → Contains xs x → Contains ys y → f x < f y)
+        → Rises f (xs ++ ys)
     rises_append [] ys r s h = s
     rises_append (x ∷ xs) ys r s h =
         more (λ y m. elim (Contains-append_cases xs ys y m) [ inl a ↦ first_below x xs r y a | inr b ↦ h x y (here x xs) b ])
@@ -54,7 +60,8 @@ module _ {X : Type 0} where
 
     pub rises_left : (xs ys : List X) → Rises f (xs ++ ys) → Rises f xs
     rises_left [] ys r = none
-    rises_left (x ∷ xs) ys r = more (λ y m. first_below x (xs ++ ys) r y (Contains-append_left xs ys y m)) (rises_left xs ys (rest_rises x (xs ++ ys) r))
+    rises_left (x ∷ xs) ys r = more (λ y m. first_below x (xs ++ ys) r y (Contains-append_left xs ys y m))
+        (rises_left xs ys (rest_rises x (xs ++ ys) r))
 
     pub rises_right : (xs ys : List X) → Rises f (xs ++ ys) → Rises f ys
     rises_right [] ys r = r
@@ -122,17 +129,20 @@ rises_once h [] r = tt
 rises_once h (x ∷ xs) r = (apart_all h x xs (first_below h x xs r), rises_once h xs (rest_rises h x xs r))
 
 -- the elements before the one at r are those of a smaller value
-pub before_is_less : (h : ℕ → ℕ) (ks : List ℕ) → Rises h ks → (r : ℕ) → r < length ks → (q : ℕ) → Contains (take r ks) q → h q < h (get_or ks r 0)
+pub before_is_less : (h : ℕ → ℕ) (ks : List ℕ) → Rises h ks → (r : ℕ) → r < length ks → (q : ℕ) → Contains (take r ks) q
+    → h q < h (get_or ks r 0)
 before_is_less h [] s r l q m = absurd (omega arith)
 before_is_less h (k ∷ ks) s zero l q m = absurd (nothing_in_none q m)
 before_is_less h (k ∷ ks) s (suc r) l q m =
     let w : r < length ks = omega arith in
     elim (head_or_rest k (take r ks) q m) [
-      | inl e ↦ (let P : ℕ → Type 0 = λ x. h x < h (get_or ks r 0) in subst P e (first_below h k ks s (get_or ks r 0) (Contains-get_or ks r 0 w)))
+      | inl e ↦ (let P : ℕ → Type 0 = λ x. h x < h (get_or ks r 0)
+          in subst P e (first_below h k ks s (get_or ks r 0) (Contains-get_or ks r 0 w)))
       | inr t ↦ before_is_less h ks (rest_rises h k ks s) r w q t
     ]
 
-pub less_is_before : (h : ℕ → ℕ) (ks : List ℕ) → Rises h ks → (r : ℕ) → r < length ks → (q : ℕ) → Contains ks q → h q < h (get_or ks r 0) → Contains (take r ks) q
+pub less_is_before : (h : ℕ → ℕ) (ks : List ℕ) → Rises h ks → (r : ℕ) → r < length ks → (q : ℕ) → Contains ks q → h q < h (get_or ks r 0)
+    → Contains (take r ks) q
 less_is_before h [] s r l q m b = absurd (omega arith)
 less_is_before h (k ∷ ks) s zero l q m b =
     elim (head_or_rest k ks q m) [

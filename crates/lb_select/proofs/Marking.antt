@@ -1,5 +1,6 @@
 -- The chains of the backends of a set, one after another: their points are those of the backends.
-use Rattle.std.proofs.Common.{◌≡◌, ℕ, ◌+◌, ◌*◌, ◌^◌, ◌<◌, inl, inr, cond, List, [], ◌∷◌, ◌++◌, length, take, refl, sym, ap, subst, ◌∙◌, arith, length-append, zero-add}
+use Rattle.std.proofs.Common.{◌≡◌, ℕ, ◌+◌, ◌*◌, ◌^◌, ◌<◌, inl, inr, cond, List, [], ◌∷◌, ◌++◌, length, take, refl, sym, ap, subst, ◌∙◌}
+use Rattle.std.proofs.Common.{arith, length-append, zero-add}
 use Rattle.std.specs.Prelude.{Some, slice_get}
 use Rattle.std.specs.List.{range_with_len}
 use Rattle.std.proofs.lemmas.List.Elements.{Contains-append_cases}
@@ -17,7 +18,8 @@ use Rattle.lb_select.proofs.Owners.{of_map}
 use Rattle.lb_select.proofs.Spreading.{entries_append, append_none}
 
 -- the points of one chain more
-entries_pushed : (chains : List (ℕ × ℕ)) (state count : ℕ) → entries_of (chains ++ (state, count) ∷ []) ≡ entries_of chains ++ chain_entries state count (length chains)
+entries_pushed : (chains : List (ℕ × ℕ)) (state count : ℕ)
+    → entries_of (chains ++ (state, count) ∷ []) ≡ entries_of chains ++ chain_entries state count (length chains)
 entries_pushed chains state count =
     entries_append 0 chains ((state, count) ∷ [])
     ∙ ap (λ n. entries_of chains ++ entries_from n ((state, count) ∷ [])) (zero-add (length chains))
@@ -42,11 +44,13 @@ chain_len state count number = length-map (range_with_len 0 count) (λ k. (state
 pub marked_none : (ms : List Member) → IsMarked ms 0 [] []
 marked_none ms = record { filled = filled_none ms; paired = refl; many = omega arith }
 
-module _ (ms : List Member) (i : ℕ) (owners : List ℕ) (chains : List (ℕ × ℕ)) (h : IsMarked ms i owners chains) (m : Member) (at : slice_get ms i ≡ Some m) where
+module _ (ms : List Member) (i : ℕ) (owners : List ℕ) (chains : List (ℕ × ℕ)) (h : IsMarked ms i owners chains) (m : Member)
+    (at : slice_get ms i ≡ Some m) where
   -- a backend that has no points, or not the most
   pub marked_same : ((b : Member) → Bears ms i b → ⊥) → IsMarked ms (i + 1) owners chains
   marked_same none_here =
-      let up : ring_weight (take (i + 1) ms) ≡ ring_weight (take i ms) + cond (is_internet m.address) m.weight 0 = weight_up ms i owners (entries_of chains) h.filled m at in
+      let up : ring_weight (take (i + 1) ms) ≡ ring_weight (take i ms) + cond (is_internet m.address) m.weight 0 =
+      weight_up ms i owners (entries_of chains) h.filled m at in
       record {
         filled = filled_same ms i owners (entries_of chains) h.filled m at none_here;
         paired = h.paired;
@@ -54,10 +58,12 @@ module _ (ms : List Member) (i : ℕ) (owners : List ℕ) (chains : List (ℕ ×
       }
 
   -- a backend that has points
-  pub marked_more : Bears ms i m → (state count : ℕ) → state ≡ crc_fed 0xFFFFFFFF (hashed_text m.address) → count ≡ points_per_weight * m.weight
+  pub marked_more : Bears ms i m → (state count : ℕ) → state ≡ crc_fed 0xFFFFFFFF (hashed_text m.address)
+      → count ≡ points_per_weight * m.weight
       → IsMarked ms (i + 1) (owners ++ i ∷ []) (chains ++ (state, count) ∷ [])
   marked_more bears state count s c =
-      let up : ring_weight (take (i + 1) ms) ≡ ring_weight (take i ms) + cond (is_internet m.address) m.weight 0 = weight_up ms i owners (entries_of chains) h.filled m at in
+      let up : ring_weight (take (i + 1) ms) ≡ ring_weight (take i ms) + cond (is_internet m.address) m.weight 0 =
+      weight_up ms i owners (entries_of chains) h.filled m at in
       let heavy : cond (is_internet m.address) m.weight 0 ≡ m.weight = ap (λ b. cond b m.weight 0) bears.internet in
       let P : List (ℕ × ℕ) → Type 0 = λ z. IsFilled ms (i + 1) (owners ++ i ∷ []) z in
       let len : length (entries_of (chains ++ (state, count) ∷ [])) ≡ length (entries_of chains) + count

@@ -1,5 +1,6 @@
 -- Candidates and owners by the entries of a ring in order.
-use Rattle.std.proofs.Common.{◌≡◌, ℕ, ◌%◌, ◌^◌, ◌<◌, ◌≤◌, inl, inr, false, List, [], ◌∷◌, length, map, get_or, refl, sym, ap, subst, ◌∙◌, arith, rules}
+use Rattle.std.proofs.Common.{◌≡◌, ℕ, ◌%◌, ◌^◌, ◌<◌, ◌≤◌, inl, inr, false, List, [], ◌∷◌, length, map, get_or, refl, sym, ap, subst, ◌∙◌}
+use Rattle.std.proofs.Common.{arith, rules}
 use Rattle.std.specs.List.{Contains}
 use Rattle.std.specs.Cmp.{IsTotalOrder}
 use Rattle.std.specs.Cmp.Rules.{comparing}
@@ -54,11 +55,14 @@ module _ {X Y : Type 0} (f : X → Y) where
 rises_points : {T : Type 0} (es : List (ℕ × T)) → Rises (point_of {T = T}) es → Rises (λ p. p) (map (point_of {T = T}) es)
 rises_points {T} [] r = none
 rises_points {T} (e ∷ es) r =
-    more (λ q m. let w = of_map (point_of {T = T}) es q m in let P : ℕ → Type 0 = λ z. e.0 < z in subst P w.2 (first_below (point_of {T = T}) e es r w.0 w.1))
+    more (λ q m. let w = of_map (point_of {T = T}) es q m in let P : ℕ → Type 0 = λ z. e.0 < z
+    in subst P w.2 (first_below (point_of {T = T}) e es r w.0 w.1))
     (rises_points es (rest_rises (point_of {T = T}) e es r))
 
-module _ {T : Type 0} (es : List (ℕ × T)) (order : IsInOrder es) (place : ℕ) (low : place < 2 ^ 32) (s : ℕ) (within : s ≤ length es) (split : SplitsAt place es s) (d : ℕ × T)
-    (has : ℕ → Address → Type 0) (all : (q : ℕ) → IsPoint has q → (e : ℕ × T) × Contains es e × (e.0 ≡ q)) (only : (e : ℕ × T) → Contains es e → IsPoint has e.0) where
+module _ {T : Type 0} (es : List (ℕ × T)) (order : IsInOrder es) (place : ℕ) (low : place < 2 ^ 32) (s : ℕ) (within : s ≤ length es)
+    (split : SplitsAt place es s) (d : ℕ × T)
+    (has : ℕ → Address → Type 0) (all : (q : ℕ) → IsPoint has q → (e : ℕ × T) × Contains es e × (e.0 ≡ q)) (only : (e : ℕ × T)
+    → Contains es e → IsPoint has e.0) where
   -- the entry of candidate j
   pub candidate_at : 0 < length es → (j : ℕ) → IsPointOf has place j (get_or es (turn_index s (j % length es) (length es)) d).0
   candidate_at some j =
@@ -66,7 +70,8 @@ module _ {T : Type 0} (es : List (ℕ × T)) (order : IsInOrder es) (place : ℕ
       let n : length ps ≡ length es = length-map es (point_of {T = T}) in
       let inside : s ≤ length ps = omega arith in
       let any : 0 < length ps = omega arith in
-      let small : (q : ℕ) → Contains ps q → q < 2 ^ 32 = λ q m. let w = of_map (point_of {T = T}) es q m in let P : ℕ → Type 0 = λ z. z < 2 ^ 32 in subst P w.2 (order.small w.0 w.1) in
+      let small : (q : ℕ) → Contains ps q → q < 2 ^ 32 = λ q m. let w = of_map (point_of {T = T}) es q m in let P : ℕ
+      → Type 0 = λ z. z < 2 ^ 32 in subst P w.2 (order.small w.0 w.1) in
       let below : (k : ℕ) → k < s → get_or ps k 0 < place = λ k h.
       (let l : k < length es = omega arith in let z : 0 ≤ k = omega arith in
       let P : ℕ → Type 0 = λ x. x < place in subst P (sym (get_or-map (point_of {T = T}) es k d 0 l)) (split.below k d z h)) in
@@ -92,11 +97,14 @@ module _ {T : Type 0} (see : T → Address) where
   abbrev seen : ℕ × T → ℕ × Address
   seen e = (e.0, see e.1)
 
-  entry_of_point : (es : List (ℕ × T)) (p : ℕ) (a : Address) → Contains (map seen es) (p, a) → (e : ℕ × T) × Contains es e × (e.0 ≡ p) × (see e.1 ≡ a)
-  entry_of_point es p a m = let w = of_map seen es (p, a) m in (w.0, w.1, ap (λ (z : ℕ × Address). z.0) w.2, ap (λ (z : ℕ × Address). z.1) w.2)
+  entry_of_point : (es : List (ℕ × T)) (p : ℕ) (a : Address) → Contains (map seen es) (p, a) → (e : ℕ × T) × Contains es e × (e.0 ≡ p)
+      × (see e.1 ≡ a)
+  entry_of_point es p a m = let w = of_map seen es (p, a) m
+      in (w.0, w.1, ap (λ (z : ℕ × Address). z.0) w.2, ap (λ (z : ℕ × Address). z.1) w.2)
 
   -- the owner of candidate j
-  pub owner_at : (es : List (ℕ × T)) → IsInOrder es → (place : ℕ) → place < 2 ^ 32 → (s : ℕ) → s ≤ length es → SplitsAt place es s → 0 < length es → (j : ℕ) (d : ℕ × T)
+  pub owner_at : (es : List (ℕ × T)) → IsInOrder es → (place : ℕ) → place < 2 ^ 32 → (s : ℕ) → s ≤ length es → SplitsAt place es s
+      → 0 < length es → (j : ℕ) (d : ℕ × T)
       → IsRingOwner (Given (map seen es)) place j (see (get_or es (turn_index s (j % length es) (length es)) d).1)
   owner_at es order place low s within split some j d =
       let at = turn_index s (j % length es) (length es) in
@@ -122,14 +130,21 @@ module _ {T : Type 0} (see : T → Address) where
       → IsArranged cmp given kept → IsRingOf (map seen given) (map seen kept)
   ring_of_kept cmp tie given kept h = record {
     points = λ p. (
-      (λ w. let e = entry_of_point kept p w.0 w.1 in
-          (see e.0.1, (let P : ℕ → Type 0 = λ z. Contains (map seen given) (z, see e.0.1) in subst P e.2 (in_map seen given e.0 (h.given_too e.0 e.1))))),
-      (λ w. let e = entry_of_point given p w.0 w.1 in let k = h.least e.0 e.1 in
-          (see k.0.1, (let P : ℕ → Type 0 = λ z. Contains (map seen kept) (z, see k.0.1) in subst P (k.2 ∙ e.2) (in_map seen kept k.0 k.1)))),
+      (λ w. let e = entry_of_point kept p w.0 w.1 in (
+        see e.0.1,
+        (let P : ℕ → Type 0 = λ z. Contains (map seen given) (z, see e.0.1)
+            in subst P e.2 (in_map seen given e.0 (h.given_too e.0 e.1))),
+      )),
+      (λ w. let e = entry_of_point given p w.0 w.1 in let k = h.least e.0 e.1 in (
+        see k.0.1,
+        (let P : ℕ → Type 0 = λ z. Contains (map seen kept) (z, see k.0.1)
+            in subst P (k.2 ∙ e.2) (in_map seen kept k.0 k.1)),
+      )),
     );
     owners = λ p a. (
       (λ m. let e = entry_of_point kept p a m in record {
-        has_it = subst (λ (z : ℕ × Address). Contains (map seen given) z) (pair_same (seen e.0) p a e.2 e.3) (in_map seen given e.0 (h.given_too e.0 e.1));
+        has_it = subst (λ (z : ℕ × Address). Contains (map seen given) z) (pair_same (seen e.0) p a e.2 e.3)
+            (in_map seen given e.0 (h.given_too e.0 e.1));
         least = λ b n.
             let f = entry_of_point given p b n in
             let k = h.least f.0 f.1 in
@@ -142,10 +157,12 @@ module _ {T : Type 0} (see : T → Address) where
           let e = entry_of_point given p a o.has_it in
           let k = h.least e.0 e.1 in
           let P : Address → Address → Type 0 = λ y z. is_lt (address_cmp y z) ≡ false in
-          let up : is_lt (address_cmp a (see k.0.1)) ≡ false = subst (λ (y : Address). P y (see k.0.1)) e.3 (ap is_lt (sym (tie e.0.1 k.0.1)) ∙ k.3) in
+          let up : is_lt (address_cmp a (see k.0.1)) ≡ false = subst (λ (y : Address). P y (see k.0.1)) e.3
+          (ap is_lt (sym (tie e.0.1 k.0.1)) ∙ k.3) in
           let down : is_lt (address_cmp (see k.0.1) a) ≡ false = o.least (see k.0.1)
           (subst (λ (z : ℕ). Contains (map seen given) (z, see k.0.1)) (k.2 ∙ e.2) (in_map seen given k.0 (h.given_too k.0 k.1))) in
-          subst (λ (z : ℕ × Address). Contains (map seen kept) z) (pair_same (seen k.0) p a (k.2 ∙ e.2) (sym (neither_below a (see k.0.1) up down))) (in_map seen kept k.0 k.1)),
+          subst (λ (z : ℕ × Address). Contains (map seen kept) z)
+          (pair_same (seen k.0) p a (k.2 ∙ e.2) (sym (neither_below a (see k.0.1) up down))) (in_map seen kept k.0 k.1)),
     );
   }
 
@@ -162,7 +179,8 @@ ring_law given ring h place j a (p, x, o) =
         point = to p x.point;
         number = x.number;
         points = exact_same (IsPoint (Given ring)) (IsPoint (Given given)) to from x.number x.points;
-        nearer = exact_same (IsNearer (Given ring) place p) (IsNearer (Given given) place p) (λ q m. (to q m.0, m.1)) (λ q m. (from q m.0, m.1)) (j % x.number) x.nearer;
+        nearer = exact_same (IsNearer (Given ring) place p) (IsNearer (Given given) place p) (λ q m. (to q m.0, m.1))
+            (λ q m. (from q m.0, m.1)) (j % x.number) x.nearer;
       },
       (h.owners p a).0 o.has_it,
     )

@@ -1,5 +1,6 @@
 -- Points that were put in order are those of the set, and each is its owner's.
-use Rattle.std.proofs.Common.{◌≡◌, ◌≢◌, ℕ, ◌*◌, ◌<◌, ◌≤◌, ◌⊎◌, inl, inr, true, false, List, [], ◌∷◌, length, get_or, refl, sym, ap, subst, ◌∙◌, arith}
+use Rattle.std.proofs.Common.{◌≡◌, ◌≢◌, ℕ, ◌*◌, ◌<◌, ◌≤◌, ◌⊎◌, inl, inr, true, false, List, [], ◌∷◌, length, get_or, refl, sym, ap, subst}
+use Rattle.std.proofs.Common.{◌∙◌, arith}
 use Rattle.std.specs.Prelude.{Some, slice_get, option_and_then}
 use Rattle.std.specs.List.{Contains}
 use Rattle.std.specs.List.Sorted.{IsStrictlySortedBy}
@@ -21,10 +22,12 @@ use Rattle.lb_select.proofs.Filling.{and_then_parts}
 use Rattle.std.proofs.lemmas.Option.{get_or_from_slice_get}
 
 decide : (a b : Address) (o : Ordering) → address_cmp a b ≡ o → (a ≡ b) ⊎ (a ≢ b)
-decide a b Less e = inr (λ s. let P : Address → Type 0 = λ z. address_cmp a z ≡ Less in let t : address_cmp a a ≡ Less = subst P (sym s) e in
+decide a b Less e = inr (λ s. let P : Address → Type 0 = λ z. address_cmp a z ≡ Less in let t : address_cmp a a ≡ Less =
+    subst P (sym s) e in
     let u : address_cmp a a ≡ Equal = tied_itself address_total a in absurd (cc))
 decide a b Equal e = inl (address_same a b e)
-decide a b Greater e = inr (λ s. let P : Address → Type 0 = λ z. address_cmp a z ≡ Greater in let t : address_cmp a a ≡ Greater = subst P (sym s) e in
+decide a b Greater e = inr (λ s. let P : Address → Type 0 = λ z. address_cmp a z ≡ Greater in let t : address_cmp a a ≡ Greater =
+    subst P (sym s) e in
     let u : address_cmp a a ≡ Equal = tied_itself address_total a in absurd (cc))
 
 -- whether two addresses are one
@@ -44,8 +47,10 @@ heaviest_of (x ∷ ms) a =
               among = here x ms;
               address_is = e;
               heaviest = λ other c f. elim (head_or_rest x ms other c) [
-                | inl same ↦ (let w : x.weight ≡ other.weight = ap (λ (z : Member). z.weight) same in let g : other.weight ≤ x.weight = omega arith in g)
-                | inr later ↦ (let w : other.weight ≤ s.0.weight = s.1.heaviest other later f in let l : s.0.weight < x.weight = lighter.1 in let g : other.weight ≤ x.weight = omega arith in g)
+                | inl same ↦ (let w : x.weight ≡ other.weight = ap (λ (z : Member). z.weight) same in let g : other.weight ≤ x.weight =
+                    omega arith in g)
+                | inr later ↦ (let w : other.weight ≤ s.0.weight = s.1.heaviest other later f in let l : s.0.weight < x.weight = lighter.1
+                    in let g : other.weight ≤ x.weight = omega arith in g)
               ];
             },
           )
@@ -55,7 +60,8 @@ heaviest_of (x ∷ ms) a =
               among = there x ms s.0 s.1.among;
               address_is = s.1.address_is;
               heaviest = λ other c f. elim (head_or_rest x ms other c) [
-                | inl same ↦ (let w : x.weight ≡ other.weight = ap (λ (z : Member). z.weight) same in let l : x.weight ≤ s.0.weight = heavier.1 in let g : other.weight ≤ s.0.weight = omega arith in g)
+                | inl same ↦ (let w : x.weight ≡ other.weight = ap (λ (z : Member). z.weight) same in let l : x.weight ≤ s.0.weight =
+                    heavier.1 in let g : other.weight ≤ s.0.weight = omega arith in g)
                 | inr later ↦ s.1.heaviest other later f
               ];
             },
@@ -67,7 +73,8 @@ heaviest_of (x ∷ ms) a =
             among = here x ms;
             address_is = e;
             heaviest = λ other c f. elim (head_or_rest x ms other c) [
-              | inl same ↦ (let w : x.weight ≡ other.weight = ap (λ (z : Member). z.weight) same in let g : other.weight ≤ x.weight = omega arith in g)
+              | inl same ↦ (let w : x.weight ≡ other.weight = ap (λ (z : Member). z.weight) same in let g : other.weight ≤ x.weight =
+                  omega arith in g)
               | inr later ↦ absurd (none-there other later f)
             ];
           },
@@ -147,7 +154,8 @@ module _ (ms : List Member) (order : IsStrictlySortedBy member_cmp ms) (owners :
       elim (less_tells i j) [
         | inl before ↦ (let k : j < length owners = get_inside owners j d q in
             let r : get_or owners i 0 < get_or owners j 0 = below_at (λ z. z) owners h.upwards i j 0 before.1 k in
-            let e : get_or owners i 0 ≡ b = get_or_from_slice_get owners i b 0 p in let f : get_or owners j 0 ≡ d = get_or_from_slice_get owners j d 0 q in
+            let e : get_or owners i 0 ≡ b = get_or_from_slice_get owners i b 0 p in let f : get_or owners j 0 ≡ d =
+            get_or_from_slice_get owners j d 0 q in
             let g : b ≤ d = omega arith in g)
         | inr after ↦ (let le : j ≤ i = after.1 in let e : i ≡ j = omega arith in
             let P : ℕ → Type 0 = λ z. slice_get owners z ≡ Some b in
@@ -155,12 +163,14 @@ module _ (ms : List Member) (order : IsStrictlySortedBy member_cmp ms) (owners :
       ]
 
   -- a member that stands first has no greater address
-  addresses_rise : (i j : ℕ) (x y : Member) → slice_get ms i ≡ Some x → slice_get ms j ≡ Some y → i ≤ j → is_lt (address_cmp y.address x.address) ≡ false
+  addresses_rise : (i j : ℕ) (x y : Member) → slice_get ms i ≡ Some x → slice_get ms j ≡ Some y → i ≤ j
+      → is_lt (address_cmp y.address x.address) ≡ false
   addresses_rise i j x y p q l =
       elim (less_tells i j) [
         | inl before ↦ elim (before_means x y (in_order ms order i j x y p q before.1)) [
           | inl smaller ↦ ap is_lt (turned_test x.address y.address smaller)
-          | inr lighter ↦ (let P : Address → Type 0 = λ z. is_lt (address_cmp z x.address) ≡ false in subst P lighter.0 (not_below_itself x.address))
+          | inr lighter ↦ (let P : Address → Type 0 = λ z. is_lt (address_cmp z x.address) ≡ false
+              in subst P lighter.0 (not_below_itself x.address))
         ]
         | inr after ↦ (let le : j ≤ i = after.1 in let e : i ≡ j = omega arith in
             let P : ℕ → Type 0 = λ z. slice_get ms z ≡ Some x in

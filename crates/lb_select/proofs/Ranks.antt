@@ -1,6 +1,7 @@
 -- The list of points, turned so that it begins at a place, rises by the distance clockwise from there: so the elements before
 -- one of them are the nearer points.
-use Rattle.std.proofs.Common.{◌≡◌, ℕ, ◌+◌, ◌-◌, ◌%◌, ◌^◌, ◌<◌, ◌≤◌, inl, inr, List, ◌++◌, length, get_or, take, drop, refl, sym, subst, ◌∙◌, arith, length-take, length-drop, length-append, get_or-drop, get_or-take}
+use Rattle.std.proofs.Common.{◌≡◌, ℕ, ◌+◌, ◌-◌, ◌%◌, ◌^◌, ◌<◌, ◌≤◌, inl, inr, List, ◌++◌, length, get_or, take, drop, refl, sym, subst, ◌∙◌}
+use Rattle.std.proofs.Common.{arith, length-take, length-drop, length-append, get_or-drop, get_or-take}
 use Rattle.std.specs.List.{Contains}
 use Rattle.std.proofs.lemmas.List.{get_or-append_right, get_or_append_left}
 use Rattle.std.proofs.lemmas.List.Elements.{Contains-append_cases, Contains-append_left, Contains-append_right, Contains-get_or}
@@ -8,7 +9,8 @@ use Rattle.std.proofs.lemmas.Grind.{get_or_default_zero}
 use Rattle.lb_select_base.specs.Backends.{Address}
 use Rattle.lb_select.specs.Circle.{clockwise, Lists, IsPoint, IsPointOf}
 use Rattle.lb_select.specs.Sorted.{Rises, turn_index}
-use Rattle.lb_select.proofs.Lists.{in_take, in_drop, in_parts, rises_cut, rises_left, rises_right, rises_append, rises_by, rises_once, before_is_less, less_is_before, less_tells, turned_below}
+use Rattle.lb_select.proofs.Lists.{in_take, in_drop, in_parts, rises_cut, rises_left, rises_right, rises_append, rises_by, rises_once}
+use Rattle.lb_select.proofs.Lists.{before_is_less, less_is_before, less_tells, turned_below}
 
 -- the way to a place that is not below, and to one that is
 pub clockwise_up : (place q : ℕ) → place ≤ q → q < 2 ^ 32 → clockwise place q ≡ q - place
@@ -39,7 +41,10 @@ module _ (ps : List ℕ) (rises : Rises (λ p. p) ps) (small : (q : ℕ) → Con
       subst P (sym (get_or_default_zero ps (s + k) q far) ∙ sym (get_or-drop s ps k q) ∙ e) (above (s + k) (omega arith) far)
 
   around_has : (q : ℕ) → Contains ps q → Contains (around s ps) q
-  around_has q m = elim (in_parts s ps q m) [ inl a ↦ Contains-append_right (drop s ps) (take s ps) q a | inr b ↦ Contains-append_left (drop s ps) (take s ps) q b ]
+  around_has q m = elim (in_parts s ps q m) [
+    | inl a ↦ Contains-append_right (drop s ps) (take s ps) q a
+    | inr b ↦ Contains-append_left (drop s ps) (take s ps) q b
+  ]
 
   has_around : (q : ℕ) → Contains (around s ps) q → Contains ps q
   has_around q m = elim (Contains-append_cases (drop s ps) (take s ps) q m) [ inl a ↦ in_drop s ps q a | inr b ↦ in_take s ps q b ]
@@ -49,7 +54,10 @@ module _ (ps : List ℕ) (rises : Rises (λ p. p) ps) (small : (q : ℕ) → Con
       let cut = rises_cut (λ p. p) s ps rises in
       rises_append (clockwise place) (drop s ps) (take s ps)
       (rises_by (λ p. p) (clockwise place) (drop s ps) (rises_right (λ p. p) (take s ps) (drop s ps) cut)
-      (λ x y p q h. rw (clockwise_up place x (dropped_above x p) (small x (in_drop s ps x p)), clockwise_up place y (dropped_above y q) (small y (in_drop s ps y q)))
+      (λ x y p q h. rw (
+        clockwise_up place x (dropped_above x p) (small x (in_drop s ps x p)),
+        clockwise_up place y (dropped_above y q) (small y (in_drop s ps y q)),
+      )
       (let l = dropped_above x p in let g : x - place < y - place = omega arith in g)))
       (rises_by (λ p. p) (clockwise place) (take s ps) (rises_left (λ p. p) (take s ps) (drop s ps) cut)
       (λ x y p q h. rw (clockwise_round place x (taken_below x p) low, clockwise_round place y (taken_below y q) low)
@@ -67,7 +75,8 @@ module _ (ps : List ℕ) (rises : Rises (λ p. p) ps) (small : (q : ℕ) → Con
         | inl first ↦ (let l : r < length (drop s ps) = omega (arith, first.1, length-drop s ps) in
             rw first.0 (get_or_append_left (drop s ps) (take s ps) d r l ∙ get_or-drop s ps r d))
         | inr later ↦ (let l : length ps - s ≤ r = omega (arith, later.1) in let t : r - (length ps - s) < s = omega arith in
-            rw later.0 (get_or-append_right (drop s ps) (take s ps) (length ps - s) r d (length-drop s ps) l ∙ get_or-take s ps (r - (length ps - s)) d t))
+            rw later.0 (get_or-append_right (drop s ps) (take s ps) (length ps - s) r d (length-drop s ps) l
+            ∙ get_or-take s ps (r - (length ps - s)) d t))
       ]
 
   -- the nearer points are those before it
@@ -77,13 +86,19 @@ module _ (ps : List ℕ) (rises : Rises (λ p. p) ps) (small : (q : ℕ) → Con
       let e = around_at r 0 h in
       let l : r < length (around s ps) = omega (arith, around_length) in
       record {
-        once = rises_once (clockwise place) (take r (around s ps)) (rises_left (clockwise place) (take r (around s ps)) (drop r (around s ps)) (rises_cut (clockwise place) r (around s ps) around_rises));
+        once = rises_once (clockwise place) (take r (around s ps))
+            (rises_left (clockwise place) (take r (around s ps)) (drop r (around s ps))
+            (rises_cut (clockwise place) r (around s ps) around_rises));
         all = λ q m. less_is_before (clockwise place) (around s ps) around_rises r l q (around_has q m.0) (rw e m.1);
-        only = λ q m. (has_around q (in_take r (around s ps) q m), rw e at (before_is_less (clockwise place) (around s ps) around_rises r l q m));
+        only = λ q m. (
+          has_around q (in_take r (around s ps) q m),
+          rw e at (before_is_less (clockwise place) (around s ps) around_rises r l q m),
+        );
       }
 
   -- the point of candidate j
-  pub point_of_candidate : (has : ℕ → Address → Type 0) → ((q : ℕ) → IsPoint has q → Contains ps q) → ((q : ℕ) → Contains ps q → IsPoint has q)
+  pub point_of_candidate : (has : ℕ → Address → Type 0) → ((q : ℕ) → IsPoint has q → Contains ps q)
+      → ((q : ℕ) → Contains ps q → IsPoint has q)
       → 0 < length ps → (j : ℕ) → IsPointOf has place j (get_or ps (turn_index s (j % length ps) (length ps)) 0)
   point_of_candidate has all only some j =
       let turn : j % length ps < length ps = omega arith in
@@ -96,7 +111,11 @@ module _ (ps : List ℕ) (rises : Rises (λ p. p) ps) (small : (q : ℕ) → Con
         points = (ps, record { once = rises_once (λ q. q) ps rises; all = all; only = only }, refl);
         nearer = (
           take (j % length ps) (around s ps),
-          record { once = before.once; all = λ q m. before.all q (all q m.0, m.1); only = λ q m. (only q (before.only q m).0, (before.only q m).1) },
+          record {
+            once = before.once;
+            all = λ q m. before.all q (all q m.0, m.1);
+            only = λ q m. (only q (before.only q m).0, (before.only q m).1);
+          },
           omega (arith, length-take (j % length ps) (around s ps), around_length),
         );
       }

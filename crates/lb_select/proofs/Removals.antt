@@ -1,5 +1,6 @@
 -- The laws of consistent hashing, by the definitions alone.
-use Rattle.std.proofs.Common.{◌≡◌, ◌≢◌, ℕ, zero, suc, ◌*◌, ◌%◌, ◌^◌, ◌<◌, ◌≤◌, inl, inr, ◌↔◌, Bool, true, false, List, [], ◌∷◌, ◌++◌, length, map, refl, sym, ap, subst, ◌∙◌, arith}
+use Rattle.std.proofs.Common.{◌≡◌, ◌≢◌, ℕ, zero, suc, ◌*◌, ◌%◌, ◌^◌, ◌<◌, ◌≤◌, inl, inr, ◌↔◌, Bool, true, false, List, [], ◌∷◌, ◌++◌}
+use Rattle.std.proofs.Common.{length, map, refl, sym, ap, subst, ◌∙◌, arith}
 use Rattle.std.specs.Prelude.{Some, slice_get}
 use Rattle.std.specs.List.{Contains, range_with_len}
 use Rattle.std.proofs.Math.Nat.{mod-eq_of_lt}
@@ -9,7 +10,8 @@ use Rattle.lb_select.specs.Chains.{hashed_text}
 use Rattle.lb_select.specs.Choices.{is_internet, points_per_weight, HasPoint, IsChoice}
 use Rattle.lb_select.specs.Circle.{clockwise, IsExactly, IsPoint, IsOwner, IsNearer, IsPointOf}
 use Rattle.lb_select.specs.Crc.{crc}
-use Rattle.lb_select.specs.Removal.{ChainLaw, IsChain, HasDistinctAddresses, IsKeyChoice, IsWithout, StoodBefore, RemovalLaw, AdditionLaw, RaisingLaw, OneCandidateLaw, CoverageLaw}
+use Rattle.lb_select.specs.Removal.{ChainLaw, IsChain, HasDistinctAddresses, IsKeyChoice, IsWithout, StoodBefore, RemovalLaw, AdditionLaw}
+use Rattle.lb_select.specs.Removal.{RaisingLaw, OneCandidateLaw, CoverageLaw}
 use Rattle.lb_select.proofs.Lists.{here, there, head_or_rest, nothing_in_none, less_tells}
 use Rattle.lb_select.proofs.Chaining.{chain_small}
 use Rattle.lb_select.proofs.Counting.{no_more, once_each, those_below, distinct_cons, distinct_none}
@@ -30,7 +32,8 @@ all_points chain [] = []
 all_points chain (m ∷ ms) = points_of chain m (is_internet m.address) ++ all_points chain ms
 
 -- a point by a backend that another set has too
-in_other : (chain : Address → ℕ → ℕ) (ms ns : List Member) (p : ℕ) (a : Address) (h : HasPoint chain ms p a) → Contains ns h.member → HasPoint chain ns p a
+in_other : (chain : Address → ℕ → ℕ) (ms ns : List Member) (p : ℕ) (a : Address) (h : HasPoint chain ms p a) → Contains ns h.member
+    → HasPoint chain ns p a
 in_other chain ms ns p a h c = record {
   member = h.member;
   among = c;
@@ -48,17 +51,22 @@ point_in chain (x ∷ ms) p a h =
       | inl e ↦ (
           let address : x.address ≡ a = ap (λ (z : Member). z.address) e ∙ h.address_is in
           let internet : is_internet x.address ≡ true = ap is_internet address ∙ h.internet in
-          let within : h.number < points_per_weight * x.weight = subst (λ (z : Member). h.number < points_per_weight * z.weight) (sym e) h.within in
+          let within : h.number < points_per_weight * x.weight = subst (λ (z : Member). h.number < points_per_weight * z.weight)
+          (sym e) h.within in
           let point : chain x.address h.number ≡ p = ap (λ z. chain z h.number) address ∙ h.point_is in
           let c : Contains (points_of chain x true) (chain x.address h.number) =
-          in_map (chain x.address) (range_with_len 0 (points_per_weight * x.weight)) h.number (to_range (points_per_weight * x.weight) h.number within) in
+          in_map (chain x.address) (range_with_len 0 (points_per_weight * x.weight)) h.number
+          (to_range (points_per_weight * x.weight) h.number within) in
           let P : Bool → Type 0 = λ b. Contains (points_of chain x b) p in
           let Q : ℕ → Type 0 = λ z. Contains (points_of chain x true) z in
-          Contains-append_left (points_of chain x (is_internet x.address)) (all_points chain ms) p (subst P (sym internet) (subst Q point c)))
-      | inr t ↦ Contains-append_right (points_of chain x (is_internet x.address)) (all_points chain ms) p (point_in chain ms p a (in_other chain (x ∷ ms) ms p a h t))
+          Contains-append_left (points_of chain x (is_internet x.address)) (all_points chain ms) p
+          (subst P (sym internet) (subst Q point c)))
+      | inr t ↦ Contains-append_right (points_of chain x (is_internet x.address)) (all_points chain ms) p
+          (point_in chain ms p a (in_other chain (x ∷ ms) ms p a h t))
     ]
 
-point_of_one : (chain : Address → ℕ → ℕ) (x : Member) (ms : List Member) (p : ℕ) (b : Bool) → is_internet x.address ≡ b → Contains (points_of chain x b) p
+point_of_one : (chain : Address → ℕ → ℕ) (x : Member) (ms : List Member) (p : ℕ) (b : Bool) → is_internet x.address ≡ b
+    → Contains (points_of chain x b) p
     → HasPoint chain (x ∷ ms) p x.address
 point_of_one chain x ms p true e m =
     let w = of_map (chain x.address) (range_with_len 0 (points_per_weight * x.weight)) p m in
@@ -102,12 +110,16 @@ same_way : (place p q : ℕ) → place < 2 ^ 32 → p < 2 ^ 32 → q < 2 ^ 32 �
 same_way place p q l m n e =
     elim (less_tells p place) [
       | inl a ↦ elim (less_tells q place) [
-        | inl b ↦ (let f = sym (clockwise_round place p a.1 l) ∙ e ∙ clockwise_round place q b.1 l in let u : p < place = a.1 in let v : q < place = b.1 in let g : p ≡ q = omega arith in g)
-        | inr b ↦ (let f = sym (clockwise_round place p a.1 l) ∙ e ∙ clockwise_up place q b.1 n in let u : p < place = a.1 in let v : place ≤ q = b.1 in let g : p ≡ q = omega arith in g)
+        | inl b ↦ (let f = sym (clockwise_round place p a.1 l) ∙ e ∙ clockwise_round place q b.1 l in let u : p < place = a.1
+            in let v : q < place = b.1 in let g : p ≡ q = omega arith in g)
+        | inr b ↦ (let f = sym (clockwise_round place p a.1 l) ∙ e ∙ clockwise_up place q b.1 n in let u : p < place = a.1
+            in let v : place ≤ q = b.1 in let g : p ≡ q = omega arith in g)
       ]
       | inr a ↦ elim (less_tells q place) [
-        | inl b ↦ (let f = sym (clockwise_up place p a.1 m) ∙ e ∙ clockwise_round place q b.1 l in let u : place ≤ p = a.1 in let v : q < place = b.1 in let g : p ≡ q = omega arith in g)
-        | inr b ↦ (let f = sym (clockwise_up place p a.1 m) ∙ e ∙ clockwise_up place q b.1 n in let u : place ≤ p = a.1 in let v : place ≤ q = b.1 in let g : p ≡ q = omega arith in g)
+        | inl b ↦ (let f = sym (clockwise_up place p a.1 m) ∙ e ∙ clockwise_round place q b.1 l in let u : place ≤ p = a.1
+            in let v : q < place = b.1 in let g : p ≡ q = omega arith in g)
+        | inr b ↦ (let f = sym (clockwise_up place p a.1 m) ∙ e ∙ clockwise_up place q b.1 n in let u : place ≤ p = a.1
+            in let v : place ≤ q = b.1 in let g : p ≡ q = omega arith in g)
       ]
     ]
 
@@ -117,11 +129,13 @@ module _ (chain : Address → ℕ → ℕ) (small : IsChain chain) where
 
   -- where two points have as many nearer points, they are one
   module _ (ms : List Member) (key : List ℕ) where
-    not_nearer : (p q r : ℕ) → IsPoint (HasPoint chain ms) p → IsExactly (IsNearer (HasPoint chain ms) (crc key) p) r → IsExactly (IsNearer (HasPoint chain ms) (crc key) q) r
+    not_nearer : (p q r : ℕ) → IsPoint (HasPoint chain ms) p → IsExactly (IsNearer (HasPoint chain ms) (crc key) p) r
+        → IsExactly (IsNearer (HasPoint chain ms) (crc key) q) r
         → clockwise (crc key) p < clockwise (crc key) q → ⊥
     not_nearer p q r is (xs, lx, ex) (ys, ly, ey) l =
         let apart : (y : ℕ) → Contains xs y → p ≢ y = λ y m e.
-        (let n : clockwise (crc key) y < clockwise (crc key) p = (lx.only y m).1 in let same : clockwise (crc key) p ≡ clockwise (crc key) y = ap (clockwise (crc key)) e in absurd (omega arith)) in
+        (let n : clockwise (crc key) y < clockwise (crc key) p = (lx.only y m).1
+        in let same : clockwise (crc key) p ≡ clockwise (crc key) y = ap (clockwise (crc key)) e in absurd (omega arith)) in
         let inside : (z : ℕ) → Contains (p ∷ xs) z → Contains ys z = λ z m. elim (head_or_rest p xs z m) [
           | inl e ↦ (let P : ℕ → Type 0 = λ x. Contains ys x in subst P e (ly.all p (is, l)))
           | inr t ↦ (let n : clockwise (crc key) z < clockwise (crc key) p = (lx.only z t).1 in ly.all z ((lx.only z t).0, omega arith))
@@ -138,7 +152,8 @@ module _ (chain : Address → ℕ → ℕ) (small : IsChain chain) where
           | inl t ↦ absurd (not_nearer p q r a x y t.1)
           | inr t ↦ elim (less_tells (clockwise (crc key) q) (clockwise (crc key) p)) [
             | inl u ↦ absurd (not_nearer q p r b y x u.1)
-            | inr u ↦ (let v : clockwise (crc key) q ≤ clockwise (crc key) p = t.1 in let w : clockwise (crc key) p ≤ clockwise (crc key) q = u.1 in
+            | inr u ↦ (let v : clockwise (crc key) q ≤ clockwise (crc key) p = t.1
+                in let w : clockwise (crc key) p ≤ clockwise (crc key) q = u.1 in
                 let e : clockwise (crc key) p ≡ clockwise (crc key) q = omega arith in e)
           ]
         ])
@@ -152,7 +167,8 @@ module _ (chain : Address → ℕ → ℕ) (small : IsChain chain) where
     one_owner : (p : ℕ) (a b : Address) → IsOwner (HasPoint chain ms) p a → IsOwner (HasPoint chain ms) p b → a ≡ b
     one_owner p a b x y = neither_below a b (y.least a x.has_it) (x.least b y.has_it)
 
-    one_choice : (j : ℕ) (m n : Member) → IsChoice chain ms (crc key) j m → IsChoice chain ms (crc key) j n → (m.address ≡ n.address) × (m.weight ≡ n.weight)
+    one_choice : (j : ℕ) (m n : Member) → IsChoice chain ms (crc key) j m → IsChoice chain ms (crc key) j n → (m.address ≡ n.address)
+        × (m.weight ≡ n.weight)
     one_choice j m n x y =
         let has : ℕ → Address → Type 0 = HasPoint chain ms in
         let number : y.1.1.number ≡ x.1.1.number = one_number (IsPoint has) y.1.1.number x.1.1.number y.1.1.points x.1.1.points in
@@ -174,18 +190,21 @@ zero_mod (suc n) = mod-eq_of_lt (omega arith)
 
 -- two sets that agree but for one address, whose points in the one are among those in the other
 module _ (chain : Address → ℕ → ℕ) (small : IsChain chain) (a : Address) (more fewer : List Member)
-    (others : (m : Member) → m.address ≢ a → Contains fewer m ↔ Contains more m) (points : (p : ℕ) → HasPoint chain fewer p a → HasPoint chain more p a) where
+    (others : (m : Member) → m.address ≢ a → Contains fewer m ↔ Contains more m) (points : (p : ℕ) → HasPoint chain fewer p a
+    → HasPoint chain more p a) where
   in_fewer : (p : ℕ) (b : Address) → b ≢ a → HasPoint chain more p b → HasPoint chain fewer p b
   in_fewer p b differs h = in_other chain more fewer p b h ((others h.member (λ e. differs (sym h.address_is ∙ e))).1 h.among)
 
   in_more : (p : ℕ) (b : Address) → HasPoint chain fewer p b → HasPoint chain more p b
   in_more p b h =
       elim (same_or_not b a) [
-        | inl e ↦ subst (λ (z : Address). HasPoint chain more p z) (sym e) (points p (subst (λ (z : Address). HasPoint chain fewer p z) e h))
+        | inl e ↦ subst (λ (z : Address). HasPoint chain more p z) (sym e)
+            (points p (subst (λ (z : Address). HasPoint chain fewer p z) e h))
         | inr differs ↦ in_other chain fewer more p b h ((others h.member (λ e. differs (sym h.address_is ∙ e))).0 h.among)
       ]
 
-  none_nearer : (key : List ℕ) (p : ℕ) → IsPointOf (HasPoint chain more) (crc key) 0 p → (q : ℕ) → IsNearer (HasPoint chain more) (crc key) p q → ⊥
+  none_nearer : (key : List ℕ) (p : ℕ) → IsPointOf (HasPoint chain more) (crc key) 0 p → (q : ℕ)
+      → IsNearer (HasPoint chain more) (crc key) p q → ⊥
   none_nearer key p x q h =
       let c = x.nearer.1.all q h in
       let z : 0 % x.number ≡ 0 = zero_mod x.number in
@@ -223,7 +242,8 @@ module _ (chain : Address → ℕ → ℕ) (small : IsChain chain) (a : Address)
         },
       )
 
-  stood : HasDistinctAddresses fewer → (key : List ℕ) (m : Member) → IsKeyChoice chain more key m → m.address ≢ a → StoodBefore chain fewer key m
+  stood : HasDistinctAddresses fewer → (key : List ℕ) (m : Member) → IsKeyChoice chain more key m → m.address ≢ a
+      → StoodBefore chain fewer key m
   stood distinct key m h differs =
       let f : IsKeyChoice chain fewer key m = first_stays key m h differs in (
         f,
@@ -234,7 +254,8 @@ module _ (chain : Address → ℕ → ℕ) (small : IsChain chain) (a : Address)
       )
 
 -- a set without an address is such a set
-module _ (chain : Address → ℕ → ℕ) (small : IsChain chain) (ms fewer : List Member) (a : Address) (distinct : HasDistinctAddresses ms) (gone : IsWithout a ms fewer) where
+module _ (chain : Address → ℕ → ℕ) (small : IsChain chain) (ms fewer : List Member) (a : Address) (distinct : HasDistinctAddresses ms)
+    (gone : IsWithout a ms fewer) where
   removed : (key : List ℕ) (m : Member) → IsKeyChoice chain ms key m → m.address ≢ a → StoodBefore chain fewer key m
   removed = stood chain small a ms fewer
       (λ m d. ((λ c. ((gone m).0 c).0), (λ c. (gone m).1 (c, d))))
@@ -287,7 +308,8 @@ coverage_law chain small ms key cs walk (xs, lx, ex) p a o =
       refl,
     ) in
     let apart : (y : ℕ) → Contains w.0 y → p ≢ y = λ y m e.
-    (let n : clockwise (crc key) y < clockwise (crc key) p = (w.1.only y m).1 in let same : clockwise (crc key) p ≡ clockwise (crc key) y = ap (clockwise (crc key)) e in absurd (omega arith)) in
+    (let n : clockwise (crc key) y < clockwise (crc key) p = (w.1.only y m).1 in let same : clockwise (crc key) p ≡ clockwise (crc key) y =
+    ap (clockwise (crc key)) e in absurd (omega arith)) in
     let inside : (z : ℕ) → Contains (p ∷ w.0) z → Contains xs z = λ z m. elim (head_or_rest p w.0 z m) [
       | inl e ↦ (let P : ℕ → Type 0 = λ y. Contains xs y in subst P e (lx.all p is))
       | inr t ↦ (w.1.only z t).0
@@ -296,9 +318,14 @@ coverage_law chain small ms key cs walk (xs, lx, ex) p a o =
     let below : length w.0 < length cs = omega arith in
     let c = get_some cs (length w.0) below in
     let x = walk (length w.0) c.0 c.1 in
-    let number : x.1.1.number ≡ length cs = one_number chain small ms key (IsPoint has) x.1.1.number (length cs) x.1.1.points (xs, lx, ex) in
+    let number : x.1.1.number ≡ length cs = one_number chain small ms key (IsPoint has) x.1.1.number (length cs) x.1.1.points (
+      xs,
+      lx,
+      ex,
+    ) in
     let left : length w.0 % x.1.1.number ≡ length w.0 = ap (λ z. length w.0 % z) number ∙ mod-eq_of_lt below in
-    let nearer : IsExactly (IsNearer has (crc key) x.1.0) (length w.0) = subst (λ (z : ℕ). IsExactly (IsNearer has (crc key) x.1.0) z) left x.1.1.nearer in
+    let nearer : IsExactly (IsNearer has (crc key) x.1.0) (length w.0) = subst (λ (z : ℕ). IsExactly (IsNearer has (crc key) x.1.0) z) left
+    x.1.1.nearer in
     let point : x.1.0 ≡ p = one_point chain small ms key x.1.0 p (length w.0) x.1.1.point is nearer rank in
     let owner : x.0 ≡ a = one_owner chain small ms key p x.0 a (subst (λ (z : ℕ). IsOwner has z x.0) point x.1.2) o in
     (c.0, contains_at cs (length w.0) c.0 c.1, x.2.address_is ∙ owner)

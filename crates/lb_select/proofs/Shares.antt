@@ -1,6 +1,8 @@
 -- Exact shares and full coverage. Both count how many of consecutive words fall, modulo a number, into an interval.
-use Rattle.std.specs.Prelude.{◌≡◌, ℕ, zero, suc, ◌+◌, ◌-◌, ◌%◌, ◌<◌, ◌≤◌, Bool, true, false, ◌&&◌, List, [], ◌∷◌, length, take, Some, cond, Contains, count_by, refl}
-use Rattle.std.proofs.Common.{arith, sym, ap, subst, ◌∙◌, ◌⊎◌, inl, inr, ⊎_elim, leb, ltb, is_eq, Ordering, Less, mod-lt, mod-eq_of_lt, true≢false}
+use Rattle.std.specs.Prelude.{◌≡◌, ℕ, zero, suc, ◌+◌, ◌-◌, ◌%◌, ◌<◌, ◌≤◌, Bool, true, false, ◌&&◌, List, [], ◌∷◌, length, take, Some, cond}
+use Rattle.std.specs.Prelude.{Contains, count_by, refl}
+use Rattle.std.proofs.Common.{arith, sym, ap, subst, ◌∙◌, ◌⊎◌, inl, inr, ⊎_elim, leb, ltb, is_eq, Ordering, Less, mod-lt, mod-eq_of_lt}
+use Rattle.std.proofs.Common.{true≢false}
 use Rattle.std.proofs.Math.Nat.{add-mod_right}
 use Rattle.std.specs.List.{AllByRecursion as Each, AllZip, slice_get}
 use Rattle.std.specs.List.Sorted.{IsStrictlySortedBy}
@@ -145,7 +147,8 @@ pub contained : (ms : List Member) (m : Member) → Contains ms m → (i : ℕ) 
 contained ms m (i, within, e) = (i, slice_get-get_or ms i m within ∙ ap Some e)
 
 -- the interval of an index ends where the next begins
-interval_is : (ms : List Member) (i : ℕ) (m : Member) → slice_get ms i ≡ Some m → total_weight (take (i + 1) ms) ≡ total_weight (take i ms) + m.weight
+interval_is : (ms : List Member) (i : ℕ) (m : Member) → slice_get ms i ≡ Some m
+    → total_weight (take (i + 1) ms) ≡ total_weight (take i ms) + m.weight
 interval_is ms i m e =
     sum_by_more (λ c. c.weight) ms i m (slice_get_within ms i m e)
     ∙ ap (λ c. total_weight (take i ms) + c.weight) (get_or_from_slice_get ms i m m e)
@@ -312,7 +315,8 @@ all_are_visited ms sorted weighs w =
 
 -- a counter that does not wrap counts up
 pub consecutive :
-    {S : Type 0} (tickets : S → ℕ) (stream : S → Stream) (load_of : S → Member → ℕ) → TicketsAreConsecutive (CoreGives tickets stream load_of) tickets
+    {S : Type 0} (tickets : S → ℕ) (stream : S → Stream) (load_of : S → Member → ℕ)
+    → TicketsAreConsecutive (CoreGives tickets stream load_of) tickets
 consecutive tickets stream load_of s t [] drawn fits = refl
 consecutive tickets stream load_of s t (w ∷ []) (u, gave, rest) fits = ap (λ x. x ∷ []) gave.0
 consecutive tickets stream load_of s t (w ∷ v ∷ ws) (u, gave, rest) fits =

@@ -1,5 +1,6 @@
 -- Which backend of a set in order stands for its address.
-use Rattle.std.proofs.Common.{◌≡◌, ◌≢◌, ℕ, zero, suc, ◌+◌, ◌<◌, ◌≤◌, ◌⊎◌, inl, inr, Bool, true, false, cond, not, ◌==◌, IsTrue, List, [], ◌∷◌, length, get_or, refl, sym, ap, subst, ◌∙◌, arith}
+use Rattle.std.proofs.Common.{◌≡◌, ◌≢◌, ℕ, zero, suc, ◌+◌, ◌<◌, ◌≤◌, ◌⊎◌, inl, inr, Bool, true, false, cond, not, ◌==◌, IsTrue, List, []}
+use Rattle.std.proofs.Common.{◌∷◌, length, get_or, refl, sym, ap, subst, ◌∙◌, arith}
 use Rattle.std.specs.Prelude.{Some, slice_get}
 use Rattle.std.specs.List.{Contains}
 use Rattle.std.specs.List.Sorted.{IsStrictlySortedBy}
@@ -48,7 +49,8 @@ nat_less a b h =
     ]
 
 -- a member before another has a smaller address, or the same address and a smaller weight
-pub before_means : (x y : Member) → member_cmp x y ≡ Less → (address_cmp x.address y.address ≡ Less) ⊎ ((x.address ≡ y.address) × (x.weight < y.weight))
+pub before_means : (x y : Member) → member_cmp x y ≡ Less → (address_cmp x.address y.address ≡ Less)
+    ⊎ ((x.address ≡ y.address) × (x.weight < y.weight))
 before_means x y h =
     elim (then_less (address_cmp x.address y.address) (nat_cmp x.weight y.weight) h) [
       | inl l ↦ inl l
@@ -61,10 +63,12 @@ module _ (ms : List Member) (order : IsStrictlySortedBy member_cmp ms) where
       let k : j < length ms = get_inside ms j y q in
       let P : Member → Type 0 = λ z. member_cmp z y ≡ Less in
       let Q : Member → Type 0 = λ z. member_cmp (get_or ms i x) z ≡ Less in
-      subst P (get_or_from_slice_get ms i x x p) (subst Q (get_or_from_slice_get ms j y x q) (Less-from_sorted member_cmp ms i j x order l k))
+      subst P (get_or_from_slice_get ms i x x p)
+      (subst Q (get_or_from_slice_get ms j y x q) (Less-from_sorted member_cmp ms i j x order l k))
 
   -- members before this one of its address are lighter
-  lighter_before : (i : ℕ) (m : Member) → slice_get ms i ≡ Some m → (k : ℕ) (other : Member) → slice_get ms k ≡ Some other → other.address ≡ m.address
+  lighter_before : (i : ℕ) (m : Member) → slice_get ms i ≡ Some m → (k : ℕ) (other : Member) → slice_get ms k ≡ Some other
+      → other.address ≡ m.address
       → k ≤ i → other.weight ≤ m.weight
   lighter_before i m p k other q e l =
       elim (less_tells k i) [
@@ -96,24 +100,28 @@ module _ (ms : List Member) (order : IsStrictlySortedBy member_cmp ms) where
   no_later i m n p q differ k other r e l =
       let smaller : address_cmp m.address n.address ≡ Less = elim (before_means m n (in_order i (i + 1) m n p q (omega arith))) [
         | inl s ↦ s
-        | inr t ↦ (let P : Address → Type 0 = λ z. address_cmp m.address z ≡ Equal in absurd (differ (subst P t.0 (tied_itself address_total m.address))))
+        | inr t ↦ (let P : Address → Type 0 = λ z. address_cmp m.address z ≡ Equal
+            in absurd (differ (subst P t.0 (tied_itself address_total m.address))))
       ] in
       let greater : address_cmp n.address m.address ≡ Greater = turned_test m.address n.address smaller in
       elim (less_tells (i + 1) k) [
         | inl far ↦ elim (before_means n other (in_order (i + 1) k n other q r far.1)) [
-          | inl s ↦ (let P : Address → Type 0 = λ z. address_cmp n.address z ≡ Less in let wrong : address_cmp n.address m.address ≡ Less = subst P e s in absurd (cc))
+          | inl s ↦ (let P : Address → Type 0 = λ z. address_cmp n.address z ≡ Less in let wrong : address_cmp n.address m.address ≡ Less =
+              subst P e s in absurd (cc))
           | inr t ↦ (let same : n.address ≡ m.address = t.0 ∙ e in let P : Address → Type 0 = λ z. address_cmp m.address z ≡ Equal in
               absurd (differ (subst P (sym same) (tied_itself address_total m.address))))
         ]
         | inr near ↦ (let le : k ≤ i + 1 = near.1 in let at : k ≡ i + 1 = omega arith in
             let P : ℕ → Type 0 = λ x. slice_get ms x ≡ Some other in
             let one : other ≡ n = same_Some other n (sym (subst P at r) ∙ q) in
-            let same : n.address ≡ m.address = ap (λ (z : Member). z.address) (sym one) ∙ e in let Q : Address → Type 0 = λ z. address_cmp m.address z ≡ Equal in
+            let same : n.address ≡ m.address = ap (λ (z : Member). z.address) (sym one) ∙ e in let Q : Address
+            → Type 0 = λ z. address_cmp m.address z ≡ Equal in
             absurd (differ (subst Q (sym same) (tied_itself address_total m.address))))
       ]
 
   -- and so does one whose next has another address
-  pub stands_before : (i : ℕ) (m n : Member) → slice_get ms i ≡ Some m → slice_get ms (i + 1) ≡ Some n → address_cmp m.address n.address ≢ Equal
+  pub stands_before : (i : ℕ) (m n : Member) → slice_get ms i ≡ Some m → slice_get ms (i + 1) ≡ Some n
+      → address_cmp m.address n.address ≢ Equal
       → StandsFor ms m.address m
   stands_before i m n p q differ = record {
     among = contains_at ms i m p;
@@ -132,7 +140,8 @@ module _ (ms : List Member) (order : IsStrictlySortedBy member_cmp ms) where
   stands_not i m n p q s same =
       elim (before_means m n (in_order i (i + 1) m n p q (omega arith))) [
         | inl smaller ↦ absurd (cc)
-        | inr lighter ↦ (let h : n.weight ≤ m.weight = s.heaviest n (contains_at ms (i + 1) n q) (sym lighter.0) in let w : m.weight < n.weight = lighter.1 in absurd (omega arith))
+        | inr lighter ↦ (let h : n.weight ≤ m.weight = s.heaviest n (contains_at ms (i + 1) n q) (sym lighter.0)
+            in let w : m.weight < n.weight = lighter.1 in absurd (omega arith))
       ]
 
 differ_test : (o : Ordering) → (IsTrue (not (ordering_index o == 1)) → o ≢ Equal) × (o ≢ Equal → IsTrue (not (ordering_index o == 1)))
@@ -141,7 +150,8 @@ differ_test Equal = ((λ h e. absurd (cc)), (λ h. absurd (h refl)))
 differ_test Greater = ((λ h e. absurd (cc)), (λ h. refl))
 
 -- what the test of two neighbours says
-pub stands_test : (ms : List Member) → IsStrictlySortedBy member_cmp ms → (i : ℕ) (m n : Member) → slice_get ms i ≡ Some m → slice_get ms (i + 1) ≡ Some n
+pub stands_test : (ms : List Member) → IsStrictlySortedBy member_cmp ms → (i : ℕ) (m n : Member) → slice_get ms i ≡ Some m
+    → slice_get ms (i + 1) ≡ Some n
     → (o : Ordering) → o ≡ address_cmp m.address n.address → (b : Bool) → b ≡ not (ordering_index o == 1)
     → (IsTrue b → StandsFor ms m.address m) × (StandsFor ms m.address m → IsTrue b)
 stands_test ms order i m n p q o e b t = (

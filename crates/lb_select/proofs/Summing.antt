@@ -22,9 +22,15 @@ pub total_more : (ms : List Member) (m : Member) → total_weight (ms ++ m ∷ [
 total_more ms m = sum_by-append (λ (c : Member). c.weight) ms (m ∷ []) ∙ omega (arith, sum_by-cons (λ (c : Member). c.weight) m [])
 
 -- a beginning of a list weighs no more than the list
-pub part_weighs : (ms : List Member) (m : Member) (rest all : List Member) → ms ++ m ∷ rest ≡ all → total_weight ms + m.weight ≤ total_weight all
+pub part_weighs : (ms : List Member) (m : Member) (rest all : List Member) → ms ++ m ∷ rest ≡ all
+    → total_weight ms + m.weight ≤ total_weight all
 part_weighs ms m rest all whole =
-    omega (arith, ap total_weight whole, sum_by-append (λ (c : Member). c.weight) ms (m ∷ rest), sum_by-cons (λ (c : Member). c.weight) m rest)
+    omega (
+      arith,
+      ap total_weight whole,
+      sum_by-append (λ (c : Member). c.weight) ms (m ∷ rest),
+      sum_by-cons (λ (c : Member). c.weight) m rest,
+    )
 
 pub sums_none : AreSums [] []
 sums_none = record { long = refl; each = λ i h. absurd (omega arith) }

@@ -1,5 +1,6 @@
 -- A walk over a built selector gives the candidates of its key, one point after another.
-use Rattle.std.proofs.Common.{◌≡◌, ℕ, zero, suc, ◌+◌, ◌-◌, ◌*◌, ◌/◌, ◌%◌, ◌^◌, ◌<◌, ◌≤◌, inl, inr, nat_lt, cond, List, [], ◌∷◌, length, get_or, sym, ap, subst, ◌∙◌, arith, add-zero, zero-add}
+use Rattle.std.proofs.Common.{◌≡◌, ℕ, zero, suc, ◌+◌, ◌-◌, ◌*◌, ◌/◌, ◌%◌, ◌^◌, ◌<◌, ◌≤◌, inl, inr, nat_lt, cond, List, [], ◌∷◌, length}
+use Rattle.std.proofs.Common.{get_or, sym, ap, subst, ◌∙◌, arith, add-zero, zero-add}
 use Rattle.std.specs.Prelude.{Some, None, Option, slice_get, option_and_then, MatchOption}
 use Rattle.std.specs.Borrow.{Bor}
 use Rattle.std.specs.Option.{option_copied}
@@ -53,13 +54,15 @@ turned_later s r n h = elim (less_tells r (n - s)) [ inl t ↦ (let l : r < n - 
 next_inside : (n s r : ℕ) → s ≤ n → r + 1 < n → here_of n (turn_index s r n + 1) ≡ turn_index s (r + 1) n
 next_inside n s r w h =
     elim (less_tells (r + 1) (n - s)) [
-      | inl first ↦ (let l : r + 1 < n - s = first.1 in let k : r < n - s = omega arith in let i : s + r + 1 < n = omega arith in let e : s + r + 1 ≡ s + (r + 1) = omega arith in
+      | inl first ↦ (let l : r + 1 < n - s = first.1 in let k : r < n - s = omega arith in let i : s + r + 1 < n = omega arith
+          in let e : s + r + 1 ≡ s + (r + 1) = omega arith in
           rw (turned_first s r n k, turned_first s (r + 1) n l, here_inside n (s + r + 1) i) e)
       | inr later ↦ (let l : n - s ≤ r + 1 = later.1 in
           elim (less_tells r (n - s)) [
             | inl seam ↦ (let k : r < n - s = seam.1 in let i : n ≤ s + r + 1 = omega arith in let e : 0 ≡ r + 1 - (n - s) = omega arith in
                 rw (turned_first s r n k, turned_later s (r + 1) n l, here_past n (s + r + 1) i) e)
-            | inr after ↦ (let k : n - s ≤ r = after.1 in let i : r - (n - s) + 1 < n = omega arith in let e : r - (n - s) + 1 ≡ r + 1 - (n - s) = omega arith in
+            | inr after ↦ (let k : n - s ≤ r = after.1 in let i : r - (n - s) + 1 < n = omega arith
+                in let e : r - (n - s) + 1 ≡ r + 1 - (n - s) = omega arith in
                 rw (turned_later s r n k, turned_later s (r + 1) n l, here_inside n (r - (n - s) + 1) i) e)
           ])
     ]
@@ -67,7 +70,8 @@ next_inside n s r w h =
 next_round : (n s r : ℕ) → s ≤ n → 0 < n → r + 1 ≡ n → here_of n (turn_index s r n + 1) ≡ turn_index s 0 n
 next_round n s r w some h =
     elim (less_tells r (n - s)) [
-      | inl first ↦ (let k : r < n - s = first.1 in let i : n ≤ s + r + 1 = omega arith in let z : 0 < n - s = omega arith in let e : 0 ≡ s + 0 = omega arith in
+      | inl first ↦ (let k : r < n - s = first.1 in let i : n ≤ s + r + 1 = omega arith in let z : 0 < n - s = omega arith
+          in let e : 0 ≡ s + 0 = omega arith in
           rw (turned_first s r n k, here_past n (s + r + 1) i, turned_first s 0 n z) e)
       | inr later ↦ (let k : n - s ≤ r = later.1 in let at : r - (n - s) + 1 ≡ s = omega arith in
           elim (less_tells 0 (n - s)) [
@@ -90,14 +94,18 @@ first_turn : (n s : ℕ) → s ≤ n → 0 < n → here_of n s ≡ turn_index s 
 first_turn n s w some =
     let e : 0 % n ≡ 0 = mod-eq_of_lt some in
     elim (less_tells s n) [
-      | inl inside ↦ (let i : s < n = inside.1 in let z : 0 < n - s = omega arith in let f : s ≡ s + 0 = omega arith in rw (e, here_inside n s i, turned_first s 0 n z) f)
-      | inr past ↦ (let i : n ≤ s = past.1 in let z : n - s ≤ 0 = omega arith in let f : 0 ≡ 0 - (n - s) = omega arith in rw (e, here_past n s i, turned_later s 0 n z) f)
+      | inl inside ↦ (let i : s < n = inside.1 in let z : 0 < n - s = omega arith in let f : s ≡ s + 0 = omega arith
+          in rw (e, here_inside n s i, turned_first s 0 n z) f)
+      | inr past ↦ (let i : n ≤ s = past.1 in let z : n - s ≤ 0 = omega arith in let f : 0 ≡ 0 - (n - s) = omega arith
+          in rw (e, here_past n s i, turned_later s 0 n z) f)
     ]
 
-module _ (r : Placed) (place : IsPlaced r.members r.owners r.points) (key : List ℕ) (low : crc key < 2 ^ 32) (s : ℕ) (within : s ≤ length r.points)
+module _ (r : Placed) (place : IsPlaced r.members r.owners r.points) (key : List ℕ) (low : crc key < 2 ^ 32) (s : ℕ)
+    (within : s ≤ length r.points)
     (split : SplitsAt (crc key) r.points s) where
   -- the backend at the turn of a candidate is the candidate
-  candidate_here : (i : ℕ) (c : Member) (at : ℕ) → index_here r at ≡ turn_index s (i % length r.points) (length r.points) → member_here r at ≡ Some c
+  candidate_here : (i : ℕ) (c : Member) (at : ℕ) → index_here r at ≡ turn_index s (i % length r.points) (length r.points)
+      → member_here r at ≡ Some c
       → IsRingCandidate r.members key i c
   candidate_here i c at e h =
       let parts = and_then_parts (λ (p : ℕ × ℕ). member_at r.members r.owners p.1) (slice_get r.points (index_here r at)) c h in
@@ -109,7 +117,8 @@ module _ (r : Placed) (place : IsPlaced r.members r.owners r.points) (key : List
       let same : y.0 ≡ c = same_Some y.0 c (sym y.1 ∙ parts.2) in
       let has : ℕ → Address → Type 0 = HasPoint crc_chain r.members in
       let found : IsPointOf has (crc key) i (get_or r.points (turn_index s (i % length r.points) (length r.points)) entry).0 =
-      candidate_at r.points place.order (crc key) low s within split entry has (λ q p. place.whole q p) (λ f m. let z = place.yields f m in (z.0.address, z.2.has_it)) some i in
+      candidate_at r.points place.order (crc key) low s within split entry has (λ q p. place.whole q p) (λ f m. let z = place.yields f m
+      in (z.0.address, z.2.has_it)) some i in
       let one : get_or r.points (turn_index s (i % length r.points) (length r.points)) entry ≡ entry =
       ap (λ k. get_or r.points k entry) (sym e) ∙ get_or_from_slice_get r.points (index_here r at) entry entry parts.1 in
       let P : ℕ × ℕ → Type 0 = λ f. IsPointOf has (crc key) i f.0 in
@@ -117,7 +126,8 @@ module _ (r : Placed) (place : IsPlaced r.members r.owners r.points) (key : List
       subst Q same (y.0.address, (entry.0, subst P one found, y.2), y.3)
 
   -- so is each one from there on
-  candidates_from : (cs : List Member) (at t : ℕ) → index_here r at ≡ turn_index s (t % length r.points) (length r.points) → YieldsFrom r at cs
+  candidates_from : (cs : List Member) (at t : ℕ) → index_here r at ≡ turn_index s (t % length r.points) (length r.points)
+      → YieldsFrom r at cs
       → (i : ℕ) (c : Member) → slice_get cs i ≡ Some c → IsRingCandidate r.members key (t + i) c
   candidates_from [] at t e y i c h = absurd (cc)
   candidates_from (d ∷ cs) at t e y zero c h =
@@ -134,7 +144,8 @@ module _ (r : Placed) (place : IsPlaced r.members r.owners r.points) (key : List
       let Q : ℕ → Type 0 = λ z. IsRingCandidate r.members key z c in
       subst Q f (candidates_from cs (index_here r at + 1) (t + 1) next y.1 i c h)
 
-  candidates_of : (cs : List Member) → YieldsFrom r s cs → (i : ℕ) (c : Member) → slice_get cs i ≡ Some c → IsRingCandidate r.members key i c
+  candidates_of : (cs : List Member) → YieldsFrom r s cs → (i : ℕ) (c : Member) → slice_get cs i ≡ Some c
+      → IsRingCandidate r.members key i c
   candidates_of [] y i c h = absurd (cc)
   candidates_of (d ∷ cs) y i c h =
       let parts = and_then_parts (λ (p : ℕ × ℕ). member_at r.members r.owners p.1) (slice_get r.points (index_here r s)) d y.0 in
@@ -162,13 +173,15 @@ got xs i None h b e = let l : i < length xs = get_inside xs i b e in let m : len
 got xs i (Some x) h b e = ap Some (h.1 ∙ get_or_from_slice_get xs i b x.now e)
 
 -- the owner of a point has a backend
-pub owner_here : (r : Placed) → IsPlaced r.members r.owners r.points → (at index : ℕ) → index ≡ index_here r at → (e : ℕ × ℕ) → slice_get r.points index ≡ Some e
+pub owner_here : (r : Placed) → IsPlaced r.members r.owners r.points → (at index : ℕ) → index ≡ index_here r at → (e : ℕ × ℕ)
+    → slice_get r.points index ≡ Some e
     → (o : Option (Bor ℕ)) → IsGetResult r.owners e.1 e.1 o → (given : Option ℕ) → given ≡ option_copied o
     → MatchOption given (r.points ≡ []) (λ i. (m : Member) × (slice_get r.members i ≡ Some m) × (member_here r at ≡ Some m))
 owner_here r place at index i e h o g given c =
     let y = place.yields e (contains_at r.points index e h) in
     let parts = and_then_parts (slice_get r.members) (slice_get r.owners e.1) y.0 y.1 in
     let f : ℕ × ℕ → Option Member = λ p. member_at r.members r.owners p.1 in
-    let P : Option ℕ → Type 0 = λ z. MatchOption z (r.points ≡ []) (λ i. (m : Member) × (slice_get r.members i ≡ Some m) × (member_here r at ≡ Some m)) in
+    let P : Option ℕ → Type 0 = λ z. MatchOption z (r.points ≡ []) (λ i. (m : Member) × (slice_get r.members i ≡ Some m)
+    × (member_here r at ≡ Some m)) in
     subst P (sym (c ∙ got r.owners e.1 o g parts.0 parts.1))
     (y.0, parts.2, ap (λ k. option_and_then f (slice_get r.points k)) (sym i) ∙ ap (option_and_then f) h ∙ y.1)

@@ -1,6 +1,7 @@
 -- Weighted candidates by index: the entry of the expanded list is the first choice, and on a sorted list the rank of a
 -- backend is its index.
-use Rattle.std.specs.Prelude.{◌≡◌, ℕ, zero, suc, ◌+◌, ◌%◌, ◌<◌, Bool, true, false, List, [], ◌∷◌, ◌++◌, length, get_or, Some, cond, count_by, refl}
+use Rattle.std.specs.Prelude.{◌≡◌, ℕ, zero, suc, ◌+◌, ◌%◌, ◌<◌, Bool, true, false, List, [], ◌∷◌, ◌++◌, length, get_or, Some, cond}
+use Rattle.std.specs.Prelude.{count_by, refl}
 use Rattle.std.proofs.Common.{arith, rules, ap, subst, ◌∙◌, w64, is_lt, Ordering, Less}
 use Rattle.std.specs.Int.{to_le_bytes}
 use Rattle.std.specs.List.{AllByRecursion as Each, slice_get}

@@ -43,7 +43,7 @@ static TABLE: [u32; 256] = [
     0xb3667a2e, 0xc4614ab8, 0x5d681b02, 0x2a6f2b94, 0xb40bbe37, 0xc30c8ea1, 0x5a05df1b, 0x2d02ef8d,
 ];
 
-// The same of sixteen, of 24 and of 32 zero bits.
+// The same of 16, of 24 and of 32 zero bits.
 static TABLE_16: [u32; 256] = [
     0x00000000, 0x191b3141, 0x32366282, 0x2b2d53c3, 0x646cc504, 0x7d77f445, 0x565aa786, 0x4f4196c7,
     0xc8d98a08, 0xd1c2bb49, 0xfaefe88a, 0xe3f4d9cb, 0xacb54f0c, 0xb5ae7e4d, 0x9e832d8e, 0x87981ccf,
@@ -185,7 +185,7 @@ pub(crate) fn crc_of_state(state: u32) -> u32
     state ^ START
 }
 
-/// The CRC-32 of some bytes, as IEEE 802.3 has it.
+/// Returns the CRC-32 of some bytes, as IEEE 802.3 has it.
 pub fn crc32(bytes: &[u8]) -> u32
     ensures { result ≡ crc bytes.now }
 {

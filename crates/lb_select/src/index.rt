@@ -52,7 +52,7 @@ fn start_from(entries: &[(u32, u32)], at: usize, shift: u32, bucket: usize) -> u
 }
 
 impl Index {
-    /// The index of points in order.
+    /// Returns the index of points in order.
     pub(crate) fn of(alloc: Global, entries: &[(u32, u32)]) -> Result<Index, AllocError>
         requires { IsInOrder entries.now }
         ensures { IfOk result (λ r. IsIndexOf entries.now r.shift r.starts.items) }
@@ -68,7 +68,7 @@ impl Index {
         Ok(Index { starts, shift })
     }
 
-    /// How many points are below a place.
+    /// Returns how many points are below a place.
     pub(crate) fn first_from(&self, entries: &[(u32, u32)], place: u32) -> usize
         requires order { IsInOrder entries.now }
         requires index { IsIndexOf entries.now self.now.shift self.now.starts.items }

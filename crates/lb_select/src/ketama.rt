@@ -128,8 +128,9 @@ impl KetamaHashing {
         self.backends.get(index?)
     }
 
-    /// Returns the index in the set's order of the backend at the next point, for a walk of several kinds; `None` on a ring without
-    /// points.
+    /// Returns the index, in the set's order, of the backend at the next point, or `None` on a ring without points.
+    ///
+    /// It is for a walk of several kinds.
     pub fn advance(&self, walk: &mut RingWalk) -> Option<usize>
         ensures inside { MatchOption result (self.now.points ≡ []) (λ i. i < length self.now.members) }
         ensures step { IsMove self.now walk.old.at (option_and_then (slice_get self.now.members) result) walk.new.at }

@@ -139,7 +139,9 @@ impl LeastConnections {
         self.backends.get(index?)
     }
 
-    /// Returns the index of the next candidate in the set's order, for a walk of several kinds; `None` after the last.
+    /// Returns the index of the next candidate in the set's order, or `None` after the last.
+    ///
+    /// It is for a walk of several kinds.
     pub fn advance(&self, walk: &mut LeastWalk) -> Option<usize>
         requires { IsInside self.now walk.old.order.items }
         ensures inside { MatchOption result (length walk.old.order.items ≤ walk.old.at) (λ i. i < length self.now) }

@@ -1,5 +1,5 @@
-//! Selectors: by weight, by load, and consistent by a Ketama ring, with the laws of their shares and of removal.
-//! It passes on `lb_select_base`: backends, words, the traits of selection, the unique walk, and `select`.
+//! Selectors: by weight, by load, and consistent by a Ketama ring, with the laws of their shares and of removal. It re-exports
+//! `lb_select_base`: backends, words, the traits of selection, the unique walk, and `select`.
 #![tactic(auto)]
 
 mod chain;

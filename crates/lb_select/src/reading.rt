@@ -1,5 +1,4 @@
-//! What a walk by least connections reads of a backend.
-//! It stands apart from the selector, whose contracts name it.
+//! What a walk by least connections reads of a backend. It is a module of its own, since the selector's contracts name it.
 ghost use Rattle.std.specs.Prelude.{◌<◌};
 
 /// A backend of weight above 0, by its index in the set's order, and the load that was read for it.

@@ -30,8 +30,9 @@ impl Model for Ring {
 }
 
 impl Ring {
-    /// Returns the ring of these points. Of equal points the one of the least address stays. It is sorted where it lies, so that no
-    /// memory is taken and nothing is refused.
+    /// Returns the ring of these points. Of equal points the one of the least address stays.
+    ///
+    /// It is sorted in place, so that no memory is taken and nothing is refused.
     pub fn of_points(points: Vec<(u32, SocketAddr)>) -> Result<Ring, Refusal>
         ensures { IsOkAnd result (λ r. IsRingOf (points_seen points.items) r) }
     {
@@ -41,8 +42,9 @@ impl Ring {
         Ok(Ring { points })
     }
 
-    /// Returns the owner of candidate `j` from `place`: of the point that has exactly `j` modulo the number of points others nearer
-    /// to the place, clockwise. `None` where there is no point.
+    /// Returns the owner of candidate `j` from `place`, or `None` where there is no point.
+    ///
+    /// It owns the point that has exactly `j`, modulo the number of points, others nearer to the place, clockwise.
     pub fn owner(&self, place: u32, j: u64) -> Option<&SocketAddr>
         ensures { MatchOption result (self.now ≡ []) (λ a. IsRingOwner (Given self.now) place j (address_seen a.now)) }
     {

@@ -1,5 +1,5 @@
-//! What the definitions of consistent hashing promise by themselves. Each function here is a law: it does nothing, and its
-//! contract holds of every set of backends and every key.
+//! Laws of consistent hashing, over its definitions alone. Each function here does nothing at run time, and its contract holds for every
+//! set of backends and every key.
 ghost use Rattle.std.specs.Prelude.{◌≡◌, codes};
 ghost use Rattle.lb_select.specs.Crc.{crc};
 ghost use Rattle.lb_select.specs.Rings.{RingLaw};
@@ -10,7 +10,7 @@ pub fn check_value_law()
     ensures { crc (codes "123456789") ≡ 0xcbf43926 }
 {}
 
-/// Whom a ring of points tells as the owner of a candidate is the owner by the points that the ring was made of.
+/// The owner of a candidate that a ring of points returns is the owner by the points that the ring was made of.
 pub fn ring_law()
     ensures { RingLaw }
 {}
@@ -20,17 +20,17 @@ pub fn chain_law()
     ensures { ChainLaw }
 {}
 
-/// To remove an address changes no first choice that had another address.
+/// Removing an address changes no first choice that had another address.
 pub fn removal_law()
     ensures { RemovalLaw }
 {}
 
-/// To add an address changes first choices to that address alone.
+/// Adding an address changes first choices to that address alone.
 pub fn addition_law()
     ensures { AdditionLaw }
 {}
 
-/// To raise the weight of a backend changes first choices to its address alone.
+/// Raising the weight of a backend changes first choices to its address alone.
 pub fn raising_law()
     ensures { RaisingLaw }
 {}

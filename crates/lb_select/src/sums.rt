@@ -21,7 +21,7 @@ impl Model for Sums {
 }
 
 impl Sums {
-    /// Returns no sums, with room for so many.
+    /// Returns an empty list of sums, with room for so many.
     pub(crate) fn with_capacity(alloc: Global, count: usize) -> Result<Sums, AllocError>
         ensures { IfOk result (λ s. s ≡ []) }
     {
@@ -73,7 +73,7 @@ pub(crate) trait ReadSums {
         ensures counted { reads self.new ≡ reads self.old + 1 };
 }
 
-/// What reads sums, and counts how often it read one.
+/// Reads sums, and counts how often it read one.
 #[derive(Drop)]
 pub(crate) struct SumReader<'a> {
     sums: &'a [u64],
@@ -100,8 +100,8 @@ impl<'a> ReadSums for SumReader<'a> {
     }
 }
 
-// The half where its last sum is not above the place, else 0. The difference borrows where it is, and the borrow is the mask:
-// a branch would be foretold wrongly at every second read.
+// The half where its last sum is not above the place, else 0. The difference borrows where it is, and the borrow is the mask: a branch
+// would be predicted wrongly at every second read.
 fn half_past(half: usize, sum: u64, place: u64) -> usize
     ensures past { sum ≤ place → result ≡ half }
     ensures before { place < sum → result ≡ 0 }
@@ -110,8 +110,9 @@ fn half_past(half: usize, sum: u64, place: u64) -> usize
     half & !(borrow as usize)
 }
 
-/// Returns the index of the first sum above a place, found by halves. Each read halves what is left, so the number of reads is that
-/// of the binary digits of the last index, whatever the place.
+/// Returns the index of the first sum above a place, found by halves.
+///
+/// Each read halves what is left, so the number of reads is that of the binary digits of the last index, whatever the place.
 pub(crate) fn index_of_place<R: ReadSums>(reader: &mut R, count: usize, place: u64) -> usize
     requires count { length (R.sums reader.old) ≡ count }
     requires rising { NeverFalls (R.sums reader.old) }

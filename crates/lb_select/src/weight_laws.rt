@@ -1,5 +1,5 @@
-//! What weights come to over a whole turn of words, and loads over a whole walk: laws over the definitions alone.
-//! Each is a function that does nothing; its contract is the law.
+//! Laws of weights over a whole turn of words, and of loads over a whole walk, over the definitions alone. Each function does nothing at
+//! run time; its contract is the law.
 ghost use Rattle.lb_select.specs.LeastLoads.{LeastVisitsAll};
 ghost use Rattle.lb_select.specs.Shares.{WeightsAreExact, AllAreVisited, TicketsAreConsecutive, WalksAreDetermined};
 
@@ -14,8 +14,8 @@ pub fn weights_are_exact()
     ensures { WeightsAreExact }
 {}
 
-/// The first choice of a word, and the fallbacks of as many words after it as there are backends, are among them every
-/// backend of a set whose weights sum to more than 0.
+/// The first choice of a word, and the fallbacks of as many words after it as there are backends, include every backend of a set whose
+/// weights sum to more than 0.
 pub fn all_are_visited()
     ensures { AllAreVisited }
 {}

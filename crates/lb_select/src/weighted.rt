@@ -138,8 +138,10 @@ impl<H: SelectionAlgorithm> Weighted<H> {
         self.total
     }
 
-    /// Returns the index of the backend whose interval of partial sums holds a place below the total, and how many sums the search
-    /// read: as many as the last index has binary digits, whatever the place and the weights. Each read is by halves of what is left.
+    /// Returns the index of the backend whose interval of partial sums contains a place below the total, and how many sums the search
+    /// read.
+    ///
+    /// It reads as many as the last index has binary digits, whatever the place and the weights: each read is by halves of what is left.
     pub fn locate(&self, place: u64) -> Located
         requires { place < total_weight self.now }
         ensures index { HoldsPlace self.now place result.index }
@@ -187,7 +189,9 @@ impl<H: SelectionAlgorithm> Weighted<H> {
         word as usize % list.len()
     }
 
-    /// Returns the index of the next candidate in the set's order, for a walk of several kinds; `None` where no backend has a weight.
+    /// Returns the index of the next candidate in the set's order, or `None` where no backend has a weight.
+    ///
+    /// It is for a walk of several kinds.
     pub fn advance<W: WordSource>(&self, walk: &mut WeightedWalk, words: &mut W) -> Option<usize>
         ensures inside { MatchOption result (total_weight self.now ≡ 0) (λ i. i < length self.now) }
         ensures step { IsStep W.gives (λ w. IsWeightedRest H.gives_word w.first self.now w.word)

@@ -1,5 +1,6 @@
 -- The text of an address spells that address.
-use Rattle.std.proofs.Common.{◌≡◌, ℕ, zero, suc, ◌+◌, ◌*◌, ◌/◌, ◌^◌, ◌<◌, List, [], ◌∷◌, ◌++◌, length, get_or, codes, decimal, Some, None, refl, sym, ap, ◌∙◌, inl, arith, lit≤, append_assoc, lt-ltb}
+use Rattle.std.proofs.Common.{◌≡◌, ℕ, zero, suc, ◌+◌, ◌*◌, ◌/◌, ◌^◌, ◌<◌, List, [], ◌∷◌, ◌++◌, length, get_or, codes, decimal, Some, None}
+use Rattle.std.proofs.Common.{refl, sym, ap, ◌∙◌, inl, arith, lit≤, append_assoc, lt-ltb}
 use Rattle.std.specs.declared.net.socket_addr.SocketAddrV4.{SocketAddrV4}
 use Rattle.std.specs.declared.net.socket_addr.SocketAddrV6.{SocketAddrV6}
 use Rattle.std.specs.declared.net.socket_addr.SocketAddr.TheVariants.{V4, V6}
@@ -27,12 +28,24 @@ segments_fit (a ∷ b ∷ rest) fits k =
     let later = segments_fit rest (λ j. fits (suc (suc j))) in
     elim k as (λ j. get_or ((a * 256 + b) ∷ segments_of rest) j 0 < 2 ^ 16) [ zero ↦ omega (arith, fits 0, fits 1) | suc j ↦ later j ]
 
-pub ipv4_back : (octets : List ℕ) (port : ℕ) → length octets ≡ 4 → ((k : ℕ) → get_or octets k 0 < 2 ^ 8) → port < 2 ^ 16 → internet_of_text (address_text (ipv4 octets port)) ≡ Some (ipv4 octets port)
+pub ipv4_back : (octets : List ℕ) (port : ℕ) → length octets ≡ 4 → ((k : ℕ) → get_or octets k 0 < 2 ^ 8) → port < 2 ^ 16
+    → internet_of_text (address_text (ipv4 octets port)) ≡ Some (ipv4 octets port)
 ipv4_back octets port four fits small =
     let s : SocketAddrV4 = record { ip = record { octets = octets }; port = port } in
-    internet_spelled _ _ (V4 s, (ipv4_text octets, 58 ∷ decimal port, append_assoc (ipv4_text octets) (58 ∷ []) (decimal port), IsDotted-ipv4_text octets four fits, IsPortText-decimal port small), refl)
+    internet_spelled _ _ (
+      V4 s,
+      (
+        ipv4_text octets,
+        58 ∷ decimal port,
+        append_assoc (ipv4_text octets) (58 ∷ []) (decimal port),
+        IsDotted-ipv4_text octets four fits,
+        IsPortText-decimal port small,
+      ),
+      refl,
+    )
 
-pub ipv6_back : (octets : List ℕ) (port : ℕ) → length octets ≡ 16 → ((k : ℕ) → get_or octets k 0 < 2 ^ 8) → port < 2 ^ 16 → internet_of_text (address_text (ipv6 octets port)) ≡ Some (ipv6 octets port)
+pub ipv6_back : (octets : List ℕ) (port : ℕ) → length octets ≡ 16 → ((k : ℕ) → get_or octets k 0 < 2 ^ 8) → port < 2 ^ 16
+    → internet_of_text (address_text (ipv6 octets port)) ≡ Some (ipv6 octets port)
 ipv6_back octets port sixteen fits small =
     let s : SocketAddrV6 = record { ip = record { segments = segments_of octets }; port = port; flowinfo = 0; scope_id = 0 } in
     internet_spelled _ _ (

@@ -1,5 +1,7 @@
 -- What std's parser makes of a text is what `internet_of_text` finds in it.
-use Rattle.std.proofs.Common.{◌≡◌, ℕ, List, [], ◌∷◌, Option, Some, None, refl, sym, ◌∙◌, subst, length, arith, ne_eqb, append-nil, lit≤, option_map, ok_or, Result, Ok, Err, codes, get_or, ◌^◌, ◌<◌, lt-ltb, le-ltb, ap, ◌+◌, ◌*◌, ◌/◌, ◌%◌, suc, ◌++◌, false, inl}
+use Rattle.std.proofs.Common.{◌≡◌, ℕ, List, [], ◌∷◌, Option, Some, None, refl, sym, ◌∙◌, subst, length, arith, ne_eqb, append-nil, lit≤}
+use Rattle.std.proofs.Common.{option_map, ok_or, Result, Ok, Err, codes, get_or, ◌^◌, ◌<◌, lt-ltb, le-ltb, ap, ◌+◌, ◌*◌, ◌/◌, ◌%◌, suc}
+use Rattle.std.proofs.Common.{◌++◌, false, inl}
 use Rattle.std.specs.Result.{result_map_both}
 use Rattle.std.specs.declared.net.socket_addr.SocketAddrV4.{SocketAddrV4}
 use Rattle.std.specs.declared.net.socket_addr.SocketAddrV6.{SocketAddrV6}
@@ -14,7 +16,8 @@ use Rattle.std.proofs.lemmas.Option.{none-some, same_Some}
 use Rattle.std.proofs.NetLemmas.Ipv4.{read_ipv4_none}
 use Rattle.std.proofs.NetLemmas.Sockets.{read_socket_v4_complete, read_socket_v4_sound, read_socket_v6_complete, read_socket_v6_sound}
 use Rattle.lb_select_base.specs.Backends.{Address, ipv4, unix, Member}
-use Rattle.lb_select_base.specs.AddressText.{socket_seen, without_scope, internet_of_text, IsInternetText, path_of_text, address_of_text, bare_member, path_refusal, address_refusal}
+use Rattle.lb_select_base.specs.AddressText.{socket_seen, without_scope, internet_of_text, IsInternetText, path_of_text, address_of_text}
+use Rattle.lb_select_base.specs.AddressText.{bare_member, path_refusal, address_refusal}
 use Rattle.lb_select_base.specs.Refusals.{Refuses}
 use Rattle.lb_select_base.specs.declared.refusal.Refusal.{Refusal}
 use Rattle.lb_select_base.specs.declared.refusal.Refusal.TheVariants.{InvalidAddress}
@@ -52,19 +55,23 @@ whole_some None p e = absurd (cc)
 whole_some (Some (q, [])) p e = cc
 whole_some (Some (q, c ∷ rest)) p e = absurd (none-some p (rw (ne_eqb (length (c ∷ rest)) 0 (omega arith)) at e))
 
-v4_spelled : (text octets : List ℕ) (port : ℕ) → whole_value (read_socket_v4 text) ≡ Some (octets, port) → IsInternetText text (ipv4 octets port)
+v4_spelled : (text octets : List ℕ) (port : ℕ) → whole_value (read_socket_v4 text) ≡ Some (octets, port)
+    → IsInternetText text (ipv4 octets port)
 v4_spelled text octets port e =
     let s : SocketAddrV4 = record { ip = record { octets = octets }; port = port } in
     let (front, split, spells) = read_socket_v4_sound text [] s (whole_some _ _ e) in
     (V4 s, subst (λ t. IsSocketV4Text t s) (sym (split ∙ append-nil front)) spells, refl)
 
-v6_spelled : (text : List ℕ) (p : List ℕ × ℕ × ℕ × ℕ) (a : Address) → whole_value (read_socket_v6 text) ≡ Some p → without_scope p ≡ Some a → IsInternetText text a
+v6_spelled : (text : List ℕ) (p : List ℕ × ℕ × ℕ × ℕ) (a : Address) → whole_value (read_socket_v6 text) ≡ Some p → without_scope p ≡ Some a
+    → IsInternetText text a
 v6_spelled text p a e seen =
     let s : SocketAddrV6 = record { ip = record { segments = p.0 }; port = p.1; flowinfo = p.2; scope_id = p.3 } in
     let (front, split, spells) = read_socket_v6_sound text [] s (whole_some _ _ e) in
     (V6 s, subst (λ t. IsSocketV6Text t s) (sym (split ∙ append-nil front)) spells, seen)
 
-either_spelled : (text : List ℕ) (a : Address) (four : Option (List ℕ × ℕ)) (six : Option (List ℕ × ℕ × ℕ × ℕ)) → whole_value (read_socket_v4 text) ≡ four → whole_value (read_socket_v6 text) ≡ six → map_or four (map_or six None without_scope) (λ p. Some (ipv4 p.0 p.1)) ≡ Some a → IsInternetText text a
+either_spelled : (text : List ℕ) (a : Address) (four : Option (List ℕ × ℕ)) (six : Option (List ℕ × ℕ × ℕ × ℕ))
+    → whole_value (read_socket_v4 text) ≡ four → whole_value (read_socket_v6 text) ≡ six
+    → map_or four (map_or six None without_scope) (λ p. Some (ipv4 p.0 p.1)) ≡ Some a → IsInternetText text a
 either_spelled text a (Some p) six four_is six_is e = subst (IsInternetText text) (same_Some _ _ e) (v4_spelled text p.0 p.1 four_is)
 either_spelled text a None (Some p) four_is six_is e = v6_spelled text p a six_is e
 either_spelled text a None None four_is six_is e = absurd (none-some a e)
@@ -106,11 +113,13 @@ path_split : (text path : List ℕ) → StripsPrefix (FindsTextPrefix (codes "un
 path_split text path h = h.1.1 ∙ ap (λ t. codes "unix:" ++ t) (sym h.2)
 
 -- what follows `unix:` in a text
-pub path_named : (text path : List ℕ) → StripsPrefix (FindsTextPrefix (codes "unix:")) text path → 0 < length path → path_of_text text ≡ Some path
+pub path_named : (text path : List ℕ) → StripsPrefix (FindsTextPrefix (codes "unix:")) text path → 0 < length path
+    → path_of_text text ≡ Some path
 unfolding path_of_text
 path_named text path h some = rw (path_split text path h, lt-ltb 5 (length (codes "unix:" ++ path)) (omega arith))
 
-pub path_empty : (text path : List ℕ) → StripsPrefix (FindsTextPrefix (codes "unix:")) text path → length path ≡ 0 → path_of_text text ≡ None
+pub path_empty : (text path : List ℕ) → StripsPrefix (FindsTextPrefix (codes "unix:")) text path → length path ≡ 0
+    → path_of_text text ≡ None
 unfolding path_of_text
 path_empty text path h none = rw (path_split text path h, le-ltb 5 (length (codes "unix:" ++ path)) (omega arith))
 
@@ -119,15 +128,20 @@ unfolding path_of_text
 path_lacking text h = rw (← starts_text false (codes "unix:") text h)
 
 -- a backend at a path is refused for memory alone
-pub refuses_path : (text path : List ℕ) (weight : ℕ) (r : Result Member Refusal) → path_of_text text ≡ Some path → 0 < length path → Refuses (path_refusal path) (λ b. b ≡ bare_member weight (unix path)) r → Refuses (address_refusal (address_of_text text)) (λ b. option_map (bare_member weight) (address_of_text text) ≡ Some b) r
+pub refuses_path : (text path : List ℕ) (weight : ℕ) (r : Result Member Refusal) → path_of_text text ≡ Some path → 0 < length path
+    → Refuses (path_refusal path) (λ b. b ≡ bare_member weight (unix path)) r
+    → Refuses (address_refusal (address_of_text text)) (λ b. option_map (bare_member weight) (address_of_text text) ≡ Some b) r
 refuses_path text [] weight r e some h = absurd (omega arith)
 refuses_path text (c ∷ path) weight (Ok b) e some h = rw e (refl, ap Some (sym h.1))
 refuses_path text (c ∷ path) weight (Err d) e some h = rw e h
 
 -- a backend at an internet address is refused exactly where there is none
-at_internet : (weight : ℕ) (o : Option Address) (r : Result Member Refusal) → r ≡ ok_or (option_map (bare_member weight) o) InvalidAddress → Refuses (address_refusal o) (λ b. option_map (bare_member weight) o ≡ Some b) r
+at_internet : (weight : ℕ) (o : Option Address) (r : Result Member Refusal) → r ≡ ok_or (option_map (bare_member weight) o) InvalidAddress
+    → Refuses (address_refusal o) (λ b. option_map (bare_member weight) o ≡ Some b) r
 at_internet weight None r h = rw h (inl refl)
 at_internet weight (Some a) r h = rw h (refl, refl)
 
-pub refuses_internet : (text : List ℕ) (weight : ℕ) (r : Result Member Refusal) → path_of_text text ≡ None → r ≡ ok_or (option_map (bare_member weight) (internet_of_text text)) InvalidAddress → Refuses (address_refusal (address_of_text text)) (λ b. option_map (bare_member weight) (address_of_text text) ≡ Some b) r
+pub refuses_internet : (text : List ℕ) (weight : ℕ) (r : Result Member Refusal) → path_of_text text ≡ None
+    → r ≡ ok_or (option_map (bare_member weight) (internet_of_text text)) InvalidAddress
+    → Refuses (address_refusal (address_of_text text)) (λ b. option_map (bare_member weight) (address_of_text text) ≡ Some b) r
 refuses_internet text weight r e h = rw e (at_internet weight (internet_of_text text) r h)

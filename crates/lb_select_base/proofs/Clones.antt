@@ -20,7 +20,8 @@ bytes_alike (x ∷ xs) (y ∷ ys) h = let head : y ≡ x = h.0 in let tail : ys 
 -- entries that are clones are seen alike
 pub entries_alike :
     (xs ys : List Entry)
-    → AllZip (λ (p : Entry) (q : Entry). (string_bytes q.0 ≡ string_bytes p.0) × ((AllZip U8Clone.is_clone p.1.items q.1.items) × (vec_len q.1 ≡ vec_len p.1))) xs ys
+    → AllZip (λ (p : Entry) (q : Entry). (string_bytes q.0 ≡ string_bytes p.0)
+    × ((AllZip U8Clone.is_clone p.1.items q.1.items) × (vec_len q.1 ≡ vec_len p.1))) xs ys
     → entries_seen ys ≡ entries_seen xs
 entries_alike [] [] h = refl
 entries_alike [] (y ∷ ys) h = absurd h

@@ -1,5 +1,6 @@
 -- The earlier of three causes, however they are taken.
-use Rattle.std.proofs.Common.{◌≡◌, ℕ, suc, ◌+◌, ◌∙◌, ◌++◌, ◌⊎◌, inl, inr, sym, ap, List, [], ◌∷◌, map, drop, length, get_or, drop-cons, ◌<◌, ◌≤◌, nat_lt, cond, true, false, Bool, refl, Option, Some, None, arith}
+use Rattle.std.proofs.Common.{◌≡◌, ℕ, suc, ◌+◌, ◌∙◌, ◌++◌, ◌⊎◌, inl, inr, sym, ap, List, [], ◌∷◌, map, drop, length, get_or, drop-cons, ◌<◌}
+use Rattle.std.proofs.Common.{◌≤◌, nat_lt, cond, true, false, Bool, refl, Option, Some, None, arith}
 use Rattle.std.proofs.lemmas.Bool.Decides.{nat_tests}
 use Rattle.std.proofs.lemmas.List.{drop_all, map-append}
 use Rattle.lb_select_base.specs.declared.refusal.Refusal.{Refusal}
@@ -13,7 +14,8 @@ below : (a b c : ℕ) → nat_lt b a ≡ false → nat_lt c b ≡ false → nat_
 below a b c p q r = grind (arith, nat_tests)
 
 three : (e f h : Refusal) (p q r : Bool)
-    → nat_lt (refusal_number f) (refusal_number e) ≡ p → nat_lt (refusal_number h) (refusal_number f) ≡ q → nat_lt (refusal_number h) (refusal_number e) ≡ r
+    → nat_lt (refusal_number f) (refusal_number e) ≡ p → nat_lt (refusal_number h) (refusal_number f) ≡ q
+    → nat_lt (refusal_number h) (refusal_number e) ≡ r
     → earlier (cond p (Some f) (Some e)) (Some h) ≡ earlier (Some e) (cond q (Some h) (Some f))
 three e f h true true true i j k = rw (j, k) refl
 three e f h true true false i j k = absurd (above (refusal_number e) (refusal_number f) (refusal_number h) i j k)
@@ -31,7 +33,8 @@ earlier-assoc None b c = refl
 earlier-assoc (Some e) None c = refl
 earlier-assoc (Some e) (Some f) None = two e f (nat_lt (refusal_number f) (refusal_number e))
 earlier-assoc (Some e) (Some f) (Some h) =
-    three e f h (nat_lt (refusal_number f) (refusal_number e)) (nat_lt (refusal_number h) (refusal_number f)) (nat_lt (refusal_number h) (refusal_number e)) refl refl refl
+    three e f h (nat_lt (refusal_number f) (refusal_number e)) (nat_lt (refusal_number h) (refusal_number f))
+    (nat_lt (refusal_number h) (refusal_number e)) refl refl refl
 
 pub earlier-none : (a : Option Refusal) → earlier a None ≡ a
 earlier-none None = refl
@@ -50,14 +53,17 @@ module _ {A : Type 0} (f : A → Option Refusal) where
   one_more xs i x a b total h is of e =
       let rest = least (map f (drop (i + 1) xs)) in
       let next : suc i ≡ i + 1 = omega arith in
-      let split : drop i xs ≡ x ∷ drop (i + 1) xs = drop-cons xs i x h ∙ ap (λ (y : A). y ∷ drop (suc i) xs) (sym is) ∙ ap (λ (k : ℕ). x ∷ drop k xs) next in
-      earlier-assoc a b rest ∙ ap (λ (o : Option Refusal). earlier a (earlier o rest)) of ∙ sym (ap (λ (l : List A). earlier a (least (map f l))) split) ∙ e
+      let split : drop i xs ≡ x ∷ drop (i + 1) xs = drop-cons xs i x h ∙ ap (λ (y : A). y ∷ drop (suc i) xs) (sym is)
+      ∙ ap (λ (k : ℕ). x ∷ drop k xs) next in
+      earlier-assoc a b rest ∙ ap (λ (o : Option Refusal). earlier a (earlier o rest)) of
+      ∙ sym (ap (λ (l : List A). earlier a (least (map f l))) split) ∙ e
 
 -- one cause more, from the back
 pub least-push : (cs : List (Option Refusal)) (c : Option Refusal) → least (cs ++ c ∷ []) ≡ earlier (least cs) (memory_apart c)
 least-push [] c = earlier-none (memory_apart c)
 least-push (b ∷ cs) c =
-    ap (λ (o : Option Refusal). earlier (memory_apart b) o) (least-push cs c) ∙ sym (earlier-assoc (memory_apart b) (least cs) (memory_apart c))
+    ap (λ (o : Option Refusal). earlier (memory_apart b) o) (least-push cs c)
+    ∙ sym (earlier-assoc (memory_apart b) (least cs) (memory_apart c))
 
 module _ {A : Type 0} (f : A → Option Refusal) where
   -- one more was looked at, and it is refused: for this cause, or for memory

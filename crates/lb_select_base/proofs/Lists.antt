@@ -45,7 +45,10 @@ module _ {B : Type 0} (same : B → B → Bool) where
       = firsts-new (before ++ y ∷ []) ys x (rw append_assoc new) in
       let b = list_any (same y) before in
       let f = firsts same (before ++ y ∷ []) ys in
-      rw step (elim b as (λ v. (if v then f ++ x ∷ [] else y ∷ (f ++ x ∷ [])) ≡ (if v then f else y ∷ f) ++ x ∷ []) [ true ↦ refl | false ↦ refl ])
+      rw step (elim b as (λ v. (if v then f ++ x ∷ [] else y ∷ (f ++ x ∷ [])) ≡ (if v then f else y ∷ f) ++ x ∷ []) [
+        | true ↦ refl
+        | false ↦ refl
+      ])
 
   -- the same of the first occurrences of a whole list
   pub distinct-old : (xs : List B) (x : B) → list_any (same x) xs ≡ true → distinct same (xs ++ x ∷ []) ≡ distinct same xs
@@ -77,8 +80,10 @@ module _ {B : Type 0} (same : B → B → Bool) where
       let last : list_any (same q) (xs ++ y ∷ []) ≡ (list_any (same q) xs || list_any (same q) (y ∷ []))
       = list_any-append (same q) xs (y ∷ []) in
       let found : same q y ≡ true → list_any (same q) xs ≡ true = λ e. any-same equiv q y e xs ∙ old in
-      last ∙ elim (same q y) as (λ v. (v ≡ true → list_any (same q) xs ≡ true) → (list_any (same q) xs || (v || false)) ≡ list_any (same q) xs)
-      [ true ↦ (λ h. rw (h refl)) | false ↦ (λ h. elim (list_any (same q) xs) as (λ a. (a || false) ≡ a) [ true ↦ refl | false ↦ refl ]) ] found
+      last ∙ elim (same q y) as (λ v. (v ≡ true → list_any (same q) xs ≡ true)
+      → (list_any (same q) xs || (v || false)) ≡ list_any (same q) xs)
+      [ true ↦ (λ h. rw (h refl)) | false ↦ (λ h. elim (list_any (same q) xs) as (λ a. (a || false) ≡ a) [ true ↦ refl | false ↦ refl ]) ]
+      found
 
   -- and so do repeats
   pub any-repeats : IsEquivalence same → (xs ys : List B) → Each (λ y. list_any (same y) xs ≡ true) ys → (q : B)
@@ -87,4 +92,5 @@ module _ {B : Type 0} (same : B → B → Bool) where
   any-repeats equiv xs (y ∷ ys) each q =
       let kept = Each-weaker (λ z. list_any (same z) xs ≡ true) (λ z. list_any (same z) (xs ++ y ∷ []) ≡ true)
       (λ (z : B) (h : list_any (same z) xs ≡ true). list_any-append (same z) xs (y ∷ []) ∙ or-true (list_any (same z) xs) _ h) ys each.1 in
-      ap (list_any (same q)) (sym (append_assoc {A = B} xs (y ∷ []) ys)) ∙ any-repeats equiv (xs ++ y ∷ []) ys kept q ∙ any-repeat equiv xs y each.0 q
+      ap (list_any (same q)) (sym (append_assoc {A = B} xs (y ∷ []) ys)) ∙ any-repeats equiv (xs ++ y ∷ []) ys kept q
+      ∙ any-repeat equiv xs y each.0 q

@@ -7,11 +7,13 @@ use Rattle.lb_select_base.specs.AddressText.{bare_member}
 use Rattle.lb_select_base.specs.Loads.{entries_of, load_in, SetsLoad}
 
 -- the table that is there
-pub same_loads : (old : Option (BTreeMap Member ℕ)) (table : BTreeMap Member ℕ) → old ≡ Some table → (q : Member) → load_in (entries_of old) q ≡ load_in table.entries q
+pub same_loads : (old : Option (BTreeMap Member ℕ)) (table : BTreeMap Member ℕ) → old ≡ Some table → (q : Member)
+    → load_in (entries_of old) q ≡ load_in table.entries q
 same_loads old table is q = ap (λ o. load_in (entries_of o) q) is
 
 -- a new one
-pub no_loads : (old : Option (BTreeMap Member ℕ)) (table : BTreeMap Member ℕ) → old ≡ None → IsEmpty table → (q : Member) → load_in (entries_of old) q ≡ load_in table.entries q
+pub no_loads : (old : Option (BTreeMap Member ℕ)) (table : BTreeMap Member ℕ) → old ≡ None → IsEmpty table → (q : Member)
+    → load_in (entries_of old) q ≡ load_in table.entries q
 no_loads old table is empty q =
     ap (λ o. load_in (entries_of o) q) is ∙ sym (ap (λ es. load_in es q) empty)
 

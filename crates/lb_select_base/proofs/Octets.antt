@@ -74,7 +74,8 @@ four_spelt (a ∷ b ∷ c ∷ d ∷ f ∷ xs) e = absurd (omega arith)
 pub four_octets : (xs ys : List ℕ) → length xs ≡ 4 → length ys ≡ 4 → ((i : ℕ) → get_or xs i 0 < 256) → ((i : ℕ) → get_or ys i 0 < 256)
     → nat_cmp (from_be_bytes w32 xs) (from_be_bytes w32 ys) ≡ slice_cmp nat_cmp xs ys
 four_octets xs ys l m p q =
-    ap (λ x. nat_cmp x (from_be_bytes w32 ys)) (four_spelt xs l) ∙ ap (nat_cmp (spelt 0 xs)) (four_spelt ys m) ∙ spelt_cmp xs ys 0 0 (omega arith) p q
+    ap (λ x. nat_cmp x (from_be_bytes w32 ys)) (four_spelt xs l) ∙ ap (nat_cmp (spelt 0 xs)) (four_spelt ys m)
+    ∙ spelt_cmp xs ys 0 0 (omega arith) p q
 
 sixteen_spelt : (xs : List ℕ) → length xs ≡ 16 → from_be_bytes w128 xs ≡ spelt 0 xs
 sixteen_spelt (a ∷ b ∷ c ∷ d ∷ e ∷ f ∷ g ∷ h ∷ i ∷ j ∷ k ∷ l ∷ m ∷ n ∷ o ∷ p ∷ []) r = omega arith
@@ -100,4 +101,5 @@ sixteen_spelt (a ∷ b ∷ c ∷ d ∷ e ∷ f ∷ g ∷ h ∷ i ∷ j ∷ k ∷
 pub sixteen_octets : (xs ys : List ℕ) → length xs ≡ 16 → length ys ≡ 16 → ((i : ℕ) → get_or xs i 0 < 256) → ((i : ℕ) → get_or ys i 0 < 256)
     → nat_cmp (from_be_bytes w128 xs) (from_be_bytes w128 ys) ≡ slice_cmp nat_cmp xs ys
 sixteen_octets xs ys l m p q =
-    ap (λ x. nat_cmp x (from_be_bytes w128 ys)) (sixteen_spelt xs l) ∙ ap (nat_cmp (spelt 0 xs)) (sixteen_spelt ys m) ∙ spelt_cmp xs ys 0 0 (omega arith) p q
+    ap (λ x. nat_cmp x (from_be_bytes w128 ys)) (sixteen_spelt xs l) ∙ ap (nat_cmp (spelt 0 xs)) (sixteen_spelt ys m)
+    ∙ spelt_cmp xs ys 0 0 (omega arith) p q

@@ -1,5 +1,6 @@
 -- A selection on its way: the candidates that were looked at and refused, and what each end of the search answers.
-use Rattle.std.specs.Prelude.{◌≡◌, ℕ, ◌+◌, ◌<◌, ◌≤◌, Bool, true, false, ◌||◌, List, [], ◌∷◌, ◌++◌, length, Option, Some, None, Result, Ok, Err, refl}
+use Rattle.std.specs.Prelude.{◌≡◌, ℕ, ◌+◌, ◌<◌, ◌≤◌, Bool, true, false, ◌||◌, List, [], ◌∷◌, ◌++◌, length, Option, Some, None, Result, Ok}
+use Rattle.std.specs.Prelude.{Err, refl}
 use Rattle.std.proofs.Common.{sym, ap, ◌∙◌, arith, inl, inr, length-append}
 use Rattle.std.specs.List.{AllByRecursion as Each}
 use Rattle.std.specs.Result.{IsErrAnd}
@@ -154,8 +155,15 @@ module _ {I S : Type 0} (gives : S → Draw → S → Type 0) (walk : I → List
         let cs = p.searched ++ b ∷ [] in
         let counted : length p.searched ≡ steps = p.counted in
         let long : length cs ≡ length p.searched + 1 = length-append p.searched (b ∷ []) in
-        let few : length cs ≤ limit = omega arith in
-        (refused, inr (cs, one_more b n v begins p step, few, (p.searched, b, refl, distinct-new same_member p.searched b (sym (p.known b) ∙ new))))
+        let few : length cs ≤ limit = omega arith in (
+          refused,
+          inr (
+            cs,
+            one_more b n v begins p step,
+            few,
+            (p.searched, b, refl, distinct-new same_member p.searched b (sym (p.known b) ∙ new)),
+          ),
+        )
 
     -- a walk that could not be begun has drawn nothing
     pub begins_refused : {s₀ s : S} (e : Refusal) → Begins gives walk walks s₀ (Err e) s

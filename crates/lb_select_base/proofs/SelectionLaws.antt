@@ -1,5 +1,6 @@
 -- Laws of the unique walk and of selections, for the layers above.
-use Rattle.std.specs.Prelude.{◌≡◌, ℕ, ◌+◌, ◌-◌, ◌≤◌, min, max, Bool, true, false, List, [], ◌∷◌, ◌++◌, length, take, if◌then◌else◌, Option, Some, None, Result, Ok, Err, refl}
+use Rattle.std.specs.Prelude.{◌≡◌, ℕ, ◌+◌, ◌-◌, ◌≤◌, min, max, Bool, true, false, List, [], ◌∷◌, ◌++◌, length, take, if◌then◌else◌, Option}
+use Rattle.std.specs.Prelude.{Some, None, Result, Ok, Err, refl}
 use Rattle.std.proofs.Common.{sym, ap, ◌∙◌, append_assoc, arith, inl, inr, length-append}
 use Rattle.std.specs.List.{AllByRecursion as Each, list_any, find, Contains}
 use Rattle.std.proofs.lemmas.List.{take-append-le, length-take}
@@ -32,7 +33,8 @@ module _ {I S : Type 0} (gives : S → Draw → S → Type 0) (walk : I → List
       let skipped = turn.gave.2.0 in
       let before = seen_repeats u.seen u.seen cs skipped (λ q. refl) turn.gave.2.2 seen in
       let now = seen_new u.seen n.seen (cs ++ skipped) b turn.gave.1 turn.gave.2.3 before.0 in
-      let whole : (cs ++ skipped) ++ b ∷ [] ≡ cs ++ turn.passed = append_assoc cs skipped (b ∷ []) ∙ ap (λ xs. cs ++ xs) (sym turn.gave.2.1) in
+      let whole : (cs ++ skipped) ++ b ∷ [] ≡ cs ++ turn.passed = append_assoc cs skipped (b ∷ [])
+      ∙ ap (λ xs. cs ++ xs) (sym turn.gave.2.1) in
       (rw whole at now.0, rw whole at now.1 ∙ ap (λ xs. xs ++ b ∷ []) before.1)
   turns_are_distinct u n s t (Ok None) turn cs seen = seen_repeats u.seen n.seen cs turn.passed turn.gave.1 turn.gave.0 seen
   turns_are_distinct u n s t (Err e) turn cs seen = λ q. turn.gave.2 q ∙ seen q
@@ -66,13 +68,15 @@ module _ {I S : Type 0} (gives : S → Draw → S → Type 0) (walk : I → List
       refl,
       elim turn.gave.2 [
         | inl over ↦ over.1
-        | inr past ↦ absurd (not-empty turn.passed past.1.0 (no_more u.iter n.iter turn.draws (turn.passed ++ past.1.0 ∷ []) ended past.1.1))
+        | inr past ↦ absurd (not-empty turn.passed past.1.0
+            (no_more u.iter n.iter turn.draws (turn.passed ++ past.1.0 ∷ []) ended past.1.1))
       ],
     )
     end_stays_met u n s t (Ok (Some b)) turn ended =
         absurd (not-empty turn.gave.2.0 b (sym turn.gave.2.1 ∙ no_more u.iter n.iter turn.draws turn.passed ended turn.gave.0))
     end_stays_met u n s t (Err e) turn ended =
-        absurd (not-empty turn.gave.3.1.0 turn.gave.3.0 (sym turn.gave.3.1.1 ∙ no_more u.iter n.iter turn.draws turn.passed ended turn.gave.1))
+        absurd (not-empty turn.gave.3.1.0 turn.gave.3.0 (sym turn.gave.3.1.1
+        ∙ no_more u.iter n.iter turn.draws turn.passed ended turn.gave.1))
 
 module _ {B : Type 0} (same : B → B → Bool) where
   -- first occurrences of a list and of one that follows it
@@ -81,10 +85,14 @@ module _ {B : Type 0} (same : B → B → Bool) where
   firsts-append before (x ∷ xs) ys =
       let rest : firsts same (before ++ x ∷ []) (xs ++ ys)
       ≡ firsts same (before ++ x ∷ []) xs ++ firsts same (before ++ x ∷ xs) ys
-      = firsts-append (before ++ x ∷ []) xs ys ∙ ap (λ zs. firsts same (before ++ x ∷ []) xs ++ firsts same zs ys) (append_assoc before (x ∷ []) xs) in
+      = firsts-append (before ++ x ∷ []) xs ys ∙ ap (λ zs. firsts same (before ++ x ∷ []) xs ++ firsts same zs ys)
+      (append_assoc before (x ∷ []) xs) in
       let f = firsts same (before ++ x ∷ []) xs in
       let g = firsts same (before ++ x ∷ xs) ys in
-      rw rest (elim (list_any (same x) before) as (λ v. (if v then f ++ g else x ∷ (f ++ g)) ≡ (if v then f else x ∷ f) ++ g) [ true ↦ refl | false ↦ refl ])
+      rw rest (elim (list_any (same x) before) as (λ v. (if v then f ++ g else x ∷ (f ++ g)) ≡ (if v then f else x ∷ f) ++ g) [
+        | true ↦ refl
+        | false ↦ refl
+      ])
 
   -- the first occurrences of a list begin those of each list that it begins
   pub distinct-append : (xs ys : List B) → distinct same (xs ++ ys) ≡ distinct same xs ++ firsts same xs ys
@@ -170,8 +178,10 @@ module _ {B : Type 0} (same : B → B → Bool) where
       elim answer.1 [ inl past ↦ absurd (omega arith) | inr end ↦ (empty, end.0) ]
 
 -- an answer by what is known of a function that accepts is one by all that follows from it
-IsAnswer-weaker : {B : Type 0} (same : B → B → Bool) (accepts follows : B → Bool → Type 0) → ((x : B) (a : Bool) → accepts x a → follows x a)
-    → (limit : ℕ) (cs : List B) (ended : Bool) (r : Option B) → IsAnswer same accepts limit cs ended r → IsAnswer same follows limit cs ended r
+IsAnswer-weaker : {B : Type 0} (same : B → B → Bool) (accepts follows : B → Bool → Type 0)
+    → ((x : B) (a : Bool) → accepts x a → follows x a)
+    → (limit : ℕ) (cs : List B) (ended : Bool) (r : Option B) → IsAnswer same accepts limit cs ended r
+    → IsAnswer same follows limit cs ended r
 IsAnswer-weaker same accepts follows weaker limit cs ended (Some b) answer = (
   answer.0,
   answer.1,
@@ -184,8 +194,10 @@ IsAnswer-weaker same accepts follows weaker limit cs ended None answer =
     (Each-weaker (λ x. accepts x false) (λ x. follows x false) (λ x. weaker x false) (distinct same (take limit cs)) answer.0, answer.1)
 
 -- and so is a selection
-pub Selects-weaker : {B S : Type 0} (same : B → B → Bool) (accepts follows : B → Bool → Type 0) → ((x : B) (a : Bool) → accepts x a → follows x a)
-    → (limit : ℕ) (gives : S → Draw → S → Type 0) (walks : List Draw → List B → Bool → Type 0) (s : S) (r : Result (Option B) Refusal) (t : S)
+pub Selects-weaker : {B S : Type 0} (same : B → B → Bool) (accepts follows : B → Bool → Type 0)
+    → ((x : B) (a : Bool) → accepts x a → follows x a)
+    → (limit : ℕ) (gives : S → Draw → S → Type 0) (walks : List Draw → List B → Bool → Type 0) (s : S) (r : Result (Option B) Refusal)
+    (t : S)
     → Selects same accepts limit gives walks s r t → Selects same follows limit gives walks s r t
 Selects-weaker same accepts follows weaker limit gives walks s (Ok r) t selects =
     (selects.0, selects.1, selects.2, IsAnswer-weaker same accepts follows weaker limit selects.0 selects.1 r selects.3)

@@ -13,13 +13,20 @@ each_more P Q more (x ∷ xs) all = (more x all.0, each_more P Q more xs all.1)
 
 module _ {B : Type 0} (same : B → B → Bool) (P Q : B → Bool → Type 0) (more : (b : B) (a : Bool) → P b a → Q b a) (limit : ℕ) where
   answer_more : (cs : List B) (ended : Bool) (r : Option B) → IsAnswer same P limit cs ended r → IsAnswer same Q limit cs ended r
-  answer_more cs ended (Some b) (before, parts, few, first, refused, accepted) =
-      (before, parts, few, first, each_more (λ x. P x false) (λ x. Q x false) (λ x. more x false) (distinct same before) refused, more b true accepted)
+  answer_more cs ended (Some b) (before, parts, few, first, refused, accepted) = (
+    before,
+    parts,
+    few,
+    first,
+    each_more (λ x. P x false) (λ x. Q x false) (λ x. more x false) (distinct same before) refused,
+    more b true accepted,
+  )
   answer_more cs ended None (refused, over) =
       (each_more (λ x. P x false) (λ x. Q x false) (λ x. more x false) (distinct same (take limit cs)) refused, over)
 
   -- what one test answered, a test that follows from it answered
-  pub selects-more : {S : Type 0} (gives : S → Draw → S → Type 0) (walks : List Draw → List B → Bool → Type 0) (s t : S) (r : Result (Option B) Refusal)
+  pub selects-more : {S : Type 0} (gives : S → Draw → S → Type 0) (walks : List Draw → List B → Bool → Type 0) (s t : S)
+      (r : Result (Option B) Refusal)
       → Selects same P limit gives walks s r t → Selects same Q limit gives walks s r t
   selects-more gives walks s t (Ok r) (cs, ended, walked, answer) = (cs, ended, walked, answer_more cs ended r answer)
   selects-more gives walks s t (Err e) refused = refused
@@ -33,7 +40,8 @@ module _ {S T : Type 0} (gives : S → Draw → S → Type 0) (tells : T → Dra
       let one = step a d u kept drawn in (seen u, one.0, gives-seen u ds b one.1 rest)
 
   module _ {B : Type 0} (walks : List Draw → List B → Bool → Type 0) where
-    walked-seen : (s t : S) (cs : List B) (ended : Bool) → keeps s → IsWalked gives walks s t cs ended → IsWalked tells walks (seen s) (seen t) cs ended
+    walked-seen : (s t : S) (cs : List B) (ended : Bool) → keeps s → IsWalked gives walks s t cs ended
+        → IsWalked tells walks (seen s) (seen t) cs ended
     walked-seen s t cs ended kept w =
         record { draws = w.draws; drawn = gives-seen s w.draws t kept w.drawn; walked = w.walked }
 

@@ -1,5 +1,6 @@
 -- Turns of the unique walk: what the loop of a turn has gone past, and what each of its ends gives.
-use Rattle.std.specs.Prelude.{◌≡◌, ◌+◌, ◌<◌, ◌≤◌, max, Bool, true, false, cond, ◌||◌, List, [], ◌∷◌, ◌++◌, length, Option, Some, None, Result, Ok, Err, refl}
+use Rattle.std.specs.Prelude.{◌≡◌, ◌+◌, ◌<◌, ◌≤◌, max, Bool, true, false, cond, ◌||◌, List, [], ◌∷◌, ◌++◌, length, Option, Some, None}
+use Rattle.std.specs.Prelude.{Result, Ok, Err, refl}
 use Rattle.std.proofs.Common.{sym, ap, ◌∙◌, append_assoc, arith, inl, inr, length-append, subst}
 use Rattle.std.specs.List.{AllByRecursion as Each, list_any}
 use Rattle.std.specs.Result.{IsErrAnd}
@@ -37,7 +38,8 @@ module _ {I B : Type 0} (walk : I → List Draw → List B → Bool → Type 0) 
   -- a walk after a walk
   pub Continues-append : (i j n : I) (ds es : List Draw) (bs cs : List B)
       → Continues walk i ds bs j → Continues walk j es cs n → Continues walk i (ds ++ es) (bs ++ cs) n
-  Continues-append i j n ds es bs cs first later = λ fs xs e h. rw (append_assoc ds es fs, append_assoc bs cs xs) (first (es ++ fs) (cs ++ xs) e (later fs xs e h))
+  Continues-append i j n ds es bs cs first later = λ fs xs e h. rw (append_assoc ds es fs, append_assoc bs cs xs)
+      (first (es ++ fs) (cs ++ xs) e (later fs xs e h))
 
   -- where the walk from n on has not begun, the walk from i on is these draws and candidates
   pub Continues-closed : (i n : I) (ds : List Draw) (bs : List B) (e : Bool) → Continues walk i ds bs n → walk n [] [] e → walk i ds bs e
@@ -101,7 +103,8 @@ module _ {I : Type 0} where
   counted_more u n bs b counted = let l : length (bs ++ b ∷ []) ≡ length bs + 1 = length-append bs (b ∷ []) in omega arith
 
   -- where the limit leaves room for it
-  room_more : (u n : UniqueIterator I) → n.max_iterations ≡ u.max_iterations → n.steps < n.max_iterations → n.steps + 1 ≤ max u.steps u.max_iterations
+  room_more : (u n : UniqueIterator I) → n.max_iterations ≡ u.max_iterations → n.steps < n.max_iterations
+      → n.steps + 1 ≤ max u.steps u.max_iterations
   room_more u n limit room = omega arith
 
 module _ {I S : Type 0} (gives : S → Draw → S → Type 0) (walk : I → List Draw → List Member → Bool → Type 0) where
@@ -202,7 +205,8 @@ module _ {I S : Type 0} (gives : S → Draw → S → Type 0) (walk : I → List
   }
 
   -- or is refused there, with nothing new seen
-  pub turn_refused : {u : UniqueIterator I} {s : S} {n : UniqueIterator I} {t : S} (b : Member) (j : I) (seen : SeenBackends) (v : S) (r : Result (Option Member) Refusal)
+  pub turn_refused : {u : UniqueIterator I} {s : S} {n : UniqueIterator I} {t : S} (b : Member) (j : I) (seen : SeenBackends) (v : S)
+      (r : Result (Option Member) Refusal)
       → Turning u s n t → IsStep gives walk n.iter t (Some b) j v → has_seen n b ≡ false → n.steps < n.max_iterations
       → ((q : Member) → has_backend seen q ≡ has_seen n q) → IsErrAnd r (λ e. e ≡ OutOfMemory)
       → IsTurn gives walk u s r (record n { iter = j; steps = n.steps + 1; seen = seen }) v

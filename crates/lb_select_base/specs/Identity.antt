@@ -7,7 +7,8 @@ use Rattle.std.specs.declared.cmp.Ordering.TheVariants.{Less, Equal, Greater}
 use Rattle.std.specs.Ordering.{nat_cmp, ordering_then, is_eq}
 use Rattle.std.specs.Cmp.Lexicographic.{slice_cmp}
 use Rattle.std.specs.Hash as fed
-use Rattle.lb_select_base.specs.Backends.{Address, ipv4, ipv6, unix, Member, address_cmp, member_cmp, same_member, address_hash, member_hash}
+use Rattle.lb_select_base.specs.Backends.{Address, ipv4, ipv6, unix, Member, address_cmp, member_cmp, same_member, address_hash}
+use Rattle.lb_select_base.specs.Backends.{member_hash}
 
 -- one comparison after another finds two things equal where both do
 then_equal : (o p : Ordering) → ordering_then o p ≡ Equal → (o ≡ Equal) × (p ≡ Equal)

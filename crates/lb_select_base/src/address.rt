@@ -52,7 +52,7 @@ fn ipv6_of(octets: &[u8; 16]) -> net::Ipv6Addr
     net::Ipv6Addr::from_octets(*octets)
 }
 
-/// The same address, without flow information or a scope.
+/// Returns the same address, without flow information or a scope.
 impl From<InetAddr> for net::SocketAddr {
     ghost from_gives = { λ inet s. (socket_seen s ≡ Some (inet_seen inet)) × (socket_flowinfo s ≡ 0) };
 

@@ -60,7 +60,9 @@ impl Model for Backend {
 }
 
 impl Backend {
-    /// A backend of weight 1 at an internet address, with nothing attached. Refused as `new_with_weight`.
+    /// Returns a backend of weight 1 at an internet address, with nothing attached.
+    ///
+    /// Refused as `new_with_weight` is.
     pub fn new(alloc: Global, addr: &str) -> Result<Backend, Refusal>
         ensures made { result ≡ internet_backend 1 addr.now }
         ensures spelled { IsSpelledBy addr.now result }
@@ -68,8 +70,10 @@ impl Backend {
         Backend::new_with_weight(alloc, addr, 1)
     }
 
-    /// A backend of this weight at an internet address, with nothing attached. The text is read as a
-    /// `std::net::SocketAddr`. Refused `InvalidAddress` where std refuses it or its scope id is not 0; no memory is taken.
+    /// Returns a backend of this weight at an internet address, with nothing attached.
+    ///
+    /// The text is read as a `std::net::SocketAddr`. Refused `InvalidAddress` where std refuses it or its scope id is not 0; no memory is
+    /// taken.
     pub fn new_with_weight(alloc: Global, addr: &str, weight: usize) -> Result<Backend, Refusal>
         ensures made { result ≡ internet_backend weight addr.now }
         ensures spelled { IsSpelledBy addr.now result }
@@ -78,8 +82,9 @@ impl Backend {
         Ok(Backend::bare(alloc, SocketAddr::Inet(inet), weight))
     }
 
-    /// A backend of this weight at the Unix socket of this path, with nothing attached. Refused `InvalidAddress` for the
-    /// empty path, and `OutOfMemory` where there is no room for a path.
+    /// Returns a backend of this weight at the Unix socket of this path, with nothing attached.
+    ///
+    /// Refused `InvalidAddress` for the empty path, and `OutOfMemory` where there is no room for a path.
     pub fn unix(alloc: Global, path: &str, weight: usize) -> Result<Backend, Refusal>
         ensures { Refuses (path_refusal path.now) (λ b. b ≡ bare_member weight (unix path.now)) result }
     {
@@ -90,9 +95,10 @@ impl Backend {
         Ok(Backend::bare(alloc, SocketAddr::Unix(path), weight))
     }
 
-    /// A backend of this weight at the address that the text spells, with nothing attached: `unix:` and a path of one byte or
-    /// more, or a text for `new`. Refused `InvalidAddress` where it spells none, and `OutOfMemory` where there is no room for
-    /// a path.
+    /// Returns a backend of this weight at the address that the text spells, with nothing attached.
+    ///
+    /// A text is `unix:` and a path of one byte or more, or a text for `new`. Refused `InvalidAddress` where it spells no address, and
+    /// `OutOfMemory` where there is no room for a path.
     pub fn from_text(alloc: Global, text: &str, weight: usize) -> Result<Backend, Refusal>
         ensures made { Refuses (address_refusal (address_of_text text.now))
             (λ b. option_map (bare_member weight) (address_of_text text.now) ≡ Some b) result }
@@ -123,7 +129,7 @@ impl Backend {
         Ok(Backend::bare(alloc, addr, self.weight))
     }
 
-    /// The same backend. Where nothing is attached, no map is cloned.
+    /// Returns a copy of the backend. Where nothing is attached, no map is cloned.
     pub fn copied(&self, alloc: Global) -> Result<Backend, AllocError>
         ensures { IfOk result (λ c. c ≡ self.now) }
     {
@@ -137,7 +143,7 @@ impl Backend {
         }
     }
 
-    // The same for every backend. It stands apart, so that the copy of an internet address with nothing attached is short.
+    // The copy of any backend. It is a function of its own, so that the copy of an internet address with nothing attached is short.
     #[cold]
     #[inline(never)]
     fn copied_by_parts(&self, alloc: Global) -> Result<Backend, AllocError>
@@ -150,14 +156,16 @@ impl Backend {
         }
     }
 
-    /// What makes two backends the same: the address and the weight.
+    /// Returns what makes two backends the same: the address and the weight.
     pub fn identity(&self) -> (&SocketAddr, usize)
         ensures { (address_seen result.0.now, result.1) ≡ identity_of self.now }
     {
         (&self.addr, self.weight)
     }
 
-    /// The one socket address of an internet address; nothing is looked up. Refused `InvalidAddress` for a Unix address.
+    /// Returns the one socket address of an internet address; nothing is looked up.
+    ///
+    /// Refused `InvalidAddress` for a Unix address.
     pub fn to_socket_addrs<N: net::Net>(
         &self,
         _net: &N,

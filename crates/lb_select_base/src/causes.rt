@@ -9,8 +9,10 @@ use crate::walk::BackendSelection;
 use std::alloc::Global;
 use std::collections::BTreeSet;
 
-/// The least cause for which one of these configurations gives no selector over the empty set, or `None` where each gives one
-/// once memory is there. It builds each selector and drops it.
+/// Returns the least cause for which one of these configurations gives no selector over the empty set, or `None` where each gives one once
+/// memory is there.
+///
+/// It builds each selector and drops it.
 pub fn least_refusal<S: BackendSelection>(alloc: Global, configs: &[S::Config]) -> Option<Refusal>
     ensures { result ≡ least (map (S.refusal []) configs.now) }
 {
@@ -36,7 +38,7 @@ fn refusal_over<S: BackendSelection>(
     }
 }
 
-/// This refusal as a cause, or `None` where it is for memory.
+/// Returns this refusal as a cause, or `None` where it is for memory.
 pub fn memory_apart(refusal: Refusal) -> Option<Refusal>
     ensures { result ≡ apart (Some refusal) }
 {
@@ -46,7 +48,7 @@ pub fn memory_apart(refusal: Refusal) -> Option<Refusal>
     }
 }
 
-/// The one of the lesser number, or else the first.
+/// Returns the one of the lesser number, or else the first.
 pub fn earlier(first: Option<Refusal>, second: Option<Refusal>) -> Option<Refusal>
     ensures { result ≡ earlier_of first second }
 {

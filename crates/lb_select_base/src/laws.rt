@@ -1,5 +1,5 @@
-//! What holds of the definitions here by themselves, and of what is derived. Each function here is a law: it does nothing, and
-//! its contract holds of every backend, every address and every walk.
+//! Laws of the definitions here, and of what is derived. Each function here does nothing at run time, and its contract holds for every
+//! backend, every address and every walk.
 ghost use Rattle.std.specs.Prelude.{◌≡◌, ◌↔◌, IsTrue, [], length, Some};
 ghost use Rattle.lb_select_base.specs.AddressText.{address_of_text, address_text, internet_of_text};
 ghost use Rattle.lb_select_base.specs.Backends.{ipv4, ipv6, unix, Member, address_cmp, same_member, identity_of};
@@ -30,8 +30,9 @@ pub fn internet_text_law(inet: &InetAddr)
     }
 }
 
-/// The text of an address spells that address, and an internet address is not spelled as a path is. The empty path has no
-/// such text.
+/// The text of an address spells that address, and an internet address is not spelled as a path is.
+///
+/// The empty path has no such text.
 pub fn address_text_law(addr: &SocketAddr)
     requires { ¬ (address_seen addr.now ≡ unix []) }
     ensures { address_of_text (address_text (address_seen addr.now)) ≡ Some (address_seen addr.now) }

@@ -1,5 +1,5 @@
-//! What every selector stands on: what a backend is, the words that a walk draws, the traits of selection, the unique walk, and `select`.
-//! A walk's meaning is one relation between the draws that were made and the first candidates that came.
+//! What every selector needs: what a backend is, the words that a walk draws, the traits of selection, the unique walk, and `select`. A
+//! walk's meaning is one relation between the draws that were made and the first candidates that came.
 #![tactic(auto)]
 
 mod address;

@@ -31,14 +31,16 @@ impl Model for Loads {
 }
 
 impl Loads {
-    /// Every load is 0. It takes no memory.
+    /// Returns loads that are all 0, without taking memory.
     pub fn new() -> Self
         ensures { (m : Member) → load_in result m ≡ 0 }
     {
         Loads { table: None }
     }
 
-    /// Sets the load of a backend's identity. Refused for memory alone, and then nothing is set.
+    /// Sets the load of a backend's identity.
+    ///
+    /// Refused for memory alone, and then nothing is set.
     pub fn set(&mut self, alloc: Global, backend: &Backend, load: u64) -> Result<(), Refusal>
         ensures set { IfOk result (λ _. SetsLoad (load_in self.old) backend.now load (load_in self.new)) }
         ensures refused { IfErr result (λ e. (e ≡ OutOfMemory) × ((m : Member) → load_in self.new m ≡ load_in self.old m)) }
@@ -54,7 +56,7 @@ impl Loads {
         Ok(())
     }
 
-    /// The load of a backend's identity. It takes no memory.
+    /// Returns the load of a backend's identity, without taking memory.
     pub fn get(&self, backend: &Backend) -> u64
         ensures { result ≡ load_in self.now backend.now }
     {

@@ -6,14 +6,14 @@ ghost use Rattle.lb_select_base.specs.Refusals.{refusal_number, refusal_name};
 use std::alloc::{AllocError, AllocFailed};
 use thiserror::Error;
 
-/// Why a call was refused. Where several causes stand, the one of the least number is answered, and
-/// `OutOfMemory` only where no other cause stands. The text is the name alone.
+/// Why a call was refused. Where several causes apply, the one of the least number is returned, and `OutOfMemory` only where no other
+/// cause applies. The text is the name alone.
 #[derive(Clone, Copy, Debug, PartialEq, Eq, Error)]
 pub enum Refusal {
-    /// 1: the text is no socket address, its scope id is not 0, or a Unix address stands for an internet one.
+    /// 1: the text is no socket address, its scope id is not 0, or a Unix address is given for an internet one.
     #[error("InvalidAddress")]
     InvalidAddress,
-    /// 2: the discovery, or the lookup of a name, answered a fault.
+    /// 2: the discovery, or the lookup of a name, failed.
     #[error("Discovery")]
     Discovery,
     /// 3: more than 65535 backends in a weighted selector.
@@ -55,7 +55,7 @@ pub enum Refusal {
     /// 15: that reader's number was never given, or has left.
     #[error("NoSuchReader")]
     NoSuchReader,
-    /// 16: a selection by random words was handed too few of them.
+    /// 16: a selection by random words was given too few of them.
     #[error("NotEnoughWords")]
     NotEnoughWords,
     /// 17: a number that is never used again is at 18446744073709551615.
@@ -64,7 +64,7 @@ pub enum Refusal {
 }
 
 impl Refusal {
-    /// The number of the refusal, 1 to 17.
+    /// Returns the number of the refusal, 1 to 17.
     pub fn number(&self) -> u64
         ensures { result ≡ refusal_number self.now }
     {
@@ -89,7 +89,7 @@ impl Refusal {
         }
     }
 
-    /// The name of the refusal, without what it carries.
+    /// Returns the name of the refusal, without what it carries.
     pub fn name(&self) -> &'static str
         ensures { result.now ≡ refusal_name self.now }
     {

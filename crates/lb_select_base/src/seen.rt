@@ -1,5 +1,4 @@
-//! The backends that a walk has shown already, told by their identity.
-//! Attachments are not kept: what is seen is an address and a weight.
+//! The backends that a walk has shown already, by their identity. Attachments are not kept: what is seen is an address and a weight.
 ghost use Rattle.std.specs.Prelude.{◌≡◌, ◌||◌, false, None, IfOk, IfErr, OnOk};
 ghost use Rattle.lb_select_base.specs.Backends.{Member, same_member};
 ghost use Rattle.lb_select_base.specs.Unique.{has_backend};
@@ -19,7 +18,7 @@ pub struct SeenBackends {
 }
 
 impl SeenBackends {
-    /// No backend came yet. It takes no memory.
+    /// Returns a list of no backends, without taking memory.
     pub fn new(alloc: Global) -> Self
         ensures { (q : Member) → has_backend result q ≡ false }
     {
@@ -30,7 +29,7 @@ impl SeenBackends {
         }
     }
 
-    /// Whether a backend of this identity came already.
+    /// Returns whether a backend of this identity came already.
     #[inline]
     pub fn contains(&self, backend: &Backend) -> bool
         ensures { result ≡ has_backend self.now backend.now }
@@ -46,7 +45,7 @@ impl SeenBackends {
         self.identities.contains(backend)
     }
 
-    /// From here on the backend came already. Where memory is refused nothing changes.
+    /// Notes that the backend came. Where memory is refused nothing changes.
     pub fn remember(&mut self, backend: &Backend) -> Result<(), AllocError>
         ensures remembered { IfOk result (λ _. (q : Member)
             → has_backend self.new q ≡ (has_backend self.old q || same_member q backend.now)) }

@@ -13,9 +13,10 @@ use crate::words::WordSource;
 use std::alloc::Global;
 use std::sync::Arc;
 
-/// The first accepted of the distinct backends among the first `limit` candidates of the selector's walk for `key`, or
-/// `None` where none of them is accepted. `accept` is asked once of each, in their order, until it answers true. Refused
-/// for memory alone.
+/// Returns the first accepted of the distinct backends among the first `limit` candidates for `key`, or `None`.
+///
+/// The candidates are those of the selector's walk. `accept` is asked once of each, in their order, until it returns true. Refused for
+/// memory alone.
 pub fn select<S: BackendSelection, W: WordSource, F: Fn(&Backend) -> bool>(
     alloc: Global,
     selector: &Arc<S>,

@@ -1,5 +1,5 @@
-//! The unique walk: the candidates of a walk without repeats, up to a limit on how many candidates are looked at.
-//! Repeats are told by backend identity, and count as steps all the same.
+//! The unique walk: the candidates of a walk without repeats, up to a limit on how many candidates are looked at. Repeats are found by
+//! backend identity, and count as steps all the same.
 ghost use Rattle.std.specs.Prelude.{◌≡◌, false};
 ghost use Rattle.lb_select_base.specs.Backends.{Member};
 ghost use Rattle.lb_select_base.specs.Unique.{has_seen, IsTurn};
@@ -22,7 +22,7 @@ pub struct UniqueIterator<I> {
 }
 
 impl<I: BackendIter> UniqueIterator<I> {
-    /// The unique walk over `iter` that looks at no more than `max_iterations` candidates. It takes no memory yet.
+    /// Returns the unique walk over `iter` that looks at no more than `max_iterations` candidates. It takes no memory yet.
     pub fn new(alloc: Global, iter: I, max_iterations: usize) -> Self
         ensures iter { result.iter ≡ iter }
         ensures limit { result.max_iterations ≡ max_iterations }
@@ -37,9 +37,10 @@ impl<I: BackendIter> UniqueIterator<I> {
         }
     }
 
-    /// The next candidate of an identity that did not come before, or `None` where the walk ended or the limit is met.
-    /// The candidate that would pass the limit is drawn too, and not looked at. Refused for memory alone: what was drawn
-    /// and looked at then stays counted, nothing else changes, and the next call goes on from there.
+    /// Returns the next candidate of an identity that did not come before, or `None` where the walk ended or the limit is met.
+    ///
+    /// The candidate that would pass the limit is drawn too, and not looked at. Refused for memory alone: what was drawn and looked at
+    /// then stays counted, nothing else changes, and the next call goes on from there.
     pub fn get_next<W: WordSource>(&mut self, words: &mut W) -> Result<Option<Backend>, Refusal>
         ensures { IsTurn W.gives I.walk self.old words.old result self.new words.new }
     {

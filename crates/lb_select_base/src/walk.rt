@@ -1,5 +1,5 @@
-//! The traits of selection: an algorithm that draws words, an iterator over candidates, and a selector that is built from a set.
-//! Each says by one relation what it means, so that the unique walk and the selection are proved once for every selector.
+//! The traits of selection: an algorithm that draws words, an iterator over candidates, and a selector that is built from a set. Each
+//! states its meaning by one relation, so that the unique walk and the selection are proved once for every selector.
 ghost use Rattle.std.specs.Prelude.{◌≡◌, ◌≤◌, ℕ, max, Bool, true, false, List, [], Option, IfOk, length};
 ghost use Rattle.std.specs.List.{AllByRecursion as Each};
 ghost use Rattle.std.specs.Option.{option_copied};
@@ -20,20 +20,20 @@ use std::sync::Arc;
 
 /// How a walk gets its words: from the key alone, from a counter, or at random.
 pub trait SelectionAlgorithm: Drop {
-    // Which word stands for a key after which draws: key, draws, word.
+    // Which word belongs to a key after which draws: key, draws, word.
     ghost gives_word: { List ℕ → List Draw → ℕ → Type 0 };
 
-    /// The algorithm; it has no state.
+    /// Returns the algorithm; it has no state.
     fn new() -> Self;
 
-    /// The word that stands for `key`.
+    /// Returns the word that belongs to `key`.
     fn next<W: WordSource>(&self, words: &mut W, key: &[u8]) -> u64
         ensures { (ds : List Draw) × Gives W.gives words.old ds words.new × gives_word key.now ds result };
 
     // Whether one of its draws can be a random word.
     ghost may_draw_random: { Bool };
 
-    /// Whether words are drawn at random.
+    /// Returns whether words are drawn at random.
     fn draws_random(&self) -> bool
         ensures { result ≡ may_draw_random };
 
@@ -50,7 +50,7 @@ pub trait BackendIter: Drop {
     // What the rest of the walk may be: the draws made from here on, the first candidates that come, whether the walk then ended.
     ghost walk: { Self → List Draw → List Member → Bool → Type 0 };
 
-    /// The next candidate; `None` once the walk has ended, and from then on.
+    /// Returns the next candidate; `None` once the walk has ended, and from then on.
     fn next<W: WordSource>(&mut self, words: &mut W) -> Option<&Backend>
         ensures* after { sem 𝓛 (Leaves Self.row self.entry
             (λ n. IsStep W.gives walk self.old words.old (option_copied result) n words.new)) };
@@ -67,10 +67,10 @@ pub trait BackendSelection: Drop {
     /// The walks that it gives.
     type Iter: BackendIter;
 
-    /// What a selector is built with beside its set.
+    /// What a selector is built with, apart from its set.
     type Config: Drop;
 
-    /// What a walk over a lent selector keeps from candidate to candidate. The selector itself is no part of it.
+    /// What a walk over a borrowed selector keeps from candidate to candidate. The selector itself is no part of it.
     type Walk: Drop;
 
     // The walks over a set: set, configuration and key, then the draws, the first candidates, whether the walk then ended.
@@ -91,13 +91,16 @@ pub trait BackendSelection: Drop {
     // Whether a walk over a set with a configuration can draw a random word.
     ghost may_draw_random: { List Member → Self.Config → Bool };
 
-    /// A selector over `backends` with the default configuration. Refused for the least cause that stands, and for memory
-    /// only where there is none.
+    /// Returns a selector over `backends` with the default configuration.
+    ///
+    /// Refused for the least cause that applies, and for memory only where there is none.
     fn build(alloc: Global, backends: &BTreeSet<Backend>) -> Result<Self, Refusal>
         ensures { Refuses (refusal backends.now.keys default_config)
             (λ s. (members s ≡ backends.now.keys) × (built_with s ≡ default_config)) result };
 
-    /// A selector over `backends` with this configuration. Refused as `build`.
+    /// Returns a selector over `backends` with this configuration.
+    ///
+    /// Refused as `build` is.
     fn build_with_config(
         alloc: Global,
         backends: &BTreeSet<Backend>,
@@ -106,25 +109,28 @@ pub trait BackendSelection: Drop {
         ensures { Refuses (refusal backends.now.keys config.now)
             (λ s. (members s ≡ backends.now.keys) × (built_with s ≡ config.now)) result };
 
-    /// A walk for `key`. Refused for memory alone, and then before any word is drawn.
+    /// Returns a walk for `key`.
+    ///
+    /// Refused for memory alone, and then before any word is drawn.
     fn iter<W: WordSource>(of: &Arc<Self>, key: &[u8], words: &mut W) -> Result<Self::Iter, Refusal>
         ensures { Begins W.gives Self.Iter.walk
             (walks (members (arc_value of.now)) (built_with (arc_value of.now)) key.now) words.old result words.new };
 
-    // Whether a walk was begun over this selector, or over one that it can't be told from.
+    // Whether a walk was begun over this selector, or over one with the same meaning.
     ghost fits: { Self → Self.Walk → Type 0 };
 
-    // What the rest of a walk over a lent selector may be, told as a `BackendIter` tells its walk.
+    // What the rest of a walk over a borrowed selector may be, as a `BackendIter` states it of its walk.
     ghost rest: { Self → Self.Walk → List Draw → List Member → Bool → Type 0 };
 
-    /// A walk for `key` over this selector, which is lent for each step: no `Arc` is counted for it. Refused as `iter`.
+    /// Returns a walk for `key` over this selector, which is borrowed at each step, so that no `Arc` is counted for it.
+    ///
+    /// Refused as `iter` is.
     fn start<W: WordSource>(&self, key: &[u8], words: &mut W) -> Result<Self::Walk, Refusal>
         ensures begins { Begins W.gives (rest self.now)
             (walks (members self.now) (built_with self.now) key.now) words.old result words.new }
         ensures fitting { IfOk result (λ w. fits self.now w) };
 
-    /// The next candidate of such a walk, which stays readable while the walk goes on; `None` once it has ended, and from
-    /// then on.
+    /// Returns the next candidate of such a walk, which stays readable while the walk goes on; `None` once it has ended, and from then on.
     fn step<'s, W: WordSource>(
         &'s self,
         walk: &mut Self::Walk,
@@ -134,7 +140,7 @@ pub trait BackendSelection: Drop {
         ensures step { IsStep W.gives (rest self.now) walk.old words.old (option_copied result) walk.new words.new }
         ensures fitting { fits self.now walk.new };
 
-    /// Whether its walks may draw random words.
+    /// Returns whether its walks may draw random words.
     fn draws_random(&self) -> bool
         ensures { result ≡ may_draw_random (members self.now) (built_with self.now) };
 
@@ -146,7 +152,7 @@ pub trait BackendSelection: Drop {
     ghost few_words: { (ms : List Member) (config : Self.Config) (key : List ℕ) (ds : List Draw) (cs : List Member) (e : Bool)
         → walks ms config key ds cs e → words_in ds ≤ max 1 (length cs) };
 
-    // Before anything is drawn the rest of a walk over a lent selector is there, with no candidate yet.
+    // Before anything is drawn the rest of a walk over a borrowed selector is there, with no candidate yet.
     ghost rest_starts: { (s : Self) (w : Self.Walk) → rest s w [] [] false };
 
     // Such a walk that has ended draws nothing more and gives nothing more.

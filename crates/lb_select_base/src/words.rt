@@ -1,5 +1,5 @@
-//! Sources of the words that walks draw: tickets of a counter; random words of a generator, or handed in.
-//! What a source may give is one relation over draws, so that a walk is told by the list of its draws.
+//! Sources of the words that walks draw: tickets of a counter; random words of a generator, or given ones. What a source may give is one
+//! relation over draws, so that a walk is described by the list of its draws.
 ghost use Rattle.std.specs.Prelude.{◌≡◌, ℕ, ⊤, IfOk, IfErr};
 ghost use Rattle.lb_select_base.specs.Backends.{Member};
 ghost use Rattle.lb_select_base.specs.Draws.{Draw, ticket, random, load, CoreGives, HandedGives};
@@ -21,15 +21,15 @@ pub trait WordSource {
     // Which draw can be made of a source, and which source it leaves.
     ghost gives: { Self → Draw → Self → Type 0 };
 
-    /// The next ticket: a number of a counter that all walks over the selector share.
+    /// Returns the next ticket: a number of a counter that all walks over the selector share.
     fn ticket(&mut self) -> u64
         ensures { gives self.old (ticket result) self.new };
 
-    /// The next random word.
+    /// Returns the next random word.
     fn random(&mut self) -> u64
         ensures { gives self.old (random result) self.new };
 
-    /// The load of a backend: how busy the source says it is.
+    /// Returns the load of a backend: how busy the source says it is.
     fn load(&self, backend: &Backend) -> u64
         ensures { gives self.now (load backend.now result) self.now };
 }
@@ -44,7 +44,7 @@ pub struct CoreWords<R: Drop> {
 }
 
 impl<R: Rng + Drop> CoreWords<R> {
-    /// A source whose counter is at 0, whose random words are the generator's, and whose loads are all 0.
+    /// Returns a source whose counter is at 0, whose random words are the generator's, and whose loads are all 0.
     pub fn new(generator: R) -> Self
         ensures tickets { result.tickets ≡ 0 }
         ensures generator { result.generator ≡ generator }
@@ -57,7 +57,9 @@ impl<R: Rng + Drop> CoreWords<R> {
         }
     }
 
-    /// Sets the load of a backend's identity. Refused for memory alone, and then nothing is set; the words to come stay.
+    /// Sets the load of a backend's identity.
+    ///
+    /// Refused for memory alone, and then nothing is set; the words to come stay.
     pub fn set_load(&mut self, alloc: Global, backend: &Backend, load: u64) -> Result<(), Refusal>
         ensures set { IfOk result (λ _. SetsLoad (load_in self.old.loads) backend.now load (load_in self.new.loads)) }
         ensures refused { IfErr result (λ e. (e ≡ OutOfMemory) × ((m : Member) → load_in self.new.loads m ≡ load_in self.old.loads m)) }
@@ -102,7 +104,7 @@ impl<W: WordSource> WordSource for &mut W {
     }
 }
 
-/// Words that are handed in: a counter that wraps at 2^64, and random words that somebody drew before.
+/// Words that are given: a counter that wraps at 2^64, and random words that the caller drew before.
 ///
 /// Contracts see the next ticket and the random words that are left.
 #[derive(Drop)]
@@ -120,8 +122,8 @@ impl<'a> Model for HandedWords<'a> {
 }
 
 impl<'a> HandedWords<'a> {
-    /// A source whose next ticket is `tickets`, whose random words are these in their order, and 0 after them, and whose loads
-    /// are all 0.
+    /// Returns a source whose next ticket is `tickets`, whose random words are these in their order, and 0 after them, and whose loads are
+    /// all 0.
     pub fn new(tickets: u64, random: &'a [u64]) -> Self
         ensures { result ≡ record { tickets = tickets; words = random.now } }
     {
@@ -131,7 +133,7 @@ impl<'a> HandedWords<'a> {
         }
     }
 
-    /// The next ticket.
+    /// Returns the next ticket.
     pub fn tickets(&self) -> u64
         ensures { result ≡ self.now.tickets }
     {
@@ -158,14 +160,14 @@ impl<'a> WordSource for HandedWords<'a> {
         }
     }
 
-    // No load is handed in.
+    // No load is given.
     fn load(&self, _backend: &Backend) -> u64 {
         0
     }
 }
 
-/// Words for walks on many threads: a counter from 0 that wraps at 2^64, of which each ticket takes one number, and a
-/// generator behind a lock. Who gets which word depends on how the threads run.
+/// Words for walks on many threads: a counter from 0 that wraps at 2^64, of which each ticket takes one number, and a generator behind a
+/// lock. Which walk gets which word depends on how the threads run.
 #[derive(Drop)]
 pub struct SharedWords {
     tickets: AtomicU64,
@@ -173,7 +175,7 @@ pub struct SharedWords {
 }
 
 impl SharedWords {
-    /// A source whose counter is at 0 and whose random words are the generator's.
+    /// Returns a source whose counter is at 0 and whose random words are the generator's.
     pub fn new(generator: Pcg64) -> Self {
         SharedWords {
             tickets: AtomicU64::new(0),
@@ -181,7 +183,9 @@ impl SharedWords {
         }
     }
 
-    /// The source for one walk. A random word may wait, through `rt`, for a walk that draws at the same time.
+    /// Borrows the source for one walk.
+    ///
+    /// A random word may wait, through `rt`, for a walk that draws at the same time.
     pub fn lend<'a, R>(&'a self, rt: &'a R) -> LentWords<'a, R>
         ensures words { result.words ≡ self.entry }
         ensures runtime { result.rt ≡ rt.entry }
@@ -190,7 +194,7 @@ impl SharedWords {
     }
 }
 
-/// Shared words in the hands of one walk. Other walks draw from them too, so a draw may give any word.
+/// Shared words, borrowed for one walk. Other walks draw from them too, so a draw may give any word.
 #[derive(Drop)]
 pub struct LentWords<'a, R> {
     words: &'a SharedWords,

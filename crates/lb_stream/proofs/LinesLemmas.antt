@@ -1,5 +1,7 @@
 -- Lemmas on the lines of a text.
-use Rattle.std.proofs.Common.{◌≡◌, ◌≢◌, ℕ, zero, suc, ◌==◌, true, false, refl, sym, ap, ◌∙◌, slice_index, ◌+◌, ◌<◌, ◌≤◌, List, [], ◌∷◌, ◌++◌, Option, None, Some, length, take, drop, arith, inl, inr, append_assoc, append-nil, add-one, length-append, take-append-drop, subst}
+use Rattle.std.proofs.Common.{◌≡◌, ◌≢◌, ℕ, zero, suc, ◌==◌, true, false, refl, sym, ap, ◌∙◌, slice_index, ◌+◌, ◌<◌, ◌≤◌, List, [], ◌∷◌}
+use Rattle.std.proofs.Common.{◌++◌, Option, None, Some, length, take, drop, arith, inl, inr, append_assoc, append-nil, add-one}
+use Rattle.std.proofs.Common.{length-append, take-append-drop, subst}
 use Rattle.std.proofs.lemmas.Bool.{false_from_ne_true, cases_Bool}
 use Rattle.std.proofs.lemmas.Bool.Decides.{nat_tests}
 use Rattle.std.proofs.lemmas.List.{take_all}
@@ -19,7 +21,8 @@ first_line-more : (x : ℕ) (xs : List ℕ) → (x == 10) ≡ false → first_li
 first_line-more x xs h = rw h
 
 -- where the first line feed stands
-feed_at : (bytes : List ℕ) (n : ℕ) → n < length bytes → (slice_index bytes n == 10) ≡ true → ((k : ℕ) → k < n → (slice_index bytes k == 10) ≢ true)
+feed_at : (bytes : List ℕ) (n : ℕ) → n < length bytes → (slice_index bytes n == 10) ≡ true
+    → ((k : ℕ) → k < n → (slice_index bytes k == 10) ≢ true)
     → n ≡ length (first_line bytes)
 feed_at [] n within is before = absurd (omega arith)
 feed_at (x ∷ xs) zero within is before = rw (first_line-feed x xs is)
@@ -56,7 +59,8 @@ first_line_is (x ∷ xs) = by_first (λ bytes. take (length (first_line bytes)) 
 -- a line that doesn't end within the known bytes goes on after them
 open_first : (bytes rest : List ℕ) → length bytes ≤ length (first_line bytes) → first_line (bytes ++ rest) ≡ bytes ++ first_line rest
 open_first [] rest all = refl
-open_first (x ∷ xs) rest all = by_first (λ bytes. length bytes ≤ length (first_line bytes) → first_line (bytes ++ rest) ≡ bytes ++ first_line rest) x xs
+open_first (x ∷ xs) rest all = by_first (λ bytes. length bytes ≤ length (first_line bytes)
+    → first_line (bytes ++ rest) ≡ bytes ++ first_line rest) x xs
     (λ h. rw (first_line-feed x xs h) (λ less. absurd (omega arith)))
     (λ h. rw (first_line-more x xs h) (λ less. first_line-more x (xs ++ rest) h ∙ ap (λ l. x ∷ l) (open_first xs rest (omega arith)))) all
 
@@ -65,7 +69,8 @@ open_front bytes all = record { first = λ rest. open_first bytes rest all }
 
 pub front_append : (line bytes : List ℕ) → IsFront line → IsFront bytes → IsFront (line ++ bytes)
 front_append line bytes p q = record {
-  first = λ rest. rw (append_assoc line bytes rest, p.first (bytes ++ rest), q.first rest) (sym (append_assoc line bytes (first_line rest)));
+  first = λ rest. rw (append_assoc line bytes rest, p.first (bytes ++ rest), q.first rest)
+      (sym (append_assoc line bytes (first_line rest)));
 }
 
 -- the bytes of an unfinished line have no line feed
@@ -86,10 +91,12 @@ feed_is x h = grind (arith, nat_tests)
 pub ended_at_feed : (bytes : List ℕ) → length (first_line bytes) < length bytes
     → bytes ≡ first_line bytes ++ 10 ∷ drop (length (first_line bytes) + 1) bytes
 ended_at_feed [] within = absurd (omega arith)
-ended_at_feed (x ∷ xs) within = by_first (λ bytes. length (first_line bytes) < length bytes → bytes ≡ first_line bytes ++ 10 ∷ drop (length (first_line bytes) + 1) bytes) x xs
+ended_at_feed (x ∷ xs) within = by_first (λ bytes. length (first_line bytes) < length bytes
+    → bytes ≡ first_line bytes ++ 10 ∷ drop (length (first_line bytes) + 1) bytes) x xs
     (λ h. rw (first_line-feed x xs h) (λ _. ap (λ b. b ∷ xs) (feed_is x h)))
     (λ h. rw (first_line-more x xs h, add-one (suc (length (first_line xs))))
-    (λ less. ap (λ l. x ∷ l) (ended_at_feed xs (omega arith) ∙ ap (λ n. first_line xs ++ 10 ∷ drop n xs) (add-one (length (first_line xs)))))) within
+    (λ less. ap (λ l. x ∷ l) (ended_at_feed xs (omega arith)
+    ∙ ap (λ n. first_line xs ++ 10 ∷ drop n xs) (add-one (length (first_line xs)))))) within
 
 -- more bytes make the first line no shorter
 pub first_line_grows : (bytes rest : List ℕ) → length (first_line bytes) ≤ length (first_line (bytes ++ rest))

@@ -173,7 +173,9 @@ impl<R: Read> Counted<R> {
         if n == 0 { Ok(None) } else { Ok(Some(one[0])) }
     }
 
-    /// Reads some of the next bytes, `most` at most, and drops them. Returns how many, 0 at the end of the stream alone.
+    /// Reads some of the next bytes, `most` at most, and drops them.
+    ///
+    /// Returns how many, 0 at the end of the stream alone.
     pub fn skip_some(&mut self, most: u64) -> io::Result<u64>
         requires { 0 < most }
         ensures bytes { OnBytes (R.remaining (inner_of self.old)) (R.remaining (inner_of self.new)) (SkipsSome result) }
@@ -191,7 +193,9 @@ impl<R: Read> Counted<R> {
 impl<W: Write> Counted<W> {
     ghost use Rattle.lb_stream.specs.Counted.{inner_of, has_failed, is_flushed};
 
-    /// Writes all the bytes, or fails with some front of them written. It doesn't flush.
+    /// Writes all the bytes, or fails with some front of them written.
+    ///
+    /// It doesn't flush.
     pub fn put(&mut self, bytes: &[u8]) -> io::Result<()>
         ensures ok { OnOk result (Appends (W.contents (inner_of self.old)) (W.contents (inner_of self.new)) bytes.now) }
         ensures part { OnErr result (AppendsFront (W.contents (inner_of self.old)) (W.contents (inner_of self.new)) bytes.now) }

@@ -1,5 +1,5 @@
-//! One line of a stream, up to its line feed and within a limit.
-//! What came instead of a line is told apart: the end, a line too long, a stream that failed, no memory.
+//! One line of a stream, up to its line feed and within a limit. A result says what came instead of a line: the end, a line too long, a
+//! stream that failed, no memory.
 ghost use Rattle.std.specs.Prelude.{◌≡◌, ◌≢◌, ◌+◌, ◌≤◌, true, [], ◌∷◌, ◌++◌, drop, length, IfSome};
 ghost use Rattle.std.specs.Io.KnownBytes.{Keeps, prepend_known};
 ghost use Rattle.lb_stream.specs.Counted.{inner_of, has_failed};
@@ -33,11 +33,11 @@ pub enum LineRead {
     NoMemory,
 }
 
-/// Reads the next line into `line`, without its line feed, over what `line` held before.
+/// Reads the next line into `line`, without its line feed, over what `line` contained before.
 ///
-/// The stream is what `ahead` has and then what `reader` has left. After any result but `Line`, `LastLine` and `ReadFailed`, what
-/// `line` then holds has no meaning. A read is asked for only where `ahead` has no whole line, and what was written to `writer`
-/// is flushed before it.
+/// The stream is what `ahead` has and then what `reader` has left. After any result but `Line`, `LastLine` and `ReadFailed`, what `line`
+/// then contains has no meaning. A read is asked for only where `ahead` has no whole line, and what was written to `writer` is flushed
+/// before it.
 pub fn read_line<R: Read, W: Write>(
     reader: &mut Counted<R>,
     writer: &mut Counted<W>,
@@ -93,7 +93,7 @@ pub fn line_ahead(ahead: &ReadAhead) -> Option<&[u8]>
     }
 }
 
-// How many bytes stand before the first line feed.
+// How many bytes are before the first line feed.
 fn feed_place(bytes: &[u8]) -> usize
     ensures place { result ≡ length (first_line bytes.now) }
     ensures within { result ≤ length bytes.now }

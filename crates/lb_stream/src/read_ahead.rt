@@ -1,5 +1,5 @@
-//! Bytes that were read from a stream and not yet handed out, and the one place where a script is read.
-//! A line is found by a search of those bytes; where none is left, what was answered is flushed before more is read.
+//! Bytes that were read from a stream and not yet used, and the one place where a script is read. A line is found by a search of those
+//! bytes; where none is left, what was answered is flushed before more is read.
 ghost use Rattle.std.specs.Prelude.{◌≡◌, ◌≢◌, ℕ, ◌<◌, ◌≤◌, List, [], length, drop, slice_range, false, true, Err, OnOk, OnErr, IfOk};
 ghost use Rattle.std.specs.Io.KnownBytes.{Keeps, IsAtEnd, prepend_known};
 ghost use Rattle.lb_stream.specs.Counted.{inner_of, has_failed, is_flushed};
@@ -21,7 +21,7 @@ pub enum StreamError {
     Write,
 }
 
-/// Bytes that were read from a stream and not yet handed out, the first to come first.
+/// Bytes that were read from a stream and not yet used, the first to come first.
 #[derive(Drop)]
 pub struct ReadAhead {
     bytes: [u8; CAPACITY],
@@ -99,7 +99,7 @@ impl ReadAhead {
         }
     }
 
-    // Reads over the bytes, which are handed out. All that was written is flushed by then.
+    // Reads over the bytes, which are all used. All that was written is flushed by then.
     fn read<R: Read, W: Write>(
         &mut self,
         reader: &mut Counted<R>,

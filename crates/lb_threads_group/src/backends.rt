@@ -1,5 +1,5 @@
-//! The newest backends of a group that threads share: which they are, whether one is ready, and the flags that callers set.
-//! Each call takes the group's lock once.
+//! Calls on the newest backends of a group that threads share: which they are, whether one is ready, and the flags that callers set. Each
+//! call takes the group's lock once.
 ghost use Rattle.std.specs.Prelude.{◌≡◌, Err, IfOk, OnErr};
 ghost use Rattle.std.specs.Arc.{arc_value};
 ghost use Rattle.lb_rebuild_group.specs.GroupHistory.{members_now};
@@ -17,11 +17,14 @@ use std::collections::BTreeSet;
 use std::sync::{Arc, Wait};
 
 impl<S: BackendSelection, R: KeyRule + Drop, C: HealthCheck + Drop> SharedGroup<S, R, C> {
-    /// The membership of the newest generation. Refused `OutOfMemory` where std refuses one more owner.
+    /// Returns the membership of the newest generation.
+    ///
+    /// Refused `OutOfMemory` where std refuses one more owner.
     pub fn get_backend<W: Wait>(&self, rt: &W) -> Result<Arc<BTreeSet<Backend>>, Refusal>
         ensures members { IfOk result (λ set. Seen self.now.core (λ v. After v (λ made e. (arc_value set).keys ≡ members_now e))) }
         ensures refused { OnErr result (result ≡ Err Refusal.OutOfMemory) }
     {
+        // `_gate` and `founded()` are for the prover alone: they show it the group's invariant, and do nothing at run time.
         let _gate = &self.gate;
         let held = self.lock.take(rt);
         let group = held.value.core();
@@ -31,7 +34,9 @@ impl<S: BackendSelection, R: KeyRule + Drop, C: HealthCheck + Drop> SharedGroup<
         members
     }
 
-    /// Whether a backend is ready in the newest membership. It takes the registry's lock too, and no memory.
+    /// Returns whether a backend is ready in the newest membership.
+    ///
+    /// It takes the registry's lock too, and no memory.
     pub fn ready<W: Wait>(&self, rt: &W, backend: &Backend) -> bool
         ensures { NewestReadyUnder R.gives self.now backend.now result }
     {
@@ -46,7 +51,9 @@ impl<S: BackendSelection, R: KeyRule + Drop, C: HealthCheck + Drop> SharedGroup<
         told
     }
 
-    /// Enables or disables a backend that a living snapshot lists, by identity; another is left alone. It takes no memory.
+    /// Enables or disables a backend that a living snapshot lists, by identity; another is left alone.
+    ///
+    /// It takes no memory.
     pub fn set_enable<W: Wait>(&self, rt: &W, backend: &Backend, enabled: bool) {
         let _gate = &self.gate;
         let mut held = self.lock.take(rt);

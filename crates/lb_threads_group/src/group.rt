@@ -39,7 +39,7 @@ impl<S: BackendSelection> LockRule<Watched<S>, Snapshot<Watched<S>>> for OfGroup
     ghost holds = { λ key group. IsSame key.value group };
 }
 
-// What threads share of a slot beside the group.
+// What threads share of a slot, outside the group's lock.
 #[derive(Drop)]
 struct SlotCounters {
     // How many tickets were drawn for the slot's readers, wrapping.
@@ -50,8 +50,8 @@ struct SlotCounters {
     awaited_readers: AtomicU64,
 }
 
-/// A group behind a lock, with its registry and its gate, which other groups may share, and its board beside the lock. Contracts see
-/// the board, the group as it was made (which one it is, its gate and its configurations), and the registry as it was made.
+/// A group behind a lock, with its registry and its gate, which other groups may share, and its board outside the lock. Contracts see the
+/// board, the group as it was made (which one it is, its gate and its configurations), and the registry as it was made.
 #[derive(Drop)]
 pub struct SharedGroup<S: BackendSelection, R: KeyRule + Drop, C> {
     pub(crate) lock: KeyedLock<Watched<S>, Snapshot<Watched<S>>, OfGroup>,
@@ -63,7 +63,7 @@ pub struct SharedGroup<S: BackendSelection, R: KeyRule + Drop, C> {
     // Held by an update from its discovery to its membership.
     updates: Mutex<()>,
     lines: Vec<SlotCounters>,
-    // Whether nobody but workers uses the group any more.
+    // Whether only workers use the group now.
     let_go: AtomicBool,
 }
 
@@ -86,8 +86,9 @@ impl<S: BackendSelection, R: KeyRule + Drop, C> Model for SharedGroup<S, R, C> {
 }
 
 impl<S: BackendSelection, R: KeyRule + Drop, C: HealthCheck + Drop> SharedGroup<S, R, C> {
-    /// This group, for threads, on a board of its own. Random words are those of one generator for all its readers, and all loads are
-    /// 0.
+    /// Returns this group, for threads, on a board of its own.
+    ///
+    /// Random words are those of one generator for all its readers, and all loads are 0.
     ///
     /// # Errors
     ///
@@ -123,6 +124,7 @@ impl<S: BackendSelection, R: KeyRule + Drop, C: HealthCheck + Drop> SharedGroup<
 
     /// Stops the rebuilds for good, and marks the group's view for removal. It takes no memory.
     pub fn cancel<W: Wait>(&self, rt: &W) {
+        // `_gate`, `_board` and `founded()` are for the prover alone: they show it the group's invariant, and do nothing at run time.
         let _gate = &self.gate;
         let registries: &HealthRegistry<R, C> = &*self.registry;
         let mut held = self.lock.take(rt);
@@ -139,17 +141,19 @@ impl<S: BackendSelection, R: KeyRule + Drop, C: HealthCheck + Drop> SharedGroup<
         self.gate.wakes().wake();
     }
 
-    /// Whether the group was let go.
+    /// Returns whether `let_go` was called.
     pub fn is_let_go(&self) -> bool {
         self.let_go.load(SeqCst)
     }
 
-    /// What wakes the workers of the group.
+    /// Returns what wakes the workers of the group.
     pub fn wakes(&self) -> &Wakes {
         (*self.gate).wakes()
     }
 
-    /// Returns how many slots there are. The board has a word for each, and one more for the newest generation.
+    /// Returns how many slots there are.
+    ///
+    /// The board has a word for each, and one more for the newest generation.
     pub fn slot_count(&self) -> usize
         ensures { self.now.board.words ≡ result + 1 }
     {
@@ -157,7 +161,7 @@ impl<S: BackendSelection, R: KeyRule + Drop, C: HealthCheck + Drop> SharedGroup<
         self.lines.len()
     }
 
-    /// How many slots have a worker now.
+    /// Returns how many slots have a worker now.
     pub fn worker_count(&self) -> usize {
         let mut count: usize = 0;
         for line in self.lines.as_slice() {
@@ -168,7 +172,7 @@ impl<S: BackendSelection, R: KeyRule + Drop, C: HealthCheck + Drop> SharedGroup<
         count
     }
 
-    // The next ticket for the readers of a slot. No lock is taken, so the counter goes on where the slot serves another selector.
+    // Returns the next ticket for the readers of a slot. No lock is taken, so the counter goes on where the slot serves another selector.
     pub(crate) fn ticket(&self, slot: usize) -> u64 {
         match self.lines.get(slot) {
             Some(line) => line.tickets.fetch_add(1, SeqCst),
@@ -176,7 +180,9 @@ impl<S: BackendSelection, R: KeyRule + Drop, C: HealthCheck + Drop> SharedGroup<
         }
     }
 
-    /// Takes a slot for a worker; whether it had none. `leave_slot` ends it. It takes no lock and no memory.
+    /// Takes a slot for a worker, and returns whether it had none.
+    ///
+    /// `leave_slot` ends it. It takes no lock and no memory.
     pub fn claim_slot(&self, slot: usize) -> bool {
         match self.lines.get(slot) {
             Some(line) => !line.has_worker.swap(true, SeqCst),
@@ -184,7 +190,7 @@ impl<S: BackendSelection, R: KeyRule + Drop, C: HealthCheck + Drop> SharedGroup<
         }
     }
 
-    /// Ends what `claim_slot` began.
+    /// Frees the slot that `claim_slot` took.
     pub fn leave_slot(&self, slot: usize) {
         if let Some(line) = self.lines.get(slot) {
             line.has_worker.store(false, SeqCst);
@@ -198,8 +204,8 @@ impl<S: BackendSelection, R: KeyRule + Drop, C: HealthCheck + Drop> SharedGroup<
         }
     }
 
-    // Whether the reader that leaves is the last of those for whom a worker waits: it left, and the selector that it was in is retired.
-    // The caller holds the group's lock.
+    // Returns whether the reader that leaves is the last of those for whom a worker waits: it left, and the selector that it was in is
+    // retired. The caller holds the group's lock.
     pub(crate) fn has_last_left(&self, slot: usize, is_retired: bool, has_left: bool) -> bool {
         if !is_retired || !has_left {
             return false;
@@ -220,7 +226,7 @@ impl<S: BackendSelection, R: KeyRule + Drop, C: HealthCheck + Drop> SharedGroup<
         }
     }
 
-    // Whether a build of a slot is under way, by whomever.
+    // Returns whether a build of a slot is under way, by any thread.
     pub(crate) fn is_building<W: Wait>(&self, rt: &W, slot: usize) -> bool {
         let _gate = &self.gate;
         let held = self.lock.take(rt);
@@ -229,11 +235,13 @@ impl<S: BackendSelection, R: KeyRule + Drop, C: HealthCheck + Drop> SharedGroup<
         matches!(flight, Some(Some(_)))
     }
 
-    /// Discovers, and makes what was discovered the newest membership; one update at a time. The discovery runs under no other lock.
+    /// Discovers, and makes what was discovered the newest membership. Returns the newest generation after it.
+    ///
+    /// One update runs at a time. The discovery runs under the lock of updates alone.
     ///
     /// # Errors
     ///
-    /// As `update_through`.
+    /// Those of `update_through`.
     pub fn update<W: Wait, D: BackendSource, K: MomentSource>(
         &self,
         rt: &W,
@@ -250,7 +258,9 @@ impl<S: BackendSelection, R: KeyRule + Drop, C: HealthCheck + Drop> SharedGroup<
         told
     }
 
-    /// Sets the load of a backend's identity, for all slots. Refused `OutOfMemory` where memory is refused; nothing is set then.
+    /// Sets the load of a backend's identity, for all slots.
+    ///
+    /// Refused `OutOfMemory` where memory is refused; nothing is set then.
     pub fn set_load<W: Wait>(
         &self,
         rt: &W,

@@ -1,6 +1,5 @@
-//! What passes read of a group that threads share, and the updates, entries and selections that go with a pass.
-//! Readings load a word and take no lock. An entry loads its slot's word under the group's lock, and a selection takes none but those of
-//! its words.
+//! Readings by passes of a group that threads share, and the updates, entries and selections that go with a pass. Readings load a word and
+//! take no lock. An entry loads its slot's word under the group's lock, and a selection takes none but those of its words.
 ghost use Rattle.std.specs.Prelude.{◌≡◌, ◌≤◌, ◌<◌, ◌+◌, ◌⊎◌, ⊤, Ok, IfOk, IfErr, IfSome, IfNone, MatchBool};
 ghost use Rattle.std.specs.Arc.{arc_value};
 ghost use Rattle.std.specs.Fn.{FnReturnsAt};
@@ -30,24 +29,28 @@ use std::alloc::Global;
 use std::sync::Wait;
 
 impl<S: BackendSelection, R: KeyRule + Drop, C: HealthCheck + Drop> SharedGroup<S, R, C> {
-    /// A new pass over the group's generations. It takes no lock and no memory.
+    /// Returns a new pass over the group's generations, without a lock or memory.
     pub fn pass(&self) -> GroupPass
         ensures { result.board ≡ self.now.board }
     {
         self.board.pass()
     }
 
-    /// The newest generation, by one load. It waits for nobody, and takes no lock and no memory.
+    /// Returns the newest generation, by one load.
+    ///
+    /// It never waits, and takes no lock and no memory.
     pub fn backend_generation_as(&self, pass: &mut GroupPass) -> u64
         requires { pass.old.board ≡ self.now.board }
         ensures { IsLoad pass.old 0 result pass.new }
     {
+        // `_board` is for the prover alone: it shows it the group's invariant, and does nothing at run time.
         let _board = &self.board;
         self.board.backend_generation_as(pass)
     }
 
-    /// The generation that a slot serves, by one load, or `None` without a load where no such slot is there. It waits for nobody, and
-    /// takes no lock and no memory.
+    /// Returns the generation that a slot serves, by one load, or `None` without a load where no such slot is there.
+    ///
+    /// It never waits, and takes no lock and no memory.
     pub fn selector_generation_as(&self, slot: usize, pass: &mut GroupPass) -> Option<u64>
         requires { pass.old.board ≡ self.now.board }
         ensures some { IfSome result (λ g. (slot + 1 < self.now.board.words) × IsLoad pass.old (slot + 1) g pass.new) }
@@ -57,8 +60,9 @@ impl<S: BackendSelection, R: KeyRule + Drop, C: HealthCheck + Drop> SharedGroup<
         self.board.selector_generation_as(slot, pass)
     }
 
-    /// Whether each slot serves this generation or a later one; true where there is no slot. It waits for nobody, and takes no lock
-    /// and no memory.
+    /// Returns whether each slot serves this generation or a later one; true where there is no slot.
+    ///
+    /// It never waits, and takes no lock and no memory.
     pub fn selectors_ready_for_as(&self, generation: u64, pass: &mut GroupPass) -> bool
         requires { pass.old.board ≡ self.now.board }
         ensures answer { MatchBool result (AreServed self.now.board pass.new generation)
@@ -69,7 +73,7 @@ impl<S: BackendSelection, R: KeyRule + Drop, C: HealthCheck + Drop> SharedGroup<
         self.board.selectors_ready_for_as(generation, pass)
     }
 
-    /// Lets two passes see what either has seen: afterwards neither is below the other as it was, in any word.
+    /// Joins what two passes have seen: afterwards neither is below what either was, in any word.
     pub fn meet<W: Wait>(&self, rt: &W, pass: &mut GroupPass, other: &mut GroupPass)
         requires { (pass.old.board ≡ self.now.board) × (other.old.board ≡ self.now.board) }
         ensures pass { HasMet self.now.board other.old pass.new }
@@ -80,7 +84,7 @@ impl<S: BackendSelection, R: KeyRule + Drop, C: HealthCheck + Drop> SharedGroup<
         self.board.meet(rt, pass, other);
     }
 
-    /// Has a pass see a generation that an update of this group answered: it loads the newest one until it is there.
+    /// Has a pass see a generation that an update of this group returned: it loads the newest one until it is there.
     pub fn catch_up<W: Wait>(&self, rt: &W, generation: u64, pass: &mut GroupPass)
         requires { pass.old.board ≡ self.now.board }
         ensures seen { generation ≤ newest_of pass.new }
@@ -91,11 +95,13 @@ impl<S: BackendSelection, R: KeyRule + Drop, C: HealthCheck + Drop> SharedGroup<
         self.board.catch_up(rt, 0, generation, pass);
     }
 
-    /// Updates the group as `update`, and has the pass see it: the generation that is answered is not past what the pass has seen.
+    /// Updates the group as `update` does, and has the pass see the newest generation, which is returned.
+    ///
+    /// The generation that is returned is not past what the pass has seen.
     ///
     /// # Errors
     ///
-    /// As `update`.
+    /// Those of `update`.
     pub fn update_as<W: Wait, D: BackendSource, K: MomentSource>(
         &self,
         rt: &W,
@@ -116,13 +122,14 @@ impl<S: BackendSelection, R: KeyRule + Drop, C: HealthCheck + Drop> SharedGroup<
         told
     }
 
-    /// Enters the selector that a slot serves, by a load of its word under the lock: the reader is in the generation that the pass saw
-    /// last. Where the load and the group differ, the lock is taken again.
+    /// Enters the selector that a slot serves, in the generation that the pass saw last.
+    ///
+    /// The slot's word is loaded under the lock. Where the load and the group differ, the lock is taken again.
     ///
     /// # Errors
     ///
-    /// `NoSuch` exactly where no such slot is there; `NumbersExhausted` where its readers are at 18446744073709551615; `OutOfMemory`
-    /// where memory is refused. Nobody has entered then.
+    /// `NoSuch` exactly where no such slot is there; `NumbersExhausted` where its readers are at 18446744073709551615; `OutOfMemory` where
+    /// memory is refused. No reader has entered then.
     pub fn enter_as<W: Wait>(
         &self,
         rt: &W,
@@ -155,8 +162,10 @@ impl<S: BackendSelection, R: KeyRule + Drop, C: HealthCheck + Drop> SharedGroup<
         unreachable!()
     }
 
-    /// Selects from the selector that a reader is in: the first accepted of the distinct backends among the first `max_iterations`
-    /// candidates of its walk for `key`. `accept` is asked once of each, in their order, until it answers true. It runs under no lock.
+    /// Returns the first accepted backend of the selector that a reader is in, or `None`.
+    ///
+    /// `accept` is asked once of each of the distinct backends among the first `max_iterations` candidates for `key`, in their order,
+    /// until it returns true, while no lock is held.
     ///
     /// # Errors
     ///
@@ -199,7 +208,7 @@ impl<S: BackendSelection, R: KeyRule + Drop, C: HealthCheck + Drop> SharedGroup<
     }
 }
 
-// The words of a reader's walk. Others draw from them too, so a draw may give any word.
+// The words of a reader's walk. Other walks draw from them too, so a draw may give any word.
 #[derive(Drop)]
 struct ReaderDraws<'g, 'r, S: BackendSelection, R: KeyRule + Drop, C, W> {
     group: &'g SharedGroup<S, R, C>,

@@ -1,4 +1,4 @@
-//! One thread's way to a group that threads share: each call takes the group's lock, and with it the registry's and the gate's where it
+//! Implements `GroupPort` over a group that threads share: each call takes the group's lock, and the registry's and the gate's where it
 //! needs them. No build and no destruction runs under a lock.
 ghost use Rattle.std.specs.Prelude.{◌≡◌};
 ghost use Rattle.std.proofs.Common.{subst, sym};
@@ -25,7 +25,7 @@ use std::alloc::Global;
 use std::collections::BTreeSet;
 use std::sync::Wait;
 
-/// One thread's way to a group that threads share.
+/// One thread's port of a group that threads share.
 #[derive(Drop)]
 pub struct LockedPort<'g, 'r, S: BackendSelection, R: KeyRule + Drop, C, W> {
     pub group: &'g SharedGroup<S, R, C>,
@@ -55,6 +55,7 @@ impl<'g, 'r, S: BackendSelection, R: KeyRule + Drop, C: HealthCheck + Drop, W: W
         let job = refused.into_job();
         let gates: &SelectorRebuildGate = &*group.gate;
         let mut held = group.lock.take(self.rt);
+        // `_gate` and `founded()` are for the prover alone: they show it the group's invariant, and do nothing at run time.
         held.value.founded();
         let mut cells = registries.take(self.rt);
         let mut gate = gates.take(self.rt);
@@ -117,7 +118,7 @@ impl<'g, 'r, S: BackendSelection, R: KeyRule + Drop, C: HealthCheck + Drop, W: W
 
     ghost readies = { λ p r b a q. ReadyUnder R.gives p.group.now r b a × (q.group.now ≡ p.group.now) };
 
-    // Of which words others' draws leave nothing is said.
+    // Nothing is said of the words that other threads' draws leave.
     ghost draws = { λ p r d q. q.group.now ≡ p.group.now };
 
     ghost taken = { λ p slot r q. TakenUnder p.group.now.core slot r × (q.group.now ≡ p.group.now) };

@@ -1,4 +1,4 @@
-//! What threads read of a group that they share: each call takes the group's lock once, and answers what stood then.
+//! Readings of a group that threads share. Each call takes the group's lock once, and returns what was true then.
 ghost use Rattle.std.specs.Prelude.{◌≡◌};
 ghost use Rattle.lb_rebuild_slots.specs.SlotsCalls.{at_slot};
 ghost use Rattle.lb_rebuild_slots.specs.SlotsHistory.{past_of, newest, is_cancelled, served, timing as timing_after};
@@ -15,10 +15,11 @@ use lb_select_base::walk::BackendSelection;
 use std::sync::Wait;
 
 impl<S: BackendSelection, R: KeyRule + Drop, C: HealthCheck + Drop> SharedGroup<S, R, C> {
-    /// The newest generation of the backends; 0 before the first membership.
+    /// Returns the newest generation of the backends; 0 before the first membership.
     pub fn backend_generation<W: Wait>(&self, rt: &W) -> u64
         ensures { Seen self.now.core (λ v. After v (λ made e. result ≡ newest (slot_events e))) }
     {
+        // `_gate` and `founded()` are for the prover alone: they show it the group's invariant, and do nothing at run time.
         let _gate = &self.gate;
         let held = self.lock.take(rt);
         let group = held.value.core();
@@ -28,7 +29,7 @@ impl<S: BackendSelection, R: KeyRule + Drop, C: HealthCheck + Drop> SharedGroup<
         generation
     }
 
-    /// Whether the group is cancelled.
+    /// Returns whether the group is cancelled.
     pub fn is_cancelled<W: Wait>(&self, rt: &W) -> bool
         ensures { Seen self.now.core (λ v. After v (λ made e. result ≡ is_cancelled (slot_events e))) }
     {
@@ -41,7 +42,7 @@ impl<S: BackendSelection, R: KeyRule + Drop, C: HealthCheck + Drop> SharedGroup<
         told
     }
 
-    /// The generation that a slot serves, or `None` where no such slot is there.
+    /// Returns the generation that a slot serves, or `None` where no such slot is there.
     pub fn selector_generation<W: Wait>(&self, rt: &W, slot: usize) -> Option<u64>
         ensures { Seen self.now.core (λ v. After v (λ made e. result ≡ at_slot made slot (served (past_of slot (slot_events e))))) }
     {
@@ -54,7 +55,7 @@ impl<S: BackendSelection, R: KeyRule + Drop, C: HealthCheck + Drop> SharedGroup<
         generation
     }
 
-    /// The counts of a slot, or `None` where no such slot is there.
+    /// Returns the counts of a slot, or `None` where no such slot is there.
     pub fn selector_counts<W: Wait>(&self, rt: &W, slot: usize) -> Option<Counts>
         ensures { Seen self.now.core (λ v. After v (λ made e. result ≡ at_slot made slot (counts_after (past_of slot (slot_events e))))) }
     {
@@ -67,7 +68,7 @@ impl<S: BackendSelection, R: KeyRule + Drop, C: HealthCheck + Drop> SharedGroup<
         counts
     }
 
-    /// The timing of a slot's last publication: `None` where no such slot is there, and none in it before the first.
+    /// Returns the timing of a slot's last publication: `None` where no such slot is there, and none in it before the first.
     pub fn selector_timing<W: Wait>(&self, rt: &W, slot: usize) -> Option<Option<Timing>>
         ensures { Seen self.now.core (λ v. After v (λ made e. result ≡ at_slot made slot (timing_after (past_of slot (slot_events e))))) }
     {

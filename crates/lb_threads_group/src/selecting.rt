@@ -15,9 +15,10 @@ use std::alloc::Global;
 use std::sync::Wait;
 
 impl<S: BackendSelection, R: KeyRule + Drop, C: HealthCheck + Drop> SharedGroup<S, R, C> {
-    /// The first that `accept` accepts of the distinct backends among the first `max_iterations` candidates of what the slot serves,
-    /// asked with each and whether it is ready, or `None` where none of them is accepted or no such slot is there. `accept` runs under
-    /// no lock.
+    /// Returns the first backend that `accept` takes among the distinct candidates of what the slot serves, or `None`.
+    ///
+    /// `accept` is asked with a backend and whether it is ready, while no lock is held. Only the first `max_iterations` candidates are
+    /// looked at. It is `None` too where no such slot is there.
     ///
     /// # Errors
     ///

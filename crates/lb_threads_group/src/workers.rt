@@ -1,4 +1,4 @@
-//! Workers of a group that threads share: each builds for one slot, and destroys what the slot retired, until the group is cancelled.
+//! The workers of a group that threads share: each builds for one slot, and destroys what the slot retired, until the group is cancelled.
 
 use crate::group::SharedGroup;
 use crate::port::LockedPort;
@@ -24,9 +24,10 @@ enum Next {
     End,
 }
 
-/// Makes the caller's thread the worker of a slot, unless the slot has one: it takes turns until the group is cancelled, no build of the
-/// slot is under way, and what the slot retired is destroyed and reported. Between turns with nothing to do the thread sleeps: until a
-/// retry is due, or until it is woken. Whether it was the slot's worker.
+/// Makes the caller's thread the worker of a slot, unless the slot has one. Returns whether it was the slot's worker.
+///
+/// It takes turns until the group is cancelled, no build of the slot is under way, and what the slot retired is destroyed and reported.
+/// Between turns with nothing to do the thread sleeps: until a retry is due, or until it is woken.
 pub fn work<
     S: BackendSelection,
     R: KeyRule + Drop,
@@ -42,7 +43,7 @@ pub fn work<
     true
 }
 
-/// What `work` does between `claim_slot` and `leave_slot`, for whoever calls these himself.
+/// Does what `work` does between `claim_slot` and `leave_slot`, for a caller that calls these itself.
 pub fn take_turns<
     S: BackendSelection,
     R: KeyRule + Drop,
@@ -51,7 +52,7 @@ pub fn take_turns<
     K: MomentSource,
 >(rt: &W, alloc: Global, group: &SharedGroup<S, R, C>, slot: usize, clock: &mut K) {
     for _ in rt.forever() {
-        // What wakes from here on ends the sleep below.
+        // A wake from here on ends the sleep below.
         let seen = group.wakes().seen();
         if group.is_let_go() && !group.is_cancelled(rt) {
             // It wakes all, this thread too, so it is done once.
@@ -76,7 +77,7 @@ fn turn_of<
     turn_on(alloc, &mut port, slot, clock)
 }
 
-// A turn, and what comes after it. Of a build that failed a line of the log tells.
+// Takes a turn, and returns what comes after it. A build that failed is logged.
 fn turn_on<
     'g,
     'r,
@@ -95,7 +96,7 @@ fn turn_on<
         Ok(Turn::NotDue(moment)) => Next::Sleep(moment.saturating_sub(clock.now())),
         Ok(Turn::Building | Turn::Nothing | Turn::Busy) => Next::Sleep(LONGEST),
         Ok(Turn::Cancelled) => last_turn(port, slot),
-        // The slot isn't there.
+        // There is no such slot.
         Err(_) => Next::End,
     }
 }
@@ -106,7 +107,7 @@ fn last_turn<'g, 'r, S: BackendSelection, R: KeyRule + Drop, C: HealthCheck + Dr
     port: &mut LockedPort<'g, 'r, S, R, C, W>,
     slot: usize,
 ) -> Next {
-    // In this order: a build that ends after the look leaves its selector to whoever built it, and none begins any more.
+    // In this order: a build that ends after the look leaves its selector to the thread that built it, and none begins any more.
     let is_building = port.group.is_building(port.rt, slot);
     match port.take_retired(slot) {
         Ok(retired) => {

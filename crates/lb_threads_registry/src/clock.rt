@@ -3,7 +3,7 @@
 use lb_select_base::moments::MomentSource;
 use std::time::Clock;
 
-/// The runtime's monotonic clock. A reading that fails answers the last moment that was read.
+/// The runtime's monotonic clock. A reading that fails returns the last moment that was read.
 #[derive(Clone, Copy)]
 pub struct RuntimeClock<W> {
     rt: W,
@@ -11,7 +11,7 @@ pub struct RuntimeClock<W> {
 }
 
 impl<W: Clock> RuntimeClock<W> {
-    /// The clock of this runtime.
+    /// Returns the clock of this runtime.
     pub fn new(rt: W) -> RuntimeClock<W> {
         RuntimeClock { rt, last: 0 }
     }

@@ -1,5 +1,5 @@
-//! A gate of selector rebuilds that threads share.
-//! Permits are granted and given back under its lock; who has it lent makes one call of a group with it.
+//! A gate of selector rebuilds that threads share. Permits are granted and given back under its lock, which is held for one call of a
+//! group.
 ghost use Rattle.std.specs.Prelude.{◌≡◌, IfErr, IfOk, IfSome};
 
 use crate::lock::{KeyedLock, TakenValue};
@@ -35,7 +35,7 @@ impl Model for SelectorRebuildGate {
 }
 
 impl SelectorRebuildGate {
-    /// A free gate that differs from every other gate.
+    /// Returns a free gate that differs from every other gate.
     ///
     /// # Errors
     ///
@@ -46,7 +46,7 @@ impl SelectorRebuildGate {
         SelectorRebuildGate::of(alloc, GateCore::new(alloc)?)
     }
 
-    /// This gate, for threads.
+    /// Returns this gate behind a lock, for threads.
     ///
     /// # Errors
     ///
@@ -63,12 +63,14 @@ impl SelectorRebuildGate {
         })
     }
 
-    /// What wakes the workers of all the gate's groups.
+    /// Returns what wakes the workers of all the gate's groups.
     pub fn wakes(&self) -> &Wakes {
         &self.wakes
     }
 
-    /// The gate itself, for one call of a group; `put` ends it. The thread sleeps while another one has it.
+    /// Takes the gate itself out of its lock, for one call of a group; `put` ends it.
+    ///
+    /// The thread sleeps while another one has it.
     pub fn take<R: Wait>(&self, rt: &R) -> TakenValue<GateCore, Snapshot<GateCore>>
         ensures gate { result.value.id ≡ self.now.id }
         ensures here { result.seat.table_id ≡ self.now.lock }
@@ -76,7 +78,7 @@ impl SelectorRebuildGate {
         self.lock.take(rt)
     }
 
-    /// Puts this gate back.
+    /// Puts this gate back under its lock.
     pub fn put(&self, held: TakenValue<GateCore, Snapshot<GateCore>>)
         requires gate { held.value.id ≡ self.now.id }
         requires here { held.seat.table_id ≡ self.now.lock }
@@ -84,10 +86,11 @@ impl SelectorRebuildGate {
         self.lock.put(held);
     }
 
-    /// The gate's permit, or `None` where it is out. It takes no memory.
+    /// Takes the gate's permit and returns it, or `None` where it is out. It takes no memory.
     pub fn grant<R: Wait>(&self, rt: &R) -> Option<Permit>
         ensures { IfSome result (λ p. p ≡ self.now.id) }
     {
+        // `_lock` is for the prover alone: it shows it the lock's fact, and does nothing at run time.
         let _lock = &self.lock;
         let mut held = self.lock.take(rt);
         let permit = held.value.grant();
@@ -95,7 +98,7 @@ impl SelectorRebuildGate {
         permit
     }
 
-    /// Takes back the gate's own permit, and the gate is free again.
+    /// Takes back the gate's own permit: the gate is free again.
     pub fn give_back<R: Wait>(&self, rt: &R, permit: Permit)
         requires { permit ≡ self.now.id }
     {

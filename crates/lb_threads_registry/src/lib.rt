@@ -1,5 +1,5 @@
-//! A lock whose value keeps a fact about a key that is fixed when the lock is made, so that what a thread finds under the lock is
-//! known to be the lock's own: std's `Mutex` tells nothing of its value but the invariant of the value's type.
+//! A lock whose value keeps a fact about a key that is fixed when the lock is made, so that what a thread finds under the lock is known to
+//! be the lock's own; and the gate and the registry behind it. Of the value of std's `Mutex` only the invariant of its type is known.
 #![tactic(auto)]
 
 pub mod clock;

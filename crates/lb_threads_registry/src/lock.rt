@@ -8,7 +8,7 @@ use std::alloc::{AllocError, Global};
 use std::hint::spin_loop;
 use std::sync::Wait;
 
-// What the lock's word says: the value is at home; it is out; it is out, and a thread may sleep until it is back. Whoever has slept
+// What the lock's word says: the value is there; it is out; it is out, and a thread may sleep until it is back. A thread that has slept
 // takes it with the last, since others may sleep on.
 const FREE: u64 = 0;
 
@@ -35,7 +35,7 @@ pub struct TakenValue<T, K> {
 }
 
 impl<T: Drop, K, I: LockRule<T, K>> KeyedLock<T, K, I> {
-    /// A free lock with this value and this key.
+    /// Returns a lock with this value and this key, which no thread holds.
     ///
     /// # Errors
     ///
@@ -52,7 +52,7 @@ impl<T: Drop, K, I: LockRule<T, K>> KeyedLock<T, K, I> {
         }
     }
 
-    /// The value, as soon as no other thread has it; until then the thread sleeps.
+    /// Takes the value out and returns it, as soon as no other thread has it; until then the thread sleeps.
     pub fn take<R: Wait>(&self, rt: &R) -> TakenValue<T, K>
         ensures here { result.seat.table_id ≡ self.now.table.shared.table_id }
         ensures fact { I.holds self.now.table.shared.key result.value }

@@ -1,4 +1,4 @@
-//! Registries that threads share, made by their rule of keys.
+//! Makes registries that threads share, by their rule of keys.
 ghost use Rattle.std.specs.Prelude.{◌≡◌, [], IfErr, IfOk};
 ghost use Rattle.lb_health_registry.specs.Keys.{by_address, by_identity};
 ghost use Rattle.lb_health_registry.specs.Registry.{IsRegistryAfter};
@@ -11,7 +11,9 @@ use lb_select_base::refusal::Refusal;
 use std::alloc::Global;
 
 impl<C: HealthCheck + Drop> HealthRegistry<Rule<NoRule>, C> {
-    /// Returns a registry without views and without a check, whose backends share a cell where their address and weight are the same.
+    /// Returns a registry that is keyed by identity: backends share a cell where their address and weight are the same.
+    ///
+    /// It has no views and no check.
     ///
     /// # Errors
     ///
@@ -23,7 +25,9 @@ impl<C: HealthCheck + Drop> HealthRegistry<Rule<NoRule>, C> {
         HealthRegistry::over(alloc, keyed_by_identity(alloc))
     }
 
-    /// Returns a registry without views and without a check, whose backends share a cell where their address is the same.
+    /// Returns a registry that is keyed by address: backends share a cell where their address is the same.
+    ///
+    /// It has no views and no check.
     ///
     /// # Errors
     ///

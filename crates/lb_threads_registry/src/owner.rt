@@ -16,10 +16,10 @@ pub(crate) struct ViewNote {
     pub(crate) is_gone: AtomicBool,
 }
 
-/// The owner of a view. Where it is dropped, the next call of the registry marks the view for removal and lets its cells go.
+/// The owner of a view. Where it is dropped, the next call of the registry marks the view for removal and releases its cells.
 pub struct ViewOwner {
     pub(crate) note: Arc<ViewNote>,
-    // Tells the registry to look at its notes.
+    // Has the registry look at its notes.
     pub(crate) some_gone: Arc<AtomicBool>,
 }
 

@@ -1,5 +1,5 @@
-//! A registry of health that threads share, and the passes that check its targets, one after another or beside each other.
-//! No check runs under the registry's lock: a pass copies its targets, and each verdict takes the lock for one call.
+//! A registry of health that threads share, and the passes that check its targets, one after another or at the same time. No check runs
+//! under the registry's lock: a pass copies its targets, and each verdict takes the lock for one call.
 ghost use Rattle.std.specs.Prelude.{◌≡◌, ◌∷◌, false, length, Err, IfErr, IfOk, OnErr};
 ghost use Rattle.lb_health_registry.specs.Registry.{IsGrowthRefusal, IsUpdateRefusal, targets_after};
 ghost use Rattle.lb_health_registry.specs.RegistryEvents.{Marked, views_after};
@@ -53,7 +53,7 @@ pub struct HealthRegistry<R: KeyRule + Drop = Rule<NoRule>, C = BoxedCheck> {
     check: OnceLock<C>,
     // Counts the cells that flipped.
     changes: AtomicU64,
-    // Of the views that have owners.
+    // The notes of the views that have owners.
     notes: Mutex<Vec<Arc<ViewNote>>>,
     // Whether an owner was dropped since the notes were looked through.
     some_gone: Arc<AtomicBool>,
@@ -68,7 +68,9 @@ impl<R: KeyRule + Drop, C> Model for HealthRegistry<R, C> {
 }
 
 impl<R: KeyRule + Drop, C: HealthCheck + Drop> HealthRegistry<R, C> {
-    /// Returns this registry behind a lock, without a check. Refused `OutOfMemory` where memory for the lock is refused.
+    /// Returns this registry behind a lock, without a check.
+    ///
+    /// Refused `OutOfMemory` where memory for the lock is refused.
     pub fn over(alloc: Global, registry: Registry<R>) -> Result<HealthRegistry<R, C>, Refusal>
         ensures made { IfOk result (λ h. h.start ≡ registry) }
         ensures refused { IfErr result (λ e. e ≡ Refusal.OutOfMemory) }
@@ -103,8 +105,10 @@ impl<R: KeyRule + Drop, C: HealthCheck + Drop> HealthRegistry<R, C> {
         self.put(TakenValue { value, seat });
     }
 
-    /// Takes the registry itself, for one call of a view or a group; `put` ends it. The thread sleeps while another one has it. Views
-    /// whose owners are gone are marked for removal first. A verdict goes through `observe`, which counts it where it flips a cell.
+    /// Takes the registry itself out of its lock, for one call of a view or a group; `put` ends it.
+    ///
+    /// The thread sleeps while another one has it. Views whose owners are gone are marked for removal first. A verdict goes through
+    /// `observe`, which counts it where it flips a cell.
     pub fn take<W: Wait>(&self, rt: &W) -> HeldRegistry<R>
         ensures registry { IsRegistryOf R.gives self.now.start result.value }
         ensures here { result.seat.table_id ≡ self.now.lock }
@@ -133,8 +137,10 @@ impl<R: KeyRule + Drop, C: HealthCheck + Drop> HealthRegistry<R, C> {
         remove_gone(registry, &mut notes);
     }
 
-    /// Returns the owner of a view of this registry, whose drop is noted without a lock: the next call of the registry marks the view
-    /// for removal then, and lets go of the cells of the generation that the owner named last.
+    /// Returns the owner of a view of this registry, whose drop is noted without a lock.
+    ///
+    /// After that drop the next call of the registry marks the view for removal, and releases the cells of the generation that the owner
+    /// named last.
     ///
     /// # Errors
     ///
@@ -155,7 +161,7 @@ impl<R: KeyRule + Drop, C: HealthCheck + Drop> HealthRegistry<R, C> {
         Ok(ViewOwner { note, some_gone })
     }
 
-    /// Puts this registry back.
+    /// Puts this registry back under its lock.
     pub fn put(&self, held: HeldRegistry<R>)
         requires registry { IsRegistryOf R.gives self.now.start held.value }
         requires here { held.seat.table_id ≡ self.now.lock }
@@ -163,7 +169,9 @@ impl<R: KeyRule + Drop, C: HealthCheck + Drop> HealthRegistry<R, C> {
         self.lock.put(held);
     }
 
-    /// Sets the check. Refused `HealthCheckSet` where one is set, which stays; the one handed in is dropped then.
+    /// Sets the check.
+    ///
+    /// Refused `HealthCheckSet` where one is set, which stays; the new one is dropped then.
     pub fn set_health_check<W: Wait>(&self, rt: &W, check: C) -> Result<(), Refusal>
         ensures { IfErr result (λ e. e ≡ Refusal.HealthCheckSet) }
     {
@@ -173,12 +181,12 @@ impl<R: KeyRule + Drop, C: HealthCheck + Drop> HealthRegistry<R, C> {
         }
     }
 
-    /// Whether a check is set. It takes no memory.
+    /// Returns whether a check is set, without taking memory.
     pub fn has_health_check(&self) -> bool {
         self.check.get().is_some()
     }
 
-    /// How many targets there are, after the marks that wait are applied.
+    /// Returns how many targets there are, after the marks that wait are applied.
     ///
     /// # Errors
     ///
@@ -194,11 +202,11 @@ impl<R: KeyRule + Drop, C: HealthCheck + Drop> HealthRegistry<R, C> {
         told
     }
 
-    /// The targets with their cells, by identity and then by view, after the marks that wait are applied.
+    /// Returns the targets with their cells, by identity and then by view, after the marks that wait are applied.
     ///
     /// # Errors
     ///
-    /// As `target_count`.
+    /// Those of `target_count`.
     pub fn targets<W: Wait>(&self, rt: &W, alloc: Global) -> Result<Vec<Target>, Refusal>
         ensures told { UnderRegistry R.gives self.now.start (λ x y. IsApplied R.gives
             (λ key_of events targets. targets.items ≡ targets_after key_of events) x result y) }
@@ -210,7 +218,9 @@ impl<R: KeyRule + Drop, C: HealthCheck + Drop> HealthRegistry<R, C> {
         told
     }
 
-    /// Hands a verdict to a cell; whether its health flipped. Refused `NoSuch` where the cell is kept no longer. It takes no memory.
+    /// Gives a verdict to a cell, and returns whether its health flipped.
+    ///
+    /// Refused `NoSuch` where the cell is kept no longer. It takes no memory.
     pub fn observe<W: Wait>(
         &self,
         rt: &W,
@@ -229,7 +239,7 @@ impl<R: KeyRule + Drop, C: HealthCheck + Drop> HealthRegistry<R, C> {
         answer
     }
 
-    // Hands a verdict to a cell, which is all that the lock is taken for.
+    // Gives a verdict to a cell, which is all that the lock is taken for.
     fn hand_over<W: Wait>(
         &self,
         rt: &W,
@@ -247,12 +257,14 @@ impl<R: KeyRule + Drop, C: HealthCheck + Drop> HealthRegistry<R, C> {
         answer
     }
 
-    /// How many verdicts flipped a cell: another number tells that what is ready may be other than before. It takes no lock.
+    /// Returns how many verdicts flipped a cell. Where the number is another one, what is ready may be another set.
+    ///
+    /// It takes no lock.
     pub fn changes(&self) -> u64 {
         self.changes.load(SeqCst)
     }
 
-    /// Whether a cell is kept and healthy. It takes no memory.
+    /// Returns whether a cell is kept and healthy, without taking memory.
     pub fn cell_ready<W: Wait>(&self, rt: &W, cell: u64) -> bool
         ensures { SeenIn R.gives self.now.start (λ x. IsCellReady R.gives x cell result) }
     {
@@ -262,7 +274,9 @@ impl<R: KeyRule + Drop, C: HealthCheck + Drop> HealthRegistry<R, C> {
         told
     }
 
-    /// Registers a view without backends, and returns its number: 1 for the first, and so on. The marks that wait are applied.
+    /// Registers a view without backends, and returns its number: 1 for the first, and so on.
+    ///
+    /// The marks that wait are applied.
     ///
     /// # Errors
     ///
@@ -278,7 +292,7 @@ impl<R: KeyRule + Drop, C: HealthCheck + Drop> HealthRegistry<R, C> {
         told
     }
 
-    /// Gives a view another membership, after the marks that wait are applied, as `Registry::update_view`.
+    /// Gives a view another membership, as `Registry::update_view` does, after the marks that wait are applied.
     ///
     /// # Errors
     ///
@@ -310,7 +324,7 @@ impl<R: KeyRule + Drop, C: HealthCheck + Drop> HealthRegistry<R, C> {
     }
 }
 
-// Marks the views whose owners are gone for removal, and lets their cells go.
+// Marks the views whose owners are gone for removal, and releases their cells.
 fn remove_gone<R: KeyRule + Drop>(registry: &mut Registry<R>, notes: &mut Vec<Arc<ViewNote>>)
     ensures { IsRegistryOf R.gives registry.old registry.new }
 {
@@ -324,13 +338,14 @@ fn remove_gone<R: KeyRule + Drop>(registry: &mut Registry<R>, notes: &mut Vec<Ar
 }
 
 impl<R: KeyRule + Drop + Send, C: HealthCheck + Drop + Send + Sync> HealthRegistry<R, C> {
-    /// Applies the marks that wait, and then checks each target once, if a check is set. With `parallel` each check runs on a thread
-    /// of its own, and those for which none can be started run on the caller's. Each verdict reaches the cell of its target, if
-    /// that is still kept.
+    /// Applies the marks that wait, and then checks each target once, if a check is set.
+    ///
+    /// With `parallel` each check runs on a thread of its own, and those for which none can be started run on the caller's. Each verdict
+    /// reaches the cell of its target, if that is still kept.
     ///
     /// # Errors
     ///
-    /// As `target_count`, before the first check.
+    /// Those of `target_count`, before the first check.
     pub fn run_health_check<W: Log + Threads + Wait + Sync>(
         &self,
         rt: &W,
@@ -373,7 +388,7 @@ impl<R: KeyRule + Drop + Send, C: HealthCheck + Drop + Send + Sync> HealthRegist
         });
     }
 
-    // Checks a target, hands the verdict to its cell, and tells of a flip outside the lock.
+    // Checks a target, gives the verdict to its cell, and reports a flip outside the lock.
     fn check_one<W: Log + Wait>(&self, rt: &W, alloc: Global, check: &C, target: &Target) {
         let verdict = check.check(alloc, &target.backend);
         let healthy = verdict.is_ok();

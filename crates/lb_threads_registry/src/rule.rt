@@ -1,5 +1,5 @@
-//! What the word, the place and the seats of a lock keep true between any two steps.
-//! The word is 0 while the value is at home, and who changes it from 0 to 1 takes the value out.
+//! What the word, the place and the seats of a lock keep true between any two steps. The word is 0 while the value is there, and the
+//! thread that changes it from 0 to 1 takes the value out.
 ghost use Rattle.lb_threads_registry.specs.Keyed.{FreeIsHome, Took};
 
 use atomic_table::{Play, TableRule};
@@ -7,11 +7,11 @@ use std::marker::PhantomData;
 
 /// What the value under a lock keeps, by the lock's key.
 pub trait LockRule<T, K> {
-    /// The fact about key and value: whoever takes the value is told it, and owes it when the value is put back.
+    /// The fact about key and value: a thread that takes the value may use it, and has to prove it when the value is put back.
     ghost holds: { K → T → Type 0 };
 }
 
-/// The rule of a lock's table: where the word is 0, the value is at home and keeps the lock's fact.
+/// The rule of a lock's table: where the word is 0, the value is there and keeps the lock's fact.
 pub struct Locked<I> {
     of: PhantomData<I>,
 }

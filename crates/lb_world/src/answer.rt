@@ -1,4 +1,4 @@
-//! What a world answers to a step. Some answers carry a number more than a script prints: a reader's generation, a selection's
+//! The answers of a world to its steps. Some answers contain a number more than a script prints: a reader's generation, a selection's
 //! counter of tickets. A refused step has changed nothing; a selection that is refused for memory may have drawn tickets.
 use lb_health_registry::targets::Target;
 use lb_rebuild_slots::answers;
@@ -82,11 +82,11 @@ pub enum Answer {
     Left(u64),
     /// The retired selector was destroyed.
     Destroyed,
-    /// The backend that was selected, and where the counter of tickets stands.
+    /// The backend that was selected, and the counter of tickets.
     Backend(Backend, u64),
-    /// No backend was selected; where the counter of tickets stands.
+    /// No backend was selected; the counter of tickets.
     NoBackend(u64),
-    /// The selection was refused for memory; where the counter of tickets stands.
+    /// The selection was refused for memory; the counter of tickets.
     NotSelected(u64),
     /// Whether the verdict flipped the health of its cell.
     Flipped(bool),

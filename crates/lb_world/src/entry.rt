@@ -1,5 +1,5 @@
-//! A group of a world: its core with the numbers of its registry and its gate, what is held for its slots, and its loads.
-//! Each call here is a step at the group; its contract is told by the world's history, with the group's number as a parameter.
+//! A group of a world: its core with the numbers of its registry and its gate, what is held for its slots, and its loads. Each call here
+//! is a step at the group; its contract is stated by the world's history, with the group's number as a parameter.
 ghost use Rattle.std.specs.Prelude.{◌≡◌, ℕ, Some, if◌then◌else◌};
 ghost use Rattle.lb_rebuild_slots.specs.SlotsCalls.{at_slot};
 ghost use Rattle.lb_rebuild_slots.specs.SlotsHistory.{past_of};
@@ -53,7 +53,7 @@ impl<S: BackendSelection> Model for Entry<S> {
 }
 
 impl<S: BackendSelection> Entry<S> {
-    // Lets the group go with the world, and what is held for its slots.
+    // Ends the group with the world, and what is held for its slots.
     pub(crate) fn close(self) {
         let Entry {
             registry: _,
@@ -82,7 +82,7 @@ impl<S: BackendSelection> Entry<S> {
         self.registry
     }
 
-    // Takes the step, and answers it.
+    // Takes the step, and returns its answer.
     pub(crate) fn take(
         &mut self,
         alloc: Global,

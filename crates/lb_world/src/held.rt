@@ -1,5 +1,5 @@
-//! What a world holds for others: the job or the built selector of each slot, and the readers.
-//! A job and a built selector lie here between the steps that ask, build and publish.
+//! What a world keeps between steps: the job or the built selector of each slot, and the readers. A job and a built selector stay here
+//! between the steps that ask, build and publish.
 ghost use Rattle.std.specs.Prelude.{◌≡◌, ◌≤◌, [], MatchOption, replicate, vec_capacity};
 ghost use Rattle.lb_world.specs.Views.{nothing, building, built, NotBuilding, NotBuilt};
 ghost use Rattle.lb_world.specs.Works.{work_value};
@@ -17,7 +17,7 @@ pub(crate) enum Work<S: BackendSelection> {
     Built(Built<S>),
 }
 
-// One place for a slot's work, made with the group, so that asking takes no memory.
+// Holds a slot's job or built selector between steps. It is made with the group, so that asking takes no memory.
 pub(crate) struct InHand<S: BackendSelection> {
     pub(crate) work: Work<S>,
 }
@@ -32,7 +32,7 @@ impl<S: BackendSelection> Model for InHand<S> {
 }
 
 impl<S: BackendSelection> InHand<S> {
-    // Lets the work go with the world.
+    // Ends the work with the world.
     pub(crate) fn close(self) {
         let InHand { work } = self;
         match work {
@@ -130,7 +130,7 @@ impl<S: BackendSelection> OpenReader<S> {
         &self.reader
     }
 
-    // Lets the reader go with the world.
+    // Ends the reader with the world.
     pub(crate) fn close(self) {
         let OpenReader { group: _, reader } = self;
         reader.close();

@@ -7,7 +7,7 @@ use lb_select_base::backend::{Backend, Ext};
 use lb_select_base::refusal::Refusal;
 use std::alloc::Global;
 
-/// What stands where a caller's rule would: address and weight, as `Rule::Identity`. No step makes a registry of it.
+/// The rule in the place of a caller's: address and weight, as `Rule::Identity`. No step makes a registry of it.
 #[derive(Drop)]
 pub struct ByIdentity;
 

@@ -57,7 +57,7 @@ pub enum Step<C: Drop> {
         slot: usize,
         now: u128,
     },
-    /// Lets the build that was granted fail.
+    /// Has the build that was granted fail.
     FailBuild {
         group: u64,
         slot: usize,
@@ -92,7 +92,7 @@ pub enum Step<C: Drop> {
     Leave {
         reader: u64,
     },
-    /// Destroys what a slot retired, once nobody reads it, and reports it.
+    /// Destroys what a slot retired, once no reader is in it, and reports it.
     Destroy {
         group: u64,
         slot: usize,

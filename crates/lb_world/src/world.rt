@@ -1,6 +1,6 @@
-//! The world: tables of registries, gates, groups and readers, and one method for all steps at a group.
-//! Its contract is over histories alone; what lies in the tables is no part of it. That some history explains them is an invariant of the
-//! world, and a premise of the tables' calls where a step needs it.
+//! The world: tables of registries, gates, groups and readers, and one method for all steps at a group. Its contract is over histories
+//! alone; the contents of the tables are no part of it. That some history explains them is an invariant of the world, and a premise of the
+//! tables' calls where a step needs it.
 ghost use Rattle.std.specs.Prelude.{◌≡◌, ◌∷◌, [], map, IfOk, IfErr, vec_len};
 ghost use Rattle.lb_world.specs.Answers.{IsRun};
 ghost use Rattle.lb_world.specs.History.{History, after};
@@ -67,7 +67,7 @@ impl<S: BackendSelection> Drop for World<S> {
 }
 
 impl<S: BackendSelection> World<S> {
-    /// Makes a world without anything. It takes no memory.
+    /// Returns a world without anything. It takes no memory.
     pub fn new(alloc: Global) -> Self
         ensures { Stands (meaning_of S.BackendSelection) result [] }
     {
@@ -82,15 +82,19 @@ impl<S: BackendSelection> World<S> {
         }
     }
 
-    /// Shows that some history explains the world, for a caller who knows none. It does nothing.
+    /// States that some history explains the world, for a caller that knows none.
+    ///
+    /// Only for the prover: it does nothing at run time.
     pub fn past(&self)
         ensures { IsFounded (meaning_of S.BackendSelection) self.now }
     {
+        // For the prover alone: this shows it the world's invariant, and does nothing at run time.
         let _tables = &self.tables;
     }
 
-    /// Takes one step, and answers it as the definitions do after any history that explains the world. A refused step leaves
-    /// everything as it was, save that a selection refused for memory may have drawn tickets.
+    /// Takes one step, and returns the answer that the definitions give after any history that explains the world.
+    ///
+    /// A refused step leaves everything as it was, save that a selection refused for memory may have drawn tickets.
     pub fn step(&mut self, step: Step<S::Config>) -> Answer
         ensures { (h : History S.Config) → Stands (meaning_of S.BackendSelection) self.old h
             → Stands (meaning_of S.BackendSelection) self.new ((step_seen step, result) ∷ h) }
@@ -98,7 +102,9 @@ impl<S: BackendSelection> World<S> {
         self.tables.step(step)
     }
 
-    /// Takes the steps in their order, and answers each. Room for all answers is made before the first step is taken.
+    /// Takes the steps in their order, and returns their answers.
+    ///
+    /// Room for all answers is made before the first step is taken.
     ///
     /// # Errors
     ///
@@ -128,7 +134,9 @@ impl<S: BackendSelection> World<S> {
         Ok(answers)
     }
 
-    /// Takes a step that selects, and answers it as `step` does. It borrows key and random words, and takes no memory for them.
+    /// Takes a step that selects, and answers it as `step` does, with borrowed key and random words.
+    ///
+    /// It takes no memory for them.
     pub fn select(
         &mut self,
         group: u64,
@@ -146,7 +154,7 @@ impl<S: BackendSelection> World<S> {
 }
 
 impl<S: BackendSelection> Tables<S> {
-    // Lets everything go with the world.
+    // Ends everything with the world.
     fn close(self) {
         let Tables {
             alloc: _,

@@ -1,4 +1,4 @@
-//! The line that tells what a check came to, and the exit status beside it.
+//! The line that says what a check came to, and the exit status with it.
 ghost use Rattle.std.specs.Prelude.{◌≡◌, Some};
 ghost use Rattle.lbcheck.specs.Lines.{fault_text, meaning_text, check_text, replay_text, outcome_status};
 
@@ -71,7 +71,7 @@ impl fmt::Display for ReplayLine {
     }
 }
 
-/// The exit status: 0 where the check passed, else 1.
+/// Returns the exit status: 0 where the check passed, else 1.
 pub(crate) fn exit_status(outcome: Result<(), CheckError>) -> u8
     ensures { result ≡ outcome_status outcome }
 {

@@ -1,4 +1,4 @@
-//! Checks one backend as a balancer would, or an answer that lies in a file, and tells in one line what came of it.
+//! Checks one backend as a balancer would, or an answer that is in a file, and says in one line what came of it.
 #![tactic(auto)]
 
 mod arguments;

@@ -144,7 +144,7 @@ fn print_error<R: Print + Eprint>(rt: &R, error: &Error) -> io::Result<u8> {
     Ok(if error.use_stderr() { 2 } else { 0 })
 }
 
-/// Tells why there is no line of a check, as well as that can be told; the answer is the exit status.
+/// Prints why there is no line of a check, as well as that can be said, and returns the exit status.
 pub(crate) fn give_up<R: Print + Eprint>(rt: &R, error: &io::Error) -> u8 {
     match error.kind() {
         io::ErrorKind::OutOfMemory => {

@@ -16,7 +16,7 @@ const BAD_ARGUMENTS: &[u8] = b"error 0 BadArguments\n";
 
 const OUT_OF_MEMORY: &[u8] = b"error 1 OutOfMemory\n";
 
-// The line with which the program ends before it reads: it was given an argument, text or not, or there is no memory to tell.
+// The line with which the program ends before it reads: it was given an argument, text or not, or there is no memory to say so.
 fn early_end(rt: &(impl Env + AllocGlobal)) -> Option<&'static [u8]> {
     match env::args(rt) {
         Ok(arguments) => {

@@ -1,5 +1,5 @@
-//! What runs in threads of its own: the service that checks a registry's targets, the workers that build a group's selectors, the
-//! signal that ends them, and the notifier that they are ready. A `drive` function runs one of the machines of `schedule`.
+//! What runs on threads of its own: the service that checks a registry's targets, the workers that build a group's selectors, the signal
+//! that ends them, and the notifier that they are ready. A `drive` function runs one of the machines of `schedule`.
 pub use lb_background::drive::drive as drive_service;
 pub use lb_background::ready::{ReadyWatch, ServiceReadyNotifier, ready_pair};
 pub use lb_background::service::HealthCheckService;

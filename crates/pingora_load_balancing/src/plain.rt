@@ -1,6 +1,6 @@
-//! The plain states behind what threads share, for callers that have one thread or locks of their own: each call takes `&mut self`,
-//! and its contract speaks of the history of calls. Laws of these histories are in the modules of laws.
-//! Jobs, built selectors, readers, retired selectors and permits are values that have to be given back.
+//! The plain states behind what threads share, for callers that have one thread or locks of their own: each call takes `&mut self`, and
+//! its contract is stated by the history of calls. Laws of these histories are in the modules of laws. Jobs, built selectors, readers,
+//! retired selectors and permits are values that have to be given back.
 pub use lb_balancer_core::balancer_core::LoadBalancerCore;
 pub use lb_balancer_core::group_core::LoadBalancerGroupCore;
 pub use lb_balancer_core::lent::{LentBackends, LentGroupBackends};

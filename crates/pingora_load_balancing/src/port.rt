@@ -1,6 +1,5 @@
-//! A group by its calls alone: a trait of them, and an update, a worker's turn and a selection over any such port.
-//! `PlainPort` is the port of a plain group, `LockedPort` that of a group that threads share. The ports of runs have the calls
-//! that a machine of `schedule` asks for.
+//! A trait of a group's calls, and an update, a worker's turn and a selection over any port of that trait. `PlainPort` is the port of a
+//! plain group, `LockedPort` that of a group that threads share. The ports of runs have the calls that a machine of `schedule` asks for.
 pub use lb_background::port::ServicePort;
 pub use lb_balancer::port::BalancerPort;
 pub use lb_balancer_core::build::{RefusedJob, build};

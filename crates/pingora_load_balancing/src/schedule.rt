@@ -1,5 +1,5 @@
-//! When updates and checks are due, and what a balancer, a group or a service that runs in the background does next.
-//! Each is told events with their moments, and answers an action; its laws speak of every list of events.
+//! When updates and checks are due, and what a balancer, a group or a service that runs in the background does next. Each machine takes
+//! events with their moments, and returns an action; its laws hold for every list of events.
 pub use lb_background::background::BackgroundSchedule;
 pub use lb_background::balancer_run::LoadBalancerRun;
 pub use lb_background::event::{Action, Event};

@@ -1,6 +1,5 @@
-//! Selection of backends, under the upstream crate's names.
-//! Weighted selection has an algorithm for its words; consistent selection goes by a ring. `Chosen` is a selector whose kind is its
-//! configuration, for callers that learn the kind at run time.
+//! Selection of backends, under the upstream crate's names. A weighted selector takes its words from an algorithm, a consistent one uses a
+//! ring. `Chosen` is a selector whose kind is its configuration, for callers that learn the kind at run time.
 pub mod consistent;
 pub mod laws;
 

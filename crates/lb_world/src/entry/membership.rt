@@ -1,5 +1,5 @@
-//! Steps of a group's membership and selections: how a group is made and updated, and what its slots select.
-//! Every cause of refusal is tested before memory is taken.
+//! The steps of a group's membership and its selections: how a group is made and updated, and what its slots select. Every cause of
+//! refusal is tested before memory is taken.
 ghost use Rattle.std.specs.Prelude.{◌≡◌, ◌↔◌, ◌≤◌, ◌+◌, ◌^◌, ◌∷◌, ℕ, List, [], map, true, false, None, IfOk, IfErr, OnOk, OnErr, IsTrue};
 ghost use Rattle.std.specs.Prelude.{vec_len, vec_capacity};
 ghost use Rattle.lb_rebuild_slots.specs.SlotsCalls.{is_change, schedule_refusal as refusal_after};

@@ -1,5 +1,4 @@
-//! Steps of the readers of a group.
-//! A reader comes back to the group that it entered.
+//! The steps of the readers of a group. A reader comes back to the group that it entered.
 ghost use Rattle.std.specs.Prelude.{◌≡◌, ◌↔◌, ◌∷◌, [], List, IsTrue, IfOk};
 ghost use Rattle.lb_select_base.specs.Backends.{Member};
 ghost use Rattle.lb_rebuild_slots.specs.SlotsCalls.{Enters, at_slot, done_at};

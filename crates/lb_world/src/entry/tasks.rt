@@ -1,5 +1,5 @@
-//! Steps of the jobs of a slot: what is granted, built, lost, published or abandoned, and what is retired.
-//! What a slot's job has become lies in the slot's place from the ask on, so each of these finds there what the history tells.
+//! The steps of the jobs of a slot: what is granted, built, lost, published or abandoned, and what is retired. What a slot's job has
+//! become is in the slot's place from the ask on, so each of these finds there what the history says.
 ghost use Rattle.std.specs.Prelude.{◌≡◌, ℕ, MatchResult};
 ghost use Rattle.lb_rebuild_slots.specs.SlotCalls.{ask_told};
 ghost use Rattle.lb_world.specs.Meanings.{meaning_of};

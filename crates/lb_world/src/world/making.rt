@@ -1,5 +1,4 @@
-//! Steps that make registries, gates and groups.
-//! A group's selectors are built once; a refusal for memory goes after every other.
+//! The steps that make registries, gates and groups. A group's selectors are built once; a refusal for memory comes after every other.
 ghost use Rattle.std.specs.Prelude.{◌≡◌, ◌∷◌, List, [], map, Option, Some, None};
 ghost use Rattle.lb_select_base.specs.Backends.{Member};
 ghost use Rattle.lb_select_base.specs.Refusals.{earlier as earlier_of, least};

@@ -1,5 +1,4 @@
-//! Steps of readers.
-//! A reader has a number of its own for good; a number that was never given, or has left, is refused.
+//! The steps of readers. A reader has a number of its own for good; a number that was never given, or has left, is refused.
 ghost use Rattle.std.specs.Prelude.{◌≡◌, ◌∷◌};
 ghost use Rattle.lb_world.specs.History.{History};
 ghost use Rattle.lb_world.specs.Meanings.{meaning_of};

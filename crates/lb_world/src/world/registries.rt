@@ -1,5 +1,5 @@
-//! Steps at a registry: verdicts of checks, and its targets.
-//! A verdict reaches a cell that is kept; the targets are those after the marks that wait.
+//! The steps at a registry: verdicts of checks, and its targets. A verdict reaches a cell that is kept; the targets are those after the
+//! marks that wait.
 ghost use Rattle.std.specs.Prelude.{◌≡◌, ◌∷◌};
 ghost use Rattle.lb_world.specs.History.{History};
 ghost use Rattle.lb_world.specs.Meanings.{meaning_of};

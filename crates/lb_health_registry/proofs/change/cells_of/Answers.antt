@@ -13,7 +13,8 @@ use Rattle.lb_health_registry.proofs.change.cells_of.Goals as goal
 use Rattle.lb_health_registry.proofs.change.cells_of.Goals.{in-Some-copied+in_ok-clone+in_ok-insert, in_default}
 
 -- a member whose key has a cell
-told-insert : (key_of : Member → Member) (all : List (List Member)) (b : Member) (left : List Member) (old new cells : List (Member × ℕ)) (cell : ℕ)
+told-insert : (key_of : Member → Member) (all : List (List Member)) (b : Member) (left : List Member) (old new cells : List (Member × ℕ))
+    (cell : ℕ)
     → cell_now same_member all (key_of b) ≡ Some cell → new ≡ insert_entry member_cmp old b cell
     → fold (λ entries (p : Member × ℕ). insert_entry member_cmp entries p.0 p.1) old (filter_map (cell_pair key_of all) (b ∷ left)) ≡ cells
     → fold (λ entries (p : Member × ℕ). insert_entry member_cmp entries p.0 p.1) new (filter_map (cell_pair key_of all) left) ≡ cells
@@ -28,7 +29,8 @@ own-insert : (members rest : List Member) (old new : List (Member × ℕ)) (b : 
     → ((q : Member) → list_any (same_member q) (b ∷ rest) ≡ true → list_any (same_member q) members ≡ true)
     → HasOwnCells members old → HasOwnCells members new
 own-insert members rest old new b cell u left own q s =
-    elim (same_member b q) as (λ t. same_member b q ≡ t → IsSome (cond t (Some cell) (lookup (same_member q) old)) → list_any (same_member q) members ≡ true) [
+    elim (same_member b q) as (λ t. same_member b q ≡ t → IsSome (cond t (Some cell) (lookup (same_member q) old))
+    → list_any (same_member q) members ≡ true) [
       | true ↦ λ e _. let same : same_member q b ≡ true = same_equiv.symm q b ∙ e in left q (rw same refl)
       | false ↦ λ _ o. own q o
     ] refl (subst (λ o. IsSome o) (u q) s)
@@ -56,12 +58,15 @@ loop-backend-preserved g c =
             let key : k ≡ key_of b = rule b k c.in_ok-key.ensures.ok in
             let stored : lookup (same_member k) c.args.numbering.now.by_key.entries ≡ Some cell = search rules in
             let entries : w.insert.new.self.entries ≡ insert_entry member_cmp c.loop-backend.cells.entries b cell = search rules in
-            rw w.cells-is (told-insert key_of all b left c.loop-backend.cells.entries _ _ cell (sym (ap (cell_now same_member all) key) ∙ sym (numbered.cells k) ∙ stored) entries
+            rw w.cells-is (told-insert key_of all b left c.loop-backend.cells.entries _ _ cell (sym (ap (cell_now same_member all) key)
+            ∙ sym (numbered.cells k) ∙ stored) entries
             (rw step at (c.loop-backend.invariant.told key_of all rule numbered)))
         | in_default w ↦ search rules
       ];
       own = elim c.match-copied.branch [
-        | in-Some-copied+in_ok-clone+in_ok-insert w ↦ rw w.cells-is (own-insert members left c.loop-backend.cells.entries w.insert.new.self.entries b _ (rw w.in_ok-clone.ensures.cases at w.in_ok-insert.ensures.updates).0 among c.loop-backend.invariant.own)
+        | in-Some-copied+in_ok-clone+in_ok-insert w ↦
+            rw w.cells-is (own-insert members left c.loop-backend.cells.entries w.insert.new.self.entries b _
+            (rw w.in_ok-clone.ensures.cases at w.in_ok-insert.ensures.updates).0 among c.loop-backend.invariant.own)
         | in_default w ↦ rw w.cells-is c.loop-backend.invariant.own
       ];
       rest = rest-left members left b among;

@@ -22,9 +22,12 @@ returns-then-shares_key g c =
     let rest = drop (i + 1) views in
     let enough : length keys ≤ c.len.result = omega (arith, c.len.ensures.len) in
     let mine : any ≡ true
-    = sym (c.shares_key.ensures key_of rule ∙ ap (list_any (λ m. same_member k (key_of m))) (take_all c.len.result keys enough)) ∙ c.if-shares_key.true in
-    sym (sym (c.loop-view.invariant key_of rule) ∙ at_drop_more has views i v c.loop-view-test.true ∙ ap (λ (w : View). has (w ∷ rest)) (sym c.view-item.is)
-    ∙ taken_cons key_of k (view_value v) (map view_value rest) ∙ ap (λ b. (not b && any) || has rest) c.if-not-view.true ∙ ap (λ b. b || has rest) mine)
+    = sym (c.shares_key.ensures key_of rule ∙ ap (list_any (λ m. same_member k (key_of m))) (take_all c.len.result keys enough))
+    ∙ c.if-shares_key.true in
+    sym (sym (c.loop-view.invariant key_of rule) ∙ at_drop_more has views i v c.loop-view-test.true
+    ∙ ap (λ (w : View). has (w ∷ rest)) (sym c.view-item.is)
+    ∙ taken_cons key_of k (view_value v) (map view_value rest) ∙ ap (λ b. (not b && any) || has rest) c.if-not-view.true
+    ∙ ap (λ b. b || has rest) mine)
 
 pub loop-view-preserved : goal.loop-view-preserved
 loop-view-preserved g c =
@@ -42,7 +45,8 @@ loop-view-preserved g c =
       | else-not-view-via-then-not-view+else-shares_key w ↦
           let enough : length keys ≤ w.len.result = omega (arith, w.len.ensures.len) in
           and_none (not v.marked) any
-          (sym (w.shares_key.ensures key_of rule ∙ ap (list_any (λ m. same_member k (key_of m))) (take_all w.len.result keys enough)) ∙ w.if-shares_key.false)
+          (sym (w.shares_key.ensures key_of rule ∙ ap (list_any (λ m. same_member k (key_of m))) (take_all w.len.result keys enough))
+          ∙ w.if-shares_key.false)
       | else-not-view-via-else-not-view w ↦ ap (λ b. not b && any) w.if-not-view.false
     ] in
     sym (ap (λ b. b || has rest) none) ∙ sym (taken_cons key_of k (view_value v) (map view_value rest))

@@ -40,4 +40,5 @@ returns g c =
     λ key_of rule.
     let P : Member → Bool = λ m. same_member (key_of c.args.backend.now) (key_of m) in
     let over : c.loop-other.other-iterator ≡ [] = search rules in
-    sym (any-take-nil P c.loop-other.left) ∙ sym (ap (λ (ms : List Member). list_any P (take c.loop-other.left ms)) over) ∙ c.loop-other.invariant key_of rule
+    sym (any-take-nil P c.loop-other.left) ∙ sym (ap (λ (ms : List Member). list_any P (take c.loop-other.left ms)) over)
+    ∙ c.loop-other.invariant key_of rule

@@ -12,6 +12,7 @@ returns g c =
     λ key_of events d r. (
       r.state.pruned d,
       λ h.
-          some_is (λ x. IsHealthAfter (start_of (eq_by_cmp member_cmp) d (cell_events key_of events)) (verdicts_of d (cell_events key_of events)) x.health)
+          some_is (λ x. IsHealthAfter (start_of (eq_by_cmp member_cmp) d (cell_events key_of events))
+          (verdicts_of d (cell_events key_of events)) x.health)
           (value_at nat_cmp c.args.registry.now.table.cells d) (r.state.cells.kept d h),
     )

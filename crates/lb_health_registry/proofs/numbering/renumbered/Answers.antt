@@ -14,5 +14,6 @@ pub returns-clause-exhausted : goal.returns-clause-exhausted
 returns-clause-exhausted g c =
     λ all n. (
       λ e. c.numbered.ensures.exhausted e all n,
-      λ l. absurd (false≢true (sym c.if-are_too_many.false ∙ c.are_too_many.ensures.1 (omega (arith, starting g.met.K.Ord.total all _ _ c.args.keys.now n, l)))),
+      λ l. absurd (false≢true (sym c.if-are_too_many.false
+          ∙ c.are_too_many.ensures.1 (omega (arith, starting g.met.K.Ord.total all _ _ c.args.keys.now n, l)))),
     )

@@ -12,6 +12,7 @@ invariant-loop-place l =
       room : vec_len l.targets + length l.place-iterator ≤ vec_capacity l.targets;
       targets :
           (key_of : Member → Member) (events : List Event) → IsTableAfter member_cmp (cell_events key_of events) (table_value l.table)
-          → IsPruned member_cmp (cell_events key_of events) (table_value l.table) → l.targets.items ++ filter_map (target_at key_of events) l.place-iterator
+          → IsPruned member_cmp (cell_events key_of events) (table_value l.table)
+          → l.targets.items ++ filter_map (target_at key_of events) l.place-iterator
           ≡ l.fn.targets.items ++ filter_map (target_at key_of events) l.fn.order.entries;
     }

@@ -10,8 +10,18 @@ returns c =
     let y : ℕ = from_be_bytes w32 c.args.others.now in
     let p : ℕ = c.args.port in
     let q : ℕ = c.args.other_port in
-    let number : c.from.result * 65536 + c.from-2.result ≡ x * 65536 + p = omega (arith, c.from.ensures, c.from_be_bytes.ensures, c.from-2.ensures) in
-    let other : c.from-3.result * 65536 + c.from-4.result ≡ y * 65536 + q = omega (arith, c.from-3.ensures, c.from_be_bytes-2.ensures, c.from-4.ensures) in
+    let number : c.from.result * 65536 + c.from-2.result ≡ x * 65536 + p = omega (
+      arith,
+      c.from.ensures,
+      c.from_be_bytes.ensures,
+      c.from-2.ensures,
+    ) in
+    let other : c.from-3.result * 65536 + c.from-4.result ≡ y * 65536 + q = omega (
+      arith,
+      c.from-3.ensures,
+      c.from_be_bytes-2.ensures,
+      c.from-4.ensures,
+    ) in
     c.cmp.ensures ∙ ap (λ n. nat_cmp n (c.from-3.result * 65536 + c.from-4.result)) number ∙ ap (nat_cmp (x * 65536 + p)) other
     ∙ two_digits 65536 x y p q (omega arith) (omega arith)
     ∙ ap (λ o. ordering_then o (nat_cmp p q))

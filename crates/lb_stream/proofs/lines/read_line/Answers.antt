@@ -49,7 +49,8 @@ returns-then-count-bytes-clause-found g c =
     let less : count < length held = subst (λ (bytes : List ℕ). count < length bytes) c.bytes-bytes.ensures.value c.if-count-bytes.true in
     let left : c.consume.new.self ≡ drop (count + 1) held = c.consume.ensures in
     let grown : c.extend_from_slice.new.self.items ≡ line ++ take count held =
-    grown_by c.extend_from_slice.new.self.items line held c.bytes-bytes.result.now count c.in-Ok.ensures.items c.bytes-bytes.ensures.value in
+    grown_by c.extend_from_slice.new.self.items line held c.bytes-bytes.result.now count c.in-Ok.ensures.items
+    c.bytes-bytes.ensures.value in
     let short : length (line ++ take count held) ≤ 16777216 =
     (let len = c.loop-line.line.ok in omega (arith, length-append line (take count held), length-take count held)) in
     rw (left, grown) (line_ends whole known line held count c.loop-line.invariant.front
@@ -68,7 +69,8 @@ loop-line-preserved g c =
     let all : length held ≤ count = subst (λ (bytes : List ℕ). length bytes ≤ count) c.bytes-bytes.ensures.value c.if-count-bytes.false in
     let left : c.consume-in-loop-line.new.self ≡ drop count held = c.consume-in-loop-line.ensures in
     let grown : c.extend_from_slice.new.self.items ≡ line ++ take count held =
-    grown_by c.extend_from_slice.new.self.items line held c.bytes-bytes.result.now count c.in-Ok.ensures.items c.bytes-bytes.ensures.value in
+    grown_by c.extend_from_slice.new.self.items line held c.bytes-bytes.result.now count c.in-Ok.ensures.items
+    c.bytes-bytes.ensures.value in
     record {
       read = rw (left, grown) (line_goes_on whole known line held count c.loop-line.invariant.front
           (OnBytes-kept (λ stream rest. stream ≡ line ++ rest) whole _ _ c.loop-line.invariant.read c.fill.ensures.bytes));

@@ -7,7 +7,8 @@ use Rattle.lb_stream.proofs.lines.read_line.Given as goal
 
 abbrev pub invariant-loop-line : goal.invariant-loop-line
 invariant-loop-line g l = record {
-  read : OnBytes (prepend_known l.fn.ahead (g.R.Read.remaining (inner_of l.fn.reader))) (prepend_known l.ahead (g.R.Read.remaining (inner_of l.reader)))
+  read : OnBytes (prepend_known l.fn.ahead (g.R.Read.remaining (inner_of l.fn.reader)))
+      (prepend_known l.ahead (g.R.Read.remaining (inner_of l.reader)))
       (λ stream rest. stream ≡ l.line.items ++ rest);
   front : IsFront l.line.items;
   room : vec_len l.line ≤ 16777216;

@@ -6,5 +6,6 @@ pub returns : goal.returns
 returns g c =
     λ key_of events id r has.
     let now = seen g.R.KeyRule.gives key_of events _ _ c.self.view_is r in
-    lacks_told key_of events id c.args.members.now.keys c.self.inside.views.items _ (table_value c.self.inside.table) _ now.state c.lacks_numbers.ensures.ordered has
+    lacks_told key_of events id c.args.members.now.keys c.self.inside.views.items _ (table_value c.self.inside.table) _ now.state
+    c.lacks_numbers.ensures.ordered has
     c.deref.ensures.value (c.lacks_numbers.ensures.lacks key_of id now.rule)

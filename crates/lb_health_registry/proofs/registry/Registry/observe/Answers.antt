@@ -14,12 +14,19 @@ returns-clause-after g c =
     let v : Verdict = record { ok = c.args.verdict; threshold = c.args.threshold } in
     let inside = c.self.inside in
     let step :
-    ((es : List (cell.CellEvent Member)) → IsTableAfter member_cmp es (table_value inside.table) → IsPruned member_cmp es (table_value inside.table)
+    ((es : List (cell.CellEvent Member)) → IsTableAfter member_cmp es (table_value inside.table)
+    → IsPruned member_cmp es (table_value inside.table)
     → IsTableAfter member_cmp (cell.Observed c.args.cell v ∷ es) (table_value c.observe.new.self))
-    → ((es : List (cell.CellEvent Member)) → IsPruned member_cmp es (table_value inside.table) → IsPruned member_cmp (cell.Observed c.args.cell v ∷ es) (table_value c.observe.new.self))
+    → ((es : List (cell.CellEvent Member)) → IsPruned member_cmp es (table_value inside.table)
+    → IsPruned member_cmp (cell.Observed c.args.cell v ∷ es) (table_value c.observe.new.self))
     → (key_of : Member → Member) (events : List Event) → IsRegistryAfter g.R.KeyRule.gives key_of events c.args.self.now
     → IsRegistryAfter g.R.KeyRule.gives key_of (Observed c.args.cell v ∷ events)
-    (record { rule = inside.rule; views = map view_value inside.views.items; registered = inside.registered; table = table_value c.observe.new.self })
+    (record {
+      rule = inside.rule;
+      views = map view_value inside.views.items;
+      registered = inside.registered;
+      table = table_value c.observe.new.self;
+    })
     = λ h only key_of events r.
     let now = seen g.R.KeyRule.gives key_of events _ _ c.self.view_is r in
     record {

@@ -12,7 +12,8 @@ returns-in-Some g c =
     λ key_of events r.
     let After : RegistryValue g.row.R.Denot → Type 0 = λ v. IsRegistryAfter g.R.KeyRule.gives key_of events v in
     let now = subst After (sym c.self.view_is) r in
-    let found = ap (λ (vs : List View). position (λ v. is_view c.args.id (view_value v)) vs) (sym c.deref.ensures.value) ∙ sym c.place_of.ensures ∙ c.in-Some.is in
+    let found = ap (λ (vs : List View). position (λ v. is_view c.args.id (view_value v)) vs) (sym c.deref.ensures.value)
+    ∙ sym c.place_of.ensures ∙ c.in-Some.is in
     record {
       rule = now.rule;
       registered = now.registered;
@@ -20,7 +21,9 @@ returns-in-Some g c =
         sets = now.state.sets;
         fits = now.state.fits;
         listed =
-            at_place view_value c.args.id with_mark c.self.inside.views.items c.in-Some.place c.index_mut.result.now _ found (at_found (λ (v : View). is_view c.args.id (view_value v)) c.self.inside.views.items c.in-Some.place c.index_mut.result.now found c.index_mut.ensures.value) refl
+            at_place view_value c.args.id with_mark c.self.inside.views.items c.in-Some.place c.index_mut.result.now _ found
+            (at_found (λ (v : View). is_view c.args.id (view_value v)) c.self.inside.views.items c.in-Some.place c.index_mut.result.now
+            found c.index_mut.ensures.value) refl
             ∙ ap (at_view c.args.id with_mark) now.state.listed;
         cells = now.state.cells;
         pruned = now.state.pruned;
@@ -32,8 +35,10 @@ returns-in_default g c =
     λ key_of events r.
     let After : RegistryValue g.row.R.Denot → Type 0 = λ v. IsRegistryAfter g.R.KeyRule.gives key_of events v in
     let now = subst After (sym c.self.view_is) r in
-    let none = ap (λ (vs : List View). position (λ v. is_view c.args.id (view_value v)) vs) (sym c.deref.ensures.value) ∙ sym c.place_of.ensures ∙ c.in_default.is in
-    let stays = sym (ap (at_view c.args.id with_mark) (sym now.state.listed) ∙ at_nowhere c.args.id with_mark _ (missing_view view_value c.args.id c.self.inside.views.items none) ∙ now.state.listed) in
+    let none = ap (λ (vs : List View). position (λ v. is_view c.args.id (view_value v)) vs) (sym c.deref.ensures.value)
+    ∙ sym c.place_of.ensures ∙ c.in_default.is in
+    let stays = sym (ap (at_view c.args.id with_mark) (sym now.state.listed)
+    ∙ at_nowhere c.args.id with_mark _ (missing_view view_value c.args.id c.self.inside.views.items none) ∙ now.state.listed) in
     record {
       rule = r.rule;
       registered = r.registered;

@@ -15,15 +15,18 @@ pub returns-in_default-clause-unknown : goal.returns-in_default-clause-unknown
 returns-in_default-clause-unknown g c =
     λ key_of events r.
     let now = seen g.R.KeyRule.gives key_of events _ _ c.self.view_is r in
-    let none = ap (λ (vs : List View). position (λ v. is_view c.args.id (view_value v)) vs) (sym c.deref.ensures.value) ∙ sym c.place_of.ensures ∙ c.in_default.is in
+    let none = ap (λ (vs : List View). position (λ v. is_view c.args.id (view_value v)) vs) (sym c.deref.ensures.value)
+    ∙ sym c.place_of.ensures ∙ c.in_default.is in
     (λ e. ap (has_view c.args.id) (sym now.state.listed) ∙ missing_view view_value c.args.id c.self.inside.views.items none, λ f. refl)
 
 pub returns-in_err-reserve-clause-unknown : goal.returns-in_err-reserve-clause-unknown
 returns-in_err-reserve-clause-unknown g c =
     λ key_of events r.
     let now = seen g.R.KeyRule.gives key_of events _ _ c.self.view_is r in
-    let found = ap (λ (vs : List View). position (λ v. is_view c.args.id (view_value v)) vs) (sym c.deref.ensures.value) ∙ sym c.place_of.ensures ∙ c.in-Some.is in
-    let has = ap (has_view c.args.id) (sym now.state.listed) ∙ found_view view_value c.args.id c.self.inside.views.items c.in-Some.place found in
+    let found = ap (λ (vs : List View). position (λ v. is_view c.args.id (view_value v)) vs) (sym c.deref.ensures.value)
+    ∙ sym c.place_of.ensures ∙ c.in-Some.is in
+    let has = ap (has_view c.args.id) (sym now.state.listed)
+    ∙ found_view view_value c.args.id c.self.inside.views.items c.in-Some.place found in
     (λ e. let no : OutOfMemory ≡ NoSuch = search rules in absurd (cc), λ f. absurd (true≢false (sym has ∙ f)))
 
 pub returns-in_err-shown-clause-err : goal.returns-in_err-shown-clause-err
@@ -32,13 +35,19 @@ returns-in_err-shown-clause-err g c =
     let stays :
     (key_of : Member → Member) (events : List Event) → IsRegistryAfter g.R.KeyRule.gives key_of events c.args.self.now
     → IsRegistryAfter g.R.KeyRule.gives key_of events
-    (record { rule = inside.rule; views = map view_value c.replace.new.views.items; registered = inside.registered; table = table_value c.replace.new.table })
+    (record {
+      rule = inside.rule;
+      views = map view_value c.replace.new.views.items;
+      registered = inside.registered;
+      table = table_value c.replace.new.table;
+    })
     = λ key_of events r.
     let now = seen g.R.KeyRule.gives key_of events _ _ c.self.view_is r in
     record {
       rule = now.rule;
       registered = now.registered;
-      state = c.in_err-shown.ensures.err key_of events (roomier key_of events (map view_value inside.views.items) (table_value inside.table) (map hold_of c.reserve.new.self.items) (ap (map hold_of) c.in_ok-reserve.ensures.items) now.state);
+      state = c.in_err-shown.ensures.err key_of events (roomier key_of events (map view_value inside.views.items) (table_value inside.table)
+          (map hold_of c.reserve.new.self.items) (ap (map hold_of) c.in_ok-reserve.ensures.items) now.state);
     } in
     refused_for c.from_residual-in_err-shown.result stays
 
@@ -46,8 +55,10 @@ pub returns-in_err-shown-clause-unknown : goal.returns-in_err-shown-clause-unkno
 returns-in_err-shown-clause-unknown g c =
     λ key_of events r.
     let now = seen g.R.KeyRule.gives key_of events _ _ c.self.view_is r in
-    let found = ap (λ (vs : List View). position (λ v. is_view c.args.id (view_value v)) vs) (sym c.deref.ensures.value) ∙ sym c.place_of.ensures ∙ c.in-Some.is in
-    let has = ap (has_view c.args.id) (sym now.state.listed) ∙ found_view view_value c.args.id c.self.inside.views.items c.in-Some.place found in (
+    let found = ap (λ (vs : List View). position (λ v. is_view c.args.id (view_value v)) vs) (sym c.deref.ensures.value)
+    ∙ sym c.place_of.ensures ∙ c.in-Some.is in
+    let has = ap (has_view c.args.id) (sym now.state.listed)
+    ∙ found_view view_value c.args.id c.self.inside.views.items c.in-Some.place found in (
       λ e. let is : c.in_err-shown.field-0.0 ≡ NoSuch = search rules in absurd (growth_not_such _ c.in_err-shown.ensures.refused is),
       λ f. absurd (true≢false (sym has ∙ f)),
     )
@@ -57,18 +68,24 @@ returns-clause-ok g c =
     λ key_of events r.
     let inside = c.self.inside in
     let now = seen g.R.KeyRule.gives key_of events _ _ c.self.view_is r in
-    let found = ap (λ (vs : List View). position (λ v. is_view c.args.id (view_value v)) vs) (sym c.deref.ensures.value) ∙ sym c.place_of.ensures ∙ c.in-Some.is in
+    let found = ap (λ (vs : List View). position (λ v. is_view c.args.id (view_value v)) vs) (sym c.deref.ensures.value)
+    ∙ sym c.place_of.ensures ∙ c.in-Some.is in
     let has = ap (has_view c.args.id) (sym now.state.listed) ∙ found_view view_value c.args.id inside.views.items c.in-Some.place found in
-    let told = lacks_told key_of events c.args.id c.args.members.keys c.self.inside.views.items _ (table_value c.self.inside.table) _ now.state c.lacks_numbers.ensures.ordered has
+    let told = lacks_told key_of events c.args.id c.args.members.keys c.self.inside.views.items _ (table_value c.self.inside.table) _
+    now.state c.lacks_numbers.ensures.ordered has
     c.deref-2.ensures.value (c.lacks_numbers.ensures.lacks key_of c.args.id now.rule) in
-    let state : IsStateAfter key_of events (map view_value inside.views.items) (record (table_value inside.table) { held = map hold_of c.reserve.new.self.items })
-    = roomier key_of events (map view_value inside.views.items) (table_value inside.table) (map hold_of c.reserve.new.self.items) (ap (map hold_of) c.in_ok-reserve.ensures.items) now.state in
+    let state : IsStateAfter key_of events (map view_value inside.views.items)
+    (record (table_value inside.table) { held = map hold_of c.reserve.new.self.items })
+    = roomier key_of events (map view_value inside.views.items) (table_value inside.table) (map hold_of c.reserve.new.self.items)
+    (ap (map hold_of) c.in_ok-reserve.ensures.items) now.state in
     record {
       rule = now.rule;
       registered = now.registered;
       state =
-          shows key_of events c.args.id c.args.generation c.args.members.keys c.in_ok-shown.shown (map view_value c.replace.new.views.items) (table_value c.replace.new.table)
-          (table_value c.hold.new.self) (c.in_ok-shown.ensures.ok key_of events c.args.id now.rule found c.lacks_numbers.ensures.ordered (left_numbers c.lacks_numbers.result _ c.if-lacks_numbers.false told) state) has c.hold.ensures.after c.hold.ensures.pruned;
+          shows key_of events c.args.id c.args.generation c.args.members.keys c.in_ok-shown.shown (map view_value c.replace.new.views.items)
+          (table_value c.replace.new.table)
+          (table_value c.hold.new.self) (c.in_ok-shown.ensures.ok key_of events c.args.id now.rule found c.lacks_numbers.ensures.ordered
+          (left_numbers c.lacks_numbers.result _ c.if-lacks_numbers.false told) state) has c.hold.ensures.after c.hold.ensures.pruned;
     }
 
 pub returns-clause-cells : goal.returns-clause-cells
@@ -76,33 +93,45 @@ returns-clause-cells g c =
     λ key_of events r.
     let inside = c.self.inside in
     let now = seen g.R.KeyRule.gives key_of events _ _ c.self.view_is r in
-    let found = ap (λ (vs : List View). position (λ v. is_view c.args.id (view_value v)) vs) (sym c.deref.ensures.value) ∙ sym c.place_of.ensures ∙ c.in-Some.is in
-    let has = ap (has_view c.args.id) (sym now.state.listed) ∙ found_view view_value c.args.id c.self.inside.views.items c.in-Some.place found in
-    let told = lacks_told key_of events c.args.id c.args.members.keys c.self.inside.views.items _ (table_value c.self.inside.table) _ now.state c.lacks_numbers.ensures.ordered has
+    let found = ap (λ (vs : List View). position (λ v. is_view c.args.id (view_value v)) vs) (sym c.deref.ensures.value)
+    ∙ sym c.place_of.ensures ∙ c.in-Some.is in
+    let has = ap (has_view c.args.id) (sym now.state.listed)
+    ∙ found_view view_value c.args.id c.self.inside.views.items c.in-Some.place found in
+    let told = lacks_told key_of events c.args.id c.args.members.keys c.self.inside.views.items _ (table_value c.self.inside.table) _
+    now.state c.lacks_numbers.ensures.ordered has
     c.deref-2.ensures.value (c.lacks_numbers.ensures.lacks key_of c.args.id now.rule) in
-    (c.in_ok-shown.ensures.ok key_of events c.args.id now.rule found c.lacks_numbers.ensures.ordered (left_numbers c.lacks_numbers.result _ c.if-lacks_numbers.false told) (roomier key_of events (map view_value inside.views.items) (table_value inside.table) (map hold_of c.reserve.new.self.items) (ap (map hold_of) c.in_ok-reserve.ensures.items) now.state)).cells.pairs
+    (c.in_ok-shown.ensures.ok key_of events c.args.id now.rule found c.lacks_numbers.ensures.ordered
+    (left_numbers c.lacks_numbers.result _ c.if-lacks_numbers.false told) (roomier key_of events (map view_value inside.views.items)
+    (table_value inside.table) (map hold_of c.reserve.new.self.items) (ap (map hold_of) c.in_ok-reserve.ensures.items)
+    now.state)).cells.pairs
 
 pub returns-clause-unknown : goal.returns-clause-unknown
 returns-clause-unknown g c =
     λ key_of events r.
     let now = seen g.R.KeyRule.gives key_of events _ _ c.self.view_is r in
-    let found = ap (λ (vs : List View). position (λ v. is_view c.args.id (view_value v)) vs) (sym c.deref.ensures.value) ∙ sym c.place_of.ensures ∙ c.in-Some.is in
-    let has = ap (has_view c.args.id) (sym now.state.listed) ∙ found_view view_value c.args.id c.self.inside.views.items c.in-Some.place found in
+    let found = ap (λ (vs : List View). position (λ v. is_view c.args.id (view_value v)) vs) (sym c.deref.ensures.value)
+    ∙ sym c.place_of.ensures ∙ c.in-Some.is in
+    let has = ap (has_view c.args.id) (sym now.state.listed)
+    ∙ found_view view_value c.args.id c.self.inside.views.items c.in-Some.place found in
     (λ e. absurd (not_refused _ _ e), λ f. absurd (true≢false (sym has ∙ f)))
 
 pub returns-in_default-clause-exhausted : goal.returns-in_default-clause-exhausted
 returns-in_default-clause-exhausted g c =
     λ key_of events r has.
     let now = seen g.R.KeyRule.gives key_of events _ _ c.self.view_is r in
-    let none = ap (λ (vs : List View). position (λ v. is_view c.args.id (view_value v)) vs) (sym c.deref.ensures.value) ∙ sym c.place_of.ensures ∙ c.in_default.is in
-    absurd (true≢false (sym has ∙ ap (has_view c.args.id) (sym now.state.listed) ∙ missing_view view_value c.args.id c.self.inside.views.items none))
+    let none = ap (λ (vs : List View). position (λ v. is_view c.args.id (view_value v)) vs) (sym c.deref.ensures.value)
+    ∙ sym c.place_of.ensures ∙ c.in_default.is in
+    absurd (true≢false (sym has ∙ ap (has_view c.args.id) (sym now.state.listed)
+    ∙ missing_view view_value c.args.id c.self.inside.views.items none))
 
 pub returns-then-lacks_numbers-clause-exhausted : goal.returns-then-lacks_numbers-clause-exhausted
 returns-then-lacks_numbers-clause-exhausted g c =
     λ key_of events r has.
     let now = seen g.R.KeyRule.gives key_of events _ _ c.self.view_is r in
-    let found = ap (λ (vs : List View). position (λ v. is_view c.args.id (view_value v)) vs) (sym c.deref.ensures.value) ∙ sym c.place_of.ensures ∙ c.in-Some.is in
-    let told = lacks_told key_of events c.args.id c.args.members.keys c.self.inside.views.items _ (table_value c.self.inside.table) _ now.state c.lacks_numbers.ensures.ordered has
+    let found = ap (λ (vs : List View). position (λ v. is_view c.args.id (view_value v)) vs) (sym c.deref.ensures.value)
+    ∙ sym c.place_of.ensures ∙ c.in-Some.is in
+    let told = lacks_told key_of events c.args.id c.args.members.keys c.self.inside.views.items _ (table_value c.self.inside.table) _
+    now.state c.lacks_numbers.ensures.ordered has
     c.deref-2.ensures.value (c.lacks_numbers.ensures.lacks key_of c.args.id now.rule) in
     (λ e. (told.0 c.if-lacks_numbers.true), λ l. refl)
 
@@ -110,21 +139,27 @@ pub returns-then-lacks_numbers-clause-unknown : goal.returns-then-lacks_numbers-
 returns-then-lacks_numbers-clause-unknown g c =
     λ key_of events r.
     let now = seen g.R.KeyRule.gives key_of events _ _ c.self.view_is r in
-    let found = ap (λ (vs : List View). position (λ v. is_view c.args.id (view_value v)) vs) (sym c.deref.ensures.value) ∙ sym c.place_of.ensures ∙ c.in-Some.is in
-    let has = ap (has_view c.args.id) (sym now.state.listed) ∙ found_view view_value c.args.id c.self.inside.views.items c.in-Some.place found in
+    let found = ap (λ (vs : List View). position (λ v. is_view c.args.id (view_value v)) vs) (sym c.deref.ensures.value)
+    ∙ sym c.place_of.ensures ∙ c.in-Some.is in
+    let has = ap (has_view c.args.id) (sym now.state.listed)
+    ∙ found_view view_value c.args.id c.self.inside.views.items c.in-Some.place found in
     (λ e. absurd (cc), λ f. absurd (true≢false (sym has ∙ f)))
 
 pub returns-in_err-shown-clause-exhausted : goal.returns-in_err-shown-clause-exhausted
 returns-in_err-shown-clause-exhausted g c =
     λ key_of events r has.
     let now = seen g.R.KeyRule.gives key_of events _ _ c.self.view_is r in
-    let found = ap (λ (vs : List View). position (λ v. is_view c.args.id (view_value v)) vs) (sym c.deref.ensures.value) ∙ sym c.place_of.ensures ∙ c.in-Some.is in
-    let told = lacks_told key_of events c.args.id c.args.members.keys c.self.inside.views.items _ (table_value c.self.inside.table) _ now.state c.lacks_numbers.ensures.ordered has
+    let found = ap (λ (vs : List View). position (λ v. is_view c.args.id (view_value v)) vs) (sym c.deref.ensures.value)
+    ∙ sym c.place_of.ensures ∙ c.in-Some.is in
+    let told = lacks_told key_of events c.args.id c.args.members.keys c.self.inside.views.items _ (table_value c.self.inside.table) _
+    now.state c.lacks_numbers.ensures.ordered has
     c.deref-2.ensures.value (c.lacks_numbers.ensures.lacks key_of c.args.id now.rule) in
     let few : 2 ^ 64 ≤ cells_given key_of (Updated c.args.id c.args.members.keys ∷ Applied ∷ events) → ⊥
     = λ l. true≢false (sym (told.1 l) ∙ c.if-lacks_numbers.false) in (
       λ e. let is : c.in_err-shown.field-0.0 ≡ NumbersExhausted = search rules in
-          absurd (few (c.in_err-shown.ensures.exhausted key_of events c.args.id now.rule found (roomier key_of events (map view_value c.self.inside.views.items) (table_value c.self.inside.table) (map hold_of c.reserve.new.self.items) (ap (map hold_of) c.in_ok-reserve.ensures.items) now.state) (ap Err is))),
+          absurd (few (c.in_err-shown.ensures.exhausted key_of events c.args.id now.rule found
+          (roomier key_of events (map view_value c.self.inside.views.items) (table_value c.self.inside.table)
+          (map hold_of c.reserve.new.self.items) (ap (map hold_of) c.in_ok-reserve.ensures.items) now.state) (ap Err is))),
       λ l. absurd (few l),
     )
 
@@ -132,8 +167,10 @@ pub returns-clause-exhausted : goal.returns-clause-exhausted
 returns-clause-exhausted g c =
     λ key_of events r has.
     let now = seen g.R.KeyRule.gives key_of events _ _ c.self.view_is r in
-    let found = ap (λ (vs : List View). position (λ v. is_view c.args.id (view_value v)) vs) (sym c.deref.ensures.value) ∙ sym c.place_of.ensures ∙ c.in-Some.is in
-    let told = lacks_told key_of events c.args.id c.args.members.keys c.self.inside.views.items _ (table_value c.self.inside.table) _ now.state c.lacks_numbers.ensures.ordered has
+    let found = ap (λ (vs : List View). position (λ v. is_view c.args.id (view_value v)) vs) (sym c.deref.ensures.value)
+    ∙ sym c.place_of.ensures ∙ c.in-Some.is in
+    let told = lacks_told key_of events c.args.id c.args.members.keys c.self.inside.views.items _ (table_value c.self.inside.table) _
+    now.state c.lacks_numbers.ensures.ordered has
     c.deref-2.ensures.value (c.lacks_numbers.ensures.lacks key_of c.args.id now.rule) in
     (λ e. absurd (not_refused _ _ e), λ l. absurd (true≢false (sym (told.1 l) ∙ c.if-lacks_numbers.false)))
 
@@ -141,8 +178,10 @@ pub returns-in_err-reserve-clause-exhausted : goal.returns-in_err-reserve-clause
 returns-in_err-reserve-clause-exhausted g c =
     λ key_of events r has.
     let now = seen g.R.KeyRule.gives key_of events _ _ c.self.view_is r in
-    let found = ap (λ (vs : List View). position (λ v. is_view c.args.id (view_value v)) vs) (sym c.deref.ensures.value) ∙ sym c.place_of.ensures ∙ c.in-Some.is in
-    let told = lacks_told key_of events c.args.id c.args.members.keys c.self.inside.views.items _ (table_value c.self.inside.table) _ now.state c.lacks_numbers.ensures.ordered has
+    let found = ap (λ (vs : List View). position (λ v. is_view c.args.id (view_value v)) vs) (sym c.deref.ensures.value)
+    ∙ sym c.place_of.ensures ∙ c.in-Some.is in
+    let told = lacks_told key_of events c.args.id c.args.members.keys c.self.inside.views.items _ (table_value c.self.inside.table) _
+    now.state c.lacks_numbers.ensures.ordered has
     c.deref-2.ensures.value (c.lacks_numbers.ensures.lacks key_of c.args.id now.rule) in (
       λ e. let no : OutOfMemory ≡ NumbersExhausted = search rules in absurd (cc),
       λ l. absurd (true≢false (sym (told.1 l) ∙ c.if-lacks_numbers.false)),

@@ -25,7 +25,12 @@ returns-in_err-apply-clause-err g c =
     let stays :
     (key_of : Member → Member) (events : List Event) → IsRegistryAfter g.R.KeyRule.gives key_of events c.args.self.now
     → IsRegistryAfter g.R.KeyRule.gives key_of events
-    (record { rule = inside.rule; views = map view_value c.apply.new.views.items; registered = inside.registered; table = table_value c.apply.new.table })
+    (record {
+      rule = inside.rule;
+      views = map view_value c.apply.new.views.items;
+      registered = inside.registered;
+      table = table_value c.apply.new.table;
+    })
     = λ key_of events r.
     let now = seen g.R.KeyRule.gives key_of events _ _ c.self.view_is r in
     record {

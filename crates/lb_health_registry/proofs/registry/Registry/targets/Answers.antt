@@ -28,7 +28,12 @@ returns-in_err-apply-clause-err g c =
     let stays :
     (key_of : Member → Member) (events : List Event) → IsRegistryAfter g.R.KeyRule.gives key_of events c.args.self.now
     → IsRegistryAfter g.R.KeyRule.gives key_of events
-    (record { rule = inside.rule; views = map view_value c.apply.new.views.items; registered = inside.registered; table = table_value c.apply.new.table })
+    (record {
+      rule = inside.rule;
+      views = map view_value c.apply.new.views.items;
+      registered = inside.registered;
+      table = table_value c.apply.new.table;
+    })
     = λ key_of events r.
     let now = seen g.R.KeyRule.gives key_of events _ _ c.self.view_is r in
     record {
@@ -42,11 +47,13 @@ pub returns-clause-targets : goal.returns-clause-targets
 returns-clause-targets g c =
     λ key_of events r.
     let now = seen g.R.KeyRule.gives key_of events _ _ c.self.view_is r in
-    let order = c.in_ok-order.ensures.ok key_of now.rule ∙ ap (λ (vs : List View). targets_in key_of (live (map view_value vs))) c.deref.ensures.value
+    let order = c.in_ok-order.ensures.ok key_of now.rule
+    ∙ ap (λ (vs : List View). targets_in key_of (live (map view_value vs))) c.deref.ensures.value
     ∙ ap (λ vs. targets_in key_of (live vs)) now.state.listed in
     let after = c.in_ok-apply.ensures.ok key_of events now.rule now.state in
     c.with_targets.ensures key_of (Applied ∷ events) after.cells after.pruned
-    ∙ ap (λ (ts : List Target). ts ++ filter_map (target_at key_of (Applied ∷ events)) c.in_ok-order.order.entries) (c.in_ok-reserve.ensures.items ∙ c.new-targets.ensures.items)
+    ∙ ap (λ (ts : List Target). ts ++ filter_map (target_at key_of (Applied ∷ events)) c.in_ok-order.order.entries)
+    (c.in_ok-reserve.ensures.items ∙ c.new-targets.ensures.items)
     ∙ ap (filter_map (target_at key_of (Applied ∷ events))) order
 
 pub returns-clause-exhausted : goal.returns-clause-exhausted

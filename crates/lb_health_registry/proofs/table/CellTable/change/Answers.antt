@@ -30,11 +30,13 @@ returns-in-Err-clause-err g c =
     λ events table.
     let t = table_value c.args.self.now in
     c.prune.ensures.after events
-    (refused-stays g.met.K.Ord.total events events t t.by_key t.next c.renumbered.new.cells (started-none g.met.K.Ord.total events t table) c.renumbered.ensures.others)
+    (refused-stays g.met.K.Ord.total events events t t.by_key t.next c.renumbered.new.cells (started-none g.met.K.Ord.total events t table)
+    c.renumbered.ensures.others)
 
 pub returns-in-Err-clause-pruned_err : goal.returns-in-Err-clause-pruned_err
 returns-in-Err-clause-pruned_err g c =
     λ events table.
     let t = table_value c.args.self.now in
     c.prune.ensures.pruned events
-    (refused-stays g.met.K.Ord.total events events t t.by_key t.next c.renumbered.new.cells (started-none g.met.K.Ord.total events t table) c.renumbered.ensures.others)
+    (refused-stays g.met.K.Ord.total events events t t.by_key t.next c.renumbered.new.cells (started-none g.met.K.Ord.total events t table)
+    c.renumbered.ensures.others)

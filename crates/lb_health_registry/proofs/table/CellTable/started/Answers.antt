@@ -24,28 +24,34 @@ returns-in_default-clause-ok g c =
 pub returns-in_err-after-clause-err : goal.returns-in_err-after-clause-err
 returns-in_err-after-clause-err g c =
     let t = table_value c.args.self.now in
-    let stays : (events : List (CellEvent g.row.K.Denot)) → IsTableAfter g.K.Ord.cmp events t → IsTableAfter g.K.Ord.cmp events (record t { cells = c.renumbered.new.cells })
+    let stays : (events : List (CellEvent g.row.K.Denot)) → IsTableAfter g.K.Ord.cmp events t
+    → IsTableAfter g.K.Ord.cmp events (record t { cells = c.renumbered.new.cells })
     = λ events table.
-    refused-stays g.met.K.Ord.total events events t t.by_key t.next c.renumbered.new.cells (started-none g.met.K.Ord.total events t table) c.renumbered.ensures.others in
+    refused-stays g.met.K.Ord.total events events t t.by_key t.next c.renumbered.new.cells (started-none g.met.K.Ord.total events t table)
+    c.renumbered.ensures.others in
     refused_for c.from_residual.result stays
 
 pub returns-in_err-between-clause-err : goal.returns-in_err-between-clause-err
 returns-in_err-between-clause-err g c =
     let t = table_value c.args.self.now in
-    let stays : (events : List (CellEvent g.row.K.Denot)) → IsTableAfter g.K.Ord.cmp events t → IsTableAfter g.K.Ord.cmp events (record t { cells = c.renumbered-2.new.cells })
+    let stays : (events : List (CellEvent g.row.K.Denot)) → IsTableAfter g.K.Ord.cmp events t
+    → IsTableAfter g.K.Ord.cmp events (record t { cells = c.renumbered-2.new.cells })
     = λ events table.
-    refused-stays g.met.K.Ord.total events events t t.by_key t.next c.renumbered-2.new.cells (started-none g.met.K.Ord.total events t table) c.renumbered-2.ensures.others in
+    refused-stays g.met.K.Ord.total events events t t.by_key t.next c.renumbered-2.new.cells (started-none g.met.K.Ord.total events t table)
+    c.renumbered-2.ensures.others in
     refused_for c.from_residual-in_err-between.result stays
 
 pub returns-in_err-after-2-clause-err : goal.returns-in_err-after-2-clause-err
 returns-in_err-after-2-clause-err g c =
     let t = table_value c.args.self.now in
     let first = c.in-Some.first.now in
-    let stays : (events : List (CellEvent g.row.K.Denot)) → IsTableAfter g.K.Ord.cmp events t → IsTableAfter g.K.Ord.cmp events (record t { cells = c.renumbered-3.new.cells })
+    let stays : (events : List (CellEvent g.row.K.Denot)) → IsTableAfter g.K.Ord.cmp events t
+    → IsTableAfter g.K.Ord.cmp events (record t { cells = c.renumbered-3.new.cells })
     = λ events table.
     let given = given_after (eq_by_cmp g.K.Ord.cmp) events in
     let none = started-none g.met.K.Ord.total events t table in
-    let one = started-more g.met.K.Ord.total events events first t t.by_key c.in_ok-between.between.by_key.entries t.next c.in_ok-between.between.next
+    let one = started-more g.met.K.Ord.total events events first t t.by_key c.in_ok-between.between.by_key.entries t.next
+    c.in_ok-between.between.next
     c.renumbered-2.new.cells none c.renumbered-2.ensures.others (c.in_ok-between.ensures.ok (changes events) table.numbering)
     (c.in_ok-between.ensures.stored (changes events) given table.numbering none.stored) in
     refused-stays g.met.K.Ord.total events (Changed first ∷ events) (record t { cells = c.renumbered-2.new.cells })
@@ -59,7 +65,8 @@ returns-clause-ok g c =
     let first = c.in-Some.first.now in
     let given = given_after (eq_by_cmp g.K.Ord.cmp) events in
     let none = started-none g.met.K.Ord.total events t table in
-    let one = started-more g.met.K.Ord.total events events first t t.by_key c.in_ok-between.between.by_key.entries t.next c.in_ok-between.between.next
+    let one = started-more g.met.K.Ord.total events events first t t.by_key c.in_ok-between.between.by_key.entries t.next
+    c.in_ok-between.between.next
     c.renumbered-2.new.cells none c.renumbered-2.ensures.others (c.in_ok-between.ensures.ok (changes events) table.numbering)
     (c.in_ok-between.ensures.stored (changes events) given table.numbering none.stored) in
     rw c.in-Some.is

@@ -10,6 +10,7 @@ loop-preserved g c =
     let lanes = c.loop.lanes.items in
     let more = c.in_ok-push.ensures.items in
     record {
-      keyed = All-same keyed c.push.new.self.items (lanes ++ c.new.result ∷ []) more (All-push keyed lanes c.new.result c.loop.invariant.keyed c.new.ensures);
+      keyed = All-same keyed c.push.new.self.items (lanes ++ c.new.result ∷ []) more
+          (All-push keyed lanes c.new.result c.loop.invariant.keyed c.new.ensures);
       counted = omega (arith, simp length-append at (ap length more));
     }

@@ -49,7 +49,8 @@ returns-clause-ok g c =
     let some : 0 < c.in_ok-count.count = omega arith in (
       take n (drop a.end new),
       length-read new a.end n within,
-      subst (λ l. Step c.args.self.now (read_event (take n (drop a.end new))) (seen l a.start (a.end + n) a.phase)) (sym (with_items_is a.buffer new same))
+      subst (λ l. Step c.args.self.now (read_event (take n (drop a.end new))) (seen l a.start (a.end + n) a.phase))
+          (sym (with_items_is a.buffer new same))
           (subst (λ s. Step s (read_event (take n (drop a.end new))) (seen new a.start (a.end + n) a.phase)) c.self.view_is
           (read_some a.buffer.items new a.start a.end n a.phase can c.self.invariant.0 within whole front some)),
       c.in_ok-count.ensures.bytes.0,

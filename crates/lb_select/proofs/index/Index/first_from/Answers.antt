@@ -6,12 +6,14 @@ use Rattle.lb_select.proofs.index.Index.first_from.Goals.{in-Some, in-None}
 
 pub first_of_few-requires-clause-left : goal.first_of_few-requires-clause-left
 first_of_few-requires-clause-left c =
-    let inside : bucket_of c.args.self.now.shift c.args.place < length c.args.self.now.starts.items = c.requires.index.all c.args.place (omega arith) in
+    let inside : bucket_of c.args.self.now.shift c.args.place < length c.args.self.now.starts.items = c.requires.index.all c.args.place
+    (omega arith) in
     let here : BeginsAt c.args.self.now.shift c.args.entries.now (bucket_of c.args.self.now.shift c.args.place) c.index.result.now =
     begins_read c.args.entries.now c.args.self.now.shift c.args.self.now.starts.items c.requires.index
     (bucket_of c.args.self.now.shift c.args.place) c.index.result.now inside c.index.ensures in
     elim c.match-get.branch [
-      | in-Some w ↦ (let next : BeginsAt c.args.self.now.shift c.args.entries.now (bucket_of c.args.self.now.shift c.args.place + 1) w.in-Some.next.now =
+      | in-Some w ↦ (let next : BeginsAt c.args.self.now.shift c.args.entries.now (bucket_of c.args.self.now.shift c.args.place + 1)
+          w.in-Some.next.now =
           begins_read c.args.entries.now c.args.self.now.shift c.args.self.now.starts.items c.requires.index
           (bucket_of c.args.self.now.shift c.args.place + 1) w.in-Some.next.now (rw c.deref.ensures.value at w.in-Some.ensures.lookup.3.0)
           (rw c.deref.ensures.value at w.in-Some.ensures.lookup.1) in

@@ -4,7 +4,8 @@ use Rattle.lb_select.proofs.index.Index.of.Goals as goal
 
 pub overflow_cast-at : goal.overflow_cast-at
 overflow_cast-at c =
-    let small = start_small c.args.entries.now c.requires.rises c.shift_of-shift.result c.loop-bucket.bucket c.start_from-at.result c.start_from-at.ensures
+    let small = start_small c.args.entries.now c.requires.rises c.shift_of-shift.result c.loop-bucket.bucket c.start_from-at.result
+    c.start_from-at.ensures
     (omega (arith, c.loop-bucket-test.true)) in
     omega (arith, small)
 
@@ -13,10 +14,12 @@ loop-bucket-init c = begun_none c.args.entries.now c.shift_of-shift.result c.in_
 
 pub loop-bucket-preserved : goal.loop-bucket-preserved
 loop-bucket-preserved c =
-    begun_more c.args.entries.now c.shift_of-shift.result c.loop-bucket.bucket c.loop-bucket.at c.start_from-at.result c.loop-bucket.starts.items c.push.new.self.items
+    begun_more c.args.entries.now c.shift_of-shift.result c.loop-bucket.bucket c.loop-bucket.at c.start_from-at.result
+    c.loop-bucket.starts.items c.push.new.self.items
     c.loop-bucket.invariant c.start_from-at.ensures c.in_ok-push.ensures.items
 
 pub returns : goal.returns
 returns c =
-    begun_all c.args.entries.now c.shift_of-shift.result c.loop-bucket.bucket c.loop-bucket.at c.loop-bucket.starts.items c.loop-bucket.invariant
+    begun_all c.args.entries.now c.shift_of-shift.result c.loop-bucket.bucket c.loop-bucket.at c.loop-bucket.starts.items
+    c.loop-bucket.invariant
     c.shift_of-shift.ensures (omega arith)

@@ -14,4 +14,5 @@ returns c =
     slice_get_read _ _ _ _ refl c.in_ok-owner.ensures.lookup.3.0 c.in_ok-owner.ensures.lookup.1 in
     rw (← c.self.view_is)
     (owner_here (placed_seen c.self.inside) c.self.invariant.placed c.args.at c.index_of-at.result index c.in_ok-owner.field-0.now
-    (rw c.deref.ensures.value at found) c.get-2.result (rw c.deref-2.ensures.value at c.get-2.ensures.lookup) c.copied.result c.copied.ensures)
+    (rw c.deref.ensures.value at found) c.get-2.result (rw c.deref-2.ensures.value at c.get-2.ensures.lookup) c.copied.result
+    c.copied.ensures)

@@ -12,7 +12,8 @@ returns-in_ok-push g c =
     = slice_get-get_or _ _ c.index-backend.result.now within ∙ ap Some (sym c.index-backend.ensures) in
     let at : slice_get c.args.self.now c.args.index ≡ Some c.index-backend.result.now = rw (← c.self.view_is) here in
     rw c.in_ok-push.ensures.items
-    (read_more _ _ _ _ c.index-backend.result.now _ c.requires.so_far at refl (ap (λ (m : Member). m.weight) c.backend.view_is) c.load-load.ensures)
+    (read_more _ _ _ _ c.index-backend.result.now _ c.requires.so_far at refl (ap (λ (m : Member). m.weight) c.backend.view_is)
+    c.load-load.ensures)
 
 pub returns-else-backend-gt0 : goal.returns-else-backend-gt0
 returns-else-backend-gt0 g c =

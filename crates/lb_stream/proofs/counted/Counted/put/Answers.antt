@@ -7,10 +7,13 @@ pub loop-at-preserved : goal.loop-at-preserved
 loop-at-preserved g c =
     record {
       within = put_within c.args.bytes.now c.loop-at.at c.in-Ok.n c.loop-at.invariant.within c.in-Ok.ensures.bound;
-      written = put_more (g.W.Write.contents (inner_of c.args.self.now)) (g.W.Write.contents (inner_of c.loop-at.self)) (g.W.Write.contents (inner_of c.write.new.self)) c.args.bytes.now c.loop-at.at c.in-Ok.n c.loop-at.invariant.written c.in-Ok.ensures.bytes;
+      written = put_more (g.W.Write.contents (inner_of c.args.self.now)) (g.W.Write.contents (inner_of c.loop-at.self))
+          (g.W.Write.contents (inner_of c.write.new.self)) c.args.bytes.now c.loop-at.at c.in-Ok.n c.loop-at.invariant.written
+          c.in-Ok.ensures.bytes;
       kept = search rules;
     }
 
 pub returns-in-Err-clause-part : goal.returns-in-Err-clause-part
 returns-in-Err-clause-part g c =
-    put_part (g.W.Write.contents (inner_of c.args.self.now)) (g.W.Write.contents (inner_of c.loop-at.self)) (g.W.Write.contents (inner_of c.write.new.self)) c.args.bytes.now c.loop-at.at c.loop-at.invariant.written c.in-Err.ensures.bytes
+    put_part (g.W.Write.contents (inner_of c.args.self.now)) (g.W.Write.contents (inner_of c.loop-at.self))
+    (g.W.Write.contents (inner_of c.write.new.self)) c.args.bytes.now c.loop-at.at c.loop-at.invariant.written c.in-Err.ensures.bytes
