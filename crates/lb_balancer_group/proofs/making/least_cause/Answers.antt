@@ -21,6 +21,7 @@ loop-config-preserved g c =
     let refusal = g.S.BackendSelection.refusal [] in
     let default = g.S.BackendSelection.default_config in
     rw c.earlier-found.ensures
-    (one_more (λ o. refusal (unwrap_or o default)) c.args.configs.now c.loop-config.config-index c.config-item.result _ _ _ (omega arith) c.config-item.is
+    (one_more (λ o. refusal (unwrap_or o default)) c.args.configs.now
+    c.loop-config.config-index c.config-item.result _ _ _ (omega arith) c.config-item.is
     (rw empty at c.cause_over.ensures)
     c.loop-config.invariant)
