@@ -1,12 +1,9 @@
 -- A new group has a slot for each configuration, and nothing has happened to it.
-use Rattle.std.proofs.Common.{◌≡◌, ◌⊎◌, ◌∙◌, [], List, length, ap, subst, sym, Option, Some, None, Result, Ok, Err, IfOk, inl, inr}
-use Rattle.std.proofs.lemmas.Option.{none-some}
+use Rattle.std.proofs.Common.{◌≡◌, ◌∙◌, [], List, length, ap, subst, sym, Result, Ok, Err, IfOk}
 use Rattle.lb_select_base.specs.declared.refusal.Refusal.{Refusal}
 use Rattle.lb_rebuild_slots.specs.Gate.{GateId}
 use Rattle.lb_rebuild_slots.specs.Values.{SlotsValue}
 use Rattle.lb_rebuild_slots.proofs.SlotsSteps.{length-after}
-use Rattle.lb_select_base.specs.declared.refusal.Refusal.TheVariants.{OutOfMemory, NumbersExhausted}
-use Rattle.lb_rebuild_group.specs.GroupCalls.{IsMakingRefusal}
 use Rattle.lb_rebuild_group.specs.Stands.{GroupValue, Stands}
 use Rattle.lb_balancer_group.specs.Made.{IsNewGroup}
 
@@ -23,9 +20,3 @@ pub new_group : {C : Type 0} (gate : GateId) (configs : List C) (r : Result (Gro
 new_group gate configs (Ok v) stands is =
     subst (λ k. Stands (record { id = v.group.id; gate = k; configs = configs }) [] v) (sym is) stands
 new_group gate configs (Err e) stands is = tt
-
--- where the configurations give no cause, memory or numbers were lacking
-pub lacking : {A : Type 0} (cause : Option Refusal) (e : Refusal) → cause ≡ None → IsMakingRefusal {A} cause (Err e)
-    → (e ≡ OutOfMemory) ⊎ (e ≡ NumbersExhausted)
-lacking cause e none (inl some) = absurd (none-some e (sym none ∙ some))
-lacking cause e none (inr rest) = rest.1
