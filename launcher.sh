@@ -17,7 +17,7 @@ need_rt() {
 README.md names (it needs Python 3.8 or later and no network), put the folder that holds 'rt' on the PATH, and run this again"
 }
 
-# The crates of this repository that $1 stands on, by crates.txt, and then $1 itself: lowest first, each once.
+# The crates of this repository that $1 uses, by crates.txt, and then $1 itself: lowest first, each once.
 crates=()
 add_crates() {
     local name=$1 dependency dependencies

@@ -1,5 +1,6 @@
 #!/bin/bash
-# Whether the documents fit the repository: crates and definitions that are named, the example as it stands, lines that are short.
+# Whether the documents fit the repository: crates and definitions that are named, README's example and its
+# counts, lines that are short.
 # A line for each case; the last line is 'N passed, M failed'.
 set -euo pipefail
 unset CDPATH
@@ -8,7 +9,7 @@ cd "$(dirname "$(readlink -f "${BASH_SOURCE[0]}")")/.."
 passed=0
 failed=0
 
-# NAME COMMAND..: the command finds nothing to tell.
+# NAME COMMAND..: the command prints nothing.
 silent() {
     local said
     said=$("${@:2}" 2>&1) || said="it failed: $said"

@@ -19,8 +19,8 @@ cp "$here/../lbsim" "$here/../launcher.sh" "$repository"
 printf '%s\n' '# lowest first' 'low may_wait=2: rand_core' 'mid: low memchr # on low' 'apart: low' 'lbsim: mid' >"$repository/crates.txt"
 printf 'gate\n' >"$script"
 
-# The made rt builds a program that tells how it was called; it refuses a crate in which a file 'open' lies. A trial build
-# tells as much and ends with status 1; where a file 'cut' lies it gives no whole answer.
+# The made rt builds a program that prints how it was called; it refuses a crate in which a file 'open' lies. A trial build
+# prints as much and ends with status 1; where a file 'cut' lies it gives no whole answer.
 cat >"$room/bin/rt" <<'END'
 #!/bin/bash
 crate=$(basename "$PWD")
@@ -41,7 +41,7 @@ chmod +x out/lbsim
 END
 chmod +x "$room/bin/rt"
 
-# Another folder for the PATH, with what the script uses beside rt.
+# Another folder for the PATH, with what the script uses besides rt.
 for tool in bash cat dirname find flock head mkdir mktemp mv readlink rm sed tail touch wc; do
     ln -s "$(command -v "$tool")" "$room/tools/$tool"
 done

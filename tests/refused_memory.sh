@@ -35,7 +35,7 @@ def written(program, lines, number=None):
 
 
 def instead(line):
-    """The lines that may stand for one that was refused for memory."""
+    """The lines that may come in the place of one that was refused for memory."""
     words = line.split(b" ")
     if words[0] == b"build":
         return [[b"failbuild " + b" ".join(words[1:])]]
@@ -63,7 +63,7 @@ def goes_on(lines, at, rest):
 
 
 def is_right(lines, answers, got):
-    """Whether this may be written for the lines, of which the worked answers are told."""
+    """Whether this may be written for the lines, whose worked answers are given."""
     same = 0
     while same < min(len(got), len(answers)) and got[same] == answers[same]:
         same += 1

@@ -1,7 +1,7 @@
 #!/bin/bash
 # Each request for memory refused in turn: `lbcheck replay` over the worked answers of lb_rows, once for each request that
 # it makes. It has to say OutOfMemory, or what it says with all memory. The C library's calls are refused by refuse.c,
-# which is compiled here by `cc` and stands before it. A line for each answer; the last line is 'N passed, M failed'.
+# which is compiled here by `cc` and loaded before it. A line for each answer; the last line is 'N passed, M failed'.
 # LBCHECK names another program than the one that ./lbcheck builds.
 set -euo pipefail
 unset CDPATH

@@ -1,4 +1,4 @@
--- A run that is driven by the calls of a port: each answer is done by the call that it names, and what came of it is told to the run.
+-- A run that is driven by the calls of a port: each answer is done by the call that it names, and what came of it is the run's next event.
 use Rattle.std.specs.Prelude.{◌≡◌, ℕ, Bool, true, false, List, [], ◌∷◌, Result}
 use Rattle.lb_select_base.specs.declared.refusal.Refusal.{Refusal}
 use Rattle.lb_background.specs.declared.event.Event.{Event}
@@ -26,7 +26,7 @@ ReadsMoment {P} moments p now number q = moments p now q
 
 -- from one event to the next: the moment and the number that are read after an event, and what is done for an answer
 module _ {P : Type 0} (reads : P → ℕ → ℕ → P → Type 0) (does : P → Action → Event → P → Type 0) where
-  -- what is told next: the start, and later what came of the last answer
+  -- the next event: the start, and later what came of the last answer
   abbrev pub Told : P → List Heard → Event → P → Type 0
   Told p [] e q = (e ≡ on.Start) × (q ≡ p)
   Told p (x ∷ h) e q = does p x.action e q

@@ -1,5 +1,5 @@
--- The history of a run by turns: what it was told, with the moments, and what it answered; the last first. What is right to answer is
--- told of the whole history.
+-- The history of a run by turns: the events that it took, with their moments, and what it answered; the last first. What is right to
+-- answer is a function of the whole history.
 use Rattle.std.specs.Prelude.{◌≡◌, ℕ, Bool, true, false, not, ◌&&◌, ◌||◌, List, [], ◌∷◌, Option, Some, None, Ok, ⊤}
 use Rattle.std.specs.Prelude.{◌⊎◌, if◌then◌else◌}
 use Rattle.lb_background.specs.declared.event.Event.{Event}
@@ -51,7 +51,7 @@ abbrev pub is_checked : Event → Action → Bool
 is_checked on.Checked a = is_check a
 is_checked e a = false
 
--- whether the notifier was told
+-- whether the notifier was notified
 abbrev pub told : List Heard → Bool
 told [] = false
 told (x ∷ h) = is_told x.event (last h) || told h
@@ -98,7 +98,7 @@ module _ (p : Plan) where
   schedule_of None us cs = no_schedule
   schedule_of (Some made) us cs = schedule_after (Some p.update) p.check made us cs
 
-  -- all that the answer to the next event is told by
+  -- all that the answer to the next event depends on
   abbrev pub state : List Heard → RunValue
   state h = record {
     plan = p;

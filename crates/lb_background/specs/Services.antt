@@ -1,4 +1,4 @@
--- The run of a health check service, told by its history; what it was given with an event is the count of targets then.
+-- The run of a health check service, by its history; what it was given with an event is the count of targets then.
 use Rattle.std.specs.Prelude.{◌≡◌, ℕ, Bool, true, false, not, ◌&&◌, ◌||◌, ◌==◌, List, [], ◌∷◌, Option, Some, None, ⊤, if◌then◌else◌}
 use Rattle.lb_background.specs.declared.event.Event.{Event}
 use Rattle.lb_background.specs.declared.event.Event.TheVariants as on

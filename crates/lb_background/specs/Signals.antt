@@ -1,4 +1,4 @@
--- What a signal tells its watches.
+-- What a signal sends its watches.
 use Rattle.std.specs.Prelude.{◌≡◌, ◌≢◌, ◌≤◌, ◌⊎◌, ℕ, Bool, Option, Some, None, if◌then◌else◌, ◌==◌}
 use Rattle.atomic_table.specs.Seated.{TableId}
 use Rattle.lb_background.specs.declared.event.Event.{Event}
@@ -12,7 +12,7 @@ pub record SignalValue : Type 0 where
 abbrev pub signal : TableId → Bool → SignalValue
 signal pair latest = record { pair = pair; latest = latest }
 
--- what a signal that isn't gone tells: the end where that is the latest that it sent, else nothing
+-- what a signal that isn't gone says: the end where that is the latest that it sent, else nothing
 abbrev pub told : Bool → Option Event
 told latest = if latest then Some on.Shutdown else None
 
@@ -30,7 +30,7 @@ word_of (Some on.Shutdown) = 1
 word_of (Some on.Closed) = 2
 word_of e = 0
 
--- why a wait ended: something else stands than was heard, or the clock's last reading had come to the moment
+-- why a wait ended: there is something else than was heard, or the clock's last reading had come to the moment
 abbrev pub EndsUntil : {K : Type 0} → (K → ℕ → K → Type 0) → ℕ → Option Event → K → Option Event → Type 0
 EndsUntil {K} reads moment heard after stands =
     (word_of stands ≢ word_of heard) ⊎ ((before : K) × (now : ℕ) × reads before now after × (moment ≤ now))

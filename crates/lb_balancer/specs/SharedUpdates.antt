@@ -1,4 +1,4 @@
--- What the update of a balancer that threads share tells: what it read of the clock, and why it is refused; and how the sleep of one
+-- What is known of the update of a balancer that threads share: what it read of the clock, and why it is refused; and how the sleep of one
 -- that is driven ends.
 use Rattle.std.specs.Prelude.{◌≡◌, ◌⊎◌, ℕ, Bool, List, length, Option, Some, ◌≤◌}
 use Rattle.lb_select_base.specs.Backends.{Member}

@@ -75,11 +75,11 @@ pub record Stands {C G : Type 0} (e : History) (v : ServedValue C G) : Type 0 wh
   pub members : v.members ≡ members_now e
   pub tickets : v.words.tickets ≡ tickets_after e
 
--- some history stands behind it
+-- some history explains it
 abbrev pub IsFounded : {C G : Type 0} → ServedValue C G → Type 0
 IsFounded v = (e : History) × Stands e v
 
--- what holds after each history that it stands for
+-- what holds after each history that explains it
 abbrev pub After : {C G : Type 0} → ServedValue C G → (History → Type 0) → Type 0
 After v P = (e : History) → Stands e v → P e
 

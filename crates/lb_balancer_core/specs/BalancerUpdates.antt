@@ -33,7 +33,7 @@ module _ {D C G R : Type 0} (gives : R → Member → Member → Type 0) (discov
     pub registry : (key_of : Member → Member) (events : List Event) → IsRegistryAfter gives key_of events before
         → After was (λ e. IsRegistryAfter gives key_of (registry_updated key_of was.view.id members (view_events e) events) after)
 
-  -- the discovery gave members that are refused, for the cause that stands, or for memory where none does
+  -- the discovery gave members that are refused, for the cause that applies, or for memory where none does
   pub record AreRefused (r : Refusal) : Type 0 where
     pub members : List Member
     pub settings : List (Member × Bool)

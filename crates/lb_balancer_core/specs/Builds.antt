@@ -9,7 +9,7 @@ pub record RefusedValue (C : Type 0) : Type 0 where
   pub task : Task C
   pub refusal : Refusal
 
--- the cause that stands in the job's members and configuration, or where there is none that memory was refused
+-- the cause that the job's members and configuration give, or where there is none that memory was refused
 abbrev pub IsCauseOf : {C : Type 0} → (List Member → C → Option Refusal) → Task C → Refusal → Type 0
 IsCauseOf refuses t e =
     (refuses t.members t.config ≡ Some e) ⊎ ((refuses t.members t.config ≡ None) × (e ≡ OutOfMemory))

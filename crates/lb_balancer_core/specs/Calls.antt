@@ -1,4 +1,4 @@
--- What calls of a port answer, beside the values of a group.
+-- What calls of a port answer, apart from the values of a group.
 use Rattle.std.specs.Prelude.{ℕ, Result, Ok, Err}
 use Rattle.lb_select_base.specs.Backends.{Member}
 use Rattle.lb_select_base.specs.Draws as draws

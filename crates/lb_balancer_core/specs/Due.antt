@@ -9,7 +9,7 @@ use Rattle.lb_balancer_core.specs.declared.turn.Turn.{Turn}
 use Rattle.lb_balancer_core.specs.declared.turn.Turn.TheVariants as turn
 
 module _ {C : Type 0} where
-  -- a slot that waits and is due, of a group that is not cancelled, with nothing beside what it serves
+  -- a slot that waits and is due, of a group that is not cancelled, with nothing but what it serves
   pub record IsDue (made : Made C) (e : History) (slot : ℕ) : Type 0 where
     pub there : slot < length made.configs
     pub live : core.is_cancelled (slot_events e) ≡ false

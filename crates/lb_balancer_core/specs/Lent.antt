@@ -1,4 +1,4 @@
--- What a plain group's port has in its hands beside what its calls tell of.
+-- What a plain group's port borrows apart from what its calls are stated by.
 use Rattle.std.specs.Prelude.{◌≡◌}
 use Rattle.lb_select_base.specs.declared.walk.BackendIter.{Ghosts as Iter}
 use Rattle.lb_select_base.specs.declared.walk.BackendSelection.{Ghosts as Selection}

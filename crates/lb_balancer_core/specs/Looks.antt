@@ -11,7 +11,7 @@ use Rattle.lb_select_base.specs.declared.refusal.Refusal.{Refusal}
 use Rattle.lb_select_base.specs.declared.refusal.Refusal.TheVariants as refusal
 use Rattle.lb_rebuild_slots.specs.Values.{ReaderValue}
 
--- a call for a reader: something was drawn, or it was told whether a backend is ready
+-- a call for a reader: something was drawn, or the port said whether a backend is ready
 pub data Look : Type 0 where
   drew : Draw → Look
   told : Member → Bool → Look
@@ -40,7 +40,7 @@ module _ {P R : Type 0} (draws : P → R → Draw → P → Type 0) (readies : P
   Looks p (told b a ∷ ls) q = (m : P) × readies p r b a m × Looks m ls q
 
 module _ (accepts : Member → Bool → Bool → Type 0) (limit : ℕ) where
-  -- it was asked of each, with the readiness that was told, and refused it
+  -- it was asked of each, with the readiness that the port said, and refused it
   abbrev pub AreRefused : List (Member × Bool) → Type 0
   AreRefused asked = Each (λ x. accepts x.0 x.1 false) asked
 

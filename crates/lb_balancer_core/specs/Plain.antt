@@ -1,5 +1,5 @@
 -- The plain group as a port: each call is that of the group, with its registry and its gate, and the words are those of its slots.
--- A history of the group tells each call; what is owned is so after some history of it.
+-- Each call is stated by a history of the group; what is owned is so after some history of it.
 use Rattle.std.specs.Prelude.{◌≡◌, ℕ, Bool, true, false, List, ◌∷◌, ◌++◌, Some, Result, Ok, slice_get}
 use Rattle.std.specs.Prelude.{[], ◌≤◌, ◌^◌, OnOk, OnErr, IsErrOf, IsTrue, ◌↔◌, None, Err}
 use Rattle.rand_core.specs.Stream.{Stream, next_u64}
@@ -65,7 +65,7 @@ module _ {C : Type 0} where
   IsPublished v b t w =
       After v (λ made e. slots.Publishes (slot_events e) b (Ok t)) × Becomes v (in_group (publish_events b (Ok t))) w × SameSite v w
 
-  -- Tickets are those of the slot's counter, random words those that the generator gives next, and loads those that are lent.
+  -- Tickets are those of the slot's counter, random words those that the generator gives next, and loads the borrowed ones.
   abbrev pub IsDrawn : GroupValue C → Stream → (Member → ℕ) → ReaderValue C → Draw → GroupValue C → Stream → Type 0
   IsDrawn v s load_by r (draws.ticket t) w u =
       After v (λ made e. slots.IsTicket made (slot_events e) r.slot r.generation t)
@@ -106,7 +106,7 @@ module _ {C R : Type 0} (gives : R → Member → Member → Type 0) where
       (key_of : Member → Member) (events : List Event) → IsRegistryAfter gives key_of events x
       → After v (λ made e. IsTrue a ↔ IsReady key_of (views_of made e) events r.generation b)
 
-  -- A membership, as the group's own call tells it.
+  -- A membership, as the group's own call states it.
   abbrev pub IsScheduled : GroupValue C → RegistryValue R → List Member → List (Member × Bool) → ℕ → Result Scheduled Refusal
       → GroupValue C → RegistryValue R → Type 0
   IsScheduled v x members settings now r w y =

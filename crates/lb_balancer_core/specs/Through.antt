@@ -23,7 +23,7 @@ generation_in (Err e) = Err e
 module _ {K D P : Type 0} (reads : K → ℕ → K → Type 0)
     (finds : D → Result (List Member × List (Member × Bool)) Refusal → Type 0)
     (scheduled : P → List Member → List (Member × Bool) → ℕ → Result Scheduled Refusal → P → Type 0) where
-  -- What was found is scheduled once, at the next reading; a fault is handed on, without a reading and without a call.
+  -- What was found is scheduled once, at the next reading; a fault is returned, without a reading and without a call.
   abbrev pub UpdatedBy : K → P → Result (List Member × List (Member × Bool)) Refusal → Result ℕ Refusal → K → P → Type 0
   UpdatedBy k p (Ok f) r l q =
       (now : ℕ) × reads k now l × (a : Result Scheduled Refusal) × scheduled p f.0 f.1 now a q × (r ≡ generation_in a)
@@ -70,7 +70,7 @@ module _ {S I C W K P : Type 0} (refuses : List Member → C → Option Refusal)
       (refuses j.members j.config ≡ None) × (end : ℕ) × reads k end l
       × (u : Publication) × published p (record { task = j; ended = end }) u q × (t ≡ turn_of u)
 
-  -- its build was refused, and the job failed at the next reading; the turn tells its generation and the cause
+  -- its build was refused, and the job failed at the next reading; the turn says its generation and the cause
   abbrev pub Fails : Task C → P → K → Turn → P → K → Type 0
   Fails j p k t q l =
       (end : ℕ) × reads k end l × (r : RefusedValue C) × failed p r end q

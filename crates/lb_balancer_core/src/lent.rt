@@ -2,11 +2,11 @@
 ghost use Rattle.std.specs.Prelude.{◌≡◌, ◌↔◌, ◌≤◌, ◌^◌, ◌∷◌, List, Err, IfOk, IsErrOf, IsTrue, OnOk, OnErr};
 ghost use Rattle.std.specs.Arc.{arc_value};
 ghost use Rattle.lb_select_base.specs.Backends.{Member};
-ghost use Rattle.lb_health_registry.specs.Registry.{IsRegistryAfter, IsGrowthRefusal};
+ghost use Rattle.lb_health_registry.specs.Registry.{IsRegistryAfter, IsGrowthRefusal, targets_after};
 ghost use Rattle.lb_health_registry.specs.RegistryEvents.{Event, Applied, cells_given};
 ghost use Rattle.lb_rebuild_slots.specs.SlotsHistory.{newest};
 ghost use Rattle.lb_health_view.specs.RegistrySide.{IsReady};
-ghost use Rattle.lb_health_view.specs.Passes.{PassesWith, target_cells};
+ghost use Rattle.lb_health_view.specs.Passes.{PassesWith};
 ghost use Rattle.lb_health_view.specs.ViewEvents.{generation_after};
 ghost use Rattle.lb_rebuild_group.specs.GroupHistory as history;
 ghost use Rattle.lb_rebuild_group.specs.GroupHistory.{slot_events};
@@ -99,7 +99,8 @@ impl<'a, S: BackendSelection, D, R: KeyRule + Drop, C: HealthCheck + Drop> LentB
         ensures ok { OnOk result ((key_of : Member → Member) (events : List Event)
             → IsRegistryAfter R.gives key_of events self.old.balancer.now.registry.registry
             → (after : List Event)
-            × PassesWith C.threshold self.old.balancer.now.registry.check (target_cells key_of (Applied ∷ events)) (Applied ∷ events) after
+            × PassesWith C.answers C.threshold self.old.balancer.now.registry.check (targets_after key_of (Applied ∷ events))
+            (Applied ∷ events) after
             × IsRegistryAfter R.gives key_of after self.new.balancer.now.registry.registry) }
         ensures err { OnErr result ((key_of : Member → Member) (events : List Event)
             → IsRegistryAfter R.gives key_of events self.old.balancer.now.registry.registry
@@ -194,7 +195,7 @@ impl<'a, 'x, S: BackendSelection, D, R: KeyRule + Drop, C: HealthCheck + Drop> L
         ensures ok { OnOk result ((key_of : Member → Member) (events : List Event)
             → IsRegistryAfter R.gives key_of events self.old.health.now.registry
             → (after : List Event)
-            × PassesWith C.threshold self.old.health.now.check (target_cells key_of (Applied ∷ events)) (Applied ∷ events) after
+            × PassesWith C.answers C.threshold self.old.health.now.check (targets_after key_of (Applied ∷ events)) (Applied ∷ events) after
             × IsRegistryAfter R.gives key_of after self.new.health.now.registry) }
         ensures err { OnErr result ((key_of : Member → Member) (events : List Event)
             → IsRegistryAfter R.gives key_of events self.old.health.now.registry

@@ -66,7 +66,7 @@ fn lent_by<'r, S: BackendSelection>(reader: &'r Reader<S>) -> &'r S
     ensures members { S.members result.now ≡ reader.now.members }
     ensures config { S.built_with result.now ≡ reader.now.config }
 {
-    &**reader.selector()
+    reader.selector()
 }
 
 // The first of the walk that is accepted. What is refused is not copied.

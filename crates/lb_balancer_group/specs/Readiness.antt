@@ -1,4 +1,4 @@
--- What reading the slots of a group one after another tells, while others may publish; and how the sleeps of a driven run end.
+-- What reading the slots of a group one after another shows, while others may publish; and how the sleeps of a driven run end.
 use Rattle.std.specs.Prelude.{◌≡◌, ◌⊎◌, ◌<◌, ◌≤◌, ◌+◌, ◌^◌, ℕ, Option, Some, None}
 use Rattle.lb_rebuild_slots.specs.SlotsCalls.{at_slot}
 use Rattle.lb_rebuild_slots.specs.SlotsHistory.{past_of, served}

@@ -2,9 +2,6 @@
 //! part is a crate of its own (`lb_health_check`, `lb_health_http`, `lb_health_registry`, `lb_health_view`); this one re-exports them.
 #![tactic(auto)]
 
-#[cfg(test)]
-mod tests;
-
 pub use lb_health_check::error::CheckError;
 pub use lb_health_check::health_check::{
     BackendSummary, BoxedCheck, HealthCheck, HealthObserve, HealthObserveCallback, IdentitySummary,

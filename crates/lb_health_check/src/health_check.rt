@@ -1,7 +1,9 @@
 //! The trait of a check of backends, its observers and its summaries. A check over the network contains the network that it uses, its
 //! observer and its summary as type parameters of its own.
-ghost use Rattle.std.specs.Prelude.{◌≡◌, ℕ, Bool, IfOk, OnErr, Err, string_bytes};
+ghost use Rattle.std.specs.Prelude.{◌≡◌, ℕ, ⊤, Bool, Result, IfOk, OnErr, Err, string_bytes};
+ghost use Rattle.lb_health_check.specs.declared.error.CheckError.{CheckError};
 ghost use Rattle.lb_select_base.specs.AddressText.{member_text};
+ghost use Rattle.lb_select_base.specs.Backends.{Member};
 ghost use Rattle.lb_select_base.specs.declared.refusal.Refusal.{Refusal};
 ghost use Rattle.lb_select_base.specs.declared.refusal.Refusal.TheVariants.{OutOfMemory};
 
@@ -16,8 +18,12 @@ pub trait HealthCheck {
     /// The threshold of each verdict.
     ghost threshold: { Self → Bool → ℕ };
 
+    /// What the check may answer about a backend: anything, for a check that doesn't say.
+    ghost answers: { Self → Member → Result Unit CheckError → Type 0 } = { λ _ _ _. ⊤ };
+
     /// Checks the backend: `Ok` where it is healthy, and otherwise why it is not.
-    fn check(&self, alloc: Global, target: &Backend) -> Result<(), CheckError>;
+    fn check(&self, alloc: Global, target: &Backend) -> Result<(), CheckError>
+        ensures { answers self.now target.now result };
 
     /// Reports that the backend became healthy, or unhealthy. By default it does nothing.
     fn health_status_change(&self, _target: &Backend, _healthy: bool) {}
@@ -39,6 +45,8 @@ pub type BoxedCheck = Box<dyn HealthCheck + Send + Sync + Drop>;
 
 impl HealthCheck for BoxedCheck {
     ghost threshold = { λ b success. (HealthCheck-box b).threshold b.value success };
+
+    ghost answers = { λ b target answer. (HealthCheck-box b).answers b.value target answer };
 
     fn check(&self, alloc: Global, target: &Backend) -> Result<(), CheckError> {
         (**self).check(alloc, target)

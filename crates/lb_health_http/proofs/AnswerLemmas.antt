@@ -43,8 +43,8 @@ module _ (is_head : Bool) (limit : ℕ) (has_validator : Bool) (accepts : Parts 
   }
   body_told s m r h f (Err BadFraming) a is o =
       inr (record { head = h; after = m; begins = a; framing = f; framed = is; holds = o })
-  body_told s m r h f (Err EndInMessage) a is o =
-      (o.0, inr (record { head = h; after = m; begins = a; framing = f; framed = is; holds = o.1 }))
+  body_told s m r h f (Err EndInMessage) a is (over, none, cut) =
+      (over, inr (record { head = h; after = m; begins = a; framing = f; framed = is; holds = (none, cut) }))
   body_told s m r h f (Err BodyTooLarge) a is o =
       record { head = h; after = m; begins = a; framing = f; framed = is; holds = o }
   body_told s m r h f (Err Read) a is o = tt

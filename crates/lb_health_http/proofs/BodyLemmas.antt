@@ -1,10 +1,10 @@
 -- Lemmas on bytes that are passed over, and on the content of a chunk.
-use Rattle.std.proofs.Common.{◌≡◌, ℕ, ◌-◌, ◌≤◌, List, [], ◌∷◌, ◌++◌, Result, Ok, Err, length, refl, sym, ap, ◌∙◌, append_assoc, length-append, arith}
+use Rattle.std.proofs.Common.{◌≡◌, inl, inr, ℕ, ◌-◌, ◌≤◌, List, [], ◌∷◌, ◌++◌, Result, Ok, Err, length, refl, sym, ap, ◌∙◌, append_assoc, length-append, arith}
 use Rattle.httparse.specs.Ascii.{crlf_bytes}
 use Rattle.lb_stream.specs.Stream.{Takes}
 use Rattle.lb_health_check.specs.declared.error.CheckError.{CheckError}
 use Rattle.lb_health_check.specs.declared.error.CheckError.TheVariants.{BadFraming, EndInMessage, Read}
-use Rattle.lb_health_http.specs.Steps.{Passed, ExpectOutcome, HasContent, ContentOutcome}
+use Rattle.lb_health_http.specs.Steps.{Passed, SkipOutcome, ExpectOutcome, HasContent, ContentOutcome}
 
 -- after some bytes n more were passed over
 pub passed_more : (s m r : List ℕ) (left all n : ℕ) → Passed left all s m → Takes n m r → n ≤ left → Passed (left - n) all s r
@@ -50,9 +50,14 @@ content_never n s m k tail t e nothing = (
 pub content_cr_fault : (n : ℕ) (s m r : List ℕ) (e : CheckError) → Takes n s m → ExpectOutcome 13 (Err e) m r
     → ContentOutcome n (Err e) s r
 content_cr_fault n s m r BadFraming t o =
-    content_never n s m (o.0 ∷ []) o.1 t o.2 (λ more after e. o.3 (cc))
-content_cr_fault n s m r EndInMessage t o =
-    (o.1, content_none n s m t (λ after e. let none : m ≡ [] = o.0 in cc))
+    let never = content_never n s m (o.0 ∷ []) r t o.1 (λ more after e. o.2 (cc)) in
+    let is : s ≡ t.front ++ o.0 ∷ r = t.is ∙ ap (λ (l : List ℕ). t.front ++ l) o.1 in
+    (never.0, never.1, never.2, never.3, (t.front, t.count, (o.0, inl (is, o.2))))
+content_cr_fault n s m r EndInMessage t o = (
+  o.1,
+  content_none n s m t (λ after e. let none : m ≡ [] = o.0 in cc),
+  (o.1, inl (omega (arith, ap length t.is, length-append t.front m, t.count, ap length o.0))),
+)
 content_cr_fault n s m r Read t o = tt
 content_cr_fault n s m r e t o = absurd o
 
@@ -60,11 +65,27 @@ content_cr_fault n s m r e t o = absurd o
 pub content_lf_fault : (n : ℕ) (s m y r : List ℕ) (e : CheckError) → Takes n s m → m ≡ 13 ∷ y → ExpectOutcome 10 (Err e) y r
     → ContentOutcome n (Err e) s r
 content_lf_fault n s m y r BadFraming t c o =
-    content_never n s m (13 ∷ o.0 ∷ []) o.1 t (c ∙ ap (λ (l : List ℕ). 13 ∷ l) o.2) (λ more after e. o.3 (cc))
-content_lf_fault n s m y r EndInMessage t c o =
-    (o.1, content_none n s m t (λ after e. let none : y ≡ [] = o.0 in cc))
+    let ends : m ≡ 13 ∷ o.0 ∷ r = c ∙ ap (λ (l : List ℕ). 13 ∷ l) o.1 in
+    let never = content_never n s m (13 ∷ o.0 ∷ []) r t ends (λ more after e. o.2 (cc)) in
+    let is : s ≡ t.front ++ 13 ∷ o.0 ∷ r = t.is ∙ ap (λ (l : List ℕ). t.front ++ l) ends in
+    (never.0, never.1, never.2, never.3, (t.front, t.count, (o.0, inr (is, o.2))))
+content_lf_fault n s m y r EndInMessage t c o = (
+  o.1,
+  content_none n s m t (λ after e. let none : y ≡ [] = o.0 in cc),
+  (o.1, inr (t.front, t.count, t.is ∙ ap (λ (l : List ℕ). t.front ++ l) (c ∙ ap (λ (l : List ℕ). 13 ∷ l) o.0))),
+)
 content_lf_fault n s m y r Read t c o = tt
 content_lf_fault n s m y r e t c o = absurd o
+
+-- a fault in the bytes
+pub content_cut : (n : ℕ) (s r : List ℕ) (e : CheckError) → SkipOutcome n (Err e) s r → ContentOutcome n (Err e) s r
+content_cut n s r EndInMessage o = (
+  o.0,
+  λ after h. omega (arith, ap length h.2, length-append h.0 (crlf_bytes ++ after), h.1, o.1),
+  (o.0, inl (omega (arith, o.1))),
+)
+content_cut n s r Read o = tt
+content_cut n s r e o = absurd o
 
 -- the bytes, CR and LF
 pub content_is : (n : ℕ) (s m y r : List ℕ) → Takes n s m → m ≡ 13 ∷ y → y ≡ 10 ∷ r → HasContent n s r

@@ -1,5 +1,5 @@
 -- Lemmas on bodies in chunks: what their first line says of them, and what is passed.
-use Rattle.std.proofs.Common.{◌≡◌, ◌≢◌, ℕ, zero, suc, ◌+◌, ◌-◌, ◌<◌, ◌≤◌, List, [], ◌∷◌, ◌++◌, Ok, Err, length, refl, sym, ap, ◌∙◌, subst, append_assoc, append-nil, arith}
+use Rattle.std.proofs.Common.{◌≡◌, ◌≢◌, inl, inr, ℕ, zero, suc, ◌+◌, ◌-◌, ◌<◌, ◌≤◌, List, [], ◌∷◌, ◌++◌, Ok, Err, length, refl, sym, ap, ◌∙◌, subst, append_assoc, append-nil, arith}
 use Rattle.httparse.specs.Ascii.{crlf_bytes}
 use Rattle.httparse.specs.Grammar.{ChunkLine, print_chunk_line, chunk_size}
 use Rattle.httparse.proofs.ChunkLemmas.{chunk_line_unique}
@@ -7,8 +7,9 @@ use Rattle.lb_health_check.specs.declared.error.CheckError.{CheckError}
 use Rattle.lb_health_check.specs.declared.error.CheckError.TheVariants.{BadFraming, EndInMessage, BodyTooLarge, Read, OutOfMemory}
 use Rattle.lb_health_http.specs.declared.framing.Framing.TheVariants.{Chunked}
 use Rattle.lb_health_http.specs.Body.{BodyOutcome}
-use Rattle.lb_health_http.specs.Chunked.{IsLine, Chunk, HasTrailers, HasLargeChunks, IsLargeChunked, HasChunked}
-use Rattle.lb_health_http.specs.Steps.{IsLineText, LineFault, IsChunkLineOf, IsNoChunkLine, HasContent, ContentOutcome, PassesChunks, PassesLast, StepOutcome}
+use Rattle.lb_health_http.specs.Chunked.{IsLine, Chunk, HasTrailers, HasChunkFault, IsChunkedFault, HasChunked, IsLineText, IsNoChunkLine}
+use Rattle.lb_health_http.specs.Chunked.{ContentFault, FaultBehind, HasLineBefore}
+use Rattle.lb_health_http.specs.Steps.{LineFault, IsChunkLineOf, HasContent, ContentOutcome, PassesChunks, PassesLast, StepOutcome}
 use Rattle.lb_health_http.proofs.LineLemmas.{line_same, line_longer, no_line, chunk_line_text}
 use Rattle.lb_health_http.proofs.BodyLemmas.{fronts_same}
 
@@ -80,35 +81,42 @@ after_line line text k n after p is h =
 
 pub line_fault : (room : ℕ) (s r : List ℕ) (e : CheckError) → LineFault 4096 e s r → BodyOutcome room Chunked (Err e) s r
 line_fault room s r BadFraming o = (
-  o.0,
-  o.1,
-  o.2,
-  λ more size rest h.
-      let b = begins_line (o.0 ++ more) size rest h in
-      let longer = line_longer o.0 (print_chunk_line b.line) more b.tail o.4 (chunk_line_text b.line b.valid.valid) b.is in
-      let most = b.valid.size in
-      omega (arith, o.3),
+  (
+    o.0,
+    r,
+    o.1,
+    λ more size rest h.
+        let b = begins_line (o.0 ++ more) size rest h in
+        let longer = line_longer o.0 (print_chunk_line b.line) more b.tail o.3 (chunk_line_text b.line b.valid.valid) b.is in
+        let most = b.valid.size in
+        omega (arith, o.2),
+  ),
+  ([], inl o),
 )
 line_fault room s r EndInMessage o = (
   o.0,
   λ size rest h.
       let b = begins_line s size rest h in
       no_line s (print_chunk_line b.line) b.tail o.1 (chunk_line_text b.line b.valid.valid) b.is,
+  ([], inl o),
 )
 line_fault room s r Read o = tt
 line_fault room s r OutOfMemory o = tt
 line_fault room s r e o = absurd o
 
-pub no_chunk_line : (room : ℕ) (line s r : List ℕ) → IsLineText line → IsNoChunkLine line → s ≡ line ++ r
+pub no_chunk_line : (room : ℕ) (line s r : List ℕ) → IsLineText line → length line ≤ 4096 → IsNoChunkLine line → s ≡ line ++ r
     → BodyOutcome room Chunked (Err BadFraming) s r
-no_chunk_line room line s r p nothing e = (
-  line,
-  r,
-  e,
-  λ more size rest h.
-      let b = begins_line (line ++ more) size rest h in
-      let same = line_same line (print_chunk_line b.line) more b.tail p (chunk_line_text b.line b.valid.valid) b.is in
-      nothing b.line b.valid.valid same.0,
+no_chunk_line room line s r p most nothing e = (
+  (
+    line,
+    r,
+    e,
+    λ more size rest h.
+        let b = begins_line (line ++ more) size rest h in
+        let same = line_same line (print_chunk_line b.line) more b.tail p (chunk_line_text b.line b.valid.valid) b.is in
+        nothing b.line b.valid.valid same.0,
+  ),
+  ([], inr (inl (line, p, most, nothing, e))),
 )
 
 -- what is large after its first line
@@ -116,32 +124,50 @@ large_after : (k room n : ℕ) (tail after : List ℕ) → room < k → AfterLin
 large_after zero room n tail after more a = absurd (omega arith)
 large_after (suc k) room n tail after more a = omega (arith, a.size)
 
--- a fault in the content
-pub content_fault : (room k : ℕ) (line s m r : List ℕ) (e : CheckError) → 0 < k → IsLineText line → IsChunkLineOf line k
-    → s ≡ line ++ m → ContentOutcome k (Err e) m r → BodyOutcome room Chunked (Err e) s r
-content_fault room k line s m r BadFraming some p is e o = (
-  line ++ o.0,
-  o.1,
-  e ∙ ap (λ (l : List ℕ). line ++ l) o.2 ∙ sym (append_assoc line o.0 o.1),
-  λ more size rest h.
-      let moved = subst (λ (l : List ℕ). HasChunked l size rest) (append_assoc line o.0 more) h in
-      let a = some_after k (o.0 ++ more) size rest some (after_line line (o.0 ++ more) k size rest p is moved) in
-      o.3 more a.more a.content,
+fit_line : (line : List ℕ) (k : ℕ) (is : IsChunkLineOf line k) → length line ≤ 4096 → IsLine is.0
+fit_line line k is most = record { valid = is.1; size = subst (λ (l : List ℕ). length l ≤ 4096) is.2 most }
+
+some_behind : (e : CheckError) (k : ℕ) (m r : List ℕ) → 0 < k → ContentFault e k m r → FaultBehind e k m r
+some_behind e zero m r some o = absurd (omega arith)
+some_behind e (suc k) m r some o = o
+
+-- a fault behind a chunk's line
+fault_behind : (e : CheckError) (room k : ℕ) (line s m r : List ℕ) → k ≤ room → length line ≤ 4096 → IsChunkLineOf line k
+    → s ≡ line ++ m → FaultBehind e k m r → HasLineBefore e room s r
+fault_behind e room k line s m r fits most is same o = (
+  is.0,
+  fit_line line k is most,
+  subst (λ (j : ℕ). j ≤ room) is.3 fits,
+  (m, same ∙ ap (λ (l : List ℕ). l ++ m) is.2, subst (λ (j : ℕ). FaultBehind e j m r) is.3 o),
 )
-content_fault room k line s m r EndInMessage some p is e o = (
-  o.0,
+
+-- a fault in the content
+pub content_fault : (room k : ℕ) (line s m r : List ℕ) (e : CheckError) → 0 < k → k ≤ room → IsLineText line → length line ≤ 4096
+    → IsChunkLineOf line k → s ≡ line ++ m → ContentOutcome k (Err e) m r → BodyOutcome room Chunked (Err e) s r
+content_fault room k line s m r BadFraming some fits p most is e (front, tail, split, never, fault) = (
+  (
+    line ++ front,
+    tail,
+    e ∙ ap (λ (l : List ℕ). line ++ l) split ∙ sym (append_assoc line front tail),
+    λ more size rest h.
+        let moved = subst (λ (l : List ℕ). HasChunked l size rest) (append_assoc line front more) h in
+        let a = some_after k (front ++ more) size rest some (after_line line (front ++ more) k size rest p is moved) in
+        never more a.more a.content,
+  ),
+  ([], inr (inr (fault_behind BadFraming room k line s m r fits most is e (some_behind BadFraming k m r some fault)))),
+)
+content_fault room k line s m r EndInMessage some fits p most is e (over, none, fault) = (
+  over,
   λ size rest h.
       let moved = subst (λ (l : List ℕ). HasChunked l size rest) e h in
       let a = some_after k m size rest some (after_line line m k size rest p is moved) in
-      o.1 a.more a.content,
+      none a.more a.content,
+  ([], inr (fault_behind EndInMessage room k line s m r fits most is e (some_behind EndInMessage k m r some fault))),
 )
-content_fault room k line s m r Read some p is e o = tt
-content_fault room k line s m r e some p is is_e o = absurd o
+content_fault room k line s m r Read some fits p most is e o = tt
+content_fault room k line s m r e some fits p most is is_e o = absurd o
 
 -- ---- a chunk that is passed
-
-fit_line : (line : List ℕ) (k : ℕ) (is : IsChunkLineOf line k) → length line ≤ 4096 → IsLine is.0
-fit_line line k is most = record { valid = is.1; size = subst (λ (l : List ℕ). length l ≤ 4096) is.2 most }
 
 pub chunk_too_large : (room k : ℕ) (line s r : List ℕ) → length line ≤ 4096 → IsChunkLineOf line k → room < k → s ≡ line ++ r
     → BodyOutcome room Chunked (Err BodyTooLarge) s r
@@ -170,6 +196,7 @@ passes_last line s r p most is e = record {
     ),
   );
   back = λ text n after h. after_line line text 0 n after p is h;
+  fault = λ e room text after t. fault_behind e room 0 line (line ++ text) text after (omega arith) most is refl t;
 }
 
 regroup : (line content text : List ℕ) → (line ++ (content ++ crlf_bytes)) ++ text ≡ line ++ (content ++ (crlf_bytes ++ text))
@@ -204,9 +231,10 @@ chunk_back line content text k n after p some is sized h =
     let rest : text ≡ a.more = cc in
     (a.others, a.size, subst (λ (l : List ℕ). HasChunked l a.others after) (sym rest) a.chunked)
 
-chunk_large : (line content text : List ℕ) (k room : ℕ) (after : List ℕ) → length line ≤ 4096 → 0 < k → IsChunkLineOf line k
-    → length content ≡ k → IsLargeChunked room text after → IsLargeChunked (k + room) ((line ++ (content ++ crlf_bytes)) ++ text) after
-chunk_large line content text k room after most some is sized h =
+chunk_fault : (e : CheckError) (line content text : List ℕ) (k room : ℕ) (after : List ℕ) → length line ≤ 4096 → 0 < k
+    → IsChunkLineOf line k → length content ≡ k → IsChunkedFault e room text after
+    → IsChunkedFault e (k + room) ((line ++ (content ++ crlf_bytes)) ++ text) after
+chunk_fault e line content text k room after most some is sized h =
     let c : Chunk = record { line = is.0; content = content } in
     let same : chunk_size is.0 ≡ k = sym is.3 in
     let left : room ≡ k + room - chunk_size is.0 = omega (arith, same) in (
@@ -217,13 +245,13 @@ chunk_large line content text k room after most some is sized h =
         (
           text,
           ap (λ (l : List ℕ). (l ++ (content ++ crlf_bytes)) ++ text) is.2,
-          subst (λ (j : ℕ). HasLargeChunks h.0 j text after) left h.1,
+          subst (λ (j : ℕ). HasChunkFault e h.0 j text after) left h.1,
         ),
       ),
     )
 
 -- a body that begins with chunks that pass the limit is larger than that
-pub large_size : (cs : List Chunk) (limit : ℕ) (text rest : List ℕ) → HasLargeChunks cs limit text rest
+pub large_size : (cs : List Chunk) (limit : ℕ) (text rest : List ℕ) → HasChunkFault BodyTooLarge cs limit text rest
     → (n : ℕ) (after : List ℕ) → HasChunked text n after → limit < n
 large_size [] limit text rest large n after h =
     let line = print_chunk_line large.0 in
@@ -247,7 +275,7 @@ passes_chunk line s m r k p most some is e c = record {
   is = e ∙ ap (λ (l : List ℕ). line ++ l) c.2 ∙ sym (regroup line c.0 r);
   on = λ text n after h. chunk_on line c.0 text k n after most some is c.1 h;
   back = λ text n after h. chunk_back line c.0 text k n after p some is c.1 h;
-  large = λ room text after h. chunk_large line c.0 text k room after most some is c.1 h;
+  fault = λ e room text after h. chunk_fault e line c.0 text k room after most some is c.1 h;
 }
 
 pub step_last : (room k : ℕ) (line s r : List ℕ) → k ≡ 0 → IsLineText line → length line ≤ 4096 → IsChunkLineOf line k

@@ -13,7 +13,8 @@ use Rattle.httparse.specs.Grammar.{AllPass, print_chunk_line, is_extension_byte,
 use Rattle.httparse.specs.Pieces.{Stops}
 use Rattle.httparse.proofs.RunLemmas.{run_unique}
 use Rattle.httparse.proofs.ChunkLemmas.{chunk_pieces, chunk_from_pieces}
-use Rattle.lb_health_http.specs.Steps.{NoFeed, IsLineText, IsChunkLineOf, IsNoChunkLine}
+use Rattle.lb_health_http.specs.Chunked.{NoFeed, IsLineText, IsNoChunkLine}
+use Rattle.lb_health_http.specs.Steps.{IsChunkLineOf}
 use Rattle.lb_health_http.specs.ChunkLines.{EndsChunkLine}
 use Rattle.lb_health_http.proofs.LineLemmas.{line_of}
 

@@ -110,11 +110,11 @@ module _ (is_head : Bool) (limit : ℕ) (accepts : Parts → Bool) where
       cc
   only_good has_validator s rest other (Err BadFraming) (inr o) good =
       let body = its_body s other o.after o.head o.framing o.begins o.framed good in
-      let never = o.holds in
+      let never = o.holds.0 in
       never.3 never.1 good.size other (subst (λ (l : List ℕ). HasBody o.framing l good.size other) never.2 body)
   only_good has_validator s rest other (Err EndInMessage) (over, inl o) good = o.none good.head good.after good.begins.begins.reads
   only_good has_validator s rest other (Err EndInMessage) (over, inr o) good =
-      o.holds good.size other (its_body s other o.after o.head o.framing o.begins o.framed good)
+      o.holds.0 good.size other (its_body s other o.after o.head o.framing o.begins o.framed good)
   only_good has_validator s rest other (Err BodyTooLarge) o good =
       not_large o.framing o.after good.size other (its_body s other o.after o.head o.framing o.begins o.framed good) good.small rest o.holds
   only_good has_validator s rest other (Err Read) o good = tt

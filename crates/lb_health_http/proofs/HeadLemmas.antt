@@ -7,7 +7,7 @@ use Rattle.httparse.specs.Grammar.{ResponseHead, print_response, ReadsResponse, 
 use Rattle.httparse.proofs.GrammarLemmas.{ReadsResponse-append, print_response-append}
 use Rattle.lb_health_http.specs.Head.{BeginsWithHead, IsRefusedHead, IsOpenAtFeeds, HasBadHead, HasLargeHead, EndsInHead}
 use Rattle.lb_health_http.specs.Head.{IsBlankLine, AfterBlank}
-use Rattle.lb_health_http.specs.Steps.{NoFeed}
+use Rattle.lb_health_http.specs.Chunked.{NoFeed}
 use Rattle.lb_health_http.specs.declared.head.HeadParts.{HeadParts}
 use Rattle.std.specs.Char.{is_ascii_digit}
 use Rattle.lb_health_http.specs.declared.head.Seen.TheVariants.{Whole, Bad}

@@ -3,7 +3,7 @@ use Rattle.std.proofs.Common.{◌≡◌, ◌≢◌, ℕ, suc, ◌<◌, ◌≤◌
 use Rattle.httparse.specs.Grammar.{AllPass, ChunkLine, IsChunkLine, IsExtension, print_chunk_line, print_extension, is_extension_byte, is_ows}
 use Rattle.std.specs.Char.{is_ascii_hexdigit}
 use Rattle.httparse.specs.Ascii.{crlf_bytes}
-use Rattle.lb_health_http.specs.Steps.{NoFeed, IsLineText}
+use Rattle.lb_health_http.specs.Chunked.{NoFeed, IsLineText}
 
 pub NoFeed-append : (a b : List ℕ) → NoFeed a → NoFeed b → NoFeed (a ++ b)
 NoFeed-append [] b p q = q
@@ -94,6 +94,9 @@ chunk_line_text l p =
 pub line_ended : (line s m : List ℕ) → NoFeed line → s ≡ line ++ m → m ≡ [] → NoFeed s
 line_ended line s m p e none =
     subst NoFeed (sym (e ∙ ap (λ (l : List ℕ). line ++ l) none ∙ append-nil line)) p
+
+pub line_short : (line s m : List ℕ) (most : ℕ) → s ≡ line ++ m → m ≡ [] → length line < most → length s < most
+line_short line s m most e none short = omega (arith, ap length e, length-append line m, ap length none)
 
 -- it has one byte more
 pub line_grows : (line : List ℕ) (b : ℕ) → NoFeed line → b ≢ 10 → NoFeed (line ++ b ∷ [])

@@ -1,13 +1,13 @@
 -- Lemmas on trailers: lines that are passed, the empty line, and faults.
-use Rattle.std.proofs.Common.{◌≡◌, ◌≢◌, ℕ, suc, ◌-◌, ◌≤◌, max, List, [], ◌∷◌, ◌++◌, Err, length, refl, sym, ap, ◌∙◌, subst, append_assoc, length-append, arith, All}
+use Rattle.std.proofs.Common.{◌≡◌, ◌≢◌, inl, inr, ℕ, suc, ◌-◌, ◌<◌, ◌≤◌, max, List, [], ◌∷◌, ◌++◌, Err, length, refl, sym, ap, ◌∙◌, subst, append_assoc, length-append, arith, All}
 use Rattle.std.specs.List.{flat_map}
 use Rattle.std.proofs.lemmas.List.Elements.{All-cons, All-nil}
 use Rattle.httparse.specs.Ascii.{crlf_bytes}
 use Rattle.httparse.specs.Grammar.{is_extension_byte}
 use Rattle.lb_health_check.specs.declared.error.CheckError.{CheckError}
 use Rattle.lb_health_check.specs.declared.error.CheckError.TheVariants.{BadFraming, EndInMessage, Read, OutOfMemory}
-use Rattle.lb_health_http.specs.Chunked.{IsTrailer, print_trailer, HasTrailers}
-use Rattle.lb_health_http.specs.Steps.{NoFeed, IsLineText, LineFault, IsTrailerLine, TrailersOutcome}
+use Rattle.lb_health_http.specs.Chunked.{IsTrailer, print_trailer, HasTrailers, AreTrailersAtFault, NoFeed, IsLineText, IsTrailerLine}
+use Rattle.lb_health_http.specs.Steps.{LineFault, TrailersOutcome}
 use Rattle.lb_health_http.proofs.LineLemmas.{line_same, line_longer, no_line, crlf_line, clear_of}
 
 -- trailer lines were passed, and so many bytes are left for others: what stands after them stands behind them, and back
@@ -16,6 +16,8 @@ pub record PassesTrailers (left : ℕ) (stream rest : List ℕ) : Type 0 where
   pub is : stream ≡ front ++ rest
   pub on : (text after : List ℕ) → HasTrailers left text after → HasTrailers 65536 (front ++ text) after
   pub back : (text after : List ℕ) → HasTrailers 65536 (front ++ text) after → HasTrailers left text after
+  pub fault : (e : CheckError) (text after : List ℕ) → AreTrailersAtFault e left text after
+      → AreTrailersAtFault e 65536 (front ++ text) after
 
 -- the first line of trailers: the empty line, or a trailer line and others
 pub data FirstTrailer (room : ℕ) (text after : List ℕ) : Type 0 where
@@ -51,7 +53,8 @@ crlf_text : IsLineText crlf_bytes
 crlf_text = crlf_line [] tt
 
 pub trailers_none : (s : List ℕ) → PassesTrailers 65536 s s
-trailers_none s = record { front = []; is = refl; on = λ text after h. h; back = λ text after h. h }
+trailers_none s =
+    record { front = []; is = refl; on = λ text after h. h; back = λ text after h. h; fault = λ e text after h. h }
 
 -- one more trailer line was passed
 one_on : (t text : List ℕ) (room : ℕ) (after : List ℕ) → IsTrailer t → length (t ++ crlf_bytes) ≤ room
@@ -94,6 +97,9 @@ trailers_more left line s m r (t, p, same) within q e =
       back = λ text after h.
           one_back t text left after p (q.back ((t ++ crlf_bytes) ++ text) after
           (subst (λ (l : List ℕ). HasTrailers 65536 l after) (append_assoc q.front (t ++ crlf_bytes) text) h));
+      fault = λ e text after h.
+          subst (λ (l : List ℕ). AreTrailersAtFault e 65536 l after) (sym (append_assoc q.front (t ++ crlf_bytes) text))
+          (q.fault e ((t ++ crlf_bytes) ++ text) after (t ∷ h.0, (p, bound, (text, refl, h.1))));
     } in
     subst (λ (l : List ℕ). PassesTrailers (left - length l) s r) (sym same) all
 
@@ -121,16 +127,23 @@ behind_never left s m k tail q e nothing = (
       (subst (λ (l : List ℕ). HasTrailers 65536 l after) (append_assoc q.front k more) h)),
 )
 
+-- where a fault behind them is
+trailers_at : (e : CheckError) (left : ℕ) (s m r : List ℕ) → PassesTrailers left s m → AreTrailersAtFault e left m r
+    → AreTrailersAtFault e 65536 s r
+trailers_at e left s m r q o = subst (λ (l : List ℕ). AreTrailersAtFault e 65536 l r) (sym q.is) (q.fault e m r o)
+
 -- a line that is no trailer line and not empty
-pub bad_trailer : (left : ℕ) (line s m r : List ℕ) → IsLineText line → line ≢ crlf_bytes → ¬ (IsTrailerLine line)
-    → PassesTrailers left s m → m ≡ line ++ r → TrailersOutcome (Err BadFraming) s r
-bad_trailer left line s m r p some nothing q e =
-    behind_never left s m line r q e (λ more after h.
+pub bad_trailer : (left : ℕ) (line s m r : List ℕ) → IsLineText line → length line ≤ max left 2 → line ≢ crlf_bytes
+    → ¬ (IsTrailerLine line) → PassesTrailers left s m → m ≡ line ++ r → TrailersOutcome (Err BadFraming) s r
+bad_trailer left line s m r p most some nothing q e =
+    let never = behind_never left s m line r q e (λ more after h.
     elim (first_trailer left (line ++ more) after h) [
       | empty is ↦ some (line_same line crlf_bytes more after p crlf_text is).0
       | trailer t rest u is within others ↦
           nothing (t, u, (line_same line (t ++ crlf_bytes) more rest p (trailer_line t u) is).0)
-    ])
+    ]) in
+    let fault = trailers_at BadFraming left s m r q ([], inr (line, p, most, some, nothing, e)) in
+    (never.0, never.1, never.2, never.3, fault)
 
 long_line : (left : ℕ) (a more after : List ℕ) → NoFeed a → length a ≡ max left 2 → HasTrailers left (a ++ more) after → ⊥
 long_line left a more after clear long h =
@@ -151,9 +164,14 @@ no_first left m after clear h =
 pub trailer_fault : (left most : ℕ) (s m r : List ℕ) (e : CheckError) → most ≡ max left 2 → PassesTrailers left s m
     → LineFault most e m r → TrailersOutcome (Err e) s r
 trailer_fault left most s m r BadFraming is q o =
-    behind_never left s m o.0 o.1 q o.2 (λ more after h. long_line left o.0 more after o.4 (o.3 ∙ is) h)
-trailer_fault left most s m r EndInMessage is q o =
-    (o.0, λ after h. no_first left m after o.1 (q.back m after (subst (λ (l : List ℕ). HasTrailers 65536 l after) q.is h)))
+    let never = behind_never left s m o.0 r q o.1 (λ more after h. long_line left o.0 more after o.3 (o.2 ∙ is) h) in
+    let fault = trailers_at BadFraming left s m r q ([], inl (o.0, o.1, o.2 ∙ is, o.3)) in
+    (never.0, never.1, never.2, never.3, fault)
+trailer_fault left most s m r EndInMessage is q o = (
+  o.0,
+  λ after h. no_first left m after o.1 (q.back m after (subst (λ (l : List ℕ). HasTrailers 65536 l after) q.is h)),
+  trailers_at EndInMessage left s m r q ([], (o.0, o.1, subst (λ (n : ℕ). length m < n) is o.2)),
+)
 trailer_fault left most s m r Read is q o = tt
 trailer_fault left most s m r OutOfMemory is q o = tt
 trailer_fault left most s m r e is q o = absurd o

@@ -9,7 +9,7 @@ use Rattle.lb_health_http.specs.declared.framing.Framing.{Framing}
 use Rattle.lb_health_http.specs.Head.{BeginsWithHead, HasBadHead, HasLargeHead, EndsInHead}
 use Rattle.lb_health_http.specs.Parts.{parts_of}
 use Rattle.lb_health_http.specs.Framing.{framing_of}
-use Rattle.lb_health_http.specs.Body.{HasBody, HasNoBody, NeverHasBody, IsLarge}
+use Rattle.lb_health_http.specs.Body.{HasBody, HasNoBody, NeverHasBody, IsCut, IsMisframed, IsLarge}
 use Rattle.lb_select_base.specs.declared.backend.InetAddr.{InetAddr}
 use Rattle.lb_select_base.specs.declared.backend.InetAddr.TheVariants.{V4, V6}
 
@@ -64,10 +64,6 @@ module _ (is_head : Bool) (accepts : Parts → Bool) where
     pub begins : HasAcceptedHead accepts stream head rest
     pub unframed : framing_of is_head head.minor (parts_of head) ≡ None
 
-  -- no framing is known, and the rest is what follows the head; or what is framed can't be a body
-  abbrev pub HasBadFraming : List ℕ → List ℕ → Type 0
-  HasBadFraming stream rest = HasNoFraming stream rest ⊎ HasFramed NeverHasBody stream
-
 module _ (is_head : Bool) (limit : ℕ) (accepts : Parts → Bool) where
   -- the stream is a message whose head is accepted and whose body is within the limit, and then the rest
   pub record IsGood (stream rest : List ℕ) : Type 0 where
@@ -91,8 +87,11 @@ module _ (is_head : Bool) (limit : ℕ) (has_validator : Bool) (accepts : Parts 
   CheckOutcome (Err (Status s)) stream rest = (has_validator ≡ false) × HasRefusedHead accepts s stream rest
   CheckOutcome (Err Rejected) stream rest =
       (has_validator ≡ true) × (status : ℕ) × HasRefusedHead accepts status stream rest
-  CheckOutcome (Err BadFraming) stream rest = HasBadFraming is_head accepts stream rest
-  CheckOutcome (Err EndInMessage) stream rest = (rest ≡ []) × (EndsInHead stream ⊎ HasFramed is_head accepts HasNoBody stream)
+  CheckOutcome (Err BadFraming) stream rest =
+      HasNoFraming is_head accepts stream rest
+      ⊎ HasFramed is_head accepts (λ f after. NeverHasBody f after × IsMisframed limit f after rest) stream
+  CheckOutcome (Err EndInMessage) stream rest =
+      (rest ≡ []) × (EndsInHead stream ⊎ HasFramed is_head accepts (λ f after. HasNoBody f after × IsCut limit f after rest) stream)
   CheckOutcome (Err BodyTooLarge) stream rest =
       HasFramed is_head accepts (λ f after. IsLarge limit f after rest) stream
   CheckOutcome (Err Read) stream rest = ⊤

@@ -11,7 +11,7 @@ use Rattle.lb_health_http.specs.declared.head.Head.{Head}
 use Rattle.lb_health_http.specs.declared.head.Seen.{Seen}
 use Rattle.lb_health_http.specs.declared.head.Seen.TheVariants.{Whole, Open, Bad}
 
--- what is asked of a head beside the grammar
+-- what is asked of a head apart from the grammar
 pub record IsFitHead (h : ResponseHead) : Type 0 where
   pub status : 100 ≤ status_code h
   pub fields : length h.fields ≤ 64

@@ -6,25 +6,14 @@ use Rattle.lb_stream.specs.Stream.{Takes}
 use Rattle.lb_health_check.specs.declared.error.CheckError.{CheckError}
 use Rattle.lb_health_check.specs.declared.error.CheckError.TheVariants.{BadFraming, EndInMessage, Read, OutOfMemory}
 use Rattle.lb_health_http.specs.declared.framing.Framing.TheVariants.{Chunked}
-use Rattle.lb_health_http.specs.Chunked.{IsTrailer, HasTrailers, HasChunked, IsLargeChunked}
+use Rattle.lb_health_http.specs.Chunked.{HasTrailers, HasChunked, IsChunkedFault, HasLineBefore, AreTrailersAtFault, ContentFault}
+use Rattle.lb_health_http.specs.Chunked.{HasLongLine, EndsInLine}
 use Rattle.lb_health_http.specs.Body.{BodyOutcome}
-
--- no byte is a line feed
-abbrev pub NoFeed : List ℕ → Type 0
-NoFeed [] = ⊤
-NoFeed (b ∷ bytes) = (b ≢ 10) × NoFeed bytes
-
--- a text whose last byte, and no other, is a line feed
-pub record IsLineText (line : List ℕ) : Type 0 where
-  pub front : List ℕ
-  pub clear : NoFeed front
-  pub is : line ≡ front ++ 10 ∷ []
 
 -- a fault in the place of a line of at most so many bytes
 abbrev pub LineFault : ℕ → CheckError → List ℕ → List ℕ → Type 0
-LineFault most BadFraming stream rest =
-    (front : List ℕ) × (tail : List ℕ) × (stream ≡ front ++ tail) × (length front ≡ most) × NoFeed front
-LineFault most EndInMessage stream rest = (rest ≡ []) × NoFeed stream
+LineFault most BadFraming stream rest = HasLongLine most stream rest
+LineFault most EndInMessage stream rest = EndsInLine most stream rest
 LineFault most Read stream rest = ⊤
 LineFault most OutOfMemory stream rest = ⊤
 LineFault most e stream rest = ⊥
@@ -38,18 +27,10 @@ LineOutcome bytes most (Err e) stream rest = LineFault most e stream rest
 abbrev pub IsChunkLineOf : List ℕ → ℕ → Type 0
 IsChunkLineOf line n = (l : ChunkLine) × IsChunkLine l × (line ≡ print_chunk_line l) × (n ≡ chunk_size l)
 
--- the line is no chunk line
-abbrev pub IsNoChunkLine : List ℕ → Type 0
-IsNoChunkLine line = (l : ChunkLine) → IsChunkLine l → line ≢ print_chunk_line l
-
--- the line is a trailer line
-abbrev pub IsTrailerLine : List ℕ → Type 0
-IsTrailerLine line = (t : List ℕ) × IsTrailer t × (line ≡ t ++ crlf_bytes)
-
 -- what reading one byte that must be b does
 abbrev pub ExpectOutcome : ℕ → Result Unit CheckError → List ℕ → List ℕ → Type 0
 ExpectOutcome b (Ok _) stream rest = stream ≡ b ∷ rest
-ExpectOutcome b (Err BadFraming) stream rest = (x : ℕ) × (tail : List ℕ) × (stream ≡ x ∷ tail) × (x ≢ b)
+ExpectOutcome b (Err BadFraming) stream rest = (x : ℕ) × (stream ≡ x ∷ rest) × (x ≢ b)
 ExpectOutcome b (Err EndInMessage) stream rest = (stream ≡ []) × (rest ≡ [])
 ExpectOutcome b (Err Read) stream rest = ⊤
 ExpectOutcome b (Err e) stream rest = ⊥
@@ -76,8 +57,9 @@ abbrev pub ContentOutcome : ℕ → Result Unit CheckError → List ℕ → List
 ContentOutcome n (Ok _) stream rest = HasContent n stream rest
 ContentOutcome n (Err BadFraming) stream rest =
     (front : List ℕ) × (tail : List ℕ) × (stream ≡ front ++ tail)
-    × ((more after : List ℕ) → HasContent n (front ++ more) after → ⊥)
-ContentOutcome n (Err EndInMessage) stream rest = (rest ≡ []) × ((after : List ℕ) → HasContent n stream after → ⊥)
+    × ((more after : List ℕ) → HasContent n (front ++ more) after → ⊥) × ContentFault BadFraming n stream rest
+ContentOutcome n (Err EndInMessage) stream rest =
+    (rest ≡ []) × ((after : List ℕ) → HasContent n stream after → ⊥) × ContentFault EndInMessage n stream rest
 ContentOutcome n (Err Read) stream rest = ⊤
 ContentOutcome n (Err e) stream rest = ⊥
 
@@ -86,29 +68,33 @@ abbrev pub TrailersOutcome : Result Unit CheckError → List ℕ → List ℕ �
 TrailersOutcome (Ok _) stream rest = HasTrailers 65536 stream rest
 TrailersOutcome (Err BadFraming) stream rest =
     (front : List ℕ) × (tail : List ℕ) × (stream ≡ front ++ tail)
-    × ((more after : List ℕ) → HasTrailers 65536 (front ++ more) after → ⊥)
-TrailersOutcome (Err EndInMessage) stream rest = (rest ≡ []) × ((after : List ℕ) → HasTrailers 65536 stream after → ⊥)
+    × ((more after : List ℕ) → HasTrailers 65536 (front ++ more) after → ⊥) × AreTrailersAtFault BadFraming 65536 stream rest
+TrailersOutcome (Err EndInMessage) stream rest =
+    (rest ≡ []) × ((after : List ℕ) → HasTrailers 65536 stream after → ⊥) × AreTrailersAtFault EndInMessage 65536 stream rest
 TrailersOutcome (Err Read) stream rest = ⊤
 TrailersOutcome (Err OutOfMemory) stream rest = ⊤
 TrailersOutcome (Err e) stream rest = ⊥
 
 -- chunks of that size together were passed: a body stands there where the rest of one stands after them, and so on back; it
--- is too large where that rest is
+-- has the faults that the rest has
 pub record PassesChunks (size : ℕ) (stream rest : List ℕ) : Type 0 where
   pub front : List ℕ
   pub is : stream ≡ front ++ rest
   pub on : (text : List ℕ) (n : ℕ) (after : List ℕ) → HasChunked text n after → HasChunked (front ++ text) (size + n) after
   pub back : (text : List ℕ) (n : ℕ) (after : List ℕ) → HasChunked (front ++ text) n after
       → (m : ℕ) × (n ≡ size + m) × HasChunked text m after
-  pub large : (room : ℕ) (text after : List ℕ) → IsLargeChunked room text after → IsLargeChunked (size + room) (front ++ text) after
+  pub fault : (e : CheckError) (room : ℕ) (text after : List ℕ) → IsChunkedFault e room text after
+      → IsChunkedFault e (size + room) (front ++ text) after
 
--- the last chunk's line was passed: a body stands there where trailers stand after it, and so on back
+-- the last chunk's line was passed: there is a body where trailers follow it, and so on back; it has their faults
 pub record PassesLast (stream rest : List ℕ) : Type 0 where
   pub front : List ℕ
   pub is : stream ≡ front ++ rest
   pub on : (text after : List ℕ) → HasTrailers 65536 text after → HasChunked (front ++ text) 0 after
   pub back : (text : List ℕ) (n : ℕ) (after : List ℕ) → HasChunked (front ++ text) n after
       → (n ≡ 0) × HasTrailers 65536 text after
+  pub fault : (e : CheckError) (room : ℕ) (text after : List ℕ) → AreTrailersAtFault e 65536 text after
+      → HasLineBefore e room (front ++ text) after
 
 -- what reading one chunk does, within so much room: a fault is that of a whole body that begins there
 abbrev pub StepOutcome : ℕ → Result ℕ CheckError → List ℕ → List ℕ → Type 0

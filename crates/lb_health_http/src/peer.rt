@@ -1,6 +1,6 @@
 //! How long a check waits for its peer, and connections to one.
 //! No name is looked up: a backend's address is where it is reached.
-ghost use Rattle.std.specs.Prelude.{◌≡◌, ◌↔◌, Some, None, ◌*◌, ◌^◌, ◌<◌, max, IfSome};
+ghost use Rattle.std.specs.Prelude.{◌≡◌, ◌↔◌, Some, None, ◌*◌, ◌^◌, ◌<◌, max, Err, IfSome, OnErr};
 ghost use Rattle.std.specs.Duration.{as_nanos};
 ghost use Rattle.lb_health_http.specs.Check.{at_port};
 
@@ -83,7 +83,9 @@ pub(crate) fn connect<N: Net<Stream = TcpStream>>(
     net: &N,
     addr: InetAddr,
     limit: Option<u128>,
-) -> Result<TcpStream, CheckError> {
+) -> Result<TcpStream, CheckError>
+    ensures { OnErr result (result ≡ Err CheckError.Connect) }
+{
     let addr = SocketAddr::from(addr);
     let connected = match duration_of(limit) {
         Some(limit) => TcpStream::connect_timeout(net, &addr, limit),
@@ -95,6 +97,8 @@ pub(crate) fn connect<N: Net<Stream = TcpStream>>(
 /// Connects to a Unix socket.
 ///
 /// Fault: `Connect`.
-pub(crate) fn connect_unix<N: Net>(net: &N, path: &str) -> Result<UnixStream, CheckError> {
+pub(crate) fn connect_unix<N: Net>(net: &N, path: &str) -> Result<UnixStream, CheckError>
+    ensures { OnErr result (result ≡ Err CheckError.Connect) }
+{
     UnixStream::connect(net, path).map_err(|_| CheckError::Connect)
 }

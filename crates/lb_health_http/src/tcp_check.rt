@@ -1,5 +1,6 @@
 //! A check that connects and no more.
-ghost use Rattle.std.specs.Prelude.{◌≡◌, Some, None, if◌then◌else◌};
+ghost use Rattle.std.specs.Prelude.{◌≡◌, Some, None, Err, OnErr, if◌then◌else◌};
+ghost use Rattle.lb_health_check.specs.declared.error.CheckError.TheVariants.{Connect};
 
 use crate::observer::NoObserver;
 use crate::peer::{BasicPeer, connect, connect_unix};
@@ -77,6 +78,8 @@ impl<N, O: Drop, S: Drop> TcpHealthCheck<N, O, S> {
 impl<N: Net<Stream = TcpStream>, O: HealthObserve, S: BackendSummary> HealthCheck
     for TcpHealthCheck<N, O, S> {
     ghost threshold = { λ s success. if success then s.consecutive_success else s.consecutive_failure };
+
+    ghost answers = { λ _ _ answer. OnErr answer (answer ≡ Err Connect) };
 
     fn check(&self, _alloc: Global, target: &Backend) -> Result<(), CheckError> {
         match &target.addr {

@@ -1,4 +1,4 @@
--- The keys that a membership starts, told by the memberships that are there.
+-- The keys that a membership starts, by the memberships that are there.
 use Rattle.std.specs.Prelude.{ℕ, Bool, not, List, filter}
 use Rattle.std.specs.List.{list_any}
 use Rattle.lb_select_base.specs.Backends.{Member, same_member}

@@ -1,5 +1,5 @@
 -- Health keys: backends of one key share their health. A key is a backend with nothing attached.
--- Upstream keys health by the backend's hash; here identity and address stand for themselves, and a caller's rule gives numbers.
+-- Upstream keys health by the backend's hash; here identity and address are keys themselves, and a caller's rule gives numbers.
 use Rattle.std.specs.Prelude.{◌≡◌, ℕ, [], ◌∷◌}
 use Rattle.lb_select_base.specs.AddressText.{bare_member}
 use Rattle.lb_select_base.specs.Backends.{Member, ipv4}
@@ -14,7 +14,7 @@ by_identity b = bare_member b.weight b.address
 abbrev pub by_address : Member → Member
 by_address b = bare_member 0 b.address
 
--- the key that stands for a number
+-- the key of a number
 abbrev pub by_number : ℕ → Member
 by_number n = bare_member n (ipv4 (0 ∷ 0 ∷ 0 ∷ 0 ∷ []) 0)
 

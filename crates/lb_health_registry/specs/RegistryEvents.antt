@@ -1,4 +1,4 @@
--- What happens to a registry, told by a history of events that begins with the newest: its views, and what their changes do
+-- What happens to a registry, as a history of events that begins with the newest: its views, and what their changes do
 -- to its cells.
 use Rattle.std.specs.Prelude.{ℕ, ◌+◌, Bool, true, false, not, ◌==◌, ◌&&◌, List, [], ◌∷◌, ◌++◌, fold, if◌then◌else◌, Option}
 use Rattle.std.specs.Ordering.{eq_by_cmp, nat_cmp}

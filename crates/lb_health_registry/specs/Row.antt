@@ -1,4 +1,4 @@
--- What a row tells of cells.
+-- What a row knows of cells.
 use Rattle.std.specs.Prelude.{◌≡◌, ℕ, ◌+◌, Bool, List, Option, Some}
 use Rattle.std.specs.List.{slice_get}
 use Rattle.std.specs.Option.{option_map}
@@ -7,7 +7,7 @@ use Rattle.lb_health_registry.specs.declared.row.Row.{Row}
 use Rattle.lb_health_registry.specs.declared.table.Cell.{Cell}
 use Rattle.lb_health_registry.specs.Starts.{value_at}
 
--- what these places tell of the cells from `first` on is what `f` has of them
+-- what these places say of the cells from `first` on is what `f` has of them
 abbrev pub TellsFrom : (ℕ → Option Bool) → ℕ → List (Option Bool) → Type 0
 TellsFrom f first places = (i : ℕ) (healthy : Bool) → slice_get places i ≡ Some (Some healthy) → f (first + i) ≡ Some healthy
 

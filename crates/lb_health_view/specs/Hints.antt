@@ -6,7 +6,7 @@ use Rattle.lb_select_base.specs.AddressText.{bare_member}
 use Rattle.lb_select_base.specs.Backends.{Member, ipv4, same_member}
 use Rattle.lb_health_view.specs.declared.cells.Hint.{Hint}
 
--- a hint tells the cell that these entries have for its backend
+-- a hint says the cell that these entries have for its backend
 abbrev pub IsHint : List (Member × ℕ) → Hint → Type 0
 IsHint entries h = lookup (same_member (bare_member h.weight (ipv4 h.octets h.port))) entries ≡ Some h.cell
 

@@ -1,8 +1,10 @@
 -- A pass of checks over the targets of a registry, and what contracts see of a registry with its check.
-use Rattle.std.specs.Prelude.{◌≡◌, ◌⊎◌, ℕ, Bool, List, [], ◌∷◌, map, Option, Some, None}
+use Rattle.std.specs.Prelude.{◌≡◌, ◌⊎◌, ℕ, Bool, List, [], ◌∷◌, Option, Some, None, Result, is_ok}
 use Rattle.std.specs.List.{AllByRecursion as Each}
+use Rattle.lb_health_check.specs.declared.error.CheckError.{CheckError}
 use Rattle.lb_select_base.specs.Backends.{Member}
-use Rattle.lb_health_registry.specs.Registry.{RegistryValue, targets_after}
+use Rattle.lb_health_registry.specs.declared.targets.Target.{Target}
+use Rattle.lb_health_registry.specs.Registry.{RegistryValue}
 use Rattle.lb_health_registry.specs.RegistryEvents.{Event, Observed, IsCellKept}
 use Rattle.lb_health_registry.specs.Verdicts.{Verdict}
 
@@ -11,26 +13,31 @@ pub record HealthValue (R C : Type 0) : Type 0 where
   pub registry : RegistryValue R
   pub check : Option C
 
--- the cells of the targets, in order
-abbrev pub target_cells : (Member → Member) → List Event → List ℕ
-target_cells key_of events = map (λ t. t.cell) (targets_after key_of events)
-
 -- a verdict reaches a cell that is kept, and of another it does nothing
 abbrev pub Reaches : (Member → Member) → ℕ → Verdict → List Event → List Event → Type 0
 Reaches key_of cell verdict events after =
     (IsCellKept key_of cell events × (after ≡ Observed cell verdict ∷ events)) ⊎ ((IsCellKept key_of cell events → ⊥) × (after ≡ events))
 
--- one verdict reaches each of these cells, in order, each with the check's threshold for it
-abbrev pub Passes : (Bool → ℕ) → List ℕ → List Event → List Event → Type 0
-Passes threshold [] events after = after ≡ events
-Passes threshold (cell ∷ cells) events after =
-    (ok : Bool) × Passes threshold cells (Observed cell (record { ok = ok; threshold = threshold ok }) ∷ events) after
+-- what a check may answer about a backend
+abbrev pub Answers : Type 1
+Answers = Member → Result Unit CheckError → Type 0
+
+-- the verdict of an answer, with the check's threshold for it
+abbrev pub verdict_of : (Bool → ℕ) → Result Unit CheckError → Verdict
+verdict_of threshold answer = record { ok = is_ok answer; threshold = threshold (is_ok answer) }
+
+-- the cell of each of these targets is reached in order by the verdict of one answer, which the check may give about the target
+abbrev pub Passes : Answers → (Bool → ℕ) → List Target → List Event → List Event → Type 0
+Passes answers threshold [] events after = after ≡ events
+Passes answers threshold (target ∷ targets) events after =
+    (answer : Result Unit CheckError) × answers target.backend answer
+    × Passes answers threshold targets (Observed target.cell (verdict_of threshold answer) ∷ events) after
 
 -- a pass, which without a check does nothing more than what came before
-abbrev pub PassesWith : {C : Type 0} → (C → Bool → ℕ) → Option C → List ℕ → List Event → List Event → Type 0
-PassesWith threshold None cells events after = after ≡ events
-PassesWith threshold (Some check) cells events after = Passes (threshold check) cells events after
+abbrev pub PassesWith : {C : Type 0} → (C → Answers) → (C → Bool → ℕ) → Option C → List Target → List Event → List Event → Type 0
+PassesWith answers threshold None targets events after = after ≡ events
+PassesWith answers threshold (Some check) targets events after = Passes (answers check) (threshold check) targets events after
 
--- each of these cells is kept
-abbrev pub AreKept : (Member → Member) → List ℕ → List Event → Type 0
-AreKept key_of cells events = Each (λ c. IsCellKept key_of c events) cells
+-- the cell of each of these targets is kept
+abbrev pub AreKept : (Member → Member) → List Target → List Event → Type 0
+AreKept key_of targets events = Each (λ t. IsCellKept key_of t.cell events) targets

@@ -4,7 +4,7 @@ use Rattle.std.specs.Prelude.{ℕ, ◌+◌, Bool, true, ◌&&◌, List, [], ◌�
 use Rattle.lb_select_base.specs.Backends.{Member, same_member}
 use Rattle.lb_health_view.specs.Snapshots.{SnapshotValue, held_more, held_less, at_generation, living, lists_in}
 
--- a new membership with the cells of its backends; a snapshot is held, or let go once; a backend is enabled or disabled
+-- a new membership with the cells of its backends; a snapshot is held, or released once; a backend is enabled or disabled
 pub data ViewEvent : Type 0 where
   Shown : List Member → List (Member × ℕ) → ViewEvent
   Held : ℕ → ViewEvent
@@ -31,7 +31,7 @@ membership_after (Set b on ∷ earlier) = membership_after earlier
 abbrev pub new_snapshot : ℕ → List Member → List (Member × ℕ) → SnapshotValue
 new_snapshot g members cells = record { generation = g; members = members; cells = cells; holds = 0 }
 
--- the current snapshot comes first; a new one puts it behind the others, which stand by age
+-- the current snapshot comes first; a new one puts it behind the others, which are ordered by age
 abbrev pub by_age : List SnapshotValue → List SnapshotValue
 by_age [] = []
 by_age (current ∷ others) = others ++ current ∷ []

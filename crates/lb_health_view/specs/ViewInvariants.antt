@@ -1,4 +1,4 @@
--- What a view keeps beside what contracts see of it.
+-- What a view keeps apart from what contracts see of it.
 use Rattle.std.specs.Prelude.{◌≡◌, Bool, true, false, List, [], ◌∷◌, Some}
 use Rattle.lb_select_base.specs.Backends.{Member}
 use Rattle.lb_health_registry.specs.Registry.{HasOwnCells}

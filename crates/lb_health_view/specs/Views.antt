@@ -23,6 +23,6 @@ Flags old new b = (value_at new b ≡ value_at old b) ⊎ ((value_at old b ≡ N
 abbrev pub IsViewRefusal : {A : Type 0} → Result A Refusal → Type 0
 IsViewRefusal r = (r ≡ Err GenerationsExhausted) ⊎ IsUpdateRefusal r
 
--- some history stands behind the view
+-- some history explains the view
 abbrev pub IsFounded : ViewValue → Type 0
 IsFounded v = (views : List ViewEvent) × IsViewAfter views v

@@ -8,13 +8,13 @@ ghost use Rattle.std.specs.Fn.{FnOnceReturnsAt};
 ghost use Rattle.std.proofs.Common.{Global};
 ghost use Rattle.lb_select_base.specs.Backends.{Member};
 ghost use Rattle.lb_health_registry.specs.Keys.{by_identity, rule_gives};
-ghost use Rattle.lb_health_registry.specs.Registry.{IsRegistryAfter, IsGrowthRefusal};
+ghost use Rattle.lb_health_registry.specs.Registry.{IsRegistryAfter, IsGrowthRefusal, targets_after};
 ghost use Rattle.lb_health_registry.specs.RegistryEvents.{Event, Applied, Registered, registered_after, views_after, has_view, cells_given};
 ghost use Rattle.lb_health_view.specs.Discoveries.{MayFault};
 ghost use Rattle.lb_health_view.specs.Views.{IsFounded, IsViewAfter};
 ghost use Rattle.lb_health_view.specs.RegistrySide.{IsReady};
 ghost use Rattle.lb_health_view.specs.Snapshots.{IfHead};
-ghost use Rattle.lb_health_view.specs.Passes.{PassesWith, target_cells};
+ghost use Rattle.lb_health_view.specs.Passes.{PassesWith};
 ghost use Rattle.lb_health_view.specs.Updates.{IsUpdated, IsBackendsRefusal};
 ghost use Rattle.lb_health_view.specs.ViewEvents.{ViewEvent, Set, generation_after, membership_after};
 
@@ -239,7 +239,7 @@ impl<D: ServiceDiscovery + Drop, R: KeyRule + Drop, C: HealthCheck + Drop> Backe
         ensures ok { OnOk result ((key_of : Member → Member) (events : List Event)
             → IsRegistryAfter R.gives key_of events self.old.health.registry
             → (after : List Event)
-            × PassesWith C.threshold self.old.health.check (target_cells key_of (Applied ∷ events)) (Applied ∷ events) after
+            × PassesWith C.answers C.threshold self.old.health.check (targets_after key_of (Applied ∷ events)) (Applied ∷ events) after
             × IsRegistryAfter R.gives key_of after self.new.health.registry) }
         ensures err { OnErr result ((key_of : Member → Member) (events : List Event)
             → IsRegistryAfter R.gives key_of events self.old.health.registry

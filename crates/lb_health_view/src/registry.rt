@@ -1,14 +1,14 @@
 //! A registry of health with its check, and the passes that check its targets one by one. A verdict reaches the cell of its target; where
 //! that flips, the check's observer is called, and then a line is logged.
-ghost use Rattle.std.specs.Prelude.{◌≡◌, ◌↔◌, ◌≤◌, ◌^◌, ◌∷◌, [], Bool, false, List, map, length, Ok, Err, Some, None, IfOk, OnOk, OnErr};
+ghost use Rattle.std.specs.Prelude.{◌≡◌, ◌↔◌, ◌≤◌, ◌^◌, ◌∷◌, [], false, List, map, length, Result, Ok, Err, Some, None, IfOk, OnOk, OnErr};
 ghost use Rattle.std.specs.Prelude.{IsErrOf, IsSome};
+ghost use Rattle.lb_health_check.specs.declared.error.CheckError.{CheckError};
 ghost use Rattle.lb_select_base.specs.Backends.{Member};
 ghost use Rattle.lb_health_registry.specs.Keys.{by_identity, by_address, rule_gives, IsRuleOf};
 ghost use Rattle.lb_health_registry.specs.Registry.{IsRegistryAfter, IsGrowthRefusal, targets_after};
 ghost use Rattle.lb_health_registry.specs.RegistryEvents.{Event, Applied, Configured, views_after, cells_given};
 ghost use Rattle.lb_health_registry.specs.Targets.{target_keys};
-ghost use Rattle.lb_health_registry.specs.declared.targets.Target.{Target as TargetValue};
-ghost use Rattle.lb_health_view.specs.Passes.{Reaches, Passes, PassesWith, AreKept, target_cells};
+ghost use Rattle.lb_health_view.specs.Passes.{Reaches, Passes, PassesWith, AreKept, verdict_of};
 
 use lb_health_check::error::CheckError;
 use lb_health_check::health_check::HealthCheck;
@@ -175,7 +175,7 @@ impl<R: KeyRule + Drop, C: HealthCheck + Drop> HealthRegistry<R, C> {
         ensures ok { OnOk result ((key_of : Member → Member) (events : List Event)
             → IsRegistryAfter R.gives key_of events self.old.registry
             → (after : List Event)
-            × PassesWith C.threshold self.old.check (target_cells key_of (Applied ∷ events)) (Applied ∷ events) after
+            × PassesWith C.answers C.threshold self.old.check (targets_after key_of (Applied ∷ events)) (Applied ∷ events) after
             × IsRegistryAfter R.gives key_of after self.new.registry) }
         ensures err { OnErr result ((key_of : Member → Member) (events : List Event)
             → IsRegistryAfter R.gives key_of events self.old.registry
@@ -202,8 +202,8 @@ fn check_all<R: KeyRule + Drop, C: HealthCheck, L: Log>(
     targets: &[Target],
 )
     ensures { (key_of : Member → Member) (events : List Event) → IsRegistryAfter R.gives key_of events registry.old
-        → AreKept key_of (map (λ (t : TargetValue). t.cell) targets.now) events
-        → (after : List Event) × Passes (C.threshold check.now) (map (λ (t : TargetValue). t.cell) targets.now) events after
+        → AreKept key_of targets.now events
+        → (after : List Event) × Passes (C.answers check.now) (C.threshold check.now) targets.now events after
         × IsRegistryAfter R.gives key_of after registry.new }
 {
     for target in targets {
@@ -220,8 +220,8 @@ fn check_one<R: KeyRule + Drop, C: HealthCheck, L: Log>(
     target: &Target,
 )
     ensures { (key_of : Member → Member) (events : List Event) → IsRegistryAfter R.gives key_of events registry.old
-        → (ok : Bool) × (after : List Event)
-        × Reaches key_of target.now.cell (record { ok = ok; threshold = C.threshold check.now ok }) events after
+        → (answer : Result Unit CheckError) × C.answers check.now target.now.backend answer × (after : List Event)
+        × Reaches key_of target.now.cell (verdict_of (C.threshold check.now) answer) events after
         × IsRegistryAfter R.gives key_of after registry.new }
 {
     let verdict = check.check(alloc, &target.backend);

@@ -34,7 +34,7 @@ head_text name kind = codes "# TYPE " ++ name ++ kind_text kind
 abbrev pub value_text : List ℕ → List Label → ℕ → List ℕ
 value_text name labels value = name ++ codes "{" ++ labels_text labels ++ codes "} " ++ decimal value ++ codes "\n"
 
--- the byte that an escape stands for
+-- the byte that an escape means
 abbrev pub plain : ℕ → ℕ
 plain byte = if byte == 110 then 10 else byte
 

@@ -14,7 +14,7 @@ pub record FlowState : Type 0 where
 abbrev pub idle : FlowState
 idle = record { pending = []; room = 32768; phase = Open }
 
--- what can happen to a direction: its source gives bytes, its sink takes bytes, its source ends, its sink is told so
+-- what can happen to a direction: its source gives bytes, its sink takes bytes, its source ends, its sink gets the end
 pub data Event : Type 0 where
   read : List ℕ → Event
   wrote : List ℕ → Event
@@ -26,7 +26,7 @@ abbrev pub read_event : List ℕ → Event
 read_event [] = ended
 read_event (x ∷ xs) = read (x ∷ xs)
 
--- the source may be read; bytes wait for the sink; the sink is to be told of the end
+-- the source may be read; bytes wait for the sink; the sink has to get the end
 pub record CanRead (s : FlowState) : Type 0 where
   pub is_open : s.phase ≡ Open
   pub room : 0 < s.room

@@ -1,4 +1,4 @@
--- What contracts see of a group whose generations stand on a board.
+-- What contracts see of a group whose generations are on a board.
 use Rattle.std.specs.Prelude.{ℕ, List, ◌∷◌, map, Result, Ok, Err, cond}
 use Rattle.lb_select_base.specs.declared.refusal.Refusal.{Refusal}
 use Rattle.lb_rebuild_slots.specs.declared.answers.Publication.{Publication}

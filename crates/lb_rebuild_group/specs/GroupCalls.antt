@@ -1,4 +1,4 @@
--- What the calls of a joined group answer beside what the group's own calls do, and what they do to the registry.
+-- What the calls of a joined group answer, apart from what the group's own calls do, and what they do to the registry.
 use Rattle.std.specs.Prelude.{◌≡◌, ◌⊎◌, ◌↔◌, ℕ, Bool, true, IsTrue, List, ◌∷◌, ◌++◌, Option, Some, None, Result, Ok, Err, if◌then◌else◌}
 use Rattle.std.specs.Borrow.{Bor}
 use Rattle.std.specs.Fn.{Shared, FnReturns}
@@ -31,7 +31,7 @@ abbrev pub IsMakingRefusal : {A : Type 0} → Option Refusal → Result A Refusa
 IsMakingRefusal cause (Ok a) = cause ≡ None
 IsMakingRefusal cause (Err e) = (cause ≡ Some e) ⊎ ((memory_apart cause ≡ None) × ((e ≡ OutOfMemory) ⊎ (e ≡ NumbersExhausted)))
 
--- Why a membership is refused: a cause of the group, and where none stands and the membership is another one, a cause of the
+-- Why a membership is refused: a cause of the group, and where there is none and the membership is another one, a cause of the
 -- view's, or memory.
 abbrev pub IsRefusedFor : core.History → List Member → Refusal → Type 0
 IsRefusedFor h members r =
@@ -58,7 +58,7 @@ abbrev pub released_where : {A B : Type 0} → Result A B → ℕ → ℕ → Li
 released_where (Ok a) id g views events = registry_released id g views events
 released_where (Err b) id g views events = events
 
--- the generation of what stands in a slot beside what it serves
+-- the generation of a slot's extra
 abbrev pub generation_at : ℕ → History → ℕ
 generation_at slot e = generation_of (extra (past_of slot (slot_events e)))
 

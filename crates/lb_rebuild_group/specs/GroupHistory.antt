@@ -62,7 +62,7 @@ abbrev pub after_settings : List (Member × Bool) → History → History
 after_settings [] e = e
 after_settings (s ∷ rest) e = after_settings rest (if list_any (same_member s.0) (members_now e) then Set s.0 s.1 ∷ e else e)
 
--- how often a slot with this past has the generation: as what it serves, and as what else stands in it
+-- how often a slot with this past has the generation: as what it serves, and as its extra
 abbrev pub slot_holds : ℕ → slots.History → ℕ
 slot_holds n p =
     number (slots.served p == n) + number (slots.is_extra (slots.extra p) && (slots.generation_of (slots.extra p) == n))

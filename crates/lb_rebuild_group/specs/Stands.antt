@@ -19,15 +19,15 @@ pub record Stands {C : Type 0} (made : Made C) (e : History) (v : GroupValue C) 
   pub group : slots.StandsFor made (slot_events e) v.group
   pub view : IsViewAfter (view_events (length made.configs) e) v.view
 
--- some history stands behind it
+-- some history explains it
 abbrev pub IsFounded : {C : Type 0} → GroupValue C → Type 0
 IsFounded {C} v = (made : Made C) × ((e : History) × Stands made e v)
 
--- what holds after each history that it stands for
+-- what holds after each history that explains it
 abbrev pub After : {C : Type 0} → GroupValue C → (Made C → History → Type 0) → Type 0
 After {C} v P = (made : Made C) (e : History) → Stands made e v → P made e
 
--- after each history that the first stands for, the second stands for it with these events
+-- after each history that explains the first, the same with these events explains the second
 abbrev pub Becomes : {C : Type 0} → GroupValue C → History → GroupValue C → Type 0
 Becomes v events w = After v (λ made e. Stands made (events ++ e) w)
 

@@ -1,4 +1,4 @@
--- Words that are handed in for one selection, and how many of them were drawn.
+-- Words that are given for one selection, and how many of them were drawn.
 use Rattle.std.specs.Prelude.{◌≡◌, ◌+◌, ℕ, List, min}
 use Rattle.lb_select_base.specs.Backends.{Member}
 use Rattle.lb_select_base.specs.Draws.{Draw, ticket, random, load, HandedValue, LoadedGives}
@@ -18,7 +18,7 @@ counted (load m l) n = n
 abbrev pub DrawnGives : (Member → ℕ) → DrawnValue → Draw → DrawnValue → Type 0
 DrawnGives load_by a d b = LoadedGives load_by a.words d b.words × (b.drawn ≡ counted d a.drawn)
 
--- the words, and the loads that are lent to the selection
+-- the words, and the loads that the selection borrows
 pub record LentValue : Type 0 where
   pub source : DrawnValue
   pub loads : List (Member × ℕ)

@@ -12,7 +12,7 @@ delays : map (λ k. retry_delay k) (1 ∷ 2 ∷ 3 ∷ 4 ∷ 5 ∷ 6 ∷ 7 ∷ 8 
 delays = refl
 
 module _ (a b d : List Member) where
-  -- two groups at one gate: each slot is told by its own group's history, and a gate whose permit is out is busy
+  -- two groups at one gate: each slot is described by its own group's history, and a gate whose permit is out is busy
   granted-first : ask_answer (past_of 0 (Scheduled a 0 ∷ [])) false 0 ≡ job
   granted-first = refl
 

@@ -165,7 +165,7 @@ take_refusal (lost n) left = Some refusal.NothingRetired
 take_refusal (retired n) left = if left == 0 then None else Some (refusal.StillRead left)
 take_refusal (taken_out n) left = Some refusal.NothingRetired
 
--- What the calls answer and leave, by cases on the answer. What is not awaited is handed back, and changes nothing.
+-- What the calls answer and leave, by cases on the answer. What is not awaited is returned, and changes nothing.
 abbrev pub FailsAt : {C : Type 0} → ℕ → ℕ → Task C → SlotValue C → Result GateId (Task C) → SlotValue C → Type 0
 FailsAt newest now j x (Ok p) y =
     (is_under_way j.generation x.extra ≡ true) × (p ≡ j.permit) × (y ≡ failed_slot newest now (order_of j) x)
@@ -215,7 +215,7 @@ abbrev pub TicketAt : {C : Type 0} → ℕ → SlotValue C → ℕ → SlotValue
 TicketAt n x t y =
     MatchBool (x.serving.generation == n) ((t ≡ x.serving.tickets) × (y ≡ drawn_slot ((t + 1) % 2 ^ 64) x)) (y ≡ x)
 
--- The first accepted of the candidates from a selector of these members and this configuration whose counter stands at `tickets`,
+-- The first accepted of the candidates from a selector of these members and this configuration whose counter is at `tickets`,
 -- with these loads. Where walks over it may draw random words, there must be more of them than the limit.
 abbrev pub SelectsFrom :
     {C : Type 0} → (List Member → C → Bool) → (List Member → C → List ℕ → List Draw → List Member → Bool → Type 0)

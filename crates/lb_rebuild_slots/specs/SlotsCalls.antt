@@ -136,7 +136,7 @@ gate_after (Err e) g = g
 abbrev pub is_awaited : ℕ → ℕ → History → Bool
 is_awaited slot n h = is_under_way n (extra (past_of slot h))
 
--- a job that is not awaited is handed back
+-- a job that is not awaited is returned
 abbrev pub Fails : {C : Type 0} → History → Task C → Result (Unit {0}) (Task C) → Type 0
 Fails h j (Ok u) = is_awaited j.slot j.generation h ≡ true
 Fails h j (Err k) = (is_awaited j.slot j.generation h ≡ false) × (k ≡ j)
@@ -145,7 +145,7 @@ abbrev pub fail_events : {C : Type 0} → Task C → ℕ → Result (Unit {0}) (
 fail_events j now (Ok u) = At j.slot (Failed now j.members) ∷ []
 fail_events j now (Err k) = []
 
--- a call that took a permit for its gate leaves the gate free; one that handed it back leaves it as it was
+-- a call that took a permit for its gate leaves the gate free; one that returned it leaves it as it was
 abbrev pub gate_back : {A B : Type 0} → Result A B → GateValue → GateValue
 gate_back (Ok a) g = gate g.id false
 gate_back (Err b) g = g
@@ -157,7 +157,7 @@ is_served slot h = is_flight (extra (past_of slot h)) && not (is_cancelled h)
 abbrev pub publish_answer : ℕ → ℕ → History → Publication
 publish_answer slot n h = if is_served slot h then told.Published n else told.Abandoned n
 
--- a selector that is not awaited is handed back
+-- a selector that is not awaited is returned
 abbrev pub Publishes : {C : Type 0} → History → BuiltValue C → Result Publication (BuiltValue C) → Type 0
 Publishes h b (Ok t) = (is_awaited b.task.slot b.task.generation h ≡ true) × (t ≡ publish_answer b.task.slot b.task.generation h)
 Publishes h b (Err c) = (is_awaited b.task.slot b.task.generation h ≡ false) × (c ≡ b)
@@ -209,7 +209,7 @@ Enters made h slot (Err e) = (enter_refusal made slot h ≡ Some e) ⊎ ((enter_
 abbrev pub is_read : {C : Type 0} → Made C → ℕ → ℕ → History → Bool
 is_read made slot n h = nat_lt slot (length made.configs) && nat_lt 0 (readers n (past_of slot h))
 
--- a reader that the slot does not count is handed back
+-- a reader that the slot does not count is returned
 abbrev pub Leaves : {C : Type 0} → Made C → History → ReaderValue C → Result (Unit {0}) (ReaderValue C) → Type 0
 Leaves made h r (Ok u) = is_read made r.slot r.generation h ≡ true
 Leaves made h r (Err q) = (is_read made r.slot r.generation h ≡ false) × (q ≡ r)
@@ -234,7 +234,7 @@ is_owed made slot h = nat_lt slot (length made.configs) && is_taken_out (extra (
 abbrev pub taken_out_at : {C : Type 0} → Made C → ℕ → History → Option ℕ
 taken_out_at made slot h = if nat_lt slot (length made.configs) then taken_out_number (extra (past_of slot h)) else None
 
--- the permit of a report that is not owed is handed back
+-- the permit of a report that is not owed is returned
 abbrev pub Reports : {C : Type 0} → Made C → History → ℕ → PermitValue → Result (Unit {0}) PermitValue → Type 0
 Reports made h slot permit (Ok u) = is_owed made slot h ≡ true
 Reports made h slot permit (Err p) = (is_owed made slot h ≡ false) × (p ≡ permit)
@@ -243,7 +243,7 @@ Reports made h slot permit (Err p) = (is_owed made slot h ≡ false) × (p ≡ p
 abbrev pub serves : {C : Type 0} → Made C → ℕ → ℕ → History → Bool
 serves made slot n h = nat_lt slot (length made.configs) && (served (past_of slot h) == n)
 
--- A ticket of the selector that a slot serves is the next of its counter. Of a ticket of a retired selector nothing is told.
+-- A ticket of the selector that a slot serves is the next of its counter. Of a ticket of a retired selector nothing is said.
 abbrev pub IsTicket : {C : Type 0} → Made C → History → ℕ → ℕ → ℕ → Type 0
 IsTicket made h slot n t = serves made slot n h ≡ true → t ≡ drawn (past_of slot h)
 

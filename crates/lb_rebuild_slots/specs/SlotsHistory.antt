@@ -106,7 +106,7 @@ granted_members [] = []
 granted_members (At i (Granted now) ∷ h) = order_members h
 granted_members (e ∷ h) = granted_members h
 
--- What stands in a slot beside what it serves, each with its generation: a flight from its job on, a lost flight, a retired
+-- What a slot has apart from what it serves, each with its generation: a flight from its job on, a lost flight, a retired
 -- selector, or one that was taken out and is not yet reported destroyed.
 pub data Extra : Type 0 where
   nothing : Extra
@@ -204,7 +204,7 @@ readers n (At i Entered ∷ h) = if served h == n then readers n h + 1 else read
 readers n (At i (Left m) ∷ h) = if n == m then readers n h - 1 else readers n h
 readers n (e ∷ h) = readers n h
 
--- where the counter of tickets of the served selector stands
+-- the counter of tickets of the served selector
 abbrev pub drawn : History → ℕ
 drawn [] = 0
 drawn (At i (Published ended ms) ∷ h) = 0

@@ -85,15 +85,15 @@ pub record StandsFor {C : Type 0} (made : Made C) (h : History) (v : SlotsValue 
   pub bounded : newest h < 2 ^ 64
   pub shows : v ≡ group_after made h
 
--- some history stands behind the group
+-- some history explains the group
 abbrev pub IsFounded : {C : Type 0} → SlotsValue C → Type 0
 IsFounded {C} v = (made : Made C) × ((h : History) × StandsFor made h v)
 
--- what holds after each history that the group stands for
+-- what holds after each history that explains the group
 abbrev pub After : {C : Type 0} → SlotsValue C → (Made C → History → Type 0) → Type 0
 After {C} v P = (made : Made C) (h : History) → StandsFor made h v → P made h
 
--- after each history that the first group stands for, the second one stands for it with these events
+-- after each history that explains the first group, the same with these events explains the second one
 abbrev pub Becomes : {C : Type 0} → SlotsValue C → History → SlotsValue C → Type 0
 Becomes v events w = After v (λ made h. StandsFor made (events ++ h) w)
 

@@ -1,4 +1,4 @@
--- What contracts see of a group, of its slots, and of the values that go through other hands.
+-- What contracts see of a group, of its slots, and of the values that leave it.
 use Rattle.std.specs.Prelude.{ℕ, Bool, List, map, Option}
 use Rattle.lb_select_base.specs.Backends.{Member}
 use Rattle.lb_rebuild_slots.specs.Gate.{GateId, GroupId}
@@ -32,7 +32,7 @@ pub record BuiltValue (C : Type 0) : Type 0 where
   pub task : Task C
   pub ended : ℕ
 
--- the selector that a slot serves: what it was built of, and where its counter of tickets stands
+-- the selector that a slot serves: what it was built of, and its counter of tickets
 pub record ServingValue (C : Type 0) : Type 0 where
   pub generation : ℕ
   pub members : List Member
@@ -67,7 +67,7 @@ pub record ReaderValue (C : Type 0) : Type 0 where
   pub members : List Member
   pub config : C
 
--- A slot: what it serves and to how many readers, what it is configured with, the order that waits, what else stands in it,
+-- A slot: what it serves and to how many readers, what it is configured with, the order that waits, its extra,
 -- with the readers left in it and the gate of its permit where it is retired, and what retries, counts and timing need.
 pub record SlotValue (C : Type 0) : Type 0 where
   pub serving : ServingValue C

@@ -2,10 +2,18 @@
 //! A retired selector holds the permit of the extra selector that it is, until it is destroyed and reported.
 ghost use Rattle.std.specs.Prelude.{◌≡◌, ◌+◌, ◌%◌, ◌^◌};
 ghost use Rattle.std.specs.Arc.{arc_value};
+ghost use Rattle.std.specs.Fn.{FnReturnsAt};
+ghost use Rattle.lb_select_base.specs.Backends.{same_member};
+ghost use Rattle.lb_select_base.specs.Selections.{Selects};
 
 use crate::gate::Permit;
 use crate::place::SlotPlace;
+use lb_select_base::backend::Backend;
+use lb_select_base::refusal::Refusal;
+use lb_select_base::select::select;
 use lb_select_base::walk::BackendSelection;
+use lb_select_base::words::WordSource;
+use std::alloc::Global;
 use std::marker::Model;
 use std::sync::Arc;
 
@@ -157,12 +165,29 @@ impl<S: BackendSelection> Reader<S> {
         self.generation
     }
 
-    /// Returns the selector that was entered.
-    pub fn selector(&self) -> &Arc<S>
-        ensures members { S.members (arc_value result.now) ≡ self.now.members }
-        ensures config { S.built_with (arc_value result.now) ≡ self.now.config }
+    /// Returns a borrow of the selector that was entered, which ends before the reader leaves.
+    pub fn selector(&self) -> &S
+        ensures members { S.members result.now ≡ self.now.members }
+        ensures config { S.built_with result.now ≡ self.now.config }
     {
         &self.selector
+    }
+
+    /// Selects from the selector that was entered: the first backend that `accept` accepts of the distinct ones among the first
+    /// `limit` candidates of its walk for `key`, or `None` where it accepts none of them. Refused for memory alone.
+    pub fn select<W: WordSource, F: Fn(&Backend) -> bool>(
+        &self,
+        alloc: Global,
+        key: &[u8],
+        words: &mut W,
+        limit: usize,
+        accept: &F,
+    ) -> Result<Option<Backend>, Refusal>
+        requires { F.IsAlwaysCallable accept.now }
+        ensures { Selects same_member (λ b r. FnReturnsAt F.Fn accept.now b r) limit W.gives
+            (S.walks self.now.members self.now.config key.now) words.old result words.new }
+    {
+        select(alloc, &self.selector, key, words, limit, accept)
     }
 
     /// Ends the reader for good: the selector that it is in can't be destroyed from then on.

@@ -1,4 +1,4 @@
--- What is left of a walk over a lent selector of one of the kinds. A walk of another kind fits no selector, and has nothing left.
+-- What is left of a walk over a borrowed selector of one of the kinds. A walk of another kind fits no selector, and has nothing left.
 use Rattle.std.specs.Prelude.{◌≡◌, ℕ, ⊤, Bool, true, false, List, [], refl}
 use Rattle.std.specs.Arc.{arc_value}
 use Rattle.lb_select_base.specs.Algorithms.{hash_word, ticket_word}

@@ -1,4 +1,4 @@
--- The step that a line's step is: a selection has its key lent, and no random words.
+-- The step that a line's step is: a selection borrows its key, and has no random words.
 use Rattle.std.specs.Prelude.{[]}
 use Rattle.lb_script_text.specs.declared.kinds.Kind.{Kind}
 use Rattle.lb_script_text.specs.declared.selection.SelectionLine.{SelectionLine}

@@ -168,7 +168,7 @@ select_parts_of words = None
 abbrev pub select_of : List (List ℕ) → Option (Step Kind)
 select_of words = option_map (λ p. step.select p.0.0 p.0.1 p.1.0 p.1.1 []) (select_parts_of words)
 
--- By its first word, a step that makes something, tells a verdict, or names one number.
+-- By its first word, a step that makes something, gives a verdict, or names one number.
 abbrev pub lone_step_of : List ℕ → List (List ℕ) → Option (Step Kind)
 lone_step_of first words =
     if bytes_eq first (codes "leave") then at_number step.leave words else

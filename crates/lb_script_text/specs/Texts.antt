@@ -75,7 +75,7 @@ abbrev pub flipped_text : Bool → List ℕ
 flipped_text true = codes "flipped"
 flipped_text false = codes "kept"
 
--- where the counter of tickets stands, and the generation of a reader, aren't written
+-- the counter of tickets and the generation of a reader aren't written
 abbrev pub answer_text : Answer → List ℕ
 answer_text (answer.Registry n) = codes "registry " ++ decimal n
 answer_text (answer.Gate n) = codes "gate " ++ decimal n

@@ -31,13 +31,13 @@ pub record HasPoint (chain : Address → ℕ → ℕ) (ms : List Member) (p : �
   pub within : number < points_per_weight * member.weight
   pub point_is : chain a number ≡ p
 
--- the backend of the greatest weight stands for an address
+-- the backend of the greatest weight represents an address
 pub record StandsFor (ms : List Member) (a : Address) (m : Member) : Type 0 where
   pub among : Contains ms m
   pub address_is : m.address ≡ a
   pub heaviest : (other : Member) → Contains ms other → other.address ≡ a → other.weight ≤ m.weight
 
--- candidate j from a place: who stands for the owner of its point
+-- candidate j from a place: the backend that represents the owner of its point
 abbrev pub IsChoice : (Address → ℕ → ℕ) → List Member → ℕ → ℕ → Member → Type 0
 IsChoice chain ms place j m = (a : Address) × IsRingOwner (HasPoint chain ms) place j a × StandsFor ms a m
 

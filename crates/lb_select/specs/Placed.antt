@@ -17,7 +17,7 @@ pub record Placed : Type 0 where
   pub points : List (ℕ × ℕ)
   pub multiple : Option ℕ
 
--- the backend that an owner's number stands for
+-- the backend of an owner's number
 abbrev pub member_at : List Member → List ℕ → ℕ → Option Member
 member_at ms owners number = option_and_then (slice_get ms) (slice_get owners number)
 
@@ -73,7 +73,7 @@ abbrev pub YieldsFrom : Placed → ℕ → List Member → Type 0
 YieldsFrom r at [] = ⊤
 YieldsFrom r at (c ∷ cs) = (member_here r at ≡ Some c) × YieldsFrom r (index_here r at + 1) cs
 
--- the walk of an iterator that stands at an index
+-- the walk of an iterator that is at an index
 pub record IsWalkFrom (r : Placed) (at : ℕ) (draws : List Draw) (cs : List Member) (ended : Bool) : Type 0 where
   pub undrawn : draws ≡ []
   pub candidates : YieldsFrom r at cs

@@ -15,7 +15,7 @@ use Rattle.lb_select.specs.declared.reading.Reading.{Reading}
 abbrev pub reading_cmp : Reading → Reading → Ordering
 reading_cmp a b = ordering_then (nat_cmp (a.load * b.weight) (b.load * a.weight)) (nat_cmp a.index b.index)
 
--- it tells this backend and the load that was read for it
+-- it is this backend and the load that was read for it
 pub record IsReading (ms : List Member) (e : Member × ℕ) (r : Reading) : Type 0 where
   pub at : slice_get ms r.index ≡ Some e.0
   pub weight : r.weight ≡ e.0.weight
@@ -42,7 +42,7 @@ pub record IsArranged (may_give : Draw → Type 0) (ms : List Member) (order : L
 abbrev pub IsInside : List Member → List Reading → Type 0
 IsInside ms order = All (λ r. r.index < length ms) order
 
--- what is left of a walk that stands at a place of the order
+-- what is left of a walk that is at a place of the order
 pub record IsLeastRest
     (ms : List Member) (order : List Reading) (at : ℕ) (draws : List Draw) (cs : List Member) (ended : Bool) : Type 0 where
   pub undrawn : draws ≡ []

@@ -33,7 +33,7 @@ pub record IsRaised (a : Address) (before after : List Member) : Type 0 where
   pub others : (m : Member) → m.address ≢ a → Contains before m ↔ Contains after m
   pub heavier : (m : Member) → Contains before m → m.address ≡ a → (r : Member) × Contains after r × (r.address ≡ a) × (m.weight ≤ r.weight)
 
--- a choice that stands after a change stood before it, and was the only one
+-- a choice after a change was one before it, and was the only one
 abbrev pub StoodBefore : (Address → ℕ → ℕ) → List Member → List ℕ → Member → Type 0
 StoodBefore chain before key m = IsKeyChoice chain before key m × ((n : Member) → IsKeyChoice chain before key n → n ≡ m)
 

@@ -19,7 +19,7 @@ pub record IsRingOf (given ring : List (ℕ × Address)) : Type 0 where
   pub points : (p : ℕ) → IsPoint (Given ring) p ↔ IsPoint (Given given) p
   pub owners : (p : ℕ) (a : Address) → Contains ring (p, a) ↔ IsOwner (Given given) p a
 
--- whom a ring tells as the owner of a candidate is the owner by the points that were given
+-- the owner of a candidate that a ring returns is the owner by the points that were given
 abbrev pub RingLaw : Type 0
 RingLaw =
     (given ring : List (ℕ × Address)) → IsRingOf given ring → (place j : ℕ) (a : Address) → IsRingOwner (Given ring) place j a

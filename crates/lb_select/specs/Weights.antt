@@ -1,4 +1,4 @@
--- Weighted candidates. The backends stand in the order of the set, and the partial sums of their weights cut the places
+-- Weighted candidates. The backends are in the order of the set, and the partial sums of their weights cut the places
 -- from 0 to the total into intervals, one for each backend. A walk's first word chooses by interval, each later word by
 -- rank among the backends. Where the total is 0 no candidate comes.
 use Rattle.std.specs.Prelude.{◌≡◌, ℕ, ◌+◌, ◌%◌, ◌^◌, ◌<◌, ◌≤◌, Bool, true, false, cond, nat_lt, Option, Some, None}
@@ -11,7 +11,7 @@ use Rattle.lb_select_base.specs.Draws.{Draw}
 use Rattle.lb_select_base.specs.declared.refusal.Refusal.{Refusal}
 use Rattle.lb_select_base.specs.declared.refusal.Refusal.TheVariants.{TooManyBackends, WeightTooLarge}
 
--- the words of a walk: the first stands for the key, each later one for the 8 bytes of the word before it, the lowest first
+-- the words of a walk: the first is the key's, each later one that of the 8 bytes of the word before it, the lowest first
 abbrev pub Words : (List ℕ → List Draw → ℕ → Type 0) → List ℕ → List ℕ → List Draw → Type 0
 Words gives_word key [] draws = draws ≡ []
 Words gives_word key (word ∷ words) draws =

@@ -1,4 +1,4 @@
--- Algorithms: which word stands for a key, and what is drawn for it.
+-- Algorithms: which word belongs to a key, and what is drawn for it.
 use Rattle.std.specs.Prelude.{◌≡◌, ℕ, ◌*◌, ◌%◌, ◌^◌, List, [], ◌∷◌, fold, bit_xor}
 use Rattle.lb_select_base.specs.Draws.{Draw, ticket, random}
 

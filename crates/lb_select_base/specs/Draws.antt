@@ -41,7 +41,7 @@ CoreGives tickets stream load_of a (random w) b =
     ((w, stream b) ≡ next_u64 (stream a)) × (tickets b ≡ tickets a) × (load_of b ≡ load_of a)
 CoreGives tickets stream load_of a (load m l) b = (l ≡ load_of a m) × (b ≡ a)
 
--- Words that are handed in: the next ticket of a counter, and the random words that are left.
+-- Words that are given: the next ticket of a counter, and the random words that are left.
 pub record HandedValue : Type 0 where
   pub tickets : ℕ
   pub words : List ℕ

@@ -51,7 +51,7 @@ abbrev pub Refuses : {T : Type 0} → Option Refusal → (T → Type 0) → Resu
 Refuses cause made (Ok t) = (cause ≡ None) × made t
 Refuses cause made (Err e) = (cause ≡ Some e) ⊎ ((cause ≡ None) × (e ≡ OutOfMemory))
 
--- a cause other than the want of memory
+-- a cause other than a refusal of memory
 abbrev pub memory_apart : Option Refusal → Option Refusal
 memory_apart None = None
 memory_apart (Some OutOfMemory) = None
@@ -63,7 +63,7 @@ earlier None b = b
 earlier (Some e) None = Some e
 earlier (Some e) (Some f) = if nat_lt (refusal_number f) (refusal_number e) then Some f else Some e
 
--- of all causes the one of the least number, or none where none stands
+-- of all causes the one of the least number, or none where none applies
 abbrev pub least : List (Option Refusal) → Option Refusal
 least [] = None
 least (c ∷ cs) = earlier (memory_apart c) (least cs)

@@ -1,5 +1,5 @@
 -- What a walk is: a relation between the draws that were made, the first candidates that came, and whether the walk ended.
--- An endless walk and one that ends are told alike, and steps compose from the back.
+-- An endless walk and one that ends are described alike, and steps compose from the back.
 use Rattle.std.specs.Prelude.{◌≡◌, ⊤, Bool, true, List, [], ◌∷◌, ◌++◌, Option, Result, Ok, Err, MatchOption}
 use Rattle.std.specs.Borrow.{follows_so, Fml, RattleType, MutBor}
 use mathlib.Core.Option.{none}
@@ -12,7 +12,7 @@ module _ {I B : Type 0} (walk : I → List Draw → List B → Bool → Type 0) 
   abbrev pub Continues : I → List Draw → List B → I → Type 0
   Continues i ds bs n = (es : List Draw) (cs : List B) (e : Bool) → walk n es cs e → walk i (ds ++ es) (bs ++ cs) e
 
--- P holds of what was lent once a result that only reads it is let go
+-- P holds of what was borrowed once a result that only reads it is dropped
 abbrev pub Leaves : (R : RattleType) → MutBor R.Denot → (R.Denot → Type 0) → Fml
 Leaves R lent P = follows_so R R lent.ghost_name none (λ _ _. ⊤) P
 

@@ -2,6 +2,7 @@
 //! The clock goes on by five at each reading. A group is lent to its calls.
 ghost use Rattle.std.specs.Prelude.{◌≡◌};
 
+use crate::asserted::assert_same;
 use crate::told::{Answer, DONE, NO, Ticks, Told, YES, always, is_at};
 use lb_balancer_core::turn::{Turn, worker_turn};
 use lb_health_check::health_check::BoxedCheck;
@@ -181,9 +182,9 @@ impl<'g> Reading<'g> {
 fn plays<R: Wait + Abort>(rt: &R, alloc: Global, group: &Group, calls: Calls) {
     let mut clock = Ticks { next: 10 };
     let mut reading = Reading::of(group);
-    for (call, wanted) in calls {
+    for (at, (call, wanted)) in calls.iter().enumerate() {
         let told = reading.answer(rt, alloc, &mut clock, *call);
-        assert_eq!(rt; told, *wanted);
+        assert_same(rt, &told, wanted, &at);
     }
 }
 
@@ -219,7 +220,7 @@ fn played<R: Wait + Abort>(rt: &R, alloc: Global, calls: Calls) -> Result<(), Re
 
 #[test]
 fn passes_over_a_group(rt: HostRuntime) {
-    for calls in ROWS {
-        assert_eq!(rt; played(&rt, rt.alloc(), calls), Ok(()));
+    for (at, calls) in ROWS.iter().enumerate() {
+        assert_same(&rt, &played(&rt, rt.alloc(), calls), &Ok(()), &at);
     }
 }

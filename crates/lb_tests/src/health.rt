@@ -1,4 +1,5 @@
 //! Tests of health, registries, views and passes of checks: worked values from outside, and what a pass tells a check and a log.
+mod boxed;
 mod discoveries;
 mod passes;
 mod registries;

@@ -1,5 +1,6 @@
 //! Tests of groups by their calls: updates, workers' turns and selections through the port of a plain group.
 //! The clock goes on by five at each reading. Who owns what the port is lent makes one call with it.
+use crate::asserted::assert_same;
 use crate::told::{Answer, Members, Ticks, Told, YES, always, is_at};
 use lb_balancer_core::plain::PlainPort;
 use lb_balancer_core::port::GroupPort;
@@ -106,7 +107,7 @@ fn plays<P: GroupPort<RoundRobin>>(alloc: Global, port: &mut P, row: usize, rt: 
         return;
     };
     for (call, wanted) in *calls {
-        assert_eq!(rt; answer(alloc, port, &mut clock, *call), *wanted);
+        assert_same(rt, &answer(alloc, port, &mut clock, *call), wanted, &row);
     }
 }
 

@@ -2,10 +2,9 @@
 use Rattle.std.proofs.Common.{◌≡◌, ◌⊎◌, ◌∙◌, ◌==◌, ℕ, List, [], ◌∷◌, Bool, true, false, cond, nat_lt, length, refl, sym, subst, inl, inr, Option, Some, None, Result, Ok, Err}
 use Rattle.lb_select_base.specs.declared.refusal.Refusal.{Refusal}
 use Rattle.lb_select_base.specs.declared.refusal.Refusal.TheVariants as refusal
-use Rattle.lb_select_base.specs.declared.walk.BackendSelection.{Ghosts}
 use Rattle.lb_select_base.specs.Backends.{Member, same_member}
 use Rattle.lb_select_base.specs.Draws.{Draw, Gives}
-use Rattle.lb_select_base.specs.Selections.{Selects, walks_of}
+use Rattle.lb_select_base.specs.Selections.{Selects}
 use Rattle.lb_rebuild_slots.specs.SlotsHistory.{past_of, served, readers}
 use Rattle.lb_rebuild_slots.specs.SlotsCalls.{at_slot, Enters}
 use Rattle.lb_rebuild_slots.specs.Stands.{Made}
@@ -60,13 +59,6 @@ module _ {C : Type 0} where
       let past = past_of slot (slot_events e) in
       let there = told_if (nat_lt slot (length made.configs)) (served past) g (sym (tells made e p.1.1) ∙ is) in
       memory_or x (cause_if (nat_lt slot (length made.configs)) (readers (served past) past == 18446744073709551615) x there.0) (enters made e p.1.1)
-
--- what holds of the walks of a selector holds of those of its members and configuration
-pub walks_as : {S I C W : Type 0} (ghosts : Ghosts S I C W) {s : S} {ms : List Member} {config : C} (key : List ℕ)
-    (Holds : (List Draw → List Member → Bool → Type 0) → Type 0) → ghosts.members s ≡ ms → ghosts.built_with s ≡ config
-    → Holds (walks_of ghosts s key) → Holds (ghosts.walks ms config key)
-walks_as ghosts {s} {ms} {config} key Holds members built is =
-    subst (λ c. Holds (ghosts.walks ms c key)) built (subst (λ m. Holds (ghosts.walks m (ghosts.built_with s) key)) members is)
 
 any_words : (ds : List Draw) → Gives {S = Unit {0}} (λ s d t. Unit {0}) tt ds tt
 any_words [] = refl

@@ -35,7 +35,7 @@ module _ {C : Type 0} where
   abbrev pub OwnsPermit : GroupValue C → ℕ → PermitValue → Type 0
   OwnsPermit v slot p = (p.group ≡ v.group.id) × (p.slot ≡ slot) × (p.gate ≡ v.group.gate)
 
-  -- a state that this group may have: a history stands behind it, and it has the group's identity, gate and configurations
+  -- a state that this group may have: a history explains it, and it has the group's identity, gate and configurations
   abbrev pub IsState : GroupValue C → GroupValue C → Type 0
   IsState site v = SameSite site v × IsFounded v
 
@@ -81,12 +81,12 @@ module _ {S I C W : Type 0} where
   AskedUnder site slot now r = UnderGate site (λ v g w k. IsAsked v g slot now r w k)
 
 module _ {C R : Type 0} (gives : R → Member → Member → Type 0) where
-  -- what was read at some state of this group, beside some state of its registry
+  -- what was read at some state of this group and some state of its registry
   abbrev pub SeenBeside : SharedValue C R → (GroupValue C → RegistryValue R → Type 0) → Type 0
   SeenBeside site Told =
       (v : GroupValue C) × ((x : RegistryValue R) × (IsState site.core v × (IsRegistryOf gives site.registry x × Told v x)))
 
-  -- the snapshot of that generation is let go where something was taken back
+  -- the snapshot of that generation is released where something was taken back
   abbrev pub IsReleasedWhere :
       {A B : Type 0} → Result A B → GroupValue C → (Made C → History → ℕ) → RegistryValue R → RegistryValue R → Type 0
   IsReleasedWhere a v generation x y =
@@ -130,7 +130,7 @@ module _ {C R : Type 0} (gives : R → Member → Member → Type 0) where
   UpdatedUnder reads finds d k site r l =
       UpdatedThrough reads finds (λ v members settings now a w. ScheduledUnder v members settings now a × (w ≡ v)) d k site r l site
 
-  -- a selection: the reader entered, what readiness was told, and the reader left, each at some state of the group
+  -- a selection: the reader entered, the readiness that was read, and the reader left, each at some state of the group
   abbrev pub SelectedUnder :
       (Member → Bool → Bool → Type 0) → ℕ → (List Member → C → List ℕ → List Draw → List Member → Bool → Type 0)
       → List ℕ → SharedValue C R → ℕ → Result (Option Member) Refusal → Type 0

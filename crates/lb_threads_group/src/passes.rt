@@ -21,7 +21,6 @@ use lb_rebuild_slots::retired::Reader;
 use lb_select_base::backend::Backend;
 use lb_select_base::moments::MomentSource;
 use lb_select_base::refusal::Refusal;
-use lb_select_base::select::select;
 use lb_select_base::walk::BackendSelection;
 use lb_select_base::words::WordSource;
 use rand_core::Rng;
@@ -188,14 +187,7 @@ impl<S: BackendSelection, R: KeyRule + Drop, C: HealthCheck + Drop> SharedGroup<
             rt,
             slot: reader.slot(),
         };
-        select(
-            alloc,
-            reader.selector(),
-            key,
-            &mut words,
-            max_iterations,
-            accept,
-        )
+        reader.select(alloc, key, &mut words, max_iterations, accept)
     }
 
     /// Gives an entry of this group back to its slot.

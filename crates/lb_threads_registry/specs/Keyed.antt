@@ -8,6 +8,6 @@ pub record FreeIsHome {T : Type 0} (holds : T → Type 0) (words : List ℕ) (ho
   pub one : words ≡ slice_index words 0 ∷ []
   pub free : slice_index words 0 ≡ 0 → (value : T) × (homes ≡ maybe.some (Some value) ∷ []) × holds value
 
--- whoever found 0 has taken the value, which keeps the fact
+-- the thread that found 0 has taken the value, which keeps the fact
 abbrev pub Took : {T K : Type 0} → (T → Type 0) → ℕ → Me (Option T) K → Type 0
 Took {T} holds n w = n ≡ 0 → (value : T) × (w.1 ≡ (0, Some value) ∷ []) × holds value

@@ -18,7 +18,7 @@ pub record RegistryHandle (R : Type 0) : Type 0 where
   pub lock : TableId
 
 module _ {R : Type 0} (gives : R → Member → Member → Type 0) where
-  -- The second is the first after some further events: whichever history stands behind the first, by its own rule of keys, the second is
+  -- The second is the first after some further events: whichever history explains the first, by its own rule of keys, the second is
   -- after that history and those events.
   abbrev pub IsRegistryOf : RegistryValue R → RegistryValue R → Type 0
   IsRegistryOf start x =
@@ -34,7 +34,7 @@ module _ {R : Type 0} (gives : R → Member → Member → Type 0) where
   UnderRegistry start Call =
       (x : RegistryValue R) × ((y : RegistryValue R) × (IsRegistryOf start x × (IsRegistryOf x y × Call x y)))
 
-  -- whatever history stands behind a registry, this holds of it
+  -- whatever history explains a registry, this holds of it
   abbrev pub Told : RegistryValue R → ((Member → Member) → List Event → Type 0) → Type 0
   Told x Holds = (key_of : Member → Member) (events : List Event) → IsRegistryAfter gives key_of events x → Holds key_of events
 

@@ -1,11 +1,14 @@
 //! A registry of health that threads share, and the passes that check its targets, one after another or at the same time. No check runs
 //! under the registry's lock: a pass copies its targets, and each verdict takes the lock for one call.
-ghost use Rattle.std.specs.Prelude.{◌≡◌, ◌∷◌, false, length, Err, IfErr, IfOk, OnErr};
+ghost use Rattle.std.specs.Prelude.{◌≡◌, ◌∷◌, Bool, false, length, Result, Err, IfErr, IfOk, OnErr};
+ghost use Rattle.lb_health_check.specs.declared.error.CheckError.{CheckError};
 ghost use Rattle.lb_health_registry.specs.Registry.{IsGrowthRefusal, IsUpdateRefusal, targets_after};
 ghost use Rattle.lb_health_registry.specs.RegistryEvents.{Marked, views_after};
 ghost use Rattle.lb_health_registry.specs.Targets.{target_keys};
 ghost use Rattle.lb_health_registry.specs.Verdicts.{Verdict};
 ghost use Rattle.lb_health_registry.specs.RegistryEvents.{Configured};
+ghost use Rattle.lb_health_view.specs.Passes.{verdict_of};
+ghost use Rattle.lb_select_base.specs.declared.refusal.Refusal.{Refusal};
 ghost use Rattle.lb_threads_registry.specs.Registry.{Becomes, IsApplied, IsCellReady, IsObserved, IsRegistered, IsRegistryOf, IsUpdated};
 ghost use Rattle.lb_threads_registry.specs.Registry.{SeenIn, UnderRegistry};
 
@@ -388,8 +391,12 @@ impl<R: KeyRule + Drop + Send, C: HealthCheck + Drop + Send + Sync> HealthRegist
         });
     }
 
-    // Checks a target, gives the verdict to its cell, and reports a flip outside the lock.
-    fn check_one<W: Log + Wait>(&self, rt: &W, alloc: Global, check: &C, target: &Target) {
+    // Checks a target, gives the verdict of the check's answer to its cell, and reports a flip outside the lock.
+    fn check_one<W: Log + Wait>(&self, rt: &W, alloc: Global, check: &C, target: &Target)
+        ensures { (answer : Result Unit CheckError) × C.answers check.now target.now.backend answer
+            × ((told : Result Bool Refusal) × UnderRegistry R.gives self.now.start (λ x y.
+            IsObserved R.gives x target.now.cell (verdict_of (C.threshold check.now) answer) told y)) }
+    {
         let verdict = check.check(alloc, &target.backend);
         let healthy = verdict.is_ok();
         let threshold = check.health_threshold(healthy);

@@ -45,7 +45,7 @@ abbrev pub at_backend : Option Member → Answer → Answer
 at_backend None a = refuse refusal.InvalidAddress
 at_backend (Some b) a = a
 
--- a refusal where its cause stands
+-- a refusal where its cause applies
 abbrev pub where_ : Bool → Refusal → Option Refusal
 where_ true r = Some r
 where_ false r = None
@@ -132,7 +132,7 @@ selected t (Ok None) = answer.NoBackend t
 selected t (Ok (Some b)) = answer.Backend b t
 selected t (Err r) = answer.NotSelected t
 
--- a verdict reaches a cell that is kept, and tells whether the cell's health is another than before
+-- a verdict reaches a cell that is kept, and says whether the cell's health is another than before
 abbrev pub VerdictAnswers : (Member → Member) → List registry.Event → ℕ → Bool → ℕ → Answer → Type 0
 VerdictAnswers key events c ok threshold a =
     (registry.IsCellKept key c events
@@ -241,7 +241,7 @@ without_memory st a = a
 
 module _ {C : Type 0} (meaning : Meaning C) where
   -- A selection from a slot with this configuration, in whose group g generation n is served: over the membership of n, judged
-  -- by the snapshot of n. More random words than the limit must be handed in where they may be drawn.
+  -- by the snapshot of n. More random words than the limit must be given where they may be drawn.
   abbrev pub SelectsIn : History C → ℕ → ℕ → ℕ → C → List ℕ → ℕ → List ℕ → Answer → Type 0
   SelectsIn h g s n c key limit words a =
       MatchBool (meaning.random (slots.members_of n (slot_events g h)) c && nat_le (length words) limit)

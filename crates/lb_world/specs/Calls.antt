@@ -79,7 +79,7 @@ set_marked (Some e) entries = insert_entry member_cmp entries e.0 e.1
 abbrev pub with_core : {C : Type 0} → GroupValue C → EntryValue C → EntryValue C
 with_core v e = record e { core = v }
 
--- some history stands behind it in which the slot counts a reader of that generation
+-- some history explains it in which the slot counts a reader of that generation
 pub record IsCounted {C : Type 0} (v : GroupValue C) (slot generation : ℕ) : Type 0 where
   pub made : Made C
   pub events : History

@@ -1,4 +1,4 @@
--- How many cells an update starts, told by its listings.
+-- How many cells an update starts, by its listings.
 use Rattle.std.specs.Prelude.{ℕ, Bool, not, ◌&&◌, List, map, filter}
 use Rattle.std.specs.List.{filter_map, list_any}
 use Rattle.std.specs.Set.{distinct_count}

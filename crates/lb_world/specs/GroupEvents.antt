@@ -34,7 +34,7 @@ module _ {C : Type 0} where
   group_events g ((st, a) ∷ h) =
       if is_at g (group_at h st) then group_after_step h (slot_events g h) (group_events g h) st a else group_events g h
 
-  -- They tell the group's events and those of its view, as the world's history tells them.
+  -- They give the group's events and those of its view, as the world's history does.
   pub record JoinsAlike (g : ℕ) (h : History C) : Type 0 where
     pub groups : group.slot_events (group_events g h) ≡ slot_events g h
     pub views : (m : Made C) → made_at g h ≡ Some m → group.view_events (length m.configs) (group_events g h) ≡ view_events g h

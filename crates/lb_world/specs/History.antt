@@ -1,5 +1,5 @@
 -- A history: the steps that a world took, each with its answer, the last first. What was made, who reads, what happened to each
--- group, and what is held of each job, is one short recursion each; what a group's events mean is told by the crate of groups.
+-- group, and what is held of each job, is one short recursion each; what a group's events mean is defined by the crate of groups.
 use Rattle.std.specs.Prelude.{ℕ, ◌+◌, ◌-◌, Bool, true, false, ◌&&◌, ◌||◌, ◌==◌, List, [], ◌∷◌, ◌++◌, length, filter, Option, Some, None}
 use Rattle.std.specs.Prelude.{if◌then◌else◌, slice_get, slice_set}
 use Rattle.std.specs.List.{filter_map}

@@ -22,7 +22,7 @@ use Rattle.lb_world.specs.Shared.{is_live, extra_at, key_of, events_in, cells_of
 use Rattle.lb_world.specs.GroupEvents.{group_events}
 
 module _ {C : Type 0} where
-  -- a flight, a lost flight, or a retired selector that is not reported destroyed stands in the slot
+  -- the slot has a flight, a lost flight, or a retired selector that is not reported destroyed
   abbrev pub HasExtra : ℕ → ℕ → History C → Type 0
   HasExtra g s h = slots.is_extra (slots.extra (past g s h)) ≡ true
 
@@ -37,13 +37,13 @@ module _ {C : Type 0} where
     pub whose : (a : ℕ) → is_out a h ≡ true → (g : ℕ) × (s : ℕ) × (slot_gate g s h ≡ Some a) × HasExtra g s h
     pub counted : (a : ℕ) → extras a h ≡ number (is_out a h)
 
-  -- the flights, lost flights and retired selectors in the slots on a gate, of these groups, which stand from the place g on
+  -- the flights, lost flights and retired selectors in the slots on a gate, of these groups, which are those from the place g on
   abbrev pub extras_over : ℕ → ℕ → List (Made C) → History C → ℕ
   extras_over a g [] h = 0
   extras_over a g (m ∷ ms) h =
       (if m.gate == a then extras_from 0 (length m.configs) (slot_events g h) else 0) + extras_over a (g + 1) ms h
 
-  -- counted, they are those that stand in the slots, and at most one
+  -- counted, they are those of the slots, and at most one
   pub record Counted (h : History C) : Type 0 where
     pub at_most : (a : ℕ) → extras a h ≤ 1
     pub standing : (a : ℕ) → extras a h ≡ extras_over a 0 (made h) h
@@ -85,13 +85,13 @@ module _ {C : Type 0} where
       → a ≡ answer.Build (slots.newest (slot_events g h))
   FreeGatesGrant h st a = Unit {0}
 
-  -- a publication raises what its slot serves, to the generation that it tells
+  -- a publication raises what its slot serves, to the generation that it returns
   abbrev pub Raises : History C → Step C → Answer → Type 0
   Raises h (step.publish g s) (answer.Published n) =
       (slots.served (past g s h) < n) × (slots.served (past g s ((step.publish g s, answer.Published n) ∷ h)) ≡ n)
   Raises h st a = Unit {0}
 
-  -- A retired selector is destroyed where no reader is in it, and else it is told how many are.
+  -- A retired selector is destroyed where no reader is in it, and else the answer is how many are.
   abbrev pub DestroysExactly : History C → Step C → Answer → Type 0
   DestroysExactly h (step.destroy g s) answer.Destroyed =
       (n : ℕ) × (slots.extra (past g s h) ≡ slots.retired n) × (count_by (reads g s n) (entries h) ≡ 0)

@@ -1,4 +1,4 @@
--- What a refused step leaves: all that is told of a world, and every answer to come, is as if the step had never been asked.
+-- What a refused step leaves: all that is known of a world, and every answer to come, is as if the step had never been asked.
 -- A selection that memory was refused to has drawn tickets, and left all else.
 use Rattle.std.specs.Prelude.{◌≡◌, ◌↔◌, ◌≤◌, ◌==◌, ◌+◌, ◌%◌, ◌^◌, ℕ, [], ◌∷◌, ◌++◌, if◌then◌else◌}
 use Rattle.lb_select_base.specs.Backends.{Member}
@@ -15,7 +15,7 @@ use Rattle.lb_world.specs.GroupEvents.{group_events}
 use Rattle.lb_world.specs.Answers.{Answers, IsRun}
 
 module _ {C : Type 0} where
-  -- Two histories tell the same of what was made and who reads, what is held of each job, what happened to each view and registry,
+  -- Two histories give the same of what was made and who reads, what is held of each job, what happened to each view and registry,
   -- which permits are out and what was counted for them, and every load.
   pub record RestAlike (h k : History C) : Type 0 where
     pub registries_made : registries h ≡ registries k
@@ -32,7 +32,7 @@ module _ {C : Type 0} where
     pub destructions : (a : ℕ) → count_on is_destruction a h ≡ count_on is_destruction a k
     pub loads : (g : ℕ) (b : Member) → load_of g b h ≡ load_of g b k
 
-  -- They tell the same of everything: of what happened to each group too, alone and joined with its view.
+  -- They give the same of everything: of what happened to each group too, alone and joined with its view.
   pub record TellsAlike (h k : History C) : Type 0 where
     pub rest : RestAlike h k
     pub groups : (g : ℕ) → slot_events g h ≡ slot_events g k
@@ -44,7 +44,7 @@ module _ {C : Type 0} where
   unrefused ((st, answer.Refused r) ∷ h) = unrefused h
   unrefused ((st, a) ∷ h) = (st, a) ∷ unrefused h
 
-  -- Only the counter of tickets of one slot went on, by one ticket more than the limit at most; it stands at t now.
+  -- Only the counter of tickets of one slot went on, by one ticket more than the limit at most; it is at t now.
   pub record DrewAlone (h now : History C) (g s limit t : ℕ) : Type 0 where
     pub tickets : ℕ
     pub few : tickets ≤ limit + 1
@@ -58,7 +58,7 @@ module _ {C : Type 0} (M : Meaning C) where
   abbrev pub AnswersAlike : History C → History C → Type 0
   AnswersAlike h k = (st : Step C) (a : Answer) → Answers M h st a ↔ Answers M k st a
 
-  -- Whatever came after a step: all is told as without it, each answer to come is right exactly where it is so without it, and
+  -- Whatever came after a step: all is given as without it, each answer to come is right exactly where it is so without it, and
   -- what came after is a run without it exactly where it is one with it.
   pub record IsAsBefore (h : History C) (st : Step C) (a : Answer) : Type 0 where
     pub told : (later : History C) → TellsAlike (later ++ (st, a) ∷ h) (later ++ h)

@@ -1,4 +1,4 @@
--- The keys that a registry of a world gives: by identity or by address. Where a caller's rule would stand there is identity.
+-- The keys that a registry of a world gives: by identity or by address. In the place of a caller's rule there is identity.
 use Rattle.std.specs.Prelude.{◌≡◌}
 use Rattle.lb_select_base.specs.Backends.{Member}
 use Rattle.lb_health_registry.specs.Keys.{by_identity, rule_gives}

@@ -85,7 +85,7 @@ module _ {C : Type 0} where
   let_go g n h events =
       if is_live n (configs_in (made_at g h)) (slot_events g h) then events else registry.Released (view_in (made_at g h)) n ∷ events
 
-  -- the generation that stands in a slot beside what it serves
+  -- the generation of a slot's extra
   abbrev pub extra_at : ℕ → ℕ → History C → ℕ
   extra_at g s h = slots.generation_of (slots.extra (past g s h))
 

@@ -1,4 +1,4 @@
--- A world stands for a history: the answers are a run, and each table is what the history tells.
+-- A world after a history: the answers are a run, and each table is what the history says.
 use Rattle.std.specs.Prelude.{◌≡◌, ◌<◌, ℕ, Bool, true, false, ◌||◌, List, ◌∷◌, Some, length, map, slice_get, if◌then◌else◌}
 use Rattle.std.specs.Option.{option_map}
 use Rattle.lb_select_base.specs.Backends.{Member}
@@ -35,13 +35,13 @@ module _ {C : Type 0} where
   abbrev pub made_of : EntryValue C → Made C
   made_of e = record { registry = e.registry; gate = e.gate; view = e.core.view.id; configs = configs_of e.core.group }
 
-  -- what is held for each slot of the group is what the history tells
+  -- what is held for each slot of the group is what the history says
   abbrev pub AreHeld : History C → ℕ → EntryValue C → List (WorkValue C) → Type 0
   AreHeld h g e held =
       (s : ℕ) (c : C) (k : WorkValue C) → slice_get (configs_of e.core.group) s ≡ Some c → slice_get held s ≡ Some k
       → k ≡ held_of (origin e.core) s c (past g s h) (work g s h)
 
-  -- the entry is what the history tells of the group
+  -- the entry is what the history says of the group
   pub record EntryIs (h : History C) (g : ℕ) (e : EntryValue C) : Type 0 where
     pub made_is : made_at g h ≡ Some (made_of e)
     pub core_is : group.Stands (site e.core) (group_events g h) e.core
@@ -64,7 +64,7 @@ module _ {C : Type 0} (M : Meaning C) where
     pub own : (t : ℕ) (r : OpenReaderValue C) → slice_get w.readers t ≡ Some (Some r) → (e : EntryValue C)
         → slice_get w.groups r.group ≡ Some e → IsOwnReader e.core r.reader
 
-  -- some history stands behind it
+  -- some history explains it
   pub record IsFounded (w : WorldValue C) : Type 0 where
     pub history : History C
     pub stands : Stands w history
@@ -104,7 +104,7 @@ module _ {C : Type 0} (M : Meaning C) where
   abbrev pub PerformsAlone : (ℕ → Step C) → EntryValue C → Answer → EntryValue C → Type 0
   PerformsAlone st e a e2 = (z : GateValue) (v : RegistryValue WorldRule) → Performs st e z v a e2 z v
 
--- some history stands behind the entry
+-- some history explains the entry
 pub record IsEntry {C : Type 0} (M : Meaning C) (e : EntryValue C) : Type 0 where
   pub history : History C
   pub number : ℕ

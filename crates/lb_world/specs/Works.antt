@@ -1,4 +1,4 @@
--- What is held for a slot, of the program and as a history tells it, and the tables of a world.
+-- What is held for a slot, of the program and as a history has it, and the tables of a world.
 use Rattle.std.specs.Prelude.{ℕ}
 use Rattle.lb_rebuild_slots.specs.SlotsHistory.{History, granted, granted_members}
 use Rattle.lb_rebuild_slots.specs.Values.{Task}

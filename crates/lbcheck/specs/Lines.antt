@@ -1,4 +1,4 @@
--- The lines that tell what a check came to.
+-- The lines that say what a check came to.
 use Rattle.std.specs.Prelude.{ℕ, List, ◌++◌, Result, Ok, Err, codes, decimal}
 use Rattle.lb_health_check.specs.Faults.{fault_name}
 use Rattle.lb_health_check.specs.declared.error.CheckError.{CheckError}

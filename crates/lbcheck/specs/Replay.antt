@@ -1,4 +1,4 @@
--- A check of bytes that lie somewhere: what it says of them, and how many stand behind what it read.
+-- A check of stored bytes: what it says of them, and how many come after what it read.
 use Rattle.std.specs.Prelude.{ℕ, Bool, true, List, Result}
 use Rattle.http.specs.declared.response.Parts.{Parts}
 use Rattle.lb_stream.specs.Stream.{Takes}

@@ -121,31 +121,27 @@ fn with_arguments<'a>(
     Ok(command)
 }
 
-fn tcp<'a>(alloc: Global) -> Result<Command<'a>, AllocError> {
-    let command = Command::new(alloc, "tcp").about("Connects to a backend, and no more");
-    with_arguments(alloc, command, &TCP)
-}
-
-fn http<'a>(alloc: Global) -> Result<Command<'a>, AllocError> {
-    let command = Command::new(alloc, "http").about(
+// The three commands: each one's name, the help for it, and its arguments.
+const COMMANDS: [(&str, &str, &[Row]); 3] = [
+    ("tcp", "Connects to a backend, and no more", &TCP),
+    (
+        "http",
         "Sends a request to a backend and reads its answer",
-    );
-    with_arguments(alloc, command, &HTTP)
-}
-
-fn replay<'a>(alloc: Global) -> Result<Command<'a>, AllocError> {
-    let command = Command::new(alloc, "replay").about(
+        &HTTP,
+    ),
+    (
+        "replay",
         "Checks an answer that stands on standard input",
-    );
-    with_arguments(alloc, command, &REPLAY)
-}
+        &REPLAY,
+    ),
+];
 
-// The three commands.
 fn commands<'a>(alloc: Global) -> Result<Vec<Command<'a>>, AllocError> {
     let mut commands = Vec::new(alloc);
-    commands.push(tcp(alloc)?)?;
-    commands.push(http(alloc)?)?;
-    commands.push(replay(alloc)?)?;
+    for (name, about, rows) in &COMMANDS {
+        let command = Command::new(alloc, name).about(about);
+        commands.push(with_arguments(alloc, command, rows)?)?;
+    }
     Ok(commands)
 }
 

@@ -2,6 +2,7 @@
 //! A balancer is lent to its calls.
 ghost use Rattle.std.specs.Prelude.{⊤};
 
+use crate::asserted::assert_same;
 use crate::balance::lent::disable;
 use crate::told::{Answer, DONE, NO, Told, YES, is_at};
 use lb_balancer_core::load_balancer::LoadBalancer;
@@ -236,7 +237,7 @@ fn plays<S: BackendSelection, D: ServiceDiscovery + Drop>(
     rt: &(impl Abort + Log),
 ) {
     for (at, (call, wanted)) in calls.iter().enumerate() {
-        assert_eq!(rt; answer(alloc, balancer, *call, rt), *wanted, "call {at}");
+        assert_same(rt, &answer(alloc, balancer, *call, rt), wanted, &at);
     }
 }
 

@@ -3,6 +3,7 @@
 ghost use Rattle.std.specs.Prelude.{◌≡◌, IfOk};
 ghost use Rattle.lb_rebuild_group.specs.Stands.{SameSite};
 
+use crate::asserted::assert_same;
 use crate::told::{Ticks, always};
 use lb_balancer_core::group_core::LoadBalancerGroupCore;
 use lb_balancer_core::timings::UpdateTimings;
@@ -99,7 +100,13 @@ fn first_update_waits<S: BackendSelection>(
         discovery_duration: 5,
         build_duration: 0,
     };
-    assert_eq!(rt; (generation, timing, served), (Ok(1), Some(wanted), false));
+    let found = (generation, timing, served);
+    assert_same(
+        rt,
+        &found,
+        &(Ok(1), Some(wanted), false),
+        &"the first update",
+    );
 }
 
 // What is built of it is served.
@@ -112,11 +119,12 @@ fn its_build_is_served<S: BackendSelection>(
     requires { gate.old.id ≡ balancer.old.group.group.gate }
 {
     let told = rebuilt(alloc, balancer, gate);
-    assert_eq!(rt; told, Ok(Some(Publication::Published(1))));
     let served = balancer.selectors_ready_for(1);
     let generation = balancer.selector_generation(0);
     let count = balancer.selector_count();
-    assert_eq!(rt; (served, generation, count), (true, Some(1), 1));
+    let found = (told, served, generation, count);
+    let wanted = (Ok(Some(Publication::Published(1))), true, Some(1), 1);
+    assert_same(rt, &found, &wanted, &"its build");
 }
 
 /// A limit, the random words of a selection, and whether it selects a backend.
@@ -132,7 +140,7 @@ fn selects<S: BackendSelection>(
     let loads = Loads::new();
     for (limit, words, wanted) in rows {
         let selection = balancer.select(alloc, registry, 0, b"k", *limit, words, &loads);
-        assert_eq!(rt; told(selection), *wanted);
+        assert_same(rt, &told(selection), wanted, words);
     }
 }
 

@@ -1,4 +1,5 @@
 //! A core that is lent its registry at each call. Both are lent to a row of calls.
+use crate::asserted::assert_same;
 use crate::balance::balancers::Down;
 use crate::told::{Ticks, always, is_at};
 use lb_balancer_core::balancer_core::LoadBalancerCore;
@@ -38,17 +39,24 @@ fn is_ready(alloc: Global, core: &Core, health: &Registry) -> Result<bool, Refus
 fn is_updated(alloc: Global, core: &mut Core, health: &mut Registry, rt: &impl Abort) {
     let id = core.served.id();
     let updated = core.update(alloc, &mut health.registry, &mut Ticks { next: 12 });
-    assert_eq!(rt; (id, updated, core.served.generation()), (1, Ok(()), 1));
+    let found = (id, updated, core.served.generation());
+    assert_same(rt, &found, &(1, Ok(()), 1), &"updated");
 }
 
 // The backend is selected until a pass finds it down.
 fn is_checked(alloc: Global, core: &mut Core, health: &mut Registry, rt: &(impl Abort + Log)) {
-    assert_eq!(rt; selects(alloc, core, health, Some("1.0.0.1:80")), Ok(true));
+    let before = selects(alloc, core, health, Some("1.0.0.1:80"));
     let set = core.set_health_check(health, Down);
     let checked = health.run_health_check(rt, alloc);
-    assert_eq!(rt; (set, checked), (Ok(()), Ok(())));
-    assert_eq!(rt; is_ready(alloc, core, health), Ok(false));
-    assert_eq!(rt; selects(alloc, core, health, None), Ok(true));
+    let ready = is_ready(alloc, core, health);
+    let after = selects(alloc, core, health, None);
+    assert_same(rt, &(set, checked), &(Ok(()), Ok(())), &"checked");
+    assert_same(
+        rt,
+        &(before, ready, after),
+        &(Ok(true), Ok(false), Ok(true)),
+        &"selected",
+    );
 }
 
 // Serves from a new core over that registry.

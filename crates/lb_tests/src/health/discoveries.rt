@@ -1,4 +1,5 @@
 //! Discoveries of texts: a set that stays, and texts that are refused.
+use crate::asserted::assert_same;
 use lb_health_view::discovery::Static;
 use lb_select_base::backend::Backend;
 use lb_select_base::refusal::Refusal;
@@ -17,21 +18,23 @@ fn counted(alloc: Global, found: &Static) -> Result<(usize, bool), Refusal> {
     Ok((set.len(), set.contains(&backend)))
 }
 
-// Of several refusals the least number is answered, whatever the order of the texts.
+// Texts, and what is found of them. Of several refusals the least number is answered, whatever the order of the texts.
+const TEXTS: [(&[&str], Result<(usize, bool), Refusal>); 4] = [
+    (&["1.1.1.1:80", "1.0.0.1:80"], Ok((2, true))),
+    (&["[fe80::1%3]:80"], Err(Refusal::InvalidAddress)),
+    (&["1.1.1.1"], Err(Refusal::Discovery)),
+    (
+        &["1.1.1.1", "[fe80::1%3]:80", "1.0.0.1:80"],
+        Err(Refusal::InvalidAddress),
+    ),
+];
+
 #[test]
 fn discoveries_of_texts(rt: HostRuntime) {
     let alloc = rt.alloc();
-    assert_eq!(rt; counted(alloc, &Static::default(alloc)), Ok((0, false)));
-    let rows: [(&[&str], Result<(usize, bool), Refusal>); 4] = [
-        (&["1.1.1.1:80", "1.0.0.1:80"], Ok((2, true))),
-        (&["[fe80::1%3]:80"], Err(Refusal::InvalidAddress)),
-        (&["1.1.1.1"], Err(Refusal::Discovery)),
-        (
-            &["1.1.1.1", "[fe80::1%3]:80", "1.0.0.1:80"],
-            Err(Refusal::InvalidAddress),
-        ),
-    ];
-    for (texts, wanted) in rows {
-        assert_eq!(rt; found(alloc, &rt, texts), wanted);
+    let none = counted(alloc, &Static::default(alloc));
+    assert_same(&rt, &none, &Ok((0, false)), &"the default");
+    for (texts, wanted) in &TEXTS {
+        assert_same(&rt, &found(alloc, &rt, texts), wanted, texts);
     }
 }

@@ -1,5 +1,6 @@
 //! Backends with a check: a discovery that answers a fault, what a pass asks and tells the check, and what it writes to the log.
 //! No contract sees these. The backends are lent to one row after another.
+use crate::asserted::{assert_row, assert_same};
 use crate::selection::fixtures::set_of;
 use lb_health_check::error::CheckError;
 use lb_health_check::health_check::{HealthCheck, identity_summary};
@@ -132,10 +133,11 @@ fn updated(alloc: Global, backends: &mut Counted) -> (Result<Option<usize>, Refu
 // An update by a discovery that answers a fault is refused, and changes nothing; the next one is not.
 fn fault_is_told(alloc: Global, backends: &mut Counted, counts: &Counts, rt: &impl Abort) {
     let refused = updated(alloc, backends);
-    assert_eq!(rt; refused, (Err(Refusal::Discovery), 0));
-    assert_eq!(rt; count_members(backends), Ok(0));
+    let members = count_members(backends);
     counts.lost.set(false);
-    assert_eq!(rt; updated(alloc, backends), (Ok(Some(2)), 1));
+    let then = updated(alloc, backends);
+    let wanted = ((Err(Refusal::Discovery), 0), Ok(0), (Ok(Some(2)), 1));
+    assert_same(rt, &(refused, members, then), &wanted, &"a fault is told");
 }
 
 // Whether 1.0.0.1:80/1 is ready.
@@ -143,8 +145,14 @@ fn ready(alloc: Global, backends: &Counted) -> Result<bool, Refusal> {
     Ok(backends.ready(&Backend::new(alloc, "1.0.0.1:80")?))
 }
 
-// The first pass finds the backend down for the first time, the second flips it, the third finds it up and flips it back; each pass
-// checks each target once.
+// Whether a pass finds the backend down; how often the check was asked and told then, and whether the backend is ready. The first pass
+// finds it down for the first time, the second flips it, the third finds it up and flips it back; each pass checks each target once.
+const PASSES: [(bool, u64, u64, bool); 3] = [
+    (true, 2, 0, true),
+    (true, 4, 1, false),
+    (false, 6, 2, true),
+];
+
 fn passes<R: Abort, L: Log>(
     alloc: Global,
     backends: &mut Counted,
@@ -152,22 +160,20 @@ fn passes<R: Abort, L: Log>(
     rt: &R,
     log: &L,
 ) {
-    for (down, asked, told, healthy) in [
-        (true, 2, 0, true),
-        (true, 4, 1, false),
-        (false, 6, 2, true),
-    ] {
-        counts.down.set(down);
+    for (down, asked, told, healthy) in &PASSES {
+        counts.down.set(*down);
         let passed = backends.run_health_check(log, alloc);
-        assert_eq!(rt; (passed, ready(alloc, backends)), (Ok(()), Ok(healthy)));
-        assert_eq!(rt; (counts.asked.get(), counts.told.get()), (asked, told));
+        let counted = (counts.asked.get(), counts.told.get());
+        let found = (passed, ready(alloc, backends), counted);
+        let wanted = (Ok(()), Ok(*healthy), (*asked, *told));
+        assert_same(rt, &found, &wanted, asked);
     }
 }
 
 fn lines_are(lines: &[String], wanted: &[&str], rt: &impl Abort) {
-    assert_eq!(rt; lines.len(), wanted.len());
+    assert!(rt; lines.len() == wanted.len());
     for (line, text) in lines.iter().zip(wanted) {
-        assert_eq!(rt; line.as_str(), *text);
+        assert_row(rt, line.as_str() == *text, line);
     }
 }
 
@@ -210,7 +216,8 @@ fn plays<R: Abort + Log>(
     rt: &R,
 ) {
     fault_is_told(alloc, backends, counts, rt);
-    assert_eq!(rt; check_is_set(backends, counts, silent), Ok(()));
+    let set = check_is_set(backends, counts, silent);
+    assert_same(rt, &set, &Ok(()), &"a check is set");
     passes_are_logged(alloc, backends, counts, lines, rt);
 }
 
@@ -229,8 +236,9 @@ fn played<R: Abort + Log>(
 
 #[test]
 fn passes_of_checks(rt: HostRuntime) {
-    assert_eq!(rt; played(rt.alloc(), false, &LINES, &rt), Ok(()));
-    assert_eq!(rt; played(rt.alloc(), true, &[], &rt), Ok(()));
+    let named = played(rt.alloc(), false, &LINES, &rt);
+    let silent = played(rt.alloc(), true, &[], &rt);
+    assert_same(&rt, &(named, silent), &(Ok(()), Ok(())), &"played");
 }
 
 // How many targets there are, and how many are listed.
@@ -248,10 +256,11 @@ fn check_is_set_once(
 ) -> Result<(), Refusal> {
     let first = health.set_health_check(new_check(counts, false)?);
     let second = health.set_health_check(new_check(counts, true)?);
-    assert_eq!(rt; (first, second), (Ok(()), Err(Refusal::HealthCheckSet)));
     let passed = health.run_health_check(rt, alloc);
-    assert_eq!(rt; (passed, counts.asked.get()), (Ok(()), 0));
-    assert_eq!(rt; targets(alloc, health), Ok((0, 0)));
+    let found = (first, second, passed, counts.asked.get());
+    let wanted = (Ok(()), Err(Refusal::HealthCheckSet), Ok(()), 0);
+    assert_same(rt, &found, &wanted, &"a check is set once");
+    assert_same(rt, &targets(alloc, health), &Ok((0, 0)), &"targets");
     Ok(())
 }
 

@@ -1,4 +1,5 @@
 //! Health of a cell, and rows of a registry's calls. A row has a registry of its own, which is lent to its calls.
+use crate::asserted::assert_same;
 use crate::selection::fixtures::set_of;
 use crate::told::{Answer, DONE, Members, NO, Told, YES};
 use lb_health_registry::health::Health;
@@ -279,7 +280,7 @@ const ROWS: [Row; 8] = [
 
 fn plays(alloc: Global, registry: &mut RegistryCore, calls: Calls, name: &str, rt: &impl Abort) {
     for (call, wanted) in calls {
-        assert_eq!(rt; answer(alloc, registry, *call), *wanted, "{name}");
+        assert_same(rt, &answer(alloc, registry, *call), wanted, &name);
     }
 }
 
@@ -305,22 +306,30 @@ fn rows_of_registries(rt: HostRuntime) {
     }
 }
 
-// Failures count from two in a row on, successes at once; a threshold of zero acts as one.
+// A verdict and its threshold; whether it flips the cell, and whether that is ready then. Failures count from two in a row on,
+// successes at once.
+const VERDICTS: [(bool, usize, bool, bool); 5] = [
+    (false, 2, false, true),
+    (true, 1, false, true),
+    (false, 2, false, true),
+    (false, 2, true, false),
+    (true, 1, true, true),
+];
+
 #[test]
 fn health_flips_at_its_thresholds(rt: HostRuntime) {
     let mut health = Health::default();
-    for (verdict, threshold, flipped, healthy) in [
-        (false, 2, false, true),
-        (true, 1, false, true),
-        (false, 2, false, true),
-        (false, 2, true, false),
-        (true, 1, true, true),
-    ] {
-        let told = health.observe_health(verdict, threshold);
-        assert_eq!(rt; (told, health.ready()), (flipped, healthy));
+    for (at, (verdict, threshold, flipped, healthy)) in VERDICTS.iter().enumerate() {
+        let told = health.observe_health(*verdict, *threshold);
+        assert_same(&rt, &(told, health.ready()), &(*flipped, *healthy), &at);
     }
+}
+
+// A threshold of zero acts as one.
+#[test]
+fn unhealthy_cells_flip_at_once(rt: HostRuntime) {
     let mut unhealthy = Health::starting(false);
     let before = unhealthy.ready();
     let flipped = unhealthy.observe_health(true, 0);
-    assert_eq!(rt; (before, flipped, unhealthy.ready()), (false, true, true));
+    assert!(rt; !before && flipped && unhealthy.ready());
 }

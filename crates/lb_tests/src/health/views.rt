@@ -1,4 +1,5 @@
 //! Rows of views, flags and readiness. A row has a registry of its own with two views, which are lent to its calls.
+use crate::asserted::assert_same;
 use crate::health::registries::{Call as RegistryCall, answer};
 use crate::selection::fixtures::set_of;
 use crate::told::{Answer, DONE, Members, NO, Told, YES};
@@ -278,7 +279,7 @@ const ROWS: [Row; 6] = [
 impl Viewed {
     fn plays(&mut self, alloc: Global, calls: Calls, name: &str, rt: &impl Abort) {
         for (call, wanted) in calls {
-            assert_eq!(rt; self.answer(alloc, *call), *wanted, "{name}");
+            assert_same(rt, &self.answer(alloc, *call), wanted, &name);
         }
     }
 

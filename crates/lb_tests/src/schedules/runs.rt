@@ -1,4 +1,5 @@
 //! The worked rows of the runs: each event with its moment, and the action that it answers.
+use crate::asserted::assert_same;
 use lb_background::balancer_run::LoadBalancerRun;
 use lb_background::event::{Action, Event};
 use lb_background::group_run::GroupRun;
@@ -28,10 +29,11 @@ impl Run {
     }
 }
 
-fn plays(rt: &impl Abort, run: Run, steps: &[Answered]) {
-    let mut run = run;
+fn plays(rt: &impl Abort, made: Made, steps: &[Answered]) {
+    let mut run = made.run();
     for (now, number, event, wanted) in steps {
-        assert_eq!(rt; run.step(*now, *number, *event), *wanted);
+        let action = run.step(*now, *number, *event);
+        assert_same(rt, &action, wanted, &(made, *now));
     }
 }
 
@@ -92,36 +94,43 @@ const WAITS: [Answered; 6] = [
     (11, 0, Event::ViewRemoved, Action::WaitTargets),
 ];
 
+// How a run is made.
+#[derive(Clone, Copy, Debug)]
+enum Made {
+    /// With this frequency of updates; whether it owns checks, and whether it has a notifier.
+    Balancer(Option<u128>, bool, bool),
+    /// Without frequencies, with checks and a notifier.
+    Group,
+    /// With this frequency of checks; whether it has a check, and whether it has a notifier.
+    Service(Option<u128>, bool, bool),
+}
+
+impl Made {
+    fn run(self) -> Run {
+        match self {
+            Made::Balancer(updates, owns_checks, has_notifier) => {
+                Run::Balancer(LoadBalancerRun::new(updates, None, owns_checks, has_notifier))
+            }
+            Made::Group => Run::Group(GroupRun::new(None, None, true, true)),
+            Made::Service(checks, has_check, has_notifier) => {
+                Run::Service(ServiceRun::new(checks, has_check, has_notifier))
+            }
+        }
+    }
+}
+
+const RUNS: [(Made, &[Answered]); 6] = [
+    (Made::Balancer(None, true, true), &ONCE),
+    (Made::Balancer(Some(10), true, true), &AGAIN),
+    (Made::Balancer(Some(10), false, false), &SHUTDOWN),
+    (Made::Group, &GROUP),
+    (Made::Service(None, false, true), &HOLDS),
+    (Made::Service(Some(5), true, true), &WAITS),
+];
+
 #[test]
 fn runs(rt: HostRuntime) {
-    plays(
-        &rt,
-        Run::Balancer(LoadBalancerRun::new(None, None, true, true)),
-        &ONCE,
-    );
-    plays(
-        &rt,
-        Run::Balancer(LoadBalancerRun::new(Some(10), None, true, true)),
-        &AGAIN,
-    );
-    plays(
-        &rt,
-        Run::Balancer(LoadBalancerRun::new(Some(10), None, false, false)),
-        &SHUTDOWN,
-    );
-    plays(
-        &rt,
-        Run::Group(GroupRun::new(None, None, true, true)),
-        &GROUP,
-    );
-    plays(
-        &rt,
-        Run::Service(ServiceRun::new(None, false, true)),
-        &HOLDS,
-    );
-    plays(
-        &rt,
-        Run::Service(ServiceRun::new(Some(5), true, true)),
-        &WAITS,
-    );
+    for (made, steps) in &RUNS {
+        plays(&rt, *made, steps);
+    }
 }

@@ -1,5 +1,6 @@
 //! What no clause sees, since it leaves no trace: which loads a walk reads, and of which candidates a selection asks.
 //! Each is noted by the backend's weight, as one more digit of a number.
+use crate::asserted::assert_same;
 use crate::selection::fixtures::{selector_of, set_of_weights, words_from, words_with};
 use lb_select::least::LeastConnections;
 use lb_select::selection::RoundRobin;
@@ -96,9 +97,9 @@ fn reads(alloc: Global, weights: &[usize], loads: &[u64]) -> Result<(u64, u64, u
 
 #[test]
 fn each_load_is_read_once_as_a_walk_begins(rt: HostRuntime) {
-    for (weights, loads, wanted) in READS {
+    for (weights, loads, wanted) in &READS {
         let found = reads(rt.alloc(), weights, loads);
-        assert_eq!(rt; found, Ok((wanted, wanted, wanted)), "{wanted}");
+        assert_same(&rt, &found, &Ok((*wanted, *wanted, *wanted)), loads);
     }
 }
 
@@ -154,7 +155,7 @@ fn each_candidate_is_asked_about_once(rt: HostRuntime) -> Result<(), Fail> {
     let selector = three_weights(rt.alloc())?;
     for (ticket, limit, accepted, wanted) in &ASKS {
         let found = asked(rt.alloc(), &selector, *ticket, *limit, accepted);
-        assert_eq!(rt; found, Ok(*wanted), "{ticket} {limit} {wanted}");
+        assert_same(&rt, &found, &Ok(*wanted), &(*ticket, *limit));
     }
     Ok(())
 }

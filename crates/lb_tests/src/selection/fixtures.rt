@@ -147,7 +147,7 @@ pub(crate) fn is_text(found: &Result<String, Refusal>, wanted: &str) -> bool {
 }
 
 /// A kind of selector.
-#[derive(Clone, Copy)]
+#[derive(Clone, Copy, Debug)]
 pub(crate) enum Kind {
     Hash,
     Turns,

@@ -10,7 +10,6 @@ use std::alloc::Global;
 use std::fmt::Debug;
 use std::net::Net;
 use std::sync::Arc;
-use std::test::Fail;
 
 // What `{:?}` writes of a value.
 fn printed<T: Debug>(alloc: Global, value: &T) -> Result<String, Refusal> {
@@ -25,7 +24,7 @@ fn printed_configurations(alloc: Global, config: &KetamaConfig) -> Result<String
 }
 
 #[test]
-fn debug_texts(rt: HostRuntime) -> Result<(), Fail> {
+fn debug_texts(rt: HostRuntime) {
     let alloc = rt.alloc();
     let config = KetamaConfig::default();
     let text = "KetamaConfig { point_multiple: None }";
@@ -36,35 +35,56 @@ fn debug_texts(rt: HostRuntime) -> Result<(), Fail> {
     let text =
         "KetamaConfig { point_multiple: Some(4) }, KetamaConfig { point_multiple: Some(4) }, KetamaConfig { point_multiple: Some(4) }";
     assert!(rt; is_text(&printed_configurations(alloc, &config), text));
-    let backend = Backend::new_with_weight(alloc, "1.0.0.1:80", 3)?;
+}
+
+// What `{:?}` writes of a backend that was made.
+fn printed_backend(alloc: Global, made: Result<Backend, Refusal>) -> Result<String, Refusal> {
+    printed(alloc, &made?)
+}
+
+#[test]
+fn debug_texts_of_backends(rt: HostRuntime) {
+    let alloc = rt.alloc();
+    let found = printed_backend(alloc, Backend::new_with_weight(alloc, "1.0.0.1:80", 3));
     let text = "Backend { addr: Inet(V4([1, 0, 0, 1], 80)), weight: 3, ext: {} }";
-    assert!(rt; is_text(&printed(alloc, &backend), text));
-    let backend = Backend::unix(alloc, "/a\tb", 0)?;
+    assert!(rt; is_text(&found, text));
+    let found = printed_backend(alloc, Backend::unix(alloc, "/a\tb", 0));
     let text = "Backend { addr: Unix(\"/a\\tb\"), weight: 0, ext: {} }";
-    assert!(rt; is_text(&printed(alloc, &backend), text));
-    Ok(())
+    assert!(rt; is_text(&found, text));
 }
 
 // The socket addresses of a backend, with a space after each.
-fn socket_addresses<N: Net>(alloc: Global, net: &N, backend: &Backend) -> Result<String, Refusal> {
+fn socket_addresses<N: Net>(
+    alloc: Global,
+    net: &N,
+    made: Result<Backend, Refusal>,
+) -> Result<String, Refusal> {
+    let backend = made?;
     let mut text = String::new(alloc);
+    push_addresses(alloc, net, &mut text, &backend)?;
+    Ok(text)
+}
+
+fn push_addresses<N: Net>(
+    alloc: Global,
+    net: &N,
+    text: &mut String,
+    backend: &Backend,
+) -> Result<(), Refusal> {
     for addr in backend.to_socket_addrs(net)? {
         let name = format!(in alloc; "{addr} ")?;
         text.push_str(name.as_str())?;
     }
-    Ok(text)
+    Ok(())
 }
 
 #[test]
-fn backends_to_connect_to(rt: HostRuntime) -> Result<(), Fail> {
+fn backends_to_connect_to(rt: HostRuntime) {
     let alloc = rt.alloc();
-    let backend = Backend::new(alloc, "[2001:db8::1]:443")?;
-    let found = socket_addresses(alloc, &rt, &backend);
+    let found = socket_addresses(alloc, &rt, Backend::new(alloc, "[2001:db8::1]:443"));
     assert!(rt; is_text(&found, "[2001:db8::1]:443 "));
-    let backend = Backend::unix(alloc, "/a", 1)?;
-    let found = socket_addresses(alloc, &rt, &backend);
-    assert_eq!(rt; found.err(), Some(Refusal::InvalidAddress));
-    Ok(())
+    let found = socket_addresses(alloc, &rt, Backend::unix(alloc, "/a", 1));
+    assert!(rt; found.err() == Some(Refusal::InvalidAddress));
 }
 
 const B1: (&str, usize) = ("1.1.1.1:80", 1);

@@ -1,4 +1,5 @@
 //! The check value of the CRC, and the owners of places of a ring.
+use crate::asserted::assert_row;
 use crate::selection::fixtures::is_text;
 use lb_select::crc::crc32;
 use lb_select::ring::Ring;
@@ -31,22 +32,22 @@ fn owner(alloc: Global, points: &[(u32, &str)], place: u32, j: u64) -> Result<St
 
 const POINTS: [(u32, &str); 3] = [(5, "1.0.0.2:80"), (5, "1.0.0.1:80"), (9, "1.0.0.2:80")];
 
+// The points of a ring, a place, how many points further, and the owner of that point.
+const OWNERS: [(&[(u32, &str)], u32, u64, &str); 7] = [
+    (&POINTS, 5, 0, "1.0.0.1:80"),
+    (&POINTS, 6, 0, "1.0.0.2:80"),
+    (&POINTS, 6, 1, "1.0.0.1:80"),
+    (&POINTS, 6, 2, "1.0.0.2:80"),
+    (&POINTS, 10, 0, "1.0.0.1:80"),
+    (&POINTS, u32::MAX, 1, "1.0.0.2:80"),
+    (&[], 1, 1, ""),
+];
+
 #[test]
 fn owners(rt: HostRuntime) {
-    let alloc = rt.alloc();
-    assert_eq!(rt; crc32(b"123456789"), 0xcbf43926);
-    for (place, j, wanted) in [
-        (5, 0, "1.0.0.1:80"),
-        (6, 0, "1.0.0.2:80"),
-        (6, 1, "1.0.0.1:80"),
-        (6, 2, "1.0.0.2:80"),
-        (10, 0, "1.0.0.1:80"),
-        (u32::MAX, 1, "1.0.0.2:80"),
-    ] {
-        assert!(rt;
-            is_text(&owner(alloc, &POINTS, place, j), wanted),
-            "{place} {j}"
-        );
+    assert!(rt; crc32(b"123456789") == 0xcbf43926);
+    for (points, place, j, wanted) in &OWNERS {
+        let found = owner(rt.alloc(), points, *place, *j);
+        assert_row(&rt, is_text(&found, wanted), &(*place, *j));
     }
-    assert!(rt; is_text(&owner(alloc, &[], 1, 1), ""));
 }

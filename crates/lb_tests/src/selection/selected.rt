@@ -1,4 +1,5 @@
 //! Selections at worked values: what is selected within a limit of what is accepted, and how many tickets that takes.
+use crate::asserted::assert_same;
 use crate::selection::fixtures::{Kind, selected, set_of_weights, words_with};
 use lb_select_base::refusal::Refusal;
 use std::alloc::Global;
@@ -163,7 +164,6 @@ fn answer(alloc: Global, row: &Row) -> Result<(Option<usize>, u64), Refusal> {
 #[test]
 fn selections(rt: HostRuntime) {
     for row in &ROWS {
-        let name = row.name;
-        assert_eq!(rt; answer(rt.alloc(), row), Ok(row.wanted), "{name}");
+        assert_same(&rt, &answer(rt.alloc(), row), &Ok(row.wanted), &row.name);
     }
 }

@@ -1,5 +1,6 @@
 //! The unique walk over candidates with repeats: a repeat is a step too, and the candidate past the limit is drawn, not given.
 //! The lists are given, so the answers are counted out by hand.
+use crate::asserted::assert_row;
 use crate::selection::fixtures::{is_text, push_address, selector_of, set_of, words_from};
 use crate::selection::list_iterator::ListIterator;
 use lb_select::selection::RoundRobin;
@@ -85,9 +86,9 @@ fn repeated_turns(alloc: Global) -> Result<String, Refusal> {
 #[test]
 fn unique_walks(rt: HostRuntime) {
     let alloc = rt.alloc();
-    for (addresses, limit, count, wanted) in LISTS {
-        let text = list_turns(alloc, addresses, limit, count);
-        assert!(rt; is_text(&text, wanted), "{wanted}");
+    for (addresses, limit, count, wanted) in &LISTS {
+        let text = list_turns(alloc, addresses, *limit, *count);
+        assert_row(&rt, is_text(&text, wanted), wanted);
     }
     assert!(rt; is_text(&repeated_turns(alloc), "1.0.0.1:80 1.0.0.2:80 - "));
 }

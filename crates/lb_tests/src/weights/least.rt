@@ -1,4 +1,5 @@
 //! Least connections at worked values: the load for each unit of weight decides, and then the identity.
+use crate::asserted::assert_row;
 use crate::selection::fixtures::{
     is_text, numbered, push_walk, selector_of, set_of_weights, walked, words_with,
 };
@@ -50,9 +51,9 @@ const ORDERS: [(&[usize], &[u64], &str); 13] = [
 
 #[test]
 fn orders(rt: HostRuntime) {
-    for (weights, loads, wanted) in ORDERS {
+    for (weights, loads, wanted) in &ORDERS {
         let text = order(rt.alloc(), weights, loads);
-        assert!(rt; is_text(&text, wanted), "{wanted}");
+        assert_row(&rt, is_text(&text, wanted), wanted);
     }
 }
 

@@ -1,4 +1,5 @@
 //! The search of partial sums and the expanded list over random sets: they agree at every place. And the search at worked places.
+use crate::asserted::assert_row;
 use crate::selection::fixtures::{set_of, set_of_weights};
 use crate::weights::expanded::ExpandedList;
 use lb_select::selection::{FNVHash, RoundRobin};
@@ -57,16 +58,20 @@ fn round(alloc: Global, rt: &impl Abort, generator: &mut Pcg64) -> Result<u64, R
 }
 
 fn agree(rt: &impl Abort, selector: &FNVHash, list: &ExpandedList, digits: u32) {
-    assert_eq!(rt; selector.total(), list.total());
-    for place in 0..selector.total() {
-        let (index, few) = match searched(selector, place) {
-            Some(found) => (Some(found.index), found.probes <= digits),
-            None => (None, false),
-        };
-        assert!(rt; few);
-        assert_eq!(rt; index, listed(list, place));
+    let total = selector.total();
+    assert!(rt; total == list.total());
+    for place in 0..=total {
+        assert_row(rt, agree_at(selector, list, digits, place), &place);
     }
-    assert_eq!(rt; searched(selector, selector.total()), None);
+}
+
+// The search finds at a place what the list has there, by few probes; past the last one neither has any.
+fn agree_at(selector: &FNVHash, list: &ExpandedList, digits: u32, place: u64) -> bool {
+    match (searched(selector, place), listed(list, place)) {
+        (Some(found), Some(index)) => found.index == index && found.probes <= digits,
+        (None, None) => place == selector.total(),
+        _ => false,
+    }
 }
 
 #[test]
@@ -93,10 +98,20 @@ fn places_of_partial_sums(rt: HostRuntime) -> Result<(), Fail> {
     Ok(())
 }
 
+// A place, and the backend there.
+const PLACES: [(u64, Option<usize>); 4] = [(0, Some(0)), (1, Some(2)), (5, Some(2)), (6, None)];
+
 fn holds_places(rt: &impl Abort, selector: &RoundRobin) {
-    for (place, wanted) in [(0, Some(0)), (1, Some(2)), (5, Some(2)), (6, None)] {
-        let found = searched(selector, place);
-        let few = found.is_none_or(|found| found.probes <= 2);
-        assert_eq!(rt; (found.map(|found| found.index), few), (wanted, true));
+    for (place, wanted) in &PLACES {
+        assert_row(rt, is_found(searched(selector, *place), *wanted), place);
+    }
+}
+
+// Whether that was found, by two probes at most.
+fn is_found(found: Option<Located>, wanted: Option<usize>) -> bool {
+    match (found, wanted) {
+        (Some(found), Some(index)) => found.index == index && found.probes <= 2,
+        (None, None) => true,
+        _ => false,
     }
 }

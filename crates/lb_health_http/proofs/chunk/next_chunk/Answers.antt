@@ -2,7 +2,8 @@ use Rattle.std.proofs.Common.{◌≡◌, ℕ, ◌<◌, ◌≤◌, List, ◌++◌
 use Rattle.lb_health_check.specs.declared.error.CheckError.TheVariants.{BadFraming, BodyTooLarge}
 use Rattle.lb_health_http.specs.declared.framing.Framing.TheVariants.{Chunked}
 use Rattle.lb_health_http.specs.Body.{BodyOutcome}
-use Rattle.lb_health_http.specs.Steps.{LineFault, IsNoChunkLine, IsChunkLineOf, HasContent, ContentOutcome, StepOutcome}
+use Rattle.lb_health_http.specs.Chunked.{IsNoChunkLine}
+use Rattle.lb_health_http.specs.Steps.{LineFault, IsChunkLineOf, HasContent, ContentOutcome, StepOutcome}
 use Rattle.lb_health_http.proofs.ChunkLemmas.{line_fault, no_chunk_line, chunk_too_large, content_fault, passes_chunk, step_last, step_passes}
 use Rattle.lb_health_http.proofs.Streams.{OnBytes-then, OnBytes-map}
 use Rattle.lb_health_http.proofs.chunk.next_chunk.Goals as goal
@@ -18,9 +19,11 @@ pub returns-in-None-clause-outcome : goal.returns-in-None-clause-outcome
 returns-in-None-clause-outcome g c =
     let line = c.in-Ok.line.items in
     let nothing : IsNoChunkLine line = subst IsNoChunkLine c.deref.ensures.value c.in-None.ensures in
+    let short : length line ≤ 4096 = let most = c.in-Ok.ensures.line.1 in let len = c.in-Ok.line.ok in omega arith in
     let P : List ℕ → List ℕ → Type 0 = λ s t. s ≡ line ++ t in
     let S : List ℕ → List ℕ → Type 0 = BodyOutcome c.args.room Chunked (Err BadFraming) in
-    OnBytes-map P S _ _ c.in-Ok.ensures.outcome (λ x y e. no_chunk_line c.args.room line x y c.in-Ok.ensures.line.0 nothing e)
+    OnBytes-map P S _ _ c.in-Ok.ensures.outcome
+    (λ x y e. no_chunk_line c.args.room line x y c.in-Ok.ensures.line.0 short nothing e)
 
 pub returns-then-size-room-clause-outcome : goal.returns-then-size-room-clause-outcome
 returns-then-size-room-clause-outcome g c =
@@ -68,9 +71,11 @@ returns-clause-outcome g c =
     let f = c.in-Err-read_content.fault in
     let P' : List ℕ → Type 0 = λ l. IsChunkLineOf l k in
     let is : IsChunkLineOf line k = subst P' c.deref.ensures.value c.in-Some.ensures in
+    let short : length line ≤ 4096 = let most = c.in-Ok.ensures.line.1 in let len = c.in-Ok.line.ok in omega arith in
     let some : 0 < k = let other = c.if-size-eq0.false in omega arith in
+    let fits : k ≤ c.args.room = let other = c.if-size-room.false in omega arith in
     let P : List ℕ → List ℕ → Type 0 = λ s t. s ≡ line ++ t in
     let Q : List ℕ → List ℕ → Type 0 = ContentOutcome k (Err f) in
     let S : List ℕ → List ℕ → Type 0 = BodyOutcome c.args.room Chunked (Err f) in
     OnBytes-then P Q S _ _ _ c.in-Ok.ensures.outcome c.in-Err-read_content.ensures.outcome
-    (λ x y z e o. content_fault c.args.room k line x y z f some c.in-Ok.ensures.line.0 is e o)
+    (λ x y z e o. content_fault c.args.room k line x y z f some fits c.in-Ok.ensures.line.0 short is e o)

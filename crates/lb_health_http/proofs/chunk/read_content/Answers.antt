@@ -1,9 +1,16 @@
 use Rattle.std.proofs.Common.{◌≡◌, ℕ, List, ◌∷◌, Err}
 use Rattle.lb_stream.specs.Stream.{Takes}
-use Rattle.lb_health_http.specs.Steps.{ExpectOutcome, ContentOutcome}
-use Rattle.lb_health_http.proofs.BodyLemmas.{content_cr_fault, content_second}
-use Rattle.lb_health_http.proofs.Streams.{OnBytes-then}
+use Rattle.lb_health_http.specs.Steps.{SkipOutcome, ExpectOutcome, ContentOutcome}
+use Rattle.lb_health_http.proofs.BodyLemmas.{content_cut, content_cr_fault, content_second}
+use Rattle.lb_health_http.proofs.Streams.{OnBytes-then, OnBytes-map}
 use Rattle.lb_health_http.proofs.chunk.read_content.Goals as goal
+
+pub returns-in-Err-clause-outcome : goal.returns-in-Err-clause-outcome
+returns-in-Err-clause-outcome g c =
+    let e = c.in-Err.fault in
+    let P : List ℕ → List ℕ → Type 0 = SkipOutcome c.args.size (Err e) in
+    let S : List ℕ → List ℕ → Type 0 = ContentOutcome c.args.size (Err e) in
+    OnBytes-map P S _ _ c.in-Err.ensures.outcome (λ x y o. content_cut c.args.size x y e o)
 
 pub returns-in-Err-expect-clause-outcome : goal.returns-in-Err-expect-clause-outcome
 returns-in-Err-expect-clause-outcome g c =

@@ -1,7 +1,7 @@
 use Rattle.std.proofs.Common.{◌≡◌, ◌++◌, length}
 use Rattle.lb_stream.specs.Counted.{inner_of, has_failed}
 use Rattle.lb_stream.specs.Stream.{OnBytes}
-use Rattle.lb_health_http.specs.Steps.{NoFeed}
+use Rattle.lb_health_http.specs.Chunked.{NoFeed}
 use Rattle.lb_health_http.proofs.line.read_line.Given as goal
 
 abbrev pub invariant-loop : goal.invariant-loop

@@ -1,7 +1,8 @@
-use Rattle.std.proofs.Common.{◌≡◌, ◌≢◌, ℕ, ◌-◌, ◌≤◌, List, ◌++◌, Err, length, subst, sym, arith, rules}
+use Rattle.std.proofs.Common.{◌≡◌, ◌≢◌, ℕ, ◌-◌, ◌≤◌, max, List, ◌++◌, Err, length, subst, sym, arith, rules}
 use Rattle.httparse.specs.Ascii.{crlf_bytes}
 use Rattle.lb_health_check.specs.declared.error.CheckError.TheVariants.{BadFraming}
-use Rattle.lb_health_http.specs.Steps.{LineFault, IsTrailerLine, TrailersOutcome}
+use Rattle.lb_health_http.specs.Chunked.{IsTrailerLine}
+use Rattle.lb_health_http.specs.Steps.{LineFault, TrailersOutcome}
 use Rattle.lb_health_http.proofs.TrailerLemmas.{PassesTrailers, trailers_more, trailer_fits, bad_trailer, trailer_fault}
 use Rattle.lb_health_http.proofs.Streams.{OnBytes-then}
 use Rattle.lb_health_http.proofs.trailers.read_trailers.Goals as goal
@@ -24,11 +25,13 @@ returns-then-not-is_trailer-clause-outcome g c =
     let some : line ≢ crlf_bytes = subst Differs c.deref.ensures.value c.if-is_end.ensures in
     let IsOther : List ℕ → Type 0 = λ l. ¬ (IsTrailerLine l) in
     let nothing : ¬ (IsTrailerLine line) = subst IsOther c.deref-in-loop-line.ensures.value c.if-not-is_trailer.ensures in
+    let most : length line ≤ c.max.result = let len = c.in-Ok.line.ok in let short = c.in-Ok.ensures.line.1 in omega arith in
+    let fits : length line ≤ max room 2 = subst (λ (n : ℕ). length line ≤ n) c.max.ensures most in
     let P : List ℕ → List ℕ → Type 0 = PassesTrailers room in
     let Q : List ℕ → List ℕ → Type 0 = λ s t. s ≡ line ++ t in
     let S : List ℕ → List ℕ → Type 0 = TrailersOutcome (Err BadFraming) in
     OnBytes-then P Q S _ _ _ c.loop-line.invariant.read c.in-Ok.ensures.outcome
-    (λ x y z p e. bad_trailer room line x y z c.in-Ok.ensures.line.0 some nothing p e)
+    (λ x y z p e. bad_trailer room line x y z c.in-Ok.ensures.line.0 fits some nothing p e)
 
 pub loop-line-preserved : goal.loop-line-preserved
 loop-line-preserved g c =

@@ -3,15 +3,13 @@ use lb_health_check::health_check::BoxedCheck;
 use lb_health_http::TcpHealthCheck;
 use lb_health_registry::keys::{ByNumber, Rule};
 use lb_health_view::registry::HealthRegistry;
+use std::test::Fail;
 
 #[test]
-fn takes_a_boxed_check(rt: HostRuntime) {
+fn takes_a_boxed_check(rt: HostRuntime) -> Result<(), Fail> {
     let alloc = rt.alloc();
-    let Ok(check) = Box::new(alloc, TcpHealthCheck::new(rt)) else {
-        return;
-    };
-    let boxed: BoxedCheck = check;
+    let boxed: BoxedCheck = Box::new(alloc, TcpHealthCheck::new(rt))?;
     let mut registry: HealthRegistry<Rule<ByNumber>, BoxedCheck> = HealthRegistry::new(alloc);
-    let set = registry.set_health_check(boxed);
-    assert_eq!(rt; set.is_ok(), true);
+    registry.set_health_check(boxed)?;
+    Ok(())
 }
