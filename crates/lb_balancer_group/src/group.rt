@@ -1,6 +1,6 @@
 //! `LoadBalancerGroup`: a group of slots as its users own it. Updates, selections and readings need a borrow only; workers build
 //! meanwhile. Its drop takes no lock: its workers cancel it, and the registry's next call removes its view.
-ghost use Rattle.std.specs.Prelude.{◌≡◌, ◌+◌, [], None, false, map, length, IfErr, IfOk, MatchBool, OnErr};
+ghost use Rattle.std.specs.Prelude.{◌≡◌, ◌+◌, [], None, false, map, length, IfErr, IfOk, MatchBool, OnErr, OnOk};
 ghost use Rattle.std.specs.Arc.{arc_value};
 ghost use Rattle.lb_select_base.specs.Refusals.{least};
 ghost use Rattle.lb_rebuild_slots.specs.SlotsCalls.{at_slot};
@@ -17,7 +17,7 @@ ghost use Rattle.lb_balancer_group.specs.Made.{IsNewGroup, slot_configs};
 use crate::configured::{Configured, SlotConfig};
 use crate::making::{configs_of, first_cause, opened, own_gate, update_noting};
 use crate::noting::Noting;
-use lb_balancer::backends::Backends;
+use lb_threads_registry::backends::Backends;
 use lb_balancer_core::timings::{SelectorUpdateTimings, UpdateTimings};
 use lb_health_check::health_check::{BoxedCheck, HealthCheck};
 use lb_health_registry::keys::{KeyRule, Rule};
@@ -143,39 +143,41 @@ impl<
         })
     }
 
-    /// Returns the group with this gate for its rebuilds, which other groups may share. It is for a group at generation 0 that no thread
-    /// uses yet: the group is made again from its parts, with a new view of the registry, without loads and without workers, and the one
-    /// of before is let go as by its drop.
+    /// Gives the group this gate for its rebuilds, which other groups may share. It is for a group at generation 0 that no thread uses yet.
+    ///
+    /// The group is made again from its parts, with a new view of the registry, without loads and without workers; what was before ends
+    /// as by a drop of the group.
     ///
     /// # Errors
     ///
-    /// As `from_backends_with_configs`; the group is dropped then.
+    /// Those of `from_backends_with_configs`; the group is then as before, and the registry has no view more.
     pub fn with_rebuild_gate<W: Wait>(
-        self,
+        &mut self,
         rt: &W,
         alloc: Global,
         gate: Arc<SelectorRebuildGate>,
-    ) -> Result<LoadBalancerGroup<S, D, R, C>, Refusal>
-        ensures made { IfOk result (λ g. IsNewGroup self.configs.items (arc_value g.shared).core) }
-        ensures gate { IfOk result (λ g. (arc_value g.shared).core.group.gate ≡ (arc_value gate).id) }
-        ensures words { IfOk result (λ g. (arc_value g.shared).board.words ≡ length self.configs.items + 1) }
-        ensures registry { IfOk result (λ g. (arc_value g.shared).registry ≡ (arc_value self.registry).start) }
-        ensures parts { IfOk result (λ g. (g.discovery ≡ self.discovery) × (g.owns_checks ≡ self.owns_checks)
-            × (g.registry ≡ self.registry) × (g.configs.items ≡ self.configs.items)) }
-        ensures settings { IfOk result (λ g. (g.health_check_frequency ≡ self.health_check_frequency)
-            × (g.update_frequency ≡ self.update_frequency) × (g.parallel_health_check ≡ self.parallel_health_check)) }
-        ensures refused { IsMakingRefusal (least (map (S.refusal []) self.configs.items)) result }
+    ) -> Result<(), Refusal>
+        ensures made { OnOk result (IsNewGroup self.old.configs.items (arc_value self.new.shared).core) }
+        ensures gate { OnOk result ((arc_value self.new.shared).core.group.gate ≡ (arc_value gate).id) }
+        ensures words { OnOk result ((arc_value self.new.shared).board.words ≡ length self.old.configs.items + 1) }
+        ensures registry { OnOk result ((arc_value self.new.shared).registry ≡ (arc_value self.old.registry).start) }
+        ensures parts { (self.new.discovery ≡ self.old.discovery) × (self.new.owns_checks ≡ self.old.owns_checks)
+            × (self.new.registry ≡ self.old.registry) × (self.new.configs ≡ self.old.configs) }
+        ensures settings { (self.new.health_check_frequency ≡ self.old.health_check_frequency)
+            × (self.new.update_frequency ≡ self.old.update_frequency)
+            × (self.new.parallel_health_check ≡ self.old.parallel_health_check) }
+        ensures refused { IsMakingRefusal (least (map (S.refusal []) self.old.configs.items)) result }
+        ensures refused_stays { OnErr result (self.new ≡ self.old) }
     {
-        let mut group = self;
-        if let Some(refusal) = least_refusal::<Configured<S>>(alloc, group.configs.as_slice()) {
+        if let Some(refusal) = least_refusal::<Configured<S>>(alloc, self.configs.as_slice()) {
             return Err(refusal);
         }
-        let (shared, view) = opened(rt, alloc, &group.registry, group.configs.as_slice(), gate)?;
-        group.shared.let_go();
-        group.shared = shared;
-        group.view = view;
-        group.timing = Mutex::new(None);
-        Ok(group)
+        let (shared, view) = opened(rt, alloc, &self.registry, self.configs.as_slice(), gate)?;
+        self.shared.let_go();
+        self.shared = shared;
+        self.view = view;
+        self.timing = Mutex::new(None);
+        Ok(())
     }
 
     /// Discovers, and makes what was discovered the newest membership. Returns the newest generation after it.
