@@ -1,5 +1,5 @@
-//! What the library's parts cost: `lb_cost WORD [NUMBER ..]`. The word says what is measured, and the
-//! scripts of `bench/` print the results; without one each is measured once in a small form, whose lines are always the same.
+//! What the library's parts cost: `lb_cost WORD [WORD ..]`. The first word says what is measured, and the scripts of `bench/` print the
+//! results; without a word each is measured once in a small form, whose lines are always the same.
 #![tactic(auto)]
 
 mod board;
@@ -7,17 +7,19 @@ mod group;
 mod health;
 mod members;
 mod selects;
+mod shared;
 mod words;
 
 use anyhow::Error;
 use std::alloc::Global;
 use std::env;
+use std::sync::Wait;
 use std::thread::Threads;
 use std::time::Clock;
 use words::Usage;
 
 // Measures what a word says, by these numbers.
-fn measure<R: Threads + Clock + Input + Print + Copy + Sync>(
+fn measure<R: Threads + Wait + Clock + Input + Print + Copy + Sync>(
     rt: &R,
     alloc: Global,
     word: &str,
@@ -28,19 +30,21 @@ fn measure<R: Threads + Clock + Input + Print + Copy + Sync>(
         "group" => group::run(rt, alloc, numbers),
         "health" => health::run(rt, alloc, numbers),
         "selects" => selects::run(rt, alloc),
+        "shared" => shared::run(rt, alloc, numbers),
         _ => Err(Usage::UnknownWord)?,
     }
 }
 
 // Measures each once, in its small form.
-fn measure_all<R: Threads + Clock + Input + Print + Copy + Sync>(
+fn measure_all<R: Threads + Wait + Clock + Input + Print + Copy + Sync>(
     rt: &R,
     alloc: Global,
 ) -> Result<(), Error> {
     for word in ["board", "group", "health"] {
         measure(rt, alloc, word, &[])?;
     }
-    selects::few(rt, alloc)
+    selects::few(rt, alloc)?;
+    shared::run(rt, alloc, &[])
 }
 
 fn main(rt: HostRuntime) -> Result<(), Error> {
