@@ -57,8 +57,10 @@ impl ServiceRun {
         }
     }
 
-    /// Takes an event with its moment and `count`, the count of targets then, and returns what is to be done: what is right after the run's
-    /// history. An event that doesn't fit what was answered last is answered by that again. It takes no memory.
+    /// Takes an event with its moment and the count of targets then, and returns what is to be done: what is right after the run's
+    /// history.
+    ///
+    /// For an event that doesn't fit what was returned last, that is returned again. It takes no memory.
     pub fn step(&mut self, now: u128, event: Event, count: u64) -> Action
         ensures history { (h : List Heard) → IsServiceAfter self.old h → IsServiceAfter self.new (heard now count event result ∷ h) }
         ensures plan { self.new.plan ≡ self.old.plan }
