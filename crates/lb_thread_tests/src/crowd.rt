@@ -78,8 +78,9 @@ impl<W: Wait + Clock + Copy + Drop> Site<W> {
         let mut configs = Vec::new(alloc);
         configs.push(Some(Counting(Some(Arc::try_clone(&self.counts)?))))?;
         configs.push(Some(Counting(Some(Arc::try_clone(&self.counts)?))))?;
-        let mut group =
-            LoadBalancerGroup::from_backends_with_configs(rt, alloc, backends, configs)?;
+        let mut group = LoadBalancerGroup::from_backends_with_configs(
+            rt, alloc, backends, configs,
+        )?;
         group.with_rebuild_gate(rt, alloc, Arc::try_clone(&self.gate)?)?;
         Ok(group)
     }
