@@ -23,7 +23,7 @@ pub fn drive<R: Wait, P: ServicePort>(rt: &R, run: ServiceRun, port: &mut P)
     for _ in rt.forever() {
         let now = port.now();
         let count = port.target_count();
-        let action = run.step(now, count, event);
+        let action = run.step(now, event, count);
         if let Action::Return = action {
             return;
         }

@@ -51,7 +51,7 @@ impl GroupRun {
     ///
     /// `least` is the least generation that a slot serves then, and 18446744073709551615 where there is no slot. For an event that doesn't
     /// fit what was returned last, that is returned again. It takes no memory.
-    pub fn step(&mut self, now: u128, least: u64, event: Event) -> Action
+    pub fn step(&mut self, now: u128, event: Event, least: u64) -> Action
         ensures history { (h : List Heard) → IsAfter self.old h → IsAfter self.new (heard now least event result ∷ h) }
         ensures plan { self.new.plan ≡ self.old.plan }
     {

@@ -61,7 +61,7 @@ impl ServiceRun {
     /// history.
     ///
     /// For an event that doesn't fit what was returned last, that is returned again. It takes no memory.
-    pub fn step(&mut self, now: u128, count: u64, event: Event) -> Action
+    pub fn step(&mut self, now: u128, event: Event, count: u64) -> Action
         ensures history { (h : List Heard) → IsServiceAfter self.old h → IsServiceAfter self.new (heard now count event result ∷ h) }
         ensures plan { self.new.plan ≡ self.old.plan }
     {

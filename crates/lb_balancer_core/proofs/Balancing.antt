@@ -1,5 +1,6 @@
 -- An update of view and selector: what it does to the history, and why it is refused.
-use Rattle.std.proofs.Common.{◌≡◌, ◌⊎◌, inl, inr, ◌∙◌, ◌+◌, ◌^◌, ◌≤◌, ℕ, Bool, true, false, not, nat_le, List, [], ◌∷◌, Option, Some, None, refl, sym, ap, subst, arith, unwrap_or}
+use Rattle.std.proofs.Common.{◌≡◌, ◌⊎◌, inl, inr, ◌∙◌, ◌+◌, ◌^◌, ◌≤◌, ℕ, Bool, true, false, not, nat_le, List, [], ◌∷◌, Option, Some, None}
+use Rattle.std.proofs.Common.{refl, sym, ap, subst, arith, unwrap_or}
 use Rattle.std.specs.Prelude.{◌≢◌, ◌==◌, if◌then◌else◌}
 use Rattle.std.specs.List.{list_any}
 use Rattle.std.specs.Option.{option_or}
@@ -16,10 +17,12 @@ use Rattle.lb_health_view.specs.RegistrySide as joined
 use Rattle.lb_health_view.specs.Snapshots.{ViewValue}
 use Rattle.lb_health_view.specs.ViewEvents as view
 use Rattle.lb_health_view.specs.Views.{IsViewAfter}
-use Rattle.lb_balancer_core.specs.Balancer.{Updated, Set, History, view_events, members_now, tickets_after, after_settings, with_membership, ServedValue, Stands, view_cause, update_cause}
+use Rattle.lb_balancer_core.specs.Balancer.{Updated, Set, History, view_events, members_now, tickets_after, after_settings, with_membership}
+use Rattle.lb_balancer_core.specs.Balancer.{ServedValue, Stands, view_cause, update_cause}
 
 -- a setting changes the view alone
-set-view : (b : Bool) (m : Member) (on : Bool) (e : History) → view_events (if b then Set m on ∷ e else e) ≡ (if b then view.Set m on ∷ view_events e else view_events e)
+set-view : (b : Bool) (m : Member) (on : Bool) (e : History)
+    → view_events (if b then Set m on ∷ e else e) ≡ (if b then view.Set m on ∷ view_events e else view_events e)
 set-view true m on e = refl
 set-view false m on e = refl
 
@@ -31,7 +34,8 @@ set-tickets : (b : Bool) (m : Member) (on : Bool) (e : History) → tickets_afte
 set-tickets true m on e = refl
 set-tickets false m on e = refl
 
-settings-view : (settings : List (Member × Bool)) (e : History) → view_events (after_settings settings e) ≡ joined.after_settings settings (view_events e)
+settings-view : (settings : List (Member × Bool)) (e : History) → view_events (after_settings settings e) ≡ joined.after_settings settings
+    (view_events e)
 settings-view [] e = refl
 settings-view (s ∷ rest) e =
     settings-view rest (if list_any (same_member s.0) (members_now e) then Set s.0 s.1 ∷ e else e)
@@ -55,7 +59,8 @@ shown-view true members cells e = refl
 shown-view false members cells e = refl
 
 view-is : (settings : List (Member × Bool)) (members : List Member) (cells : List (Member × ℕ)) (e : History)
-    → view_events (after_settings settings (with_membership members cells e)) ≡ joined.after_settings settings (joined.with_membership members cells (view_events e))
+    → view_events (after_settings settings (with_membership members cells e)) ≡ joined.after_settings settings
+    (joined.with_membership members cells (view_events e))
 view-is settings members cells e =
     settings-view settings (with_membership members cells e)
     ∙ ap (joined.after_settings settings) (shown-view (same_members members (members_now e)) members cells e)
@@ -81,7 +86,12 @@ module _ {C G : Type 0} (e : History) (members : List Member) (settings : List (
   -- another membership comes with a selector that is built of it, whose counter is at 0
   pub stands-other : (config : C) (built : List Member) (words : CoreWords G) → same_members members (members_now e) ≡ false
       → built ≡ members → words.tickets ≡ 0
-      → Stands (after_settings settings (with_membership members cells e)) (record { view = w; config = config; members = built; words = words })
+      → Stands (after_settings settings (with_membership members cells e)) (record {
+        view = w;
+        config = config;
+        members = built;
+        words = words;
+      })
   stands-other config built words same of zero =
       let shown : with_membership members cells e ≡ Updated members cells ∷ e = rw same refl in
       record {
@@ -95,10 +105,12 @@ told None r h = inr (refl, h)
 told (Some y) r h = inl (ap Some (sym h))
 
 -- a build that is refused tells the cause of the update
-pub refused-build : (build : Option Refusal) (key_of : Member → Member) (id : ℕ) (members : List Member) (events : List registry.Event) (e : History) (r : Refusal)
+pub refused-build : (build : Option Refusal) (key_of : Member → Member) (id : ℕ) (members : List Member) (events : List registry.Event)
+    (e : History) (r : Refusal)
     → same_members members (members_now e) ≡ false
     → r ≡ unwrap_or (option_or (memory_apart build) (view_cause key_of id members events (view_events e))) OutOfMemory
-    → (update_cause build key_of id members events e ≡ Some r) ⊎ ((update_cause build key_of id members events e ≡ None) × (r ≡ OutOfMemory))
+    → (update_cause build key_of id members events e ≡ Some r) ⊎ ((update_cause build key_of id members events e ≡ None)
+    × (r ≡ OutOfMemory))
 refused-build build key_of id members events e r same h = rw same (told _ r h)
 
 by-tests : (a b c : Bool) → (a ≡ true → ⊥) → (a ≡ false → b ≡ false → ⊥) → (a ≡ false → b ≡ true → c ≡ true → ⊥)
@@ -118,7 +130,8 @@ differ-of : (n m : ℕ) → (n == m) ≡ false → n ≢ m
 differ-of n m e h = false≢true (sym e ∙ eq-eqb n m h)
 
 -- where nothing is refused there is no cause
-pub no-cause : (build : Option Refusal) (key_of : Member → Member) (id : ℕ) (members : List Member) (events : List registry.Event) (e : History)
+pub no-cause : (build : Option Refusal) (key_of : Member → Member) (id : ℕ) (members : List Member) (events : List registry.Event)
+    (e : History)
     → same_members members (members_now e) ≡ false → memory_apart build ≡ None
     → (view.generation_after (view_events e) + 1 ≡ 2 ^ 64 → ⊥)
     → (view.generation_after (view_events e) + 1 ≢ 2 ^ 64 → registry.has_view id (registry.views_after events) ≡ false → ⊥)

@@ -31,7 +31,8 @@ module _ {R : Type 0} {gives : R → Member → Member → Type 0} {v : ViewValu
 
 -- what was asked is told by what follows from it; its type is found from what it was asked
 pub asked-more : {S F : Type 0} {g : Shared F (Bor Member × Unit {0}) Bool} {f : F} (gives : S → Draw → S → Type 0)
-    (walks : List Draw → List Member → Bool → Type 0) (Q : Member → Bool → Type 0) (limit : ℕ) (s t : S) (r : Result (Option Member) Refusal)
+    (walks : List Draw → List Member → Bool → Type 0) (Q : Member → Bool → Type 0) (limit : ℕ) (s t : S)
+    (r : Result (Option Member) Refusal)
     → Selects same_member (λ b a. FnReturnsAt g f b a) limit gives walks s r t
     → ((b : Member) (a : Bool) → FnReturnsAt g f b a → Q b a) → Selects same_member Q limit gives walks s r t
 asked-more {g = g} {f = f} gives walks Q limit s t r is more =
@@ -39,7 +40,8 @@ asked-more {g = g} {f = f} gives walks Q limit s t r is more =
 
 -- where what was asked answers as it is told, what it accepts is what is right
 pub told-more : {S F : Type 0} {g : Shared F (Bor Member × (Bool × Unit {0})) Bool} {f : F} (gives : S → Draw → S → Type 0)
-    (walks : List Draw → List Member → Bool → Type 0) (right : Member → Bool → Type 0) (limit : ℕ) (s t : S) (r : Result (Option Member) Refusal)
+    (walks : List Draw → List Member → Bool → Type 0) (right : Member → Bool → Type 0) (limit : ℕ) (s t : S)
+    (r : Result (Option Member) Refusal)
     → Selects same_member (λ b a. AcceptsBy g f right b a) limit gives walks s r t
     → ((p : Bor Member) (told a : Bool) → FnReturns g f (p, (told, tt)) a → a ≡ told) → Selects same_member right limit gives walks s r t
 told-more {g = g} {f = f} gives walks right limit s t r is same =

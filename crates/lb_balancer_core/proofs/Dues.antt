@@ -1,6 +1,7 @@
 -- A worker's turn at a slot that is due, at a free gate of the plain group: the job is built and served, or one more build failed.
 -- The calls are those of any port that are at least the plain group's own.
-use Rattle.std.specs.Prelude.{◌≡◌, ◌⊎◌, ◌<◌, ◌≤◌, ◌||◌, ℕ, Bool, true, false, not, nat_lt, cond, List, [], ◌∷◌, ◌++◌, length, Option, Some, None, Result, Ok, Err, refl}
+use Rattle.std.specs.Prelude.{◌≡◌, ◌⊎◌, ◌<◌, ◌≤◌, ◌||◌, ℕ, Bool, true, false, not, nat_lt, cond, List, [], ◌∷◌, ◌++◌, length, Option, Some}
+use Rattle.std.specs.Prelude.{None, Result, Ok, Err, refl}
 use Rattle.std.proofs.Common.{sym, ap, ◌∙◌, subst, arith, inl, inr}
 use Rattle.std.proofs.lemmas.Bool.{lt-ltb}
 use Rattle.lb_select_base.specs.Backends.{Member}
@@ -9,7 +10,9 @@ use Rattle.lb_select_base.specs.declared.refusal.Refusal.TheVariants as refusal
 use Rattle.lb_rebuild_slots.specs.Gate.{GateValue}
 use Rattle.lb_rebuild_slots.specs.SlotsCalls.{IsJob, taken_refusal, publish_answer, publish_events}
 use Rattle.lb_rebuild_slots.specs.SlotsHistory as core
-use Rattle.lb_rebuild_slots.specs.SlotsHistory.{Granted, past_of, newest, served, extra, waits, is_extra, is_cancelled, is_flight, all_failures, due_moment, ask_answer, AskAnswer, cancelled, building, up_to_date, not_due, busy, job, Extra, nothing}
+use Rattle.lb_rebuild_slots.specs.SlotsHistory.{Granted, past_of, newest, served, extra, waits, is_extra, is_cancelled, is_flight}
+use Rattle.lb_rebuild_slots.specs.SlotsHistory.{all_failures, due_moment, ask_answer, AskAnswer, cancelled, building, up_to_date, not_due}
+use Rattle.lb_rebuild_slots.specs.SlotsHistory.{busy, job, Extra, nothing}
 use Rattle.lb_rebuild_slots.specs.Stands.{Made}
 use Rattle.lb_rebuild_slots.specs.Values.{Task, BuiltValue, RetiredValue, PermitValue}
 use Rattle.lb_rebuild_slots.specs.declared.answers.Ask.{Ask}
@@ -46,7 +49,8 @@ module _ {S I C W K P : Type 0} (refuses : List Member → C → Option Refusal)
     (taken : P → ℕ → Result RetiredValue Refusal → P → Type 0) (reported : P → ℕ → PermitValue → P → Type 0)
     (asked : P → ℕ → ℕ → Result (Ask S I C W) Refusal → P → Type 0)
     (published : P → BuiltValue C → Publication → P → Type 0) (failed : P → RefusedValue C → ℕ → P → Type 0)
-    (taken_is : (p : P) (s : ℕ) (a : Result RetiredValue Refusal) (q : P) → taken p s a q → IsTaken (core_of p) s a (core_of q) × (gate_of q ≡ gate_of p))
+    (taken_is : (p : P) (s : ℕ) (a : Result RetiredValue Refusal) (q : P) → taken p s a q → IsTaken (core_of p) s a (core_of q)
+    × (gate_of q ≡ gate_of p))
     (asked_is : (p : P) (s now : ℕ) (a : Result (Ask S I C W) Refusal) (q : P) → asked p s now a q
     → IsAsked (core_of p) (gate_of p) s now a (core_of q) (gate_of q))
     (published_is : (p : P) (b : BuiltValue C) (u : Publication) (q : P) → published p b u q → IsPublished (core_of p) b u (core_of q))
@@ -61,19 +65,25 @@ module _ {S I C W K P : Type 0} (refuses : List Member → C → Option Refusal)
     Before = past_of slot Events
 
     -- what the job came to
-    flown : (j : Task C) (now : ℕ) (p q : P) (k l : K) (t : Turn) → IsJob made Events slot j → Stands made (At slot (Granted now) ∷ e) (core_of p)
-        → Publishes refuses reads taken reported asked published failed slot j p k t q l ⊎ Fails refuses reads taken reported asked published failed slot j p k t q l
+    flown : (j : Task C) (now : ℕ) (p q : P) (k l : K) (t : Turn) → IsJob made Events slot j
+        → Stands made (At slot (Granted now) ∷ e) (core_of p)
+        → Publishes refuses reads taken reported asked published failed slot j p k t q l
+        ⊎ Fails refuses reads taken reported asked published failed slot j p k t q l
         → EndsTurn made e slot (Ok t) (core_of q)
     flown j now p q k l t is s (inl (fine, end, m, u, out, what)) =
         let given = published_is p _ u q out in
         let h : core.History = core.At slot (Granted now) ∷ Events in
-        let right : publish_answer slot (newest Events) h ≡ told.Published (newest Events) = rw (past-same slot (Granted now) Events, due.live) refl in
+        let right : publish_answer slot (newest Events) h ≡ told.Published (newest Events) = rw (
+          past-same slot (Granted now) Events,
+          due.live,
+        ) refl in
         let answer : u ≡ told.Published (newest Events) =
         (given.0 made (At slot (Granted now) ∷ e) s).1
         ∙ subst (λ (x : ℕ). publish_answer x j.generation h ≡ told.Published (newest Events)) (sym is.place)
         (subst (λ (x : ℕ). publish_answer slot x h ≡ told.Published (newest Events)) (sym is.generation) right) in
         let stands : Stands made (At j.slot (core.Published end j.members) ∷ At slot (Granted now) ∷ e) (core_of q) =
-        subst (λ (x : Publication). Stands made (in_group (publish_events (record { task = j; ended = end }) (Ok x)) ++ (At slot (Granted now) ∷ e)) (core_of q)) answer
+        subst (λ (x : Publication). Stands made (in_group (publish_events (record { task = j; ended = end }) (Ok x)) ++
+        (At slot (Granted now) ∷ e)) (core_of q)) answer
         (given.1 made (At slot (Granted now) ∷ e) s) in (
           At slot (core.Published end j.members) ∷ At slot (Granted now) ∷ e,
           subst (λ (x : ℕ). Stands made (At x (core.Published end j.members) ∷ At slot (Granted now) ∷ e) (core_of q)) is.place stands,
@@ -103,14 +113,16 @@ module _ {S I C W K P : Type 0} (refuses : List Member → C → Option Refusal)
     -- a slot that is due answers a job at a free gate
     job-now : (now : ℕ) (out : Bool) → out ≡ false → due_moment Before ≤ now → ask_answer Before out now ≡ job
     job-now now out free late =
-        job-if (is_cancelled Before) (is_flight (extra Before)) (waits Before) (nat_lt now (due_moment Before)) (out || is_extra (extra Before)) (due_moment Before)
+        job-if (is_cancelled Before) (is_flight (extra Before)) (waits Before) (nat_lt now (due_moment Before))
+        (out || is_extra (extra Before)) (due_moment Before)
         (cancelled-past slot Events ∙ due.live) (ap is_flight due.bare) due.waits (lt-false now (due_moment Before) late)
         (or-neither out (is_extra (extra Before)) free (ap is_extra due.bare))
 
     answered : (now : ℕ) (m n q : P) (k l : K) (a : Result (Ask S I C W) Refusal) (r : Result Turn Refusal) → Stands made e (core_of m)
         → ask_answer Before (gate_of m).out now ≡ job → IsAsked (core_of m) (gate_of m) slot now a (core_of n) (gate_of n)
         → Answered refuses reads taken reported asked published failed slot a n k r q l → EndsTurn made e slot r (core_of q)
-    answered now m n q k l (Err x) r s is_job given next = let past = (given.0 made e s).1 in let there = due.there in absurd (omega (arith, past, there))
+    answered now m n q k l (Err x) r s is_job given next = let past = (given.0 made e s).1 in let there = due.there
+        in absurd (omega (arith, past, there))
     answered now m n q k l (Ok asks.Cancelled) r s is_job given next = let told_ = (given.0 made e s).1 in absurd (cc)
     answered now m n q k l (Ok asks.Building) r s is_job given next = let told_ = (given.0 made e s).1 in absurd (cc)
     answered now m n q k l (Ok asks.Nothing) r s is_job given next = let told_ = (given.0 made e s).1 in absurd (cc)
@@ -125,7 +137,8 @@ module _ {S I C W K P : Type 0} (refuses : List Member → C → Option Refusal)
     asks_then m q k l r s free late (now, z, read, a, n, out, next) =
         answered now m n q z l a r s (job-now now (gate_of m).out free (late now z read)) (asked_is m slot now a n out) next
 
-    cleared : (p m q : P) (k l : K) (a : Result RetiredValue Refusal) (r : Result Turn Refusal) → Stands made e (core_of p) → (gate_of p).out ≡ false
+    cleared : (p m q : P) (k l : K) (a : Result RetiredValue Refusal) (r : Result Turn Refusal) → Stands made e (core_of p)
+        → (gate_of p).out ≡ false
         → ((now : ℕ) (z : K) → reads k now z → due_moment Before ≤ now) → IsTaken (core_of p) slot a (core_of m) × (gate_of m ≡ gate_of p)
         → Clears refuses reads taken reported asked published failed slot a m k r q l → EndsTurn made e slot r (core_of q)
     cleared p m q k l (Ok v) r s free late given next =

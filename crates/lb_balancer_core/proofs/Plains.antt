@@ -25,16 +25,19 @@ module _ {C : Type 0} where
   awaited-granted : (made : Made C) (h : core.History) (slot now : ℕ) (j : Task C) → IsJob made h slot j
       → is_awaited j.slot j.generation (At slot (Granted now) ∷ h) ≡ true
   awaited-granted made h slot now j is =
-      let here : is_awaited slot (newest h) (At slot (Granted now) ∷ h) ≡ true = rw (past-same slot (Granted now) h) (eq-eqb _ _ (newest-past slot h)) in
+      let here : is_awaited slot (newest h) (At slot (Granted now) ∷ h) ≡ true = rw (past-same slot (Granted now) h)
+      (eq-eqb _ _ (newest-past slot h)) in
       subst (λ (s : ℕ). is_awaited s j.generation (At slot (Granted now) ∷ h) ≡ true) (sym is.place)
       (subst (λ (g : ℕ). is_awaited slot g (At slot (Granted now) ∷ h) ≡ true) (sym is.generation) here)
 
   -- a reader that has entered is counted
-  read-entered : (made : Made C) (h : core.History) (slot : ℕ) (r : ReaderValue C) → (let a : Result (ReaderValue C) Refusal = Ok r in Enters made h slot a)
+  read-entered : (made : Made C) (h : core.History) (slot : ℕ) (r : ReaderValue C)
+      → (let a : Result (ReaderValue C) Refusal = Ok r in Enters made h slot a)
       → is_read made r.slot r.generation (At slot Entered ∷ h) ≡ true
   read-entered made h slot r is =
       let there : nat_lt slot (length made.configs) ≡ true = there-if _ _ _ is.0 in
-      let one : readers (served (past_of slot h)) (At slot Entered ∷ past_of slot h) ≡ readers (served (past_of slot h)) (past_of slot h) + 1 =
+      let one : readers (served (past_of slot h)) (At slot Entered ∷ past_of slot h) ≡ readers (served (past_of slot h))
+      (past_of slot h) + 1 =
       rw (eq-eqb (served (past_of slot h)) (served (past_of slot h)) refl) refl in
       let some : nat_lt 0 (readers (served (past_of slot h)) (At slot Entered ∷ past_of slot h)) ≡ true = lt-ltb _ _ (omega (arith, one)) in
       let here : is_read made slot (served (past_of slot h)) (At slot Entered ∷ h) ≡ true = rw (past-same slot Entered h, there) some in

@@ -1,5 +1,6 @@
 -- Which slots are there, by what a reading call answers of them.
-use Rattle.std.proofs.Common.{◌≡◌, ◌<◌, ◌≤◌, ◌∙◌, ℕ, Bool, true, false, cond, nat_lt, length, Option, Some, None, sym, subst, arith, refl, ◌+◌}
+use Rattle.std.proofs.Common.{◌≡◌, ◌<◌, ◌≤◌, ◌∙◌, ℕ, Bool, true, false, cond, nat_lt, length, Option, Some, None, sym, subst, arith, refl}
+use Rattle.std.proofs.Common.{◌+◌}
 use Rattle.std.proofs.lemmas.Bool.Decides.{nat_tests}
 use Rattle.std.proofs.lemmas.Option.{none-some, same_Some}
 use Rattle.lb_rebuild_slots.specs.SlotsCalls.{at_slot}
@@ -21,7 +22,8 @@ module _ {A : Type 0} where
   there_by false slot n a x e h = absurd (none-some x (sym h))
 
   -- no such slot is there
-  pub gone : {C : Type 0} (made : Made C) (slot : ℕ) (a : A) (o : Option A) → o ≡ at_slot made slot a → o ≡ None → length made.configs ≤ slot
+  pub gone : {C : Type 0} (made : Made C) (slot : ℕ) (a : A) (o : Option A) → o ≡ at_slot made slot a → o ≡ None
+      → length made.configs ≤ slot
   gone made slot a o is none = gone_by (nat_lt slot (length made.configs)) slot (length made.configs) a refl (sym none ∙ is)
 
   -- the slot is there, and this is read of it

@@ -47,17 +47,20 @@ module _ {C G R : Type 0} (gives : R → Member → Member → Type 0) (build : 
         (a.cause by_identity one_view registry (Took [] ∷ []) stands)))
 
     -- the one update of it is refused
-    pub update-refused : (discovery : DiscoverySource D) (r : Refusal) → discovery ≡ Static found → IsRefusal gives discovery was before build r
+    pub update-refused : (discovery : DiscoverySource D) (r : Refusal) → discovery ≡ Static found
+        → IsRefusal gives discovery was before build r
         → IsTextsRefusal texts (λ ms. build ms default) r
     update-refused discovery r is h = refused-of r (subst (λ d. IsRefusal gives d was before build r) is h)
 
     -- the one update of it is made
     pub updated-once : {K : Type 0} (reads : K → ℕ → K → Type 0) (discovery after_discovery : DiscoverySource D) (clock clock_after : K)
-        (now : ServedValue C G) (after : RegistryValue R) (timing : Option UpdateTimings) → discovery ≡ Static found → after_discovery ≡ discovery
+        (now : ServedValue C G) (after : RegistryValue R) (timing : Option UpdateTimings) → discovery ≡ Static found
+        → after_discovery ≡ discovery
         → IsUpdated gives discovery was before build reads clock clock_after now after timing
         → IsOfTexts gives reads texts clock clock_after after_discovery now after timing
     updated-once reads discovery after_discovery clock clock_after now after timing is same u =
-        let discovered : Discovers {D = D} (Static found) u.members u.settings = subst (λ d. Discovers d u.members u.settings) is u.discovered in
+        let discovered : Discovers {D = D} (Static found) u.members u.settings =
+        subst (λ d. Discovers d u.members u.settings) is u.discovered in
         record {
           members = found;
           times = u.times;

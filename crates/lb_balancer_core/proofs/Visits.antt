@@ -1,5 +1,6 @@
 -- A selection by a port on its way: the calls for the reader, the candidates that were looked at, and what each end answers.
-use Rattle.std.specs.Prelude.{◌≡◌, ℕ, ◌+◌, ◌<◌, ◌≤◌, Bool, true, false, ◌||◌, List, [], ◌∷◌, ◌++◌, length, map, Option, Some, None, Result, Ok, Err, refl}
+use Rattle.std.specs.Prelude.{◌≡◌, ℕ, ◌+◌, ◌<◌, ◌≤◌, Bool, true, false, ◌||◌, List, [], ◌∷◌, ◌++◌, length, map, Option, Some, None, Result}
+use Rattle.std.specs.Prelude.{Ok, Err, refl}
 use Rattle.std.proofs.Common.{sym, ap, ◌∙◌, arith, inl, inr, length-append, subst}
 use mathlib.Core.List.{map-append}
 use Rattle.std.specs.List.{AllByRecursion as Each}
@@ -60,7 +61,8 @@ pub selects_keep : {P R : Type 0} (draws : P → R → Draw → P → Type 0) (r
     (accepts : Member → Bool → Bool → Type 0) (limit : ℕ) (walks : List Draw → List Member → Bool → Type 0) (owns : P → R → Type 0)
     → ((x : P) (o : R) (d : Draw) (y : P) → draws x o d y → owns x o → owns y o)
     → ((x : P) (o : R) (b : Member) (a : Bool) (y : P) → readies x o b a y → owns x o → owns y o)
-    → (p q : P) (r : R) (answer : Result (Option Member) Refusal) → SelectsBy accepts limit draws readies walks p r answer q → owns p r → owns q r
+    → (p q : P) (r : R) (answer : Result (Option Member) Refusal) → SelectsBy accepts limit draws readies walks p r answer q → owns p r
+    → owns q r
 selects_keep draws readies accepts limit walks owns draw ready p q r (Ok o) is own =
     looks_keep draws readies r (λ x. owns x r) (λ x d y. draw x r d y) (λ x b a y. ready x r b a y) p q is.0 is.1 own
 selects_keep draws readies accepts limit walks owns draw ready p q r (Err e) (memory, inl same) own = subst (λ x. owns x r) (sym same) own
@@ -168,7 +170,8 @@ module _ {W P R N : Type 0} (port_of : W → P) (reader_of : W → R) (name_of :
           }
 
       -- where a new one was asked for, after the step
-      module _ (b : Member) (n : I) (v : W) (a : Bool) (q : P) (step : IsStep GivesThrough walk j t (Some b) n v) (new : has_backend seen b ≡ false)
+      module _ (b : Member) (n : I) (v : W) (a : Bool) (q : P) (step : IsStep GivesThrough walk j t (Some b) n v)
+          (new : has_backend seen b ≡ false)
           (ready : readies (port_of v) (reader_of v) b a q) where
         abbrev asked_looks : List Look
         asked_looks = with_step step.0 (told b a ∷ [])
@@ -221,7 +224,8 @@ module _ {W P R N : Type 0} (port_of : W → P) (reader_of : W → R) (name_of :
           → walk i (draws_of ls) cs e → Whole s₀ q ls cs e
       begun {s₀} {s} i q ls cs e begins looked w =
           let first = looks-drawn (reader_of s₀) s₀ s begins.0 refl begins.1 in
-          let later : Looks draws readies (reader_of s₀) (port_of s) ls q = subst (λ (x : R). Looks draws readies x (port_of s) ls q) first.1.reader looked in
+          let later : Looks draws readies (reader_of s₀) (port_of s) ls q =
+          subst (λ (x : R). Looks draws readies x (port_of s) ls q) first.1.reader looked in
           record {
             looks = drawn begins.0 ++ ls;
             looked = looks-append draws readies (reader_of s₀) (port_of s₀) (port_of s) q (drawn begins.0) ls first.0 later;
@@ -269,7 +273,8 @@ module _ {W P R N : Type 0} (port_of : W → P) (reader_of : W → R) (name_of :
             let exact : length p.searched ≡ limit = p.counted ∙ full in
             let long : length cs ≡ length p.searched + 1 = length-append p.searched (b ∷ []) in
             let w : walk i (draws_of (with_step p step.0 [])) cs false =
-            Continues-closed walk i n (draws_of (with_step p step.0 [])) cs false (goes-step p step.0 (b ∷ []) n [] refl step.2) (starts n) in
+            Continues-closed walk i n (draws_of (with_step p step.0 [])) cs false (goes-step p step.0 (b ∷ []) n [] refl step.2)
+            (starts n) in
             let whole = begun i (port_of v) (with_step p step.0 []) cs false begins (looked-step p step.0 v [] (port_of v) step.1 refl) w in
             let here : told_of whole.looks ≡ told_of p.looks = whole.told ∙ told-step p step.0 [] ∙ append-nil (told_of p.looks) in (
               whole.looks,
@@ -278,17 +283,20 @@ module _ {W P R N : Type 0} (port_of : W → P) (reader_of : W → R) (name_of :
               false,
               whole.walked,
               (
-                ap (λ xs. map (λ x. x.0) xs) here ∙ p.asked ∙ ap (λ xs. distinct same_member xs) (sym (take_at p.searched (b ∷ []) limit exact)),
+                ap (λ xs. map (λ x. x.0) xs) here ∙ p.asked
+                    ∙ ap (λ xs. distinct same_member xs) (sym (take_at p.searched (b ∷ []) limit exact)),
                 subst (λ (xs : List (Member × Bool)). Each (λ x. accepts x.0 x.1 false) xs) (sym here) p.rejects,
                 inl (long ∙ ap (λ k. k + 1) exact),
               ),
             )
 
-        module _ (b : Member) (n : I) (v : W) (a : Bool) (q : P) (step : IsStep GivesThrough walk j t (Some b) n v) (new : has_backend seen b ≡ false)
+        module _ (b : Member) (n : I) (v : W) (a : Bool) (q : P) (step : IsStep GivesThrough walk j t (Some b) n v)
+            (new : has_backend seen b ≡ false)
             (ready : readies (port_of v) (reader_of v) b a q) (room : steps < limit) where
           asked_whole : Whole s₀ q (asked_looks p b n v a q step new ready) (p.searched ++ b ∷ []) false
           asked_whole =
-              begun i q (asked_looks p b n v a q step new ready) (p.searched ++ b ∷ []) false begins (asked_looked p b n v a q step new ready)
+              begun i q (asked_looks p b n v a q step new ready) (p.searched ++ b ∷ []) false begins
+              (asked_looked p b n v a q step new ready)
               (Continues-closed walk i n (draws_of (asked_looks p b n v a q step new ready)) (p.searched ++ b ∷ []) false
               (asked_goes p b n v a q step new ready) (starts n))
 
@@ -324,7 +332,8 @@ module _ {W P R N : Type 0} (port_of : W → P) (reader_of : W → R) (name_of :
           pub visit_refused : (r : Result (Option Member) Refusal) → IsErrAnd r (λ e. e ≡ OutOfMemory) → accepted s₀ r q
           visit_refused (Ok o) refused = absurd refused
           visit_refused (Err e) refused =
-              let whole = asked_whole in (refused, inr (whole.looks, whole.looked, p.searched ++ b ∷ [], whole.walked, asked_few, asked_firsts))
+              let whole = asked_whole
+              in (refused, inr (whole.looks, whole.looked, p.searched ++ b ∷ [], whole.walked, asked_few, asked_firsts))
 
         -- the reader and the place of the port are those of the beginning
         module _ (r : Option Member) (n : I) (v : W) (step : IsStep GivesThrough walk j t r n v) where
@@ -343,9 +352,11 @@ module _ {W P R N : Type 0} (port_of : W → P) (reader_of : W → R) (name_of :
               let later : Looks draws readies (reader_of s₀) (port_of s) (with_step p step.0 []) (port_of v) =
               subst (λ (x : R). Looks draws readies x (port_of s) (with_step p step.0 []) (port_of v)) first.1.reader
               (looked-step p step.0 v [] (port_of v) step.1 refl) in
-              let all = looks-append draws readies (reader_of s₀) (port_of s₀) (port_of s) (port_of v) (drawn begins.0) (with_step p step.0 []) first.0 later in
+              let all = looks-append draws readies (reader_of s₀) (port_of s₀) (port_of s) (port_of v) (drawn begins.0)
+              (with_step p step.0 []) first.0 later in
               subst (λ (x : R). owns (port_of v) x) (sym visit_same.reader)
-              (looks_keep draws readies (reader_of s₀) (λ x. owns x (reader_of s₀)) (λ x d y. draw x (reader_of s₀) d y) (λ x b a y. ready x (reader_of s₀) b a y)
+              (looks_keep draws readies (reader_of s₀) (λ x. owns x (reader_of s₀)) (λ x d y. draw x (reader_of s₀) d y)
+              (λ x b a y. ready x (reader_of s₀) b a y)
               (port_of s₀) (port_of v) (drawn begins.0 ++ with_step p step.0 []) all own)
 
       -- a walk that could not be begun has made no call

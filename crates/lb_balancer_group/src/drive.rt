@@ -22,7 +22,7 @@ pub fn drive<R: Wait, P: RunPort>(rt: &R, run: GroupRun, port: &mut P)
     for _ in rt.forever() {
         let now = port.now();
         let least = port.least();
-        let action = run.step(now, least, event);
+        let action = run.step(now, event, least);
         if let Action::Return = action {
             return;
         }

@@ -1,5 +1,6 @@
 -- Lemmas on bytes that are passed over, and on the content of a chunk.
-use Rattle.std.proofs.Common.{◌≡◌, inl, inr, ℕ, ◌-◌, ◌≤◌, List, [], ◌∷◌, ◌++◌, Result, Ok, Err, length, refl, sym, ap, ◌∙◌, append_assoc, length-append, arith}
+use Rattle.std.proofs.Common.{◌≡◌, inl, inr, ℕ, ◌-◌, ◌≤◌, List, [], ◌∷◌, ◌++◌, Result, Ok, Err, length, refl, sym, ap, ◌∙◌, append_assoc}
+use Rattle.std.proofs.Common.{length-append, arith}
 use Rattle.httparse.specs.Ascii.{crlf_bytes}
 use Rattle.lb_stream.specs.Stream.{Takes}
 use Rattle.lb_health_check.specs.declared.error.CheckError.{CheckError}

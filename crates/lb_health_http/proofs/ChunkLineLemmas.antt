@@ -1,5 +1,7 @@
 -- Lemmas on a chunk's line: how far a class of bytes reaches in a line, and that what is read is the only way to read it.
-use Rattle.std.proofs.Common.{◌≡◌, ◌≢◌, ℕ, suc, ◌+◌, ◌-◌, ◌*◌, ◌^◌, ◌<◌, ◌≤◌, Bool, true, false, cond, MatchBool, ◌==◌, List, [], ◌∷◌, ◌++◌, None, Some, length, length-drop, get_or, take, drop, refl, sym, ap, ◌∙◌, subst, append-nil, take-append-drop, arith}
+use Rattle.std.proofs.Common.{◌≡◌, ◌≢◌, ℕ, suc, ◌+◌, ◌-◌, ◌*◌, ◌^◌, ◌<◌, ◌≤◌, Bool, true, false, cond, MatchBool, ◌==◌, List, [], ◌∷◌, ◌++◌}
+use Rattle.std.proofs.Common.{None, Some, length, length-drop, get_or, take, drop, refl, sym, ap, ◌∙◌, subst, append-nil, take-append-drop}
+use Rattle.std.proofs.Common.{arith}
 use Rattle.std.specs.List.{prefix_len}
 use Rattle.std.specs.Char.{is_ascii_hexdigit, digit_value}
 use Rattle.std.specs.Str.Parse.{digits_value}
@@ -201,7 +203,8 @@ pub ends_semicolon : (r : Bool) (rest end : List ℕ) (n : ℕ) → IsLineText r
     → n ≡ prefix_len is_extension_byte (take (length rest - 1) (drop 1 rest)) → end ≡ drop n (take (length rest - 1) (drop 1 rest))
     → MatchBool r (end ≡ crlf_bytes) (end ≢ crlf_bytes) → MatchBool r (EndsChunkLine rest) (¬ (EndsChunkLine rest))
 ends_semicolon r rest end n p first reach is ended =
-    let whole : take (length rest - 1) (drop 1 rest) ≡ drop 1 rest = take_all (length rest - 1) (drop 1 rest) (omega (arith, length-drop 1 rest)) in
+    let whole : take (length rest - 1) (drop 1 rest) ≡ drop 1 rest = take_all (length rest - 1) (drop 1 rest)
+    (omega (arith, length-drop 1 rest)) in
     by_first r rest n p first (reach ∙ ap (prefix_len is_extension_byte) whole)
     (subst (λ (l : List ℕ). MatchBool r (l ≡ crlf_bytes) (l ≢ crlf_bytes)) (is ∙ ap (drop n) whole) ended)
 

@@ -1,6 +1,8 @@
 -- Lemmas on lines: where the first line feed of a text stands.
-use Rattle.std.proofs.Common.{◌≡◌, ◌≢◌, ℕ, suc, ◌<◌, ◌≤◌, Bool, true, false, List, [], ◌∷◌, ◌++◌, Option, None, Some, length, refl, sym, ap, ◌∙◌, subst, append_assoc, append-nil, length-append, arith}
-use Rattle.httparse.specs.Grammar.{AllPass, ChunkLine, IsChunkLine, IsExtension, print_chunk_line, print_extension, is_extension_byte, is_ows}
+use Rattle.std.proofs.Common.{◌≡◌, ◌≢◌, ℕ, suc, ◌<◌, ◌≤◌, Bool, true, false, List, [], ◌∷◌, ◌++◌, Option, None, Some, length, refl, sym, ap}
+use Rattle.std.proofs.Common.{◌∙◌, subst, append_assoc, append-nil, length-append, arith}
+use Rattle.httparse.specs.Grammar.{AllPass, ChunkLine, IsChunkLine, IsExtension, print_chunk_line, print_extension, is_extension_byte}
+use Rattle.httparse.specs.Grammar.{is_ows}
 use Rattle.std.specs.Char.{is_ascii_hexdigit}
 use Rattle.httparse.specs.Ascii.{crlf_bytes}
 use Rattle.lb_health_http.specs.Chunked.{NoFeed, IsLineText}

@@ -1,5 +1,6 @@
 -- Lemmas on the fields of a head that was parsed: a header map takes each, and has room for all.
-use Rattle.std.proofs.Common.{◌≡◌, ℕ, ◌+◌, ◌<◌, ◌≤◌, inl, inr, List, [], ◌∷◌, ◌++◌, map, length, take, length-take, slice_range, IsTrue, bytes_eq, get_or, ap, subst, sym, ◌∙◌, refl, arith, length-append}
+use Rattle.std.proofs.Common.{◌≡◌, ℕ, ◌+◌, ◌<◌, ◌≤◌, inl, inr, List, [], ◌∷◌, ◌++◌, map, length, take, length-take, slice_range, IsTrue}
+use Rattle.std.proofs.Common.{bytes_eq, get_or, ap, subst, sym, ◌∙◌, refl, arith, length-append}
 use Rattle.std.specs.List.{flat_map}
 use Rattle.std.proofs.lemmas.Bool.{cases_Bool}
 use Rattle.std.proofs.lemmas.List.{get_or-map, length-map}
@@ -11,7 +12,8 @@ use Rattle.http_header.specs.FieldValue.{FieldValue, IsFieldValue}
 use Rattle.http_header.specs.HeaderMap.{Entries, append, append_all, value_count, RefusesAppend}
 use Rattle.http_header.specs.Token as Token
 use Rattle.httparse.specs.Grammar as Grammar
-use Rattle.httparse.specs.Grammar.{Field, IsField, field_value, print_field, print_end, is_value_byte, is_token_byte, ResponseHead, print_response, print_section}
+use Rattle.httparse.specs.Grammar.{Field, IsField, field_value, print_field, print_end, is_value_byte, is_token_byte, ResponseHead}
+use Rattle.httparse.specs.Grammar.{print_response, print_section}
 use Rattle.httparse.specs.Spans.{header_bytes, name_and_value}
 use Rattle.httparse.specs.declared.spans.HeaderSpan.{HeaderSpan}
 use Rattle.httparse.proofs.GrammarLemmas.{print_response-append}
@@ -54,7 +56,8 @@ fields_short h =
     let e3 : length reason ≡ length (Grammar.print_reason h.reason) + length line = length-append (Grammar.print_reason h.reason) line in
     let e4 : length digits ≡ length h.digits + length reason = length-append h.digits reason in
     let e5 : length (version ++ 32 ∷ digits) ≡ length version + length (32 ∷ digits) = length-append version (32 ∷ digits) in
-    let e6 : length (Grammar.print_blank h.blank ++ (version ++ 32 ∷ digits)) ≡ length (Grammar.print_blank h.blank) + length (version ++ 32 ∷ digits) =
+    let e6 : length (Grammar.print_blank h.blank ++ (version ++ 32 ∷ digits)) ≡ length (Grammar.print_blank h.blank) + length
+    (version ++ 32 ∷ digits) =
     length-append (Grammar.print_blank h.blank) (version ++ 32 ∷ digits) in
     let e7 : length (print_response h ++ []) ≡ length (Grammar.print_blank h.blank ++ (version ++ 32 ∷ digits)) =
     ap length (print_response-append h []) in

@@ -21,7 +21,11 @@ set-unlisted events v b on h u = record {
   generation = h.generation;
   snapshots = h.snapshots;
   needed = h.needed;
-  stored = λ c x e. h.stored c x e ∙ rw u (elim (same_member b c) as (λ t. flag_after events c ≡ (if t && false then on else flag_after events c)) [ true ↦ refl | false ↦ refl ]);
+  stored = λ c x e. h.stored c x e
+      ∙ rw u (elim (same_member b c) as (λ t. flag_after events c ≡ (if t && false then on else flag_after events c)) [
+        | true ↦ refl
+        | false ↦ refl
+      ]);
 }
 
 -- a setting of a backend that a living snapshot lists
@@ -32,13 +36,18 @@ pub set-listed : (events : List ViewEvent) (v w : ViewValue) (b : Member) (on : 
 set-listed events v w b on h l g s u = record {
   generation = g ∙ h.generation;
   snapshots = s ∙ h.snapshots;
-  needed = λ c there. rw (u c) (elim (same_member b c) as (λ t. IsSome (cond t (Some on) (value_at v.flags c))) [ true ↦ refl | false ↦ h.needed c there ]);
-  stored = λ c x e. rw l (elim (same_member b c) as (λ t. cond t (Some on) (value_at v.flags c) ≡ Some x → x ≡ (if t && true then on else flag_after events c))
+  needed = λ c there. rw (u c) (elim (same_member b c) as (λ t. IsSome (cond t (Some on) (value_at v.flags c))) [
+    | true ↦ refl
+    | false ↦ h.needed c there
+  ]);
+  stored = λ c x e. rw l (elim (same_member b c) as (λ t. cond t (Some on) (value_at v.flags c) ≡ Some x
+      → x ≡ (if t && true then on else flag_after events c))
       [ true ↦ λ o. sym (ap (λ r. unwrap_or r x) o) | false ↦ λ o. h.stored c x o ] (sym (u c) ∙ e));
 }
 
 -- a flag that is stored, where all that are stored enable
-pub all-enabled : (o : Option Bool) (f : Bool) → IsSome o → ((on : Bool) → o ≡ Some on → on ≡ true) → ((on : Bool) → o ≡ Some on → on ≡ f) → true ≡ f
+pub all-enabled : (o : Option Bool) (f : Bool) → IsSome o → ((on : Bool) → o ≡ Some on → on ≡ true) → ((on : Bool) → o ≡ Some on → on ≡ f)
+    → true ≡ f
 all-enabled None f s t u = absurd (false≢true s)
 all-enabled (Some on) f s t u = sym (t on refl) ∙ u on refl
 
@@ -65,7 +74,8 @@ flags-set disabled enabled old new b before u none q on e =
     ] (sym (u q) ∙ e)
 
 -- flags that enable beside those that are there
-pub flags-more : (disabled : Bool) (old new : List (Member × Bool)) → AreFlagsOf disabled old → ((q : Member) → Flags old new q) → AreFlagsOf disabled new
+pub flags-more : (disabled : Bool) (old new : List (Member × Bool)) → AreFlagsOf disabled old → ((q : Member) → Flags old new q)
+    → AreFlagsOf disabled new
 flags-more disabled old new before more none b on o = elim (more b) [
   | inl e ↦ before none b on (sym e ∙ o)
   | inr n ↦ ap (λ r. unwrap_or r true) (sym o ∙ n.1)

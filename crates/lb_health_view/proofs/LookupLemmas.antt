@@ -1,5 +1,6 @@
 -- One answer more: what becomes of the least cause and of the backends so far.
-use Rattle.std.proofs.Common.{◌≡◌, inl, inr, ℕ, List, [], ◌∷◌, ◌++◌, map, Bool, true, false, cond, Option, Some, None, Result, Ok, Err, refl, sym, ap, ◌∙◌, subst, ok_or}
+use Rattle.std.proofs.Common.{◌≡◌, inl, inr, ℕ, List, [], ◌∷◌, ◌++◌, map, Bool, true, false, cond, Option, Some, None, Result, Ok, Err}
+use Rattle.std.proofs.Common.{refl, sym, ap, ◌∙◌, subst, ok_or}
 use Rattle.std.specs.Borrow.{Bor}
 use Rattle.std.specs.List.{AllZip}
 use Rattle.std.specs.Net.Grammar.{IsSocketText}
@@ -16,7 +17,8 @@ use Rattle.std.proofs.lemmas.Option.{none-some, same_Some}
 use Rattle.lb_select_base.proofs.AddressTexts.{internet_read}
 use Rattle.lb_select_base.proofs.LeastCauses.{earlier-none}
 use Rattle.lb_health_view.specs.Discoveries.{IsDiscoveryRefusal}
-use Rattle.lb_health_view.specs.Lookups.{Answer, AreAnswers, Gathers, IsLookupCause, cause_of, cause_after, socket_answer, with_answer, with_answers}
+use Rattle.lb_health_view.specs.Lookups.{Answer, AreAnswers, Gathers, IsLookupCause, cause_of, cause_after, socket_answer, with_answer}
+use Rattle.lb_health_view.specs.Lookups.{with_answers}
 
 -- the two addresses that one text spells are one answer
 pub one_answer : (text : List ℕ) (s t : SocketAddr) → IsSocketText text s → IsSocketText text t → socket_answer t ≡ socket_answer s
@@ -39,12 +41,14 @@ before_memory e (inr (inl is)) = rw is refl
 before_memory e (inr (inr is)) = rw is refl
 
 -- the earlier of two is one of them
-one_of : (b : Bool) (e f : Refusal) → IsLookupCause e → IsLookupCause f → (g : Refusal) × (cond b (Some f) (Some e) ≡ Some g) × IsLookupCause g
+one_of : (b : Bool) (e f : Refusal) → IsLookupCause e → IsLookupCause f → (g : Refusal) × (cond b (Some f) (Some e) ≡ Some g)
+    × IsLookupCause g
 one_of true e f he hf = (f, refl, hf)
 one_of false e f he hf = (e, refl, he)
 
 -- a refusal more
-pub refused_more : (c : Option Refusal) (members : List Member) (cause : Option Refusal) (keys after : List Member) (f : Refusal) → IsLookupCause f
+pub refused_more : (c : Option Refusal) (members : List Member) (cause : Option Refusal) (keys after : List Member) (f : Refusal)
+    → IsLookupCause f
     → Gathers c members cause keys → Gathers (earlier c (Some f)) members (earlier cause (Some f)) after
 refused_more c members None keys after f hf h = (hf, inl (rw h.0 refl))
 refused_more c members (Some e) keys after f hf (he, inl is) =
@@ -68,7 +72,8 @@ kept c members keys (Some e) x none h = h
 -- one address more
 one_address : (c cause : Option Refusal) (members keys after : List Member) (o : Option Address) (r : Result (Unit {0}) Refusal)
     → Refuses (cause_of (ok_or o InvalidAddress)) (λ _. after ≡ with_answer keys (ok_or o InvalidAddress)) r → Gathers c members cause keys
-    → Gathers (earlier c (cause_of (ok_or o InvalidAddress))) (with_answer members (ok_or o InvalidAddress)) (earlier cause (result_err r)) after
+    → Gathers (earlier c (cause_of (ok_or o InvalidAddress))) (with_answer members (ok_or o InvalidAddress))
+    (earlier cause (result_err r)) after
 one_address c cause members keys after None (Ok u) h g = absurd (none-some InvalidAddress (sym h.0))
 one_address c cause members keys after None (Err e) (inl h) g =
     let is = same_Some InvalidAddress e h in
@@ -81,10 +86,12 @@ one_address c cause members keys after (Some a) (Err e) (inr h) g =
     rw (earlier-none c, h.1) (unkept c members (with_answer members (Ok a)) cause keys after g)
 
 -- one more of the addresses that were found
-pub one_more : (c cause : Option Refusal) (members keys after : List Member) (ys : List SocketAddr) (y : SocketAddr) (r : Result (Unit {0}) Refusal)
+pub one_more : (c cause : Option Refusal) (members keys after : List Member) (ys : List SocketAddr) (y : SocketAddr)
+    (r : Result (Unit {0}) Refusal)
     → Refuses (cause_of (socket_answer y)) (λ _. after ≡ with_answer keys (socket_answer y)) r
     → Gathers (cause_after c (map socket_answer ys)) (with_answers members (map socket_answer ys)) cause keys
-    → Gathers (cause_after c (map socket_answer (ys ++ y ∷ []))) (with_answers members (map socket_answer (ys ++ y ∷ []))) (earlier cause (result_err r)) after
+    → Gathers (cause_after c (map socket_answer (ys ++ y ∷ []))) (with_answers members (map socket_answer (ys ++ y ∷ [])))
+    (earlier cause (result_err r)) after
 one_more c cause members keys after ys y r h g =
     let xs = map socket_answer ys in
     let more = map-append socket_answer ys (y ∷ []) in

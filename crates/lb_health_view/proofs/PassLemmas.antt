@@ -43,7 +43,8 @@ all_kept :
     → AreKept key_of (filter_map (target_at key_of events) es) events
 all_kept key_of events [] = tt
 all_kept key_of events (e ∷ es) =
-    kept_by key_of events e.0 e.1 (cell_now same_member (changes_after key_of events) e.1) (filter_map (target_at key_of events) es) refl (all_kept key_of events es)
+    kept_by key_of events e.0 e.1 (cell_now same_member (changes_after key_of events) e.1) (filter_map (target_at key_of events) es) refl
+    (all_kept key_of events es)
 
 pub targets_kept : (key_of : Member → Member) (events : List Event) → AreKept key_of (targets_after key_of events) events
 targets_kept key_of events = all_kept key_of events (targets_in key_of (views_after events))

@@ -1,5 +1,6 @@
 -- How the events of a view change what its value shows.
-use Rattle.std.proofs.Common.{◌≡◌, ℕ, ◌+◌, Bool, true, false, cond, List, [], ◌∷◌, map, filter, refl, sym, ◌∙◌, ap, Some, None, Option, inl, inr}
+use Rattle.std.proofs.Common.{◌≡◌, ℕ, ◌+◌, Bool, true, false, cond, List, [], ◌∷◌, map, filter, refl, sym, ◌∙◌, ap, Some, None, Option, inl}
+use Rattle.std.proofs.Common.{inr}
 use Rattle.std.specs.Prelude.{IsSome, OnErr, Result, Ok, Err, ◌&&◌, ◌||◌, ◌⊎◌, if◌then◌else◌, ◌==◌}
 use Rattle.std.specs.HashMap.Eq.{lookup_congr}
 use Rattle.std.specs.List.{list_any}
@@ -10,25 +11,35 @@ use Rattle.std.proofs.lemmas.Map.Entries.{lookup-filter-keys}
 use Rattle.std.proofs.lemmas.Map.Steps.{list_any_congr}
 use Rattle.lb_select_base.specs.Backends.{Member, same_member}
 use Rattle.lb_select_base.proofs.Turns.{same_equiv}
-use Rattle.lb_health_view.specs.Snapshots.{SnapshotValue, ViewValue, snapshot_of, held_more, held_less, at_generation, living, lists_in, flags_listed, value_at}
-use Rattle.lb_health_view.specs.ViewEvents.{ViewEvent, Shown, Held, Released, Set, generation_after, membership_after, by_age, new_snapshot, listed, flag_after, snapshots_after}
+use Rattle.lb_health_view.specs.Snapshots.{SnapshotValue, ViewValue, snapshot_of, held_more, held_less, at_generation, living, lists_in}
+use Rattle.lb_health_view.specs.Snapshots.{flags_listed, value_at}
+use Rattle.lb_health_view.specs.ViewEvents.{ViewEvent, Shown, Held, Released, Set, generation_after, membership_after, by_age, new_snapshot}
+use Rattle.lb_health_view.specs.ViewEvents.{listed, flag_after, snapshots_after}
 use Rattle.lb_health_view.specs.Views.{IsViewAfter, Flags}
 use Rattle.lb_health_view.specs.declared.snapshot.ViewSnapshot.{ViewSnapshot}
 
 -- a filter of snapshots by what contracts see of them
-pub filter-seen : (p : SnapshotValue → Bool) (ss : List ViewSnapshot) → map snapshot_of (filter (λ s. p (snapshot_of s)) ss) ≡ filter p (map snapshot_of ss)
+pub filter-seen : (p : SnapshotValue → Bool) (ss : List ViewSnapshot) → map snapshot_of (filter (λ s. p (snapshot_of s)) ss) ≡ filter p
+    (map snapshot_of ss)
 filter-seen p [] = refl
 filter-seen p (s ∷ ss) =
-    elim (p (snapshot_of s)) as (λ b. map snapshot_of (cond b (s ∷ filter (λ x. p (snapshot_of x)) ss) (filter (λ x. p (snapshot_of x)) ss)) ≡ cond b (snapshot_of s ∷ filter p (map snapshot_of ss)) (filter p (map snapshot_of ss)))
+    elim (p (snapshot_of s)) as (λ b. map snapshot_of (cond b (s ∷ filter (λ x. p (snapshot_of x)) ss) (filter (λ x. p (snapshot_of x)) ss))
+    ≡ cond b (snapshot_of s ∷ filter p (map snapshot_of ss)) (filter p (map snapshot_of ss)))
     [ true ↦ ap (λ rest. snapshot_of s ∷ rest) (filter-seen p ss) | false ↦ filter-seen p ss ]
 
 -- what a filter leaves lists no more
-pub lists-filter : (b : Member) (p : SnapshotValue → Bool) (ss : List SnapshotValue) → lists_in b (filter p ss) ≡ true → lists_in b ss ≡ true
+pub lists-filter : (b : Member) (p : SnapshotValue → Bool) (ss : List SnapshotValue) → lists_in b (filter p ss) ≡ true
+    → lists_in b ss ≡ true
 lists-filter b p [] h = h
 lists-filter b p (s ∷ ss) h =
-    elim (p s) as (λ t. lists_in b (cond t (s ∷ filter p ss) (filter p ss)) ≡ true → (list_any (same_member b) s.members || lists_in b ss) ≡ true) [
-      | true ↦ λ e. elim (list_any (same_member b) s.members) as (λ u. (u || lists_in b (filter p ss)) ≡ true → (u || lists_in b ss) ≡ true) [ true ↦ λ _. refl | false ↦ λ r. lists-filter b p ss r ] e
-      | false ↦ λ e. elim (list_any (same_member b) s.members) as (λ u. (u || lists_in b ss) ≡ true) [ true ↦ refl | false ↦ lists-filter b p ss e ]
+    elim (p s) as (λ t. lists_in b (cond t (s ∷ filter p ss) (filter p ss)) ≡ true
+    → (list_any (same_member b) s.members || lists_in b ss) ≡ true) [
+      | true ↦ λ e. elim (list_any (same_member b) s.members) as (λ u. (u || lists_in b (filter p ss)) ≡ true → (u || lists_in b ss) ≡ true)
+          [ true ↦ λ _. refl | false ↦ λ r. lists-filter b p ss r ] e
+      | false ↦ λ e. elim (list_any (same_member b) s.members) as (λ u. (u || lists_in b ss) ≡ true) [
+        | true ↦ refl
+        | false ↦ lists-filter b p ss e
+      ]
     ] h
 
 -- a count of holds changes no list of members
@@ -36,7 +47,8 @@ pub lists-at_generation : (b : Member) (g : ℕ) (f : SnapshotValue → Snapshot
     → (ss : List SnapshotValue) → lists_in b (at_generation g f ss) ≡ lists_in b ss
 lists-at_generation b g f same [] = refl
 lists-at_generation b g f same (s ∷ ss) =
-    elim (s.generation == g) as (λ t. lists_in b (if t then f s ∷ ss else s ∷ at_generation g f ss) ≡ (list_any (same_member b) s.members || lists_in b ss)) [
+    elim (s.generation == g) as (λ t. lists_in b (if t then f s ∷ ss else s ∷ at_generation g f ss) ≡
+    (list_any (same_member b) s.members || lists_in b ss)) [
       | true ↦ ap (λ ms. list_any (same_member b) ms || lists_in b ss) (same s)
       | false ↦ ap (λ r. list_any (same_member b) s.members || r) (lists-at_generation b g f same ss)
     ]
@@ -44,22 +56,26 @@ lists-at_generation b g f same (s ∷ ss) =
 -- the same snapshots in another order
 pub lists-by_age : (b : Member) (ss : List SnapshotValue) → lists_in b (by_age ss) ≡ lists_in b ss
 lists-by_age b [] = refl
-lists-by_age b (s ∷ ss) = list_any-append _ ss (s ∷ []) ∙ elim (list_any (same_member b) s.members) as (λ t. (lists_in b ss || (t || false)) ≡ (t || lists_in b ss)) [
-  | true ↦ elim (lists_in b ss) as (λ u. (u || (true || false)) ≡ true) [ true ↦ refl | false ↦ refl ]
-  | false ↦ elim (lists_in b ss) as (λ u. (u || (false || false)) ≡ u) [ true ↦ refl | false ↦ refl ]
-]
+lists-by_age b (s ∷ ss) = list_any-append _ ss (s ∷ [])
+    ∙ elim (list_any (same_member b) s.members) as (λ t. (lists_in b ss || (t || false)) ≡ (t || lists_in b ss)) [
+      | true ↦ elim (lists_in b ss) as (λ u. (u || (true || false)) ≡ true) [ true ↦ refl | false ↦ refl ]
+      | false ↦ elim (lists_in b ss) as (λ u. (u || (false || false)) ≡ u) [ true ↦ refl | false ↦ refl ]
+    ]
 
 -- one identity is listed or not
 pub lists-same : (b c : Member) → same_member b c ≡ true → (ss : List SnapshotValue) → lists_in b ss ≡ lists_in c ss
 lists-same b c e [] = refl
-lists-same b c e (s ∷ ss) = ap (λ t. t || lists_in b ss) (list_any_congr same_equiv b c s.members e) ∙ ap (λ t. list_any (same_member c) s.members || t) (lists-same b c e ss)
+lists-same b c e (s ∷ ss) = ap (λ t. t || lists_in b ss) (list_any_congr same_equiv b c s.members e)
+    ∙ ap (λ t. list_any (same_member c) s.members || t) (lists-same b c e ss)
 
 -- the flags of what is listed
-pub flag-listed : (ss : List SnapshotValue) (flags : List (Member × Bool)) (b : Member) → value_at (flags_listed ss flags) b ≡ cond (lists_in b ss) (value_at flags b) None
+pub flag-listed : (ss : List SnapshotValue) (flags : List (Member × Bool)) (b : Member)
+    → value_at (flags_listed ss flags) b ≡ cond (lists_in b ss) (value_at flags b) None
 flag-listed ss flags b = lookup-filter-keys (same_member b) (λ k. lists_in k ss) (lists_in b ss) (λ k e. sym (lists-same b k e ss)) flags
 
 -- a flag that is stored after a filter was stored before, and is of a backend that is listed
-pub flag-kept : (ss : List SnapshotValue) (flags : List (Member × Bool)) (b : Member) (on : Bool) → value_at (flags_listed ss flags) b ≡ Some on
+pub flag-kept : (ss : List SnapshotValue) (flags : List (Member × Bool)) (b : Member) (on : Bool)
+    → value_at (flags_listed ss flags) b ≡ Some on
     → (lists_in b ss ≡ true) × (value_at flags b ≡ Some on)
 flag-kept ss flags b on e =
     elim (lists_in b ss) as (λ t. cond t (value_at flags b) None ≡ Some on → (t ≡ true) × (value_at flags b ≡ Some on))
@@ -75,7 +91,8 @@ unlisted-enabled (Set c on ∷ earlier) b u =
     ] refl
 unlisted-enabled (Shown members cells ∷ earlier) b u = rw u refl
 unlisted-enabled (Released g ∷ earlier) b u = rw u refl
-unlisted-enabled (Held g ∷ earlier) b u = unlisted-enabled earlier b (sym (lists-at_generation b g held_more (λ s. refl) (snapshots_after earlier)) ∙ u)
+unlisted-enabled (Held g ∷ earlier) b u =
+    unlisted-enabled earlier b (sym (lists-at_generation b g held_more (λ s. refl) (snapshots_after earlier)) ∙ u)
 
 -- flags that enable may be stored beside those that are needed
 pub roomier : (views : List ViewEvent) (v w : ViewValue) → IsViewAfter views v → w.generation ≡ v.generation → w.snapshots ≡ v.snapshots
@@ -108,15 +125,18 @@ pub released : (views : List ViewEvent) (v w : ViewValue) (g : ℕ) → IsViewAf
     → w.snapshots ≡ living v.generation (at_generation g held_less v.snapshots) → w.flags ≡ flags_listed w.snapshots v.flags
     → IsViewAfter (Released g ∷ views) w
 released views v w g h n s f =
-    let after : w.snapshots ≡ snapshots_after (Released g ∷ views) = s ∙ ap (λ m. living m (at_generation g held_less v.snapshots)) h.generation
+    let after : w.snapshots ≡ snapshots_after (Released g ∷ views) = s
+    ∙ ap (λ m. living m (at_generation g held_less v.snapshots)) h.generation
     ∙ ap (λ ss. living (generation_after views) (at_generation g held_less ss)) h.snapshots in
     let flags : w.flags ≡ flags_listed (snapshots_after (Released g ∷ views)) v.flags = f ∙ ap (λ ss. flags_listed ss v.flags) after in
     record {
       generation = n ∙ h.generation;
       snapshots = after;
       needed = λ b l. rw (flags, flag-listed (snapshots_after (Released g ∷ views)) v.flags b, l)
-          (h.needed b (sym (lists-at_generation b g held_less (λ s. refl) (snapshots_after views)) ∙ lists-filter b _ (at_generation g held_less (snapshots_after views)) l));
-      stored = λ b on o. let kept = flag-kept (snapshots_after (Released g ∷ views)) v.flags b on (rw flags at o) in rw kept.0 (h.stored b on kept.1);
+          (h.needed b (sym (lists-at_generation b g held_less (λ s. refl) (snapshots_after views))
+          ∙ lists-filter b _ (at_generation g held_less (snapshots_after views)) l));
+      stored = λ b on o. let kept = flag-kept (snapshots_after (Released g ∷ views)) v.flags b on (rw flags at o)
+          in rw kept.0 (h.stored b on kept.1);
     }
 
 -- a new membership, whose backends all have a flag
@@ -127,18 +147,21 @@ pub shown : (views : List ViewEvent) (v w : ViewValue) (ms : List Member) (cells
     → w.flags ≡ flags_listed w.snapshots v.flags
     → IsViewAfter (Shown ms cells ∷ views) w
 shown views v w ms cells h all n s f =
-    let after : w.snapshots ≡ snapshots_after (Shown ms cells ∷ views) = s ∙ ap (λ m. new_snapshot (m + 1) ms cells ∷ living (m + 1) (by_age v.snapshots)) h.generation
+    let after : w.snapshots ≡ snapshots_after (Shown ms cells ∷ views) = s
+    ∙ ap (λ m. new_snapshot (m + 1) ms cells ∷ living (m + 1) (by_age v.snapshots)) h.generation
     ∙ ap (λ ss. new_snapshot (generation_after views + 1) ms cells ∷ living (generation_after views + 1) (by_age ss)) h.snapshots in
     let flags : w.flags ≡ flags_listed (snapshots_after (Shown ms cells ∷ views)) v.flags = f ∙ ap (λ ss. flags_listed ss v.flags) after in
     record {
       generation = n ∙ ap (λ m. m + 1) h.generation;
       snapshots = after;
       needed = λ b l. rw (flags, flag-listed (snapshots_after (Shown ms cells ∷ views)) v.flags b, l)
-          (elim (list_any (same_member b) ms) as (λ t. list_any (same_member b) ms ≡ t → (t || lists_in b (living (generation_after views + 1) (by_age (snapshots_after views)))) ≡ true → IsSome (value_at v.flags b)) [
+          (elim (list_any (same_member b) ms) as (λ t. list_any (same_member b) ms ≡ t
+          → (t || lists_in b (living (generation_after views + 1) (by_age (snapshots_after views)))) ≡ true → IsSome (value_at v.flags b)) [
             | true ↦ λ e _. all b e
             | false ↦ λ _ r. h.needed b (sym (lists-by_age b (snapshots_after views)) ∙ lists-filter b _ (by_age (snapshots_after views)) r)
           ] refl l);
-      stored = λ b on o. let kept = flag-kept (snapshots_after (Shown ms cells ∷ views)) v.flags b on (rw flags at o) in rw kept.0 (h.stored b on kept.1);
+      stored = λ b on o. let kept = flag-kept (snapshots_after (Shown ms cells ∷ views)) v.flags b on (rw flags at o)
+          in rw kept.0 (h.stored b on kept.1);
     }
 
 -- the current snapshot comes first: its members and its generation
@@ -150,18 +173,23 @@ abbrev pub first_generation : List SnapshotValue → ℕ
 first_generation [] = 0
 first_generation (s ∷ ss) = s.generation
 
-first-at_generation : (g : ℕ) (f : SnapshotValue → SnapshotValue) → ((s : SnapshotValue) → ((f s).members ≡ s.members) × ((f s).generation ≡ s.generation))
-    → (ss : List SnapshotValue) → (first_members (at_generation g f ss) ≡ first_members ss) × (first_generation (at_generation g f ss) ≡ first_generation ss)
+first-at_generation : (g : ℕ) (f : SnapshotValue → SnapshotValue)
+    → ((s : SnapshotValue) → ((f s).members ≡ s.members) × ((f s).generation ≡ s.generation))
+    → (ss : List SnapshotValue) → (first_members (at_generation g f ss) ≡ first_members ss)
+    × (first_generation (at_generation g f ss) ≡ first_generation ss)
 first-at_generation g f same [] = (refl, refl)
 first-at_generation g f same (s ∷ ss) =
-    elim (s.generation == g) as (λ t. (first_members (if t then f s ∷ ss else s ∷ at_generation g f ss) ≡ s.members) × (first_generation (if t then f s ∷ ss else s ∷ at_generation g f ss) ≡ s.generation))
+    elim (s.generation == g) as (λ t. (first_members (if t then f s ∷ ss else s ∷ at_generation g f ss) ≡ s.members)
+    × (first_generation (if t then f s ∷ ss else s ∷ at_generation g f ss) ≡ s.generation))
     [ true ↦ same s | false ↦ (refl, refl) ]
 
-first-living : (n : ℕ) (ss : List SnapshotValue) → first_generation ss ≡ n → (first_members (living n ss) ≡ first_members ss) × (first_generation (living n ss) ≡ first_generation ss)
+first-living : (n : ℕ) (ss : List SnapshotValue) → first_generation ss ≡ n → (first_members (living n ss) ≡ first_members ss)
+    × (first_generation (living n ss) ≡ first_generation ss)
 first-living n [] e = (refl, refl)
 first-living n (s ∷ ss) e = rw (eq-eqb s.generation n e) (refl, refl)
 
-pub current_first : (views : List ViewEvent) → (first_members (snapshots_after views) ≡ membership_after views) × (first_generation (snapshots_after views) ≡ generation_after views)
+pub current_first : (views : List ViewEvent) → (first_members (snapshots_after views) ≡ membership_after views)
+    × (first_generation (snapshots_after views) ≡ generation_after views)
 current_first [] = (refl, refl)
 current_first (Shown members cells ∷ earlier) = (refl, refl)
 current_first (Set b on ∷ earlier) = current_first earlier
@@ -214,10 +242,11 @@ pub all-there : (cur : List (Member × Bool)) (b : Member) (rest : List Member) 
 all-there cur b rest there q before =
     elim before [
       | inl k ↦ inl k
-      | inr l ↦ elim (same_member q b) as (λ t. same_member q b ≡ t → (t || list_any (same_member q) rest) ≡ true → IsSome (value_at cur q) ⊎ (list_any (same_member q) rest ≡ true)) [
-        | true ↦ λ e _. inl (ap is_some (lookup_congr same_member (same_equiv.congr) cur q b e) ∙ there)
-        | false ↦ λ _ r. inr r
-      ] refl l
+      | inr l ↦ elim (same_member q b) as (λ t. same_member q b ≡ t → (t || list_any (same_member q) rest) ≡ true → IsSome (value_at cur q)
+          ⊎ (list_any (same_member q) rest ≡ true)) [
+            | true ↦ λ e _. inl (ap is_some (lookup_congr same_member (same_equiv.congr) cur q b e) ∙ there)
+            | false ↦ λ _ r. inr r
+          ] refl l
     ]
 
 -- an option without a value

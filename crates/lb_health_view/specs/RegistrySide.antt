@@ -9,7 +9,8 @@ use Rattle.lb_select_base.specs.Seen.{address_seen}
 use Rattle.lb_select_base.specs.declared.backend.SocketAddr.{SocketAddr}
 use Rattle.lb_health_registry.specs.RegistryEvents as registry
 use Rattle.lb_health_view.specs.Snapshots.{SnapshotValue, snapshot_at, value_at}
-use Rattle.lb_health_view.specs.ViewEvents.{ViewEvent, Shown, Released, Set, generation_after, membership_after, snapshots_after, flag_after}
+use Rattle.lb_health_view.specs.ViewEvents.{ViewEvent, Shown, Released, Set, generation_after, membership_after, snapshots_after}
+use Rattle.lb_health_view.specs.ViewEvents.{flag_after}
 
 -- whether a snapshot of this generation is among these
 abbrev pub lives : ℕ → List SnapshotValue → Bool

@@ -1,5 +1,6 @@
 -- Each step of a board keeps its rule: a load by any pass, a raise by the pass that writes, and the load with which a pass comes.
-use Rattle.std.proofs.Common.{◌≡◌, ◌≢◌, ◌∙◌, ◌≤◌, ◌<◌, ◌+◌, ℕ, zero, suc, max, Bool, true, false, List, [], ◌∷◌, ◌++◌, length, map, replicate, refl, sym, ap, subst, ⊎_elim, set, get_or, length-set, get_or-set_same, get_or-set_other, arith}
+use Rattle.std.proofs.Common.{◌≡◌, ◌≢◌, ◌∙◌, ◌≤◌, ◌<◌, ◌+◌, ℕ, zero, suc, max, Bool, true, false, List, [], ◌∷◌, ◌++◌, length, map}
+use Rattle.std.proofs.Common.{replicate, refl, sym, ap, subst, ⊎_elim, set, get_or, length-set, get_or-set_same, get_or-set_other, arith}
 use Rattle.std.proofs.lemmas.Bool.{false≢true}
 use Rattle.std.proofs.lemmas.List.{length-map, length-replicate, set-get_or, set_past}
 use Rattle.std.specs.List.{slice_index}
@@ -35,7 +36,8 @@ fits_loaded : (words : List ℕ) (id i : ℕ) (v : Record) → Fits words id v �
 fits_loaded words id i v f = record {
   values = length-set v.values i (slice_index words i) ∙ f.values;
   loads = length-set v.loads i (slice_index v.loads i + 1) ∙ f.loads;
-  seen = λ j. at_write v.values i j (slice_index words i) (λ x. x ≤ slice_index words j) (λ e. subst (λ (k : ℕ). slice_index words i ≤ slice_index words k) (sym e) (omega arith)) (f.seen j);
+  seen = λ j. at_write v.values i j (slice_index words i) (λ x. x ≤ slice_index words j)
+      (λ e. subst (λ (k : ℕ). slice_index words i ≤ slice_index words k) (sym e) (omega arith)) (f.seen j);
   writer = λ writes.
       let w = f.writer writes in
       (w.0, ap (λ (l : List ℕ). set l i (slice_index words i)) w.1 ∙ set-get_or words i 0);
@@ -48,7 +50,8 @@ kept_loaded slots id i words views v k at = record {
   led = k.led;
   each = λ id' v' e.
       ⊎_elim
-      (λ t. subst (λ (r : Record). Fits words id' r) t.1 (subst (λ (d : ℕ). Fits words d (loaded v i (slice_index words i))) (sym t.0) (fits_loaded words id i v (k.each id v at))))
+      (λ t. subst (λ (r : Record). Fits words id' r) t.1 (subst (λ (d : ℕ). Fits words d (loaded v i (slice_index words i))) (sym t.0)
+      (fits_loaded words id i v (k.each id v at))))
       (λ t. k.each id' v' t.1)
       (at_set views id id' (loaded v i (slice_index words i)) v' e);
 }
@@ -61,7 +64,8 @@ loads_as {S} slots homes id i me none s k _ at _ =
       loaded me.0 i n,
       keeps,
       tt,
-      subst (λ (l : List ℕ). Kept slots l (set s.views id (loaded me.0 i n))) (sym (set-get_or s.words i 0)) (kept_loaded slots id i s.words s.views me.0 k at),
+      subst (λ (l : List ℕ). Kept slots l (set s.views id (loaded me.0 i n))) (sym (set-get_or s.words i 0))
+          (kept_loaded slots id i s.words s.views me.0 k at),
       (
         ap (λ (l : List (ℕ × S)). (loaded me.0 i n, l)) none,
         f.seen i,
@@ -70,7 +74,8 @@ loads_as {S} slots homes id i me none s k _ at _ =
     )
 
 -- a raise by the pass that writes
-fits_higher : (words : List ℕ) (id i n : ℕ) (v : Record) → slice_index words i ≤ n → v.writes ≡ false → Fits words id v → Fits (set words i n) id v
+fits_higher : (words : List ℕ) (id i n : ℕ) (v : Record) → slice_index words i ≤ n → v.writes ≡ false → Fits words id v
+    → Fits (set words i n) id v
 fits_higher words id i n v less reads f = record {
   values = f.values ∙ sym (length-set words i n);
   loads = f.loads ∙ sym (length-set words i n);
@@ -99,7 +104,8 @@ raised_led l i n less led all j =
 newest_leads : (l : List ℕ) (i n : ℕ) → 0 < length l → (i ≢ 0 → n ≤ slice_index l 0) → n ≤ slice_index (set l i n) 0
 newest_leads l i n there below =
     dite (ℕ_discrete i 0)
-    (λ e. subst (λ (k : ℕ). n ≤ slice_index (set l k n) 0) (sym e) (subst (λ (m : ℕ). n ≤ m) (sym (get_or-set_same l 0 n 0 there)) (omega arith)))
+    (λ e. subst (λ (k : ℕ). n ≤ slice_index (set l k n) 0) (sym e) (subst (λ (m : ℕ). n ≤ m) (sym (get_or-set_same l 0 n 0 there))
+    (omega arith)))
     (λ apart. subst (λ (m : ℕ). n ≤ m) (sym (get_or-set_other l i 0 n 0 (λ e. apart (sym e)))) (below apart))
 
 kept_raised : (slots id i k : ℕ) (views : List Record) (v : Record) → v.writes ≡ true
@@ -180,7 +186,8 @@ comes {S} slots homes i s h _ _ = (
 )
 
 -- what a load leaves of the pass
-pub loaded_pass : (p q : PassValue) (i n : ℕ) → q.board ≡ p.board → q.values ≡ set p.values i n → q.loads ≡ set p.loads i (slice_index p.loads i + 1)
+pub loaded_pass : (p q : PassValue) (i n : ℕ) → q.board ≡ p.board → q.values ≡ set p.values i n
+    → q.loads ≡ set p.loads i (slice_index p.loads i + 1)
     → i < length p.values → i < length p.loads → slice_index p.values i ≤ n → IsLoad p i n q
 loaded_pass p q i n board values loads few_values few_loads rises = record {
   board = board;

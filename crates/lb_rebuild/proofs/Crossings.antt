@@ -31,7 +31,8 @@ use Rattle.lb_rebuild.specs.contracts.watched.Watched.TheInside as watched_insid
 place_send : IsSend place.the_row
 place_send = search (sendable, crosses) depth 20
 
-module _ (T I C W : RattleType) (g : Selection T.Denot I.Denot C.Denot W.Denot) (h : Iter I.Denot) (s : IsSend T) (sc : IsSend C) (y : IsSync T) (yc : IsSync C) where
+module _ (T I C W : RattleType) (g : Selection T.Denot I.Denot C.Denot W.Denot) (h : Iter I.Denot) (s : IsSend T) (sc : IsSend C)
+    (y : IsSync T) (yc : IsSync C) where
   retired_send : IsSend (retired.the_row T I C W g h)
   retired_send = search (sendable, crosses, place_send, serving.the_send, permit.the_send) depth 20
 

@@ -1,5 +1,7 @@
 -- How a new board comes to show a group, word by word.
-use Rattle.std.proofs.Common.{◌≡◌, ◌≢◌, ◌≤◌, ◌<◌, ◌+◌, ◌∙◌, ℕ, zero, suc, Bool, true, false, cond, max, nat_lt, List, [], ◌∷◌, length, replicate, set, get_or, get_or-set_same, get_or-set_other, length-set, ext_get_or, add-one, refl, sym, ap, subst, arith, Option, Some, None}
+use Rattle.std.proofs.Common.{◌≡◌, ◌≢◌, ◌≤◌, ◌<◌, ◌+◌, ◌∙◌, ℕ, zero, suc, Bool, true, false, cond, max, nat_lt, List, [], ◌∷◌, length}
+use Rattle.std.proofs.Common.{replicate, set, get_or, get_or-set_same, get_or-set_other, length-set, ext_get_or, add-one, refl, sym, ap}
+use Rattle.std.proofs.Common.{subst, arith, Option, Some, None}
 use Rattle.std.proofs.lemmas.List.{length-map, length-replicate}
 use Rattle.std.proofs.lemmas.Bool.{ltb-true}
 use Rattle.std.specs.List.{slice_index}
@@ -49,10 +51,12 @@ shown_more target words after k g s below is raised =
       done = λ j at.
           ap (λ (l : List ℕ). slice_index l j) now
           ∙ dite (ℕ_discrete j k)
-          (λ e. subst (λ (m : ℕ). slice_index (set words k (slice_index target k)) m ≡ slice_index target m) (sym e) (get_or-set_same words k (slice_index target k) 0 inside))
+          (λ e. subst (λ (m : ℕ). slice_index (set words k (slice_index target k)) m ≡ slice_index target m) (sym e)
+          (get_or-set_same words k (slice_index target k) 0 inside))
           (λ ne. get_or-set_other words k j (slice_index target k) 0 ne ∙ s.done j (omega (arith, at, ne)));
       left = λ j past.
-          ap (λ (l : List ℕ). slice_index l j) now ∙ get_or-set_other words k j (slice_index target k) 0 (λ e. omega (arith, e, past)) ∙ s.left j (omega (arith, past));
+          ap (λ (l : List ℕ). slice_index l j) now ∙ get_or-set_other words k j (slice_index target k) 0 (λ e. omega (arith, e, past))
+          ∙ s.left j (omega (arith, past));
     }
 
 pub shown_all : (target words : List ℕ) (k : ℕ) → Shown target words k → length target ≤ k → words ≡ target
@@ -73,7 +77,8 @@ module _ {C : Type 0} where
   beyond_slots {v} {o} {slot} p tells none =
       let made = p.0 in
       let count = count_is p.1.1 in
-      elim (nat_lt slot (length made.configs)) as (λ b. nat_lt slot (length made.configs) ≡ b → None ≡ cond b (Some (served (past_of slot (slot_events p.1.0)))) None → length v.group.slots ≤ slot) [
+      elim (nat_lt slot (length made.configs)) as (λ b. nat_lt slot (length made.configs) ≡ b
+      → None ≡ cond b (Some (served (past_of slot (slot_events p.1.0)))) None → length v.group.slots ≤ slot) [
         | true ↦ λ b e. absurd (cc)
         | false ↦ λ b e. let out = not-below slot (length made.configs) b in omega (arith, count, out)
       ] refl (sym none ∙ tells made p.1.0 p.1.1)
@@ -86,7 +91,8 @@ module _ {C : Type 0} where
       let h : slots.History = slot_events p.1.0 in
       let s = p.1.1 in
       let count = count_is s in
-      elim (nat_lt slot (length made.configs)) as (λ b. nat_lt slot (length made.configs) ≡ b → Some g ≡ cond b (Some (served (past_of slot h))) None
+      elim (nat_lt slot (length made.configs)) as (λ b. nat_lt slot (length made.configs) ≡ b
+      → Some g ≡ cond b (Some (served (past_of slot h))) None
       → (slot < length v.group.slots) × (slice_index (words_of v.group) (slot + 1) ≡ g) × (g ≤ v.group.newest)) [
         | true ↦ λ b e.
             let below : slot < length made.configs = ltb-true slot (length made.configs) b in
@@ -107,5 +113,6 @@ module _ {C : Type 0} where
   pub words_long : (v : SlotsValue C) → length (words_of v) ≡ length v.slots + 1
   words_long v = let same = length-map v.slots (λ (x : SlotValue C). x.serving.generation) in omega (arith, same)
 
-  pub newest_told : {v : GroupValue C} {n : ℕ} → IsFounded v → ((made : Made C) (e : History) → Stands made e v → n ≡ newest (slot_events e)) → n ≡ v.group.newest
+  pub newest_told : {v : GroupValue C} {n : ℕ} → IsFounded v
+      → ((made : Made C) (e : History) → Stands made e v → n ≡ newest (slot_events e)) → n ≡ v.group.newest
   newest_told p tells = tells p.0 p.1.0 p.1.1 ∙ sym (ap (λ (x : SlotsValue C). x.newest) p.1.1.group.shows)

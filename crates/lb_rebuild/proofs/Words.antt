@@ -1,14 +1,18 @@
 -- How the words of a group change with its events: only a membership changes the newest generation, and only a publication what a slot
 -- serves.
-use Rattle.std.proofs.Common.{◌≡◌, ◌≢◌, ◌≤◌, ◌<◌, ◌+◌, ◌==◌, ◌%◌, ◌^◌, add-one, get_or-set_same, ◌∙◌, ℕ, zero, suc, Bool, true, false, cond, max, List, [], ◌∷◌, ◌++◌, map, length, set, get_or, refl, sym, ap, subst, arith, Option, Some, None, Result, Ok, Err, slice_get}
+use Rattle.std.proofs.Common.{◌≡◌, ◌≢◌, ◌≤◌, ◌<◌, ◌+◌, ◌==◌, ◌%◌, ◌^◌, add-one, get_or-set_same, ◌∙◌, ℕ, zero, suc, Bool, true, false, cond}
+use Rattle.std.proofs.Common.{max, List, [], ◌∷◌, ◌++◌, map, length, set, get_or, refl, sym, ap, subst, arith, Option, Some, None, Result}
+use Rattle.std.proofs.Common.{Ok, Err, slice_get}
 use Rattle.std.proofs.lemmas.List.{map-set, length-map}
 use Rattle.std.proofs.lemmas.Bool.{eqb-true}
 use Rattle.std.proofs.lemmas.Option.{slice_get_within}
 use Rattle.std.specs.List.{slice_index}
 use Rattle.lb_rebuild_slots.specs.Gate.{GateId}
 use Rattle.lb_rebuild_slots.specs.SlotsHistory as slots
-use Rattle.lb_rebuild_slots.specs.SlotsHistory.{SlotEvent, SlotsEvent, past_of, newest, served, granted, extra, is_under_way, reaches, Extra}
-use Rattle.lb_rebuild_slots.specs.SlotsCalls.{Schedules, schedule_events, is_change, ask_events, asked_events, fail_events, publish_events, abandon_events, done_at, ticket_events, serves, is_awaited}
+use Rattle.lb_rebuild_slots.specs.SlotsHistory.{SlotEvent, SlotsEvent, past_of, newest, served, granted, extra, is_under_way, reaches}
+use Rattle.lb_rebuild_slots.specs.SlotsHistory.{Extra}
+use Rattle.lb_rebuild_slots.specs.SlotsCalls.{Schedules, schedule_events, is_change, ask_events, asked_events, fail_events, publish_events}
+use Rattle.lb_rebuild_slots.specs.SlotsCalls.{abandon_events, done_at, ticket_events, serves, is_awaited}
 use Rattle.lb_rebuild_slots.specs.SlotCalls.{ask_told}
 use Rattle.lb_rebuild_slots.specs.Stands as core
 use Rattle.lb_rebuild_slots.specs.Stands.{Made, StandsFor, slots_after, slot_after, group_after}
@@ -46,7 +50,8 @@ module _ {C : Type 0} where
   abbrev pub generations : List (SlotValue C) → List ℕ
   generations xs = map (λ (x : SlotValue C). x.serving.generation) xs
 
-  quiet_slots : (gate : GateId) (i : ℕ) (cs : List C) (x : SlotsEvent) (h : slots.History) → ((p : slots.History) → served (x ∷ p) ≡ served p)
+  quiet_slots : (gate : GateId) (i : ℕ) (cs : List C) (x : SlotsEvent) (h : slots.History)
+      → ((p : slots.History) → served (x ∷ p) ≡ served p)
       → generations (slots_after gate i cs (x ∷ h)) ≡ generations (slots_after gate i cs h)
   quiet_slots gate i [] x h same = refl
   quiet_slots gate i (c ∷ cs) x h same =
@@ -58,13 +63,16 @@ module _ {C : Type 0} where
       joined_lists _ _ _ _ (q.0.newest (es ++ h)) (quiet_slots made.gate 0 made.configs x (es ++ h) q.0.served) ∙ quiet_words made es h q.1
 
   -- after a call whose events are quiet the words are those of before
-  pub quiet_stands : (made : Made C) (es h : slots.History) (v w : SlotsValue C) → AreQuiet es → StandsFor made h v → StandsFor made (es ++ h) w
+  pub quiet_stands : (made : Made C) (es h : slots.History) (v w : SlotsValue C) → AreQuiet es → StandsFor made h v
+      → StandsFor made (es ++ h) w
       → words_of w ≡ words_of v
   quiet_stands made es h v w q s t =
       ap (λ (x : SlotsValue C). words_of x) t.shows ∙ quiet_words made es h q ∙ sym (ap (λ (x : SlotsValue C). words_of x) s.shows)
 
-  pub quiet_call : {u v w : GroupValue C} (then_ : Made C → History → slots.History) → IsFounded u → u ≡ v → ((made : Made C) (e : History) → AreQuiet (then_ made e))
-      → ((made : Made C) (e : History) → Stands made e v → Stands made (in_group (then_ made e) ++ e) w) → words_of w.group ≡ words_of v.group
+  pub quiet_call : {u v w : GroupValue C} (then_ : Made C → History → slots.History) → IsFounded u → u ≡ v
+      → ((made : Made C) (e : History) → AreQuiet (then_ made e))
+      → ((made : Made C) (e : History) → Stands made e v → Stands made (in_group (then_ made e) ++ e) w)
+      → words_of w.group ≡ words_of v.group
   quiet_call {u} {v} {w} then_ p is quiet becomes =
       let made = p.0 in
       let e = p.1.0 in
@@ -74,7 +82,8 @@ module _ {C : Type 0} where
       (subst (λ (h : slots.History). StandsFor made h w.group) (group-joined (then_ made e) e) t.group)
 
   -- the settings of a backend are not the group's matter
-  pub quiet_setting : {u v w : GroupValue C} {b : Member} {on : Bool} → IsFounded u → u ≡ v → Becomes v (Set b on ∷ []) w → words_of w.group ≡ words_of v.group
+  pub quiet_setting : {u v w : GroupValue C} {b : Member} {on : Bool} → IsFounded u → u ≡ v → Becomes v (Set b on ∷ []) w
+      → words_of w.group ≡ words_of v.group
   quiet_setting {u} {v} {w} p is becomes =
       let made = p.0 in
       let e = p.1.0 in
@@ -92,16 +101,23 @@ under_way_granted s g n (slots.retired m) up fits = absurd (cc)
 under_way_granted s g n (slots.taken_out m) up fits = absurd (cc)
 
 module _ {C : Type 0} where
-  published_slots : (gate : GateId) (i k j : ℕ) (cs : List C) (c : C) (ended : ℕ) (ms : List Member) (h : slots.History) → j ≡ i + k → slice_get cs k ≡ Some c
-      → generations (slots_after gate i cs (slots.At j (slots.Published ended ms) ∷ h)) ≡ set (generations (slots_after gate i cs h)) k (granted (past_of j h))
+  published_slots : (gate : GateId) (i k j : ℕ) (cs : List C) (c : C) (ended : ℕ) (ms : List Member) (h : slots.History) → j ≡ i + k
+      → slice_get cs k ≡ Some c
+      → generations (slots_after gate i cs (slots.At j (slots.Published ended ms) ∷ h)) ≡ set (generations (slots_after gate i cs h)) k
+      (granted (past_of j h))
   published_slots gate i k j cs c ended ms h at is =
       ap (λ (l : List (SlotValue C)). generations l) (event-slots gate i k j cs c (slots.Published ended ms) h at is)
-      ∙ map-set (λ (x : SlotValue C). x.serving.generation) (slots_after gate i cs h) k (slot_after gate c (slots.At j (slots.Published ended ms) ∷ past_of j h))
+      ∙ map-set (λ (x : SlotValue C). x.serving.generation) (slots_after gate i cs h) k
+      (slot_after gate c (slots.At j (slots.Published ended ms) ∷ past_of j h))
 
   pub served_there : (gate : GateId) (i k j : ℕ) (cs : List C) (h : slots.History) → j ≡ i + k → k < length cs
-      → (slice_index (generations (slots_after gate i cs h)) k ≡ served (past_of j h)) × (k < length (generations (slots_after gate i cs h)))
+      → (slice_index (generations (slots_after gate i cs h)) k ≡ served (past_of j h))
+      × (k < length (generations (slots_after gate i cs h)))
   served_there gate i k j [] h at below = absurd (omega arith)
-  served_there gate i zero j (c ∷ cs) h at below = (ap (λ (m : ℕ). served (past_of m h)) (let place : i ≡ j = omega (arith, at) in place), omega arith)
+  served_there gate i zero j (c ∷ cs) h at below = (
+    ap (λ (m : ℕ). served (past_of m h)) (let place : i ≡ j = omega (arith, at) in place),
+    omega arith,
+  )
   served_there gate i (suc k) j (c ∷ cs) h at below =
       let rest = served_there gate (i + 1) k j cs h (omega (arith, at)) (omega (arith, below)) in
       (rest.0, omega (arith, rest.1))
@@ -114,7 +130,8 @@ module _ {C : Type 0} where
     pub newest : w.newest ≡ v.newest
     pub slots : generations w.slots ≡ set (generations v.slots) slot generation
 
-  pub published_call : {u v w : GroupValue C} (b : BuiltValue C) (n : ℕ) → IsFounded u → u ≡ v → slice_get (configs_of v.group) b.task.slot ≡ Some b.task.config
+  pub published_call : {u v w : GroupValue C} (b : BuiltValue C) (n : ℕ) → IsFounded u → u ≡ v
+      → slice_get (configs_of v.group) b.task.slot ≡ Some b.task.config
       → ((made : Made C) (e : History) → Stands made e v → is_awaited b.task.slot b.task.generation (slot_events e) ≡ true)
       → Becomes v (in_group (publish_events b (Ok (told.Published n)))) w → Raised v.group w.group b.task.slot b.task.generation
   published_call {u} {v} {w} b n p is there awaited becomes =
@@ -125,10 +142,13 @@ module _ {C : Type 0} where
       let s : Stands made e v = subst (λ (z : GroupValue C). Stands made e z) is p.1.1 in
       let t = becomes made e s in
       let own : slice_get made.configs slot ≡ Some b.task.config =
-      ap (λ (l : List C). slice_get l slot) (sym (ap (λ (x : SlotsValue C). configs_of x) s.group.shows ∙ configs-after made.gate 0 made.configs h)) ∙ there in
-      let up = under_way_granted (served (past_of slot h)) (granted (past_of slot h)) b.task.generation (extra (past_of slot h)) (awaited made e s) (under-way-fits (past_of slot h) (s.group.possible slot)) in
+      ap (λ (l : List C). slice_get l slot) (sym (ap (λ (x : SlotsValue C). configs_of x) s.group.shows
+      ∙ configs-after made.gate 0 made.configs h)) ∙ there in
+      let up = under_way_granted (served (past_of slot h)) (granted (past_of slot h)) b.task.generation (extra (past_of slot h))
+      (awaited made e s) (under-way-fits (past_of slot h) (s.group.possible slot)) in
       let here = served_there made.gate 0 slot slot made.configs h (omega arith) (slice_get_within made.configs slot b.task.config own) in
-      let old : generations v.group.slots ≡ generations (slots_after made.gate 0 made.configs h) = ap (λ (x : SlotsValue C). generations x.slots) s.group.shows in
+      let old : generations v.group.slots ≡ generations (slots_after made.gate 0 made.configs h) =
+      ap (λ (x : SlotsValue C). generations x.slots) s.group.shows in
       let newest_is : v.group.newest ≡ newest h = ap (λ (x : SlotsValue C). x.newest) s.group.shows in
       let after = t.group.shows in
       let past_newest : newest (past_of slot h) ≡ newest h = newest-past slot h in
@@ -151,10 +171,12 @@ module _ {C : Type 0} where
   raised_slot v w words after slot generation r is raised =
       raised ∙ ap (λ (l : List ℕ). set l (slot + 1) (max (slice_index l (slot + 1)) generation)) is
       ∙ subst (λ (k : ℕ). set (words_of v) k (max (slice_index (words_of v) k) generation) ≡ words_of w) (sym (add-one slot))
-      (joined_lists _ _ _ _ (sym r.newest) (ap (λ (m : ℕ). set (generations v.slots) slot m) (let up = r.rises in let most : max (slice_index (generations v.slots) slot) generation ≡ generation = omega arith in most) ∙ sym r.slots))
+      (joined_lists _ _ _ _ (sym r.newest) (ap (λ (m : ℕ). set (generations v.slots) slot m) (let up = r.rises
+      in let most : max (slice_index (generations v.slots) slot) generation ≡ generation = omega arith in most) ∙ sym r.slots))
 
   -- a membership that is no other one leaves the words
-  pub unscheduled : {u v : GroupValue C} (w : GroupValue C) (members : List Member) (now : ℕ) (r : Scheduled) → IsFounded u → u ≡ v → r.changed ≡ false
+  pub unscheduled : {u v : GroupValue C} (w : GroupValue C) (members : List Member) (now : ℕ) (r : Scheduled) → IsFounded u → u ≡ v
+      → r.changed ≡ false
       → ((made : Made C) (e : History) → Stands made e v → StandsFor made (schedule_events members now (Ok r) ++ slot_events e) w.group)
       → words_of w.group ≡ words_of v.group
   unscheduled {u} {v} w members now r p is same after =
@@ -170,7 +192,8 @@ module _ {C : Type 0} where
     pub next : generation ≡ v.newest + 1
     pub slots : generations w.slots ≡ generations v.slots
 
-  pub scheduled : {u v : GroupValue C} (w : GroupValue C) (members : List Member) (now : ℕ) (r : Scheduled) → IsFounded u → u ≡ v → r.changed ≡ true
+  pub scheduled : {u v : GroupValue C} (w : GroupValue C) (members : List Member) (now : ℕ) (r : Scheduled) → IsFounded u → u ≡ v
+      → r.changed ≡ true
       → ((made : Made C) (e : History) → Stands made e v → Schedules made (slot_events e) members (Ok r))
       → ((made : Made C) (e : History) → Stands made e v → StandsFor made (schedule_events members now (Ok r) ++ slot_events e) w.group)
       → Renewed v.group w.group r.generation
@@ -189,7 +212,8 @@ module _ {C : Type 0} where
         newest = ap (λ (x : SlotsValue C). x.newest) t.shows ∙ sym next;
         next = next ∙ ap (λ (m : ℕ). m + 1) (sym before);
         slots =
-            ap (λ (x : SlotsValue C). generations x.slots) t.shows ∙ quiet_slots made.gate 0 made.configs (slots.Scheduled members now) h (λ q. refl)
+            ap (λ (x : SlotsValue C). generations x.slots) t.shows ∙ quiet_slots made.gate 0 made.configs (slots.Scheduled members now) h
+            (λ q. refl)
             ∙ sym (ap (λ (x : SlotsValue C). generations x.slots) s.group.shows);
       }
 
@@ -198,7 +222,8 @@ module _ {C : Type 0} where
       → after ≡ set words 0 (max (slice_index words 0) generation) → after ≡ words_of w
   raised_newest v w words after generation r is raised =
       raised ∙ ap (λ (l : List ℕ). set l 0 (max (slice_index l 0) generation)) is
-      ∙ joined_lists _ _ _ _ (let next = r.next in let now = r.newest in let most : max v.newest generation ≡ w.newest = omega arith in most) (sym r.slots)
+      ∙ joined_lists _ _ _ _ (let next = r.next in let now = r.newest in let most : max v.newest generation ≡ w.newest = omega arith
+      in most) (sym r.slots)
 
 -- which calls have quiet events
 abbrev IsQuietAt : SlotEvent → Type 0
@@ -207,7 +232,8 @@ IsQuietAt e = (i : ℕ) → IsQuiet (slots.At i e)
 quiet_at : (e : SlotEvent) → ((i : ℕ) (h : slots.History) → served (slots.At i e ∷ h) ≡ served h) → IsQuietAt e
 quiet_at e same i = record { newest = λ h. refl; served = same i }
 
-pub quiet_done : {A B : Type 0} (slot : ℕ) (e : SlotEvent) (r : Result A B) → ((i : ℕ) (h : slots.History) → served (slots.At i e ∷ h) ≡ served h) → AreQuiet (done_at slot e r)
+pub quiet_done : {A B : Type 0} (slot : ℕ) (e : SlotEvent) (r : Result A B)
+    → ((i : ℕ) (h : slots.History) → served (slots.At i e ∷ h) ≡ served h) → AreQuiet (done_at slot e r)
 quiet_done slot e (Ok a) same = (quiet_at e same slot, tt)
 quiet_done slot e (Err b) same = tt
 

@@ -8,7 +8,8 @@ ghost use Rattle.lb_rebuild_slots.specs.SlotsHistory.{Cancelled, WorkerLost, Ent
 ghost use Rattle.lb_rebuild_slots.specs.Values.{configs_of};
 ghost use Rattle.lb_rebuild_slots.specs.Stands.{StandsFor};
 ghost use Rattle.lb_rebuild_slots.specs.SlotsCalls.{IsOwnJob, Asks, ask_events, gate_after, Fails, fail_events, gate_back, Publishes};
-ghost use Rattle.lb_rebuild_slots.specs.SlotsCalls.{publish_events, Abandons, abandon_events, Unless, lose_refusal, done_at, Enters, Leaves};
+ghost use Rattle.lb_rebuild_slots.specs.SlotsCalls.{publish_events, Abandons, abandon_events, Unless, lose_refusal, done_at, Enters};
+ghost use Rattle.lb_rebuild_slots.specs.SlotsCalls.{Leaves};
 ghost use Rattle.lb_rebuild_slots.specs.SlotsCalls.{is_change, schedule_events, schedule_refusal};
 ghost use Rattle.lb_rebuild_slots.specs.SlotsCalls.{Takes, Reports, IsTicket, ticket_events};
 ghost use Rattle.lb_health_view.specs.RegistrySide.{settings_of, registry_updated};

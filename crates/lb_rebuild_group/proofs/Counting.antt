@@ -59,6 +59,7 @@ module _ (f : History → ℕ) where
       → over_slots f 0 k (At i x ∷ h) ≡ over_slots f 0 k h
   sums-quiet k i x h same =
       elim (nat_lt i k) as (λ b. nat_lt i k ≡ b → over_slots f 0 k (At i x ∷ h) ≡ over_slots f 0 k h) [
-        | true ↦ λ e. let few : i < k = ltb-true i k e in let all = sums-at 0 k i x h (omega arith) (omega arith) in omega (arith, all, same)
+        | true ↦ λ e. let few : i < k = ltb-true i k e in let all = sums-at 0 k i x h (omega arith) (omega arith)
+            in omega (arith, all, same)
         | false ↦ λ e. let many : k ≤ i = not-below i k e in sums-beyond 0 k i x h (omega arith)
       ] refl

@@ -1,5 +1,6 @@
 -- A snapshot that lives is the newest, or some slot has its generation in use.
-use Rattle.std.proofs.Common.{arith, ◌≡◌, ◌⊎◌, inl, inr, ◌<◌, ◌+◌, ◌==◌, ◌||◌, ◌&&◌, ◌∙◌, ℕ, zero, suc, Bool, true, false, cond, nat_lt, List, [], ◌∷◌, refl, sym, subst}
+use Rattle.std.proofs.Common.{arith, ◌≡◌, ◌⊎◌, inl, inr, ◌<◌, ◌+◌, ◌==◌, ◌||◌, ◌&&◌, ◌∙◌, ℕ, zero, suc, Bool, true, false, cond, nat_lt}
+use Rattle.std.proofs.Common.{List, [], ◌∷◌, refl, sym, subst}
 use Rattle.std.proofs.lemmas.Bool.{eq-eqb, eqb-true, ltb-true, lt-ltb, and_parts, false≢true}
 use mathlib.Core.Logic.{dite}
 use native.Mathlib.Decide.{ℕ_discrete}
@@ -23,7 +24,8 @@ Kept c (s ∷ ss) = ((s.generation == c || nat_lt 0 s.holds) ≡ true) × Kept c
 kept-living : (c : ℕ) (ss : List SnapshotValue) → Kept c (living c ss)
 kept-living c [] = tt
 kept-living c (s ∷ ss) =
-    elim ((s.generation == c) || nat_lt 0 s.holds) as (λ b. ((s.generation == c) || nat_lt 0 s.holds) ≡ b → Kept c (cond b (s ∷ living c ss) (living c ss)))
+    elim ((s.generation == c) || nat_lt 0 s.holds) as (λ b. ((s.generation == c) || nat_lt 0 s.holds) ≡ b
+    → Kept c (cond b (s ∷ living c ss) (living c ss)))
     [ true ↦ λ e. (e, kept-living c ss) | false ↦ λ e. kept-living c ss ] refl
 
 still : (b : Bool) (h : ℕ) → (b || nat_lt 0 h) ≡ true → (b || nat_lt 0 (h + 1)) ≡ true
@@ -38,8 +40,10 @@ kept-more c g (s ∷ ss) k =
 
 kept : (views : List ViewEvent) → Kept (generation_after views) (snapshots_after views)
 kept [] = (refl, tt)
-kept (view.Shown ms cells ∷ v) =
-    (rw (eq-eqb (generation_after v + 1) (generation_after v + 1) refl) refl, kept-living (generation_after v + 1) (by_age (snapshots_after v)))
+kept (view.Shown ms cells ∷ v) = (
+  rw (eq-eqb (generation_after v + 1) (generation_after v + 1) refl) refl,
+  kept-living (generation_after v + 1) (by_age (snapshots_after v)),
+)
 kept (view.Set b on ∷ v) = kept v
 kept (view.Held g ∷ v) = kept-more (generation_after v) g (snapshots_after v) (kept v)
 kept (view.Released g ∷ v) = kept-living (generation_after v) (at_generation g held_less (snapshots_after v))
@@ -47,9 +51,11 @@ kept (view.Released g ∷ v) = kept-living (generation_after v) (at_generation g
 current-or-held : (c n : ℕ) (ss : List SnapshotValue) → Kept c ss → lives n ss ≡ true → (c ≡ n) ⊎ (0 < total holds n ss)
 current-or-held c n [] k l = absurd (false≢true l)
 current-or-held c n (s ∷ ss) k l =
-    elim (s.generation == n) as (λ b. (s.generation == n) ≡ b → (b || lives n ss) ≡ true → (c ≡ n) ⊎ (0 < cond b (s.holds + total holds n ss) (total holds n ss))) [
+    elim (s.generation == n) as (λ b. (s.generation == n) ≡ b → (b || lives n ss) ≡ true → (c ≡ n)
+    ⊎ (0 < cond b (s.holds + total holds n ss) (total holds n ss))) [
       | true ↦ λ e t.
-          elim (s.generation == c) as (λ d. (s.generation == c) ≡ d → (d || nat_lt 0 s.holds) ≡ true → (c ≡ n) ⊎ (0 < s.holds + total holds n ss)) [
+          elim (s.generation == c) as (λ d. (s.generation == c) ≡ d → (d || nat_lt 0 s.holds) ≡ true → (c ≡ n)
+          ⊎ (0 < s.holds + total holds n ss)) [
             | true ↦ λ d u. inl (sym (eqb-true s.generation c d) ∙ eqb-true s.generation n e)
             | false ↦ λ d u. inr (let some : 0 < s.holds = ltb-true 0 s.holds u in omega arith)
           ] refl k.0
@@ -57,7 +63,8 @@ current-or-held c n (s ∷ ss) k l =
     ] refl l
 
 -- a sum over slots that is not 0 has a slot whose part is not 0
-some-slot : (f : slots.History → ℕ) (a k : ℕ) (h : slots.History) → 0 < over_slots f a k h → (slot : ℕ) × ((slot < a + k) × (0 < f (past_of slot h)))
+some-slot : (f : slots.History → ℕ) (a k : ℕ) (h : slots.History) → 0 < over_slots f a k h → (slot : ℕ)
+    × ((slot < a + k) × (0 < f (past_of slot h)))
 some-slot f a zero h some = absurd (omega arith)
 some-slot f a (suc k) h some =
     dite (ℕ_discrete (f (past_of a h)) 0)

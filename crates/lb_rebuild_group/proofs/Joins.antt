@@ -1,5 +1,6 @@
 -- What each call on group and view says of their one history.
-use Rattle.std.proofs.Common.{arith, ◌≡◌, ◌<◌, ◌+◌, ◌%◌, ◌^◌, ◌&&◌, ◌∙◌, ℕ, Bool, true, false, not, cond, nat_lt, ◌⊎◌, inl, inr, List, [], ◌∷◌, ◌++◌, length, refl, sym, ap, subst, Some, None, Option, Result, Ok, Err, slice_get}
+use Rattle.std.proofs.Common.{arith, ◌≡◌, ◌<◌, ◌+◌, ◌%◌, ◌^◌, ◌&&◌, ◌∙◌, ℕ, Bool, true, false, not, cond, nat_lt, ◌⊎◌, inl, inr, List, []}
+use Rattle.std.proofs.Common.{◌∷◌, ◌++◌, length, refl, sym, ap, subst, Some, None, Option, Result, Ok, Err, slice_get}
 use Rattle.std.proofs.lemmas.Bool.{lt-ltb, ltb-true, eqb-true}
 use Rattle.std.proofs.lemmas.Option.{slice_get_within}
 use Rattle.std.specs.Prelude.{All, IfOk}
@@ -8,8 +9,10 @@ use Rattle.lb_select_base.specs.Memberships.{same_members}
 use Rattle.lb_select_base.specs.declared.refusal.Refusal.{Refusal}
 use Rattle.lb_select_base.specs.declared.refusal.Refusal.TheVariants as refusal
 use Rattle.lb_rebuild_slots.specs.SlotsHistory as slots
-use Rattle.lb_rebuild_slots.specs.SlotsHistory.{past_of, newest, granted, served, Extra, nothing, flight, lost, retired, taken_out, extra, is_under_way, is_taken_out, taken_out_number, generation_of, IsSlotsHistory}
-use Rattle.lb_rebuild_slots.specs.SlotsCalls.{is_change, Prepares, FitsIfThere, is_awaited, is_owed, taken_out_at, asked_events, done_at, publish_events, abandon_events, select_events, serves, ticket_events}
+use Rattle.lb_rebuild_slots.specs.SlotsHistory.{past_of, newest, granted, served, Extra, nothing, flight, lost, retired, taken_out, extra}
+use Rattle.lb_rebuild_slots.specs.SlotsHistory.{is_under_way, is_taken_out, taken_out_number, generation_of, IsSlotsHistory}
+use Rattle.lb_rebuild_slots.specs.SlotsCalls.{is_change, Prepares, FitsIfThere, is_awaited, is_owed, taken_out_at, asked_events, done_at}
+use Rattle.lb_rebuild_slots.specs.SlotsCalls.{publish_events, abandon_events, select_events, serves, ticket_events}
 use Rattle.lb_rebuild_slots.specs.Stands as core
 use Rattle.lb_rebuild_slots.specs.Stands.{Made}
 use Rattle.lb_rebuild_slots.specs.Values.{Task, BuiltValue, PreparedValue, SlotsValue, configs_of}
@@ -42,10 +45,12 @@ awaited-of s g k (taken_out m) up fits = absurd (cc)
 
 pub awaited-granted : (slot k : ℕ) (h : slots.History) → IsSlotsHistory h → is_awaited slot k h ≡ true → granted (past_of slot h) ≡ k
 awaited-granted slot k h all up =
-    awaited-of (served (past_of slot h)) (granted (past_of slot h)) k (extra (past_of slot h)) up (under-way-fits (past_of slot h) (all slot))
+    awaited-of (served (past_of slot h)) (granted (past_of slot h)) k (extra (past_of slot h)) up
+    (under-way-fits (past_of slot h) (all slot))
 
 -- what an event at a slot is for the view
-pub granted-view : (k slot now : ℕ) (e : History) → slot < k → view_events k (At slot (slots.Granted now) ∷ e) ≡ view.Held (newest (slot_events e)) ∷ view_events k e
+pub granted-view : (k slot now : ℕ) (e : History) → slot < k
+    → view_events k (At slot (slots.Granted now) ∷ e) ≡ view.Held (newest (slot_events e)) ∷ view_events k e
 granted-view k slot now e few = rw (lt-ltb slot k few) (ap (λ n. view.Held n ∷ view_events k e) (newest-past slot (slot_events e)))
 
 pub failed-view : (k slot now g : ℕ) (ms : List Member) (e : History) → slot < k → granted (past_of slot (slot_events e)) ≡ g
@@ -75,7 +80,8 @@ module _ {C : Type 0} where
   pub out-is : (made : Made C) (slot g : ℕ) (h : slots.History) → taken_out_at made slot h ≡ Some g
       → (slot < length made.configs) × (generation_of (extra (past_of slot h)) ≡ g)
   out-is made slot g h is =
-      elim (nat_lt slot (length made.configs)) as (λ b. nat_lt slot (length made.configs) ≡ b → cond b (taken_out_number (extra (past_of slot h))) None ≡ Some g
+      elim (nat_lt slot (length made.configs)) as (λ b. nat_lt slot (length made.configs) ≡ b
+      → cond b (taken_out_number (extra (past_of slot h))) None ≡ Some g
       → (slot < length made.configs) × (generation_of (extra (past_of slot h)) ≡ g)) [
         | true ↦ λ few o. (ltb-true slot (length made.configs) few, (number-of g (extra (past_of slot h)) o).0)
         | false ↦ λ few o. absurd (cc)
@@ -83,13 +89,16 @@ module _ {C : Type 0} where
 
   pub nothing-out : (made : Made C) (slot : ℕ) (h : slots.History) → taken_out_at made slot h ≡ None → is_owed made slot h ≡ false
   nothing-out made slot h is =
-      elim (nat_lt slot (length made.configs)) as (λ b. cond b (taken_out_number (extra (past_of slot h))) None ≡ None → (b && is_taken_out (extra (past_of slot h))) ≡ false)
+      elim (nat_lt slot (length made.configs)) as (λ b. cond b (taken_out_number (extra (past_of slot h))) None ≡ None
+      → (b && is_taken_out (extra (past_of slot h))) ≡ false)
       [ true ↦ λ o. none-of (extra (past_of slot h)) o | false ↦ λ o. refl ] is
 
   -- the slot of a job is one of the group's
-  pub inside-made : (made : Made C) (h : slots.History) (w : SlotsValue C) (i : ℕ) (c : C) → core.StandsFor made h w → slice_get (configs_of w) i ≡ Some c → i < length made.configs
+  pub inside-made : (made : Made C) (h : slots.History) (w : SlotsValue C) (i : ℕ) (c : C) → core.StandsFor made h w
+      → slice_get (configs_of w) i ≡ Some c → i < length made.configs
   inside-made made h w i c s own =
-      let configs : configs_of w ≡ made.configs = ap (λ (z : SlotsValue C). configs_of z) s.shows ∙ configs-after made.gate 0 made.configs h in
+      let configs : configs_of w ≡ made.configs = ap (λ (z : SlotsValue C). configs_of z) s.shows
+      ∙ configs-after made.gate 0 made.configs h in
       slice_get_within made.configs i c (sym (ap (λ (l : List C). slice_get l i) configs) ∙ own)
 
   -- group and view after what happened to each
@@ -108,27 +117,33 @@ module _ {C : Type 0} where
 
   pub group-part : (made : Made C) (e : History) (w : SlotsValue C) (u : ViewValue) (v : GroupValue C)
       → (let parts : GroupValue C = record { group = w; view = u } in parts ≡ v) → Stands made e v → core.StandsFor made (slot_events e) w
-  group-part made e w u v is s = subst (λ (x : SlotsValue C). core.StandsFor made (slot_events e) x) (sym (ap (λ (x : GroupValue C). x.group) is)) s.group
+  group-part made e w u v is s = subst (λ (x : SlotsValue C). core.StandsFor made (slot_events e) x)
+      (sym (ap (λ (x : GroupValue C). x.group) is)) s.group
 
   pub view-part : (made : Made C) (e : History) (w : SlotsValue C) (u : ViewValue) (v : GroupValue C)
       → (let parts : GroupValue C = record { group = w; view = u } in parts ≡ v) → Stands made e v → IsViewAfter (views_of made e) u
-  view-part made e w u v is s = subst (λ (x : ViewValue). IsViewAfter (views_of made e) x) (sym (ap (λ (x : GroupValue C). x.view) is)) s.view
+  view-part made e w u v is s = subst (λ (x : ViewValue). IsViewAfter (views_of made e) x) (sym (ap (λ (x : GroupValue C). x.view) is))
+      s.view
 
   -- a job can hold the newest snapshot
-  pub ask-fits : (made : Made C) (e : History) (slot now g : ℕ) (w : SlotsValue C) (u : ViewValue) → length made.configs < 2 ^ 64 → IsViewAfter (views_of made e) u
+  pub ask-fits : (made : Made C) (e : History) (slot now g : ℕ) (w : SlotsValue C) (u : ViewValue) → length made.configs < 2 ^ 64
+      → IsViewAfter (views_of made e) u
       → slot < length made.configs → core.StandsFor made (slots.At slot (slots.Granted now) ∷ slot_events e) w → g ≡ newest (slot_events e)
       → All (λ (s : SnapshotValue). s.generation ≡ g → s.holds + 1 < 2 ^ 64) u.snapshots
   ask-fits made e slot now g w u few is inside s at =
       subst (λ (ss : List SnapshotValue). All (λ (x : SnapshotValue). x.generation ≡ g → x.holds + 1 < 2 ^ 64) ss) (sym is.snapshots)
-      (subst (λ (n : ℕ). All (λ (x : SnapshotValue). x.generation ≡ n → x.holds + 1 < 2 ^ 64) (view.snapshots_after (views_of made e))) (sym at)
+      (subst (λ (n : ℕ). All (λ (x : SnapshotValue). x.generation ≡ n → x.holds + 1 < 2 ^ 64) (view.snapshots_after (views_of made e)))
+      (sym at)
       (hold-fits (length made.configs) slot now e few inside s.possible))
 
   -- a membership that reached both
-  pub schedules : (made : Made C) (e : History) (members : List Member) (cells : List (Member × ℕ)) (settings : List (Member × Bool)) (now : ℕ) (b : Bool) (w : SlotsValue C) (u : ViewValue)
+  pub schedules : (made : Made C) (e : History) (members : List Member) (cells : List (Member × ℕ)) (settings : List (Member × Bool))
+      (now : ℕ) (b : Bool) (w : SlotsValue C) (u : ViewValue)
       → length made.configs < 2 ^ 64 → is_change members (slot_events e) ≡ b
       → core.StandsFor made (cond b (slots.Scheduled members now ∷ slot_events e) (slot_events e)) w
       → IsViewAfter (health.after_settings settings (health.with_membership members cells (views_of made e))) u
-      → (let after : GroupValue C = record { group = w; view = u } in Stands made (after_settings settings (with_membership members cells now e)) after)
+      → (let after : GroupValue C = record { group = w; view = u }
+      in Stands made (after_settings settings (with_membership members cells now e)) after)
   schedules made e members cells settings now b w u few change g i = record {
     few = few;
     group =
@@ -146,35 +161,45 @@ module _ {C : Type 0} where
   joined-still made e es w z u v is s group_ still =
       joined made e es w z u u v is s group_ (λ i. subst (λ (l : List ViewEvent). IsViewAfter l u) (sym still) i)
 
-pub still-done : {A B : Type 0} (k slot : ℕ) (x : slots.SlotEvent) (r : Result A B) (e : History) → ((b : Bool) (p : slots.History) → hold_events b x p ≡ [])
+pub still-done : {A B : Type 0} (k slot : ℕ) (x : slots.SlotEvent) (r : Result A B) (e : History)
+    → ((b : Bool) (p : slots.History) → hold_events b x p ≡ [])
     → view_events k (in_group (done_at slot x r) ++ e) ≡ view_events k e
 still-done k slot x (Ok a) e none = ap (λ (l : List ViewEvent). l ++ view_events k e) (none (nat_lt slot k) (past_of slot (slot_events e)))
 still-done k slot x (Err b) e none = refl
 
 module _ {C : Type 0} where
-  pub still-published : (k : ℕ) (b : BuiltValue C) (r : Result Publication (BuiltValue C)) (e : History) → view_events k (in_group (publish_events b r) ++ e) ≡ view_events k e
+  pub still-published : (k : ℕ) (b : BuiltValue C) (r : Result Publication (BuiltValue C)) (e : History)
+      → view_events k (in_group (publish_events b r) ++ e) ≡ view_events k e
   still-published k b (Ok (told.Published n)) e = refl
   still-published k b (Ok (told.Abandoned n)) e = refl
   still-published k b (Err c) e = refl
 
-  pub still-abandoned : (k : ℕ) (b : BuiltValue C) (r : Result (Unit {0}) (BuiltValue C)) (e : History) → view_events k (in_group (abandon_events b r) ++ e) ≡ view_events k e
+  pub still-abandoned : (k : ℕ) (b : BuiltValue C) (r : Result (Unit {0}) (BuiltValue C)) (e : History)
+      → view_events k (in_group (abandon_events b r) ++ e) ≡ view_events k e
   still-abandoned k b (Ok u) e = refl
   still-abandoned k b (Err c) e = refl
 
-  pub still-selected : (made : Made C) (slot : ℕ) (s : Selection) (e : History) → views_of made (in_group (select_events made slot s) ++ e) ≡ views_of made e
+  pub still-selected : (made : Made C) (slot : ℕ) (s : Selection) (e : History)
+      → views_of made (in_group (select_events made slot s) ++ e) ≡ views_of made e
   still-selected made slot s e =
-      elim (nat_lt slot (length made.configs)) as (λ b. views_of made (in_group (cond b (slots.At slot (slots.Drew s.tickets) ∷ []) []) ++ e) ≡ views_of made e) [ true ↦ refl | false ↦ refl ]
+      elim (nat_lt slot (length made.configs)) as
+      (λ b. views_of made (in_group (cond b (slots.At slot (slots.Drew s.tickets) ∷ []) []) ++ e) ≡ views_of made e) [
+        | true ↦ refl
+        | false ↦ refl
+      ]
 
   -- a ticket of a reader, whose events rest on what the slot serves
   pub joined-ticket : (made : Made C) (e : History) (slot n t : ℕ) (w z : SlotsValue C) (u : ViewValue) (v : GroupValue C)
       → (let parts : GroupValue C = record { group = w; view = u } in parts ≡ v) → Stands made e v
       → ((h : slots.History) → core.StandsFor made h w → core.StandsFor made (ticket_events made slot n t h ++ h) z)
-      → (let after : GroupValue C = record { group = z; view = u } in Stands made (in_group (ticket_events made slot n t (slot_events e)) ++ e) after)
+      → (let after : GroupValue C = record { group = z; view = u }
+      in Stands made (in_group (ticket_events made slot n t (slot_events e)) ++ e) after)
   joined-ticket made e slot n t w z u v is s group_ =
       let before : Stands made e (record { group = w; view = u }) = subst (λ (x : GroupValue C). Stands made e x) (sym is) s in
       let es : slots.History = ticket_events made slot n t (slot_events e) in
       let still : views_of made (in_group es ++ e) ≡ views_of made e =
-      elim (serves made slot n (slot_events e)) as (λ b. views_of made (in_group (cond b (slots.At slot (slots.Drew ((t + 1) % 2 ^ 64)) ∷ []) []) ++ e) ≡ views_of made e)
+      elim (serves made slot n (slot_events e)) as
+      (λ b. views_of made (in_group (cond b (slots.At slot (slots.Drew ((t + 1) % 2 ^ 64)) ∷ []) []) ++ e) ≡ views_of made e)
       [ true ↦ refl | false ↦ refl ] in
       record {
         few = before.few;
@@ -183,7 +208,8 @@ module _ {C : Type 0} where
       }
 
   -- gate, configurations and the number of the view stay
-  pub site-joined : (w z : SlotsValue C) (u t : ViewValue) (v : GroupValue C) → (let parts : GroupValue C = record { group = w; view = u } in parts ≡ v)
+  pub site-joined : (w z : SlotsValue C) (u t : ViewValue) (v : GroupValue C) → (let parts : GroupValue C = record { group = w; view = u }
+      in parts ≡ v)
       → core.SameSite w z → t.id ≡ u.id → (let after : GroupValue C = record { group = z; view = t } in SameSite v after)
   site-joined w z u t v is same id = record {
     group = subst (λ (x : SlotsValue C). core.SameSite x z) (ap (λ (x : GroupValue C). x.group) is) same;
@@ -198,8 +224,10 @@ module _ {S I C W : Type 0} where
 
 module _ {C : Type 0} where
   -- a job that is held
-  pub job-joined : (made : Made C) (e : History) (slot now g : ℕ) (w : SlotsValue C) (t : ViewValue) → length made.configs < 2 ^ 64 → slot < length made.configs
-      → core.StandsFor made (slots.At slot (slots.Granted now) ∷ slot_events e) w → g ≡ newest (slot_events e) → IsViewAfter (view.Held g ∷ views_of made e) t
+  pub job-joined : (made : Made C) (e : History) (slot now g : ℕ) (w : SlotsValue C) (t : ViewValue) → length made.configs < 2 ^ 64
+      → slot < length made.configs
+      → core.StandsFor made (slots.At slot (slots.Granted now) ∷ slot_events e) w → g ≡ newest (slot_events e)
+      → IsViewAfter (view.Held g ∷ views_of made e) t
       → (let after : GroupValue C = record { group = w; view = t } in Stands made (At slot (slots.Granted now) ∷ e) after)
   job-joined made e slot now g w t few inside s at i = record {
     few = few;
@@ -210,7 +238,8 @@ module _ {C : Type 0} where
   }
 
   -- a job that failed, and what was destroyed, is let go
-  pub failed-joined : (made : Made C) (e : History) (slot now g : ℕ) (ms : List Member) (c : C) (v : GroupValue C) (w : SlotsValue C) (t : ViewValue) → Stands made e v
+  pub failed-joined : (made : Made C) (e : History) (slot now g : ℕ) (ms : List Member) (c : C) (v : GroupValue C) (w : SlotsValue C)
+      (t : ViewValue) → Stands made e v
       → slice_get (configs_of v.group) slot ≡ Some c → is_awaited slot g (slot_events e) ≡ true
       → core.StandsFor made (slots.At slot (slots.Failed now ms) ∷ slot_events e) w → IsViewAfter (view.Released g ∷ views_of made e) t
       → (let after : GroupValue C = record { group = w; view = t } in Stands made (At slot (slots.Failed now ms) ∷ e) after)
@@ -219,7 +248,8 @@ module _ {C : Type 0} where
     group = after;
     view =
         subst (λ (l : List ViewEvent). IsViewAfter l t)
-        (sym (failed-view (length made.configs) slot now g ms e (inside-made made (slot_events e) v.group slot c s.group own) (awaited-granted slot g (slot_events e) s.group.possible up))) i;
+        (sym (failed-view (length made.configs) slot now g ms e (inside-made made (slot_events e) v.group slot c s.group own)
+        (awaited-granted slot g (slot_events e) s.group.possible up))) i;
   }
 
   pub destroyed-joined : (made : Made C) (e : History) (slot g : ℕ) (v : GroupValue C) (w : SlotsValue C) (t : ViewValue) → Stands made e v
@@ -245,18 +275,21 @@ not-false false h = absurd (cc)
 
 module _ {C : Type 0} where
   -- what a prepared membership says
-  pub none-change : (made : Made C) (h : slots.History) (members : List Member) (o : Option (PreparedValue C)) → o ≡ None → Prepares made h members (Ok o)
+  pub none-change : (made : Made C) (h : slots.History) (members : List Member) (o : Option (PreparedValue C)) → o ≡ None
+      → Prepares made h members (Ok o)
       → is_change members h ≡ false
   none-change made h members None is p = p.1
   none-change made h members (Some q) is p = absurd (cc)
 
-  pub some-change : (made : Made C) (h : slots.History) (members : List Member) (o : Option (PreparedValue C)) (q : PreparedValue C) → o ≡ Some q → Prepares made h members (Ok o)
+  pub some-change : (made : Made C) (h : slots.History) (members : List Member) (o : Option (PreparedValue C)) (q : PreparedValue C)
+      → o ≡ Some q → Prepares made h members (Ok o)
       → (is_change members h ≡ true) × (q.members ≡ members)
   some-change made h members None q is p = absurd (cc)
   some-change made h members (Some x) q is p = (p.1, (let same : x ≡ q = cc in ap (λ (z : PreparedValue C). z.members) (sym same)) ∙ p.3)
 
   -- a membership that the view refuses
-  pub refused-schedule : (made : Made C) (e : History) (members : List Member) (w : SlotsValue C) (o : Option (PreparedValue C)) (r : Refusal)
+  pub refused-schedule : (made : Made C) (e : History) (members : List Member) (w : SlotsValue C) (o : Option (PreparedValue C))
+      (r : Refusal)
       → core.StandsFor made (slot_events e) w → Prepares made (slot_events e) members (Ok o) → FitsIfThere w o
       → ((same_members members (membership_after (views_of made e)) ≡ true) → ⊥)
       → (r ≡ refusal.GenerationsExhausted → generation_after (views_of made e) + 1 ≡ 2 ^ 64)
@@ -273,10 +306,12 @@ module _ {C : Type 0} where
       absurd (omega (arith, end, gen, is, few))
 
 -- of a result that is an error, what it is refused for
-pub error-is : {A : Type 0} (r c : Refusal) → (let one : Result A Refusal = Err r in let other : Result A Refusal = Err c in one ≡ other) → r ≡ c
+pub error-is : {A : Type 0} (r c : Refusal) → (let one : Result A Refusal = Err r in let other : Result A Refusal = Err c in one ≡ other)
+    → r ≡ c
 error-is r c h = cc
 
-pub view-refused : {A : Type 0} (r : Refusal) → (let it : Result A Refusal = Err r in IsViewRefusal it) → (r ≡ refusal.GenerationsExhausted) ⊎ IsSharedRefusal r
+pub view-refused : {A : Type 0} (r : Refusal) → (let it : Result A Refusal = Err r in IsViewRefusal it) → (r ≡ refusal.GenerationsExhausted)
+    ⊎ IsSharedRefusal r
 view-refused {A} r (inl h) = inl (error-is {A = A} r refusal.GenerationsExhausted h)
 view-refused {A} r (inr (inl h)) = inr (inl (error-is {A = A} r refusal.OutOfMemory h))
 view-refused {A} r (inr (inr (inl h))) = inr (inr (inl (error-is {A = A} r refusal.NumbersExhausted h)))
@@ -284,10 +319,12 @@ view-refused {A} r (inr (inr (inr h))) = inr (inr (inr (error-is {A = A} r refus
 
 module _ {S I C W : Type 0} where
   -- an answer that is no job
-  pub other-joined : (made : Made C) (e : History) (slot now : ℕ) (a : Ask S I C W) (w : SlotsValue C) (u : ViewValue) → length made.configs < 2 ^ 64
+  pub other-joined : (made : Made C) (e : History) (slot now : ℕ) (a : Ask S I C W) (w : SlotsValue C) (u : ViewValue)
+      → length made.configs < 2 ^ 64
       → ((j : Task C) → a ≡ asked.Job j → ⊥)
       → core.StandsFor made (asked_events slot now (ask_told a) ++ slot_events e) w → IsViewAfter (views_of made e) u
-      → (let after : GroupValue C = record { group = w; view = u } in Stands made (in_group (asked_events slot now (ask_told a)) ++ e) after)
+      → (let after : GroupValue C = record { group = w; view = u }
+      in Stands made (in_group (asked_events slot now (ask_told a)) ++ e) after)
   other-joined made e slot now asked.Cancelled w u few never s i = record { few = few; group = s; view = i }
   other-joined made e slot now asked.Building w u few never s i = record { few = few; group = s; view = i }
   other-joined made e slot now asked.Nothing w u few never s i = record { few = few; group = s; view = i }

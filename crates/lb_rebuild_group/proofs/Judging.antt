@@ -43,7 +43,8 @@ module _ {R : Type 0} {gives : R → Member → Member → Type 0} {v : ViewValu
 
 -- where what was asked answers as it is told, what it accepts is what is right
 pub told-in-more : {C F : Type 0} {g : Shared F (Bor Member × (Bool × Unit {0})) Bool} {f : F}
-    (right : Member → Bool → Type 0) (may : List Member → C → Bool) (walks : List Member → C → List ℕ → List Draw → List Member → Bool → Type 0) (load_by : Member → ℕ)
+    (right : Member → Bool → Type 0) (may : List Member → C → Bool) (walks : List Member → C → List ℕ → List Draw → List Member → Bool
+    → Type 0) (load_by : Member → ℕ)
     (made : Made C) (h : slots.History) (slot : ℕ) (key : List ℕ) (limit : ℕ) (words : List ℕ) (s : Selection)
     → SelectsIn may walks (λ b a. AcceptsBy g f right b a) load_by made h slot key limit words s
     → ((p : Bor Member) (told a : Bool) → FnReturns g f (p, (told, tt)) a → a ≡ told)

@@ -1,7 +1,9 @@
 -- How often a slot has a generation, before and after an event at it.
 use Rattle.std.proofs.Common.{arith, ◌≡◌, ◌≤◌, ◌<◌, ◌+◌, ◌==◌, ◌&&◌, ◌∙◌, ℕ, Bool, true, false, ◌∷◌, refl, sym, ap}
 use Rattle.std.proofs.lemmas.Bool.{eqb-true, eq-eqb}
-use Rattle.lb_rebuild_slots.specs.SlotsHistory.{Granted, Failed, Published, Abandoned, WorkerLost, TakenOut, Destroyed, At, History, newest, granted, served, Extra, nothing, flight, lost, retired, taken_out, is_flight, is_extra, is_under_way, is_retired_of, is_taken_out, generation_of, extra, IsPast, MayHappen}
+use Rattle.lb_rebuild_slots.specs.SlotsHistory.{Granted, Failed, Published, Abandoned, WorkerLost, TakenOut, Destroyed, At, History, newest}
+use Rattle.lb_rebuild_slots.specs.SlotsHistory.{granted, served, Extra, nothing, flight, lost, retired, taken_out, is_flight, is_extra}
+use Rattle.lb_rebuild_slots.specs.SlotsHistory.{is_under_way, is_retired_of, is_taken_out, generation_of, extra, IsPast, MayHappen}
 use Rattle.lb_rebuild_slots.specs.Laws.{number}
 use Rattle.lb_rebuild_slots.proofs.Pasts.{UnderWayFits, under-way-fits}
 use Rattle.lb_rebuild_group.specs.GroupHistory.{slot_holds}
@@ -43,11 +45,13 @@ out-of n s (taken_out m) is = refl
 
 module _ (n i : ℕ) (p : History) where
   -- a job holds its generation once more
-  pub granted-holds : (now : ℕ) → MayHappen p (Granted now) → slot_holds n (At i (Granted now) ∷ p) ≡ slot_holds n p + number (newest p == n)
+  pub granted-holds : (now : ℕ) → MayHappen p (Granted now) → slot_holds n (At i (Granted now) ∷ p) ≡ slot_holds n p + number
+      (newest p == n)
   granted-holds now may = let before = none-of n (served p) (extra p) may.0 in omega (arith, before)
 
   -- its failure holds it once less
-  pub failed-holds : (now : ℕ) (ms : _) → MayHappen p (Failed now ms) → slot_holds n p ≡ slot_holds n (At i (Failed now ms) ∷ p) + number (granted p == n)
+  pub failed-holds : (now : ℕ) (ms : _) → MayHappen p (Failed now ms) → slot_holds n p ≡ slot_holds n (At i (Failed now ms) ∷ p) + number
+      (granted p == n)
   failed-holds now ms may = let before = up-of n (served p) (granted p) (extra p) may in omega (arith, before)
 
   -- and so does the report that what was taken out is destroyed
@@ -55,8 +59,10 @@ module _ (n i : ℕ) (p : History) where
   destroyed-holds may = let before = out-of n (served p) (extra p) may in omega (arith, before)
 
   -- what else happens moves a generation from one place to another
-  pub published-holds : (ended : ℕ) (ms : _) → IsPast p → MayHappen p (Published ended ms) → slot_holds n (At i (Published ended ms) ∷ p) ≡ slot_holds n p
-  published-holds ended ms past may = let before = flies-of n (served p) (granted p) (extra p) may.0 (under-way-fits p past) in omega (arith, before)
+  pub published-holds : (ended : ℕ) (ms : _) → IsPast p → MayHappen p (Published ended ms)
+      → slot_holds n (At i (Published ended ms) ∷ p) ≡ slot_holds n p
+  published-holds ended ms past may = let before = flies-of n (served p) (granted p) (extra p) may.0 (under-way-fits p past)
+      in omega (arith, before)
 
   pub abandoned-holds : (ms : _) → MayHappen p (Abandoned ms) → slot_holds n (At i (Abandoned ms) ∷ p) ≡ slot_holds n p
   abandoned-holds ms may = sym (up-of n (served p) (granted p) (extra p) may)

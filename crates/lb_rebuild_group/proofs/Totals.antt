@@ -1,5 +1,6 @@
 -- The holds of the snapshots of one generation, and how many snapshots of it there are: at most one.
-use Rattle.std.proofs.Common.{arith, ◌≡◌, ◌≤◌, ◌<◌, ◌+◌, ◌-◌, ◌==◌, ◌∙◌, ℕ, zero, suc, Bool, true, false, cond, nat_lt, List, [], ◌∷◌, ◌++◌, get_or, refl, sym, ap}
+use Rattle.std.proofs.Common.{arith, ◌≡◌, ◌≤◌, ◌<◌, ◌+◌, ◌-◌, ◌==◌, ◌∙◌, ℕ, zero, suc, Bool, true, false, cond, nat_lt, List, [], ◌∷◌, ◌++◌}
+use Rattle.std.proofs.Common.{get_or, refl, sym, ap}
 use Rattle.std.proofs.lemmas.Bool.{eqb-true, eq-eqb, ne_eqb, false≢true}
 use Rattle.std.specs.Prelude.{All, ◌||◌, if◌then◌else◌}
 use Rattle.lb_health_view.specs.Snapshots.{SnapshotValue, held_more, held_less, at_generation, living}
@@ -34,7 +35,8 @@ none-held g h c e = elim (g == c) as (λ b. (b || nat_lt 0 h) ≡ false → h �
 pub total-append : (f : SnapshotValue → ℕ) (n : ℕ) (xs ys : List SnapshotValue) → total f n (xs ++ ys) ≡ total f n xs + total f n ys
 total-append f n [] ys = omega arith
 total-append f n (x ∷ xs) ys =
-    elim (x.generation == n) as (λ b. cond b (f x + total f n (xs ++ ys)) (total f n (xs ++ ys)) ≡ cond b (f x + total f n xs) (total f n xs) + total f n ys)
+    elim (x.generation == n) as (λ b. cond b (f x + total f n (xs ++ ys)) (total f n (xs ++ ys)) ≡ cond b (f x + total f n xs)
+    (total f n xs) + total f n ys)
     [ true ↦ omega (arith, total-append f n xs ys) | false ↦ total-append f n xs ys ]
 
 pub total-by_age : (f : SnapshotValue → ℕ) (n : ℕ) (ss : List SnapshotValue) → total f n (by_age ss) ≡ total f n ss
@@ -51,21 +53,25 @@ total-living c n (s ∷ ss) =
     elim ((s.generation == c) || nat_lt 0 s.holds) as (λ b. ((s.generation == c) || nat_lt 0 s.holds) ≡ b
     → total holds n (cond b (s ∷ living c ss) (living c ss)) ≡ cond (s.generation == n) (s.holds + total holds n ss) (total holds n ss)) [
       | true ↦ λ e. more-of (s.generation == n) s.holds (total holds n (living c ss)) (total holds n ss) (total-living c n ss)
-      | false ↦ λ e. nothing-more (s.generation == n) s.holds (total holds n (living c ss)) (total holds n ss) (none-held s.generation s.holds c e) (total-living c n ss)
+      | false ↦ λ e. nothing-more (s.generation == n) s.holds (total holds n (living c ss)) (total holds n ss)
+          (none-held s.generation s.holds c e) (total-living c n ss)
     ] refl
 
 pub fewer-living : (c n : ℕ) (ss : List SnapshotValue) → total one n (living c ss) ≤ total one n ss
 fewer-living c n [] = omega arith
 fewer-living c n (s ∷ ss) =
-    elim ((s.generation == c) || nat_lt 0 s.holds) as (λ b. total one n (cond b (s ∷ living c ss) (living c ss)) ≤ cond (s.generation == n) (1 + total one n ss) (total one n ss)) [
-      | true ↦ elim (s.generation == n) as (λ b. cond b (1 + total one n (living c ss)) (total one n (living c ss)) ≤ cond b (1 + total one n ss) (total one n ss))
+    elim ((s.generation == c) || nat_lt 0 s.holds) as (λ b. total one n (cond b (s ∷ living c ss) (living c ss)) ≤ cond (s.generation == n)
+    (1 + total one n ss) (total one n ss)) [
+      | true ↦ elim (s.generation == n) as (λ b. cond b (1 + total one n (living c ss)) (total one n (living c ss)) ≤ cond b
+          (1 + total one n ss) (total one n ss))
           [ true ↦ omega (arith, fewer-living c n ss) | false ↦ fewer-living c n ss ]
       | false ↦ elim (s.generation == n) as (λ b. total one n (living c ss) ≤ cond b (1 + total one n ss) (total one n ss))
           [ true ↦ omega (arith, fewer-living c n ss) | false ↦ fewer-living c n ss ]
     ]
 
 -- a change of the snapshot of one generation leaves the others, and how many there are
-pub total-other : (f : SnapshotValue → ℕ) (change : SnapshotValue → SnapshotValue) → ((s : SnapshotValue) → (change s).generation ≡ s.generation)
+pub total-other : (f : SnapshotValue → ℕ) (change : SnapshotValue → SnapshotValue)
+    → ((s : SnapshotValue) → (change s).generation ≡ s.generation)
     → (g n : ℕ) (ss : List SnapshotValue) → ¬ (g ≡ n) → total f n (at_generation g change ss) ≡ total f n ss
 total-other f change same g n [] apart = refl
 total-other f change same g n (s ∷ ss) apart =
@@ -74,7 +80,8 @@ total-other f change same g n (s ∷ ss) apart =
       | true ↦ λ e.
           let away : (s.generation == n) ≡ false = ne_eqb s.generation n (λ at. apart (sym (eqb-true s.generation g e) ∙ at)) in
           rw (same s, away) refl
-      | false ↦ λ e. more-of (s.generation == n) (f s) (total f n (at_generation g change ss)) (total f n ss) (total-other f change same g n ss apart)
+      | false ↦ λ e. more-of (s.generation == n) (f s) (total f n (at_generation g change ss)) (total f n ss)
+          (total-other f change same g n ss apart)
     ] refl
 
 pub total-one : (change : SnapshotValue → SnapshotValue) → ((s : SnapshotValue) → (change s).generation ≡ s.generation)
@@ -82,7 +89,8 @@ pub total-one : (change : SnapshotValue → SnapshotValue) → ((s : SnapshotVal
 total-one change same g n [] = refl
 total-one change same g n (s ∷ ss) =
     elim (s.generation == g) as (λ b.
-    total one n (if b then change s ∷ ss else s ∷ at_generation g change ss) ≡ cond (s.generation == n) (1 + total one n ss) (total one n ss)) [
+    total one n (if b then change s ∷ ss else s ∷ at_generation g change ss) ≡ cond (s.generation == n) (1 + total one n ss)
+    (total one n ss)) [
       | true ↦ ap (λ k. cond (k == n) (1 + total one n ss) (total one n ss)) (same s)
       | false ↦ more-of (s.generation == n) 1 (total one n (at_generation g change ss)) (total one n ss) (total-one change same g n ss)
     ]
@@ -92,7 +100,8 @@ pub total-more : (n : ℕ) (ss : List SnapshotValue) → lives n ss ≡ true →
 total-more n [] l = absurd (false≢true l)
 total-more n (s ∷ ss) l =
     elim (s.generation == n) as (λ b. (s.generation == n) ≡ b → (b || lives n ss) ≡ true
-    → total holds n (if b then held_more s ∷ ss else s ∷ at_generation n held_more ss) ≡ cond b (s.holds + total holds n ss) (total holds n ss) + 1) [
+    → total holds n (if b then held_more s ∷ ss else s ∷ at_generation n held_more ss) ≡ cond b (s.holds + total holds n ss)
+    (total holds n ss) + 1) [
       | true ↦ λ e t. rw e (omega arith)
       | false ↦ λ e t. rw e (total-more n ss t)
     ] refl l
@@ -100,18 +109,21 @@ total-more n (s ∷ ss) l =
 unheld : (n : ℕ) (ss : List SnapshotValue) → total one n ss ≡ 0 → total holds n ss ≡ 0
 unheld n [] none = refl
 unheld n (s ∷ ss) none =
-    elim (s.generation == n) as (λ b. cond b (1 + total one n ss) (total one n ss) ≡ 0 → cond b (s.holds + total holds n ss) (total holds n ss) ≡ 0)
+    elim (s.generation == n) as (λ b. cond b (1 + total one n ss) (total one n ss) ≡ 0
+    → cond b (s.holds + total holds n ss) (total holds n ss) ≡ 0)
     [ true ↦ λ e. absurd (omega arith) | false ↦ λ e. unheld n ss e ] none
 
 pub total-none : (n : ℕ) (ss : List SnapshotValue) → total one n ss ≡ 0 → total holds n ss ≡ 0
 total-none n ss none = unheld n ss none
 
 -- one hold less, where there is one snapshot of the generation at most
-pub total-less : (n : ℕ) (ss : List SnapshotValue) → total one n ss ≤ 1 → total holds n (at_generation n held_less ss) ≡ total holds n ss - 1
+pub total-less : (n : ℕ) (ss : List SnapshotValue) → total one n ss ≤ 1
+    → total holds n (at_generation n held_less ss) ≡ total holds n ss - 1
 total-less n [] few = refl
 total-less n (s ∷ ss) few =
     elim (s.generation == n) as (λ b. (s.generation == n) ≡ b → cond b (1 + total one n ss) (total one n ss) ≤ 1
-    → total holds n (if b then held_less s ∷ ss else s ∷ at_generation n held_less ss) ≡ cond b (s.holds + total holds n ss) (total holds n ss) - 1) [
+    → total holds n (if b then held_less s ∷ ss else s ∷ at_generation n held_less ss) ≡ cond b (s.holds + total holds n ss)
+    (total holds n ss) - 1) [
       | true ↦ λ e t.
           let others : total one n ss ≡ 0 = omega arith in
           let none : total holds n ss ≡ 0 = unheld n ss others in

@@ -1,5 +1,6 @@
 -- A selection that draws no ticket leaves a joined group as it was: a counter that is left where it stands changes nothing.
-use Rattle.std.proofs.Common.{◌≡◌, ◌+◌, ◌==◌, ◌∙◌, ℕ, Bool, true, false, cond, nat_lt, List, [], ◌∷◌, ◌++◌, length, inl, inr, refl, sym, ap, subst}
+use Rattle.std.proofs.Common.{◌≡◌, ◌+◌, ◌==◌, ◌∙◌, ℕ, Bool, true, false, cond, nat_lt, List, [], ◌∷◌, ◌++◌, length, inl, inr, refl, sym, ap}
+use Rattle.std.proofs.Common.{subst}
 use Rattle.std.proofs.lemmas.Bool.{cases_eq}
 use Rattle.lb_rebuild_slots.specs.Gate.{GateId}
 use Rattle.lb_rebuild_slots.specs.SlotsHistory as slots
@@ -37,7 +38,10 @@ module _ {C : Type 0} (made : Made C) (s : ℕ) (e : History) (v : GroupValue C)
             record {
               possible = λ i.
                   let p = past_of i (slot_events e) in
-                  (elim (s == i) as (λ b. IsPast (cond b (slots.At s (Drew t) ∷ p) p) → IsPast p) [ true ↦ λ may. may.0 | false ↦ λ may. may ])
+                  (elim (s == i) as (λ b. IsPast (cond b (slots.At s (Drew t) ∷ p) p) → IsPast p) [
+                    | true ↦ λ may. may.0
+                    | false ↦ λ may. may
+                  ])
                   (was.group.possible i);
               bounded = was.group.bounded;
               shows = was.group.shows ∙ (λ i. record (group_after made (slot_events e)) {

@@ -1,5 +1,6 @@
 -- Orders are handed out to the slots from the last one on.
-use Rattle.std.proofs.Common.{◌≡◌, ◌<◌, ◌≤◌, ◌+◌, ℕ, zero, suc, List, [], ◌∷◌, ◌++◌, length, get_or, set, refl, sym, ap, subst, ◌∙◌, arith, length-append, length-set, get_or-set_same, get_or-set_other}
+use Rattle.std.proofs.Common.{◌≡◌, ◌<◌, ◌≤◌, ◌+◌, ℕ, zero, suc, List, [], ◌∷◌, ◌++◌, length, get_or, set, refl, sym, ap, subst, ◌∙◌, arith}
+use Rattle.std.proofs.Common.{length-append, length-set, get_or-set_same, get_or-set_other}
 use Rattle.std.proofs.lemmas.List.{get_or_default}
 use mathlib.Core.Logic.{dite}
 use native.Mathlib.Decide.{ℕ_discrete}
@@ -29,7 +30,8 @@ module _ {S I C W : Type 0} where
     pub few : length left ≤ length xs
     pub front : (k : ℕ) (o : OrderValue C) → k < length left → get_or left k o ≡ get_or all k o
     pub rest : (k : ℕ) (d : Slot S I C W) → k < length left → get_or ys k d ≡ get_or xs k d
-    pub done : (k : ℕ) (d : Slot S I C W) (o : OrderValue C) → length left ≤ k → k < length xs → IsOrdered newest (get_or xs k d) (get_or all k o) (get_or ys k d)
+    pub done : (k : ℕ) (d : Slot S I C W) (o : OrderValue C) → length left ≤ k → k < length xs
+        → IsOrdered newest (get_or xs k d) (get_or all k o) (get_or ys k d)
 
   pub hands_first : (n : ℕ) (xs : List (Slot S I C W)) (all : List (OrderValue C)) → length all ≡ length xs → HandsOut n xs all all xs
   hands_first n xs all h = record {
@@ -40,15 +42,18 @@ module _ {S I C W : Type 0} where
     done = λ k d o l m. absurd (omega arith);
   }
 
-  pub hands_last : (n : ℕ) (xs : List (Slot S I C W)) (all left : List (OrderValue C)) (ys : List (Slot S I C W)) → HandsOut n xs all left ys → length left ≡ 0 → AreOrdered n xs all ys
+  pub hands_last : (n : ℕ) (xs : List (Slot S I C W)) (all left : List (OrderValue C)) (ys : List (Slot S I C W))
+      → HandsOut n xs all left ys → length left ≡ 0 → AreOrdered n xs all ys
   hands_last n xs all left ys h none = record {
     count = h.count;
     each = λ k d o l. (h.done k d o (omega arith) l).is;
   }
 
   -- one order more is handed out
-  pub hands_on : (n : ℕ) (xs : List (Slot S I C W)) (all left fewer : List (OrderValue C)) (ys : List (Slot S I C W)) (m : ℕ) (o : OrderValue C) (x y : Slot S I C W)
-      → HandsOut n xs all left ys → left ≡ fewer ++ o ∷ [] → m ≡ length fewer → x ≡ get_or ys m x → slot_value y ≡ ordered_slot n o (slot_value x)
+  pub hands_on : (n : ℕ) (xs : List (Slot S I C W)) (all left fewer : List (OrderValue C)) (ys : List (Slot S I C W)) (m : ℕ)
+      (o : OrderValue C) (x y : Slot S I C W)
+      → HandsOut n xs all left ys → left ≡ fewer ++ o ∷ [] → m ≡ length fewer → x ≡ get_or ys m x
+      → slot_value y ≡ ordered_slot n o (slot_value x)
       → HandsOut n xs all fewer (set ys m y)
   hands_on n xs all left fewer ys m o x y h split place is order =
       let size : length left ≡ length fewer + 1 = ap length split ∙ length-append fewer (o ∷ []) in
@@ -56,8 +61,10 @@ module _ {S I C W : Type 0} where
       record {
         count = length-set ys m y ∙ h.count;
         few = omega (arith, size, h.few);
-        front = λ k e l. sym (front_at fewer o k e l) ∙ ap (λ (z : List (OrderValue C)). get_or z k e) (sym split) ∙ h.front k e (omega (arith, size, l));
-        rest = λ k d l. let apart : ¬ (k ≡ m) = λ e. omega (arith, l, e, place) in get_or-set_other ys m k y d apart ∙ h.rest k d (omega (arith, size, l));
+        front = λ k e l. sym (front_at fewer o k e l) ∙ ap (λ (z : List (OrderValue C)). get_or z k e) (sym split)
+            ∙ h.front k e (omega (arith, size, l));
+        rest = λ k d l. let apart : ¬ (k ≡ m) = λ e. omega (arith, l, e, place) in get_or-set_other ys m k y d apart
+            ∙ h.rest k d (omega (arith, size, l));
         done = λ k d e low high.
             dite (ℕ_discrete k m)
             (λ at. here k d e at)
@@ -72,7 +79,8 @@ module _ {S I C W : Type 0} where
           let within : m < length left = omega (arith, size, place) in
           let slot : x ≡ get_or xs m d = is ∙ get_or_default ys m x d inside ∙ h.rest m d within in
           let order_is : o ≡ get_or all m e =
-          sym (last_at fewer o e) ∙ ap (λ (j : ℕ). get_or (fewer ++ o ∷ []) j e) (sym place) ∙ ap (λ (z : List (OrderValue C)). get_or z m e) (sym split) ∙ h.front m e within in
+          sym (last_at fewer o e) ∙ ap (λ (j : ℕ). get_or (fewer ++ o ∷ []) j e) (sym place)
+          ∙ ap (λ (z : List (OrderValue C)). get_or z m e) (sym split) ∙ h.front m e within in
           let set_is : y ≡ get_or (set ys m y) m d = sym (get_or-set_same ys m y d inside) in
           let begins : IsOrdered n x o y = record { is = order } in
           subst (λ (j : ℕ). IsOrdered n (get_or xs j d) (get_or all j e) (get_or (set ys m y) j d)) (sym at)

@@ -1,7 +1,10 @@
 -- The ledger balances after every past that can be, and each job that has not ended is the one extra of its slot.
 use Rattle.std.proofs.Common.{◌≡◌, ◌<◌, ◌≤◌, ◌+◌, ℕ, Bool, true, false, cond, max, nat_lt, ◌&&◌, [], ◌∷◌, refl, ap, subst, arith}
 use Rattle.std.proofs.lemmas.Bool.{lt-ltb}
-use Rattle.lb_rebuild_slots.specs.SlotsHistory.{Granted, Failed, Published, Abandoned, WorkerLost, TakenOut, Destroyed, Scheduled, Cancelled, At, History, newest, granted, served, Extra, nothing, flight, lost, retired, taken_out, is_flight, is_extra, is_under_way, is_retired_of, is_taken_out, flight_number, generation_of, extra, published, coalesced, superseded, IsPast}
+use Rattle.lb_rebuild_slots.specs.SlotsHistory.{Granted, Failed, Published, Abandoned, WorkerLost, TakenOut, Destroyed, Scheduled}
+use Rattle.lb_rebuild_slots.specs.SlotsHistory.{Cancelled, At, History, newest, granted, served, Extra, nothing, flight, lost, retired}
+use Rattle.lb_rebuild_slots.specs.SlotsHistory.{taken_out, is_flight, is_extra, is_under_way, is_retired_of, is_taken_out, flight_number}
+use Rattle.lb_rebuild_slots.specs.SlotsHistory.{generation_of, extra, published, coalesced, superseded, IsPast}
 use Rattle.lb_rebuild_slots.specs.Laws.{number, Balanced, grants, endings, Accounted}
 use Rattle.lb_rebuild_slots.proofs.Pasts.{UnderWayFits, under-way-fits, granted-newest, served-granted, lt-false}
 
@@ -78,9 +81,11 @@ flown n p c u s e none w h =
 -- a membership comes
 scheduled : (n p c u s g : ℕ) (e : Extra) → s ≤ g → g ≤ n → UnderWayFits s g e
     → n ≡ p + c + u + number (nat_lt (max s (flight_number e)) n) + number (is_flight e)
-    → n + 1 ≡ p + cond (nat_lt (max s (flight_number e)) n) (c + 1) c + u + number (nat_lt (max s (flight_number e)) (n + 1)) + number (is_flight e)
+    → n + 1 ≡ p + cond (nat_lt (max s (flight_number e)) n) (c + 1) c + u + number (nat_lt (max s (flight_number e)) (n + 1)) + number
+    (is_flight e)
 scheduled n p c u s g e below in_ fits h =
-    rw (lt-ltb (max s (flight_number e)) (n + 1) (flies_in s g n e below in_ fits)) (came (nat_lt (max s (flight_number e)) n) n p c u (number (is_flight e)) h)
+    rw (lt-ltb (max s (flight_number e)) (n + 1) (flies_in s g n e below in_ fits))
+    (came (nat_lt (max s (flight_number e)) n) n p c u (number (is_flight e)) h)
   where
     flies_in : (s g n : ℕ) (e : Extra) → s ≤ g → g ≤ n → UnderWayFits s g e → max s (flight_number e) < n + 1
     flies_in s g n nothing below in_ fits = omega arith
@@ -115,19 +120,26 @@ out_grounded (taken_out m) h = refl
 pub balanced : (h : History) → IsPast h → Balanced h
 balanced [] p = refl
 balanced (Scheduled ms now ∷ h) p =
-    scheduled (newest h) (published h) (coalesced h) (superseded h) (served h) (granted h) (extra h) (served-granted h) (granted-newest h) (under-way-fits h p.0) (balanced h p.0)
+    scheduled (newest h) (published h) (coalesced h) (superseded h) (served h) (granted h) (extra h) (served-granted h) (granted-newest h)
+    (under-way-fits h p.0) (balanced h p.0)
 balanced (Cancelled ∷ h) p = balanced h p
-balanced (At i (Granted now) ∷ h) p = flown (newest h) (published h) (coalesced h) (superseded h) (served h) (extra h) p.1.0 p.1.1 (balanced h p.0)
+balanced (At i (Granted now) ∷ h) p = flown (newest h) (published h) (coalesced h) (superseded h) (served h) (extra h) p.1.0 p.1.1
+    (balanced h p.0)
 balanced (At i (Failed now ms) ∷ h) p =
-    ended (newest h) (published h) (coalesced h) (superseded h) (served h) (granted h) (extra h) p.1 (under-way-fits h p.0) (granted-newest h) (balanced h p.0)
+    ended (newest h) (published h) (coalesced h) (superseded h) (served h) (granted h) (extra h) p.1 (under-way-fits h p.0)
+    (granted-newest h) (balanced h p.0)
 balanced (At i (Published at_ ms) ∷ h) p =
-    served_now (newest h) (published h) (coalesced h) (superseded h) (served h) (granted h) (extra h) p.1.0 (under-way-fits h p.0) (balanced h p.0)
+    served_now (newest h) (published h) (coalesced h) (superseded h) (served h) (granted h) (extra h) p.1.0 (under-way-fits h p.0)
+    (balanced h p.0)
 balanced (At i (Abandoned ms) ∷ h) p =
-    ended (newest h) (published h) (coalesced h) (superseded h) (served h) (granted h) (extra h) p.1 (under-way-fits h p.0) (granted-newest h) (balanced h p.0)
+    ended (newest h) (published h) (coalesced h) (superseded h) (served h) (granted h) (extra h) p.1 (under-way-fits h p.0)
+    (granted-newest h) (balanced h p.0)
 balanced (At i WorkerLost ∷ h) p =
-    worker_gone (newest h) (published h) (coalesced h) (superseded h) (served h) (granted h) (extra h) p.1 (under-way-fits h p.0) (granted-newest h) (balanced h p.0)
+    worker_gone (newest h) (published h) (coalesced h) (superseded h) (served h) (granted h) (extra h) p.1 (under-way-fits h p.0)
+    (granted-newest h) (balanced h p.0)
 balanced (At i TakenOut ∷ h) p =
-    no_flight (newest h) (published h + coalesced h + superseded h) (served h) (extra h) (retired_grounded (generation_of (extra h)) (extra h) p.1.0) (balanced h p.0)
+    no_flight (newest h) (published h + coalesced h + superseded h) (served h) (extra h)
+    (retired_grounded (generation_of (extra h)) (extra h) p.1.0) (balanced h p.0)
 balanced (At i Destroyed ∷ h) p =
     no_flight (newest h) (published h + coalesced h + superseded h) (served h) (extra h) (out_grounded (extra h) p.1) (balanced h p.0)
 balanced (At i e ∷ h) p = balanced h p.0
@@ -170,15 +182,18 @@ accounted (At i (Granted now) ∷ h) p =
     let ih : grants h ≡ endings h + number (is_extra (extra h)) = accounted h p.0 in
     omega (arith, none, ih)
 accounted (At i (Failed now ms) ∷ h) p =
-    let ih : grants h ≡ endings h + number (is_extra (extra h)) = accounted h p.0 in omega (arith, under_way_counts (granted h) (extra h) p.1, ih)
+    let ih : grants h ≡ endings h + number (is_extra (extra h)) = accounted h p.0
+    in omega (arith, under_way_counts (granted h) (extra h) p.1, ih)
 accounted (At i (Published at_ ms) ∷ h) p =
     let ih : grants h ≡ endings h + number (is_extra (extra h)) = accounted h p.0 in omega (arith, flight_counts (extra h) p.1.0, ih)
 accounted (At i (Abandoned ms) ∷ h) p =
-    let ih : grants h ≡ endings h + number (is_extra (extra h)) = accounted h p.0 in omega (arith, under_way_counts (granted h) (extra h) p.1, ih)
+    let ih : grants h ≡ endings h + number (is_extra (extra h)) = accounted h p.0
+    in omega (arith, under_way_counts (granted h) (extra h) p.1, ih)
 accounted (At i WorkerLost ∷ h) p =
     let ih : grants h ≡ endings h + number (is_extra (extra h)) = accounted h p.0 in omega (arith, flight_counts (extra h) p.1, ih)
 accounted (At i TakenOut ∷ h) p =
-    let ih : grants h ≡ endings h + number (is_extra (extra h)) = accounted h p.0 in omega (arith, retired_counts (generation_of (extra h)) (extra h) p.1.0, ih)
+    let ih : grants h ≡ endings h + number (is_extra (extra h)) = accounted h p.0
+    in omega (arith, retired_counts (generation_of (extra h)) (extra h) p.1.0, ih)
 accounted (At i Destroyed ∷ h) p =
     let ih : grants h ≡ endings h + number (is_extra (extra h)) = accounted h p.0 in omega (arith, out_counts (extra h) p.1, ih)
 accounted (At i e ∷ h) p = accounted h p.0

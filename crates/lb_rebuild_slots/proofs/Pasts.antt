@@ -1,10 +1,15 @@
 -- Laws of pasts: what a slot's past says of its group, and which numbers fit together. Each is an induction over the events.
-use Rattle.std.proofs.Common.{◌≡◌, ◌<◌, ◌≤◌, ◌+◌, ◌-◌, ◌==◌, ◌∙◌, ℕ, Bool, true, false, cond, max, nat_lt, [], ◌∷◌, refl, sym, ap, subst, arith}
+use Rattle.std.proofs.Common.{◌≡◌, ◌<◌, ◌≤◌, ◌+◌, ◌-◌, ◌==◌, ◌∙◌, ℕ, Bool, true, false, cond, max, nat_lt, [], ◌∷◌, refl, sym, ap, subst}
+use Rattle.std.proofs.Common.{arith}
 use Rattle.std.proofs.lemmas.Bool.{ltb-true, eqb-false, eq-eqb, ne_eqb}
 use Rattle.std.proofs.lemmas.Bool.Decides.{nat_tests}
 use mathlib.Core.Logic.{dite}
 use native.Mathlib.Decide.{ℕ_discrete}
-use Rattle.lb_rebuild_slots.specs.SlotsHistory.{SlotEvent, Granted, Failed, Published, Abandoned, WorkerLost, TakenOut, Destroyed, Entered, Left, Drew, SlotsEvent, Scheduled, Cancelled, At, History, past_of, newest, members_of, scheduled_at, is_cancelled, granted, served, Extra, nothing, flight, lost, retired, taken_out, is_flight, is_under_way, is_retired_of, is_taken_out, flight_number, generation_of, extra, readers, failures, failed_at, IsPast}
+use Rattle.lb_rebuild_slots.specs.SlotsHistory.{SlotEvent, Granted, Failed, Published, Abandoned, WorkerLost, TakenOut, Destroyed, Entered}
+use Rattle.lb_rebuild_slots.specs.SlotsHistory.{Left, Drew, SlotsEvent, Scheduled, Cancelled, At, History, past_of, newest, members_of}
+use Rattle.lb_rebuild_slots.specs.SlotsHistory.{scheduled_at, is_cancelled, granted, served, Extra, nothing, flight, lost, retired}
+use Rattle.lb_rebuild_slots.specs.SlotsHistory.{taken_out, is_flight, is_under_way, is_retired_of, is_taken_out, flight_number}
+use Rattle.lb_rebuild_slots.specs.SlotsHistory.{generation_of, extra, readers, failures, failed_at, IsPast}
 
 -- what an event does not change is the same whether or not the event is there
 keeps : {T : Type 0} (f : History → T) (b : Bool) (e : SlotsEvent) (p : History) → f (e ∷ p) ≡ f p → f (cond b (e ∷ p) p) ≡ f p
@@ -165,7 +170,8 @@ read_nowhere n (Scheduled ms now ∷ h) p apart out = read_nowhere n h p.0 apart
 read_nowhere n (Cancelled ∷ h) p apart out = read_nowhere n h p apart out
 read_nowhere n (At i (Granted now) ∷ h) p apart out = read_nowhere n h p.0 apart (ap (is_retired_of n) p.1.0)
 read_nowhere n (At i (Failed now ms) ∷ h) p apart out = read_nowhere n h p.0 apart (unretired n (granted h) (extra h) p.1)
-read_nowhere n (At i (Published ended ms) ∷ h) p apart out = read_nowhere n h p.0 (eqb-false (served h) n out) (unretired_flight n (extra h) p.1.0)
+read_nowhere n (At i (Published ended ms) ∷ h) p apart out = read_nowhere n h p.0 (eqb-false (served h) n out)
+    (unretired_flight n (extra h) p.1.0)
 read_nowhere n (At i (Abandoned ms) ∷ h) p apart out = read_nowhere n h p.0 apart (unretired n (granted h) (extra h) p.1)
 read_nowhere n (At i WorkerLost ∷ h) p apart out = read_nowhere n h p.0 apart (unretired_flight n (extra h) p.1)
 read_nowhere n (At i TakenOut ∷ h) p apart out =

@@ -3,7 +3,8 @@ use Rattle.std.proofs.Common.{arith, ◌≡◌, ◌<◌, ◌≤◌, ◌+◌, ◌
 use mathlib.Core.Logic.{dite}
 use native.Mathlib.Decide.{ℕ_discrete}
 use Rattle.lb_select_base.specs.Backends.{Member}
-use Rattle.lb_rebuild_slots.specs.SlotsHistory.{SlotEvent, Granted, Failed, Destroyed, SlotsEvent, Scheduled, Cancelled, At, History, past_of, is_extra, extra, IsSlotsHistory}
+use Rattle.lb_rebuild_slots.specs.SlotsHistory.{SlotEvent, Granted, Failed, Destroyed, SlotsEvent, Scheduled, Cancelled, At, History}
+use Rattle.lb_rebuild_slots.specs.SlotsHistory.{past_of, is_extra, extra, IsSlotsHistory}
 use Rattle.lb_rebuild_slots.specs.Laws.{number, grants, endings, extras_from, IsWithin, SlotsAccount}
 use Rattle.lb_rebuild_slots.proofs.Pasts.{past-same, past-other}
 use Rattle.lb_rebuild_slots.proofs.Ledger.{accounted}
@@ -25,7 +26,8 @@ module _ (f : History → ℕ) (gain : SlotEvent → ℕ) (is : IsCount f gain) 
   none k zero = refl
   none k (suc n) = omega (arith, is.starts, none (k + 1) n)
 
-  for_all : (k n : ℕ) (e : SlotsEvent) (h : History) → ((j : ℕ) → f (past_of j (e ∷ h)) ≡ f (past_of j h)) → sum_from k n (e ∷ h) ≡ sum_from k n h
+  for_all : (k n : ℕ) (e : SlotsEvent) (h : History) → ((j : ℕ) → f (past_of j (e ∷ h)) ≡ f (past_of j h))
+      → sum_from k n (e ∷ h) ≡ sum_from k n h
   for_all k zero e h same = refl
   for_all k (suc n) e h same = omega (arith, same k, for_all (k + 1) n e h same)
 
@@ -41,7 +43,8 @@ module _ (f : History → ℕ) (gain : SlotEvent → ℕ) (is : IsCount f gain) 
   at_slot k (suc n) i e h low high =
       dite (ℕ_discrete i k)
       (λ at.
-      let past : past_of k (At i e ∷ h) ≡ At i e ∷ past_of k h = subst (λ (m : ℕ). past_of k (At m e ∷ h) ≡ At m e ∷ past_of k h) (sym at) (past-same k e h) in
+      let past : past_of k (At i e ∷ h) ≡ At i e ∷ past_of k h = subst (λ (m : ℕ). past_of k (At m e ∷ h) ≡ At m e ∷ past_of k h) (sym at)
+      (past-same k e h) in
       let one : f (past_of k (At i e ∷ h)) ≡ f (past_of k h) + gain e = ap f past ∙ is.adds i e (past_of k h) in
       let rest : sum_from (k + 1) n (At i e ∷ h) ≡ sum_from (k + 1) n h = above (k + 1) n i e h (omega arith) in
       omega (arith, one, rest))
@@ -52,9 +55,11 @@ module _ (f : History → ℕ) (gain : SlotEvent → ℕ) (is : IsCount f gain) 
 
   whole : (n : ℕ) (h : History) → IsWithin n h → f h ≡ sum_from 0 n h
   whole n [] w = is.starts ∙ sym (none 0 n)
-  whole n (Scheduled ms now ∷ h) w = is.scheduled ms now h ∙ whole n h w ∙ sym (for_all 0 n (Scheduled ms now) h (λ j. is.scheduled ms now (past_of j h)))
+  whole n (Scheduled ms now ∷ h) w = is.scheduled ms now h ∙ whole n h w
+      ∙ sym (for_all 0 n (Scheduled ms now) h (λ j. is.scheduled ms now (past_of j h)))
   whole n (Cancelled ∷ h) w = is.cancelled h ∙ whole n h w ∙ sym (for_all 0 n Cancelled h (λ j. is.cancelled (past_of j h)))
-  whole n (At i e ∷ h) w = is.adds i e h ∙ ap (λ (m : ℕ). m + gain e) (whole n h w.1) ∙ sym (at_slot 0 n i e h (omega arith) (omega (arith, w.0)))
+  whole n (At i e ∷ h) w = is.adds i e h ∙ ap (λ (m : ℕ). m + gain e) (whole n h w.1)
+      ∙ sym (at_slot 0 n i e h (omega arith) (omega (arith, w.0)))
 
 granted_gain : SlotEvent → ℕ
 granted_gain (Granted now) = 1

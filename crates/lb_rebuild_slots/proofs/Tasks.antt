@@ -3,7 +3,10 @@ use Rattle.std.proofs.Common.{arith, ◌≡◌, ◌<◌, ◌∙◌, ℕ, true, �
 use Rattle.std.proofs.lemmas.Bool.{eqb-true, eq-eqb}
 use mathlib.Core.Logic.{dite}
 use native.Mathlib.Decide.{ℕ_discrete}
-use Rattle.lb_rebuild_slots.specs.SlotsHistory.{SlotEvent, Granted, Failed, Published, Abandoned, WorkerLost, TakenOut, Destroyed, Entered, Left, Drew, SlotsEvent, Scheduled, Cancelled, At, History, past_of, newest, granted, granted_members, served, Extra, nothing, flight, lost, retired, taken_out, is_under_way, is_retired_of, is_taken_out, generation_of, extra, IsPast, IsSlotsHistory}
+use Rattle.lb_rebuild_slots.specs.SlotsHistory.{SlotEvent, Granted, Failed, Published, Abandoned, WorkerLost, TakenOut, Destroyed, Entered}
+use Rattle.lb_rebuild_slots.specs.SlotsHistory.{Left, Drew, SlotsEvent, Scheduled, Cancelled, At, History, past_of, newest, granted}
+use Rattle.lb_rebuild_slots.specs.SlotsHistory.{granted_members, served, Extra, nothing, flight, lost, retired, taken_out, is_under_way}
+use Rattle.lb_rebuild_slots.specs.SlotsHistory.{is_retired_of, is_taken_out, generation_of, extra, IsPast, IsSlotsHistory}
 use Rattle.lb_rebuild_slots.specs.Values.{Task}
 use Rattle.lb_rebuild_slots.specs.Stands.{Made}
 use Rattle.lb_rebuild_slots.specs.Laws.{FlightFits}
@@ -43,7 +46,8 @@ is-granted s g k (taken_out m) up fits = absurd (cc)
 pub flight-fits : (h : History) → IsPast h → FlightFits h
 flight-fits h p n up =
     let same : granted h ≡ n = is-granted (served h) (granted h) n (extra h) up (under-way-fits h p) in
-    let above : served h < granted h = is_up (served h) (granted h) (extra h) (subst (λ (k : ℕ). is_under_way k (extra h) ≡ true) (sym same) up) (under-way-fits h p) in
+    let above : served h < granted h = is_up (served h) (granted h) (extra h)
+    (subst (λ (k : ℕ). is_under_way k (extra h) ≡ true) (sym same) up) (under-way-fits h p) in
     (omega arith, omega (arith, same, granted-newest h))
 
 -- in the slot's own past
@@ -53,7 +57,10 @@ stays-there k i (Granted now) p q back up = absurd (not-nothing k (extra p) up q
 stays-there k i (Failed now ms) p q back up = absurd (back refl)
 stays-there k i (Published ended ms) p q back up = absurd (back refl)
 stays-there k i (Abandoned ms) p q back up = absurd (back refl)
-stays-there k i WorkerLost p q back up = (eq-eqb (granted p) k (is-granted (served p) (granted p) k (extra p) up (under-way-fits p q.0)), refl)
+stays-there k i WorkerLost p q back up = (
+  eq-eqb (granted p) k (is-granted (served p) (granted p) k (extra p) up (under-way-fits p q.0)),
+  refl,
+)
 stays-there k i TakenOut p q back up = absurd (not-retired k (generation_of (extra p)) (extra p) up q.1.0)
 stays-there k i Destroyed p q back up = absurd (not-out k (extra p) up q.1)
 stays-there k i Entered p q back up = (up, refl)
@@ -62,17 +69,21 @@ stays-there k i (Drew t) p q back up = (up, refl)
 
 module _ {C : Type 0} where
   -- a job is its slot's flight from its grant on
-  pub goes-out : (made : Made C) (h : History) (slot now : ℕ) (j : Task C) → IsJob made h slot j → IsTaskOf made (At slot (Granted now) ∷ h) j
+  pub goes-out : (made : Made C) (h : History) (slot now : ℕ) (j : Task C) → IsJob made h slot j
+      → IsTaskOf made (At slot (Granted now) ∷ h) j
   goes-out made h slot now j is =
       let past : past_of j.slot (At slot (Granted now) ∷ h) ≡ At slot (Granted now) ∷ past_of slot h =
-      subst (λ (m : ℕ). past_of m (At slot (Granted now) ∷ h) ≡ At slot (Granted now) ∷ past_of slot h) (sym is.place) (past-same slot (Granted now) h) in
+      subst (λ (m : ℕ). past_of m (At slot (Granted now) ∷ h) ≡ At slot (Granted now) ∷ past_of slot h) (sym is.place)
+      (past-same slot (Granted now) h) in
       record {
-        awaited = ap (λ (p : History). is_under_way j.generation (extra p)) past ∙ eq-eqb (newest (past_of slot h)) j.generation (newest-past slot h ∙ sym is.generation);
+        awaited = ap (λ (p : History). is_under_way j.generation (extra p)) past
+            ∙ eq-eqb (newest (past_of slot h)) j.generation (newest-past slot h ∙ sym is.generation);
         config = ap (slice_get made.configs) is.place ∙ is.config;
         members = is.members ∙ sym (ap granted_members past);
       }
 
-  pub stays : (made : Made C) (h : History) (j : Task C) (e : SlotsEvent) → IsSlotsHistory (e ∷ h) → IsTaskOf made h j → ¬ TakesBack j.slot e → IsTaskOf made (e ∷ h) j
+  pub stays : (made : Made C) (h : History) (j : Task C) (e : SlotsEvent) → IsSlotsHistory (e ∷ h) → IsTaskOf made h j
+      → ¬ TakesBack j.slot e → IsTaskOf made (e ∷ h) j
   stays made h j (Scheduled ms now) all t back = record { awaited = t.awaited; config = t.config; members = t.members }
   stays made h j Cancelled all t back = record { awaited = t.awaited; config = t.config; members = t.members }
   stays made h j (At i e) all t back =

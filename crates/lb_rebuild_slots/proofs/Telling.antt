@@ -1,9 +1,13 @@
 -- Laws that say more of an answer or of a history than its clause: what is served, who gets a job, which members there are.
-use Rattle.std.proofs.Common.{arith, ◌≡◌, ◌≤◌, ◌+◌, ◌==◌, ◌||◌, ◌∙◌, ℕ, Bool, true, false, not, cond, max, nat_lt, List, [], ◌∷◌, refl, sym, ap, ⊎_elim}
+use Rattle.std.proofs.Common.{arith, ◌≡◌, ◌≤◌, ◌+◌, ◌==◌, ◌||◌, ◌∙◌, ℕ, Bool, true, false, not, cond, max, nat_lt, List, [], ◌∷◌, refl, sym}
+use Rattle.std.proofs.Common.{ap, ⊎_elim}
 use Rattle.std.proofs.lemmas.Bool.{eq-eqb, ne_eqb}
 use Rattle.std.proofs.lemmas.Bool.Decides.{eqb_tells}
 use Rattle.lb_select_base.specs.Backends.{Member}
-use Rattle.lb_rebuild_slots.specs.SlotsHistory.{Granted, Failed, Published, Abandoned, SlotsEvent, Scheduled, Cancelled, At, History, newest, members_of, is_cancelled, granted, served, order_members, Extra, nothing, flight, lost, retired, taken_out, is_flight, is_extra, flight_number, extra, waits, due_moment, cancelled, building, up_to_date, not_due, busy, job, ask_answer, IsPast, IsFaithful}
+use Rattle.lb_rebuild_slots.specs.SlotsHistory.{Granted, Failed, Published, Abandoned, SlotsEvent, Scheduled, Cancelled, At, History}
+use Rattle.lb_rebuild_slots.specs.SlotsHistory.{newest, members_of, is_cancelled, granted, served, order_members, Extra, nothing, flight}
+use Rattle.lb_rebuild_slots.specs.SlotsHistory.{lost, retired, taken_out, is_flight, is_extra, flight_number, extra, waits, due_moment}
+use Rattle.lb_rebuild_slots.specs.SlotsHistory.{cancelled, building, up_to_date, not_due, busy, job, ask_answer, IsPast, IsFaithful}
 use Rattle.lb_rebuild_slots.specs.Laws.{Bounded, RisesAt, ServesNewest, GetsJob, Tells, HasMembers}
 use Rattle.lb_rebuild_slots.proofs.Pasts.{under-way-fits, granted-newest, served-granted, flies, lt-false, not-below}
 
@@ -49,7 +53,8 @@ no-second : (a b : Bool) → (a || b) ≡ false → b ≡ false
 no-second true b e = absurd (cc)
 no-second false b e = e
 
-tells-at : (h : History) (ca fl w d o : Bool) (out : Bool) → is_cancelled h ≡ ca → is_flight (extra h) ≡ fl → waits h ≡ w → (out || is_extra (extra h)) ≡ o
+tells-at : (h : History) (ca fl w d o : Bool) (out : Bool) → is_cancelled h ≡ ca → is_flight (extra h) ≡ fl → waits h ≡ w
+    → (out || is_extra (extra h)) ≡ o
     → Tells h (cond ca cancelled (cond fl building (cond (not w) up_to_date (cond d (not_due (due_moment h)) (cond o busy job)))))
 tells-at h true fl w d o out a b c e = a
 tells-at h false true w d o out a b c e = b
@@ -59,7 +64,8 @@ tells-at h false false true false true out a b c e = c
 tells-at h false false true false false out a b c e = (c, a, no-second out (is_extra (extra h)) e)
 
 pub tells : (h : History) (out : Bool) (now : ℕ) → Tells h (ask_answer h out now)
-tells h out now = tells-at h (is_cancelled h) (is_flight (extra h)) (waits h) (nat_lt now (due_moment h)) (out || is_extra (extra h)) out refl refl refl refl
+tells h out now = tells-at h (is_cancelled h) (is_flight (extra h)) (waits h) (nat_lt now (due_moment h))
+    (out || is_extra (extra h)) out refl refl refl refl
 
 -- members
 came-back : (g n : ℕ) (ms os : List Member) (h : History) → ms ≡ members_of g h → os ≡ members_of n h → cond (g == n) ms os ≡ members_of n h
@@ -81,12 +87,28 @@ has-members (Scheduled ms now ∷ h) f =
       serving = rw (ne_eqb (newest h + 1) (served h) (λ e. omega arith)) ih.serving;
     }
 has-members (Cancelled ∷ h) f = let ih = has-members h f in record { waiting = ih.waiting; under_way = ih.under_way; serving = ih.serving }
-has-members (At i (Granted now) ∷ h) f = let ih = has-members h f in record { waiting = ih.waiting; under_way = ih.waiting; serving = ih.serving }
+has-members (At i (Granted now) ∷ h) f = let ih = has-members h f in record {
+  waiting = ih.waiting;
+  under_way = ih.waiting;
+  serving = ih.serving;
+}
 has-members (At i (Failed now ms) ∷ h) f =
     let ih = has-members h f.0 in
-    record { waiting = came-back (granted h) (newest h) ms (order_members h) h (f.1 ∙ ih.under_way) ih.waiting; under_way = ih.under_way; serving = ih.serving }
-has-members (At i (Published ended ms) ∷ h) f = let ih = has-members h f.0 in record { waiting = ih.waiting; under_way = ih.under_way; serving = f.1 ∙ ih.under_way }
+    record {
+      waiting = came-back (granted h) (newest h) ms (order_members h) h (f.1 ∙ ih.under_way) ih.waiting;
+      under_way = ih.under_way;
+      serving = ih.serving;
+    }
+has-members (At i (Published ended ms) ∷ h) f = let ih = has-members h f.0 in record {
+  waiting = ih.waiting;
+  under_way = ih.under_way;
+  serving = f.1 ∙ ih.under_way;
+}
 has-members (At i (Abandoned ms) ∷ h) f =
     let ih = has-members h f.0 in
-    record { waiting = came-back (granted h) (newest h) ms (order_members h) h (f.1 ∙ ih.under_way) ih.waiting; under_way = ih.under_way; serving = ih.serving }
+    record {
+      waiting = came-back (granted h) (newest h) ms (order_members h) h (f.1 ∙ ih.under_way) ih.waiting;
+      under_way = ih.under_way;
+      serving = ih.serving;
+    }
 has-members (At i e ∷ h) f = let ih = has-members h f in record { waiting = ih.waiting; under_way = ih.under_way; serving = ih.serving }

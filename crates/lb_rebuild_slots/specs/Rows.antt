@@ -1,7 +1,8 @@
 -- Worked rows of builds, failures, lost workers, cancellation, timing and delays, as equations that compute.
 use Rattle.std.specs.Prelude.{◌≡◌, true, false, List, [], ◌∷◌, map, Some, None, refl}
 use Rattle.lb_select_base.specs.Backends.{Member}
-use Rattle.lb_rebuild_slots.specs.SlotsHistory.{Granted, Failed, Published, Abandoned, WorkerLost, TakenOut, Destroyed, Entered, Left, Scheduled}
+use Rattle.lb_rebuild_slots.specs.SlotsHistory.{Granted, Failed, Published, Abandoned, WorkerLost, TakenOut, Destroyed, Entered, Left}
+use Rattle.lb_rebuild_slots.specs.SlotsHistory.{Scheduled}
 use Rattle.lb_rebuild_slots.specs.SlotsHistory.{Cancelled, At, History, past_of, served, extra, flight, waits, readers, retry_delay, timing}
 use Rattle.lb_rebuild_slots.specs.SlotsHistory.{cancelled, building, not_due, busy, job, ask_answer}
 use Rattle.lb_rebuild_slots.specs.Stands.{counts_after}

@@ -9,8 +9,10 @@ use Rattle.lb_select_base.specs.declared.refusal.Refusal.{Refusal}
 use Rattle.lb_select_base.specs.declared.refusal.Refusal.TheVariants as refusal
 use Rattle.lb_rebuild_slots.specs.Gate.{GateId, GateValue, gate}
 use Rattle.lb_rebuild_slots.specs.Drawn.{DrawnValue, DrawnGives}
-use Rattle.lb_rebuild_slots.specs.SlotsHistory.{Extra, nothing, flight, lost, retired, taken_out, is_flight, is_extra, is_under_way, is_retired_of}
-use Rattle.lb_rebuild_slots.specs.SlotsHistory.{flight_number, generation_of, due_after, AskAnswer, cancelled, building, up_to_date, not_due}
+use Rattle.lb_rebuild_slots.specs.SlotsHistory.{Extra, nothing, flight, lost, retired, taken_out, is_flight, is_extra, is_under_way}
+use Rattle.lb_rebuild_slots.specs.SlotsHistory.{is_retired_of}
+use Rattle.lb_rebuild_slots.specs.SlotsHistory.{flight_number, generation_of, due_after, AskAnswer, cancelled, building, up_to_date}
+use Rattle.lb_rebuild_slots.specs.SlotsHistory.{not_due}
 use Rattle.lb_rebuild_slots.specs.SlotsHistory.{busy, job}
 use Rattle.lb_rebuild_slots.specs.Values.{OrderValue, PlaceValue, Task, BuiltValue, RetiredValue, ReaderValue, SlotValue, order_of}
 use Rattle.lb_rebuild_slots.specs.declared.answers.Ask.{Ask}

@@ -8,9 +8,11 @@ use Rattle.lb_select_base.specs.Memberships.{same_members}
 use Rattle.lb_select_base.specs.declared.refusal.Refusal.{Refusal}
 use Rattle.lb_select_base.specs.declared.refusal.Refusal.TheVariants as refusal
 use Rattle.lb_rebuild_slots.specs.Gate.{GateValue, gate}
-use Rattle.lb_rebuild_slots.specs.SlotsHistory.{SlotEvent, Granted, Failed, Published, Abandoned, Drew, Scheduled, At, History, past_of, newest}
+use Rattle.lb_rebuild_slots.specs.SlotsHistory.{SlotEvent, Granted, Failed, Published, Abandoned, Drew, Scheduled, At, History, past_of}
+use Rattle.lb_rebuild_slots.specs.SlotsHistory.{newest}
 use Rattle.lb_rebuild_slots.specs.SlotsHistory.{members_of, is_cancelled, order_members, served, served_members, is_flight, is_under_way}
-use Rattle.lb_rebuild_slots.specs.SlotsHistory.{is_taken_out, taken_out_number, generation_of, extra, waits, readers, drawn, AskAnswer, cancelled}
+use Rattle.lb_rebuild_slots.specs.SlotsHistory.{is_taken_out, taken_out_number, generation_of, extra, waits, readers, drawn, AskAnswer}
+use Rattle.lb_rebuild_slots.specs.SlotsHistory.{cancelled}
 use Rattle.lb_rebuild_slots.specs.SlotsHistory.{building, up_to_date, not_due, busy, job, ask_answer}
 use Rattle.lb_rebuild_slots.specs.Orders.{order_for}
 use Rattle.lb_rebuild_slots.specs.Values.{Task, BuiltValue, RetiredValue, PermitValue, ReaderValue, SlotValue, PreparedValue}

@@ -3,7 +3,8 @@ use Rattle.std.specs.Prelude.{◌≡◌, ◌+◌, ◌^◌, ◌<◌, ◌&&◌, �
 use Rattle.lb_rebuild_slots.specs.Gate.{GateId, GroupId}
 use Rattle.lb_rebuild_slots.specs.SlotsHistory.{History, Extra, nothing, flight, lost, retired, taken_out, past_of, newest, members_of}
 use Rattle.lb_rebuild_slots.specs.SlotsHistory.{scheduled_at, is_cancelled, granted, asked_at, served, served_members, order_members, extra}
-use Rattle.lb_rebuild_slots.specs.SlotsHistory.{is_lost_of, waits, readers, drawn, published, coalesced, superseded, failed, failures, failed_at}
+use Rattle.lb_rebuild_slots.specs.SlotsHistory.{is_lost_of, waits, readers, drawn, published, coalesced, superseded, failed, failures}
+use Rattle.lb_rebuild_slots.specs.SlotsHistory.{failed_at}
 use Rattle.lb_rebuild_slots.specs.SlotsHistory.{timing, IsSlotsHistory}
 use Rattle.lb_rebuild_slots.specs.Values.{OrderValue, SlotValue, SlotsValue, configs_of}
 use Rattle.lb_rebuild_slots.specs.declared.answers.Counts.{Counts}

@@ -3,7 +3,8 @@
 ghost use Rattle.std.specs.Prelude.{◌≡◌, ◌∷◌, Bool, ℕ, slice_get};
 ghost use Rattle.lb_rebuild_slots.specs.SlotsCalls.{IsJob};
 ghost use Rattle.lb_rebuild_slots.specs.SlotsHistory.{At, Granted, SlotsEvent, History, IsPast, IsFaithful, IsSlotsHistory, ask_answer};
-ghost use Rattle.lb_rebuild_slots.specs.Laws.{Accounted, Balanced, Bounded, FlightFits, GetsJob, HasMembers, IsWithin, RisesAt, ServesNewest};
+ghost use Rattle.lb_rebuild_slots.specs.Laws.{Accounted, Balanced, Bounded, FlightFits, GetsJob, HasMembers, IsWithin, RisesAt};
+ghost use Rattle.lb_rebuild_slots.specs.Laws.{ServesNewest};
 ghost use Rattle.lb_rebuild_slots.specs.Laws.{SlotsAccount, Tells};
 ghost use Rattle.lb_rebuild_slots.specs.Stands.{Made, StandsFor, permit_in};
 ghost use Rattle.lb_rebuild_slots.specs.Tasks.{IsTaskOf, TakesBack};

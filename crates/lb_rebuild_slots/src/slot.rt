@@ -5,7 +5,8 @@ ghost use Rattle.std.specs.Fn.{FnReturnsAt};
 ghost use Rattle.lb_select_base.specs.Refusals.{Refuses};
 ghost use Rattle.lb_select_base.specs.Loads.{load_in};
 ghost use Rattle.lb_rebuild_slots.specs.SlotSeen.{permit_of};
-ghost use Rattle.lb_rebuild_slots.specs.SlotsHistory.{is_flight, is_under_way, is_retired_of, is_taken_out, taken_out_number, flight_number};
+ghost use Rattle.lb_rebuild_slots.specs.SlotsHistory.{is_flight, is_under_way, is_retired_of, is_taken_out, taken_out_number};
+ghost use Rattle.lb_rebuild_slots.specs.SlotsHistory.{flight_number};
 
 use crate::answers::{Ask, Counts, Publication, Selection, Timing};
 use crate::gate::{GateCore, Permit};
@@ -58,7 +59,8 @@ impl<S: BackendSelection> Slot<S> {
     ghost use Rattle.lb_rebuild_slots.specs.SlotSeen.{slot_value, extra_of};
     ghost use Rattle.lb_rebuild_slots.specs.SlotCalls.{slot_waits, slot_answer, ask_told, asked_slot, asked_gate, IsJobOf, ordered_slot};
     ghost use Rattle.lb_rebuild_slots.specs.SlotCalls.{failed_slot, published_slot, abandoned_slot, lost_slot, entered_slot, reader_of};
-    ghost use Rattle.lb_rebuild_slots.specs.SlotCalls.{readers_at, left_slot, TakesAt, destroyed_slot, drawn_slot, superseded_more, SelectsFrom};
+    ghost use Rattle.lb_rebuild_slots.specs.SlotCalls.{readers_at, left_slot, TakesAt, destroyed_slot, drawn_slot, superseded_more};
+    ghost use Rattle.lb_rebuild_slots.specs.SlotCalls.{SelectsFrom};
     ghost use Rattle.lb_rebuild_slots.specs.SlotCalls.{TicketAt, FailsAt, PublishesAt, AbandonsAt, LosesAt, LeavesAt};
 
     // A slot that serves a selector of generation 0 over these backends, of which there are none.

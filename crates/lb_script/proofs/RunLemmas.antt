@@ -1,5 +1,6 @@
 -- Lemmas on the text of a script's run: how it goes on from line to line, and how it ends.
-use Rattle.std.proofs.Common.{◌≡◌, ◌≢◌, inl, inr, ℕ, ◌+◌, Bool, true, false, List, [], ◌∷◌, ◌++◌, codes, Option, Some, None, IfSome, OnOk, OnErr, Result, Ok, Err, refl, sym, ap, ◌∙◌, subst, append_assoc, append-nil, arith}
+use Rattle.std.proofs.Common.{◌≡◌, ◌≢◌, inl, inr, ℕ, ◌+◌, Bool, true, false, List, [], ◌∷◌, ◌++◌, codes, Option, Some, None, IfSome, OnOk}
+use Rattle.std.proofs.Common.{OnErr, Result, Ok, Err, refl, sym, ap, ◌∙◌, subst, append_assoc, append-nil, arith}
 use Rattle.std.specs.Io.KnownBytes.{Appends, prepend_known}
 use Rattle.std.specs.Result.{result_ok}
 use Rattle.std.proofs.KnownBytes.{Appends-nil, Appends-trans}
@@ -45,12 +46,14 @@ on_script None P Q p f = tt
 on_script (Some script) P Q p f = f script p
 
 -- all text so far: what went to the writer, and what waits
-sent_more : (sent waiting text front after : List ℕ) → waiting ++ text ≡ front ++ after → (sent ++ waiting) ++ text ≡ (sent ++ front) ++ after
+sent_more : (sent waiting text front after : List ℕ) → waiting ++ text ≡ front ++ after
+    → (sent ++ waiting) ++ text ≡ (sent ++ front) ++ after
 sent_more sent waiting text front after is =
     append_assoc sent waiting text ∙ ap (λ l. sent ++ l) is ∙ sym (append_assoc sent front after)
 
 -- what waited after a text joined it was written, and more
-joined_put : (old new mid newer : Option (List ℕ)) (sent waiting after text more : List ℕ) → Appends old new sent → Joins new mid waiting after text
+joined_put : (old new mid newer : Option (List ℕ)) (sent waiting after text more : List ℕ) → Appends old new sent
+    → Joins new mid waiting after text
     → Appends mid newer (after ++ more) → Appends old newer (((sent ++ waiting) ++ text) ++ more)
 joined_put old new mid newer sent waiting after text more before joins put =
     let so = Appends-trans old new mid sent joins.0 before joins.1 in
@@ -59,7 +62,8 @@ joined_put old new mid newer sent waiting after text more before joins put =
     (Appends-trans old mid newer (sent ++ joins.0) (after ++ more) so put)
 
 -- the same where a front of that was written
-joined_part : (old new mid newer : Option (List ℕ)) (sent waiting after text more : List ℕ) → Appends old new sent → Joins new mid waiting after text
+joined_part : (old new mid newer : Option (List ℕ)) (sent waiting after text more : List ℕ) → Appends old new sent
+    → Joins new mid waiting after text
     → AppendsFront mid newer (after ++ more) → AppendsFront old newer (((sent ++ waiting) ++ text) ++ more)
 joined_part old new mid newer sent waiting after text more before joins put =
     let so = Appends-trans old new mid sent joins.0 before joins.1 in
@@ -98,7 +102,8 @@ module _ (M : Meaning Kind) where
       (h : History Kind) → Stands M w h → OnBytes left now (TakesTurn M h v P r)
 
   -- what a turn took from the bytes that were left
-  taken : {script : List ℕ} {left old new : Option (List ℕ)} {waiting : List ℕ} {w : WorldValue Kind} {k : ℕ} (s : SoFar script left old new waiting w k)
+  taken : {script : List ℕ} {left old new : Option (List ℕ)} {waiting : List ℕ} {w : WorldValue Kind} {k : ℕ}
+      (s : SoFar script left old new waiting w k)
       (now : Option (List ℕ)) (v : WorldValue Kind) (P : List ℕ → Type 0) (r t : LineTurn) → r ≡ t → Gives left now w v P r
       → (more : List ℕ) × (now ≡ Some more) × TakesTurn M s.history v P t s.rest more
   taken {left = left} s now v P r t is next =
@@ -106,7 +111,8 @@ module _ (M : Meaning Kind) where
       (subst (λ x. OnBytes left now (TakesTurn M s.history v P x)) is (next s.history s.stands))
 
   -- at first
-  pub begins : (o : Option (List ℕ)) (ahead : List ℕ) (old : Option (List ℕ)) (waiting : List ℕ) (w : WorldValue Kind) → ahead ≡ [] → waiting ≡ []
+  pub begins : (o : Option (List ℕ)) (ahead : List ℕ) (old : Option (List ℕ)) (waiting : List ℕ) (w : WorldValue Kind) → ahead ≡ []
+      → waiting ≡ []
       → Stands M w [] → IfSome o (λ script. SoFar script (prepend_known ahead o) old old waiting w 1)
   begins None ahead old waiting w empty none stands = tt
   begins (Some script) ahead old waiting w empty none stands = record {
@@ -125,7 +131,8 @@ module _ (M : Meaning Kind) where
   }
 
   -- the text after a line that was answered
-  line_output : (failed : Bool) (h : History Kind) (k : ℕ) (line : List ℕ) (lines : List (List ℕ)) (w : WorldValue Kind) (P : List ℕ → Type 0)
+  line_output : (failed : Bool) (h : History Kind) (k : ℕ) (line : List ℕ) (lines : List (List ℕ)) (w : WorldValue Kind) (P : List ℕ
+      → Type 0)
       → IsLine line → (is : AnsweredLine M h line w P)
       → (text : List ℕ) (status : ℕ) → IsOutput M failed ((is.st, is.a) ∷ h) (k + 1) lines text status
       → IsOutput M failed h k (line ∷ lines) ((answer_text is.a ++ codes "\n") ++ text) status
@@ -133,7 +140,8 @@ module _ (M : Meaning Kind) where
       answered h k line lines is.st is.a text status fit.short is.is is.right out
 
   -- the text for all lines, where no read failed
-  all_lines : {script : List ℕ} {left old new : Option (List ℕ)} {waiting : List ℕ} {w : WorldValue Kind} {k : ℕ} (s : SoFar script left old new waiting w k)
+  all_lines : {script : List ℕ} {left old new : Option (List ℕ)} {waiting : List ℕ} {w : WorldValue Kind} {k : ℕ}
+      (s : SoFar script left old new waiting w k)
       (failed : Bool) (now : Option (List ℕ)) (text : List ℕ) (status : ℕ) → failed ≡ false
       → IsOutput M false s.history k (lines_of s.rest) text status → Completes failed script now s.done text status
   all_lines {script = script} s failed now text status fine out =
@@ -147,9 +155,11 @@ module _ (M : Meaning Kind) where
       (error_text k OutOfMemory ++ codes "\n", 1, no_memory h k (line ∷ lines) refl (inl (λ none. cc)))
 
   -- all was written: what waited once a text had joined it, and more
-  wrote : {script : List ℕ} {left old new : Option (List ℕ)} {waiting : List ℕ} {w : WorldValue Kind} {k : ℕ} (s : SoFar script left old new waiting w k)
+  wrote : {script : List ℕ} {left old new : Option (List ℕ)} {waiting : List ℕ} {w : WorldValue Kind} {k : ℕ}
+      (s : SoFar script left old new waiting w k)
       (failed : Bool) (unread mid newer : Option (List ℕ)) (after text more : List ℕ) (status : ℕ) → Joins new mid waiting after text
-      → Appends mid newer (after ++ more) → Completes failed script unread s.done (text ++ more) status → Wrote M failed script unread old newer status
+      → Appends mid newer (after ++ more) → Completes failed script unread s.done (text ++ more) status
+      → Wrote M failed script unread old newer status
   wrote {old = old} {new = new} {waiting = waiting} s failed unread mid newer after text more status joins put all = record {
     lines = all.lines;
     to_answer = all.to_answer;
@@ -160,9 +170,11 @@ module _ (M : Meaning Kind) where
   }
 
   -- a front of that was written
-  wrote_front : {script : List ℕ} {left old new : Option (List ℕ)} {waiting : List ℕ} {w : WorldValue Kind} {k : ℕ} (s : SoFar script left old new waiting w k)
+  wrote_front : {script : List ℕ} {left old new : Option (List ℕ)} {waiting : List ℕ} {w : WorldValue Kind} {k : ℕ}
+      (s : SoFar script left old new waiting w k)
       (failed : Bool) (unread mid newer : Option (List ℕ)) (after text more : List ℕ) (status : ℕ) → Joins new mid waiting after text
-      → AppendsFront mid newer (after ++ more) → Completes failed script unread s.done (text ++ more) status → WroteFront M failed script unread old newer
+      → AppendsFront mid newer (after ++ more) → Completes failed script unread s.done (text ++ more) status
+      → WroteFront M failed script unread old newer
   wrote_front {old = old} {new = new} {waiting = waiting} s failed unread mid newer after text more status joins put all = record {
     lines = all.lines;
     to_answer = all.to_answer;
@@ -174,8 +186,10 @@ module _ (M : Meaning Kind) where
   }
 
   -- after a line that was answered
-  one_more : {script : List ℕ} {left old new : Option (List ℕ)} {waiting : List ℕ} {w : WorldValue Kind} {k : ℕ} (s : SoFar script left old new waiting w k)
-      (now newer : Option (List ℕ)) (after : List ℕ) (v : WorldValue Kind) (r : LineTurn) → r ≡ Answered → Gives left now w v (Joins new newer waiting after) r
+  one_more : {script : List ℕ} {left old new : Option (List ℕ)} {waiting : List ℕ} {w : WorldValue Kind} {k : ℕ}
+      (s : SoFar script left old new waiting w k)
+      (now newer : Option (List ℕ)) (after : List ℕ) (v : WorldValue Kind) (r : LineTurn) → r ≡ Answered
+      → Gives left now w v (Joins new newer waiting after) r
       → SoFar script now old newer after v (k + 1)
   one_more {script = script} {old = old} {new = new} {waiting = waiting} {k = k} s now newer after v r given next =
       let n = taken s now v (Joins new newer waiting after) r Answered given next in
@@ -197,13 +211,15 @@ module _ (M : Meaning Kind) where
         history = (is.st, is.a) ∷ s.history;
         stands = is.stands;
         on_all = λ t status out.
-            let cut : lines_of s.rest ≡ first.line ∷ lines_of n.0 = ap lines_of first.is ∙ lines_feed first.line n.0 first.is_line.no_feed in
+            let cut : lines_of s.rest ≡ first.line ∷ lines_of n.0 = ap lines_of first.is
+            ∙ lines_feed first.line n.0 first.is_line.no_feed in
             subst (λ l. IsOutput M false [] 1 (lines_of script) l status) (sym (append_assoc s.done text t))
             (s.on_all (text ++ t) status
             (subst (λ lines. IsOutput M false s.history k lines (text ++ t) status) (sym cut)
             (line_output false s.history k first.line (lines_of n.0) v (Joins new newer waiting after) first.is_line is t status out)));
         on_part = λ part t status out.
-            let cut : whole_lines (fed ++ part) ≡ first.line ∷ whole_lines part = ap whole_lines (fed_then part) ∙ whole_feed first.line part first.is_line.no_feed in
+            let cut : whole_lines (fed ++ part) ≡ first.line ∷ whole_lines part = ap whole_lines (fed_then part)
+            ∙ whole_feed first.line part first.is_line.no_feed in
             subst (λ l. IsOutput M true [] 1 (whole_lines l) ((s.done ++ text) ++ t) status) (sym (append_assoc s.consumed fed part))
             (subst (λ l. IsOutput M true [] 1 (whole_lines (s.consumed ++ (fed ++ part))) l status) (sym (append_assoc s.done text t))
             (s.on_part (fed ++ part) (text ++ t) status
@@ -220,8 +236,10 @@ module _ (M : Meaning Kind) where
       (λ script s. one_more s now newer after v r given next)
 
   -- the last line was answered
-  last_line : {script : List ℕ} {left old new : Option (List ℕ)} {waiting : List ℕ} {w : WorldValue Kind} {k : ℕ} (s : SoFar script left old new waiting w k)
-      (unread : Option (List ℕ)) (v : WorldValue Kind) (P : List ℕ → Type 0) (failed : Bool) → failed ≡ false → (last : AnsweredRest M s.history v P s.rest)
+  last_line : {script : List ℕ} {left old new : Option (List ℕ)} {waiting : List ℕ} {w : WorldValue Kind} {k : ℕ}
+      (s : SoFar script left old new waiting w k)
+      (unread : Option (List ℕ)) (v : WorldValue Kind) (P : List ℕ → Type 0) (failed : Bool) → failed ≡ false
+      → (last : AnsweredRest M s.history v P s.rest)
       → Completes failed script unread s.done ((answer_text last.answered.a ++ codes "\n") ++ []) 0
   last_line {k = k} s unread v P failed fine last =
       let is = last.answered in
@@ -231,7 +249,8 @@ module _ (M : Meaning Kind) where
       (subst (λ lines. IsOutput M false s.history k lines text 0) (sym cut)
       (line_output false s.history k s.rest [] v P last.is_line is [] 0 (ends ((is.st, is.a) ∷ s.history) (k + 1) refl)))
 
-  pub ends_with_line : (o left now unread old new mid newer : Option (List ℕ)) (waiting after : List ℕ) (w v : WorldValue Kind) (k : ℕ) (failed : Bool)
+  pub ends_with_line : (o left now unread old new mid newer : Option (List ℕ)) (waiting after : List ℕ) (w v : WorldValue Kind) (k : ℕ)
+      (failed : Bool)
       → IfSome o (λ script. SoFar script left old new waiting w k)
       → (r : LineTurn) → r ≡ LastAnswered → Gives left now w v (Joins new mid waiting after) r
       → failed ≡ false → Appends mid newer after → IfSome o (λ script. Wrote M failed script unread old newer 0)
@@ -242,7 +261,8 @@ module _ (M : Meaning Kind) where
       wrote s failed unread mid newer after (answer_text last.answered.a ++ codes "\n") [] 0 last.answered.printed
       (subst (Appends mid newer) (sym (append-nil after)) put) (last_line s unread v (Joins new mid waiting after) failed fine last))
 
-  pub stops_in_last : (o left now unread old new mid newer : Option (List ℕ)) (waiting after : List ℕ) (w v : WorldValue Kind) (k : ℕ) (failed : Bool)
+  pub stops_in_last : (o left now unread old new mid newer : Option (List ℕ)) (waiting after : List ℕ) (w v : WorldValue Kind) (k : ℕ)
+      (failed : Bool)
       → IfSome o (λ script. SoFar script left old new waiting w k)
       → (r : LineTurn) → r ≡ LastAnswered → Gives left now w v (Joins new mid waiting after) r
       → failed ≡ false → AppendsFront mid newer after → IfSome o (λ script. WroteFront M failed script unread old newer)
@@ -254,13 +274,15 @@ module _ (M : Meaning Kind) where
       (subst (AppendsFront mid newer) (sym (append-nil after)) put) (last_line s unread v (Joins new mid waiting after) failed fine last))
 
   -- at the end of the stream
-  over : {script : List ℕ} {left old new : Option (List ℕ)} {waiting : List ℕ} {w : WorldValue Kind} {k : ℕ} (s : SoFar script left old new waiting w k)
+  over : {script : List ℕ} {left old new : Option (List ℕ)} {waiting : List ℕ} {w : WorldValue Kind} {k : ℕ}
+      (s : SoFar script left old new waiting w k)
       (unread : Option (List ℕ)) (failed : Bool) → failed ≡ false → s.rest ≡ [] → Completes failed script unread s.done ([] ++ []) 0
   over {k = k} s unread failed fine is =
       all_lines s failed unread [] 0 fine
       (subst (λ l. IsOutput M false s.history k (lines_of l) [] 0) (sym is) (ends s.history k refl))
 
-  pub is_over : (o left now unread old new mid newer : Option (List ℕ)) (waiting after : List ℕ) (w v : WorldValue Kind) (k : ℕ) (failed : Bool)
+  pub is_over : (o left now unread old new mid newer : Option (List ℕ)) (waiting after : List ℕ) (w v : WorldValue Kind) (k : ℕ)
+      (failed : Bool)
       → IfSome o (λ script. SoFar script left old new waiting w k)
       → (r : LineTurn) → r ≡ Ended → Gives left now w v (Joins new mid waiting after) r
       → failed ≡ false → Appends mid newer after → IfSome o (λ script. Wrote M failed script unread old newer 0)
@@ -268,9 +290,11 @@ module _ (M : Meaning Kind) where
       on_script o (λ script. SoFar script left old new waiting w k) (λ script. Wrote M failed script unread old newer 0) so
       (λ script s.
       let n = taken s now v (Joins new mid waiting after) r Ended given next in
-      wrote s failed unread mid newer after [] [] 0 n.2.1 (subst (Appends mid newer) (sym (append-nil after)) put) (over s unread failed fine n.2.0))
+      wrote s failed unread mid newer after [] [] 0 n.2.1 (subst (Appends mid newer) (sym (append-nil after)) put)
+      (over s unread failed fine n.2.0))
 
-  pub stops_at_end : (o left now unread old new mid newer : Option (List ℕ)) (waiting after : List ℕ) (w v : WorldValue Kind) (k : ℕ) (failed : Bool)
+  pub stops_at_end : (o left now unread old new mid newer : Option (List ℕ)) (waiting after : List ℕ) (w v : WorldValue Kind) (k : ℕ)
+      (failed : Bool)
       → IfSome o (λ script. SoFar script left old new waiting w k)
       → (r : LineTurn) → r ≡ Ended → Gives left now w v (Joins new mid waiting after) r
       → failed ≡ false → AppendsFront mid newer after → IfSome o (λ script. WroteFront M failed script unread old newer)
@@ -293,7 +317,8 @@ module _ (M : Meaning Kind) where
       (front_more new newer waiting more.0 put) (all_lines s failed unread more.0 more.1 fine more.2))
 
   -- the last line, by its error
-  error_output : {script : List ℕ} {left old new : Option (List ℕ)} {waiting : List ℕ} {w : WorldValue Kind} {k : ℕ} (s : SoFar script left old new waiting w k)
+  error_output : {script : List ℕ} {left old new : Option (List ℕ)} {waiting : List ℕ} {w : WorldValue Kind} {k : ℕ}
+      (s : SoFar script left old new waiting w k)
       (failed : Bool) (more : List ℕ) (unread : Option (List ℕ)) (e : ScriptError)
       → FailsFor e s.rest more → (e ≡ Read → failed ≡ true) → (e ≢ Read → failed ≡ false)
       → (e ≡ Read → unread ≡ Some more)
@@ -313,7 +338,8 @@ module _ (M : Meaning Kind) where
       s.on_part is.0 (error_text k Read ++ codes "\n") 1
       (subst (λ lines. IsOutput M true s.history k lines (error_text k Read ++ codes "\n") 1) (sym (whole_none is.0 is.1))
       (read_fails s.history k refl)) in
-      let cut : script ≡ (s.consumed ++ is.0) ++ more = s.split ∙ ap (λ l. s.consumed ++ l) is.2 ∙ sym (append_assoc s.consumed is.0 more) in
+      let cut : script ≡ (s.consumed ++ is.0) ++ more = s.split ∙ ap (λ l. s.consumed ++ l) is.2
+      ∙ sym (append_assoc s.consumed is.0 more) in
       subst (λ f. Completes f script unread s.done (error_text k Read ++ codes "\n") 1) (sym (read refl))
       (subst (λ u. Completes true script u s.done (error_text k Read ++ codes "\n") 1) (sym (left refl))
       (record { lines = whole_lines (s.consumed ++ is.0); to_answer = (s.consumed ++ is.0, cut, refl); output = out }))
@@ -323,12 +349,15 @@ module _ (M : Meaning Kind) where
       (inl (λ none. let cut = lines_first s.rest is in cc (cut.1, none))))
 
   -- a turn that ended the script
-  record EndsFor (failed : Bool) (script : List ℕ) (unread : Option (List ℕ)) (done : List ℕ) (P : List ℕ → Type 0) (k : ℕ) (e : ScriptError) : Type 0 where
+  record EndsFor (failed : Bool) (script : List ℕ) (unread : Option (List ℕ)) (done : List ℕ) (P : List ℕ → Type 0) (k : ℕ)
+      (e : ScriptError) : Type 0 where
     joins : P []
     completes : Completes failed script unread done (error_text k e ++ codes "\n") 1
 
-  failed_turn : {script : List ℕ} {left old new : Option (List ℕ)} {waiting : List ℕ} {w : WorldValue Kind} {k : ℕ} (s : SoFar script left old new waiting w k)
-      (ahead : List ℕ) (unread : Option (List ℕ)) (v : WorldValue Kind) (P : List ℕ → Type 0) (e : ScriptError) (failed : Bool) (r : LineTurn) → r ≡ Failed e
+  failed_turn : {script : List ℕ} {left old new : Option (List ℕ)} {waiting : List ℕ} {w : WorldValue Kind} {k : ℕ}
+      (s : SoFar script left old new waiting w k)
+      (ahead : List ℕ) (unread : Option (List ℕ)) (v : WorldValue Kind) (P : List ℕ → Type 0) (e : ScriptError) (failed : Bool)
+      (r : LineTurn) → r ≡ Failed e
       → Gives left (prepend_known ahead unread) w v P r
       → (e ≡ Read → failed ≡ true) → (e ≢ Read → failed ≡ false) → (e ≡ Read → ahead ≡ [])
       → EndsFor failed script unread s.done P k e
@@ -341,7 +370,8 @@ module _ (M : Meaning Kind) where
       }
 
   -- after a line that ended the script, with all that waited and the error written
-  pub ends_early : (o left unread old new mid newer : Option (List ℕ)) (ahead waiting after : List ℕ) (w v : WorldValue Kind) (k : ℕ) (e : ScriptError) (failed : Bool)
+  pub ends_early : (o left unread old new mid newer : Option (List ℕ)) (ahead waiting after : List ℕ) (w v : WorldValue Kind) (k : ℕ)
+      (e : ScriptError) (failed : Bool)
       → IfSome o (λ script. SoFar script left old new waiting w k)
       → (r : LineTurn) → r ≡ Failed e → Gives left (prepend_known ahead unread) w v (Joins new mid waiting after) r
       → (e ≡ Read → failed ≡ true) → (e ≢ Read → failed ≡ false) → (e ≡ Read → ahead ≡ [])
@@ -353,7 +383,8 @@ module _ (M : Meaning Kind) where
       wrote s failed unread mid newer after [] (error_text k e ++ codes "\n") 1 t.joins put t.completes)
 
   -- the same where a front of that was written
-  pub ends_in_part : (o left unread old new mid newer : Option (List ℕ)) (ahead waiting after : List ℕ) (w v : WorldValue Kind) (k : ℕ) (e : ScriptError) (failed : Bool)
+  pub ends_in_part : (o left unread old new mid newer : Option (List ℕ)) (ahead waiting after : List ℕ) (w v : WorldValue Kind) (k : ℕ)
+      (e : ScriptError) (failed : Bool)
       → IfSome o (λ script. SoFar script left old new waiting w k)
       → (r : LineTurn) → r ≡ Failed e → Gives left (prepend_known ahead unread) w v (Joins new mid waiting after) r
       → (e ≡ Read → failed ≡ true) → (e ≢ Read → failed ≡ false) → (e ≡ Read → ahead ≡ [])
@@ -365,7 +396,8 @@ module _ (M : Meaning Kind) where
       wrote_front s failed unread mid newer after [] (error_text k e ++ codes "\n") 1 t.joins put t.completes)
 
   -- a script with more lines than there are numbers
-  past_numbers : {script : List ℕ} {left old new : Option (List ℕ)} {waiting : List ℕ} {w : WorldValue Kind} {k : ℕ} (s : SoFar script left old new waiting w k)
+  past_numbers : {script : List ℕ} {left old new : Option (List ℕ)} {waiting : List ℕ} {w : WorldValue Kind} {k : ℕ}
+      (s : SoFar script left old new waiting w k)
       (unread : Option (List ℕ)) (failed : Bool) → k ≡ 18446744073709551615 → failed ≡ false
       → Completes failed script unread s.done (error_text 18446744073709551615 OutOfMemory ++ codes "\n") 1
   past_numbers {k = k} s unread failed last fine =

@@ -1,5 +1,6 @@
 -- Lemmas on what a script's run does for one line.
-use Rattle.std.proofs.Common.{◌≡◌, ℕ, ◌+◌, List, [], ◌∷◌, ◌++◌, drop, length, ◌≤◌, Option, Some, None, Result, Ok, Err, refl, ap, ◌∙◌, sym, subst, append_assoc}
+use Rattle.std.proofs.Common.{◌≡◌, ℕ, ◌+◌, List, [], ◌∷◌, ◌++◌, drop, length, ◌≤◌, Option, Some, None, Result, Ok, Err, refl, ap, ◌∙◌, sym}
+use Rattle.std.proofs.Common.{subst, append_assoc}
 use Rattle.std.specs.Io.KnownBytes.{Appends, Keeps, prepend_known}
 use Rattle.std.proofs.KnownBytes.{Appends-nil, Appends-kept}
 use Rattle.lb_world.specs.History.{History}
@@ -18,7 +19,8 @@ use Rattle.lb_script.specs.Session.{AnsweredLine, AnsweredRest, AnswersLine, Tak
 use Rattle.lb_stream.proofs.LinesLemmas.{first_of_stream}
 
 -- a line that was read, and that has no answer
-pub failed_line : (M : Meaning Kind) (h : History Kind) (old new : Option (List ℕ)) (line : List ℕ) (w : WorldValue Kind) (P : List ℕ → Type 0) (e : ScriptError)
+pub failed_line : (M : Meaning Kind) (h : History Kind) (old new : Option (List ℕ)) (line : List ℕ) (w : WorldValue Kind) (P : List ℕ
+    → Type 0) (e : ScriptError)
     → OnBytes old new (Finds Line line) → AnswersLine M h line w P (Err e) → OnBytes old new (TakesTurn M h w P (Failed e))
 failed_line M h None new line w P e found is = tt
 failed_line M h (Some s) None line w P e found is = absurd found
@@ -34,18 +36,23 @@ pub held_found : (ahead now line : List ℕ) (o : Option (List ℕ)) → IsLine 
     → ahead ≡ line ++ 10 ∷ drop (length line + 1) ahead → now ≡ drop (length line + 1) ahead
     → OnBytes (prepend_known ahead o) (prepend_known now o) (Finds Line line)
 held_found ahead now line None is held left = tt
-held_found ahead now line (Some more) is held left =
-    (is, ap (λ l. l ++ more) held ∙ append_assoc line (10 ∷ drop (length line + 1) ahead) more ∙ ap (λ l. line ++ 10 ∷ (l ++ more)) (sym left))
+held_found ahead now line (Some more) is held left = (
+  is,
+  ap (λ l. l ++ more) held ∙ append_assoc line (10 ∷ drop (length line + 1) ahead) more
+      ∙ ap (λ l. line ++ 10 ∷ (l ++ more)) (sym left),
+)
 
 -- a line that was found, and that was answered
-pub answered_line : (M : Meaning Kind) (h : History Kind) (old new : Option (List ℕ)) (line : List ℕ) (w : WorldValue Kind) (P : List ℕ → Type 0)
+pub answered_line : (M : Meaning Kind) (h : History Kind) (old new : Option (List ℕ)) (line : List ℕ) (w : WorldValue Kind) (P : List ℕ
+    → Type 0)
     → OnBytes old new (Finds Line line) → AnsweredLine M h line w P → OnBytes old new (TakesTurn M h w P Answered)
 answered_line M h None new line w P found is = tt
 answered_line M h (Some s) None line w P found is = absurd found
 answered_line M h (Some s) (Some rest) line w P found is = record { line = line; is_line = found.0; is = found.1; answered = is }
 
 -- a line that the stream's end ended, and that was answered
-pub answered_rest : (M : Meaning Kind) (h : History Kind) (old new : Option (List ℕ)) (line : List ℕ) (w : WorldValue Kind) (P : List ℕ → Type 0)
+pub answered_rest : (M : Meaning Kind) (h : History Kind) (old new : Option (List ℕ)) (line : List ℕ) (w : WorldValue Kind) (P : List ℕ
+    → Type 0)
     → OnBytes old new (Finds LastLine line) → AnsweredLine M h line w P → OnBytes old new (TakesTurn M h w P LastAnswered)
 answered_rest M h None new line w P found is = tt
 answered_rest M h (Some s) None line w P found is = absurd found
@@ -53,11 +60,13 @@ answered_rest M h (Some s) (Some rest) line w P found is =
     subst (AnsweredRest M h w P) (sym found.2) (record { is_line = found.0; some = found.1; answered = is })
 
 -- what holds of the text of an answer, told otherwise
-pub line_told : (M : Meaning Kind) (h : History Kind) (line : List ℕ) (w : WorldValue Kind) (P Q : List ℕ → Type 0) → ((text : List ℕ) → P text → Q text)
+pub line_told : (M : Meaning Kind) (h : History Kind) (line : List ℕ) (w : WorldValue Kind) (P Q : List ℕ → Type 0)
+    → ((text : List ℕ) → P text → Q text)
     → AnsweredLine M h line w P → AnsweredLine M h line w Q
 line_told M h line w P Q f is = record { st = is.st; a = is.a; is = is.is; right = is.right; stands = is.stands; printed = f _ is.printed }
 
-pub answers_told : (M : Meaning Kind) (h : History Kind) (line : List ℕ) (w : WorldValue Kind) (P Q : List ℕ → Type 0) → ((text : List ℕ) → P text → Q text)
+pub answers_told : (M : Meaning Kind) (h : History Kind) (line : List ℕ) (w : WorldValue Kind) (P Q : List ℕ → Type 0)
+    → ((text : List ℕ) → P text → Q text)
     → (r : Result (Unit {0}) ScriptError) → AnswersLine M h line w P r → AnswersLine M h line w Q r
 answers_told M h line w P Q f (Ok u) is = line_told M h line w P Q f is
 answers_told M h line w P Q f (Err BadLine) is = (is.0, f [] is.1)
@@ -86,5 +95,6 @@ pub joins_unwritten : (o : Option (List ℕ)) (before after text : List ℕ) →
 joins_unwritten o before after text is = ([], Appends-nil o, sym is)
 
 -- a text that waits, after all before it was written
-pub joins_written : (a b c : Option (List ℕ)) (before after text : List ℕ) → Appends a b before → Keeps b c → after ≡ text → Joins a c before after text
+pub joins_written : (a b c : Option (List ℕ)) (before after text : List ℕ) → Appends a b before → Keeps b c → after ≡ text
+    → Joins a c before after text
 joins_written a b c before after text put kept is = (before, Appends-kept a b c before put kept, ap (λ l. before ++ l) (sym is))

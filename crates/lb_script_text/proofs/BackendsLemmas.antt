@@ -1,5 +1,6 @@
 -- Lemmas on backends as a script spells them.
-use Rattle.std.proofs.Common.{◌≡◌, ◌≢◌, ℕ, suc, ◌<◌, ◌==◌, false, List, [], ◌∷◌, ◌++◌, None, Some, length, take, drop, get_or, arith, refl, sym, ap, subst, ◌∙◌, take-append-drop, lit<}
+use Rattle.std.proofs.Common.{◌≡◌, ◌≢◌, ℕ, suc, ◌<◌, ◌==◌, false, List, [], ◌∷◌, ◌++◌, None, Some, length, take, drop, get_or, arith, refl}
+use Rattle.std.proofs.Common.{sym, ap, subst, ◌∙◌, take-append-drop, lit<}
 use Rattle.std.specs.Str.Pattern.{RFindsChar, FindsCharPrefix, SplitsAroundMatch}
 use Rattle.std.proofs.lemmas.Bool.Decides.{nat_tests}
 use Rattle.std.proofs.lemmas.Str.Pattern.{NoCharPasses-char, drop_at_char, strip_prefix_char}
@@ -37,7 +38,8 @@ divided_found word address weight h =
     let is : word ≡ address ++ 47 ∷ weight =
     sym (take-append-drop i word) ∙ ap (λ l. take i word ++ l) cut ∙ ap (λ l. take i word ++ 47 ∷ l) (sym h.4)
     ∙ ap (λ l. l ++ 47 ∷ weight) (sym h.3) in
-    ap address_and_weight is ∙ divided_at address weight (subst (λ (l : List ℕ). (k : ℕ) → k < length l → get_or l k 0 ≢ 47) (sym h.4) after)
+    ap address_and_weight is
+    ∙ divided_at address weight (subst (λ (l : List ℕ). (k : ℕ) → k < length l → get_or l k 0 ≢ 47) (sym h.4) after)
 
 is_other : (x y : ℕ) → x ≢ y → (x == y) ≡ false
 is_other x y other = grind (arith, nat_tests)

@@ -6,7 +6,8 @@ use Rattle.lb_script_text.specs.Texts.{target_text, targets_text}
 -- one target more
 pub targets_more : (ts : List Target) (t : Target) → targets_text (ts ++ t ∷ []) ≡ targets_text ts ++ target_text t
 targets_more [] t = append-nil (target_text t)
-targets_more (x ∷ ts) t = ap (λ more. target_text x ++ more) (targets_more ts t) ∙ sym (append_assoc (target_text x) (targets_text ts) (target_text t))
+targets_more (x ∷ ts) t = ap (λ more. target_text x ++ more) (targets_more ts t)
+    ∙ sym (append_assoc (target_text x) (targets_text ts) (target_text t))
 
 -- a text that grows by one target more
 pub text_more : (old front : List ℕ) (text : List ℕ) (ts : List Target) (t : Target) → text ≡ old ++ (front ++ targets_text ts)

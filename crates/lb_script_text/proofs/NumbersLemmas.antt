@@ -1,5 +1,6 @@
 -- Lemmas on the spelling of numbers.
-use Rattle.std.proofs.Common.{rules, ◌≡◌, ◌≢◌, ℕ, ◌^◌, ◌<◌, true, false, List, [], ◌∷◌, Some, None, Result, Ok, Err, length, nat_lt, slice_index, arith, refl, ap, inl, inr}
+use Rattle.std.proofs.Common.{rules, ◌≡◌, ◌≢◌, ℕ, ◌^◌, ◌<◌, true, false, List, [], ◌∷◌, Some, None, Result, Ok, Err, length, nat_lt}
+use Rattle.std.proofs.Common.{slice_index, arith, refl, ap, inl, inr}
 use Rattle.std.specs.Char.{is_ascii_digit}
 use Rattle.std.specs.List.{list_all}
 use Rattle.std.specs.Result.{result_ok}

@@ -1,5 +1,7 @@
 -- Lemmas on a selection that is read straight from the bytes of its line.
-use Rattle.std.proofs.Common.{rules, IfSome, ◌≡◌, ◌≢◌, ◌∙◌, ◌+◌, ◌-◌, ◌*◌, ◌^◌, ◌<◌, ◌≤◌, ◌==◌, ◌&&◌, ℕ, zero, suc, true, false, List, [], ◌∷◌, ◌++◌, Option, Some, None, codes, length, take, drop, get_or, nat_lt, arith, refl, sym, ap, subst, add-one, length-take, length-drop, take-append-drop, option_map}
+use Rattle.std.proofs.Common.{rules, IfSome, ◌≡◌, ◌≢◌, ◌∙◌, ◌+◌, ◌-◌, ◌*◌, ◌^◌, ◌<◌, ◌≤◌, ◌==◌, ◌&&◌, ℕ, zero, suc, true, false, List, []}
+use Rattle.std.proofs.Common.{◌∷◌, ◌++◌, Option, Some, None, codes, length, take, drop, get_or, nat_lt, arith, refl, sym, ap, subst}
+use Rattle.std.proofs.Common.{add-one, length-take, length-drop, take-append-drop, option_map}
 use Rattle.std.specs.Char.{is_ascii_digit, digit_value}
 use Rattle.std.specs.Int.{IsInRange}
 use Rattle.std.specs.List.{All, list_all}
@@ -35,7 +37,8 @@ pub number_more : (bytes : List ℕ) (count n m : ℕ) → count < length bytes 
     → is_ascii_digit (get_or bytes count 0) ≡ true → m + 48 ≡ get_or bytes count 0
     → n * 10 + m ≡ digits_value 10 (take (count + 1) bytes)
 number_more bytes count n m within value digit is =
-    let same : digit_value (get_or bytes count 0) + 48 ≡ get_or bytes count 0 = digit_value_digit (get_or bytes count 0) (digit_is _ digit) in
+    let same : digit_value (get_or bytes count 0) + 48 ≡ get_or bytes count 0 = digit_value_digit (get_or bytes count 0)
+    (digit_is _ digit) in
     let more : digits_value 10 (take (count + 1) bytes) ≡ digits_value 10 (take count bytes) * 10 + digit_value (get_or bytes count 0) =
     digits_value_more 10 bytes count within in
     omega arith
@@ -64,7 +67,8 @@ digits_plain [] all k within = absurd (omega arith)
 digits_plain (x ∷ xs) all zero within = (grind (arith, common_steps), grind (arith, common_steps))
 digits_plain (x ∷ xs) all (suc k) within = digits_plain xs (grind (arith, common_steps)) k (omega arith)
 
-pub plain_word : (word : List ℕ) → 0 < length word → ((k : ℕ) → k < length word → ((get_or word k 0 == 32) ≡ false) × (get_or word k 0 < 128))
+pub plain_word : (word : List ℕ) → 0 < length word → ((k : ℕ) → k < length word → ((get_or word k 0 == 32) ≡ false)
+    × (get_or word k 0 < 128))
     → IsPlainWord word
 plain_word word some plain = record {
   some = some;

@@ -1,5 +1,6 @@
 -- Lemmas on the words of a line.
-use Rattle.std.proofs.Common.{◌≡◌, ℕ, ◌+◌, ◌<◌, ◌==◌, true, false, List, [], ◌∷◌, Option, Some, length, take, drop, arith, add-one, sym, ap, subst, ◌∙◌, get_or, Bor}
+use Rattle.std.proofs.Common.{◌≡◌, ℕ, ◌+◌, ◌<◌, ◌==◌, true, false, List, [], ◌∷◌, Option, Some, length, take, drop, arith, add-one, sym, ap}
+use Rattle.std.proofs.Common.{subst, ◌∙◌, get_or, Bor}
 use Rattle.std.specs.List.{position_or_len}
 use Rattle.std.specs.Str.{IsUtf8, IsCharBoundary}
 use Rattle.std.proofs.lemmas.Bool.Decides.{nat_tests}

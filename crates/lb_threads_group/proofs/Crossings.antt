@@ -17,7 +17,8 @@ use Rattle.lb_threads_group.proofs.group.SlotCounters.TheSendSync as line
 use Rattle.lb_threads_group.specs.contracts.group.SharedGroup as shared
 use Rattle.lb_threads_group.specs.contracts.group.SharedGroup.TheInside as inside
 
-module _ (T R H I C W : RattleType) (g : Selection T.Denot I.Denot C.Denot W.Denot) (h : Iter I.Denot) (k : Keys R.Denot) (s : IsSend T) (sc : IsSend C) (y : IsSync T) (yc : IsSync C) (sr : IsSend R) (yr : IsSync R) (sh : IsSend H) (yh : IsSync H) where
+module _ (T R H I C W : RattleType) (g : Selection T.Denot I.Denot C.Denot W.Denot) (h : Iter I.Denot) (k : Keys R.Denot) (s : IsSend T)
+    (sc : IsSend C) (y : IsSync T) (yc : IsSync C) (sr : IsSend R) (yr : IsSync R) (sh : IsSend H) (yh : IsSync H) where
   core_send : IsSend (watched.the_row T I C W g h)
   core_send = watched_send T I C W g h s sc y yc
 

@@ -1,5 +1,6 @@
 -- An entry into a slot that was just asked what it serves, and a selection by whichever words were drawn.
-use Rattle.std.proofs.Common.{◌≡◌, ◌⊎◌, ◌∙◌, ◌==◌, ℕ, List, [], ◌∷◌, Bool, true, false, cond, nat_lt, length, refl, sym, subst, inl, inr, Option, Some, None, Result, Ok, Err}
+use Rattle.std.proofs.Common.{◌≡◌, ◌⊎◌, ◌∙◌, ◌==◌, ℕ, List, [], ◌∷◌, Bool, true, false, cond, nat_lt, length, refl, sym, subst, inl, inr}
+use Rattle.std.proofs.Common.{Option, Some, None, Result, Ok, Err}
 use Rattle.lb_select_base.specs.declared.refusal.Refusal.{Refusal}
 use Rattle.lb_select_base.specs.declared.refusal.Refusal.TheVariants as refusal
 use Rattle.lb_select_base.specs.Backends.{Member, same_member}
@@ -58,7 +59,8 @@ module _ {C : Type 0} where
       let e = p.1.0 in
       let past = past_of slot (slot_events e) in
       let there = told_if (nat_lt slot (length made.configs)) (served past) g (sym (tells made e p.1.1) ∙ is) in
-      memory_or x (cause_if (nat_lt slot (length made.configs)) (readers (served past) past == 18446744073709551615) x there.0) (enters made e p.1.1)
+      memory_or x (cause_if (nat_lt slot (length made.configs)) (readers (served past) past == 18446744073709551615) x there.0)
+      (enters made e p.1.1)
 
 any_words : (ds : List Draw) → Gives {S = Unit {0}} (λ s d t. Unit {0}) tt ds tt
 any_words [] = refl

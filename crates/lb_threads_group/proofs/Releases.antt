@@ -28,7 +28,8 @@ module _ {R : Type 0} {gives : R → Member → Member → Type 0} where
         let made = p.0 in
         let e = p.1.0 in
         lengthened (λ key_of events. released_where a v.view.id (generation made e) (views_of made e) events)
-        (λ key_of events. let_go a v.view.id (generation made e) (views_of made e) events) (λ key_of events after. is key_of events after made e p.1.1)
+        (λ key_of events. let_go a v.view.id (generation made e) (views_of made e) events)
+        (λ key_of events after. is key_of events after made e p.1.1)
 
     -- a membership is scheduled, or refused
     pub scheduled_later : {A E : Type 0} (r : Result A E) (v : GroupValue C) (members : List Member) {x y : RegistryValue R} → IsFounded v
@@ -39,5 +40,6 @@ module _ {R : Type 0} {gives : R → Member → Member → Type 0} where
         let made = p.0 in
         let e = p.1.0 in
         lengthened (λ key_of events. registry_updated key_of v.view.id members (views_of made e) events)
-        (λ key_of events. changed key_of v.view.id members (views_of made e) events) (λ key_of events after. ok key_of events after made e p.1.1)
+        (λ key_of events. changed key_of v.view.id members (views_of made e) events)
+        (λ key_of events after. ok key_of events after made e p.1.1)
     scheduled_later (Err a) v members p ok err = stays err

@@ -57,7 +57,8 @@ module _ {C P X V : Type 0} (whole : P → X) (core : X → V) (Ready : V → Re
     selects_at walks p r (Err e) q (memory, inr (ls, looks, cs, walked, fits, is)) =
         (memory, inr (ls, looks_at r p ls q looks, cs, walked, fits, is))
 
-    selects_stay : (walks : List Draw → List Member → Bool → Type 0) (p : P) (r : ReaderValue C) (o : Result (Option Member) Refusal) (q : P)
+    selects_stay : (walks : List Draw → List Member → Bool → Type 0) (p : P) (r : ReaderValue C) (o : Result (Option Member) Refusal)
+        (q : P)
         → SelectsBy accepts limit Drawing Asking walks p r o q → whole q ≡ whole p
     selects_stay walks p r (Ok o) q (ls, looks, cs, ended, walked, is) = looks_stay r p ls q looks
     selects_stay walks p r (Err e) q (memory, inl same) = ap whole same
@@ -85,4 +86,9 @@ module _ {C P X V : Type 0} (whole : P → X) (core : X → V) (Ready : V → Re
           → SelectedThrough accepts limit Drawing Asking Entering Leaving walks key p slot o q
           → SelectedThrough accepts limit (λ v r d w. w ≡ v) (λ v r b a w. Ready v r b a × (w ≡ v))
           (λ v slot a w. Enter v slot a × (w ≡ v)) (λ v r w. Leave v r × (w ≡ v)) walks key (of_port p) slot o (of_port p)
-      selected_at p slot o q (a, m, entered, inside) = (a, of_port m, (entered.0, ap core entered.1), inside_at (of_port p) a m o q (ap core entered.1) inside)
+      selected_at p slot o q (a, m, entered, inside) = (
+        a,
+        of_port m,
+        (entered.0, ap core entered.1),
+        inside_at (of_port p) a m o q (ap core entered.1) inside,
+      )

@@ -5,7 +5,8 @@ use Rattle.lb_select_base.specs.Backends.{Member}
 use Rattle.lb_select_base.specs.Memberships.{same_members}
 use Rattle.lb_select_base.specs.declared.refusal.Refusal.{Refusal}
 use Rattle.lb_health_registry.specs.Registry.{RegistryValue, IsRegistryAfter}
-use Rattle.lb_health_registry.specs.RegistryEvents.{Event, Applied, Registered, Updated, Held, Released, members_of, views_after, after_update}
+use Rattle.lb_health_registry.specs.RegistryEvents.{Event, Applied, Registered, Updated, Held, Released, members_of, views_after}
+use Rattle.lb_health_registry.specs.RegistryEvents.{after_update}
 use Rattle.lb_health_view.specs.RegistrySide.{lives, registry_updated, view_changed}
 use Rattle.lb_health_view.specs.ViewEvents.{ViewEvent, snapshots_after, generation_after, membership_after}
 use Rattle.lb_threads_registry.specs.Registry.{IsRegistryOf, Becomes}
@@ -26,7 +27,8 @@ either false xs ys = ys
 
 updated : (id : ℕ) (members : List Member) (events : List Event) → Longer events (after_update id members events)
 updated id members events =
-    either (same_members members (members_of id (views_after events))) (no_more events) (one_more (Updated id members) (one_more Applied (no_more events)))
+    either (same_members members (members_of id (views_after events))) (no_more events)
+    (one_more (Updated id members) (one_more Applied (no_more events)))
 
 pub released : (id g : ℕ) (views : List ViewEvent) (events es : List Event) → Longer events es
     → Longer events (if lives g (snapshots_after views) then es else Released id g ∷ es)
@@ -49,7 +51,8 @@ module _ {R : Type 0} {gives : R → Member → Member → Type 0} where
   -- what lengthens each history leaves the registry
   pub lengthened : {x y : RegistryValue R} (grow : (Member → Member) → List Event → List Event)
       → ((key_of : Member → Member) (events : List Event) → Longer events (grow key_of events))
-      → ((key_of : Member → Member) (events : List Event) → IsRegistryAfter gives key_of events x → IsRegistryAfter gives key_of (grow key_of events) y)
+      → ((key_of : Member → Member) (events : List Event) → IsRegistryAfter gives key_of events x
+      → IsRegistryAfter gives key_of (grow key_of events) y)
       → IsRegistryOf gives x y
   lengthened {y = y} grow longer becomes key_of events after =
       let l = longer key_of events in
@@ -76,22 +79,26 @@ module _ {R : Type 0} {gives : R → Member → Member → Type 0} where
   added (Err a) e ok err = stays err
 
   -- a call that adds one event, or is refused and changes nothing
-  pub added_or_same : {A E : Type 0} (r : Result A E) (e : Event) {x y : RegistryValue R} → OnOk r (Becomes gives x (λ events. e ∷ events) y)
+  pub added_or_same : {A E : Type 0} (r : Result A E) (e : Event) {x y : RegistryValue R}
+      → OnOk r (Becomes gives x (λ events. e ∷ events) y)
       → OnErr r (y ≡ x) → IsRegistryOf gives x y
   added_or_same (Ok a) e ok err = lengthened (λ key_of events. e ∷ events) (λ key_of events. one_more e (no_more events)) ok
   added_or_same (Err a) e {x = x} ok err = subst (λ z. IsRegistryOf gives x z) (sym err) (stays (λ key_of events after. after))
 
   pub updated_later : (r : Result (Unit {0}) Refusal) (id : ℕ) (members : List Member) {x y : RegistryValue R}
       → OnOk r (Becomes gives x (after_update id members) y) → OnErr r (Becomes gives x (λ events. events) y) → IsRegistryOf gives x y
-  updated_later (Ok a) id members ok err = lengthened (λ key_of events. after_update id members events) (λ key_of events. updated id members events) ok
+  updated_later (Ok a) id members ok err = lengthened (λ key_of events. after_update id members events)
+      (λ key_of events. updated id members events) ok
   updated_later (Err a) id members ok err = stays err
 
   pub marked_later : {x y : RegistryValue R} (e : Event) → Becomes gives x (λ events. e ∷ events) y → IsRegistryOf gives x y
   marked_later e becomes = lengthened (λ key_of events. e ∷ events) (λ key_of events. one_more e (no_more events)) becomes
 
   -- a view is registered, or refused
-  pub registered_later : {A E : Type 0} (r : Result A E) {x y : RegistryValue R} → OnOk r (Becomes gives x (λ events. Applied ∷ Registered ∷ events) y)
+  pub registered_later : {A E : Type 0} (r : Result A E) {x y : RegistryValue R}
+      → OnOk r (Becomes gives x (λ events. Applied ∷ Registered ∷ events) y)
       → OnErr r (Becomes gives x (λ events. events) y) → IsRegistryOf gives x y
   registered_later (Ok a) ok err =
-      lengthened (λ key_of events. Applied ∷ Registered ∷ events) (λ key_of events. one_more Applied (one_more Registered (no_more events))) ok
+      lengthened (λ key_of events. Applied ∷ Registered ∷ events) (λ key_of events. one_more Applied (one_more Registered (no_more events)))
+      ok
   registered_later (Err a) ok err = stays err

@@ -1,5 +1,6 @@
 -- To a group that isn't there nothing has happened.
-use Rattle.std.proofs.Common.{◌≡◌, ◌⊎◌, inl, inr, ◌<◌, ◌==◌, ◌&&◌, ◌∙◌, ℕ, zero, suc, Bool, true, false, cond, List, [], ◌∷◌, ◌++◌, refl, sym, ap, subst, arith}
+use Rattle.std.proofs.Common.{◌≡◌, ◌⊎◌, inl, inr, ◌<◌, ◌==◌, ◌&&◌, ◌∙◌, ℕ, zero, suc, Bool, true, false, cond, List, [], ◌∷◌, ◌++◌, refl}
+use Rattle.std.proofs.Common.{sym, ap, subst, arith}
 use Rattle.std.specs.Prelude.{Option, Some, None, slice_get}
 use Rattle.std.proofs.lemmas.Bool.{ne_eqb}
 use Rattle.std.proofs.lemmas.Option.{none-some}
@@ -12,7 +13,8 @@ use Rattle.lb_world.specs.Steps as step
 use Rattle.lb_world.specs.declared.answer.Answer.{Answer}
 use Rattle.lb_world.specs.declared.answer.Answer.TheVariants as answer
 use Rattle.lb_world.specs.Meanings.{Meaning}
-use Rattle.lb_world.specs.History.{History, Made, Entered, Work, idle, building, built, is_at, group_in, slot_in, config_in, config, drew, made, made_at, group_at, works_at, worked, work, happened, slot_events, past}
+use Rattle.lb_world.specs.History.{History, Made, Entered, Work, idle, building, built, is_at, group_in, slot_in, config_in, config, drew}
+use Rattle.lb_world.specs.History.{made, made_at, group_at, works_at, worked, work, happened, slot_events, past}
 use Rattle.lb_world.specs.Answers.{IsRun, without_memory, has_refused, at_one}
 use Rattle.lb_world.specs.Promises.{Untouched}
 use Rattle.lb_world.proofs.Placing.{same-either}
@@ -66,7 +68,8 @@ module _ {C : Type 0} where
       record {
         events = ap (λ (es : slots.History). cond (is_at i (group_at h st)) (es ++ slot_events i h) (slot_events i h)) none
             ∙ same-either (is_at i (group_at h st)) (slot_events i h) ∙ was.events;
-        works = λ s. ap (λ (w : Work). cond (works_at i s st) w (work i s h)) (kept (work i s h)) ∙ same-either (works_at i s st) (work i s h) ∙ was.works s;
+        works = λ s. ap (λ (w : Work). cond (works_at i s st) w (work i s h)) (kept (work i s h))
+            ∙ same-either (works_at i s st) (work i s h) ∙ was.works s;
       }
 
 module _ {C : Type 0} (M : Meaning C) where
@@ -101,11 +104,17 @@ module _ {C : Type 0} (M : Meaning C) where
   absent ((step.ask g s now, answer.Build n) ∷ h) run i none =
       let was = absent h run.0 i none in
       let m = granting M h g s now n run.1 in
-      record { events = elsewhere h g i m.made_by m.made_is none was _; works = λ q. works-on h g i m.made_by m.made_is none was (s == q) building q }
+      record {
+        events = elsewhere h g i m.made_by m.made_is none was _;
+        works = λ q. works-on h g i m.made_by m.made_is none was (s == q) building q;
+      }
   absent ((step.build g s now, answer.Built n) ∷ h) run i none =
       let was = absent h run.0 i none in
       let m = at-config h (step.build g s now) g s _ (answer.Built n) refl run.1 in
-      record { events = elsewhere h g i m.0 m.1 none was (slot_events i h); works = λ q. works-on h g i m.0 m.1 none was (s == q) (built now) q }
+      record {
+        events = elsewhere h g i m.0 m.1 none was (slot_events i h);
+        works = λ q. works-on h g i m.0 m.1 none was (s == q) (built now) q;
+      }
   absent ((step.build g s now, answer.BuildFailed n e) ∷ h) run i none =
       let was = absent h run.0 i none in
       let m = at-config h (step.build g s now) g s _ (answer.BuildFailed n e) refl run.1 in
@@ -143,7 +152,8 @@ module _ {C : Type 0} (M : Meaning C) where
       record {
         events =
             subst
-            (λ (o : Option (Option Entered)). cond (is_at i (group_in o)) (At (slot_in o) (slots.Left n) ∷ slot_events i h) (slot_events i h) ≡ [])
+            (λ (o : Option (Option Entered)). cond (is_at i (group_in o)) (At (slot_in o) (slots.Left n) ∷ slot_events i h)
+            (slot_events i h) ≡ [])
             (sym l.1.0)
             (ap (λ (b : Bool). cond b (At e.slot (slots.Left n) ∷ slot_events i h) (slot_events i h)) (ne_eqb e.group i off) ∙ was.events);
         works = was.works;

@@ -1,5 +1,6 @@
 -- What an answer that is no refusal says of the history before it, one kind of step at a time.
-use Rattle.std.proofs.Common.{◌≡◌, ◌⊎◌, inl, inr, ◌+◌, ◌==◌, ◌&&◌, ◌||◌, ◌∙◌, ℕ, Bool, true, false, not, cond, nat_lt, List, refl, sym, ap, if◌then◌else◌, length}
+use Rattle.std.proofs.Common.{◌≡◌, ◌⊎◌, inl, inr, ◌+◌, ◌==◌, ◌&&◌, ◌||◌, ◌∙◌, ℕ, Bool, true, false, not, cond, nat_lt, List, refl, sym, ap}
+use Rattle.std.proofs.Common.{if◌then◌else◌, length}
 use Rattle.std.specs.Prelude.{Option, Some, None, slice_get}
 use Rattle.std.proofs.lemmas.Bool.{eqb-true, eq-eqb}
 use Rattle.lb_select_base.specs.Refusals.{earlier, refusal_number}
@@ -16,8 +17,10 @@ use Rattle.lb_world.specs.Steps as step
 use Rattle.lb_world.specs.declared.answer.Answer.{Answer}
 use Rattle.lb_world.specs.declared.answer.Answer.TheVariants as answer
 use Rattle.lb_world.specs.Meanings.{Meaning}
-use Rattle.lb_world.specs.History.{History, Made, Entered, Work, idle, building, built, members_in, made_at, config, entries, work, slot_events, past, is_free}
-use Rattle.lb_world.specs.Answers.{Answers, answer_after, without_memory, refuse, unless_refused, at_one, of_job, of_built, built_or_failed, asked, update_answer, lost_answer, flight_of, leave_answer, destroy_refusal, has_refused}
+use Rattle.lb_world.specs.History.{History, Made, Entered, Work, idle, building, built, members_in, made_at, config, entries, work}
+use Rattle.lb_world.specs.History.{slot_events, past, is_free}
+use Rattle.lb_world.specs.Answers.{Answers, answer_after, without_memory, refuse, unless_refused, at_one, of_job, of_built, built_or_failed}
+use Rattle.lb_world.specs.Answers.{asked, update_answer, lost_answer, flight_of, leave_answer, destroy_refusal, has_refused}
 
 -- the answer that is right where memory is at hand, of a step whose answer is a function of the history
 abbrev pub given_answer : Option Answer → Answer
@@ -54,7 +57,8 @@ module _ {C : Type 0} where
   right-is st x a right l = elim right [ inl e ↦ sym e | inr e ↦ lasting st x a e l ]
 
 -- what is there where an answer is no refusal
-pub there : {A : Type 0} (o : Option A) (f : A → Answer) (a : Answer) → at_one o f ≡ a → is_lasting a ≡ true → (x : A) × ((o ≡ Some x) × (f x ≡ a))
+pub there : {A : Type 0} (o : Option A) (f : A → Answer) (a : Answer) → at_one o f ≡ a → is_lasting a ≡ true → (x : A)
+    × ((o ≡ Some x) × (f x ≡ a))
 there None f a e l = absurd (false-true (ap is_lasting e ∙ l))
 there (Some x) f a e l = (x, (refl, e))
 
@@ -93,7 +97,9 @@ asked-job n slots.busy m e = absurd (cc)
 asked-job n slots.job m e = (refl, cc)
 
 job-free : (ca fl w d out ex : Bool) (m : ℕ)
-    → cond ca slots.cancelled (cond fl slots.building (cond (not w) slots.up_to_date (cond d (slots.not_due m) (cond (out || ex) slots.busy slots.job)))) ≡ slots.job
+    → cond ca slots.cancelled
+    (cond fl slots.building (cond (not w) slots.up_to_date (cond d (slots.not_due m) (cond (out || ex) slots.busy slots.job)))) ≡
+    slots.job
     → out ≡ false
 job-free true fl w d out ex m e = absurd (cc)
 job-free false true w d out ex m e = absurd (cc)
@@ -145,11 +151,13 @@ served-told : (b : Bool) (x n : ℕ) → (if b then answer.Published x else answ
 served-told true x n e = refl
 served-told false x n e = absurd (cc)
 
-entered-told : (b : Bool) (x y t n : ℕ) → (if b then refuse refusal.NumbersExhausted else answer.Reader x y) ≡ answer.Reader t n → (x ≡ t) × (y ≡ n)
+entered-told : (b : Bool) (x y t n : ℕ) → (if b then refuse refusal.NumbersExhausted else answer.Reader x y) ≡ answer.Reader t n → (x ≡ t)
+    × (y ≡ n)
 entered-told true x y t n e = absurd (cc)
 entered-told false x y t n e = (cc, cc)
 
-left-told : (o : Option (Option Entered)) (n : ℕ) → leave_answer o ≡ answer.Left n → (e : Entered) × ((o ≡ Some (Some e)) × (e.generation ≡ n))
+left-told : (o : Option (Option Entered)) (n : ℕ) → leave_answer o ≡ answer.Left n → (e : Entered)
+    × ((o ≡ Some (Some e)) × (e.generation ≡ n))
 left-told None n h = absurd (cc)
 left-told (Some None) n h = absurd (cc)
 left-told (Some (Some e)) n h = (e, (refl, cc))
@@ -180,12 +188,14 @@ unrefused-same : (b : Bool) (x : Answer) (m : ℕ) → (if b then refuse refusal
 unrefused-same true x m e = absurd (cc)
 unrefused-same false x m e = e
 
-pub unrefused-address : (b : Bool) (x : Answer) (m : ℕ) → (if b then refuse refusal.InvalidAddress else x) ≡ answer.Generation m → x ≡ answer.Generation m
+pub unrefused-address : (b : Bool) (x : Answer) (m : ℕ) → (if b then refuse refusal.InvalidAddress else x) ≡ answer.Generation m
+    → x ≡ answer.Generation m
 unrefused-address true x m e = absurd (cc)
 unrefused-address false x m e = e
 
 failed-there : {A C : Type 0} (st : Step C) (o : Option A) (w : Work) (g : ℕ) (cause : A → Option Refusal) (a : Answer) → is_failed a ≡ true
-    → (a ≡ at_one o (λ x. of_job w (built_or_failed g (cause x)))) ⊎ (a ≡ without_memory st (at_one o (λ x. of_job w (built_or_failed g (cause x)))))
+    → (a ≡ at_one o (λ x. of_job w (built_or_failed g (cause x))))
+    ⊎ (a ≡ without_memory st (at_one o (λ x. of_job w (built_or_failed g (cause x)))))
     → w ≡ building
 failed-there st None w g cause a f right = absurd (false-true (sym (elim right [ inl e ↦ ap is_failed e | inr e ↦ ap is_failed e ]) ∙ f))
 failed-there st (Some x) w g cause a f right = failed-job st w g (cause x) a f right
@@ -273,14 +283,16 @@ module _ {C : Type 0} (M : Meaning C) (h : History C) where
       × (slots.readers (slots.generation_of (slots.extra (past g s h))) (past g s h) ≡ 0)
   destroying g s right =
       let c = there (config g s h) _ answer.Destroyed (right-is {C = C} (step.destroy g s) _ answer.Destroyed right refl) refl in
-      taken (slots.extra (past g s h)) (past g s h) (unrefused (destroy_refusal (past g s h)) answer.Destroyed answer.Destroyed c.1.1 refl).0
+      taken (slots.extra (past g s h)) (past g s h)
+      (unrefused (destroy_refusal (past g s h)) answer.Destroyed answer.Destroyed c.1.1 refl).0
 
   -- a changed membership comes to a group that is not cancelled
   pub updating : (g now : ℕ) (listings : List Listing) (n : ℕ) → Answers M h (step.update g now listings) (answer.Generation n)
       → (is_change (members_in listings) (slot_events g h) ≡ true) × (slots.is_cancelled (slot_events g h) ≡ false)
       × (slots.newest (slot_events g h) + 1 ≡ n)
   updating g now listings n right =
-      let told = right-is {C = C} (step.update g now listings) (right_answer M h (step.update g now listings)) (answer.Generation n) right refl in
+      let told = right-is {C = C} (step.update g now listings) (right_answer M h (step.update g now listings))
+      (answer.Generation n) right refl in
       let m = there (made_at g h) _ (answer.Generation n) (unrefused-address (has_refused listings) _ n told) refl in
       let u = unrefused _ _ (answer.Generation n) m.1.1 refl in
       let c = changed-told (slots.newest (slot_events g h)) (is_change (members_in listings) (slot_events g h)) n u.1 in (

@@ -1,6 +1,7 @@
 -- The causes for which a step is refused: the want of numbers goes after all others, and memory is no cause; and what is right to
 -- answer where a cause stands, and where none does and memory is refused.
-use Rattle.std.proofs.Common.{◌≡◌, ◌⊎◌, ◌↔◌, ◌+◌, ◌<◌, ◌≤◌, ◌^◌, ◌&&◌, ◌||◌, ◌∙◌, ℕ, Bool, true, false, cond, nat_le, nat_lt, List, [], ◌∷◌, inl, inr, refl, sym, ap, arith}
+use Rattle.std.proofs.Common.{◌≡◌, ◌⊎◌, ◌↔◌, ◌+◌, ◌<◌, ◌≤◌, ◌^◌, ◌&&◌, ◌||◌, ◌∙◌, ℕ, Bool, true, false, cond, nat_le, nat_lt, List, [], ◌∷◌}
+use Rattle.std.proofs.Common.{inl, inr, refl, sym, ap, arith}
 use Rattle.std.specs.Prelude.{Option, Some, None, Result, Ok, Err, IsErrOf}
 use Rattle.lb_rebuild_group.specs.GroupCalls.{IsMakingRefusal}
 use Rattle.std.proofs.lemmas.Bool.{cond_both, le-leb, le-ltb, lt-leb, lt-ltb, ltb-false, ltb-true}
@@ -40,7 +41,8 @@ pub number-wanted : (n : ℕ) → 2 ^ 64 ≤ n → no_number n ≡ Some refusal.
 number-wanted n many = ap wanted (le-leb (2 ^ 64) n many)
 
 -- of three causes the earliest, whichever two are looked at first
-earlier-by : (a b c : Refusal) (t u : Bool) → nat_lt (refusal_number c) (refusal_number b) ≡ t → nat_lt (refusal_number b) (refusal_number a) ≡ u
+earlier-by : (a b c : Refusal) (t u : Bool) → nat_lt (refusal_number c) (refusal_number b) ≡ t
+    → nat_lt (refusal_number b) (refusal_number a) ≡ u
     → earlier (Some a) (cond t (Some c) (Some b)) ≡ earlier (cond u (Some b) (Some a)) (Some c)
 earlier-by a b c true true p q =
     let low = ltb-true (refusal_number c) (refusal_number b) p in
@@ -140,6 +142,7 @@ module _ {A : Type 0} (c : Option Refusal) (n : ℕ) where
                   memory ∙ sym (ap or_memory (makes-for c n nothing (omega (arith, off))))
               | inr numbers ↦
                   numbers
-                  ∙ sym (ap or_memory (ap (λ o. earlier o (no_number (n + 1))) nothing ∙ number-wanted (n + 1) ((wants none.0).0 (ap Err numbers))))
+                  ∙ sym (ap or_memory (ap (λ o. earlier o (no_number (n + 1))) nothing
+                  ∙ number-wanted (n + 1) ((wants none.0).0 (ap Err numbers))))
             ]
       ]

@@ -1,5 +1,6 @@
 -- The extras of a gate, counted: over the steps, and over what stands in the slots.
-use Rattle.std.proofs.Common.{◌≡◌, inl, inr, ◌<◌, ◌≤◌, ◌+◌, ◌-◌, ◌==◌, ◌&&◌, ◌||◌, ◌∙◌, ℕ, zero, suc, Bool, true, false, cond, List, [], ◌∷◌, length, refl, sym, ap, subst, arith, if◌then◌else◌}
+use Rattle.std.proofs.Common.{◌≡◌, inl, inr, ◌<◌, ◌≤◌, ◌+◌, ◌-◌, ◌==◌, ◌&&◌, ◌||◌, ◌∙◌, ℕ, zero, suc, Bool, true, false, cond, List, []}
+use Rattle.std.proofs.Common.{◌∷◌, length, refl, sym, ap, subst, arith, if◌then◌else◌}
 use Rattle.std.specs.Prelude.{Option, Some, None, slice_get}
 use Rattle.std.specs.Option.{option_map}
 use Rattle.std.proofs.lemmas.Bool.{eq-eqb, eqb-true, false≢true, false_from_ne_true}
@@ -91,7 +92,8 @@ module _ {C : Type 0} (h : History C) (a : ℕ) where
   gate-parts s o m is on =
       parts (slice_get m.configs s) refl (ap (gate_at s) (sym is) ∙ on)
     where
-      parts : (c : Option C) → slice_get m.configs s ≡ c → option_map (λ (x : C). m.gate) (slice_get m.configs s) ≡ Some a → (m.gate ≡ a) × (s < length m.configs)
+      parts : (c : Option C) → slice_get m.configs s ≡ c → option_map (λ (x : C). m.gate) (slice_get m.configs s) ≡ Some a → (m.gate ≡ a)
+          × (s < length m.configs)
       parts None e on = absurd (none-some a (sym (ap (option_map (λ (x : C). m.gate)) e) ∙ on))
       parts (Some c) e on =
           (same_Some m.gate a (sym (ap (option_map (λ (x : C). m.gate)) e) ∙ on), slice_get_within m.configs s c e)
@@ -104,7 +106,8 @@ module _ {C : Type 0} (h : History C) (a : ℕ) where
       (λ at.
       let parts = gate-parts s (made_at g h) m (first-made g m ms all) (ap (λ (j : ℕ). slot_gate j s h) at ∙ on) in
       let made_here = first-made g m ms all in
-      let slot-on : (r : ℕ) → r < 0 + length m.configs → slot_gate g r h ≡ Some a = λ r within. slot-there g r m made_here parts.0 (omega (arith, within)) in
+      let slot-on : (r : ℕ) → r < 0 + length m.configs → slot_gate g r h ≡ Some a = λ r within. slot-there g r m made_here parts.0
+      (omega (arith, within)) in
       head-one (m.gate == a) (extras_from 0 (length m.configs) (slot_events g h)) (extras_over a (g + 1) ms h)
       (eq-eqb m.gate a parts.0)
       (one-in 0 (length m.configs) s (slot_events g h) (omega arith) (omega (arith, parts.1)) (ap (λ (j : ℕ). has h j s) at ∙ has_)

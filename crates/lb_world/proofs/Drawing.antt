@@ -1,5 +1,6 @@
 -- A selection that memory was refused to has drawn few tickets, and changed nothing beside their counter.
-use Rattle.std.proofs.Common.{◌≡◌, inl, inr, ◌≤◌, ◌+◌, ◌*◌, ◌/◌, ◌%◌, ◌^◌, ◌==◌, ◌&&◌, ◌∙◌, ℕ, Bool, true, false, cond, List, [], ◌∷◌, ◌++◌, length, refl, sym, ap, subst, arith}
+use Rattle.std.proofs.Common.{◌≡◌, inl, inr, ◌≤◌, ◌+◌, ◌*◌, ◌/◌, ◌%◌, ◌^◌, ◌==◌, ◌&&◌, ◌∙◌, ℕ, Bool, true, false, cond, List, [], ◌∷◌, ◌++◌}
+use Rattle.std.proofs.Common.{length, refl, sym, ap, subst, arith}
 use Rattle.std.proofs.Math.Nat.{mod-add-div, add-mul-mod_self_left}
 use Rattle.std.specs.Prelude.{max, nat_le, Option, Some, None, Result, Ok, Err, slice_get, MatchBool, MatchOption}
 use Rattle.lb_select_base.specs.Backends.{Member, same_member}
@@ -13,7 +14,8 @@ use Rattle.lb_world.specs.Steps as step
 use Rattle.lb_world.specs.declared.answer.Answer.{Answer}
 use Rattle.lb_world.specs.declared.answer.Answer.TheVariants as answer
 use Rattle.lb_world.specs.Meanings.{Meaning}
-use Rattle.lb_world.specs.History.{History, Made, is_at, config_in, drew, made_at, gate_of, slot_events, past, is_grant, is_failure, is_destruction, is_out, load_of}
+use Rattle.lb_world.specs.History.{History, Made, is_at, config_in, drew, made_at, gate_of, slot_events, past, is_grant, is_failure}
+use Rattle.lb_world.specs.History.{is_destruction, is_out, load_of}
 use Rattle.lb_world.specs.Shared.{registry_at, registry_events, view_events}
 use Rattle.lb_world.specs.History.{count_on}
 use Rattle.lb_world.specs.Answers.{IsRun, SelectAnswers, SelectsIn, Judges, refuse, selected}
@@ -28,7 +30,8 @@ further s m u whole e = omega arith
 
 one-more : (t s m u : ℕ) → u ≡ (s + 1) % 2 ^ 64 → t % 2 ^ 64 ≡ (u + m) % 2 ^ 64 → t % 2 ^ 64 ≡ (s + (m + 1)) % 2 ^ 64
 one-more t s m u is e =
-    let whole : u + 2 ^ 64 * ((s + 1) / 2 ^ 64) ≡ s + 1 = ap (λ (x : ℕ). x + 2 ^ 64 * ((s + 1) / 2 ^ 64)) is ∙ mod-add-div (s + 1) (2 ^ 64) in
+    let whole : u + 2 ^ 64 * ((s + 1) / 2 ^ 64) ≡ s + 1 = ap (λ (x : ℕ). x + 2 ^ 64 * ((s + 1) / 2 ^ 64)) is
+    ∙ mod-add-div (s + 1) (2 ^ 64) in
     e
     ∙ sym
     (ap (λ (x : ℕ). x % 2 ^ 64) (further s m u (2 ^ 64 * ((s + 1) / 2 ^ 64)) whole)

@@ -30,12 +30,14 @@ use Rattle.lb_health_registry.specs.RegistryEvents as registry
 use Rattle.lb_rebuild_slots.specs.Stands as group-made
 use Rattle.lb_world.proofs.Words.{◌∙◌, ◌⊎◌, ◌++◌, ◌≡◌, ◌&&◌, ◌∷◌, ◌==◌, [], ◌<◌, ◌≤◌, and_parts, Answer, right_answer, Answers, ap, ap2}
 use Rattle.lb_world.proofs.Words.{arith, ask_told, At, at_one, at_slot, Before, Bool, changed, cond, config, config_in, configs_of, EntryIs}
-use Rattle.lb_world.proofs.Words.{EntryNext, EntryValue, eq-eqb, false, false≢true, gate, GateId, gates, GateValue, granted, granted_members}
+use Rattle.lb_world.proofs.Words.{EntryNext, EntryValue, eq-eqb, false, false≢true, gate, GateId, gates, GateValue, granted}
+use Rattle.lb_world.proofs.Words.{granted_members}
 use Rattle.lb_world.proofs.Words.{group-of, group_at, slot_events, GroupId, happened, held_of, History, inl, inr, is_at, IsRegistryAfter}
 use Rattle.lb_world.proofs.Words.{IsRun, group_after_step, group_events, GroupValue, key_at, key_gives, key_in, key_of, length, length-set}
 use Rattle.lb_world.proofs.Words.{List, list_all, load_in, load_of, lt-ltb, made, made_at, made_of, Meaning, Member, members-past}
 use Rattle.lb_world.proofs.Words.{members_of, nat_lt, newest, newest-past, no_such, None, none-some, Ok, Option, option_map, origin, Origin}
-use Rattle.lb_world.proofs.Words.{members-kept, past, past-other, past-same, past_of, permit_after, refl, Refusal, refused-alike, registries}
+use Rattle.lb_world.proofs.Words.{members-kept, past, past-other, past-same, past_of, permit_after, refl, Refusal, refused-alike}
+use Rattle.lb_world.proofs.Words.{registries}
 use Rattle.lb_world.proofs.Words.{registry_at, registry_events, registry_of, RegistryValue, same_Some, shares, site, slice_get}
 use Rattle.lb_world.proofs.Words.{slice_get_past, slice_get_within, slice_set, slots-fit, Some, Step, subst, sym, Task, there-at, true}
 use Rattle.lb_world.proofs.Words.{unless_refused, view_events, views_of, with_core, without_memory, Work, work, worked, works_at, WorkValue}

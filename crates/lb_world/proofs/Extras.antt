@@ -1,18 +1,22 @@
 -- In a run, of the slots on a gate one has an extra exactly while the gate's permit is out.
-use Rattle.std.proofs.Common.{◌≡◌, ◌⊎◌, inl, inr, ◌==◌, ◌||◌, ◌&&◌, ◌∙◌, ◌+◌, ◌-◌, ◌≤◌, ℕ, zero, suc, Bool, true, false, cond, List, [], ◌∷◌, ◌++◌, refl, sym, ap, subst, arith}
+use Rattle.std.proofs.Common.{◌≡◌, ◌⊎◌, inl, inr, ◌==◌, ◌||◌, ◌&&◌, ◌∙◌, ◌+◌, ◌-◌, ◌≤◌, ℕ, zero, suc, Bool, true, false, cond, List, []}
+use Rattle.std.proofs.Common.{◌∷◌, ◌++◌, refl, sym, ap, subst, arith}
 use Rattle.std.specs.Prelude.{Option, Some, None, not, slice_get}
 use Rattle.std.proofs.lemmas.Bool.{eqb-true, false≢true}
 use Rattle.std.specs.Option.{option_map}
 use Rattle.std.proofs.lemmas.Option.{none-some}
 use Rattle.lb_rebuild_slots.specs.Laws.{number}
 use Rattle.lb_rebuild_slots.specs.SlotsHistory as slots
-use Rattle.lb_rebuild_slots.specs.SlotsHistory.{At, past_of, extra, is_extra, is_flight, is_under_way, is_retired_of, generation_of, granted}
+use Rattle.lb_rebuild_slots.specs.SlotsHistory.{At, past_of, extra, is_extra, is_flight, is_under_way, is_retired_of, generation_of}
+use Rattle.lb_rebuild_slots.specs.SlotsHistory.{granted}
 use Rattle.lb_world.specs.Steps.{Step}
 use Rattle.lb_world.specs.Steps as step
 use Rattle.lb_world.specs.declared.answer.Answer.{Answer}
 use Rattle.lb_world.specs.declared.answer.Answer.TheVariants as answer
 use Rattle.lb_world.specs.Meanings.{Meaning}
-use Rattle.lb_world.specs.History.{History, Made, Entered, building, built, is_at, members_in, group_in, slot_in, config_in, config, drew, made, made_at, gate_of, gate_at, slot_gate, gate_in, group_at, work, ended, happened, slot_events, past, is_grant, is_failure, is_destruction, count_on, extras, is_free, is_out}
+use Rattle.lb_world.specs.History.{History, Made, Entered, building, built, is_at, members_in, group_in, slot_in, config_in, config, drew}
+use Rattle.lb_world.specs.History.{made, made_at, gate_of, gate_at, slot_gate, gate_in, group_at, work, ended, happened, slot_events, past}
+use Rattle.lb_world.specs.History.{is_grant, is_failure, is_destruction, count_on, extras, is_free, is_out}
 use Rattle.lb_world.specs.Answers.{IsRun}
 use Rattle.lb_world.proofs.Placing.{everywhere, throughout, nowhere, off-past, on-past, off-both, on-both, same-either}
 use Rattle.lb_world.proofs.Accepted.{granting, failing, ordered-failure, losing, publishing, retiring, abandoning, leaving, destroying}
@@ -153,7 +157,8 @@ module _ {C : Type 0} where
   -- an event by which a slot gives the permit back
   back : (h : History C) (g s a b : ℕ) (e : ℕ → slots.SlotEvent) → gate_of g h ≡ Some b → slot_gate g s h ≡ Some b → Held h a
       → has h g s ≡ true → is_extra (extra (At s (e g) ∷ past g s h)) ≡ false
-      → HeldBy (λ i r. slot_gate i r h) (λ i r. is_extra (extra (past_of r (cond (g == i) (At s (e i) ∷ slot_events i h) (slot_events i h))))) a
+      → HeldBy (λ i r. slot_gate i r h)
+      (λ i r. is_extra (extra (past_of r (cond (g == i) (At s (e i) ∷ slot_events i h) (slot_events i h))))) a
       (cond (is_at a (gate_of g h)) false (is_out a h))
   back h g s a b e at on held was gone =
       on-gate h g s a b _ false at
@@ -171,7 +176,8 @@ module _ {C : Type 0} where
   drawing h g s t (Some c) = one h (λ i. slots.Drew t) g s refl
 
 module _ {C : Type 0} (M : Meaning C) where
-  pub gate-found : (h : History C) (g s : ℕ) (c : C) → config g s h ≡ Some c → (b : ℕ) × ((gate_of g h ≡ Some b) × (slot_gate g s h ≡ Some b))
+  pub gate-found : (h : History C) (g s : ℕ) (c : C) → config g s h ≡ Some c → (b : ℕ)
+      × ((gate_of g h ≡ Some b) × (slot_gate g s h ≡ Some b))
   gate-found h g s c e = gate-there s (made_at g h) c e
 
   -- a slot that has an extra keeps its gate's permit out
@@ -234,12 +240,14 @@ module _ {C : Type 0} (M : Meaning C) where
   sound ((step.build g s now, answer.BuildFailed n e) ∷ h) run a =
       let c = found {C = C} (step.build g s now) (config g s h) _ (answer.BuildFailed n e) refl run.1 in
       failed h g s now a c.0 c.1
-      (under_way-extra (granted (past g s h)) (extra (past g s h)) (under_way M h g s building (slots-fit M h run.0) (failing M h g s now n e run.1) refl))
+      (under_way-extra (granted (past g s h)) (extra (past g s h))
+      (under_way M h g s building (slots-fit M h run.0) (failing M h g s now n e run.1) refl))
       (sound h run.0 a)
   sound ((step.failbuild g s now, answer.Failed n) ∷ h) run a =
       let c = found {C = C} (step.failbuild g s now) (config g s h) _ (answer.Failed n) refl run.1 in
       failed h g s now a c.0 c.1
-      (under_way-extra (granted (past g s h)) (extra (past g s h)) (under_way M h g s building (slots-fit M h run.0) (ordered-failure M h g s now n run.1) refl))
+      (under_way-extra (granted (past g s h)) (extra (past g s h))
+      (under_way M h g s building (slots-fit M h run.0) (ordered-failure M h g s now n run.1) refl))
       (sound h run.0 a)
   sound ((step.destroy g s, answer.Destroyed) ∷ h) run a =
       let c = found {C = C} (step.destroy g s) (config g s h) _ answer.Destroyed refl run.1 in
@@ -250,7 +258,8 @@ module _ {C : Type 0} (M : Meaning C) where
             (returned (λ i r. slot_gate i r h) (has h) _ g s a b.0 (is_out a h) b.1.1 before.0 has_
             (ap (λ (p : slots.History). is_extra (extra p)) (on-both (Pasts h) slots.Destroyed slots.TakenOut g s))
             (λ i r off. ap (λ (p : slots.History). is_extra (extra p)) (off-both (Pasts h) slots.Destroyed slots.TakenOut g s i r off))),
-        tally-destruction (is_at a (gate_of g h)) (is_out a h) (count_on is_grant a h) (count_on is_failure a h) (count_on is_destruction a h)
+        tally-destruction (is_at a (gate_of g h)) (is_out a h) (count_on is_grant a h) (count_on is_failure a h)
+            (count_on is_destruction a h)
             before.1 (kept-out h g s a c.0 c.1 has_ before.0),
       )
   sound ((step.update g now ls, answer.Generation n) ∷ h) run a =
@@ -263,17 +272,20 @@ module _ {C : Type 0} (M : Meaning C) where
       let b = publishing M h g s n run.1 in
       keep h (step.publish g s) (answer.Published n) a (sound h run.0 a)
       (one h (λ i. slots.Published (ended (work g s h)) (slots.granted_members (past i s h))) g s
-      (sym (under_way-extra (granted (past g s h)) (extra (past g s h)) (under_way M h g s (built b.0) (slots-fit M h run.0) b.1.0 refl)))) refl refl refl
+      (sym (under_way-extra (granted (past g s h)) (extra (past g s h)) (under_way M h g s (built b.0) (slots-fit M h run.0) b.1.0 refl))))
+      refl refl refl
   sound ((step.publish g s, answer.Abandoned n) ∷ h) run a =
       let b = retiring M h g s n run.1 in
       keep h (step.publish g s) (answer.Abandoned n) a (sound h run.0 a)
       (one h (λ i. slots.Abandoned (slots.granted_members (past i s h))) g s
-      (sym (under_way-extra (granted (past g s h)) (extra (past g s h)) (under_way M h g s (built b.0) (slots-fit M h run.0) b.1 refl)))) refl refl refl
+      (sym (under_way-extra (granted (past g s h)) (extra (past g s h)) (under_way M h g s (built b.0) (slots-fit M h run.0) b.1 refl))))
+      refl refl refl
   sound ((step.abandon g s, answer.Abandoned n) ∷ h) run a =
       let b = abandoning M h g s n run.1 in
       keep h (step.abandon g s) (answer.Abandoned n) a (sound h run.0 a)
       (one h (λ i. slots.Abandoned (slots.granted_members (past i s h))) g s
-      (sym (under_way-extra (granted (past g s h)) (extra (past g s h)) (under_way M h g s (built b.0) (slots-fit M h run.0) b.1 refl)))) refl refl refl
+      (sym (under_way-extra (granted (past g s h)) (extra (past g s h)) (under_way M h g s (built b.0) (slots-fit M h run.0) b.1 refl))))
+      refl refl refl
   sound ((step.enter g s, answer.Reader t n) ∷ h) run a =
       keep h (step.enter g s) (answer.Reader t n) a (sound h run.0 a) (one h (λ i. slots.Entered) g s refl) refl refl refl
   sound ((step.leave t, answer.Left n) ∷ h) run a =
@@ -282,7 +294,8 @@ module _ {C : Type 0} (M : Meaning C) where
       (λ i r.
       subst
       (λ (o : Option (Option Entered)).
-      is_extra (extra (past_of r (cond (is_at i (group_in o)) (At (slot_in o) (slots.Left n) ∷ slot_events i h) (slot_events i h)))) ≡ has h i r)
+      is_extra (extra (past_of r (cond (is_at i (group_in o)) (At (slot_in o) (slots.Left n) ∷ slot_events i h) (slot_events i h)))) ≡ has h
+      i r)
       (sym l.1.0) (one h (λ j. slots.Left n) l.0.group l.0.slot refl i r))
       refl refl refl
   sound ((step.select g s key limit words, answer.Backend b t) ∷ h) run a =
@@ -296,7 +309,8 @@ module _ {C : Type 0} (M : Meaning C) where
       (throughout (λ p. is_extra (extra p)) (Pasts h) slots.Cancelled (λ i. g == i) (λ r k. refl)) refl refl refl
   sound ((st, b) ∷ h) run a =
       keep h st b a (sound h run.0 a)
-      (nowhere (λ p. is_extra (extra p)) (Pasts h) (λ i. happened h (slot_events i h) st b ++ slot_events i h) (λ i. is_at i (group_at h st)) (λ i. refl))
+      (nowhere (λ p. is_extra (extra p)) (Pasts h) (λ i. happened h (slot_events i h) st b ++ slot_events i h)
+      (λ i. is_at i (group_at h st)) (λ i. refl))
       refl refl refl
 
   pub held : (h : History C) → IsRun M h → (a : ℕ) → Held h a

@@ -58,19 +58,26 @@ module _ {C : Type 0} where
   -- a step whose events are no membership
   else_ : (h : History C) (st : Step C) (a : Answer) (g : ℕ) → Here g h → all-else (happened h (slot_events g h) st a) ≡ true
       → (Here g h → Follows (slot_events g h) (showed h st a (view_events g h)) (λ n. cells_of g n h))
-      → Follows (slot_events g ((st, a) ∷ h)) (cond (is_at g (group_at h st)) (showed h st a (view_events g h)) (view_events g h)) (λ n. cells_of g n h)
+      → Follows (slot_events g ((st, a) ∷ h)) (cond (is_at g (group_at h st)) (showed h st a (view_events g h)) (view_events g h))
+      (λ n. cells_of g n h)
   else_ h st a g before quiet view_step =
-      at-group (is_at g (group_at h st)) (happened h (slot_events g h) st a) (slot_events g h) (showed h st a (view_events g h)) (view_events g h)
-      (λ n. cells_of g n h) (λ f. happened-else (happened h (slot_events g h) st a) (slot_events g h) _ (λ n. cells_of g n h) quiet (view_step f)) before
+      at-group (is_at g (group_at h st)) (happened h (slot_events g h) st a) (slot_events g h) (showed h st a (view_events g h))
+      (view_events g h)
+      (λ n. cells_of g n h) (λ f. happened-else (happened h (slot_events g h) st a) (slot_events g h) _ (λ n. cells_of g n h) quiet
+      (view_step f)) before
 
   -- a changed membership, and one that is the same
   renewed : (h : History C) (g now : ℕ) (ls : List Listing) (n : ℕ) → Here g h → is_change (members_in ls) (slot_events g h) ≡ true
-      → Follows (slots.Scheduled (members_in ls) now ∷ slot_events g h) (showed h (step.update g now ls) (answer.Generation n) (view_events g h))
-      (λ m. cond (newest (slot_events g h) + 1 == m) (registry.shown_cells (key_of g h) (view_in (made_at g h)) (members_in ls) (events_in (registry_of g h) h)) (cells_of g m h))
+      → Follows (slots.Scheduled (members_in ls) now ∷ slot_events g h)
+      (showed h (step.update g now ls) (answer.Generation n) (view_events g h))
+      (λ m. cond (newest (slot_events g h) + 1 == m) (registry.shown_cells (key_of g h) (view_in (made_at g h)) (members_in ls)
+      (events_in (registry_of g h) h)) (cells_of g m h))
   renewed h g now ls n f change =
       let other : same_members (members_in ls) (membership_after (view_events g h)) ≡ false =
-      ap (same_members (members_in ls)) f.membership ∙ not-true (same_members (members_in ls) (members_of (newest (slot_events g h)) (slot_events g h))) change in
-      let new : List (Member × ℕ) = registry.shown_cells (key_of g h) (view_in (made_at g h)) (members_in ls) (events_in (registry_of g h) h) in
+      ap (same_members (members_in ls)) f.membership
+      ∙ not-true (same_members (members_in ls) (members_of (newest (slot_events g h)) (slot_events g h))) change in
+      let new : List (Member × ℕ) = registry.shown_cells (key_of g h) (view_in (made_at g h)) (members_in ls)
+      (events_in (registry_of g h) h) in
       settled (slots.Scheduled (members_in ls) now ∷ slot_events g h) _ (settings_in ls) _
       (rw other (shown (slot_events g h) (λ m. cells_of g m h) (members_in ls) now new (view_events g h) f))
 
@@ -78,7 +85,8 @@ module _ {C : Type 0} where
       → Follows (slot_events g h) (showed h (step.update g now ls) (answer.Same n) (view_events g h)) (λ m. cells_of g m h)
   unchanged h g now ls n f change =
       let alike : same_members (members_in ls) (membership_after (view_events g h)) ≡ true =
-      ap (same_members (members_in ls)) f.membership ∙ not-false (same_members (members_in ls) (members_of (newest (slot_events g h)) (slot_events g h))) change in
+      ap (same_members (members_in ls)) f.membership
+      ∙ not-false (same_members (members_in ls) (members_of (newest (slot_events g h)) (slot_events g h))) change in
       settled (slot_events g h) _ (settings_in ls) _ (rw alike f)
 
 module _ {C : Type 0} (M : Meaning C) where
@@ -89,7 +97,8 @@ module _ {C : Type 0} (M : Meaning C) where
       (λ same.
       let none = (absent M h run.0 g (slice_get_past (made h) g (omega arith))).events in
       rw (eq-eqb (length (made h)) g same)
-      (subst (λ (k : slots.History). Follows k (held_at_first cs) (λ m. cells_of g m h)) (sym none) (first cs (λ m. cells_of g m h) (cells-zero g h))))
+      (subst (λ (k : slots.History). Follows k (held_at_first cs) (λ m. cells_of g m h)) (sym none)
+      (first cs (λ m. cells_of g m h) (cells-zero g h))))
       (λ off. rw (ne_eqb (length (made h)) g off) (follows h run.0 g))
   follows ((step.update at now ls, answer.Generation n) ∷ h) run g =
       dite (ℕ_discrete at g)
@@ -111,19 +120,27 @@ module _ {C : Type 0} (M : Meaning C) where
       same (rw (eq-eqb at at refl) (unchanged h at now ls n (follows h run.0 at) (unchanging M h at now ls n run.1))))
       (λ off. rw (ne_eqb at g off) (follows h run.0 g))
   follows ((step.ask at s now, answer.Build n) ∷ h) run g =
-      else_ h (step.ask at s now) (answer.Build n) g (follows h run.0 g) refl (λ f. held (slot_events g h) (λ m. cells_of g m h) (newest (slot_events at h)) (view_events g h) f)
+      else_ h (step.ask at s now) (answer.Build n) g (follows h run.0 g) refl
+      (λ f. held (slot_events g h) (λ m. cells_of g m h) (newest (slot_events at h)) (view_events g h) f)
   follows ((step.build at s now, answer.BuildFailed n e) ∷ h) run g =
-      else_ h (step.build at s now) (answer.BuildFailed n e) g (follows h run.0 g) refl (λ f. released (slot_events g h) (λ m. cells_of g m h) (extra_at at s h) (view_events g h) f)
+      else_ h (step.build at s now) (answer.BuildFailed n e) g (follows h run.0 g) refl
+      (λ f. released (slot_events g h) (λ m. cells_of g m h) (extra_at at s h) (view_events g h) f)
   follows ((step.failbuild at s now, answer.Failed n) ∷ h) run g =
-      else_ h (step.failbuild at s now) (answer.Failed n) g (follows h run.0 g) refl (λ f. released (slot_events g h) (λ m. cells_of g m h) (extra_at at s h) (view_events g h) f)
+      else_ h (step.failbuild at s now) (answer.Failed n) g (follows h run.0 g) refl
+      (λ f. released (slot_events g h) (λ m. cells_of g m h) (extra_at at s h) (view_events g h) f)
   follows ((step.lost at s, answer.Lost n) ∷ h) run g = else_ h (step.lost at s) (answer.Lost n) g (follows h run.0 g) refl (λ f. f)
-  follows ((step.publish at s, answer.Published n) ∷ h) run g = else_ h (step.publish at s) (answer.Published n) g (follows h run.0 g) refl (λ f. f)
-  follows ((step.publish at s, answer.Abandoned n) ∷ h) run g = else_ h (step.publish at s) (answer.Abandoned n) g (follows h run.0 g) refl (λ f. f)
-  follows ((step.abandon at s, answer.Abandoned n) ∷ h) run g = else_ h (step.abandon at s) (answer.Abandoned n) g (follows h run.0 g) refl (λ f. f)
-  follows ((step.enter at s, answer.Reader t n) ∷ h) run g = else_ h (step.enter at s) (answer.Reader t n) g (follows h run.0 g) refl (λ f. f)
+  follows ((step.publish at s, answer.Published n) ∷ h) run g = else_ h (step.publish at s) (answer.Published n) g (follows h run.0 g) refl
+      (λ f. f)
+  follows ((step.publish at s, answer.Abandoned n) ∷ h) run g = else_ h (step.publish at s) (answer.Abandoned n) g (follows h run.0 g) refl
+      (λ f. f)
+  follows ((step.abandon at s, answer.Abandoned n) ∷ h) run g = else_ h (step.abandon at s) (answer.Abandoned n) g (follows h run.0 g) refl
+      (λ f. f)
+  follows ((step.enter at s, answer.Reader t n) ∷ h) run g = else_ h (step.enter at s) (answer.Reader t n) g (follows h run.0 g) refl
+      (λ f. f)
   follows ((step.leave t, answer.Left n) ∷ h) run g = else_ h (step.leave t) (answer.Left n) g (follows h run.0 g) refl (λ f. f)
   follows ((step.destroy at s, answer.Destroyed) ∷ h) run g =
-      else_ h (step.destroy at s) answer.Destroyed g (follows h run.0 g) refl (λ f. released (slot_events g h) (λ m. cells_of g m h) (extra_at at s h) (view_events g h) f)
+      else_ h (step.destroy at s) answer.Destroyed g (follows h run.0 g) refl
+      (λ f. released (slot_events g h) (λ m. cells_of g m h) (extra_at at s h) (view_events g h) f)
   follows ((step.select at s key limit words, answer.Backend b t) ∷ h) run g =
       else_ h (step.select at s key limit words) (answer.Backend b t) g (follows h run.0 g) (drew-else (config at s h) s t) (λ f. f)
   follows ((step.select at s key limit words, answer.NoBackend t) ∷ h) run g =
@@ -131,9 +148,11 @@ module _ {C : Type 0} (M : Meaning C) where
   follows ((step.select at s key limit words, answer.NotSelected t) ∷ h) run g =
       else_ h (step.select at s key limit words) (answer.NotSelected t) g (follows h run.0 g) (drew-else (config at s h) s t) (λ f. f)
   follows ((step.enable at (Some b), answer.Done) ∷ h) run g =
-      else_ h (step.enable at (Some b)) answer.Done g (follows h run.0 g) refl (λ f. set (slot_events g h) (λ m. cells_of g m h) b true (view_events g h) f)
+      else_ h (step.enable at (Some b)) answer.Done g (follows h run.0 g) refl (λ f. set (slot_events g h) (λ m. cells_of g m h) b true
+      (view_events g h) f)
   follows ((step.disable at (Some b), answer.Done) ∷ h) run g =
-      else_ h (step.disable at (Some b)) answer.Done g (follows h run.0 g) refl (λ f. set (slot_events g h) (λ m. cells_of g m h) b false (view_events g h) f)
+      else_ h (step.disable at (Some b)) answer.Done g (follows h run.0 g) refl (λ f. set (slot_events g h) (λ m. cells_of g m h) b false
+      (view_events g h) f)
   follows ((step.cancel at, answer.Cancelled) ∷ h) run g = else_ h (step.cancel at) answer.Cancelled g (follows h run.0 g) refl (λ f. f)
   follows ((st, a) ∷ h) run g = else_ h st a g (follows h run.0 g) refl (λ f. f)
 
@@ -141,11 +160,13 @@ module _ {C : Type 0} (M : Meaning C) where
   view-follows h run g =
       let f = follows h run g in record { generation = f.generation; membership = f.membership; snapshots = f.snapshots }
 
-  pub judged-by : (h : History C) → IsRun M h → (g n : ℕ) (b : Member) → IsReady (key_of g h) (view_events g h) (events_in (registry_of g h) h) n b
+  pub judged-by : (h : History C) → IsRun M h → (g n : ℕ) (b : Member)
+      → IsReady (key_of g h) (view_events g h) (events_in (registry_of g h) h) n b
       → JudgedBy g n b h
   judged-by h run g n b ready =
       let f = follows h run g in
-      let s = found-one (Fits (slot_events g h) (λ m. cells_of g m h)) (IsReadyIn (key_of g h) (view_events g h) (events_in (registry_of g h) h) b)
+      let s = found-one (Fits (slot_events g h) (λ m. cells_of g m h))
+      (IsReadyIn (key_of g h) (view_events g h) (events_in (registry_of g h) h) b)
       (λ (x : SnapshotValue). x.generation == n) (snapshots_after (view_events g h)) f.snapshots ready in
       let is : s.0.generation ≡ n = eqb-true s.0.generation n s.2 in
       record {
@@ -155,6 +176,7 @@ module _ {C : Type 0} (M : Meaning C) where
             subst
             (λ (cs : List (Member × ℕ)).
             IsSomeAnd (value_at cs b)
-            (λ c. registry.IsCellKept (key_of g h) c (events_in (registry_of g h) h) × (registry.cell_health (key_of g h) c (events_in (registry_of g h) h) ≡ true)))
+            (λ c. registry.IsCellKept (key_of g h) c (events_in (registry_of g h) h)
+            × (registry.cell_health (key_of g h) c (events_in (registry_of g h) h) ≡ true)))
             (s.1.2 ∙ ap (λ (m : ℕ). cells_of g m h) is) s.3.healthy;
       }

@@ -1,12 +1,14 @@
 -- In a run a snapshot of a group's view lives exactly while it is the newest or some slot has its generation in use: the view is
 -- that of a joined group, which holds each generation as often as the slots have it.
-use Rattle.std.proofs.Common.{◌≡◌, ◌<◌, ◌+◌, ◌==◌, ◌||◌, ◌∙◌, ℕ, Bool, true, false, cond, nat_lt, List, [], ◌∷◌, length, refl, sym, ap, subst, arith}
+use Rattle.std.proofs.Common.{◌≡◌, ◌<◌, ◌+◌, ◌==◌, ◌||◌, ◌∙◌, ℕ, Bool, true, false, cond, nat_lt, List, [], ◌∷◌, length, refl, sym, ap}
+use Rattle.std.proofs.Common.{subst, arith}
 use Rattle.std.specs.Prelude.{Some}
 use Rattle.std.specs.List.{AllByRecursion as Each, list_any}
 use Rattle.std.proofs.lemmas.Bool.{eq-eqb, ne_eqb, eqb-true, eqb-false, lt-ltb, ltb-true}
 use Rattle.lb_select_base.specs.Backends.{Member, same_member}
 use Rattle.lb_health_view.specs.Snapshots.{SnapshotValue, held_more, held_less, at_generation, living}
-use Rattle.lb_health_view.specs.ViewEvents.{ViewEvent, Shown, Held, Released, Set, generation_after, membership_after, by_age, snapshots_after}
+use Rattle.lb_health_view.specs.ViewEvents.{ViewEvent, Shown, Held, Released, Set, generation_after, membership_after, by_age}
+use Rattle.lb_health_view.specs.ViewEvents.{snapshots_after}
 use Rattle.lb_health_view.specs.RegistrySide.{after_settings, lives}
 use Rattle.lb_rebuild_slots.specs.SlotsHistory as slots
 use Rattle.lb_rebuild_slots.specs.SlotsHistory.{newest, IsSlotsHistory, IsPast, past_of}
@@ -25,12 +27,14 @@ use Rattle.lb_world.proofs.Together.{group-of, joins-alike}
 use Rattle.lb_world.proofs.Viewing.{each-at}
 
 -- settings leave the snapshots
-pub settings-leave : (settings : List (Member × Bool)) (views : List ViewEvent) → snapshots_after (after_settings settings views) ≡ snapshots_after views
+pub settings-leave : (settings : List (Member × Bool)) (views : List ViewEvent)
+    → snapshots_after (after_settings settings views) ≡ snapshots_after views
 settings-leave [] views = refl
 settings-leave (e ∷ rest) views =
     settings-leave rest _ ∙ either (list_any (same_member e.0) (membership_after views)) e views
   where
-    either : (b : Bool) (e : Member × Bool) (views : List ViewEvent) → snapshots_after (cond b (Set e.0 e.1 ∷ views) views) ≡ snapshots_after views
+    either : (b : Bool) (e : Member × Bool) (views : List ViewEvent)
+        → snapshots_after (cond b (Set e.0 e.1 ∷ views) views) ≡ snapshots_after views
     either true e views = refl
     either false e views = refl
 
@@ -42,7 +46,8 @@ each-living : (c : ℕ) (ss : List SnapshotValue) → Each (Kept c) (living c ss
 each-living c [] = tt
 each-living c (s ∷ ss) = either (s.generation == c || nat_lt 0 s.holds) refl (each-living c ss)
   where
-    either : (b : Bool) → (s.generation == c || nat_lt 0 s.holds) ≡ b → Each (Kept c) (living c ss) → Each (Kept c) (cond b (s ∷ living c ss) (living c ss))
+    either : (b : Bool) → (s.generation == c || nat_lt 0 s.holds) ≡ b → Each (Kept c) (living c ss)
+        → Each (Kept c) (cond b (s ∷ living c ss) (living c ss))
     either true is rest = (is, rest)
     either false is rest = rest
 
@@ -52,8 +57,10 @@ or-right false b e = e
 
 each-kept : (v : List ViewEvent) → Each (Kept (generation_after v)) (snapshots_after v)
 each-kept [] = (refl, tt)
-each-kept (Shown ms cells ∷ v) =
-    (rw (eq-eqb (generation_after v + 1) (generation_after v + 1) refl) refl, each-living (generation_after v + 1) (by_age (snapshots_after v)))
+each-kept (Shown ms cells ∷ v) = (
+  rw (eq-eqb (generation_after v + 1) (generation_after v + 1) refl) refl,
+  each-living (generation_after v + 1) (by_age (snapshots_after v)),
+)
 each-kept (Held g ∷ v) =
     each-at (Kept (generation_after v)) g held_more (snapshots_after v)
     (λ s k. or-right (s.generation == generation_after v) (nat_lt 0 (s.holds + 1)) (lt-ltb 0 (s.holds + 1) (omega arith))) (each-kept v)
@@ -82,11 +89,13 @@ by-sides false false true first second back = sym (back refl refl)
 by-sides false false false first second back = refl
 
 joined-lives : (k n : ℕ) (e : group.History) → IsSlotsHistory (group.slot_events e)
-    → lives n (snapshots_after (group.view_events k e)) ≡ (newest (group.slot_events e) == n || nat_lt 0 (holders n k (group.slot_events e)))
+    → lives n (snapshots_after (group.view_events k e)) ≡
+    (newest (group.slot_events e) == n || nat_lt 0 (holders n k (group.slot_events e)))
 joined-lives k n e all =
     let v : List ViewEvent = group.view_events k e in
     let held_is = (counted k e all).held n in
-    by-sides (newest (group.slot_events e) == n) (nat_lt 0 (holders n k (group.slot_events e))) (lives n (snapshots_after (group.view_events k e)))
+    by-sides (newest (group.slot_events e) == n) (nat_lt 0 (holders n k (group.slot_events e)))
+    (lives n (snapshots_after (group.view_events k e)))
     (λ t.
     subst (λ (x : ℕ). lives x (snapshots_after (group.view_events k e)) ≡ true) (eqb-true (newest (group.slot_events e)) n t)
     (newest-live k e))

@@ -1,6 +1,7 @@
 -- The right answers to the making of a group; and what holds of what was made, and of what isn't made yet: a gate that isn't there is
 -- not out, no load was set at a group that isn't there, and the slot that a reader entered is there.
-use Rattle.std.proofs.Common.{◌≡◌, ◌⊎◌, subst, ◌++◌, ◌<◌, ◌≤◌, ◌+◌, ◌^◌, ◌&&◌, ◌∙◌, ℕ, zero, suc, Bool, true, false, map, nat_le, nat_lt, List, [], ◌∷◌, length, inl, inr, refl, sym, ap, arith}
+use Rattle.std.proofs.Common.{◌≡◌, ◌⊎◌, subst, ◌++◌, ◌<◌, ◌≤◌, ◌+◌, ◌^◌, ◌&&◌, ◌∙◌, ℕ, zero, suc, Bool, true, false, map, nat_le, nat_lt}
+use Rattle.std.proofs.Common.{List, [], ◌∷◌, length, inl, inr, refl, sym, ap, arith}
 use Rattle.std.specs.Prelude.{Option, Some, None, slice_get, slice_set}
 use Rattle.std.specs.Option.{option_map}
 use Rattle.std.proofs.lemmas.Bool.{and_parts, ltb-true, ne_eqb}
@@ -15,7 +16,8 @@ use Rattle.lb_world.specs.Steps as step
 use Rattle.lb_world.specs.declared.answer.Answer.{Answer}
 use Rattle.lb_world.specs.declared.answer.Answer.TheVariants as answer
 use Rattle.lb_world.specs.Meanings.{Meaning}
-use Rattle.lb_world.specs.History.{config, config_in, Entered, entries, gate_at, gates, History, idle, is_out, load_of, Made, made, made_at, registries, work}
+use Rattle.lb_world.specs.History.{config, config_in, Entered, entries, gate_at, gates, History, idle, is_out, load_of, Made, made, made_at}
+use Rattle.lb_world.specs.History.{registries, work}
 use Rattle.lb_world.specs.Shared.{registry_events}
 use Rattle.lb_world.specs.GroupEvents.{group_events}
 use Rattle.lb_world.specs.Answers.{Answers, IsRun, no_number, no_such, refuse, unless_refused, without_memory}

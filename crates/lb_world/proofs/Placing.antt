@@ -4,7 +4,8 @@ use Rattle.std.proofs.Common.{◌≡◌, ◌==◌, ◌&&◌, ◌∙◌, ℕ, Boo
 use Rattle.std.proofs.lemmas.Bool.{eq-eqb, ne_eqb}
 use mathlib.Core.Logic.{dite}
 use native.Mathlib.Decide.{ℕ_discrete}
-use Rattle.lb_rebuild_slots.specs.SlotsHistory.{SlotEvent, Entered, Left, SlotsEvent, Scheduled, Cancelled, At, History, past_of, granted, readers, is_under_way, extra, MayHappen, IsPast}
+use Rattle.lb_rebuild_slots.specs.SlotsHistory.{SlotEvent, Entered, Left, SlotsEvent, Scheduled, Cancelled, At, History, past_of, granted}
+use Rattle.lb_rebuild_slots.specs.SlotsHistory.{readers, is_under_way, extra, MayHappen, IsPast}
 use Rattle.lb_rebuild_slots.proofs.Pasts.{past-same, past-other}
 use Rattle.lb_world.specs.History.{Work, is_held}
 
@@ -108,7 +109,8 @@ kept-readers n r (e ∷ es) k u =
     let both = both-unread (unread e) (all-unread es) u in
     kept-one n r e (es ++ k) both.0 ∙ kept-readers n r es k both.1
 
-pub kept-group : (b : Bool) (n r : ℕ) (es k : History) → all-unread es ≡ true → readers n (past_of r (cond b (es ++ k) k)) ≡ readers n (past_of r k)
+pub kept-group : (b : Bool) (n r : ℕ) (es k : History) → all-unread es ≡ true
+    → readers n (past_of r (cond b (es ++ k) k)) ≡ readers n (past_of r k)
 kept-group true n r es k u = kept-readers n r es k u
 kept-group false n r es k u = refl
 

@@ -1,12 +1,14 @@
 -- The promises, each by the law of the crate of groups at a slot's past.
-use Rattle.std.proofs.Common.{◌≡◌, inl, inr, not, ◌<◌, ◌≤◌, ◌==◌, ◌∙◌, ℕ, Bool, true, false, cond, [], ◌∷◌, ◌++◌, refl, sym, ap, subst, arith}
+use Rattle.std.proofs.Common.{◌≡◌, inl, inr, not, ◌<◌, ◌≤◌, ◌==◌, ◌∙◌, ℕ, Bool, true, false, cond, [], ◌∷◌, ◌++◌, refl, sym, ap, subst}
+use Rattle.std.proofs.Common.{arith}
 use Rattle.std.specs.Prelude.{Option, Some, None, slice_get}
 use Rattle.std.specs.Option.{option_map}
 use Rattle.std.proofs.lemmas.Bool.{false_from_ne_true, false≢true}
 use mathlib.Core.Logic.{dite}
 use native.Mathlib.Decide.{ℕ_discrete}
 use Rattle.lb_rebuild_slots.specs.SlotsHistory as slots
-use Rattle.lb_rebuild_slots.specs.SlotsHistory.{SlotsEvent, SlotEvent, Scheduled, Cancelled, At, past_of, served, newest, extra, is_extra, IsFaithful}
+use Rattle.lb_rebuild_slots.specs.SlotsHistory.{SlotsEvent, SlotEvent, Scheduled, Cancelled, At, past_of, served, newest, extra, is_extra}
+use Rattle.lb_rebuild_slots.specs.SlotsHistory.{IsFaithful}
 use Rattle.lb_rebuild_slots.specs.Laws.{number}
 use Rattle.lb_rebuild_slots.proofs.Pasts.{newest-past, cancelled-past}
 use Rattle.lb_rebuild_slots.proofs.Ledger.{balanced}
@@ -16,7 +18,8 @@ use Rattle.lb_world.specs.Steps as step
 use Rattle.lb_world.specs.declared.answer.Answer.{Answer}
 use Rattle.lb_world.specs.declared.answer.Answer.TheVariants as answer
 use Rattle.lb_world.specs.Meanings.{Meaning}
-use Rattle.lb_world.specs.History.{History, Entered, is_at, members_in, group_in, slot_in, config, drew, gate_at, slot_gate, entries, group_at, work, ended, happened, slot_events, past, extras, is_free, is_out}
+use Rattle.lb_world.specs.History.{History, Entered, is_at, members_in, group_in, slot_in, config, drew, gate_at, slot_gate, entries}
+use Rattle.lb_world.specs.History.{group_at, work, ended, happened, slot_events, past, extras, is_free, is_out}
 use Rattle.lb_world.specs.Answers.{IsRun, without_memory}
 use Rattle.lb_world.specs.Promises.{FreeGatesGrant, NeverFalls, Ledger, NewestServed, MembersKept, Bounded}
 use Rattle.lb_world.proofs.Placing.{off-past, on-past, off-both, on-both, same-either}
@@ -36,10 +39,12 @@ earlier-past Cancelled p past = past
 earlier-past (At i e) p past = past.0
 
 no-less : (e : SlotsEvent) (p : slots.History) → slots.IsPast (e ∷ p) → served p ≤ served (e ∷ p)
-no-less (At i (slots.Published ended ms)) p past = let up : served p < served (At i (slots.Published ended ms) ∷ p) = rises (At i (slots.Published ended ms)) p past in omega arith
+no-less (At i (slots.Published ended ms)) p past = let up : served p < served (At i (slots.Published ended ms) ∷ p) =
+    rises (At i (slots.Published ended ms)) p past in omega arith
 no-less e p past = omega arith
 
-reached : (b : Bool) (e : SlotsEvent) (p : slots.History) → slots.IsPast (cond b (e ∷ p) p) → (slots.IsPast p) × (served p ≤ served (cond b (e ∷ p) p))
+reached : (b : Bool) (e : SlotsEvent) (p : slots.History) → slots.IsPast (cond b (e ∷ p) p) → (slots.IsPast p)
+    × (served p ≤ served (cond b (e ∷ p) p))
 reached true e p past = (earlier-past e p past, no-less e p past)
 reached false e p past = (past, omega arith)
 
@@ -80,9 +85,11 @@ in-group K e b all keeps i r = either (b i)
     either true = keeps r (K i) (all i r)
     either false = all i r
 
-in-none : (K N : ℕ → slots.History) (b : ℕ → Bool) → AllFaithful K → ((i : ℕ) → N i ≡ K i) → (i r : ℕ) → IsFaithful (past_of r (cond (b i) (N i) (K i)))
+in-none : (K N : ℕ → slots.History) (b : ℕ → Bool) → AllFaithful K → ((i : ℕ) → N i ≡ K i) → (i r : ℕ)
+    → IsFaithful (past_of r (cond (b i) (N i) (K i)))
 in-none K N b all none i r =
-    subst (λ (k : slots.History). IsFaithful (past_of r k)) (sym (ap (λ (x : slots.History). cond (b i) x (K i)) (none i) ∙ same-either (b i) (K i))) (all i r)
+    subst (λ (k : slots.History). IsFaithful (past_of r k)) (sym (ap (λ (x : slots.History). cond (b i) x (K i)) (none i)
+    ∙ same-either (b i) (K i))) (all i r)
 
 module _ {C : Type 0} where
   drawing : (h : History C) (g s t : ℕ) (o : Option C) → AllFaithful (Pasts h)
@@ -108,7 +115,10 @@ module _ {C : Type 0} where
       at-place (Pasts h) (λ j. slots.Failed now (slots.granted_members (past j s h))) g s (faithful h) (faithful h g s, refl) i r
   faithful ((step.lost g s, answer.Lost n) ∷ h) i r = at-place (Pasts h) (λ j. slots.WorkerLost) g s (faithful h) (faithful h g s) i r
   faithful ((step.publish g s, answer.Published n) ∷ h) i r =
-      at-place (Pasts h) (λ j. slots.Published (ended (work g s h)) (slots.granted_members (past j s h))) g s (faithful h) (faithful h g s, refl) i r
+      at-place (Pasts h) (λ j. slots.Published (ended (work g s h)) (slots.granted_members (past j s h))) g s (faithful h) (
+        faithful h g s,
+        refl,
+      ) i r
   faithful ((step.publish g s, answer.Abandoned n) ∷ h) i r =
       at-place (Pasts h) (λ j. slots.Abandoned (slots.granted_members (past j s h))) g s (faithful h) (faithful h g s, refl) i r
   faithful ((step.abandon g s, answer.Abandoned n) ∷ h) i r =
@@ -130,7 +140,8 @@ module _ {C : Type 0} where
   faithful ((step.select g s key limit words, answer.NotSelected t) ∷ h) i r = drawing h g s t (config g s h) (faithful h) i r
   faithful ((step.cancel g, answer.Cancelled) ∷ h) i r = in-group (Pasts h) Cancelled (λ j. g == j) (faithful h) (λ q k f. f) i r
   faithful ((st, a) ∷ h) i r =
-      in-none (Pasts h) (λ j. happened h (slot_events j h) st a ++ slot_events j h) (λ j. is_at j (group_at h st)) (faithful h) (λ j. refl) i r
+      in-none (Pasts h) (λ j. happened h (slot_events j h) st a ++ slot_events j h) (λ j. is_at j (group_at h st)) (faithful h)
+      (λ j. refl) i r
 
 module _ {C : Type 0} (M : Meaning C) where
   -- the asked slot has no extra, since its gate has none

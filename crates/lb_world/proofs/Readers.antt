@@ -1,5 +1,6 @@
 -- In a run the readers that a slot's past counts are the entries that are in.
-use Rattle.std.proofs.Common.{◌≡◌, ◌+◌, ◌-◌, ◌==◌, ◌&&◌, ◌∙◌, ℕ, Bool, true, false, cond, List, [], ◌∷◌, ◌++◌, refl, sym, ap, subst, arith, count_by}
+use Rattle.std.proofs.Common.{◌≡◌, ◌+◌, ◌-◌, ◌==◌, ◌&&◌, ◌∙◌, ℕ, Bool, true, false, cond, List, [], ◌∷◌, ◌++◌, refl, sym, ap, subst, arith}
+use Rattle.std.proofs.Common.{count_by}
 use Rattle.std.specs.Prelude.{Option, Some, None, slice_get, slice_set}
 use Rattle.std.proofs.lemmas.Bool.{eq-eqb, ne_eqb}
 use Rattle.std.proofs.lemmas.List.Sums.{sum_by_push, sum_by-set}
@@ -13,7 +14,8 @@ use Rattle.lb_world.specs.Steps as step
 use Rattle.lb_world.specs.declared.answer.Answer.{Answer}
 use Rattle.lb_world.specs.declared.answer.Answer.TheVariants as answer
 use Rattle.lb_world.specs.Meanings.{Meaning}
-use Rattle.lb_world.specs.History.{History, Entered, is_at, reads, group_in, slot_in, config, drew, entries, group_at, happened, slot_events, past}
+use Rattle.lb_world.specs.History.{History, Entered, is_at, reads, group_in, slot_in, config, drew, entries, group_at, happened}
+use Rattle.lb_world.specs.History.{slot_events, past}
 use Rattle.lb_world.specs.Answers.{IsRun}
 use Rattle.lb_world.proofs.Placing.{all-unread, kept-group}
 use Rattle.lb_world.proofs.Accepted.{entering, leaving}
@@ -50,10 +52,13 @@ entered K c g s m all is i r n =
     (λ at.
     dite (ℕ_discrete s r)
     (λ on.
-    subst (λ (j : ℕ). readers n (past_of r (cond (g == j) (At s Enters ∷ K j) (K j))) ≡ c j r n + cond (g == j && (s == r && m == n)) 1 0) at
-    (subst (λ (q : ℕ). readers n (past_of q (cond (g == g) (At s Enters ∷ K g) (K g))) ≡ c g q n + cond (g == g && (s == q && m == n)) 1 0) on
+    subst (λ (j : ℕ). readers n (past_of r (cond (g == j) (At s Enters ∷ K j) (K j))) ≡ c j r n + cond (g == j && (s == r && m == n)) 1 0)
+    at
+    (subst (λ (q : ℕ). readers n (past_of q (cond (g == g) (At s Enters ∷ K g) (K g))) ≡ c g q n + cond (g == g && (s == q && m == n)) 1 0)
+    on
     (rw (eq-eqb g g refl, eq-eqb s s refl)
-    (subst (λ (q : ℕ). cond (served (past_of s (K g)) == n) (readers n (past_of s (K g)) + 1) (readers n (past_of s (K g))) ≡ c g s n + cond (q == n) 1 0) is
+    (subst (λ (q : ℕ). cond (served (past_of s (K g)) == n) (readers n (past_of s (K g)) + 1) (readers n (past_of s (K g))) ≡ c g s n + cond
+    (q == n) 1 0) is
     (one-more (served (past_of s (K g)) == n) (c g s n) (readers n (past_of s (K g))) (all g s n))))))
     (λ off. rw (eq-eqb g i at, ne_eqb s r off) (let e : readers n (past_of r (K i)) ≡ c i r n = all i r n in omega arith)))
     (λ apart. rw (ne_eqb g i apart) (let e : readers n (past_of r (K i)) ≡ c i r n = all i r n in omega arith))
@@ -94,7 +99,8 @@ module _ {C : Type 0} (M : Meaning C) where
   pub counts : (h : History C) → IsRun M h → (g s n : ℕ) → readers n (past g s h) ≡ count_by (reads g s n) (entries h)
   counts [] run g s n = refl
   counts ((step.enter g s, answer.Reader t m) ∷ h) run i r n =
-      entered (λ j. slot_events j h) (λ j q k. count_by (reads j q k) (entries h)) g s m (counts h run.0) (entering M h g s t m run.1).1 i r n
+      entered (λ j. slot_events j h) (λ j q k. count_by (reads j q k) (entries h)) g s m (counts h run.0) (entering M h g s t m run.1).1 i r
+      n
       ∙ sym (count_pushed (reads i r n) (entries h) (Some (record { group = g; slot = s; generation = m })))
   counts ((step.leave t, answer.Left m) ∷ h) run i r n =
       let l = leaving M h t m run.1 in
@@ -103,7 +109,8 @@ module _ {C : Type 0} (M : Meaning C) where
       readers n (past_of r (cond (is_at i (group_in o)) (At (slot_in o) (Left m) ∷ slot_events i h) (slot_events i h)))
       ≡ count_by (reads i r n) (slice_set (entries h) t None))
       (sym l.1.0)
-      (left (λ j. slot_events j h) (λ j q k. count_by (reads j q k) (entries h)) (λ j q k. count_by (reads j q k) (slice_set (entries h) t None))
+      (left (λ j. slot_events j h) (λ j q k. count_by (reads j q k) (entries h))
+      (λ j q k. count_by (reads j q k) (slice_set (entries h) t None))
       l.0.group l.0.slot m (counts h run.0)
       (λ j q k.
       subst
@@ -118,14 +125,22 @@ module _ {C : Type 0} (M : Meaning C) where
       same h (step.select g s key limit words) (answer.NoBackend t) i r n (drew-unread (config g s h) s t) (counts h run.0 i r n) refl
   counts ((step.select g s key limit words, answer.NotSelected t) ∷ h) run i r n =
       same h (step.select g s key limit words) (answer.NotSelected t) i r n (drew-unread (config g s h) s t) (counts h run.0 i r n) refl
-  counts ((step.update g now ls, answer.Generation m) ∷ h) run i r n = same h (step.update g now ls) (answer.Generation m) i r n refl (counts h run.0 i r n) refl
-  counts ((step.ask g s now, answer.Build m) ∷ h) run i r n = same h (step.ask g s now) (answer.Build m) i r n refl (counts h run.0 i r n) refl
-  counts ((step.build g s now, answer.BuildFailed m e) ∷ h) run i r n = same h (step.build g s now) (answer.BuildFailed m e) i r n refl (counts h run.0 i r n) refl
-  counts ((step.failbuild g s now, answer.Failed m) ∷ h) run i r n = same h (step.failbuild g s now) (answer.Failed m) i r n refl (counts h run.0 i r n) refl
+  counts ((step.update g now ls, answer.Generation m) ∷ h) run i r n = same h (step.update g now ls) (answer.Generation m) i r n refl
+      (counts h run.0 i r n) refl
+  counts ((step.ask g s now, answer.Build m) ∷ h) run i r n = same h (step.ask g s now) (answer.Build m) i r n refl
+      (counts h run.0 i r n) refl
+  counts ((step.build g s now, answer.BuildFailed m e) ∷ h) run i r n = same h (step.build g s now) (answer.BuildFailed m e) i r n refl
+      (counts h run.0 i r n) refl
+  counts ((step.failbuild g s now, answer.Failed m) ∷ h) run i r n = same h (step.failbuild g s now) (answer.Failed m) i r n refl
+      (counts h run.0 i r n) refl
   counts ((step.lost g s, answer.Lost m) ∷ h) run i r n = same h (step.lost g s) (answer.Lost m) i r n refl (counts h run.0 i r n) refl
-  counts ((step.publish g s, answer.Published m) ∷ h) run i r n = same h (step.publish g s) (answer.Published m) i r n refl (counts h run.0 i r n) refl
-  counts ((step.publish g s, answer.Abandoned m) ∷ h) run i r n = same h (step.publish g s) (answer.Abandoned m) i r n refl (counts h run.0 i r n) refl
-  counts ((step.abandon g s, answer.Abandoned m) ∷ h) run i r n = same h (step.abandon g s) (answer.Abandoned m) i r n refl (counts h run.0 i r n) refl
-  counts ((step.destroy g s, answer.Destroyed) ∷ h) run i r n = same h (step.destroy g s) answer.Destroyed i r n refl (counts h run.0 i r n) refl
+  counts ((step.publish g s, answer.Published m) ∷ h) run i r n = same h (step.publish g s) (answer.Published m) i r n refl
+      (counts h run.0 i r n) refl
+  counts ((step.publish g s, answer.Abandoned m) ∷ h) run i r n = same h (step.publish g s) (answer.Abandoned m) i r n refl
+      (counts h run.0 i r n) refl
+  counts ((step.abandon g s, answer.Abandoned m) ∷ h) run i r n = same h (step.abandon g s) (answer.Abandoned m) i r n refl
+      (counts h run.0 i r n) refl
+  counts ((step.destroy g s, answer.Destroyed) ∷ h) run i r n = same h (step.destroy g s) answer.Destroyed i r n refl
+      (counts h run.0 i r n) refl
   counts ((step.cancel g, answer.Cancelled) ∷ h) run i r n = same h (step.cancel g) answer.Cancelled i r n refl (counts h run.0 i r n) refl
   counts ((st, a) ∷ h) run i r n = same h st a i r n refl (counts h run.0 i r n) refl

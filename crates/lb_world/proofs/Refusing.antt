@@ -1,5 +1,6 @@
 -- Histories that tell alike stay so, and the same answers are right after both; a refused step makes no difference to what is told.
-use Rattle.std.proofs.Common.{◌≡◌, ◌+◌, ◌==◌, ◌&&◌, ◌||◌, ◌∙◌, ℕ, Bool, true, false, cond, List, [], ◌∷◌, ◌++◌, length, refl, sym, ap, arith}
+use Rattle.std.proofs.Common.{◌≡◌, ◌+◌, ◌==◌, ◌&&◌, ◌||◌, ◌∙◌, ℕ, Bool, true, false, cond, List, [], ◌∷◌, ◌++◌, length, refl, sym, ap}
+use Rattle.std.proofs.Common.{arith}
 use Rattle.std.specs.Prelude.{Option, Some, None, slice_get, slice_set}
 use Rattle.std.specs.Option.{option_map}
 use Rattle.lb_select_base.specs.Backends.{Member, same_member}
@@ -16,8 +17,11 @@ use Rattle.lb_world.specs.Steps as step
 use Rattle.lb_world.specs.declared.step.Listing.{Listing}
 use Rattle.lb_world.specs.declared.answer.Answer.{Answer}
 use Rattle.lb_world.specs.declared.answer.Answer.TheVariants as answer
-use Rattle.lb_world.specs.History.{History, RegistryMade, Made, Work, is_at, members_in, group_in, slot_in, over, config_in, drew, registries, gates, made, made_at, config, registry_of, entries, group_at, works_at, worked, work, ended, happened, slot_events, past, gate_in, is_grant, is_failure, is_destruction, is_out, load_of}
-use Rattle.lb_world.specs.Shared.{settings_in, is_live, configs_in, view_in, key_in, registry_made, registry_in, registry_at, let_go, extra_at, changed, registry_events, events_in, key_of, showed, held_at_first, view_events, cells_of}
+use Rattle.lb_world.specs.History.{History, RegistryMade, Made, Work, is_at, members_in, group_in, slot_in, over, config_in, drew}
+use Rattle.lb_world.specs.History.{registries, gates, made, made_at, config, registry_of, entries, group_at, works_at, worked, work, ended}
+use Rattle.lb_world.specs.History.{happened, slot_events, past, gate_in, is_grant, is_failure, is_destruction, is_out, load_of}
+use Rattle.lb_world.specs.Shared.{settings_in, is_live, configs_in, view_in, key_in, registry_made, registry_in, registry_at, let_go}
+use Rattle.lb_world.specs.Shared.{extra_at, changed, registry_events, events_in, key_of, showed, held_at_first, view_events, cells_of}
 use Rattle.lb_world.specs.GroupEvents.{cells_for, group_after_step, group_events}
 use Rattle.lb_world.specs.History.{count_on}
 use Rattle.lb_world.specs.Refused.{TellsAlike}
@@ -283,7 +287,8 @@ module _ {C : Type 0} (k h : History C) (e : TellsAlike k h) where
   gates-step st a = e.rest.gates_made
 
   entries-step : (st : Step C) (a : Answer) → entries ((st, a) ∷ k) ≡ entries ((st, a) ∷ h)
-  entries-step (step.enter g s) (answer.Reader t n) = ap (λ es. es ++ Some (record { group = g; slot = s; generation = n }) ∷ []) e.rest.readers
+  entries-step (step.enter g s) (answer.Reader t n) = ap (λ es. es ++ Some (record { group = g; slot = s; generation = n }) ∷ [])
+      e.rest.readers
   entries-step (step.leave t) (answer.Left n) = ap (λ es. slice_set es t None) e.rest.readers
   entries-step st a = e.rest.readers
 
@@ -315,7 +320,8 @@ module _ {C : Type 0} (k h : History C) (e : TellsAlike k h) where
       ap3 (λ (key : Member → Member) (v : ℕ) (es : List registry.Event). registry.shown_cells key v (members_in ls) es)
       (key-alike g) (ap view_in (at-alike g)) (events-alike g)
 
-  joined-alike : (st : Step C) (a : Answer) (x : slots.History) (j : group.History) → group_after_step k x j st a ≡ group_after_step h x j st a
+  joined-alike : (st : Step C) (a : Answer) (x : slots.History) (j : group.History)
+      → group_after_step k x j st a ≡ group_after_step h x j st a
   joined-alike (step.update g now ls) (answer.Generation n) x j =
       ap (λ cs. group.after_settings (settings_in ls) (group.Shown (members_in ls) cs now ∷ j)) (cells-for-alike g ls)
   joined-alike (step.update g now ls) (answer.Same n) x j = refl
@@ -335,7 +341,8 @@ module _ {C : Type 0} (k h : History C) (e : TellsAlike k h) where
   let-go-alike st a g n m x y same events =
       ap3 (λ (o : Option (Made C)) (es : slots.History) (p : ℕ × List registry.Event).
       cond (is_live p.0 (configs_in o) es) p.1 (registry.Released (view_in o) p.0 ∷ p.1))
-      (ap (λ (ms : List (Made C)). slice_get ms g) (made-step st a)) (groups-step st a g) (ap2 (λ (i : ℕ) (v : List registry.Event). (i, v)) same events)
+      (ap (λ (ms : List (Made C)). slice_get ms g) (made-step st a)) (groups-step st a g)
+      (ap2 (λ (i : ℕ) (v : List registry.Event). (i, v)) same events)
 
   changed-alike : (st : Step C) (a : Answer) (x : List registry.Event)
       → changed k ((st, a) ∷ k) st a x ≡ changed h ((st, a) ∷ h) st a x

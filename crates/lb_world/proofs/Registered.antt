@@ -1,5 +1,6 @@
 -- In a run the view of a group that is not cancelled is registered, and no mark waits for it.
-use Rattle.std.proofs.Common.{◌≡◌, inl, inr, ◌<◌, ◌≤◌, ◌+◌, ◌==◌, ◌&&◌, ◌||◌, ◌∙◌, ℕ, zero, suc, Bool, true, false, not, cond, List, [], ◌∷◌, ◌++◌, length, refl, sym, ap, subst, arith}
+use Rattle.std.proofs.Common.{◌≡◌, inl, inr, ◌<◌, ◌≤◌, ◌+◌, ◌==◌, ◌&&◌, ◌||◌, ◌∙◌, ℕ, zero, suc, Bool, true, false, not, cond, List, []}
+use Rattle.std.proofs.Common.{◌∷◌, ◌++◌, length, refl, sym, ap, subst, arith}
 use Rattle.std.specs.Prelude.{Option, Some, slice_get}
 use Rattle.std.specs.Option.{option_map}
 use Rattle.std.specs.List.{AllByRecursion as Each}
@@ -9,7 +10,8 @@ use mathlib.Core.Logic.{dite}
 use native.Mathlib.Decide.{ℕ_discrete}
 use Rattle.lb_select_base.specs.Backends.{Member}
 use Rattle.lb_health_registry.specs.RegistryEvents as registry
-use Rattle.lb_health_registry.specs.RegistryEvents.{registered_after, views_after, is_view, has_view, at_view, with_members, with_mark, new_view}
+use Rattle.lb_health_registry.specs.RegistryEvents.{registered_after, views_after, is_view, has_view, at_view, with_members, with_mark}
+use Rattle.lb_health_registry.specs.RegistryEvents.{new_view}
 use Rattle.lb_health_registry.specs.Targets.{ViewValue, live}
 use Rattle.lb_rebuild_slots.specs.SlotsHistory as slots
 use Rattle.lb_rebuild_slots.specs.SlotsHistory.{newest, is_cancelled}
@@ -18,7 +20,8 @@ use Rattle.lb_world.specs.Steps as step
 use Rattle.lb_world.specs.declared.answer.Answer.{Answer}
 use Rattle.lb_world.specs.declared.answer.Answer.TheVariants as answer
 use Rattle.lb_world.specs.Meanings.{Meaning}
-use Rattle.lb_world.specs.History.{History, Made, is_at, members_in, over, registries, made, made_at, registry_of, group_at, happened, slot_events}
+use Rattle.lb_world.specs.History.{History, Made, is_at, members_in, over, registries, made, made_at, registry_of, group_at, happened}
+use Rattle.lb_world.specs.History.{slot_events}
 use Rattle.lb_world.specs.Shared.{is_live, configs_in, view_in, let_go, extra_at, registry_at, changed, registry_events}
 use Rattle.lb_world.specs.Answers.{IsRun}
 use Rattle.lb_world.specs.Promises.{IsRegistered}
@@ -39,9 +42,11 @@ live-has : (id : ℕ) (vs : List ViewValue) → has_view id vs ≡ true → has_
 live-has id [] e = e
 live-has id (v ∷ vs) e = by-mark v.marked refl (live-has id vs)
   where
-    by-mark : (m : Bool) → v.marked ≡ m → (has_view id vs ≡ true → has_view id (live vs) ≡ true) → has_view id (cond (not m) (v ∷ live vs) (live vs)) ≡ true
+    by-mark : (m : Bool) → v.marked ≡ m → (has_view id vs ≡ true → has_view id (live vs) ≡ true)
+        → has_view id (cond (not m) (v ∷ live vs) (live vs)) ≡ true
     by-mark true is rest =
-        rest (sym (ap (λ (b : Bool). (v.id == id && not b) || has_view id vs) is ∙ ap (λ (b : Bool). b || has_view id vs) (and-false (v.id == id))) ∙ e)
+        rest (sym (ap (λ (b : Bool). (v.id == id && not b) || has_view id vs) is
+        ∙ ap (λ (b : Bool). b || has_view id vs) (and-false (v.id == id))) ∙ e)
     by-mark false is rest = either-or (is_view id v) (has_view id vs) (has_view id (live vs)) rest e
 
 pushed-has : (id : ℕ) (vs : List ViewValue) (x : ViewValue) → has_view id vs ≡ true → has_view id (vs ++ x ∷ []) ≡ true
@@ -56,7 +61,8 @@ last-has id (v ∷ vs) = or-true (is_view id v) (last-has id vs)
     or-true true e = refl
     or-true false e = e
 
-updated-has : (id at : ℕ) (ms : List Member) (vs : List ViewValue) → has_view id vs ≡ true → has_view id (at_view at (with_members ms) vs) ≡ true
+updated-has : (id at : ℕ) (ms : List Member) (vs : List ViewValue) → has_view id vs ≡ true
+    → has_view id (at_view at (with_members ms) vs) ≡ true
 updated-has id at ms [] e = e
 updated-has id at ms (v ∷ vs) e = by-view (is_view at v) (updated-has id at ms vs)
   where
@@ -89,7 +95,8 @@ gone-views false id n e = refl
 module _ {C : Type 0} where
   abbrev Numbers : List (Made C) → Type 0
   Numbers ms =
-      (g i : ℕ) (m n : Made C) → slice_get ms g ≡ Some m → slice_get ms i ≡ Some n → n.registry ≡ m.registry → ¬ (i ≡ g) → ¬ (m.view ≡ n.view)
+      (g i : ℕ) (m n : Made C) → slice_get ms g ≡ Some m → slice_get ms i ≡ Some n → n.registry ≡ m.registry → ¬ (i ≡ g)
+      → ¬ (m.view ≡ n.view)
 
   abbrev Within : List (Made C) → Type 0
   Within ms = (g : ℕ) (m : Made C) → slice_get ms g ≡ Some m → m.view ≤ over m.registry ms
@@ -121,13 +128,15 @@ module _ {C : Type 0} where
           | inl p ↦ absurd (off (p.0 ∙ sym q.0))
           | inr p ↦ λ e.
               let low : n.view ≤ over n.registry ms = within i n p.1 in
-              let high : m.view ≡ over n.registry ms + 1 = ap (λ (y : Made C). y.view) q.1 ∙ new ∙ ap (λ (r : ℕ). over r ms + 1) (ap (λ (y : Made C). y.registry) (sym q.1) ∙ sym same) in
+              let high : m.view ≡ over n.registry ms + 1 = ap (λ (y : Made C). y.view) q.1 ∙ new
+              ∙ ap (λ (r : ℕ). over r ms + 1) (ap (λ (y : Made C). y.registry) (sym q.1) ∙ sym same) in
               omega (arith, e, low, high)
         ]
         | inr q ↦ elim (get-pushed ms x n i here) [
           | inl p ↦ λ e.
               let low : m.view ≤ over m.registry ms = within g m q.1 in
-              let high : n.view ≡ over m.registry ms + 1 = ap (λ (y : Made C). y.view) p.1 ∙ new ∙ ap (λ (r : ℕ). over r ms + 1) (ap (λ (y : Made C). y.registry) (sym p.1) ∙ same) in
+              let high : n.view ≡ over m.registry ms + 1 = ap (λ (y : Made C). y.view) p.1 ∙ new
+              ∙ ap (λ (r : ℕ). over r ms + 1) (ap (λ (y : Made C). y.registry) (sym p.1) ∙ same) in
               omega (arith, e, low, high)
           | inr p ↦ numbers g i m n q.1 p.1 same off
         ]
@@ -163,12 +172,15 @@ module _ {C : Type 0} where
       → has_view id (views_after (registry_events r h)) ≡ true → has_view id (views_after (registry_events r ((st, a) ∷ h))) ≡ true
   keeps h st a r id step before = either (is_at r (registry_at h st))
     where
-      either : (b : Bool) → has_view id (views_after (cond b (changed h ((st, a) ∷ h) st a (registry_events r h)) (registry_events r h))) ≡ true
+      either : (b : Bool) → has_view id (views_after (cond b (changed h ((st, a) ∷ h) st a (registry_events r h)) (registry_events r h))) ≡
+          true
       either true = step before
       either false = before
 
-  lets-go : (g n id : ℕ) (h : History C) (e : List registry.Event) → has_view id (views_after e) ≡ true → has_view id (views_after (let_go g n h e)) ≡ true
-  lets-go g n id h e has = ap (has_view id) (gone-views (is_live n (configs_in (made_at g h)) (slot_events g h)) (view_in (made_at g h)) n e) ∙ has
+  lets-go : (g n id : ℕ) (h : History C) (e : List registry.Event) → has_view id (views_after e) ≡ true
+      → has_view id (views_after (let_go g n h e)) ≡ true
+  lets-go g n id h e has =
+      ap (has_view id) (gone-views (is_live n (configs_in (made_at g h)) (slot_events g h)) (view_in (made_at g h)) n e) ∙ has
 
 module _ {C : Type 0} (M : Meaning C) where
   abbrev Goal : ℕ → Made C → History C → Type 0
@@ -182,14 +194,18 @@ module _ {C : Type 0} (M : Meaning C) where
   is-registered ((step.group r b cs, answer.Group n) ∷ h) run g m there on =
       elim (get-pushed (made h) _ m g there) [
         | inl new ↦
-            subst (λ (x : Made C). has_view x.view (views_after (registry_events x.registry ((step.group r b cs, answer.Group n) ∷ h))) ≡ true) (sym new.1)
+            subst (λ (x : Made C). has_view x.view (views_after (registry_events x.registry ((step.group r b cs, answer.Group n) ∷ h))) ≡
+            true) (sym new.1)
             (rw (eq-eqb r r refl)
-            (subst (λ (x : ℕ). has_view (x + 1) (live (views_after (registry_events r h) ++ new_view (registered_after (registry_events r h) + 1) ∷ [])) ≡ true)
+            (subst (λ (x : ℕ). has_view (x + 1)
+            (live (views_after (registry_events r h) ++ new_view (registered_after (registry_events r h) + 1) ∷ [])) ≡ true)
             (numbered M h run.0 r (made-over M h r b cs n run.1))
-            (live-has (registered_after (registry_events r h) + 1) _ (last-has (registered_after (registry_events r h) + 1) (views_after (registry_events r h))))))
+            (live-has (registered_after (registry_events r h) + 1) _
+            (last-has (registered_after (registry_events r h) + 1) (views_after (registry_events r h))))))
         | inr old ↦
             keeps h (step.group r b cs) (answer.Group n) m.registry m.view
-            (λ has. live-has m.view _ (pushed-has m.view (views_after (registry_events m.registry h)) _ has)) (is-registered h run.0 g m old.1 on)
+            (λ has. live-has m.view _ (pushed-has m.view (views_after (registry_events m.registry h)) _ has))
+            (is-registered h run.0 g m old.1 on)
       ]
   is-registered ((step.update at now ls, answer.Generation n) ∷ h) run g m there on =
       keeps h (step.update at now ls) (answer.Generation n) m.registry m.view
@@ -201,15 +217,20 @@ module _ {C : Type 0} (M : Meaning C) where
   is-registered ((step.build at s now, answer.BuildFailed n e) ∷ h) run g m there on =
       keeps h (step.build at s now) (answer.BuildFailed n e) m.registry m.view
       (lets-go at (extra_at at s h) m.view ((step.build at s now, answer.BuildFailed n e) ∷ h) (registry_events m.registry h))
-      (is-registered h run.0 g m there (uncancelled (at == g) (slots.At s (slots.Failed now (slots.granted_members (slots.past_of s (slot_events g h)))) ∷ []) (slot_events g h) on))
+      (is-registered h run.0 g m there
+      (uncancelled (at == g) (slots.At s (slots.Failed now (slots.granted_members (slots.past_of s (slot_events g h)))) ∷ [])
+      (slot_events g h) on))
   is-registered ((step.failbuild at s now, answer.Failed n) ∷ h) run g m there on =
       keeps h (step.failbuild at s now) (answer.Failed n) m.registry m.view
       (lets-go at (extra_at at s h) m.view ((step.failbuild at s now, answer.Failed n) ∷ h) (registry_events m.registry h))
-      (is-registered h run.0 g m there (uncancelled (at == g) (slots.At s (slots.Failed now (slots.granted_members (slots.past_of s (slot_events g h)))) ∷ []) (slot_events g h) on))
+      (is-registered h run.0 g m there
+      (uncancelled (at == g) (slots.At s (slots.Failed now (slots.granted_members (slots.past_of s (slot_events g h)))) ∷ [])
+      (slot_events g h) on))
   is-registered ((step.destroy at s, answer.Destroyed) ∷ h) run g m there on =
       keeps h (step.destroy at s) answer.Destroyed m.registry m.view
       (lets-go at (extra_at at s h) m.view ((step.destroy at s, answer.Destroyed) ∷ h) (registry_events m.registry h))
-      (is-registered h run.0 g m there (uncancelled (at == g) (slots.At s slots.Destroyed ∷ slots.At s slots.TakenOut ∷ []) (slot_events g h) on))
+      (is-registered h run.0 g m there (uncancelled (at == g) (slots.At s slots.Destroyed ∷ slots.At s slots.TakenOut ∷ [])
+      (slot_events g h) on))
   is-registered ((step.cancel at, answer.Cancelled) ∷ h) run g m there on =
       let before = is-registered h run.0 g m there (uncancelled (at == g) (slots.Cancelled ∷ []) (slot_events g h) on) in
       let x = found {C = C} (step.cancel at) (made_at at h) _ answer.Cancelled refl run.1 in
@@ -218,19 +239,22 @@ module _ {C : Type 0} (M : Meaning C) where
       (λ same.
       keeps h (step.cancel at) answer.Cancelled m.registry m.view
       (λ has.
-      subst (λ (o : Option (Made C)). has_view m.view (at_view (view_in o) with_mark (views_after (registry_events m.registry h))) ≡ true) (sym x.1)
+      subst (λ (o : Option (Made C)). has_view m.view (at_view (view_in o) with_mark (views_after (registry_events m.registry h))) ≡ true)
+      (sym x.1)
       (marked-has m.view x.0.view (views_after (registry_events m.registry h)) (numbers-made h g at m x.0 there x.1 same off) has))
       before)
       (λ apart.
       let away : is_at m.registry (registry_of at h) ≡ false =
-      ap (λ (o : Option (Made C)). is_at m.registry (option_map (λ (y : Made C). y.registry) o)) x.1 ∙ ne_eqb x.0.registry m.registry apart in
+      ap (λ (o : Option (Made C)). is_at m.registry (option_map (λ (y : Made C). y.registry) o)) x.1
+      ∙ ne_eqb x.0.registry m.registry apart in
       rw away before)
     where
       still-on : (b : Bool) (k : slots.History) → b ≡ true → is_cancelled (cond b (slots.Cancelled ∷ k) k) ≡ false → ⊥
       still-on true k e on = absurd (cc)
       still-on false k e on = absurd (cc)
   is-registered ((step.targets q, answer.Targets ts) ∷ h) run g m there on =
-      keeps h (step.targets q) (answer.Targets ts) m.registry m.view (live-has m.view (views_after (registry_events m.registry h))) (is-registered h run.0 g m there on)
+      keeps h (step.targets q) (answer.Targets ts) m.registry m.view (live-has m.view (views_after (registry_events m.registry h)))
+      (is-registered h run.0 g m there on)
   is-registered ((step.verdict q c ok threshold, answer.Flipped b) ∷ h) run g m there on =
       keeps h (step.verdict q c ok threshold) (answer.Flipped b) m.registry m.view (λ has. has) (is-registered h run.0 g m there on)
   is-registered ((st, a) ∷ h) run g m there on =

@@ -1,5 +1,6 @@
 -- In a run what happens to each slot is a past that can happen, and something is held of a job exactly while it is in flight or lost.
-use Rattle.std.proofs.Common.{◌≡◌, ◌<◌, ◌+◌, ◌==◌, ◌&&◌, ◌∙◌, ℕ, Bool, true, false, cond, [], ◌∷◌, ◌++◌, refl, sym, ap, subst, arith, count_by}
+use Rattle.std.proofs.Common.{◌≡◌, ◌<◌, ◌+◌, ◌==◌, ◌&&◌, ◌∙◌, ℕ, Bool, true, false, cond, [], ◌∷◌, ◌++◌, refl, sym, ap, subst, arith}
+use Rattle.std.proofs.Common.{count_by}
 use Rattle.std.specs.Prelude.{Option, Some, None, not, slice_get, slice_set}
 use Rattle.std.proofs.lemmas.Bool.{eq-eqb, eqb-true, and_parts, not-true}
 use Rattle.lb_rebuild_slots.specs.SlotsHistory as slots
@@ -10,10 +11,12 @@ use Rattle.lb_world.specs.Steps as step
 use Rattle.lb_world.specs.declared.answer.Answer.{Answer}
 use Rattle.lb_world.specs.declared.answer.Answer.TheVariants as answer
 use Rattle.lb_world.specs.Meanings.{Meaning}
-use Rattle.lb_world.specs.History.{History, Entered, Work, idle, building, built, is_held, ended, is_at, reads, members_in, group_in, slot_in, config, drew, entries, group_at, works_at, worked, work, happened, slot_events, past}
+use Rattle.lb_world.specs.History.{History, Entered, Work, idle, building, built, is_held, ended, is_at, reads, members_in, group_in}
+use Rattle.lb_world.specs.History.{slot_in, config, drew, entries, group_at, works_at, worked, work, happened, slot_events, past}
 use Rattle.lb_world.specs.Answers.{IsRun}
 use Rattle.lb_world.proofs.Placing.{Fits, AllFit, spread, placed, happens, idles, beside, here}
-use Rattle.lb_world.proofs.Accepted.{granting, failing, building-done, ordered-failure, losing, publishing, retiring, abandoning, leaving, destroying, updating}
+use Rattle.lb_world.proofs.Accepted.{granting, failing, building-done, ordered-failure, losing, publishing, retiring, abandoning, leaving}
+use Rattle.lb_world.proofs.Accepted.{destroying, updating}
 use Rattle.lb_world.proofs.Readers.{counts, count_set}
 
 -- what flies is of the last job
@@ -65,7 +68,8 @@ module _ {C : Type 0} where
   -- what is held of a slot's job moves with an event there
   moves : (h : History C) (e : ℕ → slots.SlotEvent) (g s : ℕ) (w : Work) → AllFit (Pasts h) (Works h)
       → slots.MayHappen (past g s h) (e g) → is_under_way (granted (At s (e g) ∷ past g s h)) (extra (At s (e g) ∷ past g s h)) ≡ is_held w
-      → (i r : ℕ) → Fits (past_of r (cond (g == i) (At s (e i) ∷ slot_events i h) (slot_events i h))) (cond (g == i && s == r) w (work i r h))
+      → (i r : ℕ) → Fits (past_of r (cond (g == i) (At s (e i) ∷ slot_events i h) (slot_events i h)))
+      (cond (g == i && s == r) w (work i r h))
   moves h e g s w all may held =
       happens (Pasts h) (Works h) (λ i r. cond (g == i && s == r) w (work i r h)) e g s all may
       (held ∙ sym (ap (λ (b : Bool). is_held (cond b w (work g s h))) (here g s)))
@@ -74,7 +78,8 @@ module _ {C : Type 0} where
   -- an event that leaves it
   stays : (h : History C) (e : slots.SlotEvent) (g s : ℕ) → AllFit (Pasts h) (Works h)
       → slots.MayHappen (past g s h) e
-      → is_under_way (granted (At s e ∷ past g s h)) (extra (At s e ∷ past g s h)) ≡ is_under_way (granted (past g s h)) (extra (past g s h))
+      → is_under_way (granted (At s e ∷ past g s h)) (extra (At s e ∷ past g s h)) ≡ is_under_way (granted (past g s h))
+      (extra (past g s h))
       → (i r : ℕ) → Fits (past_of r (cond (g == i) (At s e ∷ slot_events i h) (slot_events i h))) (work i r h)
   stays h e g s all may held = happens (Pasts h) (Works h) (Works h) (λ i. e) g s all may (held ∙ (all g s).1) (λ i r off. refl)
 
@@ -94,13 +99,15 @@ module _ {C : Type 0} (M : Meaning C) where
       → 0 < readers m (past e.group e.slot h)
   reading h run t m e there of =
       let one : count_by (reads e.group e.slot m) (slice_set (entries h) t None) + 1 ≡ count_by (reads e.group e.slot m) (entries h) + 0 =
-      rw (eq-eqb e.group e.group refl, eq-eqb e.slot e.slot refl, eq-eqb e.generation m of) at (count_set (reads e.group e.slot m) (entries h) t (Some e) None there) in
+      rw (eq-eqb e.group e.group refl, eq-eqb e.slot e.slot refl, eq-eqb e.generation m of) at
+      (count_set (reads e.group e.slot m) (entries h) t (Some e) None there) in
       subst (λ (c : ℕ). 0 < c) (sym (counts M h run e.group e.slot m))
       (counted-one (count_by (reads e.group e.slot m) (entries h)) (count_by (reads e.group e.slot m) (slice_set (entries h) t None)) one)
 
   leaves : (h : History C) → IsRun M h → (t m : ℕ) (e : Entered) → slice_get (entries h) t ≡ Some (Some e) → e.generation ≡ m
       → AllFit (Pasts h) (Works h) → (i r : ℕ)
-      → Fits (past_of r (cond (is_at i (group_in (slice_get (entries h) t))) (At (slot_in (slice_get (entries h) t)) (slots.Left m) ∷ slot_events i h) (slot_events i h))) (work i r h)
+      → Fits (past_of r (cond (is_at i (group_in (slice_get (entries h) t)))
+      (At (slot_in (slice_get (entries h) t)) (slots.Left m) ∷ slot_events i h) (slot_events i h))) (work i r h)
   leaves h run t m e there of all i r =
       subst
       (λ (o : Option (Option Entered)).
@@ -119,7 +126,8 @@ module _ {C : Type 0} (M : Meaning C) where
       (eq-eqb (slots.newest (past g s h)) (slots.newest (past g s h)) refl) i r
   slots-fit ((step.build g s now, answer.BuildFailed n e) ∷ h) run i r =
       let all = slots-fit h run.0 in
-      moves h (λ i. slots.Failed now (slots.granted_members (past i s h))) g s idle all (under_way h g s building all (failing M h g s now n e run.1) refl) refl i r
+      moves h (λ i. slots.Failed now (slots.granted_members (past i s h))) g s idle all
+      (under_way h g s building all (failing M h g s now n e run.1) refl) refl i r
   slots-fit ((step.build g s now, answer.Built n) ∷ h) run i r =
       let all = slots-fit h run.0 in
       let was = building-done M h g s now n run.1 in
@@ -131,7 +139,8 @@ module _ {C : Type 0} (M : Meaning C) where
       (subst (λ (q : ℕ). is_held (work g q h) ≡ true) (eqb-true s r parts.1) (ap is_held was)))
   slots-fit ((step.failbuild g s now, answer.Failed n) ∷ h) run i r =
       let all = slots-fit h run.0 in
-      moves h (λ i. slots.Failed now (slots.granted_members (past i s h))) g s idle all (under_way h g s building all (ordered-failure M h g s now n run.1) refl) refl i r
+      moves h (λ i. slots.Failed now (slots.granted_members (past i s h))) g s idle all
+      (under_way h g s building all (ordered-failure M h g s now n run.1) refl) refl i r
   slots-fit ((step.lost g s, answer.Lost n) ∷ h) run i r =
       let all = slots-fit h run.0 in
       let up = losing M h g s n run.1 in
@@ -139,7 +148,8 @@ module _ {C : Type 0} (M : Meaning C) where
       (eq-eqb (granted (past g s h)) (granted (past g s h)) refl ∙ sym (flight-under_way (past g s h) (all g s).0 up)) i r
   slots-fit ((step.publish g s, answer.Published n) ∷ h) run i r =
       let all = slots-fit h run.0 in
-      let parts = and_parts (is_flight (extra (past g s h))) (not (slots.is_cancelled (slot_events g h))) (publishing M h g s n run.1).1.1 in
+      let parts = and_parts (is_flight (extra (past g s h))) (not (slots.is_cancelled (slot_events g h)))
+      (publishing M h g s n run.1).1.1 in
       moves h (λ i. slots.Published (ended (work g s h)) (slots.granted_members (past i s h))) g s idle all
       (parts.0, cancelled-past s (slot_events g h) ∙ not-true (slots.is_cancelled (slot_events g h)) parts.1) refl i r
   slots-fit ((step.publish g s, answer.Abandoned n) ∷ h) run i r =
@@ -160,10 +170,12 @@ module _ {C : Type 0} (M : Meaning C) where
       let p : slots.History = past g s h in
       placed (Pasts h) (λ i. At s slots.Destroyed ∷ At s slots.TakenOut ∷ slot_events i h) (Works h) (Works h) g s all
       (subst (λ (q : slots.History). Fits q (work g s h))
-      (sym (past-same s slots.Destroyed (At s slots.TakenOut ∷ slot_events g h) ∙ ap (λ (q : slots.History). At s slots.Destroyed ∷ q) (past-same s slots.TakenOut (slot_events g h))))
+      (sym (past-same s slots.Destroyed (At s slots.TakenOut ∷ slot_events g h)
+      ∙ ap (λ (q : slots.History). At s slots.Destroyed ∷ q) (past-same s slots.TakenOut (slot_events g h))))
       ((((all g s).0, d), refl), sym (grounded (generation_of (extra p)) (granted p) (extra p) d.0) ∙ (all g s).1))
       (λ r off.
-      past-other r s slots.Destroyed (At s slots.TakenOut ∷ slot_events g h) (λ e. off (sym e)) ∙ past-other r s slots.TakenOut (slot_events g h) (λ e. off (sym e)))
+      past-other r s slots.Destroyed (At s slots.TakenOut ∷ slot_events g h) (λ e. off (sym e))
+      ∙ past-other r s slots.TakenOut (slot_events g h) (λ e. off (sym e)))
       (λ i r off. refl) i r
   slots-fit ((step.select g s key limit words, answer.Backend b t) ∷ h) run i r = drawing h g s t (config g s h) (slots-fit h run.0) i r
   slots-fit ((step.select g s key limit words, answer.NoBackend t) ∷ h) run i r = drawing h g s t (config g s h) (slots-fit h run.0) i r

@@ -1,5 +1,6 @@
 -- The right answer to a selection, by what the call of a joined group told of it, and where it left the counter of its slot.
-use Rattle.std.proofs.Common.{◌≡◌, ◌⊎◌, ◌&&◌, ◌++◌, ◌∙◌, ℕ, Bool, true, false, cond, nat_le, nat_lt, List, [], ◌∷◌, length, inl, inr, refl, sym, ap, subst}
+use Rattle.std.proofs.Common.{◌≡◌, ◌⊎◌, ◌&&◌, ◌++◌, ◌∙◌, ℕ, Bool, true, false, cond, nat_le, nat_lt, List, [], ◌∷◌, length, inl, inr, refl}
+use Rattle.std.proofs.Common.{sym, ap, subst}
 use Rattle.std.specs.Prelude.{MatchOption, Option, Some, None, Result, Ok, Err, slice_get}
 use Rattle.std.specs.Option.{option_map}
 use Rattle.std.proofs.lemmas.Bool.{le-ltb, lt-ltb}
@@ -82,7 +83,8 @@ module _ {C : Type 0} (M : Meaning C) (h : History C) (g s : ℕ) (key : List �
     -- what a selection with these tickets does, in the words of the call
     pub drew-so : (r : Result (Option Member) Refusal)
         → group_after_step h (slot_events g h) (group_events g h) st (selected x.tickets r) ≡ after_select made s x (group_events g h)
-    drew-so r = by-answer r ∙ ap (λ es. in_group es ++ group_events g h) (ap (λ o. drew o s x.tickets) config-is ∙ drew-there made.configs s x.tickets)
+    drew-so r = by-answer r ∙ ap (λ es. in_group es ++ group_events g h) (ap (λ o. drew o s x.tickets) config-is
+        ∙ drew-there made.configs s x.tickets)
       where
         by-answer : (r : Result (Option Member) Refusal) → group_after_step h (slot_events g h) (group_events g h) st (selected x.tickets r)
             ≡ in_group (drew (config g s h) s x.tickets) ++ group_events g h

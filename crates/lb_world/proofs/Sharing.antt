@@ -26,7 +26,8 @@ use Rattle.lb_world.proofs.Living.{settings-leave, lives-exactly}
 
 module _ {C : Type 0} where
   -- a registry lets go where the view's snapshot is gone
-  let-go-is : (o : Option (Made C)) (m : Made C) (n : ℕ) (k : slots.History) (events old : Option (Made C) → List registry.Event) (views : List ViewEvent)
+  let-go-is : (o : Option (Made C)) (m : Made C) (n : ℕ) (k : slots.History) (events old : Option (Made C) → List registry.Event)
+      (views : List ViewEvent)
       → o ≡ Some m → lives n (snapshots_after views) ≡ is_live n m.configs k
       → cond (is_at m.registry (option_map (λ (x : Made C). x.registry) o))
       (cond (is_live n (configs_in o) k) (events o) (registry.Released (view_in o) n ∷ events o)) (old o)
@@ -41,7 +42,8 @@ module _ {C : Type 0} where
 
 module _ {C : Type 0} (M : Meaning C) where
   -- a snapshot that is let go once, after a step with these events of the group
-  gone-alike : (h : History C) (st : Step C) (a : Answer) → IsRun M ((st, a) ∷ h) → (g n : ℕ) (m : Made C) → made_at g ((st, a) ∷ h) ≡ Some m
+  gone-alike : (h : History C) (st : Step C) (a : Answer) → IsRun M ((st, a) ∷ h) → (g n : ℕ) (m : Made C)
+      → made_at g ((st, a) ∷ h) ≡ Some m
       → view_events g ((st, a) ∷ h) ≡ Released n ∷ view_events g h
       → lives n (snapshots_after (Released n ∷ view_events g h)) ≡ is_live n m.configs (slot_events g ((st, a) ∷ h))
   gone-alike h st a run g n m there is =
@@ -53,29 +55,37 @@ module _ {C : Type 0} (M : Meaning C) where
   pub shares : (h : History C) (st : Step C) (a : Answer) → IsRun M ((st, a) ∷ h) → SharesAlike h st a
   shares h (step.build g s now) (answer.BuildFailed n e) run =
       λ m there.
-      let-go-is (made_at g h) m (extra_at g s h) (slot_events g ((step.build g s now, answer.BuildFailed n e) ∷ h)) (λ o. registry_events m.registry h) (λ o. registry_events m.registry h)
+      let-go-is (made_at g h) m (extra_at g s h) (slot_events g ((step.build g s now, answer.BuildFailed n e) ∷ h))
+      (λ o. registry_events m.registry h) (λ o. registry_events m.registry h)
       (Released (extra_at g s h) ∷ view_events g h) there
-      (gone-alike h (step.build g s now) (answer.BuildFailed n e) run g (extra_at g s h) m there (here g (Released (extra_at g s h) ∷ view_events g h) (view_events g h)))
+      (gone-alike h (step.build g s now) (answer.BuildFailed n e) run g (extra_at g s h) m there
+      (here g (Released (extra_at g s h) ∷ view_events g h) (view_events g h)))
   shares h (step.failbuild g s now) (answer.Failed n) run =
       λ m there.
-      let-go-is (made_at g h) m (extra_at g s h) (slot_events g ((step.failbuild g s now, answer.Failed n) ∷ h)) (λ o. registry_events m.registry h) (λ o. registry_events m.registry h)
+      let-go-is (made_at g h) m (extra_at g s h) (slot_events g ((step.failbuild g s now, answer.Failed n) ∷ h))
+      (λ o. registry_events m.registry h) (λ o. registry_events m.registry h)
       (Released (extra_at g s h) ∷ view_events g h) there
-      (gone-alike h (step.failbuild g s now) (answer.Failed n) run g (extra_at g s h) m there (here g (Released (extra_at g s h) ∷ view_events g h) (view_events g h)))
+      (gone-alike h (step.failbuild g s now) (answer.Failed n) run g (extra_at g s h) m there
+      (here g (Released (extra_at g s h) ∷ view_events g h) (view_events g h)))
   shares h (step.destroy g s) answer.Destroyed run =
       λ m there.
-      let-go-is (made_at g h) m (extra_at g s h) (slot_events g ((step.destroy g s, answer.Destroyed) ∷ h)) (λ o. registry_events m.registry h) (λ o. registry_events m.registry h)
+      let-go-is (made_at g h) m (extra_at g s h) (slot_events g ((step.destroy g s, answer.Destroyed) ∷ h))
+      (λ o. registry_events m.registry h) (λ o. registry_events m.registry h)
       (Released (extra_at g s h) ∷ view_events g h) there
-      (gone-alike h (step.destroy g s) answer.Destroyed run g (extra_at g s h) m there (here g (Released (extra_at g s h) ∷ view_events g h) (view_events g h)))
+      (gone-alike h (step.destroy g s) answer.Destroyed run g (extra_at g s h) m there
+      (here g (Released (extra_at g s h) ∷ view_events g h) (view_events g h)))
   shares h (step.update g now ls) (answer.Generation n) run =
       λ m there.
       let f = follows M h run.0 g in
       let ms : List Member = members_in ls in
       let N : ℕ = newest (slot_events g h) in
       let e : List registry.Event = registry_events m.registry h in
-      let first : List ViewEvent = view_changed (key_of g h) (view_in (made_at g h)) (members_in ls) (events_in (registry_of g h) h) (view_events g h) in
+      let first : List ViewEvent = view_changed (key_of g h) (view_in (made_at g h)) (members_in ls) (events_in (registry_of g h) h)
+      (view_events g h) in
       let other : same_members (members_in ls) (membership_after (view_events g h)) ≡ false =
       ap (same_members (members_in ls)) f.membership
-      ∙ not-true (same_members (members_in ls) (members_of (newest (slot_events g h)) (slot_events g h))) (updating M h g now ls n run.1).0 in
+      ∙ not-true (same_members (members_in ls) (members_of (newest (slot_events g h)) (slot_events g h)))
+      (updating M h g now ls n run.1).0 in
       let shows : snapshots_after (view_events g ((step.update g now ls, answer.Generation n) ∷ h)) ≡ snapshots_after first =
       ap snapshots_after (here g _ (view_events g h)) ∙ settings-leave (settings_in ls) _
       ∙ ap (λ (b : Bool). snapshots_after (cond b (view_events g h) first)) other in
@@ -96,7 +106,8 @@ module _ {C : Type 0} (M : Meaning C) where
       (ap
       (λ (b : Bool).
       cond b (registry_events m.registry h)
-      (without_gone m.view (generation_after (view_events g h)) (view_changed (key_of g h) m.view (members_in ls) (registry_events m.registry h) (view_events g h))
+      (without_gone m.view (generation_after (view_events g h))
+      (view_changed (key_of g h) m.view (members_in ls) (registry_events m.registry h) (view_events g h))
       (registry.after_show m.view (generation_after (view_events g h) + 1) (members_in ls) (registry_events m.registry h))))
       other)
   shares h st a run = tt

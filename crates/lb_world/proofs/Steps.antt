@@ -1,5 +1,6 @@
 -- What single steps do: publications, destructions, and that others stay.
-use Rattle.std.proofs.Common.{◌≡◌, ◌⊎◌, inl, inr, ◌<◌, ◌==◌, ◌∙◌, ℕ, Bool, true, false, cond, ◌∷◌, ◌++◌, length, refl, sym, ap, subst, arith}
+use Rattle.std.proofs.Common.{◌≡◌, ◌⊎◌, inl, inr, ◌<◌, ◌==◌, ◌∙◌, ℕ, Bool, true, false, cond, ◌∷◌, ◌++◌, length, refl, sym, ap, subst}
+use Rattle.std.proofs.Common.{arith}
 use Rattle.std.specs.Prelude.{Option, Some, None}
 use Rattle.std.proofs.lemmas.Bool.{ne_eqb, eqb-false}
 use Rattle.std.proofs.lemmas.Option.{slice_get_within}
@@ -41,7 +42,8 @@ module _ {C : Type 0} (M : Meaning C) where
       let e : ℕ → slots.SlotEvent = λ i. slots.Published (ended (work g s h)) (slots.granted_members (past i s h)) in
       let is : granted (past g s h) ≡ n = published h g s n run.1 in
       let now : past g s ((step.publish g s, answer.Published n) ∷ h) ≡ At s (e g) ∷ past g s h = on-past (Pasts h) e g s in
-      let can : slots.IsPast (At s (e g) ∷ past g s h) = subst slots.IsPast now (slots-fit M ((step.publish g s, answer.Published n) ∷ h) run g s).0 in
+      let can : slots.IsPast (At s (e g) ∷ past g s h) =
+      subst slots.IsPast now (slots-fit M ((step.publish g s, answer.Published n) ∷ h) run g s).0 in
       let up : served (past g s h) < granted (past g s h) = rises (At s (e g)) (past g s h) can in
       (omega arith, ap served now ∙ is)
   raises h st a run = tt
@@ -54,7 +56,8 @@ is-retired (slots.lost m) h = absurd (cc)
 is-retired (slots.retired m) h = refl
 is-retired (slots.taken_out m) h = absurd (cc)
 
-still-there : (b : Bool) (n m : ℕ) → (n == 0) ≡ b → cond b None (Some (refusal.StillRead n)) ≡ Some (refusal.StillRead m) → (n ≡ m) × (0 < m)
+still-there : (b : Bool) (n m : ℕ) → (n == 0) ≡ b → cond b None (Some (refusal.StillRead n)) ≡ Some (refusal.StillRead m) → (n ≡ m)
+    × (0 < m)
 still-there true n m is e = absurd (cc)
 still-there false n m is e =
     let same : n ≡ m = cc in

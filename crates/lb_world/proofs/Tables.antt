@@ -29,7 +29,8 @@ use Rattle.lb_rebuild_slots.specs.SlotsHistory as slots
 use Rattle.lb_world.proofs.Words.{◌∙◌, ◌≡◌, ◌&&◌, ◌∷◌, ◌<◌, ◌==◌, ◌≤◌, [], ◌+◌, ◌↔◌, ◌^◌, ◌⊎◌, ◌++◌, after, Answer, right_answer, Answers}
 use Rattle.lb_world.proofs.Words.{ap, ap2, Applied, arith, at_one, at_slot, Before, Bool, cases_eq, cells_given, cond, cond_some, config}
 use Rattle.lb_world.proofs.Words.{configs_of, entered_of, entries, EntryIs, EntryNext, EntryValue, eq-eqb, Err, Event, false}
-use Rattle.lb_world.proofs.Words.{gates, GateValue, get-kept, get-pushed, group-of, group_at, slot_events, held_of, OpenReaderValue, History, inl}
+use Rattle.lb_world.proofs.Words.{gates, GateValue, get-kept, get-pushed, group-of, group_at, slot_events, held_of, OpenReaderValue}
+use Rattle.lb_world.proofs.Words.{History, inl}
 use Rattle.lb_world.proofs.Words.{inr, is_at, is_out, IsOwnReader, IsReady, IsRegistryAfter, IsRun, IsTrue, group_events, Judges, key_at}
 use Rattle.lb_world.proofs.Words.{key_by, key_gives, key_in, key_of, length, length-map, length-set, length_push, List, load_of, lt-ltb}
 use Rattle.lb_world.proofs.Words.{made, made_at, made_of, map, map-append, marks_start_none, Meaning, Member, nat_lt, ne_eqb}
@@ -298,7 +299,8 @@ module _ {C : Type 0} {M : Meaning C} {w : WorldValue C} {h : History C} (s : St
       }
 
   -- a step at a group that leaves its gate and its registry
-  pub group-moves : (g : ℕ) (st : Step C) (a : Answer) (e d : EntryValue C) (rs : List (Option (OpenReaderValue C))) → group_at h st ≡ Some g
+  pub group-moves : (g : ℕ) (st : Step C) (a : Answer) (e d : EntryValue C) (rs : List (Option (OpenReaderValue C)))
+      → group_at h st ≡ Some g
       → map (option_map entered_of) rs ≡ entries ((st, a) ∷ h)
       → ((t : ℕ) (r : OpenReaderValue C) → slice_get rs t ≡ Some (Some r) → (x : EntryValue C)
       → slice_get (slice_set w.groups g d) r.group ≡ Some x → IsOwnReader x.core r.reader)
@@ -434,7 +436,10 @@ module _ {C : Type 0} {M : Meaning C} {w : WorldValue C} {h : History C} (s : St
   pub gate-made : (n : ℕ) (z : GateValue) → n ≡ length w.gates → z.out ≡ false
       → Stands M (record w { gates = w.gates ++ z ∷ [] }) ((Step.gate, Answer.Gate n) ∷ h)
   gate-made n z number free =
-      tables-set s ((Step.gate, Answer.Gate n) ∷ h) w.registries (w.gates ++ z ∷ []) w.groups (s.run, inl (ap Answer.Gate (number ∙ s.gates_are)))
+      tables-set s ((Step.gate, Answer.Gate n) ∷ h) w.registries (w.gates ++ z ∷ []) w.groups (
+        s.run,
+        inl (ap Answer.Gate (number ∙ s.gates_are)),
+      )
       s.registries_are (omega arith) (length_push w.gates z ∙ ap (λ k. k + 1) s.gates_are) s.groups_are refl s.kept
       (each-push w.gates z (free ∙ sym (ap (λ i. is_out i h) s.gates_are ∙ gate-unmade M h s.run)) (λ x y low was. s.outs x y was))
       (λ x y was. get-kept w.gates z y x was) (λ g m at. at) (λ g. refl) (λ g. refl) (λ g i. refl) (λ g b. refl) (λ g e in_. inl in_)
@@ -523,7 +528,8 @@ module _ {C : Type 0} {M : Meaning C} {w : WorldValue C} {h : History C} (s : St
             (next-core b refl right moves refl (λ i. refl) (λ m. refl) refl (unshared b st a refl refl)))
 
         -- the core refused it for memory
-        pub refused-now : (f : Refusal) (d : EntryValue C) (rs : List (Option (OpenReaderValue C))) → d ≡ with_core d.core e → rs ≡ w.readers
+        pub refused-now : (f : Refusal) (d : EntryValue C) (rs : List (Option (OpenReaderValue C))) → d ≡ with_core d.core e
+            → rs ≡ w.readers
             → Moves e (group_events g h) d.core → Enters (site e.core) (group.slot_events (group_events g h)) slot (Err f)
             → Stands M (record w { groups = slice_set w.groups g d; readers = rs }) ((Step.enter g slot, Answer.Refused f) ∷ h)
         refused-now f d rs rest kept moves refused =
@@ -554,7 +560,8 @@ module _ {C : Type 0} {M : Meaning C} {w : WorldValue C} {h : History C} (s : St
       → e ≡ get_or w.groups k e → slice_get w.groups r.group ≡ Some e
   entry-of t r {k} {e} there_ is read = rw is at (at-place w.groups k e (omega (arith, is, group-there s t r there_)) read)
 
-  pub counted : (t : ℕ) (r : OpenReaderValue C) (e : EntryValue C) → slice_get w.readers t ≡ Some (Some r) → slice_get w.groups r.group ≡ Some e
+  pub counted : (t : ℕ) (r : OpenReaderValue C) (e : EntryValue C) → slice_get w.readers t ≡ Some (Some r)
+      → slice_get w.groups r.group ≡ Some e
       → IsCounted e.core r.reader.slot r.reader.generation
   counted t r e there_ in_ =
       let is = s.each r.group e in_ in

@@ -1,5 +1,6 @@
 -- In a run the events of a group and of its view are those of a group that is joined with its view.
-use Rattle.std.proofs.Common.{◌≡◌, ◌⊎◌, inl, inr, ◌<◌, ◌==◌, ◌∙◌, ℕ, zero, suc, Bool, true, false, cond, List, [], ◌∷◌, ◌++◌, length, replicate, refl, sym, ap, subst, arith}
+use Rattle.std.proofs.Common.{◌≡◌, ◌⊎◌, inl, inr, ◌<◌, ◌==◌, ◌∙◌, ℕ, zero, suc, Bool, true, false, cond, List, [], ◌∷◌, ◌++◌, length}
+use Rattle.std.proofs.Common.{replicate, refl, sym, ap, subst, arith}
 use Rattle.std.specs.Prelude.{Option, Some, None, slice_get}
 use Rattle.std.proofs.lemmas.Bool.{eq-eqb, ne_eqb, eqb-true, not-true, not-false}
 use Rattle.std.proofs.lemmas.Option.{none-some, same_Some, slice_get_within, slice_get_past}
@@ -21,7 +22,8 @@ use Rattle.lb_world.specs.declared.answer.Answer.{Answer}
 use Rattle.lb_world.specs.declared.answer.Answer.TheVariants as answer
 use Rattle.lb_world.specs.declared.step.Listing.{Listing}
 use Rattle.lb_world.specs.Meanings.{Meaning}
-use Rattle.lb_world.specs.History.{History, Made, building, is_at, members_in, config_in, config, drew, made, made_at, group_at, happened, slot_events, past}
+use Rattle.lb_world.specs.History.{History, Made, building, is_at, members_in, config_in, config, drew, made, made_at, group_at, happened}
+use Rattle.lb_world.specs.History.{slot_events, past}
 use Rattle.lb_world.specs.Shared.{settings_in, extra_at, held_at_first, showed, view_events}
 use Rattle.lb_world.specs.Answers.{IsRun, Answers, has_refused, refuse}
 use Rattle.lb_select_base.specs.declared.refusal.Refusal.TheVariants as refusal
@@ -34,7 +36,8 @@ use Rattle.lb_world.proofs.Joining.{follows}
 true-false : true ≡ false → ⊥
 true-false e = absurd (cc)
 
-either-way : {A B : Type 0} (f : A → B) (b : Bool) (new old : A) (v w : B) → (b ≡ true → f new ≡ v) → f old ≡ w → f (cond b new old) ≡ cond b v w
+either-way : {A B : Type 0} (f : A → B) (b : Bool) (new old : A) (v w : B) → (b ≡ true → f new ≡ v) → f old ≡ w
+    → f (cond b new old) ≡ cond b v w
 either-way f true new old v w here else_ = here refl
 either-way f false new old v w here else_ = else_
 
@@ -51,7 +54,8 @@ module _ {C : Type 0} where
   told : (h : History C) (k : slots.History) (e : group.History) (st : Step C) (a : Answer) → group.slot_events e ≡ k
       → group.slot_events (group_after_step h k e st a) ≡ happened h k st a ++ k
   told h k e (step.update g now ls) (answer.Generation n) is =
-      settings-group (settings_in ls) (Shown (members_in ls) (cells_for g ls h) now ∷ e) ∙ ap (λ (l : slots.History). slots.Scheduled (members_in ls) now ∷ l) is
+      settings-group (settings_in ls) (Shown (members_in ls) (cells_for g ls h) now ∷ e)
+      ∙ ap (λ (l : slots.History). slots.Scheduled (members_in ls) now ∷ l) is
   told h k e (step.update g now ls) (answer.Same n) is = settings-group (settings_in ls) e ∙ is
   told h k e (step.enable g (Some b)) answer.Done is = is
   told h k e (step.disable g (Some b)) answer.Done is = is
@@ -60,7 +64,8 @@ module _ {C : Type 0} where
   pub group-of : (g : ℕ) (h : History C) → group.slot_events (group_events g h) ≡ slot_events g h
   group-of g [] = refl
   group-of g ((st, a) ∷ h) =
-      either-way group.slot_events (is_at g (group_at h st)) (group_after_step h (slot_events g h) (group_events g h) st a) (group_events g h)
+      either-way group.slot_events (is_at g (group_at h st)) (group_after_step h (slot_events g h) (group_events g h) st a)
+      (group_events g h)
       (happened h (slot_events g h) st a ++ slot_events g h) (slot_events g h)
       (λ t. told h (slot_events g h) (group_events g h) st a (group-of g h)) (group-of g h)
 
@@ -120,13 +125,15 @@ under_way-number n (slots.lost m) up = sym (eqb-true m n up)
 under_way-number n (slots.retired m) up = absurd (cc)
 under_way-number n (slots.taken_out m) up = absurd (cc)
 
-drawn-view : {C : Type 0} (o : Option C) (n s t : ℕ) (e : group.History) → group.view_events n (in_group (drew o s t) ++ e) ≡ group.view_events n e
+drawn-view : {C : Type 0} (o : Option C) (n s t : ℕ) (e : group.History)
+    → group.view_events n (in_group (drew o s t) ++ e) ≡ group.view_events n e
 drawn-view None n s t e = refl
 drawn-view (Some c) n s t e = refl
 
 config-within : {C : Type 0} (s : ℕ) (o : Option (Made C)) (m : Made C) (c : C) → o ≡ Some m → config_in s o ≡ Some c → s < length m.configs
 config-within s None m c there is = absurd (cc)
-config-within {C = C} s (Some x) m c there is = slice_get_within m.configs s c (ap (λ (y : Made C). slice_get y.configs s) (sym (same_Some x m there)) ∙ is)
+config-within {C = C} s (Some x) m c there is =
+    slice_get_within m.configs s c (ap (λ (y : Made C). slice_get y.configs s) (sym (same_Some x m there)) ∙ is)
 
 module _ {C : Type 0} (M : Meaning C) where
   abbrev Goal : ℕ → Made C → History C → Type 0
@@ -137,15 +144,18 @@ module _ {C : Type 0} (M : Meaning C) where
       → group.view_events (length m.configs) new ≡ group.view_events (length m.configs) (group_events g h)
       → group.view_events (length m.configs) (cond b new (group_events g h)) ≡ cond b (view_events g h) (view_events g h)
   unseen h g m b new before same =
-      either-way (group.view_events (length m.configs)) b new (group_events g h) (view_events g h) (view_events g h) (λ t. same ∙ before) before
+      either-way (group.view_events (length m.configs)) b new (group_events g h) (view_events g h) (view_events g h) (λ t. same
+      ∙ before) before
 
   -- a job that failed
   failed : (h : History C) → IsRun M h → (at g s now : ℕ) (m : Made C) (c : C) → made_at g h ≡ Some m → config at s h ≡ Some c
       → is_under_way (granted (past at s h)) (extra (past at s h)) ≡ true → Goal g m h
-      → group.view_events (length m.configs) (cond (at == g) (group.At s (slots.Failed now (slots.granted_members (past g s h))) ∷ group_events g h) (group_events g h))
+      → group.view_events (length m.configs)
+      (cond (at == g) (group.At s (slots.Failed now (slots.granted_members (past g s h))) ∷ group_events g h) (group_events g h))
       ≡ cond (at == g) (view.Released (extra_at at s h) ∷ view_events g h) (view_events g h)
   failed h run at g s now m c there is up before =
-      either-way (group.view_events (length m.configs)) (at == g) (group.At s (slots.Failed now (slots.granted_members (past g s h))) ∷ group_events g h)
+      either-way (group.view_events (length m.configs)) (at == g)
+      (group.At s (slots.Failed now (slots.granted_members (past g s h))) ∷ group_events g h)
       (group_events g h) (view.Released (extra_at at s h) ∷ view_events g h) (view_events g h)
       (λ t.
       let same : at ≡ g = eqb-true at g t in
@@ -179,11 +189,13 @@ module _ {C : Type 0} (M : Meaning C) where
       let change : is_change (members_in ls) (slot_events g h) ≡ true =
       ap (λ (j : ℕ). is_change (members_in ls) (slot_events j h)) (sym same) ∙ (updating M h at now ls n run.1).0 in
       let other : same_members (members_in ls) (membership_after (view_events g h)) ≡ false =
-      ap (same_members (members_in ls)) f.membership ∙ not-true (same_members (members_in ls) (members_of (newest (slot_events g h)) (slot_events g h))) change in
+      ap (same_members (members_in ls)) f.membership
+      ∙ not-true (same_members (members_in ls) (members_of (newest (slot_events g h)) (slot_events g h))) change in
       settings-view (length m.configs) (settings_in ls) (Shown (members_in ls) (cells_for at ls h) now ∷ group_events g h)
       ∙ ap (λ (v : List ViewEvent). health.after_settings (settings_in ls) (view.Shown (members_in ls) (cells_for at ls h) ∷ v)) before
       ∙ sym
-      (ap (λ (b : Bool). health.after_settings (settings_in ls) (cond b (view_events g h) (view.Shown (members_in ls) (cells_for at ls h) ∷ view_events g h))) other))
+      (ap (λ (b : Bool). health.after_settings (settings_in ls)
+      (cond b (view_events g h) (view.Shown (members_in ls) (cells_for at ls h) ∷ view_events g h))) other))
       before
   viewed ((step.update at now ls, answer.Same n) ∷ h) run g m there =
       let before = viewed h run.0 g m there in
@@ -195,10 +207,12 @@ module _ {C : Type 0} (M : Meaning C) where
       let change : is_change (members_in ls) (slot_events g h) ≡ false =
       ap (λ (j : ℕ). is_change (members_in ls) (slot_events j h)) (sym same) ∙ unchanging M h at now ls n run.1 in
       let alike : same_members (members_in ls) (membership_after (view_events g h)) ≡ true =
-      ap (same_members (members_in ls)) f.membership ∙ not-false (same_members (members_in ls) (members_of (newest (slot_events g h)) (slot_events g h))) change in
+      ap (same_members (members_in ls)) f.membership
+      ∙ not-false (same_members (members_in ls) (members_of (newest (slot_events g h)) (slot_events g h))) change in
       settings-view (length m.configs) (settings_in ls) (group_events g h) ∙ ap (health.after_settings (settings_in ls)) before
       ∙ sym
-      (ap (λ (b : Bool). health.after_settings (settings_in ls) (cond b (view_events g h) (view.Shown (members_in ls) (cells_for at ls h) ∷ view_events g h))) alike))
+      (ap (λ (b : Bool). health.after_settings (settings_in ls)
+      (cond b (view_events g h) (view.Shown (members_in ls) (cells_for at ls h) ∷ view_events g h))) alike))
       before
   viewed ((step.ask at s now, answer.Build n) ∷ h) run g m there =
       let before = viewed h run.0 g m there in
@@ -208,7 +222,8 @@ module _ {C : Type 0} (M : Meaning C) where
       (λ t.
       let same : at ≡ g = eqb-true at g t in
       let mine : q.made_by ≡ m = same_Some q.made_by m (sym q.made_is ∙ ap (λ (j : ℕ). made_at j h) same ∙ there) in
-      let few : s < length m.configs = slice_get_within m.configs s q.config (ap (λ (x : Made C). slice_get x.configs s) (sym mine) ∙ q.config_is) in
+      let few : s < length m.configs = slice_get_within m.configs s q.config (ap (λ (x : Made C). slice_get x.configs s) (sym mine)
+      ∙ q.config_is) in
       let newest_is : newest (group.slot_events (group_events g h)) ≡ newest (slot_events at h) =
       ap newest (group-of g h) ∙ ap (λ (j : ℕ). newest (slot_events j h)) (sym same) in
       granted-view (length m.configs) s now (group_events g h) few
@@ -217,14 +232,17 @@ module _ {C : Type 0} (M : Meaning C) where
       before
   viewed ((step.build at s now, answer.BuildFailed n e) ∷ h) run g m there =
       let c = found {C = C} (step.build at s now) (config at s h) _ (answer.BuildFailed n e) refl run.1 in
-      failed h run.0 at g s now m c.0 there c.1 (under_way M h at s building (slots-fit M h run.0) (failing M h at s now n e run.1) refl) (viewed h run.0 g m there)
+      failed h run.0 at g s now m c.0 there c.1 (under_way M h at s building (slots-fit M h run.0) (failing M h at s now n e run.1) refl)
+      (viewed h run.0 g m there)
   viewed ((step.failbuild at s now, answer.Failed n) ∷ h) run g m there =
       let c = found {C = C} (step.failbuild at s now) (config at s h) _ (answer.Failed n) refl run.1 in
-      failed h run.0 at g s now m c.0 there c.1 (under_way M h at s building (slots-fit M h run.0) (ordered-failure M h at s now n run.1) refl) (viewed h run.0 g m there)
+      failed h run.0 at g s now m c.0 there c.1 (under_way M h at s building (slots-fit M h run.0) (ordered-failure M h at s now n run.1)
+      refl) (viewed h run.0 g m there)
   viewed ((step.destroy at s, answer.Destroyed) ∷ h) run g m there =
       let before = viewed h run.0 g m there in
       let c = found {C = C} (step.destroy at s) (config at s h) _ answer.Destroyed refl run.1 in
-      either-way (group.view_events (length m.configs)) (at == g) (group.At s slots.Destroyed ∷ group.At s slots.TakenOut ∷ group_events g h) (group_events g h)
+      either-way (group.view_events (length m.configs)) (at == g)
+      (group.At s slots.Destroyed ∷ group.At s slots.TakenOut ∷ group_events g h) (group_events g h)
       (view.Released (extra_at at s h) ∷ view_events g h) (view_events g h)
       (λ t.
       let same : at ≡ g = eqb-true at g t in
@@ -238,11 +256,13 @@ module _ {C : Type 0} (M : Meaning C) where
       before
   viewed ((step.enable at (Some b), answer.Done) ∷ h) run g m there =
       let before = viewed h run.0 g m there in
-      either-way (group.view_events (length m.configs)) (at == g) (Set b true ∷ group_events g h) (group_events g h) (view.Set b true ∷ view_events g h) (view_events g h)
+      either-way (group.view_events (length m.configs)) (at == g) (Set b true ∷ group_events g h) (group_events g h)
+      (view.Set b true ∷ view_events g h) (view_events g h)
       (λ t. ap (λ (v : List ViewEvent). view.Set b true ∷ v) before) before
   viewed ((step.disable at (Some b), answer.Done) ∷ h) run g m there =
       let before = viewed h run.0 g m there in
-      either-way (group.view_events (length m.configs)) (at == g) (Set b false ∷ group_events g h) (group_events g h) (view.Set b false ∷ view_events g h) (view_events g h)
+      either-way (group.view_events (length m.configs)) (at == g) (Set b false ∷ group_events g h) (group_events g h)
+      (view.Set b false ∷ view_events g h) (view_events g h)
       (λ t. ap (λ (v : List ViewEvent). view.Set b false ∷ v) before) before
   viewed ((step.select at s key limit words, answer.Backend b t) ∷ h) run g m there =
       unseen h g m (at == g) _ (viewed h run.0 g m there) (drawn-view (config at s h) (length m.configs) s t (group_events g h))
@@ -255,7 +275,8 @@ module _ {C : Type 0} (M : Meaning C) where
   viewed ((step.publish at s, answer.Abandoned n) ∷ h) run g m there = unseen h g m (at == g) _ (viewed h run.0 g m there) refl
   viewed ((step.abandon at s, answer.Abandoned n) ∷ h) run g m there = unseen h g m (at == g) _ (viewed h run.0 g m there) refl
   viewed ((step.enter at s, answer.Reader t n) ∷ h) run g m there = unseen h g m (at == g) _ (viewed h run.0 g m there) refl
-  viewed ((step.leave t, answer.Left n) ∷ h) run g m there = unseen h g m (is_at g (group_at h (step.leave t))) _ (viewed h run.0 g m there) refl
+  viewed ((step.leave t, answer.Left n) ∷ h) run g m there = unseen h g m (is_at g (group_at h (step.leave t))) _
+      (viewed h run.0 g m there) refl
   viewed ((step.cancel at, answer.Cancelled) ∷ h) run g m there = unseen h g m (at == g) _ (viewed h run.0 g m there) refl
   viewed ((st, a) ∷ h) run g m there =
       unseen h g m (is_at g (group_at h st)) (group_events g h) (viewed h run.0 g m there) refl
@@ -271,10 +292,12 @@ module _ {C : Type 0} (M : Meaning C) where
       let change : is_change (members_in ls) (group.slot_events (group_events g h)) ≡ true =
       ap (is_change (members_in ls)) (group-of g h) ∙ (updating M h g now ls n run.1).0 in
       here g _ (group_events g h)
-      ∙ sym (ap (λ (b : Bool). after_settings (settings_in ls) (cond b (Shown (members_in ls) (cells_for g ls h) now ∷ group_events g h) (group_events g h))) change)
+      ∙ sym (ap (λ (b : Bool). after_settings (settings_in ls) (cond b (Shown (members_in ls) (cells_for g ls h) now ∷ group_events g h)
+      (group_events g h))) change)
   schedules-alike h (step.update g now ls) (answer.Same n) run =
       let change : is_change (members_in ls) (group.slot_events (group_events g h)) ≡ false =
       ap (is_change (members_in ls)) (group-of g h) ∙ unchanging M h g now ls n run.1 in
       here g _ (group_events g h)
-      ∙ sym (ap (λ (b : Bool). after_settings (settings_in ls) (cond b (Shown (members_in ls) (cells_for g ls h) now ∷ group_events g h) (group_events g h))) change)
+      ∙ sym (ap (λ (b : Bool). after_settings (settings_in ls) (cond b (Shown (members_in ls) (cells_for g ls h) now ∷ group_events g h)
+      (group_events g h))) change)
   schedules-alike h st a run = tt

@@ -1,5 +1,6 @@
 -- After histories that tell alike the same answers are right; so what comes after a refused step is a run without it too.
-use Rattle.std.proofs.Common.{◌≡◌, ◌⊎◌, ◌+◌, ◌-◌, ◌==◌, ◌∙◌, not, ℕ, Bool, true, false, cond, List, [], ◌∷◌, ◌++◌, length, map, refl, ap, subst}
+use Rattle.std.proofs.Common.{◌≡◌, ◌⊎◌, ◌+◌, ◌-◌, ◌==◌, ◌∙◌, not, ℕ, Bool, true, false, cond, List, [], ◌∷◌, ◌++◌, length, map, refl, ap}
+use Rattle.std.proofs.Common.{subst}
 use Rattle.std.proofs.Math.Path.{fun_ext}
 use Rattle.std.specs.Prelude.{◌↔◌, ◌&&◌, IsTrue, nat_lt, nat_le, Option, Some, None, Result, slice_get, MatchBool, MatchOption}
 use Rattle.lb_select_base.specs.Backends.{Member, same_member}
@@ -19,12 +20,17 @@ use Rattle.lb_world.specs.Steps as step
 use Rattle.lb_world.specs.declared.answer.Answer.{Answer}
 use Rattle.lb_world.specs.declared.answer.Answer.TheVariants as answer
 use Rattle.lb_world.specs.Meanings.{Meaning}
-use Rattle.lb_world.specs.History.{History, RegistryMade, Made, Entered, Work, members_in, registries, made_at, config, entries, slot_events, past, is_free, load_of}
+use Rattle.lb_world.specs.History.{History, RegistryMade, Made, Entered, Work, members_in, registries, made_at, config, entries}
+use Rattle.lb_world.specs.History.{slot_events, past, is_free, load_of}
 use Rattle.lb_world.specs.Shared.{key_by, registry_events}
 use Rattle.lb_world.proofs.Accepted.{right_answer}
-use Rattle.lb_world.specs.Answers.{Answers, IsRun, Judges, ReadyAnswers, VerdictAnswers, SelectsIn, SelectAnswers, without_memory, refuse, unless_refused, at_one, at_backend, no_such, no_number, has_refused, update_answer, asked, built_or_failed, of_job, of_built, flight_of, lost_answer, enter_answer, leave_answer, destroy_refusal, numbers_of, selected}
+use Rattle.lb_world.specs.Answers.{Answers, IsRun, Judges, ReadyAnswers, VerdictAnswers, SelectsIn, SelectAnswers, without_memory, refuse}
+use Rattle.lb_world.specs.Answers.{unless_refused, at_one, at_backend, no_such, no_number, has_refused, update_answer, asked}
+use Rattle.lb_world.specs.Answers.{built_or_failed, of_job, of_built, flight_of, lost_answer, enter_answer, leave_answer, destroy_refusal}
+use Rattle.lb_world.specs.Answers.{numbers_of, selected}
 use Rattle.lb_world.specs.Refused.{TellsAlike, AnswersAlike, IsAsBefore, unrefused}
-use Rattle.lb_world.proofs.Refusing.{ap2, ap3, refused-alike, alike-sym, alike-then, at-alike, config-alike, key-alike, events-alike, past-alike, alike-step}
+use Rattle.lb_world.proofs.Refusing.{ap2, ap3, refused-alike, alike-sym, alike-then, at-alike, config-alike, key-alike, events-alike}
+use Rattle.lb_world.proofs.Refusing.{past-alike, alike-step}
 
 -- at what is there, alike
 at-one-alike : {A : Type 0} (o p : Option A) (f d : A → Answer) → o ≡ p → ((x : A) → f x ≡ d x) → at_one o f ≡ at_one p d
@@ -41,7 +47,8 @@ module _ {C : Type 0} (M : Meaning C) (k h : History C) (e : TellsAlike k h) whe
   abbrev grouped : (there : Bool) (es : List registry.Event) (n : ℕ) (configs : List C) → Answer
   grouped there es n configs =
       unless_refused
-      (earlier (no_such there) (earlier (least (map (M.refusal []) configs)) (no_number (registry.registered_after es + 1)))) (answer.Group n)
+      (earlier (no_such there) (earlier (least (map (M.refusal []) configs)) (no_number (registry.registered_after es + 1))))
+      (answer.Group n)
 
   free-alike : (a : ℕ) → is_free a k ≡ is_free a h
   free-alike a = ap3 (λ J F D. J - F - D == 0) (e.rest.grants a) (e.rest.failures a) (e.rest.destructions a)
@@ -99,7 +106,8 @@ module _ {C : Type 0} (M : Meaning C) (k h : History C) (e : TellsAlike k h) whe
       (e.rest.works g s) (e.groups g))
   answer-alike (step.abandon g s) =
       at-one-alike (config g s k) (config g s h) _ _ (config-alike k h e g s)
-      (λ c. ap2 (λ (w : Work) (p : slots.History). of_built w (answer.Abandoned (slots.granted p))) (e.rest.works g s) (past-alike k h e g s))
+      (λ c. ap2 (λ (w : Work) (p : slots.History). of_built w (answer.Abandoned (slots.granted p))) (e.rest.works g s)
+      (past-alike k h e g s))
   answer-alike (step.enter g s) =
       at-one-alike (config g s k) (config g s h) _ _ (config-alike k h e g s)
       (λ c.
@@ -146,7 +154,8 @@ module _ {C : Type 0} (M : Meaning C) (k h : History C) (e : TellsAlike k h) whe
   ready-follows (Some (Some x)) (Some b) a right =
       (right.0, right.1, subst (λ (J : Member → Bool → Type 0). J b right.0) (judges-alike x.group x.generation) right.2)
 
-  option-follows : {A : Type 0} (o : Option A) (X : Type 0) (F D : A → Type 0) → ((x : A) → F x → D x) → MatchOption o X F → MatchOption o X D
+  option-follows : {A : Type 0} (o : Option A) (X : Type 0) (F D : A → Type 0) → ((x : A) → F x → D x) → MatchOption o X F
+      → MatchOption o X D
   option-follows None X F D follows right = right
   option-follows (Some x) X F D follows right = follows x right
 
@@ -215,7 +224,8 @@ module _ {C : Type 0} (M : Meaning C) (k h : History C) (e : TellsAlike k h) whe
 
   pub answers-follow : (st : Step C) (a : Answer) → Answers M k st a → Answers M h st a
   answers-follow (step.ready t b) a right =
-      subst (λ (es : List (Option Entered)). ReadyAnswers h (slice_get es t) b a) e.rest.readers (ready-follows (slice_get (entries k) t) b a right)
+      subst (λ (es : List (Option Entered)). ReadyAnswers h (slice_get es t) b a) e.rest.readers
+      (ready-follows (slice_get (entries k) t) b a right)
   answers-follow (step.select g s key limit words) a right = select-follows g s key limit words a right
   answers-follow (step.verdict r c ok threshold) a right =
       subst

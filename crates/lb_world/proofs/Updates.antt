@@ -1,6 +1,7 @@
 -- The right answer to an update, by what the call of a joined group told of it: why the membership was refused, or which generation
 -- is the newest; and what an update that wasn't refused does, in the words of that call.
-use Rattle.std.proofs.Common.{◌≡◌, ◌≤◌, ◌+◌, ◌==◌, ◌^◌, ◌&&◌, ◌∙◌, ℕ, Bool, true, false, true≢false, cond, nat_le, List, ◌∷◌, length, inl, inr, refl, sym, ap, subst, arith}
+use Rattle.std.proofs.Common.{◌≡◌, ◌≤◌, ◌+◌, ◌==◌, ◌^◌, ◌&&◌, ◌∙◌, ℕ, Bool, true, false, true≢false, cond, nat_le, List, ◌∷◌, length, inl}
+use Rattle.std.proofs.Common.{inr, refl, sym, ap, subst, arith}
 use Rattle.std.specs.Prelude.{Option, Some, None, Result, Ok, Err}
 use Rattle.std.specs.Option.{option_map}
 use Rattle.std.proofs.lemmas.Bool.{eq-eqb, not-false}
@@ -87,7 +88,8 @@ module _ {C : Type 0} (M : Meaning C) (h : History C) (g now : ℕ) (ls : List L
     pub joins : group_after_step h (slot_events g h) (group_events g h) st a
         ≡ after_schedule (key_of g h) m.view (members_in ls) (settings_in ls) now (registry_events m.registry h) (group_events g h)
     pub shares : registry_events m.registry ((st, a) ∷ h)
-        ≡ registry_updated (key_of g h) m.view (members_in ls) (group.view_events (length m.configs) (group_events g h)) (registry_events m.registry h)
+        ≡ registry_updated (key_of g h) m.view (members_in ls) (group.view_events (length m.configs) (group_events g h))
+        (registry_events m.registry h)
 
   module _ (run : IsRun M h) (made_is : made_at g h ≡ Some m) (whole : has_refused ls ≡ false) where
     told : right_answer M h st ≡ unless_refused cause answered
@@ -96,7 +98,8 @@ module _ {C : Type 0} (M : Meaning C) (h : History C) (g now : ℕ) (ls : List L
         unless_refused
         (earlier (schedule_refusal (members_in ls) k)
         (cond (is_change (members_in ls) k)
-        (no_number (registry.cells_given (key_of g h) (registry.Updated x.view (members_in ls) ∷ registry.Applied ∷ registry_events x.registry h))) None))
+        (no_number (registry.cells_given (key_of g h)
+        (registry.Updated x.view (members_in ls) ∷ registry.Applied ∷ registry_events x.registry h))) None))
         (update_answer (newest k) (is_change (members_in ls) k)) in
         ap (λ t. cond t (refuse refusal.InvalidAddress) (at_one (made_at g h) (Told (slot_events g h)))) whole
         ∙ ap (λ o. at_one o (Told (slot_events g h))) made_is ∙ ap (λ k. Told k m) (sym (group-of g h))
@@ -131,7 +134,8 @@ module _ {C : Type 0} (M : Meaning C) (h : History C) (g now : ℕ) (ls : List L
           | inr none ↦ elim none.2 [
             | inl memory ↦
                 rw memory
-                (starved none.0 (λ c many. absurd (let clash : Err r ≡ Err refusal.NumbersExhausted = lacks none.0 c (view-there none.0) many in cc)))
+                (starved none.0 (λ c many. absurd (let clash : Err r ≡ Err refusal.NumbersExhausted =
+                lacks none.0 c (view-there none.0) many in cc)))
             | inr (inl numbers_are) ↦ rw numbers_are (lacking none.0 none.1 (numbers numbers_are))
             | inr (inr missing) ↦ absurd (true≢false (sym (view-there none.0) ∙ unknown missing))
           ]
@@ -157,7 +161,8 @@ module _ {C : Type 0} (M : Meaning C) (h : History C) (g now : ℕ) (ls : List L
             → group_after_step h (slot_events g h) (group_events g h) st a
             ≡ after_schedule (key_of g h) m.view (members_in ls) (settings_in ls) now (registry_events m.registry h) (group_events g h)
         joins a alike =
-            sym (ap (λ b. cond b (group_after_step h (slot_events g h) (group_events g h) st a) (group_events g h)) (eq-eqb g g refl)) ∙ alike
+            sym (ap (λ b. cond b (group_after_step h (slot_events g h) (group_events g h) st a) (group_events g h)) (eq-eqb g g refl))
+            ∙ alike
             ∙ ap
             (λ o.
             after_schedule (key_of g h) (view_in o) (members_in ls) (settings_in ls) now (events_in (option_map (λ x. x.registry) o) h)

@@ -8,7 +8,8 @@ use Rattle.lb_select_base.specs.Backends.{Member, same_member}
 use Rattle.lb_rebuild_slots.specs.SlotsHistory as slots
 use Rattle.lb_rebuild_slots.specs.SlotsHistory.{SlotsEvent, Scheduled, Cancelled, At, newest, members_of}
 use Rattle.lb_health_view.specs.Snapshots.{SnapshotValue, held_more, held_less, at_generation}
-use Rattle.lb_health_view.specs.ViewEvents.{ViewEvent, Shown, Held, Released, Set, generation_after, membership_after, by_age, snapshots_after}
+use Rattle.lb_health_view.specs.ViewEvents.{ViewEvent, Shown, Held, Released, Set, generation_after, membership_after, by_age}
+use Rattle.lb_health_view.specs.ViewEvents.{snapshots_after}
 use Rattle.lb_health_view.specs.RegistrySide.{after_settings}
 
 module _ {X : Type 0} (P : X → Type 0) where
@@ -100,7 +101,8 @@ module _ (k : slots.History) (cells : ℕ → List (Member × ℕ)) where
   pub set : (b : Member) (on : Bool) (views : List ViewEvent) → Follows k views cells → Follows k (Set b on ∷ views) cells
   set b on views f = record { generation = f.generation; membership = f.membership; snapshots = f.snapshots }
 
-  pub settled : (settings : List (Member × Bool)) (views : List ViewEvent) → Follows k views cells → Follows k (after_settings settings views) cells
+  pub settled : (settings : List (Member × Bool)) (views : List ViewEvent) → Follows k views cells
+      → Follows k (after_settings settings views) cells
   settled [] views f = f
   settled (e ∷ rest) views f =
       settled rest _ (either (list_any (same_member e.0) (membership_after views)))
@@ -118,14 +120,22 @@ module _ (k : slots.History) (cells : ℕ → List (Member × ℕ)) where
         generation = sym next;
         membership = sym (rw (eq-eqb (newest k + 1) (newest k + 1) refl) refl);
         snapshots = (
-          ((let e : newest k + 1 ≡ generation_after views + 1 = next in omega arith), rw (eq-eqb (newest k + 1) (generation_after views + 1) next) refl, rw (eq-eqb (newest k + 1) (generation_after views + 1) next) refl),
+          (
+            (let e : newest k + 1 ≡ generation_after views + 1 = next in omega arith),
+            rw (eq-eqb (newest k + 1) (generation_after views + 1) next) refl,
+            rw (eq-eqb (newest k + 1) (generation_after views + 1) next) refl,
+          ),
           each-filter (Fits (Scheduled ms now ∷ k) (λ n. cond (newest k + 1 == n) new (cells n))) _ (by_age (snapshots_after views))
               (each-age (Fits (Scheduled ms now ∷ k) (λ n. cond (newest k + 1 == n) new (cells n))) (snapshots_after views)
               (each-weaker (Fits k cells) (Fits (Scheduled ms now ∷ k) (λ n. cond (newest k + 1 == n) new (cells n)))
               (λ s p.
               let old : s.generation ≤ newest k = p.0 in
-              let off : ¬ (newest k + 1 ≡ s.generation) = λ e. omega arith in
-              (omega arith, p.1 ∙ sym (rw (ne_eqb (newest k + 1) s.generation off) refl), p.2 ∙ sym (rw (ne_eqb (newest k + 1) s.generation off) refl)))
+              let off : ¬ (newest k + 1 ≡ s.generation) = λ e. omega arith in (
+                omega arith,
+                p.1 ∙ sym (rw (ne_eqb (newest k + 1) s.generation off) refl),
+                p.2
+                    ∙ sym (rw (ne_eqb (newest k + 1) s.generation off) refl),
+              ))
               (snapshots_after views) f.snapshots)),
         );
       }
@@ -140,7 +150,8 @@ module _ {X : Type 0} (P Q : X → Type 0) (t : X → Bool) where
   abbrev Found : Type 0
   Found = (x : X) × P x × (t x ≡ true) × Q x
 
-  or-later : (x : X) (xs : List X) (b : Bool) → t x ≡ b → P x → (IsSomeAnd (find t xs) Q → Found) → IsSomeAnd (cond b (Some x) (find t xs)) Q → Found
+  or-later : (x : X) (xs : List X) (b : Bool) → t x ≡ b → P x → (IsSomeAnd (find t xs) Q → Found)
+      → IsSomeAnd (cond b (Some x) (find t xs)) Q → Found
   or-later x xs true is p later f = (x, p, is, f)
   or-later x xs false is p later f = later f
 

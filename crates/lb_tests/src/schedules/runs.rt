@@ -23,8 +23,8 @@ impl Run {
     fn step(&mut self, now: u128, number: u64, event: Event) -> Action {
         match self {
             Run::Balancer(run) => run.step(now, event),
-            Run::Group(run) => run.step(now, number, event),
-            Run::Service(run) => run.step(now, number, event),
+            Run::Group(run) => run.step(now, event, number),
+            Run::Service(run) => run.step(now, event, number),
         }
     }
 }

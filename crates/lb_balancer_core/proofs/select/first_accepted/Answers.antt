@@ -1,6 +1,7 @@
 use Rattle.std.proofs.Common.{rules, arith, sym, ◌∙◌, ◌≡◌, true, false, refl}
 use Rattle.lb_balancer_core.specs.Looks.{Answers}
-use Rattle.lb_balancer_core.proofs.Visits.{visited_none, visited_repeat, visited_new, visit_ends, visit_limit, visit_finds, visit_refused, visit_named, visit_owned}
+use Rattle.lb_balancer_core.proofs.Visits.{visited_none, visited_repeat, visited_new, visit_ends, visit_limit, visit_finds, visit_refused}
+use Rattle.lb_balancer_core.proofs.Visits.{visit_named, visit_owned}
 use Rattle.lb_balancer_core.proofs.select.first_accepted.Goals as goal
 
 pub loop-init : goal.loop-init
@@ -10,14 +11,16 @@ pub returns-in_default-clause-selects : goal.returns-in_default-clause-selects
 returns-in_default-clause-selects g c =
     let walks = g.S.BackendSelection.walks c.args.words.now.reader.now.members c.args.words.now.reader.now.config c.args.key.now in
     let begins = rw (c.lent_by-of.ensures.members, c.lent_by-of.ensures.config) at c.in_ok-walk.ensures.begins in
-    visit_ends _ _ _ _ _ _ _ walks c.args.limit (g.met.S.BackendSelection.rest_starts _) begins c.loop.invariant.0 _ _ (rw c.in_default.is at c.step.ensures.step)
+    visit_ends _ _ _ _ _ _ _ walks c.args.limit (g.met.S.BackendSelection.rest_starts _) begins c.loop.invariant.0 _ _
+    (rw c.in_default.is at c.step.ensures.step)
     (omega (arith, c.loop-test.true))
 
 pub returns-in_default-clause-same_reference : goal.returns-in_default-clause-same_reference
 returns-in_default-clause-same_reference g c =
     let walks = g.S.BackendSelection.walks c.args.words.now.reader.now.members c.args.words.now.reader.now.config c.args.key.now in
     let begins = rw (c.lent_by-of.ensures.members, c.lent_by-of.ensures.config) at c.in_ok-walk.ensures.begins in
-    visit_named _ _ _ _ _ _ _ walks c.args.limit (g.met.S.BackendSelection.rest_starts _) begins c.loop.invariant.0 _ _ _ c.step.ensures.step
+    visit_named _ _ _ _ _ _ _ walks c.args.limit (g.met.S.BackendSelection.rest_starts _) begins c.loop.invariant.0 _ _ _
+    c.step.ensures.step
 
 pub loop-preserved-then-contains : goal.loop-preserved-then-contains
 loop-preserved-then-contains g c = (
@@ -30,15 +33,18 @@ pub ready-ready-requires : goal.ready-ready-requires
 ready-ready-requires g c =
     let walks = g.S.BackendSelection.walks c.args.words.now.reader.now.members c.args.words.now.reader.now.config c.args.key.now in
     let begins = rw (c.lent_by-of.ensures.members, c.lent_by-of.ensures.config) at c.in_ok-walk.ensures.begins in
-    visit_owned _ _ _ _ _ _ _ walks c.args.limit (g.met.S.BackendSelection.rest_starts _) begins c.loop.invariant.0 _ _ _ c.step.ensures.step
-    (λ x o. g.P.TakesBack.owns_reader x o) (λ x o d y. g.met.P.GroupPort.draws_keep x o d y) (λ x o b a y. g.met.P.GroupPort.readies_keep x o b a y)
+    visit_owned _ _ _ _ _ _ _ walks c.args.limit (g.met.S.BackendSelection.rest_starts _) begins c.loop.invariant.0 _ _ _
+    c.step.ensures.step
+    (λ x o. g.P.TakesBack.owns_reader x o) (λ x o d y. g.met.P.GroupPort.draws_keep x o d y)
+    (λ x o b a y. g.met.P.GroupPort.readies_keep x o b a y)
     c.requires.own
 
 pub returns-in_err-answer-clause-selects : goal.returns-in_err-answer-clause-selects
 returns-in_err-answer-clause-selects g c =
     let walks = g.S.BackendSelection.walks c.args.words.now.reader.now.members c.args.words.now.reader.now.config c.args.key.now in
     let begins = rw (c.lent_by-of.ensures.members, c.lent_by-of.ensures.config) at c.in_ok-walk.ensures.begins in
-    visit_refused _ _ _ _ _ _ _ walks c.args.limit (g.met.S.BackendSelection.rest_starts _) begins c.loop.invariant.0 c.in-Some.candidate.now _ _ _ _
+    visit_refused _ _ _ _ _ _ _ walks c.args.limit (g.met.S.BackendSelection.rest_starts _) begins c.loop.invariant.0
+    c.in-Some.candidate.now _ _ _ _
     (rw c.in-Some.is at c.step.ensures.step) (sym c.contains.ensures ∙ c.if-contains.false) c.ready-ready.ensures c.loop-test.true _
     c.from_residual-in_err-answer.ensures.1
 
@@ -46,7 +52,8 @@ pub returns-in_err-answer-clause-same_reference : goal.returns-in_err-answer-cla
 returns-in_err-answer-clause-same_reference g c =
     let walks = g.S.BackendSelection.walks c.args.words.now.reader.now.members c.args.words.now.reader.now.config c.args.key.now in
     let begins = rw (c.lent_by-of.ensures.members, c.lent_by-of.ensures.config) at c.in_ok-walk.ensures.begins in
-    visit_named _ _ _ _ _ _ _ walks c.args.limit (g.met.S.BackendSelection.rest_starts _) begins c.loop.invariant.0 _ _ _ c.step.ensures.step
+    visit_named _ _ _ _ _ _ _ walks c.args.limit (g.met.S.BackendSelection.rest_starts _) begins c.loop.invariant.0 _ _ _
+    c.step.ensures.step
 
 pub returns-then-accept-clause-selects : goal.returns-then-accept-clause-selects
 returns-then-accept-clause-selects g c =
@@ -54,20 +61,23 @@ returns-then-accept-clause-selects g c =
     let begins = rw (c.lent_by-of.ensures.members, c.lent_by-of.ensures.config) at c.in_ok-walk.ensures.begins in
     let taken : Answers g.F.Fn c.args.accept.now c.in-Some.candidate.now c.ready-ready.result true = search rules in
     rw c.in_ok-answer.ensures
-    (visit_finds _ _ _ _ _ _ _ walks c.args.limit (g.met.S.BackendSelection.rest_starts _) begins c.loop.invariant.0 c.in-Some.candidate.now _ _ _ _
+    (visit_finds _ _ _ _ _ _ _ walks c.args.limit (g.met.S.BackendSelection.rest_starts _) begins c.loop.invariant.0 c.in-Some.candidate.now
+    _ _ _ _
     (rw c.in-Some.is at c.step.ensures.step) (sym c.contains.ensures ∙ c.if-contains.false) c.ready-ready.ensures c.loop-test.true taken)
 
 pub returns-then-accept-clause-same_reference : goal.returns-then-accept-clause-same_reference
 returns-then-accept-clause-same_reference g c =
     let walks = g.S.BackendSelection.walks c.args.words.now.reader.now.members c.args.words.now.reader.now.config c.args.key.now in
     let begins = rw (c.lent_by-of.ensures.members, c.lent_by-of.ensures.config) at c.in_ok-walk.ensures.begins in
-    visit_named _ _ _ _ _ _ _ walks c.args.limit (g.met.S.BackendSelection.rest_starts _) begins c.loop.invariant.0 _ _ _ c.step.ensures.step
+    visit_named _ _ _ _ _ _ _ walks c.args.limit (g.met.S.BackendSelection.rest_starts _) begins c.loop.invariant.0 _ _ _
+    c.step.ensures.step
 
 pub returns-in_err-remember-clause-selects : goal.returns-in_err-remember-clause-selects
 returns-in_err-remember-clause-selects g c =
     let walks = g.S.BackendSelection.walks c.args.words.now.reader.now.members c.args.words.now.reader.now.config c.args.key.now in
     let begins = rw (c.lent_by-of.ensures.members, c.lent_by-of.ensures.config) at c.in_ok-walk.ensures.begins in
-    visit_refused _ _ _ _ _ _ _ walks c.args.limit (g.met.S.BackendSelection.rest_starts _) begins c.loop.invariant.0 c.in-Some.candidate.now _ _ _ _
+    visit_refused _ _ _ _ _ _ _ walks c.args.limit (g.met.S.BackendSelection.rest_starts _) begins c.loop.invariant.0
+    c.in-Some.candidate.now _ _ _ _
     (rw c.in-Some.is at c.step.ensures.step) (sym c.contains.ensures ∙ c.if-contains.false) c.ready-ready.ensures c.loop-test.true _
     c.from_residual-in_err-remember.ensures.1
 
@@ -75,13 +85,15 @@ pub returns-in_err-remember-clause-same_reference : goal.returns-in_err-remember
 returns-in_err-remember-clause-same_reference g c =
     let walks = g.S.BackendSelection.walks c.args.words.now.reader.now.members c.args.words.now.reader.now.config c.args.key.now in
     let begins = rw (c.lent_by-of.ensures.members, c.lent_by-of.ensures.config) at c.in_ok-walk.ensures.begins in
-    visit_named _ _ _ _ _ _ _ walks c.args.limit (g.met.S.BackendSelection.rest_starts _) begins c.loop.invariant.0 _ _ _ c.step.ensures.step
+    visit_named _ _ _ _ _ _ _ walks c.args.limit (g.met.S.BackendSelection.rest_starts _) begins c.loop.invariant.0 _ _ _
+    c.step.ensures.step
 
 pub loop-preserved : goal.loop-preserved
 loop-preserved g c =
     let refused : Answers g.F.Fn c.args.accept.now c.in-Some.candidate.now c.ready-ready.result false = search rules in (
       visited_new _ _ _ _ _ _ _ c.loop.invariant.0 c.in-Some.candidate.now _ _ _ _ (rw c.in-Some.is at c.step.ensures.step)
-          (sym c.contains.ensures ∙ c.if-contains.false) c.ready-ready.ensures c.remember.new.self _ refl (record { reader = refl; name = refl }) refused
+          (sym c.contains.ensures ∙ c.if-contains.false) c.ready-ready.ensures c.remember.new.self _ refl
+          (record { reader = refl; name = refl }) refused
           c.in_ok-remember.ensures.remembered,
       c.step.ensures.fitting,
     )
@@ -91,13 +103,15 @@ returns-clause-selects g c =
     let walks = g.S.BackendSelection.walks c.args.words.now.reader.now.members c.args.words.now.reader.now.config c.args.key.now in
     let begins = rw (c.lent_by-of.ensures.members, c.lent_by-of.ensures.config) at c.in_ok-walk.ensures.begins in
     let full : c.loop.counter ≡ c.args.limit = omega (arith, c.loop-test.false, c.loop.auto.counter-end) in
-    visit_limit _ _ _ _ _ _ _ walks c.args.limit (g.met.S.BackendSelection.rest_starts _) begins c.loop.invariant.0 _ _ _ c.step-past.ensures.step full
+    visit_limit _ _ _ _ _ _ _ walks c.args.limit (g.met.S.BackendSelection.rest_starts _) begins c.loop.invariant.0 _ _ _
+    c.step-past.ensures.step full
 
 pub returns-clause-same_reference : goal.returns-clause-same_reference
 returns-clause-same_reference g c =
     let walks = g.S.BackendSelection.walks c.args.words.now.reader.now.members c.args.words.now.reader.now.config c.args.key.now in
     let begins = rw (c.lent_by-of.ensures.members, c.lent_by-of.ensures.config) at c.in_ok-walk.ensures.begins in
-    visit_named _ _ _ _ _ _ _ walks c.args.limit (g.met.S.BackendSelection.rest_starts _) begins c.loop.invariant.0 _ _ _ c.step-past.ensures.step
+    visit_named _ _ _ _ _ _ _ walks c.args.limit (g.met.S.BackendSelection.rest_starts _) begins c.loop.invariant.0 _ _ _
+    c.step-past.ensures.step
 
 -- the walk that is stepped is one over the selector
 pub step-requires : goal.step-requires

@@ -6,5 +6,6 @@ use Rattle.lb_balancer_core.proofs.select.first_accepted.Given as goal
 abbrev pub invariant-loop : goal.invariant-loop
 invariant-loop g l =
     Visited (λ w. w.port.now) (λ w. w.reader.now) (λ w. w.port.ghost_name) g.P.GroupPort.draws g.P.GroupPort.readies
-    (g.S.BackendSelection.rest l.of) (λ b ready a. Answers g.F.Fn l.fn.accept b ready a) l.initial.walk l.initial.words l.seen l.walk l.words l.counter
+    (g.S.BackendSelection.rest l.of) (λ b ready a. Answers g.F.Fn l.fn.accept b ready a) l.initial.walk l.initial.words l.seen l.walk
+    l.words l.counter
     × g.S.BackendSelection.fits l.of l.walk

@@ -11,13 +11,15 @@ returns-in-Err-build g c =
     let end = c.now-end-in-Err-build in
     let why = c.in-Err-build.ensures.refused in
     let fails : Fails g.S.BackendSelection.refusal g.K.MomentSource.reads g.P.GroupPort.taken g.P.GroupPort.reported g.P.GroupPort.asked
-    g.P.TakesBack.published g.P.TakesBack.failed c.args.slot c.in-Job.job c.ask.new.self c.now-now.new.self (turn.Failed c.generation.result c.refusal.result) c.fail.new.self end.new.self = (
+    g.P.TakesBack.published g.P.TakesBack.failed c.args.slot c.in-Job.job c.ask.new.self c.now-now.new.self
+    (turn.Failed c.generation.result c.refusal.result) c.fail.new.self end.new.self = (
       end.result,
       end.ensures,
       c.in-Err-build.refused,
       c.fail.ensures,
       why.0,
       why.1,
-      ap₂ (λ (n : ℕ) (e : Refusal). turn.Failed n e) (c.generation.ensures ∙ ap (λ (j : Task g.row.S-Config.Denot). j.generation) why.0) c.refusal.ensures.refusal,
+      ap₂ (λ (n : ℕ) (e : Refusal). turn.Failed n e) (c.generation.ensures ∙ ap (λ (j : Task g.row.S-Config.Denot). j.generation) why.0)
+          c.refusal.ensures.refusal,
     ) in
     search rules

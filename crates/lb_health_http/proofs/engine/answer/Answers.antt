@@ -16,7 +16,8 @@ returns-in-Err-clause-outcome g c =
     let accepts : Parts → Bool = accepts_of g.V.Validate.accepts c.args.validator.now in
     let e = c.in-Err.fault in
     let P : List ℕ → List ℕ → Type 0 = HeadOutcome (Err e) in
-    let S : List ℕ → List ℕ → Type 0 = CheckOutcome c.args.head_alone c.args.max_body_bytes (is_some c.args.validator.now) accepts (Err e) in
+    let S : List ℕ → List ℕ → Type 0 = CheckOutcome c.args.head_alone c.args.max_body_bytes (is_some c.args.validator.now) accepts
+    (Err e) in
     OnBytes-map P S _ _ c.in-Err.ensures.outcome
     (λ x y o. head_fault c.args.head_alone c.args.max_body_bytes (is_some c.args.validator.now) accepts x y e o)
 

@@ -26,7 +26,8 @@ returns-clause-only g c =
     let r = c.read_answer.result in
     let reader = has_failed c.read_answer.new.reader in
     let writer = has_failed c.send.new.writer in
-    let P : List ℕ → List ℕ → Type 0 = λ s t. (other : List ℕ) → IsGood c.is_head.result limit accepts s other → IsOkOrFailed reader false r in
+    let P : List ℕ → List ℕ → Type 0 = λ s t. (other : List ℕ) → IsGood c.is_head.result limit accepts s other
+    → IsOkOrFailed reader false r in
     let S : List ℕ → List ℕ → Type 0 = λ s t. (other : List ℕ) → IsGood (asks_for_head (head_of c.args.req.now)) limit accepts s other
     → IsOkOrFailed reader writer r in
     OnBytes-map P S _ _ c.read_answer.ensures.only (λ x y o other good.

@@ -3,7 +3,8 @@ use Rattle.httparse.specs.Grammar.{ResponseHead, HasNoResponse, MayBecomeRespons
 use Rattle.lb_health_http.specs.declared.head.Seen.TheVariants.{Whole, Bad}
 use Rattle.lb_health_http.specs.Head.{Sees, IsBlankLine, IsWholeHead, AfterBlank, HasBadHead, HasLargeHead, EndsInHead}
 use Rattle.lb_health_http.proofs.HeadLemmas.{no_response-push, no_response-nil, open_nil, open_push, open_feed}
-use Rattle.lb_health_http.proofs.HeadLemmas.{head_ended, head_too_large, head_pushed, head_blank, head_refused, head_is_bad, head_is_low, head_is_whole}
+use Rattle.lb_health_http.proofs.HeadLemmas.{head_ended, head_too_large, head_pushed, head_blank, head_refused, head_is_bad, head_is_low}
+use Rattle.lb_health_http.proofs.HeadLemmas.{head_is_whole}
 use Rattle.lb_health_http.proofs.Streams.{OnBytes-then, OnBytes-map, OnBytes-here, gave_byte, gave_none}
 use Rattle.lb_health_http.proofs.head.read_head.Goals as goal
 

@@ -11,7 +11,8 @@ loop-backend-init c =
     record {
       hints = c.empty_places-hints.ensures entries;
       left = subst (All (λ (e : Member × ℕ). value_at entries e.0 ≡ Some e.1))
-          (sym (c.into_iter-backend-iterator.ensures.into_iter_gives ∙ c.iter-backend-items.ensures.rest)) c.iter-backend-items.ensures.found;
+          (sym (c.into_iter-backend-iterator.ensures.into_iter_gives ∙ c.iter-backend-items.ensures.rest))
+          c.iter-backend-items.ensures.found;
     }
 
 pub loop-backend-preserved : goal.loop-backend-preserved

@@ -1,4 +1,5 @@
-use Rattle.std.proofs.Common.{◌≡◌, ◌<◌, inl, inr, ℕ, ◌+◌, ◌==◌, Bool, true, false, cond, ◌&&◌, ◌||◌, nat_lt, List, [], ◌∷◌, ◌++◌, filter, true≢false, refl, sym, ap, ◌∙◌}
+use Rattle.std.proofs.Common.{◌≡◌, ◌<◌, inl, inr, ℕ, ◌+◌, ◌==◌, Bool, true, false, cond, ◌&&◌, ◌||◌, nat_lt, List, [], ◌∷◌, ◌++◌, filter}
+use Rattle.std.proofs.Common.{true≢false, refl, sym, ap, ◌∙◌}
 use Rattle.std.specs.List.{list_any}
 use borrow.Author.Tests.{lt-ltb}
 use Rattle.lb_select_base.specs.Backends.{Member, same_member}
@@ -12,7 +13,8 @@ use Rattle.lb_health_view.specs.ViewEvents.{ViewEvent, Shown, Set, by_age, gener
 use Rattle.lb_health_view.proofs.laws.updates_keep_held_snapshots.Goals as goal
 
 -- settings leave the snapshots
-settings_leave : (settings : List (Member × Bool)) (views : List ViewEvent) → snapshots_after (after_settings settings views) ≡ snapshots_after views
+settings_leave : (settings : List (Member × Bool)) (views : List ViewEvent)
+    → snapshots_after (after_settings settings views) ≡ snapshots_after views
 settings_leave [] views = refl
 settings_leave (e ∷ rest) views =
     settings_leave rest (cond (list_any (same_member e.0) (membership_after views)) (Set e.0 e.1 ∷ views) views)
@@ -40,7 +42,8 @@ among_left : (p : SnapshotValue → Bool) (s : SnapshotValue) (ss : List Snapsho
 among_left p s [] e h = h
 among_left p s (t ∷ ss) e h = left_by (p t) refl h (among_left p s ss e) where
   left_by :
-      (b : Bool) → p t ≡ b → IsAmong s (t ∷ ss) → (IsAmong s ss → IsAmong s (filter p ss)) → IsAmong s (cond b (t ∷ filter p ss) (filter p ss))
+      (b : Bool) → p t ≡ b → IsAmong s (t ∷ ss) → (IsAmong s ss → IsAmong s (filter p ss))
+      → IsAmong s (cond b (t ∷ filter p ss) (filter p ss))
   left_by true f (inl is) ih = inl is
   left_by true f (inr h) ih = inr (ih h)
   left_by false f (inl is) ih = absurd (true≢false (sym e ∙ sym (ap p is) ∙ f))
@@ -97,6 +100,10 @@ returns-clause-registry c =
     let kept : holds_cell key_of id g d (Released id last ∷ now) ≡ true
     = held_later key_of (Released id last ∷ []) now id g d
     (ap (λ b. (id == id && b) || false) f ∙ ap (λ b. b || false) (and_false (id == id))) begun in
-    elim (lives last shown) as (λ b. holds_cell key_of id g d (cond b now (Released id last ∷ now)) ≡ true) [ true ↦ begun | false ↦ kept ]) in
-    elim (same_members members (membership_after views)) as (λ b. holds_cell key_of id g d (cond b events (cond (lives last shown) now (Released id last ∷ now))) ≡ true)
+    elim (lives last shown) as (λ b. holds_cell key_of id g d (cond b now (Released id last ∷ now)) ≡ true) [
+      | true ↦ begun
+      | false ↦ kept
+    ]) in
+    elim (same_members members (membership_after views)) as
+    (λ b. holds_cell key_of id g d (cond b events (cond (lives last shown) now (Released id last ∷ now))) ≡ true)
     [ true ↦ has | false ↦ gone ]

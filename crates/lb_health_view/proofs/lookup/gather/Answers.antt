@@ -15,5 +15,6 @@ pub returns-in-Err : goal.returns-in-Err
 returns-in-Err g c = (
   Err c.in-Err.refusal ∷ [],
   λ s h. absurd (c.in-Err.ensures.spelled s h),
-  λ o members h. rw c.earlier.ensures (refused_more o members _ _ _ c.in-Err.refusal (cause_of_lookup c.in-Err.refusal c.in-Err.ensures.refused) h),
+  λ o members h. rw c.earlier.ensures
+      (refused_more o members _ _ _ c.in-Err.refusal (cause_of_lookup c.in-Err.refusal c.in-Err.ensures.refused) h),
 )

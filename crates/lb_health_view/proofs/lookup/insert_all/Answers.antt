@@ -17,13 +17,17 @@ loop-address-init c = λ o members h. h
 pub loop-address-preserved : goal.loop-address-preserved
 loop-address-preserved c = λ o members h.
     rw (c.earlier-cause.ensures, c.err.ensures.value)
-    (one_more o _ members _ _ c.loop-address.yielded c.in-Some.address c.insert.result c.insert.ensures (c.loop-address.invariant o members h))
+    (one_more o _ members _ _ c.loop-address.yielded c.in-Some.address c.insert.result c.insert.ensures
+    (c.loop-address.invariant o members h))
 
 pub returns : goal.returns
 returns c =
     let it = c.into_iter-address-iterator.result in
     let source = YieldsList-from_shown array_steps (λ x. x) array_into_iter_items (λ s t h. h.0) (λ s x t h. h) (take_source it) in
-    let ended = YieldsList-end (YieldsList-from_take (take_count it) source refl) c.loop-address.yielded _ c.loop-address.yielded_by _ _ c.in-None.is c.next.ensures.steps in
-    let all : c.loop-address.yielded ≡ host_addrs c.args.addresses = sym (map-id c.loop-address.yielded) ∙ ended.0 ∙ ap host_addrs c.into_iter-address-iterator.ensures.into_iter_gives in
-    λ o members h. subst (λ (ys : List SocketAddr). Gathers (cause_after o (map socket_answer ys)) (with_answers members (map socket_answer ys)) c.loop-address.cause c.loop-address.backends.keys)
+    let ended = YieldsList-end (YieldsList-from_take (take_count it) source refl) c.loop-address.yielded _ c.loop-address.yielded_by _ _
+    c.in-None.is c.next.ensures.steps in
+    let all : c.loop-address.yielded ≡ host_addrs c.args.addresses = sym (map-id c.loop-address.yielded) ∙ ended.0
+    ∙ ap host_addrs c.into_iter-address-iterator.ensures.into_iter_gives in
+    λ o members h. subst (λ (ys : List SocketAddr). Gathers (cause_after o (map socket_answer ys))
+    (with_answers members (map socket_answer ys)) c.loop-address.cause c.loop-address.backends.keys)
     all (c.loop-address.invariant o members h)

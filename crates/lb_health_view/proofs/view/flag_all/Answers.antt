@@ -12,8 +12,10 @@ loop-backend-preserved-in_ok-insert c =
     let absent : is_some (value_at c.loop-backend.flags.entries b) ≡ false = search rules in
     let u = rw c.in_ok-clone.ensures.cases at c.in_ok-insert.ensures.updates in
     record {
-      flags = λ q. flags-insert _ c.loop-backend.flags.entries c.insert.new.self.entries b (none_of _ absent) u.0 c.loop-backend.invariant.flags q;
-      all = λ q l. all-insert c.loop-backend.flags.entries c.insert.new.self.entries b c.next.new.self u.0 q (rw step at (c.loop-backend.invariant.all q l));
+      flags = λ q. flags-insert _ c.loop-backend.flags.entries c.insert.new.self.entries b
+          (none_of _ absent) u.0 c.loop-backend.invariant.flags q;
+      all = λ q l. all-insert c.loop-backend.flags.entries c.insert.new.self.entries b c.next.new.self u.0 q
+          (rw step at (c.loop-backend.invariant.all q l));
     }
 
 pub loop-backend-preserved : goal.loop-backend-preserved

@@ -33,7 +33,8 @@ loop-slot-preserved g c =
     let long = words_long v in
     let there = slot_serves c.past.ensures c.served.ensures c.in-Some.is in (
       ap (λ (w : WriterValue). w.board) c.raise-in-loop-slot.ensures ∙ c.loop-slot.invariant.0,
-      shown_more (words_of v) c.loop-slot.writer.words _ (c.loop-slot.slot + 1) c.in-Some.served c.loop-slot.invariant.1 (omega (arith, long, there.0)) (sym there.1)
+      shown_more (words_of v) c.loop-slot.writer.words _ (c.loop-slot.slot + 1) c.in-Some.served c.loop-slot.invariant.1
+          (omega (arith, long, there.0)) (sym there.1)
           (ap (λ (w : WriterValue). w.words) c.raise-in-loop-slot.ensures),
     )
 

@@ -9,7 +9,8 @@ loop-order-init g c = hands_first _ _ _ c.requires
 pub loop-order-preserved : goal.loop-order-preserved
 loop-order-preserved g c =
     let taken = rw c.in-Some.is at c.pop.ensures.items in
-    hands_on _ _ _ _ c.pop.new.self.items _ c.len-slot.result c.in-Some.order c.index_mut.result.now c.order.new.self c.loop-order.invariant taken (omega (arith, c.len-slot.ensures, c.pop.new.self.ok.0)) c.index_mut.ensures.value c.order.ensures
+    hands_on _ _ _ _ c.pop.new.self.items _ c.len-slot.result c.in-Some.order c.index_mut.result.now c.order.new.self c.loop-order.invariant
+    taken (omega (arith, c.len-slot.ensures, c.pop.new.self.ok.0)) c.index_mut.ensures.value c.order.ensures
 
 pub returns : goal.returns
 returns g c =

@@ -5,4 +5,5 @@ use Rattle.lb_rebuild_slots.specs.SlotSeen.{slot_value}
 use Rattle.lb_rebuild_slots.proofs.membership.orders_for.Given as goal
 
 abbrev pub invariant-loop-slot : goal.invariant-loop-slot
-invariant-loop-slot g l = l.orders.items ≡ map (λ x. order_for l.generation (arc_value l.members).keys (slot_value x)) (take l.slot-index l.slots)
+invariant-loop-slot g l = l.orders.items ≡ map (λ x. order_for l.generation (arc_value l.members).keys (slot_value x))
+    (take l.slot-index l.slots)

@@ -17,15 +17,22 @@ falsehood i = cc
 pub loop-config-preserved-then-is_ok : goal.loop-config-preserved-then-is_ok
 loop-config-preserved-then-is_ok g c =
     let empty = c.new-empty.ensures.empty in (
-      c.loop-config.invariant.0 ∙ granted_more (g.S.BackendSelection.refusal []) c.loop-config.yielded c.in-Some.config (rw empty at c.in-Ok.ensures.0),
+      c.loop-config.invariant.0 ∙ granted_more (g.S.BackendSelection.refusal []) c.loop-config.yielded c.in-Some.config
+          (rw empty at c.in-Ok.ensures.0),
       λ none whole. rw (c.push.ensures.items, sym c.if-is_ok.ensures.value)
-          (rw (map-append slot_value c.loop-config.slots.items (c.in-Ok.slot ∷ []), map-append fresh_slot c.loop-config.yielded (c.in-Some.config ∷ []), c.loop-config.invariant.1 none whole, c.in-Ok.ensures.1 empty) refl),
+          (rw (
+            map-append slot_value c.loop-config.slots.items (c.in-Ok.slot ∷ []),
+            map-append fresh_slot c.loop-config.yielded (c.in-Some.config ∷ []),
+            c.loop-config.invariant.1 none whole,
+            c.in-Ok.ensures.1 empty,
+          ) refl),
     )
 
 pub loop-config-preserved-else-is_ok : goal.loop-config-preserved-else-is_ok
 loop-config-preserved-else-is_ok g c =
     let empty = c.new-empty.ensures.empty in (
-      c.loop-config.invariant.0 ∙ granted_more (g.S.BackendSelection.refusal []) c.loop-config.yielded c.in-Some.config (rw empty at c.in-Ok.ensures.0),
+      c.loop-config.invariant.0 ∙ granted_more (g.S.BackendSelection.refusal []) c.loop-config.yielded c.in-Some.config
+          (rw empty at c.in-Ok.ensures.0),
       λ none whole. absurd (falsehood (sym c.if-is_ok.false ∙ whole)),
     )
 
@@ -44,5 +51,6 @@ returns-in-None-cause g c =
     let gives = c.into_iter-config-iterator.ensures.into_iter_gives in
     let all : c.loop-config.yielded ≡ c.args.configs.items =
     sym (map-id c.loop-config.yielded)
-    ∙ (YieldsList-end (YieldsList-from_vec c.args.configs.items gives.0 (gives.1 ∙ c.args.configs.ok.0)) c.loop-config.yielded c.loop-config.config-iterator c.loop-config.yielded_by c.next.result c.next.new.self c.in-None.is c.next.ensures.steps).0 in
+    ∙ (YieldsList-end (YieldsList-from_vec c.args.configs.items gives.0 (gives.1 ∙ c.args.configs.ok.0)) c.loop-config.yielded
+    c.loop-config.config-iterator c.loop-config.yielded_by c.next.result c.next.new.self c.in-None.is c.next.ensures.steps).0 in
     rw (← all) (sym c.loop-config.invariant.0 ∙ c.in-None-cause.is, c.loop-config.invariant.1 c.in-None-cause.is c.if-is_whole.true)

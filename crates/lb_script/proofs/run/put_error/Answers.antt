@@ -43,25 +43,42 @@ at_fifth a b c i j k e shown d s named n l same p q r name t h =
 pub returns-in_err-put-clause-part : goal.returns-in_err-put-clause-part
 returns-in_err-put-clause-part g c =
     on_err c.from_residual.result
-    (at_first (g.W.Write.contents (inner_of c.args.writer.now)) (g.W.Write.contents (inner_of c.put.new.self)) (codes "error ") (decimal c.args.line) (codes " ") (script_error_name c.args.error) (codes "\n") c.in_err-put.ensures.part)
+    (at_first (g.W.Write.contents (inner_of c.args.writer.now)) (g.W.Write.contents (inner_of c.put.new.self)) (codes "error ")
+    (decimal c.args.line) (codes " ") (script_error_name c.args.error) (codes "\n") c.in_err-put.ensures.part)
 
 pub returns-in_err-put-2-clause-part : goal.returns-in_err-put-2-clause-part
 returns-in_err-put-2-clause-part g c =
     on_err c.from_residual-in_err-put-2.result
-    (at_second (g.W.Write.contents (inner_of c.args.writer.now)) (g.W.Write.contents (inner_of c.put.new.self)) (g.W.Write.contents (inner_of c.put-2.new.self)) (codes "error ") c.as_bytes.result.now (decimal c.args.line) (codes " ") (script_error_name c.args.error) (codes "\n") (c.as_bytes.ensures.value ∙ c.format.ensures.text) c.in_ok-put.ensures.ok c.in_err-put-2.ensures.part)
+    (at_second (g.W.Write.contents (inner_of c.args.writer.now)) (g.W.Write.contents (inner_of c.put.new.self))
+    (g.W.Write.contents (inner_of c.put-2.new.self)) (codes "error ") c.as_bytes.result.now (decimal c.args.line) (codes " ")
+    (script_error_name c.args.error) (codes "\n") (c.as_bytes.ensures.value ∙ c.format.ensures.text) c.in_ok-put.ensures.ok
+    c.in_err-put-2.ensures.part)
 
 pub returns-in_err-put-3-clause-part : goal.returns-in_err-put-3-clause-part
 returns-in_err-put-3-clause-part g c =
     on_err c.from_residual-in_err-put-3.result
-    (at_third (g.W.Write.contents (inner_of c.args.writer.now)) (g.W.Write.contents (inner_of c.put.new.self)) (g.W.Write.contents (inner_of c.put-2.new.self)) (g.W.Write.contents (inner_of c.put-3.new.self)) (codes "error ") c.as_bytes.result.now (decimal c.args.line) (codes " ") (script_error_name c.args.error) (codes "\n") (c.as_bytes.ensures.value ∙ c.format.ensures.text) c.in_ok-put.ensures.ok c.in_ok-put-2.ensures.ok c.in_err-put-3.ensures.part)
+    (at_third (g.W.Write.contents (inner_of c.args.writer.now)) (g.W.Write.contents (inner_of c.put.new.self))
+    (g.W.Write.contents (inner_of c.put-2.new.self)) (g.W.Write.contents (inner_of c.put-3.new.self))
+    (codes "error ") c.as_bytes.result.now (decimal c.args.line) (codes " ") (script_error_name c.args.error) (codes "\n")
+    (c.as_bytes.ensures.value ∙ c.format.ensures.text) c.in_ok-put.ensures.ok c.in_ok-put-2.ensures.ok c.in_err-put-3.ensures.part)
 
 pub returns-in_err-put-4-clause-part : goal.returns-in_err-put-4-clause-part
 returns-in_err-put-4-clause-part g c =
     on_err c.from_residual-in_err-put-4.result
-    (at_fourth (g.W.Write.contents (inner_of c.args.writer.now)) (g.W.Write.contents (inner_of c.put.new.self)) (g.W.Write.contents (inner_of c.put-2.new.self)) (g.W.Write.contents (inner_of c.put-3.new.self)) (g.W.Write.contents (inner_of c.put-4.new.self)) (codes "error ") c.as_bytes.result.now (decimal c.args.line) (codes " ") c.as_bytes-2.result.now (script_error_name c.args.error) (codes "\n") (c.as_bytes.ensures.value ∙ c.format.ensures.text) c.in_ok-put.ensures.ok c.in_ok-put-2.ensures.ok c.in_ok-put-3.ensures.ok (c.as_bytes-2.ensures.value ∙ c.name.ensures) c.in_err-put-4.ensures.part)
+    (at_fourth (g.W.Write.contents (inner_of c.args.writer.now)) (g.W.Write.contents (inner_of c.put.new.self))
+    (g.W.Write.contents (inner_of c.put-2.new.self)) (g.W.Write.contents (inner_of c.put-3.new.self))
+    (g.W.Write.contents (inner_of c.put-4.new.self)) (codes "error ") c.as_bytes.result.now (decimal c.args.line)
+    (codes " ") c.as_bytes-2.result.now (script_error_name c.args.error) (codes "\n") (c.as_bytes.ensures.value
+    ∙ c.format.ensures.text) c.in_ok-put.ensures.ok c.in_ok-put-2.ensures.ok c.in_ok-put-3.ensures.ok (c.as_bytes-2.ensures.value
+    ∙ c.name.ensures) c.in_err-put-4.ensures.part)
 
 pub returns-clause-part : goal.returns-clause-part
 returns-clause-part g c =
     on_err_weaker c.put-5.result
-    (at_fifth (g.W.Write.contents (inner_of c.args.writer.now)) (g.W.Write.contents (inner_of c.put.new.self)) (g.W.Write.contents (inner_of c.put-2.new.self)) (g.W.Write.contents (inner_of c.put-3.new.self)) (g.W.Write.contents (inner_of c.put-4.new.self)) (g.W.Write.contents (inner_of c.put-5.new.self)) (codes "error ") c.as_bytes.result.now (decimal c.args.line) (codes " ") c.as_bytes-2.result.now (script_error_name c.args.error) (codes "\n") (c.as_bytes.ensures.value ∙ c.format.ensures.text) c.in_ok-put.ensures.ok c.in_ok-put-2.ensures.ok c.in_ok-put-3.ensures.ok (c.as_bytes-2.ensures.value ∙ c.name.ensures) c.in_ok-put-4.ensures.ok)
+    (at_fifth (g.W.Write.contents (inner_of c.args.writer.now)) (g.W.Write.contents (inner_of c.put.new.self))
+    (g.W.Write.contents (inner_of c.put-2.new.self)) (g.W.Write.contents (inner_of c.put-3.new.self))
+    (g.W.Write.contents (inner_of c.put-4.new.self)) (g.W.Write.contents (inner_of c.put-5.new.self))
+    (codes "error ") c.as_bytes.result.now (decimal c.args.line) (codes " ") c.as_bytes-2.result.now (script_error_name c.args.error)
+    (codes "\n") (c.as_bytes.ensures.value ∙ c.format.ensures.text) c.in_ok-put.ensures.ok c.in_ok-put-2.ensures.ok
+    c.in_ok-put-3.ensures.ok (c.as_bytes-2.ensures.value ∙ c.name.ensures) c.in_ok-put-4.ensures.ok)
     c.put-5.ensures.part

@@ -15,5 +15,6 @@ pub returns-clause-part : goal.returns-clause-part
 returns-clause-part g c =
     on_err_weaker c.put_error.result
     (front_after (g.W.Write.contents (inner_of c.args.writer.now)) (g.W.Write.contents (inner_of c.put.new.self))
-    (g.W.Write.contents (inner_of c.put_error.new.writer)) c.args.waiting.now (error_text c.args.line c.args.error ++ codes "\n") c.in_ok-put.ensures.ok)
+    (g.W.Write.contents (inner_of c.put_error.new.writer)) c.args.waiting.now (error_text c.args.line c.args.error ++ codes "\n")
+    c.in_ok-put.ensures.ok)
     c.put_error.ensures.part

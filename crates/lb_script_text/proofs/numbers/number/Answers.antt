@@ -6,11 +6,13 @@ use Rattle.lb_script_text.proofs.numbers.number.Goals as goal
 pub returns-then-has_plain_front : goal.returns-then-has_plain_front
 returns-then-has_plain_front c =
     let plain : has_plain_front c.args.word.now ≡ true =
-    subst (λ bytes. has_plain_front bytes ≡ true) c.as_bytes-bytes.ensures.value (sym c.has_plain_front.ensures ∙ c.if-has_plain_front.true) in
+    subst (λ bytes. has_plain_front bytes ≡ true) c.as_bytes-bytes.ensures.value (sym c.has_plain_front.ensures
+    ∙ c.if-has_plain_front.true) in
     c.ok.ensures.value ∙ parse_number 64 c.args.word.now c.parse.result c.parse.ensures.value.0 plain
 
 pub returns-else-has_plain_front : goal.returns-else-has_plain_front
 returns-else-has_plain_front c =
     let not_plain : has_plain_front c.args.word.now ≡ false =
-    subst (λ bytes. has_plain_front bytes ≡ false) c.as_bytes-bytes.ensures.value (sym c.has_plain_front.ensures ∙ c.if-has_plain_front.false) in
+    subst (λ bytes. has_plain_front bytes ≡ false) c.as_bytes-bytes.ensures.value (sym c.has_plain_front.ensures
+    ∙ c.if-has_plain_front.false) in
     sym (no_number (2 ^ 64) c.args.word.now not_plain)

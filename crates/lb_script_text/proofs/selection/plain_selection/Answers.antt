@@ -13,4 +13,5 @@ returns-in-115 c =
     let c_there : get_or line 4 0 ≡ 99 = omega arith in
     let t : get_or line 5 0 ≡ 116 = omega arith in
     let space : get_or line 6 0 ≡ 32 = omega arith in
-    read_line c.selection_of.result line (take (length line - 7) (drop 7 line)) (select_front line long s e l e_again c_there t space) c.selection_of.ensures
+    read_line c.selection_of.result line (take (length line - 7) (drop 7 line)) (select_front line long s e l e_again c_there t space)
+    c.selection_of.ensures

@@ -9,7 +9,10 @@ returns-then-count-bytes c =
     let bytes = c.args.bytes.now in
     let count = c.loop-count.count in
     let space : get_or bytes count 0 ≡ 32 =
-    elim c.loop-count-test.branch [ then-loop-count-test+else-bytes-count-ne32 w ↦ w.if-bytes-count-ne32.false | else-loop-count-test w ↦ absurd (omega arith) ] in
+    elim c.loop-count-test.branch [
+      | then-loop-count-test+else-bytes-count-ne32 w ↦ w.if-bytes-count-ne32.false
+      | else-loop-count-test w ↦ absurd (omega arith)
+    ] in
     rw (dropped_all bytes count)
     (record {
       word = take count bytes;

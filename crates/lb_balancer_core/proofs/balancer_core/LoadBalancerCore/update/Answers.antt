@@ -6,7 +6,8 @@ use Rattle.lb_balancer_core.proofs.balancer_core.LoadBalancerCore.update.Goals a
 pub returns-clause-updated : goal.returns-clause-updated
 returns-clause-updated g c =
     let told = c.in_ok-build.ensures in
-    let read = readings g.K.MomentSource.reads c.in_ok-build.build c.now-start.result c.now-end.result c.args.clock.now c.now-start.new.self c.update.new.clock c.now-end.new.self
+    let read = readings g.K.MomentSource.reads c.in_ok-build.build c.now-start.result c.now-end.result c.args.clock.now c.now-start.new.self
+    c.update.new.clock c.now-end.new.self
     c.now-start.ensures told.readings c.now-end.ensures in
     record {
       members = c.in_ok-members.members.keys;

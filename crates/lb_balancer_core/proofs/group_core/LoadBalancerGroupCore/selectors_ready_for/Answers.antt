@@ -11,13 +11,18 @@ returns-in-None g c made e s =
 
 pub returns-in-Some : goal.returns-in-Some
 returns-in-Some g c made e s =
-    let here = there made c.loop-slot.slot (served_at c.loop-slot.slot e) c.in-Some.served c.served.result (c.served.ensures made e s) c.in-Some.is in
-    let late = c.if-served-generation.true in
-    (λ f. absurd (false≢true f), λ all. let served = all c.loop-slot.slot here.0 in let is = here.1 in absurd (omega (arith, served, is, late)))
+    let here = there made c.loop-slot.slot (served_at c.loop-slot.slot e) c.in-Some.served c.served.result
+    (c.served.ensures made e s) c.in-Some.is in
+    let late = c.if-served-generation.true in (
+      λ f. absurd (false≢true f),
+      λ all. let served = all c.loop-slot.slot here.0 in let is = here.1
+          in absurd (omega (arith, served, is, late)),
+    )
 
 pub loop-slot-preserved : goal.loop-slot-preserved
 loop-slot-preserved g c made e s =
-    let here = there made c.loop-slot.slot (served_at c.loop-slot.slot e) c.in-Some.served c.served.result (c.served.ensures made e s) c.in-Some.is in
+    let here = there made c.loop-slot.slot (served_at c.loop-slot.slot e) c.in-Some.served c.served.result
+    (c.served.ensures made e s) c.in-Some.is in
     let is = here.1 in
     let enough = c.if-served-generation.false in
     up_to (λ (slot : ℕ). c.args.generation ≤ served_at slot e) c.loop-slot.slot (c.loop-slot.invariant made e s) (omega (arith, is, enough))

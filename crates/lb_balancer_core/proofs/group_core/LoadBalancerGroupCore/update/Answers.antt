@@ -15,6 +15,8 @@ returns-in_err-scheduled-clause-refused g c =
       cause = c.in_err-scheduled.ensures.answers;
       unknown = λ why. c.in_err-scheduled.ensures.unknown (ap Err why);
       numbers = λ why. c.in_err-scheduled.ensures.numbers (ap Err why);
-      missing = λ key_of events h made e s none change has. error-is _ _ (c.in_err-scheduled.ensures.missing key_of events h made e s none change has);
-      lacking = λ key_of events h made e s none change has few. error-is _ _ (c.in_err-scheduled.ensures.lacking key_of events h made e s none change has few);
+      missing = λ key_of events h made e s none change has. error-is _ _
+          (c.in_err-scheduled.ensures.missing key_of events h made e s none change has);
+      lacking = λ key_of events h made e s none change has few. error-is _ _
+          (c.in_err-scheduled.ensures.lacking key_of events h made e s none change has few);
     })))

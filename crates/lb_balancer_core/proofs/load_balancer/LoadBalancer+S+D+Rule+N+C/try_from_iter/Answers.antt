@@ -23,15 +23,18 @@ pub returns-in_err-update-clause-refused : goal.returns-in_err-update-clause-ref
 returns-in_err-update-clause-refused g c =
     let looked = c.in_ok-found.ensures.made in
     let parts = c.in_ok-balancer.ensures.parts in
-    let registry = subst (λ h. IsRegistryAfter (rule_gives g.N.KeyRule.gives) by_identity one_view h.registry) (sym parts.4) c.in_ok-backends.ensures.ok.1 in
+    let registry = subst (λ h. IsRegistryAfter (rule_gives g.N.KeyRule.gives) by_identity one_view h.registry)
+    (sym parts.4) c.in_ok-backends.ensures.ok.1 in
     let r = c.in_err-update.field-0.0 in
     let out = err_from_is_err_and _ c.from_residual-in_err-update.ensures.1 in
     let is : c.from_residual-in_err-update.result ≡ Err r = out.1 ∙ ap Err out.2 in
     rw is (
       looked.0,
       looked.1,
-      update-refused (rule_gives g.N.KeyRule.gives) g.S.BackendSelection.refusal g.S.BackendSelection.default_config looked.0 _ c.in_ok-balancer.balancer.core.served c.in_ok-balancer.balancer.registry.registry
-          parts.2 (ap (λ v. v.id) parts.1 ∙ c.in_ok-backends.ensures.id) (c.in_ok-balancer.ensures.stands [] c.in_ok-backends.ensures.ok.0).1 registry looked.2
+      update-refused (rule_gives g.N.KeyRule.gives) g.S.BackendSelection.refusal g.S.BackendSelection.default_config looked.0 _
+          c.in_ok-balancer.balancer.core.served c.in_ok-balancer.balancer.registry.registry
+          parts.2 (ap (λ v. v.id) parts.1 ∙ c.in_ok-backends.ensures.id)
+          (c.in_ok-balancer.ensures.stands [] c.in_ok-backends.ensures.ok.0).1 registry looked.2
           c.in_ok-balancer.balancer.core.discovery r (parts.0 ∙ c.in_ok-backends.ensures.parts.0) c.in_err-update.ensures.refused,
     )
 
@@ -39,11 +42,15 @@ pub returns-clause-made : goal.returns-clause-made
 returns-clause-made g c =
     let looked = c.in_ok-found.ensures.made in
     let parts = c.in_ok-balancer.ensures.parts in
-    let registry = subst (λ h. IsRegistryAfter (rule_gives g.N.KeyRule.gives) by_identity one_view h.registry) (sym parts.4) c.in_ok-backends.ensures.ok.1 in (
+    let registry = subst (λ h. IsRegistryAfter (rule_gives g.N.KeyRule.gives) by_identity one_view h.registry)
+    (sym parts.4) c.in_ok-backends.ensures.ok.1 in (
       looked.0,
       looked.1,
-      updated-once (rule_gives g.N.KeyRule.gives) g.S.BackendSelection.refusal g.S.BackendSelection.default_config looked.0 _ c.in_ok-balancer.balancer.core.served c.in_ok-balancer.balancer.registry.registry
-          parts.2 (ap (λ v. v.id) parts.1 ∙ c.in_ok-backends.ensures.id) (c.in_ok-balancer.ensures.stands [] c.in_ok-backends.ensures.ok.0).1 registry looked.2
-          g.K.MomentSource.reads c.in_ok-balancer.balancer.core.discovery c.update.new.self.core.discovery c.args.clock.now c.update.new.clock c.update.new.self.core.served c.update.new.self.registry.registry c.update.new.self.core.timing
+      updated-once (rule_gives g.N.KeyRule.gives) g.S.BackendSelection.refusal g.S.BackendSelection.default_config looked.0 _
+          c.in_ok-balancer.balancer.core.served c.in_ok-balancer.balancer.registry.registry
+          parts.2 (ap (λ v. v.id) parts.1 ∙ c.in_ok-backends.ensures.id)
+          (c.in_ok-balancer.ensures.stands [] c.in_ok-backends.ensures.ok.0).1 registry looked.2
+          g.K.MomentSource.reads c.in_ok-balancer.balancer.core.discovery c.update.new.self.core.discovery c.args.clock.now
+          c.update.new.clock c.update.new.self.core.served c.update.new.self.registry.registry c.update.new.self.core.timing
           (parts.0 ∙ c.in_ok-backends.ensures.parts.0) c.update.ensures.discovery c.in_ok-update.ensures.updated,
     )

@@ -24,12 +24,16 @@ returns-clause-answers g c key_of events r e s =
     let accepts = AcceptsBy g.F.Fn c.args.accept.now (Judges key_of events e) in
     let walks = g.S.BackendSelection.walks in
     let selector = arc_value c.self.inside.selector in
-    let asked = asked-more gives (walks (g.S.BackendSelection.members selector) (g.S.BackendSelection.built_with selector) c.args.key.now) accepts c.args.max_iterations
+    let asked = asked-more gives (walks (g.S.BackendSelection.members selector) (g.S.BackendSelection.built_with selector) c.args.key.now)
+    accepts c.args.max_iterations
     c.self.inside.words c.select.new.words c.select.result c.select.ensures
     (λ b a is. accepts-newest key_of events e here.view r is.shown.now b a is.shows is.says.met) in
-    subst (λ (v : ServedValue g.row.S-Config.Denot g.row.G.Denot). Selects same_member accepts c.args.max_iterations gives (walks (members_now e) v.config c.args.key.now) v.words c.select.result c.select.new.words)
+    subst (λ (v : ServedValue g.row.S-Config.Denot g.row.G.Denot). Selects same_member accepts c.args.max_iterations gives
+    (walks (members_now e) v.config c.args.key.now) v.words c.select.result c.select.new.words)
     c.self.view_is
-    (subst (λ config. Selects same_member accepts c.args.max_iterations gives (walks (members_now e) config c.args.key.now) c.self.inside.words c.select.result c.select.new.words)
+    (subst (λ config. Selects same_member accepts c.args.max_iterations gives (walks (members_now e) config c.args.key.now)
+    c.self.inside.words c.select.result c.select.new.words)
     c.self.invariant.0
-    (subst (λ (ms : List Member). Selects same_member accepts c.args.max_iterations gives (walks ms (g.S.BackendSelection.built_with selector) c.args.key.now) c.self.inside.words c.select.result c.select.new.words)
+    (subst (λ (ms : List Member). Selects same_member accepts c.args.max_iterations gives
+    (walks ms (g.S.BackendSelection.built_with selector) c.args.key.now) c.self.inside.words c.select.result c.select.new.words)
     here.members asked))

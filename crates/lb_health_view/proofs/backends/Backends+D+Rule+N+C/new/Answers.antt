@@ -9,7 +9,8 @@ if_ok : {A E : Type 0} {P Q : A → Type 0} (r : Result A E) → IfOk r P → ((
 if_ok (Ok x) h f = f x h
 if_ok (Err e) h f = tt
 
-growth_only : {A : Type 0} (r : Result A Refusal) → OnErr r (IsGrowthRefusal r) → (IsErrOf r NumbersExhausted → ⊥) → OnErr r (r ≡ Err OutOfMemory)
+growth_only : {A : Type 0} (r : Result A Refusal) → OnErr r (IsGrowthRefusal r) → (IsErrOf r NumbersExhausted → ⊥)
+    → OnErr r (r ≡ Err OutOfMemory)
 growth_only (Ok x) h never = tt
 growth_only (Err e) (inl h) never = h
 growth_only (Err e) (inr h) never = absurd (never h)

@@ -20,7 +20,8 @@ returns-in-Some c =
     let entries = c.self.inside.by_backend.entries in
     let seen : address_seen c.identity-weight.result.0.now ≡ a = search rules in
     let is = ap (λ (p : Address). (p, c.identity-weight.result.1)) (sym seen) ∙ c.identity-weight.ensures in
-    let hints : AreHints entries c.as_slice-hints.result.now = subst (AreHints entries) (sym c.as_slice-hints.ensures.value) c.self.invariant in
+    let hints : AreHints entries c.as_slice-hints.result.now =
+    subst (AreHints entries) (sym c.as_slice-hints.ensures.value) c.self.invariant in
     told_of entries c.args.self.now c.args.backend.now a c.identity-weight.result.1 (Some c.in-Some.cell) c.self.view_is is
     (c.in-Some.ensures entries hints)
 
@@ -30,6 +31,7 @@ returns-in-None c =
     let entries = c.self.inside.by_backend.entries in
     let seen : address_seen c.identity-weight.result.0.now ≡ a = search rules in
     let is = ap (λ (p : Address). (p, c.identity-weight.result.1)) (sym seen) ∙ c.identity-weight.ensures in
-    let hints : AreHints entries c.as_slice-hints.result.now = subst (AreHints entries) (sym c.as_slice-hints.ensures.value) c.self.invariant in
+    let hints : AreHints entries c.as_slice-hints.result.now =
+    subst (AreHints entries) (sym c.as_slice-hints.ensures.value) c.self.invariant in
     told_of entries c.args.self.now c.args.backend.now a c.identity-weight.result.1 c.told-in-None.result c.self.view_is is
     (c.told-in-None.ensures entries hints)

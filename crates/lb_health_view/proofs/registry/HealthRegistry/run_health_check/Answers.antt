@@ -11,7 +11,8 @@ pub returns-clause-ok : goal.returns-clause-ok
 returns-clause-ok g c = λ key_of events r.
     let answers = g.C.HealthCheck.answers in
     let threshold = g.C.HealthCheck.threshold in
-    let before = subst (λ (v : HealthValue g.row.R.Denot g.row.C.Denot). IsRegistryAfter g.R.KeyRule.gives key_of events v.registry) (sym c.self.view_is) r in
+    let before = subst (λ (v : HealthValue g.row.R.Denot g.row.C.Denot). IsRegistryAfter g.R.KeyRule.gives key_of events v.registry)
+    (sym c.self.view_is) r in
     let applied = c.in_ok-targets.ensures.ok key_of events before in
     let targets = c.in_ok-targets.ensures.targets key_of events before in
     elim c.match-self.branch [

@@ -28,22 +28,26 @@ still r now before after is g s flags =
 pub returns-in_err-flag_all-clause-view_err : goal.returns-in_err-flag_all-clause-view_err
 returns-in_err-flag_all-clause-view_err g c =
     still _ c.args.self.now _ _ c.self.view_is refl
-    (ap (λ (ss : List ViewSnapshot). snapshot_of c.self.inside.current ∷ map snapshot_of ss) c.reserve.ensures.items) c.flag_all.ensures.flags
+    (ap (λ (ss : List ViewSnapshot). snapshot_of c.self.inside.current ∷ map snapshot_of ss) c.reserve.ensures.items)
+    c.flag_all.ensures.flags
 
 pub returns-in_err-copy-clause-view_err : goal.returns-in_err-copy-clause-view_err
 returns-in_err-copy-clause-view_err g c =
     still _ c.args.self.now _ _ c.self.view_is refl
-    (ap (λ (ss : List ViewSnapshot). snapshot_of c.self.inside.current ∷ map snapshot_of ss) c.reserve.ensures.items) c.flag_all.ensures.flags
+    (ap (λ (ss : List ViewSnapshot). snapshot_of c.self.inside.current ∷ map snapshot_of ss) c.reserve.ensures.items)
+    c.flag_all.ensures.flags
 
 pub returns-in_err-members-clause-view_err : goal.returns-in_err-members-clause-view_err
 returns-in_err-members-clause-view_err g c =
     still _ c.args.self.now _ _ c.self.view_is refl
-    (ap (λ (ss : List ViewSnapshot). snapshot_of c.self.inside.current ∷ map snapshot_of ss) c.reserve.ensures.items) c.flag_all.ensures.flags
+    (ap (λ (ss : List ViewSnapshot). snapshot_of c.self.inside.current ∷ map snapshot_of ss) c.reserve.ensures.items)
+    c.flag_all.ensures.flags
 
 pub returns-in_err-cells-clause-view_err : goal.returns-in_err-cells-clause-view_err
 returns-in_err-cells-clause-view_err g c =
     still _ c.args.self.now _ _ c.self.view_is refl
-    (ap (λ (ss : List ViewSnapshot). snapshot_of c.self.inside.current ∷ map snapshot_of ss) c.reserve.ensures.items) c.flag_all.ensures.flags
+    (ap (λ (ss : List ViewSnapshot). snapshot_of c.self.inside.current ∷ map snapshot_of ss) c.reserve.ensures.items)
+    c.flag_all.ensures.flags
 
 pub returns-clause-some : goal.returns-clause-some
 returns-clause-some g c = (
@@ -56,11 +60,18 @@ returns-clause-some g c = (
         snapshots = snapshot_of c.self.inside.current ∷ map snapshot_of c.reserve.new.self.items;
         flags = c.flag_all.new.flags.entries;
       })
-      before refl (ap (λ (ss : List ViewSnapshot). snapshot_of c.self.inside.current ∷ map snapshot_of ss) c.reserve.ensures.items) c.flag_all.ensures.flags in
+      before refl (ap (λ (ss : List ViewSnapshot). snapshot_of c.self.inside.current ∷ map snapshot_of ss) c.reserve.ensures.items)
+      c.flag_all.ensures.flags in
       let n : ℕ = c.in-Some.next in
       let next : n ≡ c.self.inside.current.generation + 1 = c.in-Some.ensures.1 in
-      let new : ViewSnapshot = record { generation = n; members = c.in_ok-members.members; cells = c.in_ok-cells.cells.entries; holds = 0 } in
-      let after : c.replace.new.dest ≡ new = c.replace.ensures.after ∙ ap (λ (cs : List (Member × ℕ)). record new { cells = cs }) c.new-hinted.ensures in
+      let new : ViewSnapshot = record {
+        generation = n;
+        members = c.in_ok-members.members;
+        cells = c.in_ok-cells.cells.entries;
+        holds = 0;
+      } in
+      let after : c.replace.new.dest ≡ new = c.replace.ensures.after
+      ∙ ap (λ (cs : List (Member × ℕ)). record new { cells = cs }) c.new-hinted.ensures in
       let items : c.push_reserved.new.self.items ≡ c.reserve.new.self.items ++ c.self.inside.current ∷ [] = c.push_reserved.ensures.items
       ∙ ap (λ (s : ViewSnapshot). c.reserve.new.self.items ++ s ∷ []) c.replace.ensures.value in
       let members : (arc_value c.in_ok-members.members).keys ≡ c.args.members.keys = ap (λ s. s.keys) c.in_ok-members.ensures.ok in
@@ -80,7 +91,8 @@ returns-clause-some g c = (
 pub returns-clause-view : goal.returns-clause-view
 unfolding returns-clause-some
 returns-clause-view g c = λ key_of views events h r.
-    let cells : c.in_ok-cells.cells.entries ≡ shown_cells key_of c.args.self.now.id c.args.members.keys events = c.in_ok-cells.ensures.cells key_of events r
+    let cells : c.in_ok-cells.cells.entries ≡ shown_cells key_of c.args.self.now.id c.args.members.keys events =
+    c.in_ok-cells.ensures.cells key_of events r
     ∙ ap (λ ms. shown_cells key_of c.self.inside.id ms events) c.in_ok-copy.ensures.ok
     ∙ ap (λ (v : ViewValue). shown_cells key_of v.id c.args.members.keys events) c.self.view_is in
     subst (λ cs. IsViewAfter (Shown c.args.members.keys cs ∷ views) c.prune.new.self) cells ((returns-clause-some g c).1 views h)
@@ -89,24 +101,31 @@ pub returns-clause-registry : goal.returns-clause-registry
 returns-clause-registry g c = λ key_of views events h r.
     let viewed = returns-clause-view g c key_of views events h r in
     let id : c.self.inside.id ≡ c.args.self.now.id = ap (λ (v : ViewValue). v.id) c.self.view_is in
-    let last : c.self.inside.current.generation ≡ generation_after views = ap (λ (v : ViewValue). v.generation) c.self.view_is ∙ h.generation in
+    let last : c.self.inside.current.generation ≡ generation_after views = ap (λ (v : ViewValue). v.generation) c.self.view_is
+    ∙ h.generation in
     let next : c.in-Some.next ≡ generation_after views + 1 = c.in-Some.ensures.1 ∙ ap (λ m. m + 1) last in
     let after : List Event = after_show c.args.self.now.id (generation_after views + 1) c.args.members.keys events in
     let held : IsRegistryAfter g.R.KeyRule.gives key_of after c.show_view.new.self =
-    subst (λ i. IsRegistryAfter g.R.KeyRule.gives key_of (after_show i (generation_after views + 1) c.args.members.keys events) c.show_view.new.self) id
-    (subst (λ n. IsRegistryAfter g.R.KeyRule.gives key_of (after_show c.self.inside.id n c.args.members.keys events) c.show_view.new.self) next
-    (subst (λ ms. IsRegistryAfter g.R.KeyRule.gives key_of (after_show c.self.inside.id c.in-Some.next ms events) c.show_view.new.self) c.in_ok-copy.ensures.ok
+    subst (λ i. IsRegistryAfter g.R.KeyRule.gives key_of (after_show i (generation_after views + 1) c.args.members.keys events)
+    c.show_view.new.self) id
+    (subst (λ n. IsRegistryAfter g.R.KeyRule.gives key_of (after_show c.self.inside.id n c.args.members.keys events) c.show_view.new.self)
+    next
+    (subst (λ ms. IsRegistryAfter g.R.KeyRule.gives key_of (after_show c.self.inside.id c.in-Some.next ms events) c.show_view.new.self)
+    c.in_ok-copy.ensures.ok
     (c.in_ok-cells.ensures.ok key_of events r))) in
-    let lived : c.lives.result ≡ lives (generation_after views) (snapshots_after (view_changed key_of c.args.self.now.id c.args.members.keys events views)) =
+    let lived : c.lives.result ≡ lives (generation_after views)
+    (snapshots_after (view_changed key_of c.args.self.now.id c.args.members.keys events views)) =
     c.lives.ensures ∙ ap (λ ss. lives c.self.inside.current.generation ss) viewed.snapshots
     ∙ ap (λ m. lives m (snapshots_after (view_changed key_of c.args.self.now.id c.args.members.keys events views))) last in
-    let Left : Bool → Type 0 = λ b. IsRegistryAfter g.R.KeyRule.gives key_of (if b then after else Released c.args.self.now.id (generation_after views) ∷ after) c.if-not-lives.registry in
+    let Left : Bool → Type 0 = λ b. IsRegistryAfter g.R.KeyRule.gives key_of
+    (if b then after else Released c.args.self.now.id (generation_after views) ∷ after) c.if-not-lives.registry in
     subst Left lived (elim c.if-not-lives.branch [
       | then-not-lives w ↦ let no : c.lives.result ≡ false = search rules in
           let same : c.self-2.inside.id ≡ c.args.self.now.id = ap (λ (v : ViewValue). v.id) c.self-2.view_is ∙ c.prune.ensures.id ∙ id in
           subst Left (sym no) (rw w.registry-is
           (subst (λ m. IsRegistryAfter g.R.KeyRule.gives key_of (Released c.args.self.now.id m ∷ after) w.release.new.self) last
-          (subst (λ i. IsRegistryAfter g.R.KeyRule.gives key_of (Released i c.self.inside.current.generation ∷ after) w.release.new.self) same
+          (subst (λ i. IsRegistryAfter g.R.KeyRule.gives key_of (Released i c.self.inside.current.generation ∷ after) w.release.new.self)
+          same
           (w.release.ensures key_of after held))))
       | else-not-lives w ↦ let yes : c.lives.result ≡ true = search rules in subst Left (sym yes) (rw w.registry-is held)
     ])
@@ -119,8 +138,14 @@ returns-clause-next g c =
 pub invariant_of-self-2 : goal.invariant_of-self-2
 invariant_of-self-2 g c =
     let current : ViewSnapshot = c.self.inside.current in
-    let new : ViewSnapshot = record { generation = c.in-Some.next; members = c.in_ok-members.members; cells = c.in_ok-cells.cells.entries; holds = 0 } in
-    let after : c.replace.new.dest ≡ new = c.replace.ensures.after ∙ ap (λ (cs : List (Member × ℕ)). record new { cells = cs }) c.new-hinted.ensures in
+    let new : ViewSnapshot = record {
+      generation = c.in-Some.next;
+      members = c.in_ok-members.members;
+      cells = c.in_ok-cells.cells.entries;
+      holds = 0;
+    } in
+    let after : c.replace.new.dest ≡ new = c.replace.ensures.after
+    ∙ ap (λ (cs : List (Member × ℕ)). record new { cells = cs }) c.new-hinted.ensures in
     let members : (arc_value c.in_ok-members.members).keys ≡ c.args.members.keys = ap (λ s. s.keys) c.in_ok-members.ensures.ok in
     let items : c.push_reserved.new.self.items ≡ c.self.inside.earlier.items ++ current ∷ [] = c.push_reserved.ensures.items
     ∙ ap (λ (s : ViewSnapshot). c.reserve.new.self.items ++ s ∷ []) c.replace.ensures.value
@@ -128,7 +153,8 @@ invariant_of-self-2 g c =
       flags-more c.self.inside.disabled c.self.inside.flags.entries _ c.self.invariant.0 c.flag_all.ensures.flags,
       (
         subst (λ (s : ViewSnapshot). HasOwnCells (snapshot_of s).members (snapshot_of s).cells) (sym after)
-            (subst (λ (ms : List Member). HasOwnCells ms c.in_ok-cells.cells.entries) (c.in_ok-copy.ensures.ok ∙ sym members) c.in_ok-cells.ensures.own),
+            (subst (λ (ms : List Member). HasOwnCells ms c.in_ok-cells.cells.entries) (c.in_ok-copy.ensures.ok
+            ∙ sym members) c.in_ok-cells.ensures.own),
         subst (λ (ss : List ViewSnapshot). HaveOwnCells (map snapshot_of ss)) (sym items)
             (own-behind c.self.inside.earlier.items current c.self.invariant.1.1 c.self.invariant.1.0),
       ),

@@ -7,4 +7,5 @@ pub returns-then-not-self : goal.returns-then-not-self
 returns-then-not-self c = λ views h listed.
     let before = subst (λ v. IsViewAfter views v) (sym c.self.view_is) h in
     let none : c.self.inside.disabled ≡ false = search rules in
-    all-enabled _ _ (before.needed c.args.backend.now listed) (c.self.invariant.0 none c.args.backend.now) (before.stored c.args.backend.now)
+    all-enabled _ _ (before.needed c.args.backend.now listed) (c.self.invariant.0 none c.args.backend.now)
+    (before.stored c.args.backend.now)

@@ -8,4 +8,5 @@ use Rattle.lb_health_view.proofs.view.ViewCore.is_member.Goals as goal
 pub returns : goal.returns
 returns c = λ views h.
     let before = subst (λ v. IsViewAfter views v) (sym c.self.view_is) h in
-    c.contains.ensures ∙ ap (λ s. list_any (same_member c.args.backend.now) s.keys) c.deref.ensures ∙ ap (λ ms. list_any (same_member c.args.backend.now) ms) (members_are views _ before)
+    c.contains.ensures ∙ ap (λ s. list_any (same_member c.args.backend.now) s.keys) c.deref.ensures
+    ∙ ap (λ ms. list_any (same_member c.args.backend.now) ms) (members_are views _ before)

@@ -9,17 +9,20 @@ pub returns-in-Some : goal.returns-in-Some
 returns-in-Some g c = λ key_of views events h r.
     let before = subst (λ v. IsViewAfter views v) (sym c.self.view_is) h in
     let place = rw c.as_slice.ensures.value at (sym c.place_of.ensures ∙ c.in-Some.is) in
-    let found = find_found c.args.generation (snapshot_of c.self.inside.current) c.self.inside.earlier.items c.in-Some.place c.index.result.now c.if-self-generation.false place c.index.ensures in
+    let found = find_found c.args.generation (snapshot_of c.self.inside.current) c.self.inside.earlier.items c.in-Some.place
+    c.index.result.now c.if-self-generation.false place c.index.ensures in
     let there = ap (λ ss. snapshot_at c.args.generation ss) (sym before.snapshots) ∙ found in
     rw there (c.is_ready-in-Some.ensures key_of views events h r
     (own-found c.self.inside.earlier.items c.in-Some.place c.args.generation c.index.result.now c.self.invariant.1.1 place c.index.ensures)
     (λ l. ap (λ ss. lists_in c.args.backend.now ss) (sym before.snapshots)
-    ∙ lists_found c.args.backend.now (snapshot_of c.self.inside.current) c.self.inside.earlier.items c.in-Some.place c.args.generation c.index.result.now place c.index.ensures l))
+    ∙ lists_found c.args.backend.now (snapshot_of c.self.inside.current) c.self.inside.earlier.items c.in-Some.place c.args.generation
+    c.index.result.now place c.index.ensures l))
 
 pub returns-in-None : goal.returns-in-None
 returns-in-None g c = λ key_of views events h r.
     let before = subst (λ v. IsViewAfter views v) (sym c.self.view_is) h in
     let place = rw c.as_slice.ensures.value at (sym c.place_of.ensures ∙ c.in-None.is) in
-    let none = find_none c.args.generation (snapshot_of c.self.inside.current) c.self.inside.earlier.items c.if-self-generation.false place in
+    let none = find_none c.args.generation (snapshot_of c.self.inside.current) c.self.inside.earlier.items c.if-self-generation.false
+    place in
     let there = ap (λ ss. snapshot_at c.args.generation ss) (sym before.snapshots) ∙ none in
     rw there (λ t. absurd (cc), λ e. absurd e)

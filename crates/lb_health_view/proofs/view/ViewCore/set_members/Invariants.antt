@@ -10,5 +10,7 @@ invariant-loop-addr l = record {
   generation : l.self.generation ≡ l.fn.self.generation;
   snapshots : l.self.snapshots ≡ l.fn.self.snapshots;
   after : (views : List ViewEvent) → IsViewAfter views l.fn.self
-      → (now : List ViewEvent) × (IsViewAfter now l.self × (after_settings (settings_of l.addr-iterator) now ≡ after_settings (settings_of l.fn.settings.entries) views));
+      → (now : List ViewEvent)
+      × (IsViewAfter now l.self
+      × (after_settings (settings_of l.addr-iterator) now ≡ after_settings (settings_of l.fn.settings.entries) views));
 }

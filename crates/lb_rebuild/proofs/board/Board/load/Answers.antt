@@ -19,6 +19,10 @@ returns c =
     let same = ap (λ (z : BoardId). z.words) (ap (λ (v : PassValue). v.board) c.pass.view_is ∙ c.requires.here) in
     let values : c.args.word < length c.pass.inside.seat.me.0.values = omega (arith, c.requires.word, own.2, same) in
     let loads : c.args.word < length c.pass.inside.seat.me.0.loads = omega (arith, c.requires.word, own.3, same) in
-    let after : PassValue = record { board = c.load.new.seat.table_id; values = c.load.new.seat.me.0.values; loads = c.load.new.seat.me.0.loads } in
+    let after : PassValue = record {
+      board = c.load.new.seat.table_id;
+      values = c.load.new.seat.me.0.values;
+      loads = c.load.new.seat.me.0.loads;
+    } in
     subst (λ (p : PassValue). IsLoad p c.args.word c.load.result after) c.pass.view_is
     (loaded_pass _ _ c.args.word c.load.result e.0 (ap (λ m. m.0.values) me) (ap (λ m. m.0.loads) me) values loads e.2.1)

@@ -13,7 +13,8 @@ fetch_max-requires c =
     let few = ap (λ (z : BoardId). z.words) c.self.view_is in (
       same,
       omega (arith, c.requires.word, few),
-      raises_as _ _ _ _ _ _ own.0 own.1 (λ apart. subst (λ (v : WriterValue). c.args.generation ≤ slice_index v.words 0) (sym c.pass.view_is) (c.requires.led apart)),
+      raises_as _ _ _ _ _ _ own.0 own.1 (λ apart. subst (λ (v : WriterValue). c.args.generation ≤ slice_index v.words 0)
+          (sym c.pass.view_is) (c.requires.led apart)),
     )
 
 pub returns : goal.returns

@@ -20,7 +20,8 @@ raise-requires-clause-led g c _ =
     (λ made e s. (c.in-Ok-Published.ensures.answers made e s).0)
     (subst (λ (t : Publication). Becomes c.self.inside.core (in_group (publish_events c.args.built (Ok t))) c.publish.new.self)
     c.in-Ok-Published.field-0-is c.in-Ok-Published.ensures.stands) in
-    subst (λ l. c.generation-generation.result ≤ slice_index l 0) (sym c.self.invariant.1) (omega (arith, r.led, c.generation-generation.ensures))
+    subst (λ l. c.generation-generation.result ≤ slice_index l 0) (sym c.self.invariant.1)
+    (omega (arith, r.led, c.generation-generation.ensures))
 
 pub invariant_of-self : goal.invariant_of-self
 invariant_of-self g c =
@@ -33,7 +34,8 @@ invariant_of-self g c =
     (subst (λ (t : Publication). Becomes c.self.inside.core (in_group (publish_events c.args.built (Ok t))) c.publish.new.self)
     c.in-Ok-Published.field-0-is c.in-Ok-Published.ensures.stands) in (
       ap (λ (x : WriterValue). x.board) c.raise.ensures ∙ w.0,
-      raised_slot c.self.inside.core.group c.publish.new.self.group c.self.inside.writer.words c.raise.new.pass.words c.args.built.task.slot c.args.built.task.generation r w.1
+      raised_slot c.self.inside.core.group c.publish.new.self.group c.self.inside.writer.words c.raise.new.pass.words c.args.built.task.slot
+          c.args.built.task.generation r w.1
           (words ∙ ap (λ s. raised_words c.self.inside.writer.words (s + 1) c.generation-generation.result) c.slot-slot.ensures
           ∙ ap (λ n. raised_words c.self.inside.writer.words (c.args.built.task.slot + 1) n) c.generation-generation.ensures),
       w.2 ∙ sym (ap length words ∙ length-set c.self.inside.writer.words (c.slot-slot.result + 1) _),

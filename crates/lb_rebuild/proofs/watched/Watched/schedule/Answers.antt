@@ -46,10 +46,12 @@ pub invariant_of-self-then-scheduled : goal.invariant_of-self-then-scheduled
 invariant_of-self-then-scheduled g c =
     let w = c.self.invariant in
     let words = ap (λ (x : WriterValue). x.words) c.raise.ensures in
-    let r = scheduled c.schedule.new.self c.args.discovered.keys c.args.now c.in_ok-scheduled.scheduled c.past.ensures refl c.if-scheduled.true
+    let r = scheduled c.schedule.new.self c.args.discovered.keys c.args.now c.in_ok-scheduled.scheduled c.past.ensures refl
+    c.if-scheduled.true
     c.in_ok-scheduled.ensures.answers c.in_ok-scheduled.ensures.group in (
       ap (λ (x : WriterValue). x.board) c.raise.ensures ∙ w.0,
-      raised_newest c.self.inside.core.group c.schedule.new.self.group c.self.inside.writer.words c.raise.new.pass.words c.in_ok-scheduled.scheduled.generation r w.1 words,
+      raised_newest c.self.inside.core.group c.schedule.new.self.group c.self.inside.writer.words c.raise.new.pass.words
+          c.in_ok-scheduled.scheduled.generation r w.1 words,
       w.2 ∙ sym (ap length words ∙ length-set c.self.inside.writer.words 0 _),
     )
 
@@ -57,7 +59,8 @@ pub invariant_of-self-else-scheduled : goal.invariant_of-self-else-scheduled
 invariant_of-self-else-scheduled g c =
     let w = c.self.invariant in (
       w.0,
-      w.1 ∙ sym (unscheduled c.schedule.new.self c.args.discovered.keys c.args.now c.in_ok-scheduled.scheduled c.past.ensures refl c.if-scheduled.false c.in_ok-scheduled.ensures.group),
+      w.1 ∙ sym (unscheduled c.schedule.new.self c.args.discovered.keys c.args.now c.in_ok-scheduled.scheduled c.past.ensures refl
+          c.if-scheduled.false c.in_ok-scheduled.ensures.group),
       w.2,
     )
 

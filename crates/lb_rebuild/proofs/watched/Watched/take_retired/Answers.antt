@@ -9,6 +9,7 @@ pub invariant_of-self : goal.invariant_of-self
 invariant_of-self g c =
     let w = c.self.invariant in (
       w.0,
-      w.1 ∙ sym (quiet_call (λ made e. done_at c.args.slot TakenOut c.take_retired.result) c.past.ensures refl (λ made e. quiet_done c.args.slot TakenOut c.take_retired.result (λ i h. refl)) c.take_retired.ensures.stands),
+      w.1 ∙ sym (quiet_call (λ made e. done_at c.args.slot TakenOut c.take_retired.result) c.past.ensures refl
+          (λ made e. quiet_done c.args.slot TakenOut c.take_retired.result (λ i h. refl)) c.take_retired.ensures.stands),
       w.2,
     )

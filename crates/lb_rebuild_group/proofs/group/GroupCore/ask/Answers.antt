@@ -13,7 +13,8 @@ hold-requires g c =
     let p = c.self.invariant in
     let s = p.1.1 in
     let after : StandsFor p.0 (Happened c.args.slot (Granted c.args.now) ∷ slot_events p.1.0) c.ask.new.self =
-    job-stands p.0 (slot_events p.1.0) c.args.slot c.args.now c.in_ok-answer.answer c.in-Job._job c.ask.new.self c.in-Job.is (c.in_ok-answer.ensures.stands p.0 (slot_events p.1.0) s.group) in
+    job-stands p.0 (slot_events p.1.0) c.args.slot c.args.now c.in_ok-answer.answer c.in-Job._job c.ask.new.self c.in-Job.is
+    (c.in_ok-answer.ensures.stands p.0 (slot_events p.1.0) s.group) in
     ask-fits p.0 p.1.0 c.args.slot c.args.now c.newest.result c.ask.new.self c.self.inside.view s.few s.view
     (c.in_ok-answer.ensures.answers p.0 (slot_events p.1.0) s.group).0 after (c.newest.ensures p.0 _ after)
 
@@ -22,12 +23,14 @@ invariant_of-self-in-Job g c =
     let p = c.self.invariant in
     let s = p.1.1 in
     let after : StandsFor p.0 (Happened c.args.slot (Granted c.args.now) ∷ slot_events p.1.0) c.ask.new.self =
-    job-stands p.0 (slot_events p.1.0) c.args.slot c.args.now c.in_ok-answer.answer c.in-Job._job c.ask.new.self c.in-Job.is (c.in_ok-answer.ensures.stands p.0 (slot_events p.1.0) s.group) in (
+    job-stands p.0 (slot_events p.1.0) c.args.slot c.args.now c.in_ok-answer.answer c.in-Job._job c.ask.new.self c.in-Job.is
+    (c.in_ok-answer.ensures.stands p.0 (slot_events p.1.0) s.group) in (
       p.0,
       (
         _,
         job-joined p.0 p.1.0 c.args.slot c.args.now c.newest.result c.ask.new.self c.hold.new.self s.few
-            (c.in_ok-answer.ensures.answers p.0 (slot_events p.1.0) s.group).0 after (c.newest.ensures p.0 _ after) (c.hold.ensures.after (views_of p.0 p.1.0) s.view),
+            (c.in_ok-answer.ensures.answers p.0 (slot_events p.1.0) s.group).0 after (c.newest.ensures p.0 _ after)
+            (c.hold.ensures.after (views_of p.0 p.1.0) s.view),
       ),
     )
 
@@ -41,7 +44,9 @@ returns-clause-stands g c made e s =
       | in-Job w ↦
           let after : StandsFor made (Happened c.args.slot (Granted c.args.now) ∷ slot_events e) c.ask.new.self =
           job-stands made (slot_events e) c.args.slot c.args.now c.in_ok-answer.answer w.in-Job._job c.ask.new.self w.in-Job.is stands in
-          rw (w.self-is, w.in-Job.is) (job-joined made e c.args.slot c.args.now w.newest.result c.ask.new.self w.hold.new.self s.few inside after (w.newest.ensures made _ after)
+          rw (w.self-is, w.in-Job.is) (job-joined made e c.args.slot c.args.now w.newest.result c.ask.new.self w.hold.new.self s.few inside
+          after (w.newest.ensures made _ after)
           (w.hold.ensures.after (views_of made e) seen))
-      | in_default w ↦ rw w.self-is (other-joined made e c.args.slot c.args.now c.in_ok-answer.answer c.ask.new.self c.self.inside.view s.few w.in_default.not-Job stands seen)
+      | in_default w ↦ rw w.self-is (other-joined made e c.args.slot c.args.now c.in_ok-answer.answer c.ask.new.self c.self.inside.view
+          s.few w.in_default.not-Job stands seen)
     ]

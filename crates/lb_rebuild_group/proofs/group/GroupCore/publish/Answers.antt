@@ -6,9 +6,16 @@ use Rattle.lb_rebuild_group.proofs.group.GroupCore.publish.Goals as goal
 
 pub invariant_of-self : goal.invariant_of-self
 invariant_of-self g c =
-    let p = c.self.invariant in
-    (p.0, (_, joined-still p.0 p.1.0 (publish_events c.args.built c.publish.result) _ _ _ _ refl p.1.1 (c.publish.ensures.stands p.0) (still-published (length p.0.configs) c.args.built c.publish.result p.1.0)))
+    let p = c.self.invariant in (
+      p.0,
+      (
+        _,
+        joined-still p.0 p.1.0 (publish_events c.args.built c.publish.result) _ _ _ _ refl p.1.1 (c.publish.ensures.stands p.0)
+            (still-published (length p.0.configs) c.args.built c.publish.result p.1.0),
+      ),
+    )
 
 pub returns-clause-stands : goal.returns-clause-stands
 returns-clause-stands g c made e s =
-    joined-still made e (publish_events c.args.built c.publish.result) _ _ _ _ c.self.view_is s (c.publish.ensures.stands made) (still-published (length made.configs) c.args.built c.publish.result e)
+    joined-still made e (publish_events c.args.built c.publish.result) _ _ _ _ c.self.view_is s (c.publish.ensures.stands made)
+    (still-published (length made.configs) c.args.built c.publish.result e)

@@ -12,16 +12,26 @@ use Rattle.lb_rebuild_group.proofs.group.GroupCore.select_with.Goals as goal
 
 pub invariant_of-self : goal.invariant_of-self
 invariant_of-self g c =
-    let p = c.self.invariant in
-    (p.0, (_, joined-still p.0 p.1.0 (select_events p.0 c.args.slot c.select_with.result) _ _ _ _ refl p.1.1 (c.select_with.ensures.stands p.0) (still-selected p.0 c.args.slot c.select_with.result p.1.0)))
+    let p = c.self.invariant in (
+      p.0,
+      (
+        _,
+        joined-still p.0 p.1.0 (select_events p.0 c.args.slot c.select_with.result) _ _ _ _ refl p.1.1
+            (c.select_with.ensures.stands p.0) (still-selected p.0 c.args.slot c.select_with.result p.1.0),
+      ),
+    )
 
 pub returns-clause-answers : goal.returns-clause-answers
 returns-clause-answers g c key_of events registry made e s =
-    let here : Stands made e (record { group = c.self.inside.group; view = c.self.inside.view }) = subst (λ v. Stands made e v) (sym c.self.view_is) s in
+    let here : Stands made e (record { group = c.self.inside.group; view = c.self.inside.view }) =
+    subst (λ v. Stands made e v) (sym c.self.view_is) s in
     let at : (config : _) → slice_get made.configs c.args.slot ≡ Some config → c.unwrap_or-served.result ≡ served_at c.args.slot e =
-    λ config there. c.unwrap_or-served.ensures ∙ number-there made c.args.slot (served_at c.args.slot e) c.served.result config there (c.served.ensures made (slot_events e) here.group) in
-    asked-in-more g.S.BackendSelection.may_draw_random g.S.BackendSelection.walks (AcceptsBy g.F.Fn c.args.accept.now (Judges key_of events made e (served_at c.args.slot e)))
+    λ config there. c.unwrap_or-served.ensures ∙ number-there made c.args.slot (served_at c.args.slot e) c.served.result config there
+    (c.served.ensures made (slot_events e) here.group) in
+    asked-in-more g.S.BackendSelection.may_draw_random g.S.BackendSelection.walks
+    (AcceptsBy g.F.Fn c.args.accept.now (Judges key_of events made e (served_at c.args.slot e)))
     (load_in c.args.loads.now) made (slot_events e) c.args.slot c.args.key.now c.args.limit c.args.random.now c.select_with.result
     (c.select_with.ensures.answers made (slot_events e) here.group)
     (λ config there b a is.
-    accepts-served key_of events made e c.args.slot c.unwrap_or-served.result here.view registry (at config there) is.shown.now b a is.shows is.says.met)
+    accepts-served key_of events made e c.args.slot c.unwrap_or-served.result here.view registry (at config there) is.shown.now b a is.shows
+    is.says.met)

@@ -7,5 +7,10 @@ use Rattle.lb_rebuild_group.proofs.group.GroupCore.set_enable.Goals as goal
 pub invariant_of-self : goal.invariant_of-self
 invariant_of-self g c =
     let p = c.self.invariant in
-    let s = p.1.1 in
-    (p.0, (Set c.args.backend.now c.args.enabled ∷ p.1.0, record { few = s.few; group = s.group; view = c.set_enable.ensures.after (views_of p.0 p.1.0) s.view }))
+    let s = p.1.1 in (
+      p.0,
+      (
+        Set c.args.backend.now c.args.enabled ∷ p.1.0,
+        record { few = s.few; group = s.group; view = c.set_enable.ensures.after (views_of p.0 p.1.0) s.view },
+      ),
+    )

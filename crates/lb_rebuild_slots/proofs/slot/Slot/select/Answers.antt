@@ -3,7 +3,8 @@ use Rattle.std.proofs.lemmas.Bool.{lt-leb}
 use Rattle.std.specs.Arc.{arc_value}
 use Rattle.std.specs.Fn.{FnReturnsAt}
 use Rattle.lb_rebuild_slots.proofs.Selecting.{not-random, enough-words, selected}
-use Rattle.lb_rebuild_slots.proofs.slot.Slot.select.Goals.{else-draws_random-via-then-draws_random+else-random-limit, else-draws_random-via-else-draws_random}
+use Rattle.lb_rebuild_slots.proofs.slot.Slot.select.Goals.{else-draws_random-via-then-draws_random+else-random-limit}
+use Rattle.lb_rebuild_slots.proofs.slot.Slot.select.Goals.{else-draws_random-via-else-draws_random}
 use Rattle.lb_rebuild_slots.proofs.slot.Slot.select.Goals as goal
 
 pub returns-clause-selected : goal.returns-clause-selected
@@ -17,6 +18,8 @@ returns-clause-selected g c =
       | else-draws_random-via-then-draws_random+else-random-limit w ↦ enough-words _ _ (lt-leb _ _ w.if-random-limit.false)
       | else-draws_random-via-else-draws_random w ↦ not-random _ _ (sym draws ∙ w.if-draws_random.false)
     ] in
-    selected of.may_draw_random of.walks (λ b a. FnReturnsAt g.F.Fn c.args.accept.now b a) c.args.loads.now c.args.key.now c.args.limit c.args.random.now
-    _ _ _ c.new-words.result c.select-answer.new.words c.serving.view_is enough c.new-words.ensures c.drawn.ensures c.tickets-serving-inside.ensures
+    selected of.may_draw_random of.walks (λ b a. FnReturnsAt g.F.Fn c.args.accept.now b a) c.args.loads.now c.args.key.now c.args.limit
+    c.args.random.now
+    _ _ _ c.new-words.result c.select-answer.new.words c.serving.view_is enough c.new-words.ensures c.drawn.ensures
+    c.tickets-serving-inside.ensures
     c.select-answer.ensures

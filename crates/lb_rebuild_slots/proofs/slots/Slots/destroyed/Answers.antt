@@ -27,15 +27,18 @@ returns-then-not-report-clause-stands g c made h s =
 pub invariant_of-self-2 : goal.invariant_of-self-2
 invariant_of-self-2 g c =
     stays c.self.invariant c.self.view_is (λ made h s.
-    reported-stands (facing c.args.slot c.index_mut.result.now c.report.new.self c.self.view_is (omega arith) c.index_mut.ensures.value s) (sym c.report.ensures.out ∙ c.if-not-report.false) (rw c.if-not-report.false at c.report.ensures.slot))
+    reported-stands (facing c.args.slot c.index_mut.result.now c.report.new.self c.self.view_is (omega arith) c.index_mut.ensures.value s)
+    (sym c.report.ensures.out ∙ c.if-not-report.false) (rw c.if-not-report.false at c.report.ensures.slot))
 
 pub returns-clause-answers : goal.returns-clause-answers
 returns-clause-answers g c made h s =
-    owed-at (facing c.args.slot c.index_mut.result.now c.report.new.self c.self.view_is (omega arith) c.index_mut.ensures.value s) true (sym c.report.ensures.out ∙ c.if-not-report.false)
+    owed-at (facing c.args.slot c.index_mut.result.now c.report.new.self c.self.view_is (omega arith) c.index_mut.ensures.value s) true
+    (sym c.report.ensures.out ∙ c.if-not-report.false)
 
 pub returns-clause-stands : goal.returns-clause-stands
 returns-clause-stands g c made h s =
-    reported-stands (facing c.args.slot c.index_mut.result.now c.report.new.self c.self.view_is (omega arith) c.index_mut.ensures.value s) (sym c.report.ensures.out ∙ c.if-not-report.false) (rw c.if-not-report.false at c.report.ensures.slot)
+    reported-stands (facing c.args.slot c.index_mut.result.now c.report.new.self c.self.view_is (omega arith) c.index_mut.ensures.value s)
+    (sym c.report.ensures.out ∙ c.if-not-report.false) (rw c.if-not-report.false at c.report.ensures.slot)
 
 pub returns-clause-site : goal.returns-clause-site
 returns-clause-site g c = site-of c.self.invariant c.self.view_is (returns-clause-stands g c)

@@ -11,15 +11,21 @@ returns-then-slot-len-clause-answers g c made h s =
 pub invariant_of-self : goal.invariant_of-self
 invariant_of-self g c =
     stays c.self.invariant c.self.view_is (λ made h s.
-    (enters (facing c.args.slot c.index_mut.result.now c.enter.new.self c.self.view_is (omega arith) c.index_mut.ensures.value s) c.place-place.result c.enter.result (place-made c.place-place.ensures s) c.enter.ensures.ok c.enter.ensures.err c.enter.ensures.same).1)
+    (enters (facing c.args.slot c.index_mut.result.now c.enter.new.self c.self.view_is (omega arith) c.index_mut.ensures.value s)
+    c.place-place.result c.enter.result (place-made c.place-place.ensures s) c.enter.ensures.ok c.enter.ensures.err
+    c.enter.ensures.same).1)
 
 pub returns-clause-answers : goal.returns-clause-answers
 returns-clause-answers g c made h s =
-    (enters (facing c.args.slot c.index_mut.result.now c.enter.new.self c.self.view_is (omega arith) c.index_mut.ensures.value s) c.place-place.result c.enter.result (place-made c.place-place.ensures s) c.enter.ensures.ok c.enter.ensures.err c.enter.ensures.same).0
+    (enters (facing c.args.slot c.index_mut.result.now c.enter.new.self c.self.view_is (omega arith) c.index_mut.ensures.value s)
+    c.place-place.result c.enter.result (place-made c.place-place.ensures s) c.enter.ensures.ok c.enter.ensures.err
+    c.enter.ensures.same).0
 
 pub returns-clause-stands : goal.returns-clause-stands
 returns-clause-stands g c made h s =
-    (enters (facing c.args.slot c.index_mut.result.now c.enter.new.self c.self.view_is (omega arith) c.index_mut.ensures.value s) c.place-place.result c.enter.result (place-made c.place-place.ensures s) c.enter.ensures.ok c.enter.ensures.err c.enter.ensures.same).1
+    (enters (facing c.args.slot c.index_mut.result.now c.enter.new.self c.self.view_is (omega arith) c.index_mut.ensures.value s)
+    c.place-place.result c.enter.result (place-made c.place-place.ensures s) c.enter.ensures.ok c.enter.ensures.err
+    c.enter.ensures.same).1
 
 pub returns-clause-site : goal.returns-clause-site
 returns-clause-site g c = site-of c.self.invariant c.self.view_is (returns-clause-stands g c)

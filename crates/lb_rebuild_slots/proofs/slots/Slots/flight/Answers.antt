@@ -14,4 +14,5 @@ returns-then-slot-len g c made h s =
 pub returns : goal.returns
 returns g c made h s =
     let f = facing c.args.slot c.index.result.now c.index.result.now c.self.view_is (omega arith) c.index.ensures s in
-    shown f _ _ (c.flight.ensures ∙ ap (λ (z : SlotValue g.row.S-Config.Denot). cond (is_flight z.extra) (Some (flight_number z.extra)) None) f.slot)
+    shown f _ _ (c.flight.ensures
+    ∙ ap (λ (z : SlotValue g.row.S-Config.Denot). cond (is_flight z.extra) (Some (flight_number z.extra)) None) f.slot)

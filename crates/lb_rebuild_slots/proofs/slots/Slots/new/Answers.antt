@@ -7,8 +7,10 @@ use Rattle.lb_rebuild_slots.proofs.slots.Slots.new.Goals as goal
 
 pub invariant_of-result : goal.invariant_of-result
 invariant_of-result g c =
-    let none : (arc_value c.in_ok-new.field-0).keys ≡ [] = ap (λ (t : _). t.keys) c.in_ok-new.ensures.ok ∙ c.new-2.ensures.empty in
-    (record { id = c.in_ok-identity.identity; gate = c.of.result.value.id; configs = c.args.configs.items }, ([], starts _ _ _ _ _ _ refl none c.in_ok-slots.ensures.1))
+    let none : (arc_value c.in_ok-new.field-0).keys ≡ [] = ap (λ (t : _). t.keys) c.in_ok-new.ensures.ok ∙ c.new-2.ensures.empty in (
+      record { id = c.in_ok-identity.identity; gate = c.of.result.value.id; configs = c.args.configs.items },
+      ([], starts _ _ _ _ _ _ refl none c.in_ok-slots.ensures.1),
+    )
 
 pub returns-clause-stands : goal.returns-clause-stands
 returns-clause-stands g c =

@@ -20,18 +20,26 @@ returns-then-slot-len-clause-stands g c made h s =
 
 pub invariant_of-self : goal.invariant_of-self
 invariant_of-self g c =
-    let p = c.self.invariant in
-    (p.0, (_, selected-stands (facing c.args.slot c.index_mut.result.now c.select.new.self refl (omega arith) c.index_mut.ensures.value p.1.1) c.select.result c.select.ensures.slot))
+    let p = c.self.invariant in (
+      p.0,
+      (
+        _,
+        selected-stands (facing c.args.slot c.index_mut.result.now c.select.new.self refl (omega arith) c.index_mut.ensures.value
+            p.1.1) c.select.result c.select.ensures.slot,
+      ),
+    )
 
 pub returns-clause-answers : goal.returns-clause-answers
 returns-clause-answers g c made h s =
     selects (facing c.args.slot c.index_mut.result.now c.select.new.self c.self.view_is (omega arith) c.index_mut.ensures.value s)
-    g.S.BackendSelection.may_draw_random g.S.BackendSelection.walks (λ b a. FnReturnsAt g.F.Fn c.args.accept.now b a) (load_in c.args.loads.now)
+    g.S.BackendSelection.may_draw_random g.S.BackendSelection.walks (λ b a. FnReturnsAt g.F.Fn c.args.accept.now b a)
+    (load_in c.args.loads.now)
     c.args.key.now c.args.limit c.args.random.now c.select.result c.select.ensures.selected
 
 pub returns-clause-stands : goal.returns-clause-stands
 returns-clause-stands g c made h s =
-    selected-stands (facing c.args.slot c.index_mut.result.now c.select.new.self c.self.view_is (omega arith) c.index_mut.ensures.value s) c.select.result c.select.ensures.slot
+    selected-stands (facing c.args.slot c.index_mut.result.now c.select.new.self c.self.view_is (omega arith) c.index_mut.ensures.value s)
+    c.select.result c.select.ensures.slot
 
 pub returns-clause-site : goal.returns-clause-site
 returns-clause-site g c = site-of c.self.invariant c.self.view_is (returns-clause-stands g c)

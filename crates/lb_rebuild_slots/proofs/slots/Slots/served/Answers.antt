@@ -12,4 +12,5 @@ returns-then-slot-len g c made h s =
 pub returns : goal.returns
 returns g c made h s =
     let f = facing c.args.slot c.index.result.now c.index.result.now c.self.view_is (omega arith) c.index.ensures s in
-    shown f _ _ (ap (λ (v : ServingValue g.row.S-Config.Denot). v.generation) c.serving.view_is ∙ ap (λ (z : SlotValue g.row.S-Config.Denot). z.serving.generation) f.slot)
+    shown f _ _ (ap (λ (v : ServingValue g.row.S-Config.Denot). v.generation) c.serving.view_is
+    ∙ ap (λ (z : SlotValue g.row.S-Config.Denot). z.serving.generation) f.slot)

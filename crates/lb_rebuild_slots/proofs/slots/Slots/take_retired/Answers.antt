@@ -11,15 +11,18 @@ returns-then-slot-len-clause-answers g c made h s =
 pub invariant_of-self : goal.invariant_of-self
 invariant_of-self g c =
     stays c.self.invariant c.self.view_is (λ made h s.
-    (takes (facing c.args.slot c.index_mut.result.now c.take_retired.new.self c.self.view_is (omega arith) c.index_mut.ensures.value s) c.place-place.result c.take_retired.result (place-made c.place-place.ensures s) c.take_retired.ensures).1)
+    (takes (facing c.args.slot c.index_mut.result.now c.take_retired.new.self c.self.view_is (omega arith) c.index_mut.ensures.value s)
+    c.place-place.result c.take_retired.result (place-made c.place-place.ensures s) c.take_retired.ensures).1)
 
 pub returns-clause-answers : goal.returns-clause-answers
 returns-clause-answers g c made h s =
-    (takes (facing c.args.slot c.index_mut.result.now c.take_retired.new.self c.self.view_is (omega arith) c.index_mut.ensures.value s) c.place-place.result c.take_retired.result (place-made c.place-place.ensures s) c.take_retired.ensures).0
+    (takes (facing c.args.slot c.index_mut.result.now c.take_retired.new.self c.self.view_is (omega arith) c.index_mut.ensures.value s)
+    c.place-place.result c.take_retired.result (place-made c.place-place.ensures s) c.take_retired.ensures).0
 
 pub returns-clause-stands : goal.returns-clause-stands
 returns-clause-stands g c made h s =
-    (takes (facing c.args.slot c.index_mut.result.now c.take_retired.new.self c.self.view_is (omega arith) c.index_mut.ensures.value s) c.place-place.result c.take_retired.result (place-made c.place-place.ensures s) c.take_retired.ensures).1
+    (takes (facing c.args.slot c.index_mut.result.now c.take_retired.new.self c.self.view_is (omega arith) c.index_mut.ensures.value s)
+    c.place-place.result c.take_retired.result (place-made c.place-place.ensures s) c.take_retired.ensures).1
 
 pub returns-clause-site : goal.returns-clause-site
 returns-clause-site g c = site-of c.self.invariant c.self.view_is (returns-clause-stands g c)

@@ -13,4 +13,5 @@ returns-then-slot-len g c made h s =
 pub returns : goal.returns
 returns g c made h s =
     let f = facing c.args.slot c.index.result.now c.index.result.now c.self.view_is (omega arith) c.index.ensures s in
-    rw (lt-ltb c.args.slot (length made.configs) f.inside) (c.taken_out.ensures ∙ ap (λ (z : SlotValue g.row.S-Config.Denot). taken_out_number z.extra) f.slot)
+    rw (lt-ltb c.args.slot (length made.configs) f.inside) (c.taken_out.ensures
+    ∙ ap (λ (z : SlotValue g.row.S-Config.Denot). taken_out_number z.extra) f.slot)

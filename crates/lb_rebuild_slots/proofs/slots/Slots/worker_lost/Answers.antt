@@ -11,15 +11,18 @@ returns-then-slot-len-clause-answers g c made h s =
 pub invariant_of-self : goal.invariant_of-self
 invariant_of-self g c =
     stays c.self.invariant c.self.view_is (λ made h s.
-    (loses (facing c.args.slot c.index_mut.result.now c.lose.new.self c.self.view_is (omega arith) c.index_mut.ensures.value s) c.lose.result c.lose.ensures).1)
+    (loses (facing c.args.slot c.index_mut.result.now c.lose.new.self c.self.view_is (omega arith) c.index_mut.ensures.value s)
+    c.lose.result c.lose.ensures).1)
 
 pub returns-clause-answers : goal.returns-clause-answers
 returns-clause-answers g c made h s =
-    (loses (facing c.args.slot c.index_mut.result.now c.lose.new.self c.self.view_is (omega arith) c.index_mut.ensures.value s) c.lose.result c.lose.ensures).0
+    (loses (facing c.args.slot c.index_mut.result.now c.lose.new.self c.self.view_is (omega arith) c.index_mut.ensures.value s)
+    c.lose.result c.lose.ensures).0
 
 pub returns-clause-stands : goal.returns-clause-stands
 returns-clause-stands g c made h s =
-    (loses (facing c.args.slot c.index_mut.result.now c.lose.new.self c.self.view_is (omega arith) c.index_mut.ensures.value s) c.lose.result c.lose.ensures).1
+    (loses (facing c.args.slot c.index_mut.result.now c.lose.new.self c.self.view_is (omega arith) c.index_mut.ensures.value s)
+    c.lose.result c.lose.ensures).1
 
 pub returns-clause-site : goal.returns-clause-site
 returns-clause-site g c = site-of c.self.invariant c.self.view_is (returns-clause-stands g c)

@@ -5,7 +5,8 @@ pub returns-in_ok-walk-in-Fnv-clause-begins : goal.returns-in_ok-walk-in-Fnv-cla
 returns-in_ok-walk-in-Fnv-clause-begins g c = rw c.in-Fnv.is (rw c.deref.ensures at c.in_ok-walk-in-Fnv.ensures.begins)
 
 pub returns-in_ok-walk-in-RoundRobin-clause-begins : goal.returns-in_ok-walk-in-RoundRobin-clause-begins
-returns-in_ok-walk-in-RoundRobin-clause-begins g c = rw c.in-RoundRobin.is (rw c.deref-in-RoundRobin.ensures at c.in_ok-walk-in-RoundRobin.ensures.begins)
+returns-in_ok-walk-in-RoundRobin-clause-begins g c =
+    rw c.in-RoundRobin.is (rw c.deref-in-RoundRobin.ensures at c.in_ok-walk-in-RoundRobin.ensures.begins)
 
 pub returns-in_ok-walk-in-Ketama-clause-begins : goal.returns-in_ok-walk-in-Ketama-clause-begins
 returns-in_ok-walk-in-Ketama-clause-begins g c = rw c.in-Ketama.is (rw c.deref-in-Ketama.ensures at c.in_ok-walk-in-Ketama.ensures.begins)

@@ -8,6 +8,12 @@ returns g c = (
   c.take-held.result.value.core,
   (
     c.take-registry.result.value,
-    ((search rules, c.founded.ensures), (at_site (search rules) c.take-registry.ensures.registry, rw c.core.ensures at c.newest_ready-told.ensures)),
+    (
+      (search rules, c.founded.ensures),
+      (
+        at_site (search rules) c.take-registry.ensures.registry,
+        rw c.core.ensures at c.newest_ready-told.ensures,
+      ),
+    ),
   ),
 )

@@ -33,7 +33,13 @@ returns-in-Ok g c =
                     c.destroyed-told.new.gate,
                     (
                       search rules,
-                      (v, (c.destroyed-told.new.self.core, ((search rules, c.founded.ensures), (is.answers, is.stands, is.site, is.gate, is.registry)))),
+                      (
+                        v,
+                        (
+                          c.destroyed-told.new.self.core,
+                          ((search rules, c.founded.ensures), (is.answers, is.stands, is.site, is.gate, is.registry)),
+                        ),
+                      ),
                     ),
                   ),
                 ),
@@ -66,7 +72,13 @@ returns-in-Err g c =
                     c.destroyed-told.new.gate,
                     (
                       search rules,
-                      (v, (c.destroyed-told.new.self.core, ((search rules, c.founded.ensures), (is.answers, is.stands, is.site, is.gate, is.registry)))),
+                      (
+                        v,
+                        (
+                          c.destroyed-told.new.self.core,
+                          ((search rules, c.founded.ensures), (is.answers, is.stands, is.site, is.gate, is.registry)),
+                        ),
+                      ),
                     ),
                   ),
                 ),

@@ -10,7 +10,10 @@ returns g c = (
     c.take-held.result.value.core,
     (
       c.take-cells.result.value,
-      ((search rules, c.founded.ensures), (at_site (search rules) c.take-cells.ensures.registry, rw c.core.ensures at c.ready-told.ensures)),
+      (
+        (search rules, c.founded.ensures),
+        (at_site (search rules) c.take-cells.ensures.registry, rw c.core.ensures at c.ready-told.ensures),
+      ),
     ),
   ),
   refl,

@@ -33,7 +33,13 @@ returns-in-Ok g c =
                     c.fail-told.new.gate,
                     (
                       search rules,
-                      (v, (c.fail-told.new.self.core, ((search rules, c.founded.ensures), (is.answers, is.stands, is.site, is.gate, is.registry)))),
+                      (
+                        v,
+                        (
+                          c.fail-told.new.self.core,
+                          ((search rules, c.founded.ensures), (is.answers, is.stands, is.site, is.gate, is.registry)),
+                        ),
+                      ),
                     ),
                   ),
                 ),
@@ -67,7 +73,13 @@ returns-in-Err g c =
                     c.fail-told.new.gate,
                     (
                       search rules,
-                      (v, (c.fail-told.new.self.core, ((search rules, c.founded.ensures), (is.answers, is.stands, is.site, is.gate, is.registry)))),
+                      (
+                        v,
+                        (
+                          c.fail-told.new.self.core,
+                          ((search rules, c.founded.ensures), (is.answers, is.stands, is.site, is.gate, is.registry)),
+                        ),
+                      ),
                     ),
                   ),
                 ),

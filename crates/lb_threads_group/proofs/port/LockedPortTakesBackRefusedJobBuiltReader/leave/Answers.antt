@@ -4,10 +4,20 @@ use Rattle.lb_threads_group.proofs.port.LockedPortTakesBackRefusedJobBuiltReader
 
 pub returns-in-Ok : goal.returns-in-Ok
 returns-in-Ok g c =
-    let is = c.leave-told.ensures in
-    ((c.leave-told.result, (c.take-held.result.value.core, (c.leave-told.new.self.core, ((search rules, c.founded.ensures), (is.answers, is.stands, is.site))))), refl)
+    let is = c.leave-told.ensures in (
+      (
+        c.leave-told.result,
+        (c.take-held.result.value.core, (c.leave-told.new.self.core, ((search rules, c.founded.ensures), (is.answers, is.stands, is.site)))),
+      ),
+      refl,
+    )
 
 pub returns-in-Err : goal.returns-in-Err
 returns-in-Err g c =
-    let is = c.leave-told.ensures in
-    ((c.leave-told.result, (c.take-held.result.value.core, (c.leave-told.new.self.core, ((search rules, c.founded.ensures), (is.answers, is.stands, is.site))))), refl)
+    let is = c.leave-told.ensures in (
+      (
+        c.leave-told.result,
+        (c.take-held.result.value.core, (c.leave-told.new.self.core, ((search rules, c.founded.ensures), (is.answers, is.stands, is.site)))),
+      ),
+      refl,
+    )

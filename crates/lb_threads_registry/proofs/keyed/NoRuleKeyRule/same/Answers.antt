@@ -6,4 +6,5 @@ use Rattle.lb_threads_registry.proofs.keyed.NoRuleKeyRule.same.Goals as goal
 pub returns : goal.returns
 returns c =
     λ key_of rule.
-    c.eq.ensures ∙ (λ i. same_member (rule c.args.backend.now (by_identity c.args.backend.now) refl i) (rule c.args.other.now (by_identity c.args.other.now) refl i))
+    c.eq.ensures ∙ (λ i. same_member (rule c.args.backend.now (by_identity c.args.backend.now) refl i)
+    (rule c.args.other.now (by_identity c.args.other.now) refl i))

@@ -4,8 +4,10 @@ use Rattle.lb_threads_registry.proofs.Exchanges.{comes, alone}
 use Rattle.lb_threads_registry.proofs.lock.KeyedLock.try_take.Goals as goal
 
 pub swap_new_seat-found-requires : goal.swap_new_seat-found-requires
-swap_new_seat-found-requires g c =
-    (omega (arith, c.args.self.now.one.0), comes (g.I.LockRule.holds c.args.self.now.table.shared.key) c.args.self.now.table.shared.key _ c.args.word c.requires)
+swap_new_seat-found-requires g c = (
+  omega (arith, c.args.self.now.one.0),
+  comes (g.I.LockRule.holds c.args.self.now.table.shared.key) c.args.self.now.table.shared.key _ c.args.word c.requires,
+)
 
 pub exchange-requires : goal.exchange-requires
 exchange-requires g c =

@@ -9,5 +9,7 @@ put-requires-clause-registry g c = later c.take-value.ensures.registry (marked_l
 
 pub returns : goal.returns
 returns g c =
-    let configured = c.start_unhealthy-value.ensures in
-    (c.take-value.result.value, (c.start_unhealthy-value.result, (c.take-value.ensures.registry, (marked_later (Configured false) configured, configured))))
+    let configured = c.start_unhealthy-value.ensures in (
+      c.take-value.result.value,
+      (c.start_unhealthy-value.result, (c.take-value.ensures.registry, (marked_later (Configured false) configured, configured))),
+    )

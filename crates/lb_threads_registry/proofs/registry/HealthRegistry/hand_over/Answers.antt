@@ -21,7 +21,8 @@ returns-clause-observed g c =
         (
           c.take-held.ensures.registry,
           (
-            added_or_same c.observe-answer.result (Observed c.args.cell (record { ok = c.args.verdict; threshold = c.args.threshold })) is.after same,
+            added_or_same c.observe-answer.result (Observed c.args.cell (record { ok = c.args.verdict; threshold = c.args.threshold }))
+                is.after same,
             record { ok = is.after; flipped = is.flipped; kept = is.kept; err = same },
           ),
         ),

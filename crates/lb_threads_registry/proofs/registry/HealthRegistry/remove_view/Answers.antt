@@ -7,5 +7,10 @@ pub put-requires-clause-registry : goal.put-requires-clause-registry
 put-requires-clause-registry g c = later c.take-held.ensures.registry (marked_later (Marked c.args.id) c.remove_view.ensures)
 
 pub returns : goal.returns
-returns g c =
-    (c.take-held.result.value, (c.remove_view.new.self, (c.take-held.ensures.registry, (marked_later (Marked c.args.id) c.remove_view.ensures, c.remove_view.ensures))))
+returns g c = (
+  c.take-held.result.value,
+  (
+    c.remove_view.new.self,
+    (c.take-held.ensures.registry, (marked_later (Marked c.args.id) c.remove_view.ensures, c.remove_view.ensures)),
+  ),
+)

@@ -1,7 +1,8 @@
 -- The load that was set is the one that the history tells; where memory was refused, nothing is set.
 use Rattle.lb_select_base.specs.Loads.{SetsLoad}
 use Rattle.lb_world.proofs.Words.{◌∷◌, ◌∙◌, ◌≡◌, ◌++◌, ◌&&◌, [], Answer, Answers, ap, Before, cond, EntryNext, EntryValue, eq-eqb, gate}
-use Rattle.lb_world.proofs.Words.{GateValue, slot_events, happened, held_of, History, inl, inr, group_after_step, group_events, List, load_in}
+use Rattle.lb_world.proofs.Words.{GateValue, slot_events, happened, held_of, History, inl, inr, group_after_step, group_events, List}
+use Rattle.lb_world.proofs.Words.{load_in}
 use Rattle.lb_world.proofs.Words.{load_of, Meaning, Member, origin, past_of, permit_after, refl, Refusal, RegistryValue, same_member, Some}
 use Rattle.lb_world.proofs.Words.{Step, sym, without_memory, work, WorldRule, ℕ}
 use Rattle.lb_world.proofs.Entries.{events-here, group-told, next, stays, unshared}

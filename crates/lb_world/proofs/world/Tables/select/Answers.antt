@@ -25,4 +25,5 @@ returns g c =
     let next = c.select.ensures on.view h c.args.group (before s c.args.group _ on.view _ at on.gate at_registry) in
     rw (set-same c.args.self.now.registries.items _ _ at_registry, set-same c.args.self.now.gates.items _ on.view on.gate)
     at (world-moves s c.args.group (select c.args.group c.args.slot c.args.key.now c.args.limit c.args.words.now) c.select.result
-    _ _ on.view on.view _ _ _ refl s.readers_are (own-kept s c.args.group _ _ at (ap (λ o. o.id) next.origin_is)) at on.gate at_registry next)
+    _ _ on.view on.view _ _ _ refl s.readers_are (own-kept s c.args.group _ _ at (ap (λ o. o.id) next.origin_is)) at on.gate at_registry
+    next)
