@@ -76,8 +76,9 @@ impl<W: Wait + Clock + Copy + Drop> Site<W> {
     pub fn group(&self, rt: &W, alloc: Global) -> Result<Handle<W>, Refusal> {
         let configs = self.configs(alloc)?;
         let backends = self.backends(alloc)?;
-        let mut group =
-            LoadBalancerGroup::from_backends_with_configs(rt, alloc, backends, configs)?;
+        let mut group = LoadBalancerGroup::from_backends_with_configs(
+            rt, alloc, backends, configs,
+        )?;
         group.with_rebuild_gate(rt, alloc, Arc::try_clone(&self.gate)?)?;
         Ok(group)
     }
