@@ -37,7 +37,7 @@ IsCut limit (Sized n) after rest = n ≤ limit
 IsCut limit Chunked after rest = IsChunkedFault EndInMessage limit after rest
 IsCut limit f after rest = ⊥
 
--- what stands there is no body in chunks: where, as `IsChunkedFault` says
+-- what comes there is no body in chunks: where, as `IsChunkedFault` says
 abbrev pub IsMisframed : ℕ → Framing → List ℕ → List ℕ → Type 0
 IsMisframed limit Chunked after rest = IsChunkedFault BadFraming limit after rest
 IsMisframed limit f after rest = ⊥
