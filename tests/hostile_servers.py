@@ -1,6 +1,6 @@
 #!/usr/bin/env python3
 """Hostile servers on the own loopback, for tests/lbcheck_cases.sh. Each has a port of its own: a line 'NAME at PORT' for each. They note
-how long each connection lasted, 'NAME took SECONDS', and all end with standard input, or after ten minutes."""
+how long each connection lasted, 'NAME took SECONDS', and all end with standard input, or after an hour."""
 import os
 import socket
 import struct
@@ -107,7 +107,7 @@ def main():
         waiting[-1].connect_ex(full.getsockname())
     time.sleep(0.2)
     print("full", "at", full.getsockname()[1], flush=True)
-    threading.Timer(600, os._exit, (0,)).start()
+    threading.Timer(3600, os._exit, (0,)).start()
     sys.stdin.read()
     os._exit(0)
 

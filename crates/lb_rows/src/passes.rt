@@ -178,19 +178,19 @@ fn passes<R: Net<Stream = TcpStream> + Clock + AllocGlobal>(
     match row.by {
         By::Tcp => {
             let check = TcpHealthCheck::new(rt).with_callbacks(Some(observer), IdentitySummary);
-            passes_of(row, flips, backend, check, alloc)
+            passes_of(row.starts_healthy, flips, backend, check, alloc)
         }
         By::Http => {
             let check = HttpHealthCheck::new(alloc, rt, "h")?;
             let check = check.with_callbacks(None::<AcceptStatus>, Some(observer), IdentitySummary);
-            passes_of(row, flips, backend, check, alloc)
+            passes_of(row.starts_healthy, flips, backend, check, alloc)
         }
     }
 }
 
 // Runs both passes of the check over a view of that one backend. What owns the view makes one call.
 fn passes_of<L: Log, C: HealthCheck + Drop>(
-    row: &Pass,
+    starts_healthy: bool,
     log: &L,
     backend: &Backend,
     check: C,
@@ -200,7 +200,7 @@ fn passes_of<L: Log, C: HealthCheck + Drop>(
     let mut set = BTreeSet::new(alloc);
     set.insert(backend.clone()?)?;
     let source: DiscoverySource<Static> = DiscoverySource::Static(Static::new(set));
-    let registry = HealthRegistry::over(if row.starts_healthy {
+    let registry = HealthRegistry::over(if starts_healthy {
         RegistryCore::new(alloc)
     } else {
         RegistryCore::new(alloc).start_unhealthy()
