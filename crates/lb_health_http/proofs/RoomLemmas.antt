@@ -1,6 +1,7 @@
 -- Lemmas on the line feeds of a head: one ends each of its lines, so they count the fields of a head that isn't whole; an empty line
 -- makes such a head whole.
-use Rattle.std.proofs.Common.{◌≡◌, ◌≢◌, ℕ, suc, ◌+◌, ◌<◌, ◌≤◌, ◌⊎◌, inl, inr, ◌==◌, cond, List, [], ◌∷◌, ◌++◌, Option, None, Some, codes, All}
+use Rattle.std.proofs.Common.{◌≡◌, ◌≢◌, ℕ, suc, ◌+◌, ◌<◌, ◌≤◌, ◌⊎◌, inl, inr, ◌==◌, cond, List, []}
+use Rattle.std.proofs.Common.{◌∷◌, ◌++◌, Option, None, Some, codes, All}
 use Rattle.std.proofs.Common.{length, refl, sym, ap, ◌∙◌, append_assoc, append-nil, length-append, arith}
 use Rattle.std.specs.List.{flat_map}
 use Rattle.std.specs.Char.{is_ascii_digit}

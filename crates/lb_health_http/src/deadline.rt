@@ -1,7 +1,5 @@
 //! The limit on a whole check: by when it has to be over, and connections whose calls wait no longer than that.
 ghost use Rattle.std.specs.Prelude.{◌≡◌, ◌↔◌, ◌+◌, ◌*◌, ◌^◌, ◌<◌, max, None, Some, Err, IfSome, IsSomeAnd, IfOk, IsErr, IsOkAnd, OnErr};
-ghost use Rattle.std.specs.Io.{ReadsAtMost, WritesAtMost};
-ghost use Rattle.std.specs.Io.KnownBytes.{ReadConsumes, WriteAppends, Keeps};
 ghost use Rattle.std.specs.Duration.{as_nanos};
 ghost use Rattle.std.specs.Time.{instant_nanos, FitsClock};
 ghost use Rattle.lb_health_http.specs.Limits.{least_limit, left_at};

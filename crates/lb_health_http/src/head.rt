@@ -68,7 +68,9 @@ fn is_blank(line: &[u8]) -> bool
 /// Reads the head of an answer and no byte after it.
 ///
 /// An empty line before the start line isn't parsed again with what follows it, so hostile empty lines cost no more than
-/// others. A head of more than 64 fields is refused at the end of its 65th. Faults: `Read`, `BadHead`, `HeadTooLarge`, `EndInMessage`, `OutOfMemory`.
+/// others. A head of more than 64 fields is refused at the end of its 65th.
+///
+/// Faults: `Read`, `BadHead`, `HeadTooLarge`, `EndInMessage`, `OutOfMemory`.
 pub(crate) fn read_head<R: Read>(alloc: Global, reader: &mut Counted<R>) -> Result<Head, CheckError>
     ensures outcome { OnBytes (R.remaining (inner_of reader.old)) (R.remaining (inner_of reader.new)) (HeadOutcome result) }
     ensures whole { IfOk result HoldsHead }

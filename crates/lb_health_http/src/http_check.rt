@@ -55,9 +55,9 @@ pub struct HttpHealthCheck<N, V = AcceptStatus, O = NoObserver, S = IdentitySumm
 impl<N> HttpHealthCheck<N> {
     /// Returns a check over that network that asks `host` for `/`.
     ///
-    /// Its thresholds are 1; it waits a second to connect and for each read, and has no limit for writes and for the whole
-    /// check; a body has at most 1048576 bytes. It has no validator, no other port and no observer. Refused `InvalidAddress` exactly where the host is no header value, and
-    /// `OutOfMemory`.
+    /// Its thresholds are 1; it waits a second to connect and for each read, and has no limit for writes and for the whole check; a body
+    /// has at most 1048576 bytes. It has no validator, no other port and no observer. To check, the network has to read a clock too.
+    /// Refused `InvalidAddress` exactly where the host is no header value, and `OutOfMemory`.
     pub fn new(alloc: Global, net: N, host: &str) -> Result<HttpHealthCheck<N>, Refusal>
     where
         N: Drop,

@@ -1,11 +1,13 @@
-use Rattle.std.proofs.Common.{◌≡◌, ℕ, ◌+◌, ◌<◌, ◌≤◌, inl, inr, List, [], ◌∷◌, ◌++◌, Some, Ok, length-append, subst, arith, rules, refl, ap, ◌∙◌, sym}
+use Rattle.std.proofs.Common.{◌≡◌, ℕ, ◌+◌, ◌<◌, ◌≤◌, inl, inr, List}
+use Rattle.std.proofs.Common.{[], ◌∷◌, ◌++◌, Some, Ok, length-append, subst, arith, rules, refl, ap, ◌∙◌, sym}
 use Rattle.httparse.specs.Grammar.{ResponseHead, HasNoResponse, MayBecomeResponse}
 use Rattle.lb_health_http.specs.declared.head.Seen.TheVariants.{Whole, Bad}
 use Rattle.lb_health_http.specs.Head.{MayBecomeHead, Sees, IsBlankLine, IsWholeHead, AfterBlank, HasBadHead, HasLargeHead, EndsInHead}
 use Rattle.lb_health_http.proofs.HeadLemmas.{no_response-push, no_response-nil, open_nil, open_push, open_feed}
 use Rattle.lb_health_http.proofs.HeadLemmas.{head_ended, head_too_large, head_pushed, head_blank, head_refused, head_is_bad, head_is_low}
 use Rattle.lb_health_http.proofs.HeadLemmas.{head_is_whole}
-use Rattle.lb_health_http.proofs.RoomLemmas.{BeginsWithText, feeds, text_nil, text_push, text_feed, feeds_push, feeds_feed, feeds_blank, has_room, has_many}
+use Rattle.lb_health_http.proofs.RoomLemmas.{BeginsWithText, feeds, text_nil, text_push, text_feed}
+use Rattle.lb_health_http.proofs.RoomLemmas.{feeds_push, feeds_feed, feeds_blank, has_room, has_many}
 use Rattle.lb_health_http.proofs.Streams.{OnBytes-then, OnBytes-map, OnBytes-here, gave_byte, gave_none}
 use Rattle.lb_health_http.proofs.head.read_head.Goals as goal
 use Rattle.lb_health_http.proofs.head.read_head.Goals.{else-byte-eq10-via-then-byte-eq10+else-is_blank}
