@@ -30,6 +30,7 @@ pub use lb_select::moments::MomentSource;
 pub use lb_select::refusal::Refusal;
 pub use lb_select::words::{CoreWords, HandedWords, LentWords, SharedWords, WordSource};
 pub use lb_threads_group::group::SharedGroup;
-pub use lb_threads_registry::backends::{Backends, Backends as BackendView};
+pub use lb_threads_registry::backends::Backends;
 pub use lb_threads_registry::gate::SelectorRebuildGate;
 pub use lb_threads_registry::registry::HealthRegistry;
+pub use lb_threads_view::view::BackendView;
