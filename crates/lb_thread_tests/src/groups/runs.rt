@@ -270,6 +270,9 @@ fn what_is_under_way_is_let_end(rt: HostRuntime) {
             is_ready: updates == 1,
             is_told,
         };
-        assert_eq!(rt; (came, bench.left(&rt, alloc, &ready, wanted)), (true, left));
+        assert_eq!(rt;
+            (came, bench.left(&rt, alloc, &ready, wanted)),
+            (true, left)
+        );
     }
 }
