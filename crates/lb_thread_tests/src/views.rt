@@ -352,5 +352,8 @@ fn views_of_one_registry(rt: HostRuntime) {
     text.clear();
     leave(&rt, alloc, &mut text);
     go_on(&rt, alloc, &mut text);
-    assert_eq!(rt; text.as_str(), " 2/0 1/0 (true, false) yes no no true no no yes");
+    assert_eq!(rt;
+        text.as_str(),
+        " 2/0 1/0 (true, false) yes no no true no no yes"
+    );
 }

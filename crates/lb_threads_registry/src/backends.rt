@@ -13,7 +13,7 @@ use lb_select_base::refusal::Refusal;
 use std::alloc::Global;
 use std::sync::Arc;
 
-/// A discovery, and the registry of health that a balancer or a group of these backends is to have a view of.
+/// A discovery, and the registry of health in which a balancer or a group of these backends has its view.
 #[derive(Drop)]
 pub struct Backends<D, R: KeyRule + Drop, C> {
     /// Where the backends come from.
