@@ -42,8 +42,9 @@ where
     let mut configs = Vec::new(alloc);
     configs.push(None)?;
     configs.push(None)?;
-    let mut group: Group<C> =
-        LoadBalancerGroup::from_backends_with_configs(&rt, alloc, backends, configs)?;
+    let mut group: Group<C> = LoadBalancerGroup::from_backends_with_configs(
+        &rt, alloc, backends, configs,
+    )?;
     group.with_rebuild_gate(&rt, alloc, Arc::try_clone(gate)?)?;
     let mut clock = RuntimeClock::new(rt);
     let _ = group.start_workers(&rt, alloc, clock);
