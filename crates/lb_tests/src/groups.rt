@@ -1,4 +1,3 @@
-//! Groups as calls, and in a world: what is drawn by their selections, and that two of them on one gate are two.
-pub(crate) mod selections;
+//! Groups as calls, and in a world: random words that are handed in, and that two groups on one gate are two.
 mod sharing;
 mod worlds;

@@ -1,12 +1,18 @@
 //! Two groups at once on one gate: what goes out of a group comes back to that group alone.
 ghost use Rattle.lb_rebuild_slots.specs.Stands.{SameSite};
 
-use crate::groups::selections::one_slot;
 use lb_rebuild_slots::gate::GateCore;
 use lb_rebuild_slots::slots::Slots;
 use lb_select::selection::RoundRobin;
 use lb_select_base::refusal::Refusal;
 use std::alloc::Global;
+
+// The configuration of one slot.
+fn one_slot(alloc: Global) -> Result<Vec<()>, Refusal> {
+    let mut configs = Vec::new(alloc);
+    configs.push(())?;
+    Ok(configs)
+}
 
 // Enters slot 0 of both groups, and gives each reader back to its own; whether both were counted.
 fn both_entered(a: &mut Slots<RoundRobin>, b: &mut Slots<RoundRobin>) -> Result<bool, Refusal>
