@@ -140,13 +140,13 @@ fn built_again(world: &mut World<Chosen>, build: &Step<Kind>, generation: u64) -
 
 // The line's step, which is read again where that fails.
 fn step_again(alloc: Global, line: &[u8]) -> Option<Step<Kind>> {
-    match step(alloc, line) {
+    match read_step(alloc, line) {
         Some(step) => Some(step),
-        None => step(alloc, line),
+        None => read_step(alloc, line),
     }
 }
 
-fn step(alloc: Global, line: &[u8]) -> Option<Step<Kind>> {
+fn read_step(alloc: Global, line: &[u8]) -> Option<Step<Kind>> {
     parse(alloc, line).ok()?.into_step(alloc).ok()
 }
 

@@ -158,7 +158,11 @@ fn served((_other, newest, weight, took, cells): Update) -> Seen {
 type Balancer<'a> = LoadBalancerCore<FNVHash, Pcg64, Lists<'a>>;
 
 // What is read of a balancer.
-fn seen(alloc: Global, balancer: &mut Balancer<'_>, registry: &RegistryCore) -> Option<Seen> {
+fn seen_of_balancer(
+    alloc: Global,
+    balancer: &mut Balancer<'_>,
+    registry: &RegistryCore,
+) -> Option<Seen> {
     let selected = match balancer.select(alloc, registry, b"k", 1) {
         Ok(selected) => selected,
         Err(_) => balancer.select(alloc, registry, b"k", 1).ok()?,
@@ -185,13 +189,15 @@ fn updates(
     for row in &UPDATES {
         let (is_other, _, _, _, _) = row;
         other.set(*is_other);
-        let before = seen(alloc, balancer, registry);
+        let before = seen_of_balancer(alloc, balancer, registry);
         let mut updated = balancer.update(alloc, registry, &mut clock);
         if is_for_memory(&updated) {
-            course.refused(seen(alloc, balancer, registry) == before);
+            course.refused(seen_of_balancer(alloc, balancer, registry) == before);
             updated = balancer.update(alloc, registry, &mut clock);
         }
-        course.done(updated.is_ok() && seen(alloc, balancer, registry) == Some(served(*row)));
+        course.done(
+            updated.is_ok() && seen_of_balancer(alloc, balancer, registry) == Some(served(*row)),
+        );
     }
 }
 

@@ -14,7 +14,7 @@ type Worlds = World<Random>;
 /// What an answer says, with its number: of a backend its weight, of a refusal the refusal's.
 type Said = (&'static str, u64);
 
-fn said(answer: Answer) -> Said {
+fn told(answer: Answer) -> Said {
     match answer {
         Answer::Registry(number) => ("registry", number),
         Answer::Gate(number) => ("gate", number),
@@ -42,14 +42,14 @@ fn made(alloc: Global, world: &mut Worlds) -> Result<[Said; 4], Refusal> {
     let (rule, healthy) = (CellKey::Identity, true);
     let (registry, gate, group, now) = (0, 0, 0, 0);
     Ok([
-        said(world.step(Step::Registry { rule, healthy })),
-        said(world.step(Step::Gate)),
-        said(world.step(Step::Group {
+        told(world.step(Step::Registry { rule, healthy })),
+        told(world.step(Step::Gate)),
+        told(world.step(Step::Group {
             registry,
             gate,
             configs,
         })),
-        said(world.step(Step::Update {
+        told(world.step(Step::Update {
             group,
             now,
             listings,
@@ -61,18 +61,18 @@ fn made(alloc: Global, world: &mut Worlds) -> Result<[Said; 4], Refusal> {
 fn served(world: &mut Worlds) -> [Said; 5] {
     let (group, slot, now) = (0, 0, 0);
     [
-        said(world.step(Step::Ask { group, slot, now })),
-        said(world.step(Step::Build { group, slot, now })),
-        said(world.step(Step::Publish { group, slot })),
-        said(world.select(0, 0, b"k", 3, &[7, 8, 9])),
-        said(world.select(0, 0, b"k", 3, &[7, 8, 9, 10])),
+        told(world.step(Step::Ask { group, slot, now })),
+        told(world.step(Step::Build { group, slot, now })),
+        told(world.step(Step::Publish { group, slot })),
+        told(world.select(0, 0, b"k", 3, &[7, 8, 9])),
+        told(world.select(0, 0, b"k", 3, &[7, 8, 9, 10])),
     ]
 }
 
 // Such a selection by a step, which owns the words.
 fn selected(alloc: Global, world: &mut Worlds, words: &[u64]) -> Result<Said, Refusal> {
     let words = Vec::from_slice(alloc, words)?;
-    Ok(said(world.step(Step::Select {
+    Ok(told(world.step(Step::Select {
         group: 0,
         slot: 0,
         key: Vec::new(alloc),

@@ -81,7 +81,7 @@ fn retires_in_order(
 }
 
 // The same of a new group whose selectors count there.
-fn course(alloc: Global, gone: &Arc<AtomicU64>) -> Result<Course, Refusal> {
+fn course_of_new(alloc: Global, gone: &Arc<AtomicU64>) -> Result<Course, Refusal> {
     let mut configs = Vec::new(alloc);
     configs.push(Gone(Some(gone.clone()?)))?;
     let mut gate = GateCore::new(alloc)?;
@@ -92,6 +92,6 @@ fn course(alloc: Global, gone: &Arc<AtomicU64>) -> Result<Course, Refusal> {
 #[test]
 fn gone_before_the_report(rt: HostRuntime) -> Result<(), Fail> {
     let gone = Arc::new(rt.alloc(), AtomicU64::new(0))?;
-    assert!(rt; course(rt.alloc(), &gone) == Ok(WANTED));
+    assert!(rt; course_of_new(rt.alloc(), &gone) == Ok(WANTED));
     Ok(())
 }
