@@ -146,20 +146,21 @@ pub(crate) struct MadeScript {
 }
 
 // What comes before the backends of a group that is updated, and what comes after them.
-const BEFORE_HASHED: &[u8] = b"registry identity\ngate\ngroup 0 0 fnv 1\nupdate 0 0";
-
 const BEFORE_IN_TURN: &[u8] = b"registry identity\ngate\ngroup 0 0 rr 1\nupdate 0 0";
 
 const BEFORE_RING: &[u8] = b"registry identity\ngate\ngroup 0 0 ketama 1\nupdate 0 0";
 
 const BEFORE_LOADED: &[u8] = b"registry identity\ngate\ngroup 0 0 least 1\nupdate 0 0";
 
-const BUILT: &[u8] = b"\nask 0 0 0\nbuild 0 0 0\n";
+// A build, and an update to a few backends after it.
+const BUILT_THEN_FEW: &[u8] = b"\nask 0 0 0\nbuild 0 0 0\nupdate 0 1 10.0.0.0:80/1\n\
+    ask 0 0 1\nbuild 0 0 1\npublish 0 0\nselect 0 0 a 1\ntargets 0\n";
 
 const SELECTED: &[u8] = b"\nask 0 0 0\nbuild 0 0 0\npublish 0 0\nselect 0 0 a 1\n";
 
-const TOO_MANY: &[u8] =
-    b"registry 0\ngate 0\ngroup 0\ngeneration 1\nbuild 1\nfailed 1 3 TooManyBackends\n";
+const TOO_MANY_THEN_FEW: &[u8] =
+    b"registry 0\ngate 0\ngroup 0\ngeneration 1\nbuild 1\nfailed 1 3 TooManyBackends\ngeneration 2\n\
+    build 2\nbuilt 2\npublished 2\nbackend 10.0.0.0:80/1\ntargets 1 10.0.0.0:80/1=0:ok\n";
 
 const FIRST_OF_MANY: &[u8] =
     b"registry 0\ngate 0\ngroup 0\ngeneration 1\nbuild 1\nbuilt 1\npublished 1\nbackend 10.0.0.0:80/1\n";
@@ -184,7 +185,7 @@ const KEY_SELECTED: &[u8] =
     b"registry 0\ngate 0\ngroup 0\ngeneration 1\nbuild 1\nbuilt 1\npublished 1\nbackend 1.0.0.1:80/1\n";
 
 /// The scripts that are made.
-pub(crate) const MADE_SCRIPTS: [MadeScript; 14] = [
+pub(crate) const MADE_SCRIPTS: [MadeScript; 12] = [
     MadeScript {
         name: "a line of 16777216 bytes",
         script: Made {
@@ -206,14 +207,14 @@ pub(crate) const MADE_SCRIPTS: [MadeScript; 14] = [
         answers: b"error 1 LineTooLong\n",
     },
     MadeScript {
-        name: "65536 backends",
+        name: "65536 backends, then one",
         script: Made {
             before: BEFORE_IN_TURN,
             fill: Fill::Backends(65536, 1),
-            after: BUILT,
+            after: BUILT_THEN_FEW,
         },
         fails: Fails::Nothing,
-        answers: TOO_MANY,
+        answers: TOO_MANY_THEN_FEW,
     },
     MadeScript {
         name: "65535 backends",
@@ -224,16 +225,6 @@ pub(crate) const MADE_SCRIPTS: [MadeScript; 14] = [
         },
         fails: Fails::Nothing,
         answers: FIRST_OF_MANY,
-    },
-    MadeScript {
-        name: "65536 backends by hash",
-        script: Made {
-            before: BEFORE_HASHED,
-            fill: Fill::Backends(65536, 1),
-            after: BUILT,
-        },
-        fails: Fails::Nothing,
-        answers: TOO_MANY,
     },
     MadeScript {
         name: "65536 backends by loads",
@@ -254,16 +245,6 @@ pub(crate) const MADE_SCRIPTS: [MadeScript; 14] = [
         },
         fails: Fails::Nothing,
         answers: NONE_OF_MANY,
-    },
-    MadeScript {
-        name: "65535 backends by hash",
-        script: Made {
-            before: BEFORE_HASHED,
-            fill: Fill::Backends(65535, 1),
-            after: SELECTED,
-        },
-        fails: Fails::Nothing,
-        answers: b"registry 0\ngate 0\ngroup 0\ngeneration 1\nbuild 1\nbuilt 1\npublished 1\nbackend 10.0.254.62:80/1\n",
     },
     MadeScript {
         name: "a key of 1000000 bytes",

@@ -78,15 +78,14 @@ const ROWS: [Calls; 3] = [
         ),
         (Call::Turn(0), Ok(Told::Turned(Turn::NotDue(30_000_030)))),
     ],
-    // A discovery that answers a fault changes nothing. Of too many backends the build fails; a fault leaves that so, and few
-    // backends are served at once.
+    // A discovery that answers a fault changes nothing, also after a build that failed. Another membership is built at once.
     &[
         (Call::UpdateByRow(2), Err(Refusal::Discovery)),
         (Call::Turn(0), Ok(Told::Turned(Turn::Nothing))),
-        (Call::UpdateByRow(1), Ok(Told::Number(1))),
+        (Call::Update(HEAVY), Ok(Told::Number(1))),
         (
             Call::Turn(0),
-            Ok(Told::Turned(Turn::Failed(1, Refusal::TooManyBackends))),
+            Ok(Told::Turned(Turn::Failed(1, Refusal::WeightTooLarge))),
         ),
         (Call::UpdateByRow(2), Err(Refusal::Discovery)),
         (Call::Selects(0, None), YES),
