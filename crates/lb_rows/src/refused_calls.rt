@@ -133,7 +133,7 @@ fn is_for_memory<T>(answer: &Result<T, Refusal>) -> bool {
 // and how many cells were given.
 type Update = (bool, u64, usize, (u128, u128), u64);
 
-const UPDATES: [Update; 4] = [
+const UPDATES: &[Update] = &[
     (false, 1, 2, (10, 5), 2),
     (false, 1, 2, (5, 0), 2),
     (true, 2, 4, (10, 5), 4),
@@ -186,7 +186,7 @@ fn updates(
     course: &mut Course,
 ) {
     let mut clock = Ticks { next: 10 };
-    for row in &UPDATES {
+    for row in UPDATES {
         let (is_other, _, _, _, _) = row;
         other.set(*is_other);
         let before = seen_of_balancer(alloc, balancer, registry);
@@ -325,11 +325,13 @@ fn updates_of_group(
 )
     requires { gate.old.id ≡ group.old.group.group.gate }
 {
-    let [first, rest @ ..] = UPDATES;
-    update_of_group(alloc, group, registry, other, first, false, course);
+    let Some((first, rest)) = UPDATES.split_first() else {
+        return;
+    };
+    update_of_group(alloc, group, registry, other, *first, false, course);
     let is_served = is_served(alloc, group, gate);
     for row in rest {
-        update_of_group(alloc, group, registry, other, row, is_served, course);
+        update_of_group(alloc, group, registry, other, *row, is_served, course);
     }
 }
 

@@ -1,3 +1,2 @@
-//! Groups as calls, and in a world: random words that are handed in, and that two groups on one gate are two.
-mod sharing;
+//! Groups in a world: random words that are handed in.
 mod worlds;

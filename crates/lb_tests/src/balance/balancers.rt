@@ -229,14 +229,20 @@ fn selects_first<S: BackendSelection, D: ServiceDiscovery + Drop>(
     alloc: Global,
     balancer: &mut Balancer<S, D>,
 ) -> Answer {
-    let Some(backend) = balancer.select(alloc, b"k", 1)? else {
-        return NO;
+    let found = balancer.select(alloc, b"k", 1)?;
+    let is_first = is_at(alloc, &found, FIRST)?;
+    Ok(Told::Flag(is_first && is_noted(&found)))
+}
+
+// Whether what was selected has `first` attached.
+fn is_noted(found: &Option<Backend>) -> bool {
+    let Some(backend) = found else {
+        return false;
     };
-    let noted = match backend.ext.get("note") {
+    match backend.ext.get("note") {
         Some(note) => note.as_slice() == b"first".as_slice(),
         None => false,
-    };
-    Ok(Told::Flag(noted && backend == Backend::new(alloc, "1.0.0.1:80")?))
+    }
 }
 
 /// Calls and what they answer.

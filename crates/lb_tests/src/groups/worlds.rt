@@ -12,20 +12,32 @@ use std::test::Fail;
 type Worlds = World<Random>;
 
 /// What an answer says, with its number: of a backend its weight, of a refusal the refusal's.
-type Said = (&'static str, u64);
+#[derive(Clone, Copy, PartialEq, Eq)]
+enum Said {
+    Registry(u64),
+    Gate(u64),
+    Group(u64),
+    Generation(u64),
+    Build(u64),
+    Built(u64),
+    Published(u64),
+    Selected(usize),
+    Refused(u64),
+    Another,
+}
 
 fn told(answer: Answer) -> Said {
     match answer {
-        Answer::Registry(number) => ("registry", number),
-        Answer::Gate(number) => ("gate", number),
-        Answer::Group(number) => ("group", number),
-        Answer::Generation(number) => ("generation", number),
-        Answer::Build(number) => ("build", number),
-        Answer::Built(number) => ("built", number),
-        Answer::Published(number) => ("published", number),
-        Answer::Backend(backend, _tickets) => ("backend", backend.weight as u64),
-        Answer::Refused(refusal) => ("refused", refusal.number()),
-        _ => ("another", 0),
+        Answer::Registry(number) => Said::Registry(number),
+        Answer::Gate(number) => Said::Gate(number),
+        Answer::Group(number) => Said::Group(number),
+        Answer::Generation(number) => Said::Generation(number),
+        Answer::Build(number) => Said::Build(number),
+        Answer::Built(number) => Said::Built(number),
+        Answer::Published(number) => Said::Published(number),
+        Answer::Backend(backend, _tickets) => Said::Selected(backend.weight),
+        Answer::Refused(refusal) => Said::Refused(refusal.number()),
+        _ => Said::Another,
     }
 }
 
@@ -93,19 +105,19 @@ fn all_said(alloc: Global, world: &mut Worlds) -> Result<AllSaid, Refusal> {
 
 const WANTED: AllSaid = (
     [
-        ("registry", 0),
-        ("gate", 0),
-        ("group", 0),
-        ("generation", 1),
+        Said::Registry(0),
+        Said::Gate(0),
+        Said::Group(0),
+        Said::Generation(1),
     ],
     [
-        ("build", 1),
-        ("built", 1),
-        ("published", 1),
-        ("refused", 16),
-        ("backend", 5),
+        Said::Build(1),
+        Said::Built(1),
+        Said::Published(1),
+        Said::Refused(16),
+        Said::Selected(5),
     ],
-    [("refused", 16), ("backend", 5)],
+    [Said::Refused(16), Said::Selected(5)],
 );
 
 #[test]
