@@ -230,9 +230,7 @@ pub(crate) fn balancer_agrees(alloc: Global) -> (bool, Again) {
 type Group<'a> = LoadBalancerGroupCore<FNVHash, Lists<'a>>;
 
 // What is read of a group of one slot.
-fn seen_of_group(alloc: Global, group: &mut Group<'_>, registry: &RegistryCore) -> Option<Seen>
-    ensures { SameSite group.old.group group.new.group }
-{
+fn seen_of_group(alloc: Global, group: &mut Group<'_>, registry: &RegistryCore) -> Option<Seen> {
     let loads = Loads::new();
     let first = group.select(alloc, registry, 0, b"k", 1, &[], &loads);
     let selected = match first.answer {
@@ -251,6 +249,25 @@ fn seen_of_group(alloc: Global, group: &mut Group<'_>, registry: &RegistryCore) 
     })
 }
 
+// The first update of a group: what is read without memory is compared, before anything is served.
+fn first_update_of_group(
+    alloc: Global,
+    group: &mut Group<'_>,
+    registry: &mut RegistryCore,
+    course: &mut Course,
+)
+    ensures { SameSite group.old.group group.new.group }
+{
+    let mut clock = Ticks { next: 10 };
+    let mut updated = group.update(alloc, registry, &mut clock);
+    if is_for_memory(&updated) {
+        let is_new = group.backend_generation() == 0 && group.last_update_timing().is_none();
+        course.refused(is_new && registry.numbers_left() == u64::MAX);
+        updated = group.update(alloc, registry, &mut clock);
+    }
+    course.done(updated.is_ok() && group.backend_generation() == 1);
+}
+
 // Updates a group as the row says. Its slot serves generation 1, or nothing.
 fn update_of_group(
     alloc: Global,
@@ -260,9 +277,7 @@ fn update_of_group(
     row: Update,
     is_served: bool,
     course: &mut Course,
-)
-    ensures { SameSite group.old.group group.new.group }
-{
+) {
     let (is_other, newest, _, _, cells) = row;
     other.set(is_other);
     let mut clock = Ticks { next: 10 };
@@ -314,7 +329,7 @@ fn is_served(alloc: Global, group: &mut Group<'_>, gate: &mut GateCore) -> bool
     }
 }
 
-// The updates of a group, the first of which is served.
+// The updates of a group, the first of which is served; the next one finds the same.
 fn updates_of_group(
     alloc: Global,
     group: &mut Group<'_>,
@@ -325,12 +340,9 @@ fn updates_of_group(
 )
     requires { gate.old.id ≡ group.old.group.group.gate }
 {
-    let Some((first, rest)) = UPDATES.split_first() else {
-        return;
-    };
-    update_of_group(alloc, group, registry, other, *first, false, course);
+    first_update_of_group(alloc, group, registry, course);
     let is_served = is_served(alloc, group, gate);
-    for row in rest {
+    for row in UPDATES {
         update_of_group(alloc, group, registry, other, *row, is_served, course);
     }
 }
