@@ -1,0 +1,29 @@
+//! A TCP proxy: it balances connections over pools of checked backends, by event loops, and shows its state on a page.
+#![tactic(auto)]
+
+mod arguments;
+mod check;
+mod connection;
+mod engine;
+mod peer;
+mod pool;
+mod proxy;
+mod pump;
+mod run;
+mod serve;
+mod source;
+mod stamped;
+mod stream;
+mod tokens;
+
+use log::{Level, Logged};
+use stamped::Stamped;
+use std::process::ExitCode;
+
+fn main(rt: HostRuntime) -> ExitCode {
+    let logged = Logged::new(rt, Level::Info, Stamped(rt));
+    match run::run(&logged) {
+        Ok(status) => ExitCode::from(status),
+        Err(_) => ExitCode::from(1),
+    }
+}
