@@ -4,7 +4,6 @@ use super::TURNS;
 use lb_background::ready::{ReadyWatch, ServiceReadyNotifier, ready_pair};
 use lb_background::shutdown::{ShutdownSignal, ShutdownWatch, shutdown_pair};
 use lb_balancer_group::group::LoadBalancerGroup;
-use lb_balancer_group::parts::GroupParts;
 use lb_crowd::counted::{Counted, Counting, Counts};
 use lb_crowd::crowd::serves;
 use lb_health_check::error::CheckError;
@@ -14,6 +13,7 @@ use lb_health_view::discovery::{Discovered, DiscoverySource, ServiceDiscovery};
 use lb_health_view::view::Settings;
 use lb_select_base::backend::Backend;
 use lb_select_base::refusal::Refusal;
+use lb_threads_registry::backends::Backends;
 use lb_threads_registry::clock::RuntimeClock;
 use lb_threads_registry::keyed::NoRule;
 use std::alloc::Global;
@@ -80,7 +80,7 @@ impl<W: Clock> HealthCheck for Slow<W> {
     }
 }
 
-type Group<W> = LoadBalancerGroup<Counted<W>, W, Slow<W>, Rule<NoRule>, Slow<W>>;
+type Group<W> = LoadBalancerGroup<Counted<W>, Slow<W>, Rule<NoRule>, Slow<W>>;
 
 // A group of one slot, the counts of its selectors and of its calls, what tells its runs to end, and what its last run notified.
 #[derive(Drop)]
@@ -104,6 +104,8 @@ impl<W: Abort + Wait + Clock + Copy + Drop> Bench<W> {
         };
         let calls = Arc::new(alloc, calls).expect(&rt, "refused");
         let group = group_of(rt, alloc, &counts, &calls, &watch);
+        // The slot has a selector now.
+        counts.begun.store(1, SeqCst);
         counts.hold(true);
         Bench {
             counts,
@@ -129,9 +131,9 @@ impl<W: Abort + Wait + Clock + Copy + Drop> Bench<W> {
         Left {
             updates: self.calls.updates.load(SeqCst),
             checks: self.calls.checks.load(SeqCst),
-            generation: self.group.backend_generation(),
-            served: self.group.selector_generation(0),
-            is_ready: self.group.backends().ready(&backend),
+            generation: self.group.backend_generation(rt),
+            served: self.group.selector_generation(rt, 0),
+            is_ready: self.group.backends().ready(rt, &backend),
             is_told: matches!(&self.ready, Some(ready) if ready.is_ready()),
         }
     }
@@ -163,18 +165,19 @@ fn group_of<W: Abort + Wait + Clock + Copy + Drop>(
     watch: &ShutdownWatch,
 ) -> Group<W> {
     let discovery = DiscoverySource::Boxed(slow_for(rt, calls, watch));
-    let parts: GroupParts<Slow<W>, Rule<NoRule>, Slow<W>> = GroupParts::new(
-        alloc, discovery,
-    ).expect(&rt, "refused");
-    parts
-        .registry
-        .set_health_check(&rt, slow_for(rt, calls, watch))
-        .expect(&rt, "refused");
+    let backends: Backends<Slow<W>, Rule<NoRule>, Slow<W>> = Backends::new(alloc, discovery).expect(
+        &rt, "refused",
+    );
     let counts = Arc::try_clone(counts).expect(&rt, "refused");
     let mut configs = Vec::new(alloc);
-    configs.push(Counting(Some(counts))).expect(&rt, "refused");
-    let group = LoadBalancerGroup::from_backends_with_configs(rt, alloc, parts, configs);
-    group.expect(&rt, "refused")
+    configs
+        .push(Some(Counting(Some(counts))))
+        .expect(&rt, "refused");
+    let group = LoadBalancerGroup::from_backends_with_configs(&rt, alloc, backends, configs);
+    let group = group.expect(&rt, "refused");
+    let check = slow_for(rt, calls, watch);
+    group.set_health_check(&rt, check).expect(&rt, "refused");
+    group
 }
 
 fn slow_for<W: Abort + Copy + Drop>(rt: W, calls: &Arc<Calls>, watch: &ShutdownWatch) -> Slow<W> {
@@ -236,7 +239,7 @@ fn what_is_under_way_is_let_end(rt: HostRuntime) {
         let (came, _) = join(
             &rt,
             || end_after(counts, calls, wanted, signal),
-            || group.run(alloc, &mut clock, watch, Some(notifier)),
+            || group.run(&rt, alloc, &mut clock, watch, Some(notifier)),
         );
         let left = Left {
             updates,
