@@ -1,5 +1,5 @@
 //! What a configuration says: the pools, the listeners, the check of backends and the limits, or the first fault with its place.
-ghost use Rattle.std.specs.Prelude.{◌≡◌, ◌<◌, length, IfOk};
+ghost use Rattle.std.specs.Prelude.{◌≡◌, ◌<◌, length, IfOk, IfSome};
 ghost use Rattle.lb_proxy.specs.Config.{selection_of, LeadsTo};
 
 use crate::config_fault::{Cause, Fault, Place};
@@ -191,7 +191,9 @@ fn read_pools<'t>(alloc: Global, top: &Section<'t>) -> Result<Vec<PoolConfig>, F
         if pool_number(pools.as_slice(), pool.name.as_str()).is_some() {
             return Err(section.fault("name", Cause::SameName));
         }
-        section.pushed("name", pools.push(pool).is_ok())?;
+        if pools.push(pool).is_err() {
+            return Err(section.fault("name", Cause::OutOfMemory));
+        }
     }
     if pools.is_empty() {
         return Err(top.fault("pool", Cause::Missing));
@@ -223,7 +225,9 @@ fn read_backends<'t>(alloc: Global, section: &Section<'t>) -> Result<Vec<Backend
     let mut backends = Vec::new(alloc);
     for value in section.list("backends")? {
         let backend = read_backend(alloc, section, value)?;
-        section.pushed("backends", backends.push(backend).is_ok())?;
+        if backends.push(backend).is_err() {
+            return Err(section.fault("backends", Cause::OutOfMemory));
+        }
     }
     Ok(backends)
 }
@@ -251,7 +255,9 @@ fn read_backend<'t>(
 }
 
 // The number of the pool of this name.
-fn pool_number(pools: &[PoolConfig], name: &str) -> Option<usize> {
+fn pool_number(pools: &[PoolConfig], name: &str) -> Option<usize>
+    ensures { IfSome result (λ number. number < length pools.now) }
+{
     pools.iter().position(|pool| pool.name.as_str() == name)
 }
 
@@ -268,7 +274,9 @@ fn read_listens<'t>(
     for number in 0..tables.len() {
         let section = top.entry(tables, number, Place::Listen(number))?;
         let listen = read_listen(&section, pools)?;
-        section.pushed("address", listens.push(listen).is_ok())?;
+        if listens.push(listen).is_err() {
+            return Err(section.fault("address", Cause::OutOfMemory));
+        }
     }
     if listens.is_empty() {
         return Err(top.fault("listen", Cause::Missing));

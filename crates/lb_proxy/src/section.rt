@@ -159,15 +159,6 @@ impl<'t> Section<'t> {
             Err(_) => Err(self.fault(field, Cause::OutOfMemory)),
         }
     }
-
-    /// Refuses where there was no memory.
-    pub fn pushed(&self, field: &'static str, was: bool) -> Result<(), Fault<'t>> {
-        if was {
-            Ok(())
-        } else {
-            Err(self.fault(field, Cause::OutOfMemory))
-        }
-    }
 }
 
 // Whether the name is one of these.

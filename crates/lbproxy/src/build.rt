@@ -64,16 +64,17 @@ fn kinds_of(
     Ok(kinds)
 }
 
-// How many of these listeners are on the pool.
-fn count_on(listens: &[ListenConfig], pool: usize) -> usize {
-    listens.iter().filter(|listen| listen.pool == pool).count()
+// How many of the listeners before this place are on the pool.
+fn count_before(listens: &[ListenConfig], place: usize, pool: usize) -> usize {
+    let earlier = listens.iter().take(place);
+    earlier.filter(|listen| listen.pool == pool).count()
 }
 
 // The listeners with their slots: those on one pool are numbered in order.
 fn slots_of(alloc: Global, listens: &[ListenConfig]) -> Result<Vec<Listen>, AllocError> {
     let mut numbered = Vec::new(alloc);
     for (place, listen) in listens.iter().enumerate() {
-        let slot = count_on(&listens[..place], listen.pool);
+        let slot = count_before(listens, place, listen.pool);
         numbered.push(Listen {
             config: *listen,
             slot,

@@ -2,19 +2,18 @@
 #![tactic(auto)]
 
 mod arguments;
+mod build;
 mod check;
-mod connection;
-mod engine;
-mod peer;
 mod pool;
 mod proxy;
-mod pump;
+mod render;
 mod run;
 mod serve;
+mod shown;
 mod source;
 mod stamped;
-mod stream;
-mod tokens;
+mod status;
+mod threads;
 
 use log::{Level, Logged};
 use stamped::Stamped;

@@ -3,6 +3,7 @@
 use crate::check::ProxyCheck;
 use crate::source::{PoolBackends, PoolDiscovery};
 use lb_proxy::attempts::Attempts;
+use lb_proxy_loop::upstream::Happened;
 use log::{Log, info, warn};
 use pingora_load_balancing::background::{RuntimeClock, start_workers};
 use pingora_load_balancing::discovery::DiscoverySource;
@@ -37,20 +38,23 @@ pub struct Traffic {
     pub received: u64,
 }
 
+/// What the backends of a pool have carried.
+pub type TrafficTable = BTreeMap<Backend, Traffic>;
+
 /// A pool.
 #[derive(Drop)]
-pub struct Pool<R: Log + Net<Stream = TcpStream> + Wait> {
+pub struct Pool<R: Log + Net<Stream = TcpStream> + Wait + Drop> {
     pub name: String,
     pub group: Group<R>,
     pub backends: Arc<PoolBackends>,
-    pub traffic: Mutex<BTreeMap<Backend, Traffic>>,
+    pub traffic: Mutex<TrafficTable>,
     // Whether a slot goes by loads.
     by_load: bool,
 }
 
 /// What all pools share.
 #[derive(Drop)]
-pub struct Common<R: Net<Stream = TcpStream>> {
+pub struct Common<R: Net<Stream = TcpStream> + Drop> {
     pub registry: Arc<Registry<R>>,
     pub gate: Arc<SelectorRebuildGate>,
 }
@@ -69,10 +73,10 @@ impl<R: Log + Net<Stream = TcpStream> + Wait + Copy + Drop> Pool<R> {
             rt,
             backends: Arc::try_clone(&backends)?,
         };
-        let by_load = kinds.iter().any(|kind| *kind == Some(Kind::Least));
+        let by_load = has_least(kinds.as_slice());
         Ok(Pool {
             name,
-            group: group_of(rt, alloc, discovery, kinds, common)?,
+            group: group_of(&rt, alloc, discovery, kinds, common)?,
             backends,
             traffic: Mutex::new(BTreeMap::new(alloc)),
             by_load,
@@ -80,9 +84,9 @@ impl<R: Log + Net<Stream = TcpStream> + Wait + Copy + Drop> Pool<R> {
     }
 
     /// Returns a ready backend for a connection, none that was tried before.
-    pub fn select(
+    pub fn select<W: Log + Wait>(
         &self,
-        rt: &R,
+        rt: &W,
         alloc: Global,
         slot: usize,
         key: &[u8],
@@ -99,10 +103,18 @@ impl<R: Log + Net<Stream = TcpStream> + Wait + Copy + Drop> Pool<R> {
         }
     }
 
-    /// Notes what happened to a connection to the backend. A slot that goes by loads learns how many are live.
+    /// Returns what a backend has carried.
+    pub fn traffic_of<W: Wait>(&self, rt: &W, backend: &Backend) -> Traffic {
+        match self.traffic.lock(rt).get(backend) {
+            Some(traffic) => *traffic,
+            None => Traffic::new(),
+        }
+    }
+
+    /// Takes note of what happened to a connection to the backend. A slot that goes by loads learns how many are live.
     ///
     /// Where memory is refused, it isn't counted.
-    pub fn note(&self, rt: &R, alloc: Global, backend: &Backend, happened: Happened) {
+    pub fn note<W: Wait>(&self, rt: &W, alloc: Global, backend: &Backend, happened: Happened) {
         let mut traffic = self.traffic.lock(rt);
         if let Ok(live) = counted(&mut *traffic, alloc, backend, happened) {
             if self.by_load {
@@ -110,14 +122,6 @@ impl<R: Log + Net<Stream = TcpStream> + Wait + Copy + Drop> Pool<R> {
             }
         }
     }
-}
-
-/// What happened to a connection to a backend.
-#[derive(Clone, Copy)]
-pub enum Happened {
-    Began,
-    Refused,
-    Ended { sent: u64, received: u64 },
 }
 
 impl Traffic {
@@ -152,9 +156,14 @@ impl Traffic {
     }
 }
 
+// Whether a slot goes by loads.
+fn has_least(kinds: &[Option<Kind>]) -> bool {
+    kinds.iter().any(|kind| *kind == Some(Kind::Least))
+}
+
 // Counts what happened at the backend. Returns how many connections are live there.
 fn counted(
-    table: &mut BTreeMap<Backend, Traffic>,
+    table: &mut TrafficTable,
     alloc: Global,
     backend: &Backend,
     happened: Happened,
@@ -170,8 +179,8 @@ fn counted(
 }
 
 // The group of a pool, on the registry and the gate of all.
-fn group_of<R: Log + Net<Stream = TcpStream> + Wait + Copy + Drop>(
-    rt: R,
+fn group_of<R: Log + Net<Stream = TcpStream> + Wait + Drop>(
+    rt: &R,
     alloc: Global,
     discovery: PoolDiscovery<R>,
     kinds: Vec<Option<Kind>>,
@@ -180,13 +189,14 @@ fn group_of<R: Log + Net<Stream = TcpStream> + Wait + Copy + Drop>(
     let registry = Arc::try_clone(&common.registry)?;
     let gate = Arc::try_clone(&common.gate)?;
     let backends = Backends::new_with_health_registry(DiscoverySource::Boxed(discovery), registry);
-    let mut group = LoadBalancerGroup::from_backends_with_configs(&rt, alloc, backends, kinds)?;
-    group.with_rebuild_gate(&rt, alloc, gate)?;
+    let mut group = LoadBalancerGroup::from_backends_with_configs(rt, alloc, backends, kinds)?;
+    group.with_rebuild_gate(rt, alloc, gate)?;
     Ok(group)
 }
 
-impl<R: Log + Net<Stream = TcpStream> + Threads + Wait + Clock + Copy + Drop + Send + Sync + 'static>
-    Pool<R> {
+impl<
+    R: Log + Net<Stream = TcpStream> + Threads + Wait + Clock + Copy + Drop + Send + Sync + 'static,
+> Pool<R> {
     /// Starts the workers. Returns how many couldn't be started.
     pub fn start(&self, rt: &R, alloc: Global) -> usize {
         start_workers(rt, alloc, self.group.shared(), RuntimeClock::new(*rt))

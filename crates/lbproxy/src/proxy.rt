@@ -1,8 +1,12 @@
 //! What the loops of a proxy share: the pools, the listeners and the counts.
 
 use crate::pool::Pool;
+use lb_proxy::attempts::Attempts;
 use lb_proxy::config::{Limits, ListenConfig};
-use log::Log;
+use lb_proxy_loop::upstream::{Happened, Upstream};
+use log::{Log, warn};
+use pingora_load_balancing::Backend;
+use std::alloc::Global;
 use std::net::{Net, TcpStream};
 use std::sync::Wait;
 use std::sync::atomic::{AtomicU64, Ordering};
@@ -25,7 +29,7 @@ pub struct Counts {
 
 /// What the loops share.
 #[derive(Drop)]
-pub struct Proxy<R: Log + Net<Stream = TcpStream> + Wait> {
+pub struct Proxy<R: Log + Net<Stream = TcpStream> + Wait + Drop> {
     pub pools: Vec<Pool<R>>,
     pub listens: Vec<Listen>,
     pub limits: Limits,
@@ -34,36 +38,67 @@ pub struct Proxy<R: Log + Net<Stream = TcpStream> + Wait> {
     pub ends: AtomicU64,
 }
 
-impl<R: Log + Net<Stream = TcpStream> + Wait> Proxy<R> {
-    /// Returns the pool of a listener.
-    pub fn pool_of(&self, listener: usize) -> Option<&Pool<R>> {
-        match self.listens.get(listener) {
-            Some(listen) => self.pools.get(listen.config.pool),
-            None => None,
+impl<R: Log + Net<Stream = TcpStream> + Wait + Copy + Drop> Proxy<R> {
+    // The pool of a listener, and its slot there.
+    fn slot_of(&self, listener: usize) -> Option<(&Pool<R>, usize)> {
+        let listen = self.listens.get(listener)?;
+        let pool = self.pools.get(listen.config.pool)?;
+        Some((pool, listen.slot))
+    }
+}
+
+impl<R: Log + Net<Stream = TcpStream> + Wait + Copy + Drop> Upstream for Proxy<R> {
+    fn select<W: Log + Wait>(
+        &self,
+        rt: &W,
+        alloc: Global,
+        listener: usize,
+        key: &[u8],
+        attempts: &Attempts,
+    ) -> Option<Backend> {
+        let (pool, slot) = self.slot_of(listener)?;
+        pool.select(rt, alloc, slot, key, attempts)
+    }
+
+    fn note<W: Log + Wait>(
+        &self,
+        rt: &W,
+        alloc: Global,
+        listener: usize,
+        backend: &Backend,
+        happened: Happened,
+    ) {
+        if let Some((pool, _)) = self.slot_of(listener) {
+            pool.note(rt, alloc, backend, happened);
         }
     }
 
-    /// Returns the slot of a listener in its pool's group.
-    pub fn slot_of(&self, listener: usize) -> usize {
-        match self.listens.get(listener) {
-            Some(listen) => listen.slot,
-            None => 0,
+    fn gave_up<W: Log>(&self, rt: &W, listener: usize) {
+        self.counts.unserved.fetch_add(1, Ordering::SeqCst);
+        if let Some((pool, _)) = self.slot_of(listener) {
+            let name = pool.name.as_str();
+            warn!(rt; "pool {name}: no ready backend for a connection");
         }
     }
 
-    /// Returns whether as many connections are there as may be.
-    pub fn is_full(&self) -> bool {
-        self.counts.live.load(Ordering::SeqCst) >= self.limits.max_connections
-    }
-
-    /// Counts a connection that was taken.
-    pub fn took(&self) {
+    fn took(&self) {
         self.counts.live.fetch_add(1, Ordering::SeqCst);
         self.counts.total.fetch_add(1, Ordering::SeqCst);
     }
 
-    /// Counts a connection that ended.
-    pub fn lost(&self) {
+    fn lost(&self) {
         self.counts.live.fetch_sub(1, Ordering::SeqCst);
+    }
+
+    fn is_full(&self) -> bool {
+        self.counts.live.load(Ordering::SeqCst) >= self.limits.max_connections
+    }
+
+    fn ends(&self) -> bool {
+        self.ends.load(Ordering::SeqCst) != 0
+    }
+
+    fn limits(&self) -> Limits {
+        self.limits
     }
 }

@@ -11,12 +11,11 @@ use std::fs;
 use std::rt::Files;
 use std::sync::{Arc, Mutex, Wait};
 
-/// The text of a pool's file as it was read last, and what is wrong with it.
+// The text of a pool's file as it was read last, and what is wrong with it.
 #[derive(Drop)]
-pub struct FileText {
+struct FileText {
     text: String,
-    /// What is wrong, or nothing.
-    pub fault: String,
+    fault: String,
 }
 
 /// The backends of a pool as a list.
@@ -26,7 +25,7 @@ pub struct PoolBackends {
     fixed: Vec<Backend>,
     /// The path of the file, or nothing.
     path: String,
-    pub file: Mutex<FileText>,
+    file: Mutex<FileText>,
 }
 
 impl PoolBackends {
@@ -66,6 +65,11 @@ impl PoolBackends {
                 false
             }
         }
+    }
+
+    /// Returns what is wrong with the file, or nothing.
+    pub fn fault<R: Wait>(&self, rt: &R) -> Result<String, AllocError> {
+        self.file.lock(rt).fault.clone()
     }
 
     // Notes what is wrong with the file, and logs it where that is new.

@@ -4,7 +4,7 @@ use mio::Token;
 
 /// What a token names, by its number or its key.
 #[derive(Clone, Copy)]
-pub enum Named {
+pub enum Origin {
     Listener(usize),
     Client(usize),
     Backend(usize),
@@ -26,15 +26,15 @@ pub fn backend_token(key: usize) -> Token {
 }
 
 /// Returns what a token names, where there are so many listeners.
-pub fn named(token: Token, listeners: usize) -> Named {
+pub fn named(token: Token, listeners: usize) -> Origin {
     let number = usize::MAX.wrapping_sub(token.0);
     if number < listeners {
-        return Named::Listener(number);
+        return Origin::Listener(number);
     }
     let key = token.0 >> 1;
     if token.0 & 1 == 0 {
-        Named::Client(key)
+        Origin::Client(key)
     } else {
-        Named::Backend(key)
+        Origin::Backend(key)
     }
 }

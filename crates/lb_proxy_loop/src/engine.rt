@@ -2,26 +2,23 @@
 
 use crate::connection::Connection;
 use crate::peer::Peer;
-use crate::pool::{Happened, Pool};
-use crate::proxy::Proxy;
 use crate::pump::Turn;
 use crate::stream::Stream;
-use crate::tokens::{Named, backend_token, client_token, listener_token, named};
+use crate::tokens::{Origin, backend_token, client_token, listener_token, named};
+use crate::upstream::{Happened, Upstream};
 use lb_proxy::attempts::{AttemptEvent, Attempts, Next};
 use lb_proxy::relay::Relay;
 use log::{Log, warn};
 use mio::event::Event;
 use mio::net::{TcpListener, TcpStream};
 use mio::{Events, Interest, Poll};
-use pingora_load_balancing::Backend;
 use slab::Slab;
 use std::alloc::Global;
+use std::io;
 use std::io::ErrorKind;
 use std::net::{IpAddr, Net, SocketAddr};
-use std::sync::atomic::Ordering;
 use std::sync::{Arc, Wait};
 use std::time::{Clock, Duration};
-use std::{io, net};
 
 // How many events a wait gives at most.
 const EVENTS: usize = 1024;
@@ -40,10 +37,10 @@ const TICK: u64 = 250;
 
 /// A loop over the connections that it took.
 #[derive(Drop)]
-pub struct Engine<R: Log + Net<Stream = net::TcpStream> + Wait> {
+pub struct Engine<R, U> {
     rt: R,
     alloc: Global,
-    proxy: Arc<Proxy<R>>,
+    proxy: Arc<U>,
     poll: Poll,
     listeners: Vec<TcpListener>,
     connections: Slab<Connection>,
@@ -59,14 +56,14 @@ pub struct Engine<R: Log + Net<Stream = net::TcpStream> + Wait> {
     looked: u64,
 }
 
-impl<R: Log + Net<Stream = net::TcpStream> + Wait + Clock + Copy + Drop> Engine<R> {
+impl<R: Log + Net + Wait + Clock + Copy + Drop, U: Upstream + Drop> Engine<R, U> {
     /// Returns a loop over these listeners, one for each of the proxy's.
     pub fn new(
         rt: R,
         alloc: Global,
-        proxy: Arc<Proxy<R>>,
+        proxy: Arc<U>,
         listeners: Vec<TcpListener>,
-    ) -> io::Result<Engine<R>> {
+    ) -> io::Result<Engine<R, U>> {
         let poll = Poll::new(&rt)?;
         let mut engine = Engine {
             rt,
@@ -101,11 +98,11 @@ impl<R: Log + Net<Stream = net::TcpStream> + Wait + Clock + Copy + Drop> Engine<
     pub fn run(&mut self) -> io::Result<()> {
         let rt = self.rt;
         let mut events = Events::with_capacity(self.alloc, EVENTS)?;
-        let mut left = self.proxy.limits.drain / 1_000_000;
+        let mut left = self.proxy.limits().drain / 1_000_000;
         for _ in rt.forever() {
             let before = self.now;
             self.round(&mut events)?;
-            if self.proxy.ends.load(Ordering::SeqCst) != 0 {
+            if self.proxy.ends() {
                 self.close();
                 left = left.saturating_sub(self.now.saturating_sub(before));
                 if self.connections.is_empty() || left == 0 {
@@ -148,8 +145,8 @@ impl<R: Log + Net<Stream = net::TcpStream> + Wait + Clock + Copy + Drop> Engine<
     // Goes on where an event was reported.
     fn woke(&mut self, event: &Event) {
         match named(event.token(), self.listeners.len()) {
-            Named::Listener(number) => self.accept(number),
-            Named::Client(key) => {
+            Origin::Listener(number) => self.accept(number),
+            Origin::Client(key) => {
                 if let Some(connection) = self.connections.get_mut(key) {
                     if !connection.is_connecting() {
                         connection.active = self.now;
@@ -158,7 +155,7 @@ impl<R: Log + Net<Stream = net::TcpStream> + Wait + Clock + Copy + Drop> Engine<
                 }
                 self.go_on(key);
             }
-            Named::Backend(key) => {
+            Origin::Backend(key) => {
                 if let Some(connection) = self.connections.get_mut(key) {
                     connection.active = self.now;
                     connection.note_backend(event);
@@ -243,8 +240,8 @@ impl<R: Log + Net<Stream = net::TcpStream> + Wait + Clock + Copy + Drop> Engine<
                 return;
             };
             let goes = match connection.attempts.next() {
-                Next::Select => select(&self.rt, self.alloc, &self.proxy, connection),
-                Next::Connect => connect(&self.rt, self.alloc, &self.proxy, &self.poll, key, connection),
+                Next::Select => select(&self.rt, self.alloc, &*self.proxy, connection),
+                Next::Connect => connect(&self.rt, self.alloc, &*self.proxy, &self.poll, key, connection),
                 Next::Relay => {
                     self.go_on(key);
                     return;
@@ -262,12 +259,8 @@ impl<R: Log + Net<Stream = net::TcpStream> + Wait + Clock + Copy + Drop> Engine<
 
     // Closes a connection for which no backend is left.
     fn give_up(&mut self, key: usize) {
-        self.proxy.counts.unserved.fetch_add(1, Ordering::SeqCst);
         if let Some(connection) = self.connections.get_mut(key) {
-            if let Some(pool) = self.proxy.pool_of(connection.listener) {
-                let name = pool.name.as_str();
-                warn!(self.rt; "pool {name}: no ready backend for a connection");
-            }
+            self.proxy.gave_up(&self.rt, connection.listener);
         }
         self.remove(key);
     }
@@ -301,7 +294,7 @@ impl<R: Log + Net<Stream = net::TcpStream> + Wait + Clock + Copy + Drop> Engine<
     // Ends what took too long: attempts to connect, and connections on which nothing happens.
     fn look(&mut self) {
         let mut late = Vec::new(self.alloc);
-        let limits = self.proxy.limits;
+        let limits = self.proxy.limits();
         for (key, connection) in self.connections.iter() {
             if connection.is_late(self.now, &limits) && late.push(key).is_err() {
                 return;
@@ -319,7 +312,7 @@ impl<R: Log + Net<Stream = net::TcpStream> + Wait + Clock + Copy + Drop> Engine<
         };
         if connection.is_connecting() {
             connection.active = self.now;
-            refuse(&self.rt, self.alloc, &self.proxy, connection);
+            refuse(&self.rt, self.alloc, &*self.proxy, connection);
             self.advance(key);
         } else {
             self.remove(key);
@@ -332,7 +325,7 @@ impl<R: Log + Net<Stream = net::TcpStream> + Wait + Clock + Copy + Drop> Engine<
             return;
         };
         self.proxy.lost();
-        count_end(&self.rt, self.alloc, &self.proxy, &connection);
+        count_end(&self.rt, self.alloc, &*self.proxy, &connection);
         let Connection { mut relay, .. } = connection;
         if self.spares.len() < SPARES {
             relay.reset();
@@ -372,20 +365,14 @@ fn source_of(alloc: Global, address: SocketAddr) -> io::Result<Vec<u8>> {
 }
 
 // Selects a backend for the next attempt. Returns whether the attempts went on.
-fn select<R: Log + Net<Stream = net::TcpStream> + Wait + Copy + Drop>(
+fn select<R: Log + Wait, U: Upstream>(
     rt: &R,
     alloc: Global,
-    proxy: &Proxy<R>,
+    proxy: &U,
     connection: &mut Connection,
 ) -> bool {
-    let selected = match proxy.pool_of(connection.listener) {
-        Some(pool) => {
-            let slot = proxy.slot_of(connection.listener);
-            pool.select(rt, alloc, slot, connection.source.as_slice(), &connection.attempts)
-        }
-        None => None,
-    };
-    let event = match selected {
+    let key = connection.source.as_slice();
+    let event = match proxy.select(rt, alloc, connection.listener, key, &connection.attempts) {
         Some(backend) => AttemptEvent::Selected(backend),
         None => AttemptEvent::NoneReady,
     };
@@ -393,10 +380,10 @@ fn select<R: Log + Net<Stream = net::TcpStream> + Wait + Copy + Drop>(
 }
 
 // Begins to connect, or looks what came of it. Returns whether the attempts went on.
-fn connect<R: Log + Net<Stream = net::TcpStream> + Wait + Copy + Drop>(
+fn connect<R: Log + Net + Wait, U: Upstream>(
     rt: &R,
     alloc: Global,
-    proxy: &Proxy<R>,
+    proxy: &U,
     poll: &Poll,
     key: usize,
     connection: &mut Connection,
@@ -415,10 +402,10 @@ fn connect<R: Log + Net<Stream = net::TcpStream> + Wait + Copy + Drop>(
 }
 
 // Begins to connect. Returns whether the attempts went on, as they do where it can't be begun.
-fn begin_connect<R: Log + Net<Stream = net::TcpStream> + Wait + Copy + Drop>(
+fn begin_connect<R: Log + Net + Wait, U: Upstream>(
     rt: &R,
     alloc: Global,
-    proxy: &Proxy<R>,
+    proxy: &U,
     poll: &Poll,
     key: usize,
     connection: &mut Connection,
@@ -444,10 +431,10 @@ fn open<N: Net>(net: &N, poll: &Poll, key: usize, attempts: &Attempts) -> io::Re
 }
 
 // Goes on after a backend that took no connection. Returns whether the attempts went on.
-fn refuse<R: Log + Net<Stream = net::TcpStream> + Wait + Copy + Drop>(
+fn refuse<R: Log + Wait, U: Upstream>(
     rt: &R,
     alloc: Global,
-    proxy: &Proxy<R>,
+    proxy: &U,
     connection: &mut Connection,
 ) -> bool {
     connection.backend = None;
@@ -459,26 +446,24 @@ fn refuse<R: Log + Net<Stream = net::TcpStream> + Wait + Copy + Drop>(
 }
 
 // Counts what happened at the backend that was selected last.
-fn count<R: Log + Net<Stream = net::TcpStream> + Wait + Copy + Drop>(
+fn count<R: Log + Wait, U: Upstream>(
     rt: &R,
     alloc: Global,
-    proxy: &Proxy<R>,
+    proxy: &U,
     connection: &Connection,
     happened: Happened,
 ) {
     let Some(backend) = connection.attempts.backend() else {
         return;
     };
-    if let Some(pool) = proxy.pool_of(connection.listener) {
-        pool.note(rt, alloc, backend, happened);
-    }
+    proxy.note(rt, alloc, connection.listener, backend, happened);
 }
 
 // Counts the end of a connection that had begun at a backend.
-fn count_end<R: Log + Net<Stream = net::TcpStream> + Wait + Copy + Drop>(
+fn count_end<R: Log + Wait, U: Upstream>(
     rt: &R,
     alloc: Global,
-    proxy: &Proxy<R>,
+    proxy: &U,
     connection: &Connection,
 ) {
     if let Some(peer) = &connection.backend {

@@ -1,0 +1,60 @@
+//! What a loop asks of the proxy that it works for.
+
+use lb_proxy::attempts::Attempts;
+use lb_proxy::config::Limits;
+use lb_select_base::backend::Backend;
+use log::Log;
+use std::alloc::Global;
+use std::sync::Wait;
+
+/// What happened to a connection to a backend.
+#[derive(Clone, Copy)]
+pub enum Happened {
+    /// It is tried.
+    Began,
+    /// The backend didn't take it.
+    Refused,
+    /// It ended; it carried so many bytes to the backend and from it.
+    Ended { sent: u64, received: u64 },
+}
+
+/// What a loop asks of its proxy. Listeners are named by their numbers.
+pub trait Upstream {
+    /// Returns a ready backend for a connection that a listener took, one that was not tried.
+    fn select<W: Log + Wait>(
+        &self,
+        rt: &W,
+        alloc: Global,
+        listener: usize,
+        key: &[u8],
+        attempts: &Attempts,
+    ) -> Option<Backend>;
+
+    /// Takes note of what happened to a connection to the backend.
+    fn note<W: Log + Wait>(
+        &self,
+        rt: &W,
+        alloc: Global,
+        listener: usize,
+        backend: &Backend,
+        happened: Happened,
+    );
+
+    /// Takes note of a connection for which no backend was left.
+    fn gave_up<W: Log>(&self, rt: &W, listener: usize);
+
+    /// Takes note of a connection that was taken.
+    fn took(&self);
+
+    /// Takes note of a connection that is gone.
+    fn lost(&self);
+
+    /// Returns whether there are as many connections as may be.
+    fn is_full(&self) -> bool;
+
+    /// Returns whether no connection is to be taken any more.
+    fn ends(&self) -> bool;
+
+    /// Returns the limits of connections.
+    fn limits(&self) -> Limits;
+}
