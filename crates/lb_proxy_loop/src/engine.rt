@@ -46,8 +46,9 @@ pub struct Engine<R, U> {
     connections: Slab<Connection>,
     // Those that can go on without an event.
     ready: Vec<usize>,
-    // Whether a listener may have connections that were not taken.
+    // Whether a listener may have connections that were not taken, and whether they can be taken at once.
     accepting: bool,
+    hurries: bool,
     // Whether the listeners are closed.
     closed: bool,
     spares: Vec<Relay>,
@@ -74,6 +75,7 @@ impl<R: Log + Net + Wait + Clock + Copy + Drop, U: Upstream + Drop> Engine<R, U>
             connections: Slab::new(alloc),
             ready: Vec::new(alloc),
             accepting: true,
+            hurries: false,
             closed: false,
             spares: Vec::new(alloc),
             now: 0,
@@ -123,7 +125,8 @@ impl<R: Log + Net + Wait + Clock + Copy + Drop, U: Upstream + Drop> Engine<R, U>
 
     // Waits for events, and does what they allow.
     fn round(&mut self, events: &mut Events) -> io::Result<()> {
-        let limit = if self.ready.is_empty() { TICK } else { 0 };
+        let waits = self.ready.is_empty() && !self.hurries;
+        let limit = if waits { TICK } else { 0 };
         self.poll.poll(events, Some(Duration::from_millis(limit)))?;
         if let Ok(since) = self.rt.monotonic() {
             self.now = since.as_secs().saturating_mul(1000).saturating_add(u64::from(since.subsec_millis()));
@@ -168,6 +171,7 @@ impl<R: Log + Net + Wait + Clock + Copy + Drop, U: Upstream + Drop> Engine<R, U>
     // Takes connections of every listener.
     fn accept_all(&mut self) {
         self.accepting = false;
+        self.hurries = false;
         for number in 0..self.listeners.len() {
             self.accept(number);
         }
@@ -176,34 +180,47 @@ impl<R: Log + Net + Wait + Clock + Copy + Drop, U: Upstream + Drop> Engine<R, U>
     // Takes connections of a listener, up to the limit. Those that are left are taken later.
     fn accept(&mut self, number: usize) {
         for _ in 0..ACCEPTS {
-            if self.proxy.is_full() {
+            if !self.proxy.reserve() {
                 self.accepting = true;
                 return;
             }
-            let Some(listener) = self.listeners.get(number) else {
+            if !self.accept_one(number) {
+                self.proxy.release();
                 return;
-            };
-            match listener.accept() {
-                Ok((stream, address)) => self.begin(number, stream, address),
-                Err(error) if error.kind() == ErrorKind::WouldBlock => return,
-                Err(_) => break,
             }
         }
         self.accepting = true;
+        self.hurries = true;
     }
 
-    // Begins a connection, and its first attempt.
-    fn begin(&mut self, number: usize, stream: TcpStream, address: SocketAddr) {
+    // Takes one connection of a listener, for which room was kept. Returns whether it was taken.
+    fn accept_one(&mut self, number: usize) -> bool {
+        let Some(listener) = self.listeners.get(number) else {
+            return false;
+        };
+        match listener.accept() {
+            Ok((stream, address)) => self.begin(number, stream, address),
+            Err(error) => {
+                if error.kind() != ErrorKind::WouldBlock {
+                    self.accepting = true;
+                }
+                false
+            }
+        }
+    }
+
+    // Begins a connection, and its first attempt. Returns whether there was memory for it.
+    fn begin(&mut self, number: usize, stream: TcpStream, address: SocketAddr) -> bool {
         let _ = stream.set_nodelay(true);
         let Some(relay) = self.relay() else {
-            return;
+            return false;
         };
         let Ok(connection) = new_connection(self.alloc, number, stream, address, relay, self.now)
         else {
-            return;
+            return false;
         };
         let Ok(key) = self.connections.insert(connection) else {
-            return;
+            return false;
         };
         self.proxy.took();
         if self.register_client(key) {
@@ -211,6 +228,7 @@ impl<R: Log + Net + Wait + Clock + Copy + Drop, U: Upstream + Drop> Engine<R, U>
         } else {
             self.remove(key);
         }
+        true
     }
 
     // A relay for a connection, one that is kept where there is one.
@@ -324,7 +342,7 @@ impl<R: Log + Net + Wait + Clock + Copy + Drop, U: Upstream + Drop> Engine<R, U>
         let Some(connection) = self.connections.try_remove(key) else {
             return;
         };
-        self.proxy.lost();
+        self.proxy.release();
         count_end(&self.rt, self.alloc, &*self.proxy, &connection);
         let Connection { mut relay, .. } = connection;
         if self.spares.len() < SPARES {

@@ -43,14 +43,14 @@ pub trait Upstream {
     /// Takes note of a connection for which no backend was left.
     fn gave_up<W: Log>(&self, rt: &W, listener: usize);
 
+    /// Keeps room for one more connection. Returns whether there was room.
+    fn reserve(&self) -> bool;
+
+    /// Gives the room of a connection back.
+    fn release(&self);
+
     /// Takes note of a connection that was taken.
     fn took(&self);
-
-    /// Takes note of a connection that is gone.
-    fn lost(&self);
-
-    /// Returns whether there are as many connections as may be.
-    fn is_full(&self) -> bool;
 
     /// Returns whether no connection is to be taken any more.
     fn ends(&self) -> bool;

@@ -18,13 +18,14 @@ use std::sync::atomic::AtomicU64;
 use std::sync::{Arc, Wait};
 
 /// Returns a listener for each of the configuration's.
-pub fn bind<R: Net + AllocGlobal>(
-    rt: &R,
+pub fn bind<N: Net>(
+    net: &N,
+    alloc: Global,
     listens: &[ListenConfig],
 ) -> io::Result<Vec<net::TcpListener>> {
-    let mut listeners = Vec::new(rt.alloc());
+    let mut listeners = Vec::new(alloc);
     for listen in listens {
-        let listener = TcpListener::bind(rt, listen.address)?;
+        let listener = TcpListener::bind(net, listen.address)?;
         listeners.push(net::TcpListener::from(listener))?;
     }
     Ok(listeners)
@@ -84,14 +85,15 @@ fn slots_of(alloc: Global, listens: &[ListenConfig]) -> Result<Vec<Listen>, Allo
 }
 
 /// Returns the registry of all pools, with the configured check, and their gate.
-pub fn common<R: Net<Stream = TcpStream> + Wait + Copy + Drop>(
-    rt: R,
+pub fn common<R: Wait, N: Net<Stream = TcpStream> + Copy + Drop>(
+    rt: &R,
+    net: N,
     alloc: Global,
     check: &Option<CheckConfig>,
-) -> Result<Common<R>, Refusal> {
-    let registry: Registry<R> = HealthRegistry::over(alloc, keyed_by_identity(alloc))?;
+) -> Result<Common<N>, Refusal> {
+    let registry: Registry<N> = HealthRegistry::over(alloc, keyed_by_identity(alloc))?;
     if let Some(check) = check {
-        registry.set_health_check(&rt, ProxyCheck::new(rt, alloc, check)?)?;
+        registry.set_health_check(rt, ProxyCheck::new(net, alloc, check)?)?;
     }
     Ok(Common {
         registry: Arc::new(alloc, registry)?,
@@ -100,13 +102,13 @@ pub fn common<R: Net<Stream = TcpStream> + Wait + Copy + Drop>(
 }
 
 // The pools, each with a slot for each listener on it.
-fn pools_of<R: Log + Net<Stream = TcpStream> + Wait + Copy + Drop>(
+fn pools_of<R: Log + Wait + Copy + Drop, N: Net<Stream = TcpStream> + Drop>(
     rt: R,
     alloc: Global,
     pools: Vec<PoolConfig>,
     listens: &[ListenConfig],
-    common: &Common<R>,
-) -> Result<Vec<Pool<R>>, Refusal> {
+    common: &Common<N>,
+) -> Result<Vec<Pool<R, N>>, Refusal> {
     let mut made = Vec::new(alloc);
     for PoolConfig { name, source } in pools {
         let kinds = kinds_of(alloc, listens, made.len())?;
@@ -117,12 +119,12 @@ fn pools_of<R: Log + Net<Stream = TcpStream> + Wait + Copy + Drop>(
 }
 
 /// Returns what the loops share.
-pub fn build<R: Log + Net<Stream = TcpStream> + Wait + Copy + Drop>(
+pub fn build<R: Log + Wait + Copy + Drop, N: Net<Stream = TcpStream> + Drop>(
     rt: R,
     alloc: Global,
     config: Config,
-    common: &Common<R>,
-) -> Result<Proxy<R>, Refusal> {
+    common: &Common<N>,
+) -> Result<Proxy<R, N>, Refusal> {
     let Config {
         limits,
         pools,

@@ -13,29 +13,29 @@ use std::net::{Net, TcpStream};
 
 /// What a check does: it connects, or asks for an answer.
 #[derive(Drop)]
-pub enum Probe<R> {
-    Tcp(TcpHealthCheck<R>),
-    Http(HttpHealthCheck<R>),
+pub enum Probe<N> {
+    Tcp(TcpHealthCheck<N>),
+    Http(HttpHealthCheck<N>),
 }
 
 /// The check of all backends, with its thresholds.
 #[derive(Drop)]
-pub struct ProxyCheck<R> {
-    probe: Probe<R>,
+pub struct ProxyCheck<N> {
+    probe: Probe<N>,
     rise: usize,
     fall: usize,
 }
 
-impl<R: Copy + Drop> ProxyCheck<R> {
+impl<N: Copy + Drop> ProxyCheck<N> {
     /// Returns the check that the configuration names.
     ///
     /// Refused `InvalidAddress` where the host can't be a field's value, and `OutOfMemory`.
-    pub fn new(rt: R, alloc: Global, config: &CheckConfig) -> Result<ProxyCheck<R>, Refusal> {
+    pub fn new(net: N, alloc: Global, config: &CheckConfig) -> Result<ProxyCheck<N>, Refusal> {
         let limit = Some(u128::from(config.timeout));
         let probe = match &config.kind {
-            CheckKind::Tcp => Probe::Tcp(connecting(rt, limit)),
+            CheckKind::Tcp => Probe::Tcp(connecting(net, limit)),
             CheckKind::Http { host, path } => {
-                Probe::Http(asking(rt, alloc, host.as_str(), path.as_str(), limit)?)
+                Probe::Http(asking(net, alloc, host.as_str(), path.as_str(), limit)?)
             }
         };
         Ok(ProxyCheck {
@@ -47,21 +47,21 @@ impl<R: Copy + Drop> ProxyCheck<R> {
 }
 
 // A check that connects within the limit.
-fn connecting<R>(rt: R, limit: Option<u128>) -> TcpHealthCheck<R> {
-    let mut check = TcpHealthCheck::new(rt);
+fn connecting<N>(net: N, limit: Option<u128>) -> TcpHealthCheck<N> {
+    let mut check = TcpHealthCheck::new(net);
     check.peer_template.connection_timeout = limit;
     check
 }
 
 // A check that asks this host for this path, each wait within the limit.
-fn asking<R: Drop>(
-    rt: R,
+fn asking<N: Drop>(
+    net: N,
     alloc: Global,
     host: &str,
     path: &str,
     limit: Option<u128>,
-) -> Result<HttpHealthCheck<R>, Refusal> {
-    let mut check = HttpHealthCheck::new(alloc, rt, host)?;
+) -> Result<HttpHealthCheck<N>, Refusal> {
+    let mut check = HttpHealthCheck::new(alloc, net, host)?;
     check.peer_template.connection_timeout = limit;
     check.peer_template.read_timeout = limit;
     check.peer_template.write_timeout = limit;
@@ -80,7 +80,7 @@ fn request_at(alloc: Global, request: Request<()>, path: &str) -> Result<Request
     Ok(Request::from_parts(parts, body))
 }
 
-impl<R: Net<Stream = TcpStream>> HealthCheck for ProxyCheck<R> {
+impl<N: Net<Stream = TcpStream>> HealthCheck for ProxyCheck<N> {
     ghost threshold = { λ s success. if success then s.rise else s.fall };
 
     fn check(&self, alloc: Global, target: &Backend) -> Result<(), CheckError> {

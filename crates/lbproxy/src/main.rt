@@ -21,7 +21,7 @@ use std::process::ExitCode;
 
 fn main(rt: HostRuntime) -> ExitCode {
     let logged = Logged::new(rt, Level::Info, Stamped(rt));
-    match run::run(&logged) {
+    match run::run(&logged, rt) {
         Ok(status) => ExitCode::from(status),
         Err(_) => ExitCode::from(1),
     }

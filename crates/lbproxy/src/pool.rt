@@ -23,10 +23,10 @@ use std::time::Clock;
 const CANDIDATES: usize = 256;
 
 /// The registry of all pools.
-pub type Registry<R> = HealthRegistry<Rule<NoRule>, ProxyCheck<R>>;
+pub type Registry<N> = HealthRegistry<Rule<NoRule>, ProxyCheck<N>>;
 
 /// The group of a pool.
-pub type Group<R> = LoadBalancerGroup<Chosen, PoolDiscovery<R>, Rule<NoRule>, ProxyCheck<R>>;
+pub type Group<R, N> = LoadBalancerGroup<Chosen, PoolDiscovery<R>, Rule<NoRule>, ProxyCheck<N>>;
 
 /// What a backend has carried.
 #[derive(Clone, Copy)]
@@ -43,9 +43,9 @@ pub type TrafficTable = BTreeMap<Backend, Traffic>;
 
 /// A pool.
 #[derive(Drop)]
-pub struct Pool<R: Log + Net<Stream = TcpStream> + Wait + Drop> {
+pub struct Pool<R: Log + Wait + Drop, N: Net<Stream = TcpStream> + Drop> {
     pub name: String,
-    pub group: Group<R>,
+    pub group: Group<R, N>,
     pub backends: Arc<PoolBackends>,
     pub traffic: Mutex<TrafficTable>,
     // Whether a slot goes by loads.
@@ -54,12 +54,12 @@ pub struct Pool<R: Log + Net<Stream = TcpStream> + Wait + Drop> {
 
 /// What all pools share.
 #[derive(Drop)]
-pub struct Common<R: Net<Stream = TcpStream> + Drop> {
-    pub registry: Arc<Registry<R>>,
+pub struct Common<N: Net<Stream = TcpStream> + Drop> {
+    pub registry: Arc<Registry<N>>,
     pub gate: Arc<SelectorRebuildGate>,
 }
 
-impl<R: Log + Net<Stream = TcpStream> + Wait + Copy + Drop> Pool<R> {
+impl<R: Log + Wait + Copy + Drop, N: Net<Stream = TcpStream> + Drop> Pool<R, N> {
     /// Returns a pool with a slot of each of these kinds, without workers.
     pub fn new(
         rt: R,
@@ -67,8 +67,8 @@ impl<R: Log + Net<Stream = TcpStream> + Wait + Copy + Drop> Pool<R> {
         name: String,
         backends: Arc<PoolBackends>,
         kinds: Vec<Option<Kind>>,
-        common: &Common<R>,
-    ) -> Result<Pool<R>, Refusal> {
+        common: &Common<N>,
+    ) -> Result<Pool<R, N>, Refusal> {
         let discovery = PoolDiscovery {
             rt,
             backends: Arc::try_clone(&backends)?,
@@ -179,13 +179,13 @@ fn counted(
 }
 
 // The group of a pool, on the registry and the gate of all.
-fn group_of<R: Log + Net<Stream = TcpStream> + Wait + Drop>(
+fn group_of<R: Log + Wait + Drop, N: Net<Stream = TcpStream> + Drop>(
     rt: &R,
     alloc: Global,
     discovery: PoolDiscovery<R>,
     kinds: Vec<Option<Kind>>,
-    common: &Common<R>,
-) -> Result<Group<R>, Refusal> {
+    common: &Common<N>,
+) -> Result<Group<R, N>, Refusal> {
     let registry = Arc::try_clone(&common.registry)?;
     let gate = Arc::try_clone(&common.gate)?;
     let backends = Backends::new_with_health_registry(DiscoverySource::Boxed(discovery), registry);
@@ -195,8 +195,9 @@ fn group_of<R: Log + Net<Stream = TcpStream> + Wait + Drop>(
 }
 
 impl<
-    R: Log + Net<Stream = TcpStream> + Threads + Wait + Clock + Copy + Drop + Send + Sync + 'static,
-> Pool<R> {
+    R: Log + Threads + Wait + Clock + Copy + Drop + Send + Sync + 'static,
+    N: Net<Stream = TcpStream> + Drop + Send + Sync + 'static,
+> Pool<R, N> {
     /// Starts the workers. Returns how many couldn't be started.
     pub fn start(&self, rt: &R, alloc: Global) -> usize {
         start_workers(rt, alloc, self.group.shared(), RuntimeClock::new(*rt))

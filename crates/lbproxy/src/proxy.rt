@@ -29,8 +29,8 @@ pub struct Counts {
 
 /// What the loops share.
 #[derive(Drop)]
-pub struct Proxy<R: Log + Net<Stream = TcpStream> + Wait + Drop> {
-    pub pools: Vec<Pool<R>>,
+pub struct Proxy<R: Log + Wait + Drop, N: Net<Stream = TcpStream> + Drop> {
+    pub pools: Vec<Pool<R, N>>,
     pub listens: Vec<Listen>,
     pub limits: Limits,
     pub counts: Counts,
@@ -38,16 +38,16 @@ pub struct Proxy<R: Log + Net<Stream = TcpStream> + Wait + Drop> {
     pub ends: AtomicU64,
 }
 
-impl<R: Log + Net<Stream = TcpStream> + Wait + Copy + Drop> Proxy<R> {
+impl<R: Log + Wait + Copy + Drop, N: Net<Stream = TcpStream> + Drop> Proxy<R, N> {
     // The pool of a listener, and its slot there.
-    fn slot_of(&self, listener: usize) -> Option<(&Pool<R>, usize)> {
+    fn slot_of(&self, listener: usize) -> Option<(&Pool<R, N>, usize)> {
         let listen = self.listens.get(listener)?;
         let pool = self.pools.get(listen.config.pool)?;
         Some((pool, listen.slot))
     }
 }
 
-impl<R: Log + Net<Stream = TcpStream> + Wait + Copy + Drop> Upstream for Proxy<R> {
+impl<R: Log + Wait + Copy + Drop, N: Net<Stream = TcpStream> + Drop> Upstream for Proxy<R, N> {
     fn select<W: Log + Wait>(
         &self,
         rt: &W,
@@ -81,17 +81,20 @@ impl<R: Log + Net<Stream = TcpStream> + Wait + Copy + Drop> Upstream for Proxy<R
         }
     }
 
-    fn took(&self) {
-        self.counts.live.fetch_add(1, Ordering::SeqCst);
-        self.counts.total.fetch_add(1, Ordering::SeqCst);
+    fn reserve(&self) -> bool {
+        let has_room = self.counts.live.fetch_add(1, Ordering::SeqCst) < self.limits.max_connections;
+        if !has_room {
+            self.release();
+        }
+        has_room
     }
 
-    fn lost(&self) {
+    fn release(&self) {
         self.counts.live.fetch_sub(1, Ordering::SeqCst);
     }
 
-    fn is_full(&self) -> bool {
-        self.counts.live.load(Ordering::SeqCst) >= self.limits.max_connections
+    fn took(&self) {
+        self.counts.total.fetch_add(1, Ordering::SeqCst);
     }
 
     fn ends(&self) -> bool {

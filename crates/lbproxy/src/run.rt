@@ -42,10 +42,10 @@ fn said(alloc: Global, text: Result<String, AllocError>) -> String {
 }
 
 // Runs the proxy that the file describes, or only reads the file; the answer is the exit status.
-fn answer<R>(rt: &R, given: &ArgMatches<'_>) -> io::Result<u8>
+fn answer<R, N>(rt: &R, net: N, given: &ArgMatches<'_>) -> io::Result<u8>
 where
     R: Log
-        + Net<Listener = TcpListener, Stream = TcpStream>
+        + Net
         + Files
         + Input
         + Print
@@ -59,6 +59,7 @@ where
         + Send
         + Sync
         + 'static,
+    N: Net<Listener = TcpListener, Stream = TcpStream> + Copy + Drop + Send + Sync + 'static,
 {
     let path = given.get_str("config").unwrap_or("");
     let config = match load(rt, path) {
@@ -72,7 +73,7 @@ where
         println!(rt; "{path}: ok")?;
         return Ok(0);
     }
-    match serve(*rt, config, given.get_flag("until-eof")) {
+    match serve(*rt, net, config, given.get_flag("until-eof")) {
         Ok(()) => Ok(0),
         Err(error) => {
             let _ = eprintln!(rt; "lbproxy: {error}");
@@ -89,10 +90,10 @@ fn print_error<R: Print + Eprint>(rt: &R, error: &Error) -> io::Result<u8> {
 
 /// Reads the words and does what they ask for. The answer is the exit status: 0 for an end in order, 1 where the proxy couldn't run, 2 for
 /// bad words or a bad configuration.
-pub fn run<R>(rt: &R) -> io::Result<u8>
+pub fn run<R, N>(rt: &R, net: N) -> io::Result<u8>
 where
     R: Log
-        + Net<Listener = TcpListener, Stream = TcpStream>
+        + Net
         + Files
         + Env
         + Input
@@ -107,11 +108,12 @@ where
         + Send
         + Sync
         + 'static,
+    N: Net<Listener = TcpListener, Stream = TcpStream> + Copy + Drop + Send + Sync + 'static,
 {
     let words: Vec<String> = env::args(rt)?.collect(rt.alloc())?;
     let mut command: Command<'_> = command(rt.alloc())?;
     match command.try_get_matches_from_mut(words.as_slice()) {
-        Ok(given) => answer(rt, &given),
+        Ok(given) => answer(rt, net, &given),
         Err(error) => print_error(rt, &error),
     }
 }

@@ -24,10 +24,10 @@ const LOOKS: usize = 200;
 const PAUSE: u64 = 10;
 
 /// Runs the proxy that is configured. With `until_eof` it ends where standard input does, else it doesn't end.
-pub fn serve<R>(rt: R, config: Config, until_eof: bool) -> Result<(), anyhow::Error>
+pub fn serve<R, N>(rt: R, net: N, config: Config, until_eof: bool) -> Result<(), anyhow::Error>
 where
     R: Log
-        + Net<Listener = TcpListener, Stream = TcpStream>
+        + Net
         + Files
         + Input
         + Threads
@@ -39,12 +39,13 @@ where
         + Send
         + Sync
         + 'static,
+    N: Net<Listener = TcpListener, Stream = TcpStream> + Copy + Drop + Send + Sync + 'static,
 {
     let alloc = rt.alloc();
-    let listeners = bind(&rt, config.listens.as_slice())?;
-    let common = common(rt, alloc, &config.check)?;
+    let listeners = bind(&net, alloc, config.listens.as_slice())?;
+    let common = common(&rt, net, alloc, &config.check)?;
     let service = service_of(&common, &config.check)?;
-    let page = page_of(&rt, &config)?;
+    let page = page_of(&net, &config)?;
     let count = thread_count(&rt, config.limits.threads);
     let proxy = Arc::new(alloc, build(rt, alloc, config, &common)?)?;
     begin(&rt, alloc, &*proxy);
@@ -94,10 +95,10 @@ fn thread_count<R: Threads>(rt: &R, configured: u64) -> u64 {
 }
 
 // The service that checks the backends of all pools, where a check is configured.
-fn service_of<R: Net<Stream = TcpStream> + Drop + Send + Sync>(
-    common: &Common<R>,
+fn service_of<N: Net<Stream = TcpStream> + Drop + Send + Sync>(
+    common: &Common<N>,
     check: &Option<CheckConfig>,
-) -> Result<Option<Service<R>>, Refusal> {
+) -> Result<Option<Service<N>>, Refusal> {
     let Some(check) = check else {
         return Ok(None);
     };
@@ -108,23 +109,22 @@ fn service_of<R: Net<Stream = TcpStream> + Drop + Send + Sync>(
 }
 
 // The listener of the status page, where one is configured.
-fn page_of<R: Net<Listener = TcpListener, Stream = TcpStream>>(
-    rt: &R,
+fn page_of<N: Net<Listener = TcpListener, Stream = TcpStream>>(
+    net: &N,
     config: &Config,
 ) -> io::Result<Option<TcpListener>> {
     let Some(address) = config.status else {
         return Ok(None);
     };
-    let page = TcpListener::bind(rt, address)?;
+    let page = TcpListener::bind(net, address)?;
     page.set_nonblocking(true)?;
     Ok(Some(page))
 }
 
 // Starts the workers of all pools, and waits for their first selectors.
-fn begin<R>(rt: &R, alloc: Global, proxy: &Proxy<R>)
+fn begin<R, N>(rt: &R, alloc: Global, proxy: &Proxy<R, N>)
 where
     R: Log
-        + Net<Stream = TcpStream>
         + Files
         + Threads
         + Wait
@@ -135,6 +135,7 @@ where
         + Send
         + Sync
         + 'static,
+    N: Net<Stream = TcpStream> + Drop + Send + Sync + 'static,
 {
     for pool in proxy.pools.iter() {
         let name = pool.name.as_str();
@@ -153,17 +154,16 @@ where
 }
 
 // Starts the threads that check, read files and answer at the status page.
-fn start_helpers<R>(
+fn start_helpers<R, N>(
     rt: R,
     alloc: Global,
-    proxy: &Arc<Proxy<R>>,
+    proxy: &Arc<Proxy<R, N>>,
     watch: &ShutdownWatch,
-    service: Option<Service<R>>,
+    service: Option<Service<N>>,
     page: Option<TcpListener>,
 ) -> Result<Vec<Thread>, anyhow::Error>
 where
     R: Log
-        + Net<Stream = TcpStream>
         + Files
         + Threads
         + Wait
@@ -174,6 +174,7 @@ where
         + Send
         + Sync
         + 'static,
+    N: Net<Stream = TcpStream> + Drop + Send + Sync + 'static,
 {
     let mut threads = Vec::new(alloc);
     if let Some(service) = service {
@@ -189,16 +190,16 @@ where
 }
 
 // Starts so many loops.
-fn start_loops<R>(
+fn start_loops<R, N>(
     rt: R,
     alloc: Global,
-    proxy: &Arc<Proxy<R>>,
+    proxy: &Arc<Proxy<R, N>>,
     listeners: Vec<TcpListener>,
     count: u64,
 ) -> Result<Vec<Thread>, anyhow::Error>
 where
     R: Log
-        + Net<Listener = TcpListener, Stream = TcpStream>
+        + Net
         + Threads
         + Wait
         + Clock
@@ -207,6 +208,7 @@ where
         + Send
         + Sync
         + 'static,
+    N: Net<Stream = TcpStream> + Drop + Send + Sync + 'static,
 {
     let mut threads = Vec::new(alloc);
     for _ in 0..count {

@@ -56,10 +56,10 @@ impl Shown {
 }
 
 /// Returns what the proxy is doing now.
-pub fn shown_of<R: Log + Net<Stream = TcpStream> + Wait + Copy + Drop>(
+pub fn shown_of<R: Log + Wait + Copy + Drop, N: Net<Stream = TcpStream> + Drop>(
     rt: &R,
     alloc: Global,
-    proxy: &Proxy<R>,
+    proxy: &Proxy<R, N>,
 ) -> Result<Shown, Refusal> {
     let mut pools = Vec::new(alloc);
     for pool in proxy.pools.iter() {
@@ -74,10 +74,10 @@ pub fn shown_of<R: Log + Net<Stream = TcpStream> + Wait + Copy + Drop>(
 }
 
 // What a pool is doing.
-fn shown_pool<R: Log + Net<Stream = TcpStream> + Wait + Copy + Drop>(
+fn shown_pool<R: Log + Wait + Copy + Drop, N: Net<Stream = TcpStream> + Drop>(
     rt: &R,
     alloc: Global,
-    pool: &Pool<R>,
+    pool: &Pool<R, N>,
 ) -> Result<ShownPool, Refusal> {
     Ok(ShownPool {
         name: pool.name.clone()?,
@@ -89,10 +89,10 @@ fn shown_pool<R: Log + Net<Stream = TcpStream> + Wait + Copy + Drop>(
 }
 
 // What the slots of a pool serve.
-fn shown_slots<R: Log + Net<Stream = TcpStream> + Wait + Copy + Drop>(
+fn shown_slots<R: Log + Wait + Copy + Drop, N: Net<Stream = TcpStream> + Drop>(
     rt: &R,
     alloc: Global,
-    pool: &Pool<R>,
+    pool: &Pool<R, N>,
 ) -> Result<Vec<ShownSlot>, Refusal> {
     let mut slots = Vec::new(alloc);
     for slot in 0..pool.group.selector_count() {
@@ -105,10 +105,10 @@ fn shown_slots<R: Log + Net<Stream = TcpStream> + Wait + Copy + Drop>(
 }
 
 // The backends of a pool, in order.
-fn shown_backends<R: Log + Net<Stream = TcpStream> + Wait + Copy + Drop>(
+fn shown_backends<R: Log + Wait + Copy + Drop, N: Net<Stream = TcpStream> + Drop>(
     rt: &R,
     alloc: Global,
-    pool: &Pool<R>,
+    pool: &Pool<R, N>,
 ) -> Result<Vec<ShownBackend>, Refusal> {
     let members = pool.group.backends().get_backend(rt)?;
     let mut backends = Vec::new(alloc);

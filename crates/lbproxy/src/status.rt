@@ -33,10 +33,10 @@ struct Page {
 }
 
 /// Answers one request.
-pub fn serve_page<R: Log + Net<Stream = TcpStream> + Wait + Copy + Drop>(
+pub fn serve_page<R: Log + Wait + Copy + Drop, N: Net<Stream = TcpStream> + Drop>(
     rt: &R,
     alloc: Global,
-    proxy: &Proxy<R>,
+    proxy: &Proxy<R, N>,
     mut stream: TcpStream,
 ) {
     if let Err(error) = answer(rt, alloc, proxy, &mut stream) {
@@ -45,10 +45,10 @@ pub fn serve_page<R: Log + Net<Stream = TcpStream> + Wait + Copy + Drop>(
 }
 
 // Reads a request and answers it.
-fn answer<R: Log + Net<Stream = TcpStream> + Wait + Copy + Drop>(
+fn answer<R: Log + Wait + Copy + Drop, N: Net<Stream = TcpStream> + Drop>(
     rt: &R,
     alloc: Global,
-    proxy: &Proxy<R>,
+    proxy: &Proxy<R, N>,
     stream: &mut TcpStream,
 ) -> io::Result<()> {
     stream.set_nonblocking(false)?;
@@ -94,10 +94,10 @@ fn target_of(head: &[u8]) -> &str {
 }
 
 // The answer for a target.
-fn page_of<R: Log + Net<Stream = TcpStream> + Wait + Copy + Drop>(
+fn page_of<R: Log + Wait + Copy + Drop, N: Net<Stream = TcpStream> + Drop>(
     rt: &R,
     alloc: Global,
-    proxy: &Proxy<R>,
+    proxy: &Proxy<R, N>,
     target: &str,
 ) -> io::Result<Page> {
     match shown_of(rt, alloc, proxy) {

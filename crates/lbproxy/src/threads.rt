@@ -27,18 +27,18 @@ const NAP: u64 = 50;
 pub type Thread = JoinHandle<()>;
 
 /// The check of all pools.
-pub type Service<R> = HealthCheckService<Rule<NoRule>, ProxyCheck<R>>;
+pub type Service<N> = HealthCheckService<Rule<NoRule>, ProxyCheck<N>>;
 
 /// Starts a loop over these listeners.
-pub fn start_loop<R>(
+pub fn start_loop<R, N>(
     rt: R,
     alloc: Global,
-    proxy: &Arc<Proxy<R>>,
+    proxy: &Arc<Proxy<R, N>>,
     listeners: &[TcpListener],
 ) -> io::Result<Thread>
 where
     R: Log
-        + Net<Listener = TcpListener, Stream = TcpStream>
+        + Net
         + Threads
         + Wait
         + Clock
@@ -47,6 +47,7 @@ where
         + Send
         + Sync
         + 'static,
+    N: Net<Stream = TcpStream> + Drop + Send + Sync + 'static,
 {
     let listeners = copies(alloc, listeners)?;
     let mut engine = Engine::new(rt, alloc, Arc::try_clone(proxy)?, listeners)?;
@@ -59,14 +60,15 @@ where
 }
 
 /// Starts the checks of all pools.
-pub fn start_checks<R>(
+pub fn start_checks<R, N>(
     rt: R,
     alloc: Global,
-    service: Service<R>,
+    service: Service<N>,
     watch: ShutdownWatch,
 ) -> io::Result<Thread>
 where
-    R: Log + Net<Stream = TcpStream> + Threads + Wait + Clock + Copy + Drop + Send + Sync + 'static,
+    R: Log + Threads + Wait + Clock + Copy + Drop + Send + Sync + 'static,
+    N: Net<Stream = TcpStream> + Drop + Send + Sync + 'static,
 {
     let started = thread::spawn(&rt, move || {
         service.run(&rt, alloc, &mut RuntimeClock::new(rt), &watch, None);
@@ -75,15 +77,14 @@ where
 }
 
 /// Starts the thread that reads the files of pools again, each second.
-pub fn start_looking<R>(
+pub fn start_looking<R, N>(
     rt: R,
     alloc: Global,
-    proxy: Arc<Proxy<R>>,
+    proxy: Arc<Proxy<R, N>>,
     watch: ShutdownWatch,
 ) -> io::Result<Thread>
 where
     R: Log
-        + Net<Stream = TcpStream>
         + Files
         + Threads
         + Wait
@@ -94,6 +95,7 @@ where
         + Send
         + Sync
         + 'static,
+    N: Net<Stream = TcpStream> + Drop + Send + Sync + 'static,
 {
     let started = thread::spawn(&rt, move || {
         for _ in rt.forever() {
@@ -110,10 +112,9 @@ where
 }
 
 // Updates the pools whose files say something new.
-fn look<R>(rt: &R, alloc: Global, proxy: &Proxy<R>)
+fn look<R, N>(rt: &R, alloc: Global, proxy: &Proxy<R, N>)
 where
     R: Log
-        + Net<Stream = TcpStream>
         + Files
         + Threads
         + Wait
@@ -124,6 +125,7 @@ where
         + Send
         + Sync
         + 'static,
+    N: Net<Stream = TcpStream> + Drop + Send + Sync + 'static,
 {
     for pool in proxy.pools.iter() {
         if pool.backends.look(rt) {
@@ -133,15 +135,16 @@ where
 }
 
 /// Starts the thread that answers at the status page.
-pub fn start_page<R>(
+pub fn start_page<R, N>(
     rt: R,
     alloc: Global,
-    proxy: Arc<Proxy<R>>,
+    proxy: Arc<Proxy<R, N>>,
     watch: ShutdownWatch,
     page: TcpListener,
 ) -> io::Result<Thread>
 where
-    R: Log + Net<Stream = TcpStream> + Threads + Wait + Clock + Copy + Drop + Send + Sync + 'static,
+    R: Log + Threads + Wait + Clock + Copy + Drop + Send + Sync + 'static,
+    N: Net<Stream = TcpStream> + Drop + Send + Sync + 'static,
 {
     let started = thread::spawn(&rt, move || {
         for _ in rt.forever() {
