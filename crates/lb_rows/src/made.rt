@@ -9,8 +9,8 @@ pub(crate) enum Fill {
     None,
     /// A byte.
     Byte(u8, usize),
-    /// A word for a backend of weight 1, each at an address of its own.
-    Backends(u32),
+    /// A word for a backend of that weight, each at an address of its own.
+    Backends(u32, u32),
 }
 
 /// Bytes that are made.
@@ -34,7 +34,7 @@ impl Made {
         match self.fill {
             Fill::None => {}
             Fill::Byte(byte, count) => push_many(alloc, bytes, byte, count)?,
-            Fill::Backends(count) => push_backends(alloc, bytes, count)?,
+            Fill::Backends(count, weight) => push_backends(alloc, bytes, count, weight)?,
         }
         bytes.extend_from_slice(self.after)?;
         Ok(())
@@ -49,11 +49,11 @@ fn push_many(alloc: Global, bytes: &mut Vec<u8>, byte: u8, count: usize) -> io::
 }
 
 // Appends the words for so many backends, each after a space.
-fn push_backends(alloc: Global, bytes: &mut Vec<u8>, count: u32) -> io::Result<()> {
+fn push_backends(alloc: Global, bytes: &mut Vec<u8>, count: u32, weight: u32) -> io::Result<()> {
     for number in 0..count {
         let high = number / 256 % 256;
         let low = number % 256;
-        let word = format!(in alloc; " 10.0.{high}.{low}:80/1")?;
+        let word = format!(in alloc; " 10.0.{high}.{low}:80/{weight}")?;
         bytes.extend_from_slice(word.as_bytes())?;
     }
     Ok(())

@@ -1,5 +1,7 @@
 //! Runs every worked row and compares what comes with the answers that the rules give: a line for each, and status 1 where one
 //! differs. The rows lie in data/ and in the tables: scripts, answers to a check, servers on the own loopback, passes of checks.
+//! Given a number, it makes so many requests for memory and then runs the scripts that are run a step at a time, alone; who refuses the
+//! program's Nth request refuses each of theirs by other numbers.
 #![tactic(auto)]
 
 mod answers;
@@ -7,6 +9,8 @@ mod check_tables;
 mod files;
 mod made;
 mod passes;
+mod refused;
+mod refused_calls;
 mod script_tables;
 mod scripts;
 mod server_tables;
@@ -15,13 +19,14 @@ mod steps;
 mod streams;
 
 use check_tables::{CHECKS, CUTS, Check, Cut, MADE_STREAMS, MadeStream};
-use script_tables::{MADE_SCRIPTS, MadeScript, SCRIPTS};
+use refused::Again;
+use script_tables::{MADE_SCRIPTS, MadeScript, RETRIED, Retried, SCRIPTS};
 use server_tables::{PASSES, Pass, SERVERS, Server};
-use std::io;
 use std::net::{Net, TcpListener, TcpStream};
 use std::process::ExitCode;
-use std::rt::{Clock, Files};
+use std::rt::{Clock, Env, Files};
 use std::thread::Threads;
+use std::{env, io};
 
 // Prints a row's line; the answer is whether the row agreed.
 fn report(rt: &impl Print, name: &str, agreed: io::Result<bool>) -> io::Result<bool> {
@@ -45,6 +50,54 @@ fn made_script_rows<R: Print + AllocGlobal>(rt: &R, rows: &[MadeScript]) -> io::
     for row in rows {
         all &= report(rt, row.name, scripts::made_agrees(rt.alloc(), row))?;
     }
+    Ok(all)
+}
+
+fn retried_rows<R: Files + Print + AllocGlobal>(rt: &R, rows: &[Retried]) -> io::Result<bool> {
+    let mut all = true;
+    for row in rows {
+        all &= retried_row(rt, row)?;
+    }
+    all &= retried_calls(rt)?;
+    Ok(all)
+}
+
+fn retried_row<R: Files + Print + AllocGlobal>(rt: &R, row: &Retried) -> io::Result<bool> {
+    let course = refused::retried_agrees(rt, row)?;
+    report_retried(rt, row.name, course)
+}
+
+// Prints a row's line, with what was given again.
+fn report_retried(rt: &impl Print, name: &str, (agreed, again): (bool, Again)) -> io::Result<bool> {
+    let verdict = if agreed { "as it should be" } else { "differs" };
+    match again {
+        Again::Nothing => println!(rt; "{name}, a step at a time: {verdict}")?,
+        Again::Step(line) => println!(rt; "{name}, line {line} given again: {verdict}")?,
+        Again::Build(line) => println!(rt;
+            "{name}, the build of line {line} given again: {verdict}"
+        )?,
+    }
+    Ok(agreed)
+}
+
+// Reports the calls of a balancer, of a group and of a registry.
+fn retried_calls<R: Print + AllocGlobal>(rt: &R) -> io::Result<bool> {
+    let alloc = rt.alloc();
+    let mut all = report_retried(
+        rt,
+        "the calls of a balancer",
+        refused_calls::balancer_agrees(alloc),
+    )?;
+    all &= report_retried(
+        rt,
+        "the calls of a group",
+        refused_calls::group_agrees(alloc),
+    )?;
+    all &= report_retried(
+        rt,
+        "the calls of a registry",
+        refused_calls::registry_agrees(alloc),
+    )?;
     Ok(all)
 }
 
@@ -107,6 +160,7 @@ where
 // Reports the rows that need no network.
 fn memory_rows<R: Files + Print + AllocGlobal>(rt: &R) -> io::Result<bool> {
     let mut all = filed_script_rows(rt, SCRIPTS)?;
+    all &= retried_rows(rt, &RETRIED)?;
     all &= made_script_rows(rt, &MADE_SCRIPTS)?;
     all &= check_rows(rt, &CHECKS)?;
     all &= cut_rows(rt, &CUTS)?;
@@ -126,8 +180,31 @@ where
     Ok(all)
 }
 
+// The number that the program was given; that is asked again where it fails.
+fn number_given<R: Env + AllocGlobal>(rt: &R) -> Option<usize> {
+    let mut words = match env::args(rt) {
+        Ok(words) => words,
+        Err(_) => env::args(rt).ok()?,
+    };
+    let word = words.nth(1)?;
+    word.parse().ok()
+}
+
+// Runs the scripts that are run a step at a time, after so many requests for memory.
+fn rows_after<R: Files + Print + AllocGlobal>(rt: &R, requests: usize) -> io::Result<bool> {
+    let mut made = Vec::with_capacity(rt.alloc(), requests)?;
+    for _ in 0..requests {
+        made.push(Box::new(rt.alloc(), 0u8)?)?;
+    }
+    retried_rows(rt, &RETRIED)
+}
+
 fn main(rt: HostRuntime) -> ExitCode {
-    match rows(&rt) {
+    let agreed = match number_given(&rt) {
+        Some(requests) => rows_after(&rt, requests),
+        None => rows(&rt),
+    };
+    match agreed {
         Ok(true) => ExitCode::from(0),
         Ok(false) | Err(_) => ExitCode::from(1),
     }

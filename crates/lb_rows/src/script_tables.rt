@@ -42,6 +42,7 @@ pub(crate) const SCRIPTS: &[&str] = &[
     "nothing-there-at-all",
     "numbers",
     "old-cells",
+    "orders-of-loads",
     "reader-of-the-old",
     "readers",
     "readers-before-and-after",
@@ -52,10 +53,12 @@ pub(crate) const SCRIPTS: &[&str] = &[
     "ring-addresses",
     "ring-wraps",
     "same-identity",
+    "second-fallback",
     "served-generation-judges",
     "settings-reach-the-newest",
     "text-keys",
     "three-groups-two-gates",
+    "tickets-of-selections",
     "tickets-restart",
     "too-many-points",
     "turns",
@@ -69,6 +72,59 @@ pub(crate) const SCRIPTS: &[&str] = &[
     "wait-after-a-failure",
     "weight-too-large",
     "weights",
+];
+
+/// A script in data/ that is run a step at a time, and its answers to `counts` and `timing` after a build was given again.
+pub(crate) struct Retried {
+    pub(crate) name: &'static str,
+    pub(crate) late: &'static [&'static [u8]],
+}
+
+/// The scripts that are run a step at a time.
+pub(crate) const RETRIED: [Retried; 9] = [
+    Retried {
+        name: "cancelled-while-read",
+        late: &[
+            b"counts newest 1 served 1 flight - waiting 0 published 1 coalesced 0 superseded 0 failed 1",
+        ],
+    },
+    Retried {
+        name: "cells-by-address",
+        late: &[],
+    },
+    Retried {
+        name: "coalesced-and-superseded",
+        late: &[
+            b"counts newest 3 served 3 flight - waiting 0 published 1 coalesced 1 superseded 1 failed 2",
+            b"timing 3 10000002 1",
+        ],
+    },
+    Retried {
+        name: "counts-while-a-reader-stays",
+        late: &[
+            b"counts newest 3 served 0 flight - waiting 1 published 0 coalesced 2 superseded 0 failed 0",
+        ],
+    },
+    Retried {
+        name: "fresh-cells",
+        late: &[],
+    },
+    Retried {
+        name: "least-connections",
+        late: &[],
+    },
+    Retried {
+        name: "lost-build-fails",
+        late: &[],
+    },
+    Retried {
+        name: "reader-of-the-old",
+        late: &[b"timing 1 10000005 1"],
+    },
+    Retried {
+        name: "ring",
+        late: &[],
+    },
 ];
 
 /// Which stream of a script fails.
@@ -90,12 +146,46 @@ pub(crate) struct MadeScript {
 }
 
 // What comes before the backends of a group that is updated, and what comes after them.
-const BEFORE_BACKENDS: &[u8] = b"registry identity\ngate\ngroup 0 0 rr 1\nupdate 0 0";
+const BEFORE_IN_TURN: &[u8] = b"registry identity\ngate\ngroup 0 0 rr 1\nupdate 0 0";
 
-const AFTER_BACKENDS: &[u8] = b"\nask 0 0 0\nbuild 0 0 0\n";
+const BEFORE_RING: &[u8] = b"registry identity\ngate\ngroup 0 0 ketama 1\nupdate 0 0";
+
+const BEFORE_LOADED: &[u8] = b"registry identity\ngate\ngroup 0 0 least 1\nupdate 0 0";
+
+// A build, and an update to a few backends after it.
+const BUILT_THEN_FEW: &[u8] = b"\nask 0 0 0\nbuild 0 0 0\nupdate 0 1 10.0.0.0:80/1\n\
+    ask 0 0 1\nbuild 0 0 1\npublish 0 0\nselect 0 0 a 1\ntargets 0\n";
+
+const SELECTED: &[u8] = b"\nask 0 0 0\nbuild 0 0 0\npublish 0 0\nselect 0 0 a 1\n";
+
+const TOO_MANY_THEN_FEW: &[u8] =
+    b"registry 0\ngate 0\ngroup 0\ngeneration 1\nbuild 1\nfailed 1 3 TooManyBackends\ngeneration 2\n\
+    build 2\nbuilt 2\npublished 2\nbackend 10.0.0.0:80/1\ntargets 1 10.0.0.0:80/1=0:ok\n";
+
+const FIRST_OF_MANY: &[u8] =
+    b"registry 0\ngate 0\ngroup 0\ngeneration 1\nbuild 1\nbuilt 1\npublished 1\nbackend 10.0.0.0:80/1\n";
+
+const NONE_OF_MANY: &[u8] =
+    b"registry 0\ngate 0\ngroup 0\ngeneration 1\nbuild 1\nbuilt 1\npublished 1\nnone\n";
+
+// What comes before a long key.
+const KEY_HASHED: &[u8] = b"registry identity\ngate\ngroup 0 0 fnv 1\nupdate 0 0 1.0.0.1:80/1\n\
+    ask 0 0 0\nbuild 0 0 0\npublish 0 0\nselect 0 0 ";
+
+const KEY_IN_TURN: &[u8] = b"registry identity\ngate\ngroup 0 0 rr 1\nupdate 0 0 1.0.0.1:80/1\n\
+    ask 0 0 0\nbuild 0 0 0\npublish 0 0\nselect 0 0 ";
+
+const KEY_ON_RING: &[u8] = b"registry identity\ngate\ngroup 0 0 ketama 1\nupdate 0 0 1.0.0.1:80/1\n\
+    ask 0 0 0\nbuild 0 0 0\npublish 0 0\nselect 0 0 ";
+
+const KEY_LOADED: &[u8] = b"registry identity\ngate\ngroup 0 0 least 1\nupdate 0 0 1.0.0.1:80/1\n\
+    ask 0 0 0\nbuild 0 0 0\npublish 0 0\nselect 0 0 ";
+
+const KEY_SELECTED: &[u8] =
+    b"registry 0\ngate 0\ngroup 0\ngeneration 1\nbuild 1\nbuilt 1\npublished 1\nbackend 1.0.0.1:80/1\n";
 
 /// The scripts that are made.
-pub(crate) const MADE_SCRIPTS: [MadeScript; 7] = [
+pub(crate) const MADE_SCRIPTS: [MadeScript; 12] = [
     MadeScript {
         name: "a line of 16777216 bytes",
         script: Made {
@@ -117,35 +207,84 @@ pub(crate) const MADE_SCRIPTS: [MadeScript; 7] = [
         answers: b"error 1 LineTooLong\n",
     },
     MadeScript {
-        name: "65536 backends",
+        name: "65536 backends, then one",
         script: Made {
-            before: BEFORE_BACKENDS,
-            fill: Fill::Backends(65536),
-            after: AFTER_BACKENDS,
+            before: BEFORE_IN_TURN,
+            fill: Fill::Backends(65536, 1),
+            after: BUILT_THEN_FEW,
         },
         fails: Fails::Nothing,
-        answers: b"registry 0\ngate 0\ngroup 0\ngeneration 1\nbuild 1\nfailed 1 3 TooManyBackends\n",
+        answers: TOO_MANY_THEN_FEW,
     },
     MadeScript {
         name: "65535 backends",
         script: Made {
-            before: BEFORE_BACKENDS,
-            fill: Fill::Backends(65535),
-            after: AFTER_BACKENDS,
+            before: BEFORE_IN_TURN,
+            fill: Fill::Backends(65535, 1),
+            after: SELECTED,
         },
         fails: Fails::Nothing,
-        answers: b"registry 0\ngate 0\ngroup 0\ngeneration 1\nbuild 1\nbuilt 1\n",
+        answers: FIRST_OF_MANY,
+    },
+    MadeScript {
+        name: "65536 backends by loads",
+        script: Made {
+            before: BEFORE_LOADED,
+            fill: Fill::Backends(65536, 1),
+            after: SELECTED,
+        },
+        fails: Fails::Nothing,
+        answers: FIRST_OF_MANY,
+    },
+    MadeScript {
+        name: "65536 backends without points",
+        script: Made {
+            before: BEFORE_RING,
+            fill: Fill::Backends(65536, 0),
+            after: SELECTED,
+        },
+        fails: Fails::Nothing,
+        answers: NONE_OF_MANY,
     },
     MadeScript {
         name: "a key of 1000000 bytes",
         script: Made {
-            before: b"registry identity\ngate\ngroup 0 0 fnv 1\nupdate 0 0 1.0.0.1:80/1\n\
-                ask 0 0 0\nbuild 0 0 0\npublish 0 0\nselect 0 0 ",
+            before: KEY_HASHED,
             fill: Fill::Byte(b'a', 1000000),
             after: b" 1\n",
         },
         fails: Fails::Nothing,
-        answers: b"registry 0\ngate 0\ngroup 0\ngeneration 1\nbuild 1\nbuilt 1\npublished 1\nbackend 1.0.0.1:80/1\n",
+        answers: KEY_SELECTED,
+    },
+    MadeScript {
+        name: "a key of 1000000 bytes in turn",
+        script: Made {
+            before: KEY_IN_TURN,
+            fill: Fill::Byte(b'a', 1000000),
+            after: b" 1\n",
+        },
+        fails: Fails::Nothing,
+        answers: KEY_SELECTED,
+    },
+    MadeScript {
+        name: "a key of 1000000 bytes on a ring",
+        script: Made {
+            before: KEY_ON_RING,
+            fill: Fill::Byte(b'a', 1000000),
+            after: b" 1\n",
+        },
+        fails: Fails::Nothing,
+        answers: KEY_SELECTED,
+    },
+    MadeScript {
+        name: "a key of 1000000 bytes by loads",
+        script: Made {
+            before: KEY_LOADED,
+            fill: Fill::Byte(b'a', 1000000),
+            after: b" 1\n",
+        },
+        fails: Fails::Nothing,
+        answers: KEY_SELECTED,
     },
     MadeScript {
         name: "a read that fails",
