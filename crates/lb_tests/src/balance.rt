@@ -1,5 +1,3 @@
-//! Tests of a discovery with one selector, and with a group: what an update does and tells, and what is ready and selected then.
-mod balancers;
-mod groups;
+//! Tests of a discovery with one selector: what an update does and tells, and what is ready and selected then.
+pub(crate) mod balancers;
 mod lent;
-mod lent_registry;

@@ -7,8 +7,6 @@ mod asserted;
 #[cfg(test)]
 mod balance;
 #[cfg(test)]
-mod boards;
-#[cfg(test)]
 mod groups;
 #[cfg(test)]
 mod health;

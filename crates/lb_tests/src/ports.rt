@@ -1,14 +1,15 @@
 //! Tests of groups by their calls: updates, workers' turns and selections through the port of a plain group.
 //! The clock goes on by five at each reading. Who owns what the port is lent makes one call with it.
 use crate::asserted::assert_same;
-use crate::told::{Answer, Members, Ticks, Told, YES, always, is_at};
+use crate::balance::balancers::Rows;
+use crate::told::{Answer, DONE, Members, Ticks, Told, YES, always, is_at};
 use lb_balancer_core::plain::PlainPort;
 use lb_balancer_core::port::GroupPort;
 use lb_balancer_core::select::select_through;
 use lb_balancer_core::turn::{Turn, worker_turn};
 use lb_balancer_core::update::update_through;
 use lb_health_registry::registry::RegistryCore;
-use lb_health_view::discovery::{BoxedDiscovery, DiscoverySource};
+use lb_health_view::discovery::DiscoverySource;
 use lb_rebuild_group::group::GroupCore;
 use lb_rebuild_slots::gate::GateCore;
 use lb_select::selection::RoundRobin;
@@ -24,6 +25,10 @@ use std::process::Abort;
 enum Call {
     /// An update by a discovery of these; the newest generation then.
     Update(Members),
+    /// The same by that answer of a discovery by rows.
+    UpdateByRow(u8),
+    /// Sets the clock, also back.
+    SetClock(u128),
     /// A worker's turn at a slot.
     Turn(usize),
     /// Whether a slot selects the backend of weight 1 at that address, or none.
@@ -40,7 +45,7 @@ const OTHER: Members = &[("1.0.0.2:80", 1)];
 // Backends whose weights sum to more than a selector takes.
 const HEAVY: Members = &[("1.0.0.1:80", usize::MAX), ("1.0.0.2:80", 1)];
 
-const ROWS: [Calls; 2] = [
+const ROWS: [Calls; 3] = [
     &[
         (Call::Selects(0, None), YES),
         (Call::Update(FIRST), Ok(Told::Number(1))),
@@ -61,6 +66,33 @@ const ROWS: [Calls; 2] = [
             Ok(Told::Turned(Turn::Failed(1, Refusal::WeightTooLarge))),
         ),
         (Call::Turn(0), Ok(Told::Turned(Turn::NotDue(10_000_025)))),
+        // so it is by a clock that goes back, and by one that is a little early
+        (Call::SetClock(0), DONE),
+        (Call::Turn(0), Ok(Told::Turned(Turn::NotDue(10_000_025)))),
+        (Call::SetClock(10_000_024), DONE),
+        (Call::Turn(0), Ok(Told::Turned(Turn::NotDue(10_000_025)))),
+        (Call::SetClock(10_000_025), DONE),
+        (
+            Call::Turn(0),
+            Ok(Told::Turned(Turn::Failed(1, Refusal::WeightTooLarge))),
+        ),
+        (Call::Turn(0), Ok(Told::Turned(Turn::NotDue(30_000_030)))),
+    ],
+    // A discovery that answers a fault changes nothing, also after a build that failed. Another membership is built at once.
+    &[
+        (Call::UpdateByRow(2), Err(Refusal::Discovery)),
+        (Call::Turn(0), Ok(Told::Turned(Turn::Nothing))),
+        (Call::Update(HEAVY), Ok(Told::Number(1))),
+        (
+            Call::Turn(0),
+            Ok(Told::Turned(Turn::Failed(1, Refusal::WeightTooLarge))),
+        ),
+        (Call::UpdateByRow(2), Err(Refusal::Discovery)),
+        (Call::Selects(0, None), YES),
+        (Call::UpdateByRow(0), Ok(Told::Number(2))),
+        (Call::Turn(0), Ok(Told::Turned(Turn::Published(2)))),
+        (Call::Selects(0, Some("1.0.0.1:80")), YES),
+        (Call::UpdateByRow(3), Ok(Told::Number(2))),
     ],
 ];
 
@@ -72,7 +104,15 @@ fn answer<P: GroupPort<RoundRobin>>(
     call: Call,
 ) -> Answer {
     match call {
-        Call::Update(members) => update(alloc, port, clock, members),
+        Call::Update(members) => update(alloc, port, clock, &always(alloc, members)?),
+        Call::UpdateByRow(turn) => {
+            let discovery = DiscoverySource::Boxed(Rows::from(turn));
+            update(alloc, port, clock, &discovery)
+        }
+        Call::SetClock(next) => {
+            clock.next = next;
+            DONE
+        }
         Call::Turn(slot) => Ok(Told::Turned(worker_turn(alloc, port, slot, clock)?)),
         Call::Selects(slot, wanted) => selects(alloc, port, slot, wanted),
     }
@@ -82,10 +122,9 @@ fn update<P: GroupPort<RoundRobin>>(
     alloc: Global,
     port: &mut P,
     clock: &mut Ticks,
-    members: Members,
+    discovery: &DiscoverySource<Rows>,
 ) -> Answer {
-    let discovery: DiscoverySource<BoxedDiscovery> = always(alloc, members)?;
-    Ok(Told::Number(update_through(alloc, port, &discovery, clock)?))
+    Ok(Told::Number(update_through(alloc, port, discovery, clock)?))
 }
 
 // The first ready one of a slot.

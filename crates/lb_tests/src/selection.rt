@@ -6,7 +6,6 @@ mod list_iterator;
 mod names;
 mod noting;
 mod ring;
-mod selected;
 mod unique_walk;
 mod walks;
 mod words;

@@ -20,8 +20,6 @@ pub(crate) enum Told {
     Flag(bool),
     Length(usize),
     Number(u64),
-    /// The number of a slot, or that there is no such slot.
-    OfSlot(Option<u64>),
     /// What a worker's turn came to.
     Turned(Turn),
     /// How long the last update took.

@@ -1,5 +1,3 @@
-//! Weights: partial sums against the plain list that they stand for, least connections, and the greatest sizes.
-mod expanded;
-mod extremes;
+//! Weights: places of partial sums, and walks by loads that change.
 mod least;
-mod rounds;
+mod places;

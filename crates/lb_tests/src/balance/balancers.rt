@@ -4,6 +4,7 @@ ghost use Rattle.std.specs.Prelude.{⊤};
 
 use crate::asserted::assert_same;
 use crate::balance::lent::disable;
+use crate::selection::fixtures::set_of;
 use crate::told::{Answer, DONE, NO, Told, YES, is_at};
 use lb_balancer_core::load_balancer::LoadBalancer;
 use lb_balancer_core::timings::UpdateTimings;
@@ -27,10 +28,20 @@ use std::collections::BTreeSet;
 use std::process::Abort;
 use std::test::Fail;
 
-/// A discovery whose answer goes on with each call.
+/// A discovery whose answer goes on with each call: one backend, too many for a selector, a fault, the first one with something else
+/// attached, and then two.
 #[derive(Drop)]
-struct Rows {
+pub(crate) struct Rows {
     turn: Cell<u8>,
+}
+
+impl Rows {
+    /// Returns the discovery that goes on from that answer.
+    pub(crate) fn from(turn: u8) -> Rows {
+        Rows {
+            turn: Cell::new(turn),
+        }
+    }
 }
 
 impl ServiceDiscovery for Rows {
@@ -41,7 +52,8 @@ impl ServiceDiscovery for Rows {
             0 => one_backend(alloc, b"first")?,
             1 => many_backends(alloc)?,
             2 => return Err(Refusal::Discovery),
-            _ => one_backend(alloc, b"other")?,
+            3 => one_backend(alloc, b"other")?,
+            _ => set_of(alloc, &[("1.0.0.1:80", 1), ("1.0.0.2:80", 1)])?,
         };
         Ok((backends, Settings::new(alloc)))
     }
@@ -69,7 +81,7 @@ impl<'a> MomentSource for Moments<'a> {
 
 /// A check that finds every backend down.
 #[derive(Drop)]
-pub(crate) struct Down;
+struct Down;
 
 impl HealthCheck for Down {
     ghost threshold = { λ _ _. 1 };
@@ -217,14 +229,20 @@ fn selects_first<S: BackendSelection, D: ServiceDiscovery + Drop>(
     alloc: Global,
     balancer: &mut Balancer<S, D>,
 ) -> Answer {
-    let Some(backend) = balancer.select(alloc, b"k", 1)? else {
-        return NO;
+    let found = balancer.select(alloc, b"k", 1)?;
+    let is_first = is_at(alloc, &found, FIRST)?;
+    Ok(Told::Flag(is_first && is_noted(&found)))
+}
+
+// Whether what was selected has `first` attached.
+fn is_noted(found: &Option<Backend>) -> bool {
+    let Some(backend) = found else {
+        return false;
     };
-    let noted = match backend.ext.get("note") {
+    match backend.ext.get("note") {
         Some(note) => note.as_slice() == b"first".as_slice(),
         None => false,
-    };
-    Ok(Told::Flag(noted && backend == Backend::new(alloc, "1.0.0.1:80")?))
+    }
 }
 
 /// Calls and what they answer.
@@ -249,6 +267,12 @@ const SECOND: Option<&str> = Some("1.1.1.1:80");
 const TOOK: Answer = Ok(Told::Took(Some(UpdateTimings {
     discovery_duration: 16,
     build_duration: 4,
+})));
+
+// What an update took whose clock didn't go on.
+const AT_ONCE: Answer = Ok(Told::Took(Some(UpdateTimings {
+    discovery_duration: 0,
+    build_duration: 0,
 })));
 
 // It was updated once. The second one is selected once the first one has a load; once it is disabled, only where each one is accepted.
@@ -315,12 +339,28 @@ const OF_ROWS: Calls = &[
         }))),
     ),
     (Call::SelectsFirst, YES),
+    // Few backends after too many are served, by a clock that goes back; it counts as one that stands.
+    (Call::Update(&[40, 30, 20, 10]), DONE),
+    (Call::Generation, Ok(Told::Number(2))),
+    (Call::CountMembers, Ok(Told::Length(2))),
+    (Call::LastTiming, AT_ONCE),
+    (Call::IsReady("1.0.0.2:80"), YES),
+    (Call::Update(&[10, 26]), DONE),
+    (
+        Call::LastTiming,
+        Ok(Told::Took(Some(UpdateTimings {
+            discovery_duration: 16,
+            build_duration: 0,
+        }))),
+    ),
+    (Call::Update(&[26, 26]), DONE),
+    (Call::LastTiming, AT_ONCE),
+    (Call::Generation, Ok(Told::Number(2))),
 ];
 
 // A balancer of the rows whose random words are those of a generator that it is given.
 fn of_rows(alloc: Global) -> Result<Balancer<Random, Rows>, Refusal> {
-    let rows = Rows { turn: Cell::new(0) };
-    let backends = Backends::new(alloc, DiscoverySource::Boxed(rows))?;
+    let backends = Backends::new(alloc, DiscoverySource::Boxed(Rows::from(0)))?;
     let balancer = LoadBalancer::from_backends_with_config(alloc, backends, Some(()))?;
     Ok(balancer.with_generator(Pcg64::new(3, 4)))
 }

@@ -7,120 +7,122 @@ use lb_world::answer::Answer;
 use lb_world::step::{CellKey, Listing, Step};
 use lb_world::world::World;
 use std::alloc::Global;
-use std::process::Abort;
 use std::test::Fail;
 
 type Worlds = World<Random>;
 
-// Makes a registry, a gate, and a group of one slot over both; whether each was made.
-fn makes_a_group(alloc: Global, world: &mut Worlds) -> Result<bool, Refusal> {
-    let mut configs = Vec::new(alloc);
-    configs.push(())?;
-    let registry = world.step(Step::Registry {
-        rule: CellKey::Identity,
-        healthy: true,
-    });
-    let gate = world.step(Step::Gate);
-    let group = world.step(Step::Group {
-        registry: 0,
-        gate: 0,
-        configs,
-    });
-    Ok(matches!(
-        (&registry, &gate, &group),
-        (Answer::Registry(0), Answer::Gate(0), Answer::Group(0))
-    ))
+/// What an answer says, with its number: of a backend its weight, of a refusal the refusal's.
+#[derive(Clone, Copy, PartialEq, Eq)]
+enum Said {
+    Registry(u64),
+    Gate(u64),
+    Group(u64),
+    Generation(u64),
+    Build(u64),
+    Built(u64),
+    Published(u64),
+    Selected(usize),
+    Refused(u64),
+    Another,
 }
 
-// Updates the group to one backend; whether that is generation 1.
-fn updates(alloc: Global, world: &mut Worlds) -> Result<bool, Refusal> {
-    let mut listings = Vec::new(alloc);
-    listings.push(Listing {
-        backend: Some(Backend::new(alloc, "1.0.0.1:80")?),
-        mark: None,
-    })?;
-    let answer = world.step(Step::Update {
-        group: 0,
-        now: 0,
-        listings,
-    });
-    Ok(matches!(answer, Answer::Generation(1)))
-}
-
-// Asks for the slot's build, runs it and publishes it; whether it is served.
-fn rebuilds(world: &mut Worlds) -> bool {
-    let ask = world.step(Step::Ask {
-        group: 0,
-        slot: 0,
-        now: 0,
-    });
-    let build = world.step(Step::Build {
-        group: 0,
-        slot: 0,
-        now: 0,
-    });
-    let publish = world.step(Step::Publish { group: 0, slot: 0 });
-    matches!(
-        (&ask, &build, &publish),
-        (Answer::Build(1), Answer::Built(1), Answer::Published(1))
-    )
-}
-
-// What an answer says of the words of its selection: none where there are too few, else whether it found the backend.
-fn told(answer: &Answer) -> Option<bool> {
+fn told(answer: Answer) -> Said {
     match answer {
-        Answer::Backend(backend, _tickets) => Some(backend.weight == 1),
-        Answer::Refused(Refusal::NotEnoughWords) => None,
-        _ => Some(false),
+        Answer::Registry(number) => Said::Registry(number),
+        Answer::Gate(number) => Said::Gate(number),
+        Answer::Group(number) => Said::Group(number),
+        Answer::Generation(number) => Said::Generation(number),
+        Answer::Build(number) => Said::Build(number),
+        Answer::Built(number) => Said::Built(number),
+        Answer::Published(number) => Said::Published(number),
+        Answer::Backend(backend, _tickets) => Said::Selected(backend.weight),
+        Answer::Refused(refusal) => Said::Refused(refusal.number()),
+        _ => Said::Another,
     }
 }
 
-// What a selection of three candidates says of these words.
-fn found(world: &mut Worlds, words: &[u64]) -> Option<bool> {
-    let answer = world.select(0, 0, b"k", 3, words);
-    told(&answer)
+// A group of one slot over a new registry and a new gate, updated to one backend of weight 5.
+fn made(alloc: Global, world: &mut Worlds) -> Result<[Said; 4], Refusal> {
+    let mut configs = Vec::new(alloc);
+    configs.push(())?;
+    let backend = Backend::new_with_weight(alloc, "1.0.0.1:80", 5)?;
+    let mut listings = Vec::new(alloc);
+    listings.push(Listing {
+        backend: Some(backend),
+        mark: None,
+    })?;
+    let (rule, healthy) = (CellKey::Identity, true);
+    let (registry, gate, group, now) = (0, 0, 0, 0);
+    Ok([
+        told(world.step(Step::Registry { rule, healthy })),
+        told(world.step(Step::Gate)),
+        told(world.step(Step::Group {
+            registry,
+            gate,
+            configs,
+        })),
+        told(world.step(Step::Update {
+            group,
+            now,
+            listings,
+        })),
+    ])
 }
 
-// What a step, which owns the words, says of them.
-fn found_by_step(
-    alloc: Global,
-    world: &mut Worlds,
-    words: &[u64],
-) -> Result<Option<bool>, Refusal> {
-    let mut own = Vec::new(alloc);
-    own.extend_from_slice(words)?;
-    let answer = world.step(Step::Select {
+// Its build, and selections of three candidates by three words and by four, which are lent.
+fn served(world: &mut Worlds) -> [Said; 5] {
+    let (group, slot, now) = (0, 0, 0);
+    [
+        told(world.step(Step::Ask { group, slot, now })),
+        told(world.step(Step::Build { group, slot, now })),
+        told(world.step(Step::Publish { group, slot })),
+        told(world.select(0, 0, b"k", 3, &[7, 8, 9])),
+        told(world.select(0, 0, b"k", 3, &[7, 8, 9, 10])),
+    ]
+}
+
+// Such a selection by a step, which owns the words.
+fn selected(alloc: Global, world: &mut Worlds, words: &[u64]) -> Result<Said, Refusal> {
+    let words = Vec::from_slice(alloc, words)?;
+    Ok(told(world.step(Step::Select {
         group: 0,
         slot: 0,
         key: Vec::new(alloc),
         limit: 3,
-        words: own,
-    });
-    Ok(told(&answer))
+        words,
+    })))
 }
 
-// Serves a backend at random, and selects with three and with four words.
-fn three_words_are_too_few(
-    alloc: Global,
-    world: &mut Worlds,
-    rt: &impl Abort,
-) -> Result<(), Refusal> {
-    let made = makes_a_group(alloc, world)?;
-    let updated = updates(alloc, world)?;
-    let rebuilt = rebuilds(world);
-    assert!(rt; (made, updated, rebuilt) == (true, true, true));
-    let few = found(world, &[7, 8, 9]);
-    let enough = found(world, &[7, 8, 9, 10]);
-    assert!(rt; (few, enough) == (None, Some(true)));
-    let few = found_by_step(alloc, world, &[7, 8, 9])?;
-    let enough = found_by_step(alloc, world, &[7, 8, 9, 10])?;
-    assert!(rt; (few, enough) == (None, Some(true)));
-    Ok(())
+type AllSaid = ([Said; 4], [Said; 5], [Said; 2]);
+
+fn all_said(alloc: Global, world: &mut Worlds) -> Result<AllSaid, Refusal> {
+    let made = made(alloc, world)?;
+    let served = served(world);
+    let few = selected(alloc, world, &[7, 8, 9])?;
+    let enough = selected(alloc, world, &[7, 8, 9, 10])?;
+    Ok((made, served, [few, enough]))
 }
+
+const WANTED: AllSaid = (
+    [
+        Said::Registry(0),
+        Said::Gate(0),
+        Said::Group(0),
+        Said::Generation(1),
+    ],
+    [
+        Said::Build(1),
+        Said::Built(1),
+        Said::Published(1),
+        Said::Refused(16),
+        Said::Selected(5),
+    ],
+    [Said::Refused(16), Said::Selected(5)],
+);
 
 #[test]
 fn random_words_are_handed_in(rt: HostRuntime) -> Result<(), Fail> {
     let mut world: Worlds = World::new(rt.alloc());
-    three_words_are_too_few(rt.alloc(), &mut world, &rt)?;
+    assert!(rt; all_said(rt.alloc(), &mut world) == Ok(WANTED));
     Ok(())
 }

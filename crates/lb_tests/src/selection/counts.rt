@@ -82,8 +82,8 @@ fn read_by_selection(
     Ok(words.read.get())
 }
 
-// What was read by a walk and a selection over these weights with these loads.
-fn reads(alloc: Global, weights: &[usize], loads: &[u64]) -> Result<(u64, u64, u64), Refusal> {
+// What was read by a walk and a selection over these weights with these loads; then how many tickets were drawn, which are none.
+fn reads(alloc: Global, weights: &[usize], loads: &[u64]) -> Result<[u64; 4], Refusal> {
     let set = set_of_weights(alloc, weights)?;
     let selector: Arc<LeastConnections> = selector_of(alloc, &set)?;
     let mut words = NotingWords {
@@ -92,14 +92,14 @@ fn reads(alloc: Global, weights: &[usize], loads: &[u64]) -> Result<(u64, u64, u
     };
     let (begun, walked) = read_by_walk(&selector, &mut words)?;
     let selected = read_by_selection(alloc, &selector, &mut words)?;
-    Ok((begun, walked, selected))
+    Ok([begun, walked, selected, words.words.tickets])
 }
 
 #[test]
 fn each_load_is_read_once_as_a_walk_begins(rt: HostRuntime) {
     for (weights, loads, wanted) in &READS {
         let found = reads(rt.alloc(), weights, loads);
-        assert_same(&rt, &found, &Ok((*wanted, *wanted, *wanted)), loads);
+        assert_same(&rt, &found, &Ok([*wanted, *wanted, *wanted, 0]), loads);
     }
 }
 

@@ -11,7 +11,6 @@ use lb_rebuild_slots::job::FailedBuild;
 use lb_rebuild_slots::slots::Slots;
 use lb_select_base::refusal::Refusal;
 use std::alloc::Global;
-use std::process::Abort;
 use std::sync::Arc;
 use std::sync::atomic::{AtomicU64, Ordering};
 use std::test::Fail;
@@ -44,36 +43,30 @@ fn granted(alloc: Global, group: &mut Slots<Noting>, gate: &mut GateCore) -> Res
     }
 }
 
-#[test]
-fn gone_before_the_report(rt: HostRuntime) -> Result<(), Fail> {
-    let alloc = rt.alloc();
-    let gone = Arc::new(alloc, AtomicU64::new(0))?;
-    let mut gate = GateCore::new(alloc)?;
-    let mut configs = Vec::new(alloc);
-    configs.push(Gone(Some(gone.clone()?)))?;
-    let mut group: Slots<Noting> = Slots::new(alloc, &gate, configs)?;
-    retires_in_order(alloc, &rt, &mut group, &mut gate, &gone)
-}
+// In this order: whether the first build was granted, how many selectors were gone before the destruction and after it, whether a build
+// was granted before the report, whether the report was taken, and whether one was granted then and how many were gone.
+type Course = ([bool; 4], [u64; 3]);
+
+const WANTED: Course = ([true, false, true, true], [0, 1, 1]);
 
 // Lends the group, since each way out of the function that owns it drops it.
 fn retires_in_order(
     alloc: Global,
-    rt: &impl Abort,
     group: &mut Slots<Noting>,
     gate: &mut GateCore,
     gone: &AtomicU64,
-) -> Result<(), Fail>
+) -> Result<Course, Refusal>
     requires { gate.old.id ≡ group.old.gate }
 {
     // A new group builds a selector of each configuration to see whether it can, and may drop some.
     gone.store(0, Ordering::SeqCst);
     group.schedule(alloc, set_of(alloc, &[("1.0.0.1:80", 1)])?, 0)?;
-    assert!(rt; granted(alloc, group, gate)?);
+    let first = granted(alloc, group, gate)?;
     group.schedule(alloc, set_of(alloc, &[("1.0.0.2:80", 1)])?, 0)?;
     let retired = group.take_retired(0)?;
-    assert_eq!(rt; gone.load(Ordering::SeqCst), 0);
+    let before = gone.load(Ordering::SeqCst);
     let permit = retired.destroy();
-    assert_eq!(rt; gone.load(Ordering::SeqCst), 1);
+    let after = gone.load(Ordering::SeqCst);
     let early = granted(alloc, group, gate);
     let reported = match group.destroyed(0, permit, gate) {
         Ok(()) => true,
@@ -82,9 +75,23 @@ fn retires_in_order(
             false
         }
     };
-    assert_eq!(rt; early, Ok(false));
-    assert!(rt; reported);
-    assert!(rt; granted(alloc, group, gate)?);
-    assert_eq!(rt; gone.load(Ordering::SeqCst), 1);
+    let last = granted(alloc, group, gate)?;
+    let now = gone.load(Ordering::SeqCst);
+    Ok(([first, early?, reported, last], [before, after, now]))
+}
+
+// The same of a new group whose selectors count there.
+fn course_of_new(alloc: Global, gone: &Arc<AtomicU64>) -> Result<Course, Refusal> {
+    let mut configs = Vec::new(alloc);
+    configs.push(Gone(Some(gone.clone()?)))?;
+    let mut gate = GateCore::new(alloc)?;
+    let mut group: Slots<Noting> = Slots::new(alloc, &gate, configs)?;
+    retires_in_order(alloc, &mut group, &mut gate, gone)
+}
+
+#[test]
+fn gone_before_the_report(rt: HostRuntime) -> Result<(), Fail> {
+    let gone = Arc::new(rt.alloc(), AtomicU64::new(0))?;
+    assert!(rt; course_of_new(rt.alloc(), &gone) == Ok(WANTED));
     Ok(())
 }

@@ -1,16 +1,11 @@
 //! What the tests make again and again: sets of backends, sources of words, and what walks and selections give.
-use lb_select::ketama::KetamaHashing;
-use lb_select::least::LeastConnections;
-use lb_select::selection::{FNVHash, RoundRobin};
 use lb_select_base::backend::{Backend, InetAddr, SocketAddr};
 use lb_select_base::refusal::Refusal;
-use lb_select_base::select::select;
 use lb_select_base::walk::{BackendIter, BackendSelection};
 use lb_select_base::words::{CoreWords, WordSource};
 use rand_pcg::Pcg64;
 use std::alloc::Global;
 use std::collections::{BTreeMap, BTreeSet};
-use std::ops::Range;
 use std::sync::Arc;
 
 /// The set of these addresses with their weights.
@@ -144,47 +139,4 @@ pub(crate) fn is_text(found: &Result<String, Refusal>, wanted: &str) -> bool {
         Ok(text) => text.as_str() == wanted,
         Err(_) => false,
     }
-}
-
-/// A kind of selector.
-#[derive(Clone, Copy, Debug)]
-pub(crate) enum Kind {
-    Hash,
-    Turns,
-    Ring,
-    Least,
-}
-
-/// The weight of the backend that is selected of a set within a limit, if it is one of those weights, and how many tickets were
-/// drawn.
-pub(crate) fn selected(
-    alloc: Global,
-    kind: Kind,
-    set: &BTreeSet<Backend>,
-    words: &mut CoreWords<Pcg64>,
-    key: &[u8],
-    limit: usize,
-    accepted: &Range<usize>,
-) -> Result<(Option<usize>, u64), Refusal> {
-    let found = match kind {
-        Kind::Hash => selected_by::<FNVHash>(alloc, set, words, key, limit, accepted)?,
-        Kind::Turns => selected_by::<RoundRobin>(alloc, set, words, key, limit, accepted)?,
-        Kind::Ring => selected_by::<KetamaHashing>(alloc, set, words, key, limit, accepted)?,
-        Kind::Least => selected_by::<LeastConnections>(alloc, set, words, key, limit, accepted)?,
-    };
-    Ok((found, words.tickets))
-}
-
-fn selected_by<S: BackendSelection>(
-    alloc: Global,
-    set: &BTreeSet<Backend>,
-    words: &mut CoreWords<Pcg64>,
-    key: &[u8],
-    limit: usize,
-    accepted: &Range<usize>,
-) -> Result<Option<usize>, Refusal> {
-    let selector: Arc<S> = selector_of(alloc, set)?;
-    let accept = |backend: &Backend| -> bool { accepted.contains(&backend.weight) };
-    let found = select(alloc, &selector, key, words, limit, &accept)?;
-    Ok(found.map(|backend| backend.weight))
 }

@@ -26,15 +26,20 @@ fn printed_configurations(alloc: Global, config: &KetamaConfig) -> Result<String
 #[test]
 fn debug_texts(rt: HostRuntime) {
     let alloc = rt.alloc();
-    let config = KetamaConfig::default();
-    let text = "KetamaConfig { point_multiple: None }";
-    assert!(rt; is_text(&printed(alloc, &config), text));
-    let config = KetamaConfig {
-        point_multiple: Some(4),
-    };
+    let default = printed(alloc, &KetamaConfig::default());
+    let four = printed_configurations(
+        alloc,
+        &KetamaConfig {
+            point_multiple: Some(4),
+        },
+    );
     let text =
         "KetamaConfig { point_multiple: Some(4) }, KetamaConfig { point_multiple: Some(4) }, KetamaConfig { point_multiple: Some(4) }";
-    assert!(rt; is_text(&printed_configurations(alloc, &config), text));
+    let told = [
+        is_text(&default, "KetamaConfig { point_multiple: None }"),
+        is_text(&four, text),
+    ];
+    assert_eq!(rt; told, [true; 2]);
 }
 
 // What `{:?}` writes of a backend that was made.
@@ -45,12 +50,19 @@ fn printed_backend(alloc: Global, made: Result<Backend, Refusal>) -> Result<Stri
 #[test]
 fn debug_texts_of_backends(rt: HostRuntime) {
     let alloc = rt.alloc();
-    let found = printed_backend(alloc, Backend::new_with_weight(alloc, "1.0.0.1:80", 3));
-    let text = "Backend { addr: Inet(V4([1, 0, 0, 1], 80)), weight: 3, ext: {} }";
-    assert!(rt; is_text(&found, text));
-    let found = printed_backend(alloc, Backend::unix(alloc, "/a\tb", 0));
-    let text = "Backend { addr: Unix(\"/a\\tb\"), weight: 0, ext: {} }";
-    assert!(rt; is_text(&found, text));
+    let inet = printed_backend(alloc, Backend::new_with_weight(alloc, "1.0.0.1:80", 3));
+    let unix = printed_backend(alloc, Backend::unix(alloc, "/a\tb", 0));
+    let told = [
+        is_text(
+            &inet,
+            "Backend { addr: Inet(V4([1, 0, 0, 1], 80)), weight: 3, ext: {} }",
+        ),
+        is_text(
+            &unix,
+            "Backend { addr: Unix(\"/a\\tb\"), weight: 0, ext: {} }",
+        ),
+    ];
+    assert_eq!(rt; told, [true; 2]);
 }
 
 // The socket addresses of a backend, with a space after each.
@@ -81,10 +93,13 @@ fn push_addresses<N: Net>(
 #[test]
 fn backends_to_connect_to(rt: HostRuntime) {
     let alloc = rt.alloc();
-    let found = socket_addresses(alloc, &rt, Backend::new(alloc, "[2001:db8::1]:443"));
-    assert!(rt; is_text(&found, "[2001:db8::1]:443 "));
-    let found = socket_addresses(alloc, &rt, Backend::unix(alloc, "/a", 1));
-    assert!(rt; found.err() == Some(Refusal::InvalidAddress));
+    let inet = socket_addresses(alloc, &rt, Backend::new(alloc, "[2001:db8::1]:443"));
+    let unix = socket_addresses(alloc, &rt, Backend::unix(alloc, "/a", 1));
+    let told = [
+        is_text(&inet, "[2001:db8::1]:443 "),
+        unix.err() == Some(Refusal::InvalidAddress),
+    ];
+    assert_eq!(rt; told, [true; 2]);
 }
 
 const B1: (&str, usize) = ("1.1.1.1:80", 1);
@@ -132,20 +147,23 @@ fn hashed(alloc: Global) -> Result<String, Refusal> {
     walked::<FVNHash>(alloc, &set, &mut words_from(0), b"test", &[4])
 }
 
+const CHOICES_OF_THREE: &str =
+    "1.0.0.1:80 1.1.1.1:80 1.1.1.1:80 1.1.1.1:80 1.1.1.1:80 1.0.0.255:80 1.1.1.1:80 1.0.0.255:80 1.1.1.1:80 1.0.0.1:80 ";
+
+const CHOICES_OF_TWO: &str =
+    "1.0.0.1:80 1.1.1.1:80 1.1.1.1:80 1.1.1.1:80 1.1.1.1:80 1.0.0.1:80 1.1.1.1:80 1.1.1.1:80 1.1.1.1:80 1.0.0.1:80 ";
+
 // A multiple of points changes no choice.
 #[test]
 fn selectors_by_other_names(rt: HostRuntime) {
     let alloc = rt.alloc();
-    let text =
-        "1.0.0.1:80 1.1.1.1:80 1.1.1.1:80 1.1.1.1:80 1.1.1.1:80 1.0.0.255:80 1.1.1.1:80 1.0.0.255:80 1.1.1.1:80 1.0.0.1:80 ";
-    assert!(rt; is_text(&first_choices(alloc, &[B1, B2, B3]), text));
-    let text =
-        "1.0.0.1:80 1.1.1.1:80 1.1.1.1:80 1.1.1.1:80 1.1.1.1:80 1.0.0.1:80 1.1.1.1:80 1.1.1.1:80 1.1.1.1:80 1.0.0.1:80 ";
-    assert!(rt; is_text(&first_choices(alloc, &[B1, B2]), text));
-    assert!(rt;
+    let told = [
+        is_text(&first_choices(alloc, &[B1, B2, B3]), CHOICES_OF_THREE),
+        is_text(&first_choices(alloc, &[B1, B2]), CHOICES_OF_TWO),
         is_text(
             &hashed(alloc),
-            "1.0.0.1:80 1.0.0.1:80 1.0.0.1:80 1.1.1.1:80 "
-        )
-    );
+            "1.0.0.1:80 1.0.0.1:80 1.0.0.1:80 1.1.1.1:80 ",
+        ),
+    ];
+    assert_eq!(rt; told, [true; 3]);
 }
