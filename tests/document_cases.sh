@@ -66,7 +66,7 @@ stale_counts() {
         tests+=("$(grep -rhx ' *#\[test\]' "crates/$crate/src" | wc -l)")
     done
     rows=$(wc -l <crates/lb_rows/stdout)
-    asked=$(grep -c '^asked ' tests/lbcheck_cases.sh)
+    asked=$(grep -cE '^(asked|against) ' tests/lbcheck_cases.sh)
     for said in "${#edits[@]} in each gate, ${#more[@]} more" "${rows} in each gate" "${tests[0]} and ${tests[1]} in each gate" \
         " and $asked in each gate"; do
         grep -qF "$said" README.md || echo "README doesn't say '$said'"

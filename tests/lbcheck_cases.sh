@@ -1,12 +1,18 @@
 #!/bin/bash
-# What `lbcheck` prints and how it ends, for answers on its standard input and for arguments: each case by `rt try`, which
-# builds the program once and proves nothing (about a minute). A line for each case; the last line is 'N passed, M failed'.
+# What `lbcheck` prints and how it ends, for answers on its standard input, for arguments, and for hostile servers: each case by
+# `rt try`, which builds the program once and proves nothing (about a minute). Where a proved program is there, or LBCHECK names one,
+# it is run against the same servers, and its memory is measured. A line for each case; the last line is 'N passed, M failed'.
 set -euo pipefail
 unset CDPATH
 
 here=$(dirname "$(readlink -f "${BASH_SOURCE[0]}")")
 room=$(mktemp -d)
-trap 'rm -rf "$room"' EXIT
+stop_all() {
+    exec 7>&-
+    wait
+    rm -rf "$room"
+}
+trap stop_all EXIT
 cases=$room/cases
 mkdir "$cases"
 names=()
@@ -76,32 +82,133 @@ Arguments:
   <ADDR>  An address as 10.0.0.1:80 or [2001:db8::1]:80, or unix: and the path of a socket
 
 Options:
-      --host <HOST>       The host that is asked, else the address
-      --path <PATH>       The path that is asked for, else /
-      --method <METHOD>   The method of the request, else GET
-      --header <FIELD>    A field 'NAME: VALUE' more; may be given again
-      --accept <STATUS>   The one status that is accepted, else 200
-      --max-body <BYTES>  The most bytes of a body, else 1048576
-      --timeout <MS>      How long to wait to connect, for a read and for a write, else 1000, and any time for a write
-      --port <PORT>       The port that is checked, else the address's
-  -h, --help              Print help
+      --host <HOST>         The host that is asked, else the address
+      --path <PATH>         The path that is asked for, else /
+      --method <METHOD>     The method of the request, else GET
+      --header <FIELD>      A field 'NAME: VALUE' more; may be given again
+      --accept <STATUS>     The one status that is accepted, else 200
+      --max-body <BYTES>    The most bytes of a body, else 1048576
+      --timeout <MS>        How long to wait to connect, for a read and for a write, else 1000, and any time for a write
+      --total-timeout <MS>  How long the whole check may take, else 10000
+      --port <PORT>         The port that is checked, else the address's
+  -h, --help                Print help
 " '' http --help
+
+# The hostile servers end with their standard input, which this shell holds.
+notes=$room/notes
+mkfifo "$room/held"
+python3 "$here/hostile_servers.py" <"$room/held" >"$notes" &
+exec 7>"$room/held"
+for try in $(seq 100); do
+    ! grep -q '^full at ' "$notes" || break
+    sleep 0.1
+done
+
+# SERVER: its address.
+at() { sed -n "s/^$1 at /127.0.0.1:/p" "$notes"; }
+
+# NAME SERVER SECONDS STATUS LINE ARGUMENT..: of that server lbcheck says the line and ends with the status, within the seconds.
+against() {
+    within[${#names[@]}]=$3
+    server[${#names[@]}]=$2
+    asked "$1" "$4" "$5\n" '' "$6" "$(at "$2")" "${@:7}"
+}
+within=()
+server=()
+unread='Read: nothing more could be read within the limit'
+unmade='Connect: no connection could be made within the limit'
+large='HeadTooLarge: 65536 bytes came and the head of the answer was not whole'
+
+against drip drip 4 1 "$unread" http --total-timeout 2000
+against reset reset 3 1 "$unread" http
+against long-field long_field 3 1 "$large" http --total-timeout 50000
+against many-fields many_fields 3 1 'BadHead: what came is no head of an answer, or has more than 64 fields' http
+against empty-lines empty_lines 3 1 "$large" http --total-timeout 50000
+against early early 3 0 ok http
+against full full 3 1 "$unmade" tcp
+against full-short full 2 1 "$unmade" http --timeout 300
+against full-in-all full 2 1 "$unmade" http --timeout 60000 --total-timeout 300
 
 said=$room/said
 (cd "$here/../crates/lbcheck" && rt try --cases "$cases") >"$said" 2>&1 || true
 
 passed=0
 failed=0
+# Whether the server's connection lasted no longer than the case may; one that takes no connection notes none. A trial build takes
+# many times as long over 65536 bytes.
+in_time() {
+    local took most
+    [ -n "${within[$1]-}" ] || return 0
+    most=${within[$1]}
+    [ "${names[$1]}" != long-field ] && [ "${names[$1]}" != empty-lines ] || most=60
+    took=$(sed -n "s/^${server[$1]} took //p" "$notes" | head -n 1)
+    awk -v took="${took:-0}" -v most="$most" 'BEGIN { exit !(took <= most) }'
+}
 for number in "${!names[@]}"; do
     name=${names[number]}
-    if grep -q "^case=$name run=ended status=${statuses[number]} .*output=expected" "$said"; then
+    if grep -q "^case=$name run=ended status=${statuses[number]} .*output=expected" "$said" && in_time "$number"; then
         echo "$name: as it should be"
         passed=$((passed + 1))
     else
         echo "$name: not with status ${statuses[number]} and the output $(cat "$cases/$name.stdout")"
         grep "^case=$name " "$said" || tail -n 5 "$said"
+        [ -z "${within[number]-}" ] || grep "^${server[number]} took" "$notes" || true
         failed=$((failed + 1))
     fi
 done
+
+# The proved program, if there is one that is newer than its sources.
+proved() {
+    (
+        name=lbcheck
+        top=$here/..
+        . "$top/launcher.sh"
+        add_crates lbcheck
+        is_due || echo "$program"
+    )
+}
+
+# NUMBER PROGRAM: runs the case, and notes status, milliseconds, and the most resident memory in KiB that was seen.
+measure() {
+    local start most=0 now status=0 pid arguments
+    mapfile -t arguments <"$cases/${names[$1]}.args"
+    start=$(date +%s%N)
+    "$2" "${arguments[@]}" >"$room/${names[$1]}.output" 2>&1 </dev/null &
+    pid=$!
+    while [ -e "/proc/$pid/status" ]; do
+        now=$(sed -n 's/^VmHWM:[^0-9]*\([0-9]*\) kB$/\1/p' "/proc/$pid/status" 2>/dev/null) || true
+        [ -n "$now" ] || break
+        most=$now
+        sleep 0.01
+    done
+    wait "$pid" || status=$?
+    echo "$status $((($(date +%s%N) - start) / 1000000)) $most" >"$room/${names[$1]}.measured"
+}
+
+# The most resident memory that lbcheck may have, in KiB.
+most_memory=8192
+program=${LBCHECK:-$(proved)}
+if [ -z "$program" ]; then
+    echo "memory: not measured, since no proved lbcheck is there"
+else
+    measuring=()
+    for number in "${!within[@]}"; do
+        measure "$number" "$program" &
+        measuring+=("$!")
+    done
+    wait "${measuring[@]}"
+    for number in "${!within[@]}"; do
+        name=${names[number]}
+        read -r status took memory <"$room/$name.measured"
+        if [ "$status" -eq "${statuses[number]}" ] && cmp -s "$room/$name.output" "$cases/$name.stdout" &&
+            [ "$took" -le $((within[number] * 1000)) ] && [ "$memory" -gt 0 ] && [ "$memory" -lt "$most_memory" ]; then
+            echo "$name, proved: as it should be ($took ms, $memory KiB)"
+            passed=$((passed + 1))
+        else
+            echo "$name, proved: status $status, $took ms, $memory KiB, said: $(cat "$room/$name.output")"
+            failed=$((failed + 1))
+        fi
+    done
+fi
 echo "$passed passed, $failed failed"
 [ "$failed" -eq 0 ]

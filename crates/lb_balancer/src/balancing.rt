@@ -14,7 +14,6 @@ ghost use Rattle.lb_balancer_core.specs.Timings.{Reads};
 ghost use Rattle.lb_balancer.specs.Shown.{SelectsOf, ShownValue, is_up};
 ghost use Rattle.lb_balancer.specs.SharedUpdates.{IsBuildRefusal, IsSharedRefusal, ReadsUpdate};
 
-use crate::backends::Backends;
 use crate::kept::KeptShown;
 use crate::serving::{BuiltSelector, Serving, built_of};
 use crate::shown::{Shown, Version};
@@ -30,6 +29,7 @@ use lb_select_base::loads::Loads;
 use lb_select_base::moments::MomentSource;
 use lb_select_base::refusal::Refusal;
 use lb_select_base::walk::BackendSelection;
+use lb_threads_registry::backends::Backends;
 use lb_threads_registry::lock::KeyedLock;
 use lb_threads_registry::owner::ViewOwner;
 use lb_threads_registry::registry::HealthRegistry;

@@ -2,7 +2,6 @@
 //! served when it began.
 #![tactic(auto)]
 
-pub mod backends;
 pub mod balancing;
 pub mod drive;
 pub mod kept;

@@ -8,7 +8,6 @@ ghost use Rattle.lb_health_registry.specs.Registry.{IsGrowthRefusal};
 ghost use Rattle.lb_balancer.specs.Shown.{SelectsOf, ShownValue, is_up};
 ghost use Rattle.lb_balancer.specs.SharedUpdates.{IsSharedRefusal, ReadsUpdate};
 
-use crate::backends::Backends;
 use crate::balancing::Balancing;
 use crate::kept::hint_of;
 use crate::shown::{Shown, ready_ones};
@@ -20,6 +19,7 @@ use lb_select_base::backend::Backend;
 use lb_select_base::moments::MomentSource;
 use lb_select_base::refusal::Refusal;
 use lb_select_base::walk::BackendSelection;
+use lb_threads_registry::backends::Backends;
 use lb_threads_registry::keyed::NoRule;
 use log::Log;
 use std::alloc::Global;

@@ -7,6 +7,7 @@ ghost use Rattle.lb_rebuild_group.specs.GroupHistory.{slot_events, members_now};
 ghost use Rattle.lb_rebuild_group.specs.Stands.{After};
 ghost use Rattle.lb_threads_group.specs.Group.{NewestReadyUnder, Seen};
 
+use crate::configured::Configured;
 use crate::group::LoadBalancerGroup;
 use lb_health_check::health_check::HealthCheck;
 use lb_health_registry::keys::KeyRule;
@@ -23,26 +24,24 @@ use std::thread::Threads;
 
 /// The backends of a group, borrowed from it.
 #[derive(Drop)]
-pub struct SharedBackends<'g, S, W, D, R, C>
+pub struct SharedBackends<'g, S, D, R, C>
 where
     S: BackendSelection,
-    W: Wait + Copy,
     D: Drop,
     R: KeyRule + Drop,
     C: HealthCheck + Drop,
 {
-    group: &'g LoadBalancerGroup<S, W, D, R, C>,
+    group: &'g LoadBalancerGroup<S, D, R, C>,
 }
 
 impl<
     S: BackendSelection,
-    W: Wait + Copy,
     D: ServiceDiscovery + Drop,
     R: KeyRule + Drop,
     C: HealthCheck + Drop,
-> LoadBalancerGroup<S, W, D, R, C> {
+> LoadBalancerGroup<S, D, R, C> {
     /// Returns a borrow of the group's backends.
-    pub fn backends<'g>(&'g self) -> SharedBackends<'g, S, W, D, R, C>
+    pub fn backends<'g>(&'g self) -> SharedBackends<'g, S, D, R, C>
         ensures { result.group.now ≡ self.now }
     {
         SharedBackends { group: self }
@@ -52,58 +51,56 @@ impl<
 impl<
     'g,
     S: BackendSelection,
-    W: Wait + Copy,
     D: ServiceDiscovery + Drop,
     R: KeyRule + Drop,
     C: HealthCheck + Drop,
-> SharedBackends<'g, S, W, D, R, C> {
+> SharedBackends<'g, S, D, R, C> {
     /// Returns the newest generation; 0 before the first membership.
-    pub fn generation(&self) -> u64
+    pub fn generation<W: Wait>(&self, rt: &W) -> u64
         ensures { Seen (arc_value self.now.group.now.shared).core (λ v. After v (λ made e. result ≡ newest (slot_events e))) }
     {
-        self.group.backend_generation()
+        self.group.backend_generation(rt)
     }
 
     /// Returns the newest membership.
     ///
     /// Refused `OutOfMemory` where std refuses one more owner.
-    pub fn get_backend(&self) -> Result<Arc<BTreeSet<Backend>>, Refusal>
+    pub fn get_backend<W: Wait>(&self, rt: &W) -> Result<Arc<BTreeSet<Backend>>, Refusal>
         ensures members { IfOk result (λ set. Seen (arc_value self.now.group.now.shared).core
             (λ v. After v (λ made e. (arc_value set).keys ≡ members_now e))) }
         ensures refused { OnErr result (result ≡ Err Refusal.OutOfMemory) }
     {
         let group = self.group;
-        let shared: &SharedGroup<S, R, C> = &*group.shared;
-        shared.get_backend(&group.rt)
+        let shared: &SharedGroup<Configured<S>, R, C> = &*group.shared;
+        shared.get_backend(rt)
     }
 
     /// Returns whether a backend is ready in the newest membership, without taking memory.
-    pub fn ready(&self, backend: &Backend) -> bool
+    pub fn ready<W: Wait>(&self, rt: &W, backend: &Backend) -> bool
         ensures { NewestReadyUnder R.gives (arc_value self.now.group.now.shared) backend.now result }
     {
         let group = self.group;
-        let shared: &SharedGroup<S, R, C> = &*group.shared;
-        shared.ready(&group.rt, backend)
+        let shared: &SharedGroup<Configured<S>, R, C> = &*group.shared;
+        shared.ready(rt, backend)
     }
 
     /// Enables or disables a backend that a living snapshot lists, by identity; another is left alone.
     ///
     /// It takes no memory.
-    pub fn set_enable(&self, backend: &Backend, enabled: bool) {
+    pub fn set_enable<W: Wait>(&self, rt: &W, backend: &Backend, enabled: bool) {
         let group = self.group;
-        let shared: &SharedGroup<S, R, C> = &*group.shared;
-        shared.set_enable(&group.rt, backend, enabled);
+        let shared: &SharedGroup<Configured<S>, R, C> = &*group.shared;
+        shared.set_enable(rt, backend, enabled);
     }
 }
 
 impl<
     'g,
     S: BackendSelection,
-    W: Log + Threads + Wait + Copy + Sync,
     D: ServiceDiscovery + Drop,
     R: KeyRule + Drop + Send,
     C: HealthCheck + Drop + Send + Sync,
-> SharedBackends<'g, S, W, D, R, C> {
+> SharedBackends<'g, S, D, R, C> {
     /// Checks each target of the registry once, if a check is set, after it applied the marks that wait in the registry.
     ///
     /// With `parallel` the checks run at the same time.
@@ -111,10 +108,15 @@ impl<
     /// # Errors
     ///
     /// `NumbersExhausted` where no number is left for a cell, `OutOfMemory` where memory is refused; each before the first check.
-    pub fn run_health_check(&self, alloc: Global, parallel: bool) -> Result<(), Refusal>
+    pub fn run_health_check<W: Log + Threads + Wait + Sync>(
+        &self,
+        rt: &W,
+        alloc: Global,
+        parallel: bool,
+    ) -> Result<(), Refusal>
         ensures { OnErr result (IsGrowthRefusal result) }
     {
         let group = self.group;
-        group.registry.run_health_check(&group.rt, alloc, parallel)
+        group.registry.run_health_check(rt, alloc, parallel)
     }
 }

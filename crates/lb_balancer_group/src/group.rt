@@ -1,6 +1,6 @@
 //! `LoadBalancerGroup`: a group of slots as its users own it. Updates, selections and readings need a borrow only; workers build
-//! meanwhile. Dropping it cancels it; a build or a destruction that is under way then goes on to its end.
-ghost use Rattle.std.specs.Prelude.{◌≡◌, ◌+◌, [], None, false, map, length, IfErr, IfOk, MatchBool, OnErr};
+//! meanwhile. Its drop takes no lock: its workers cancel it, and the registry's next call removes its view.
+ghost use Rattle.std.specs.Prelude.{◌≡◌, ◌+◌, [], None, false, map, length, IfErr, IfOk, MatchBool, OnErr, OnOk};
 ghost use Rattle.std.specs.Arc.{arc_value};
 ghost use Rattle.lb_select_base.specs.Refusals.{least};
 ghost use Rattle.lb_rebuild_slots.specs.SlotsCalls.{at_slot};
@@ -12,41 +12,46 @@ ghost use Rattle.lb_balancer_core.specs.Timings.{selector_timings};
 ghost use Rattle.lb_balancer_core.specs.Found.{FoundBy};
 ghost use Rattle.lb_balancer_core.specs.Looks.{Answers};
 ghost use Rattle.lb_threads_group.specs.Group.{Seen, SelectedUnder, UpdatedUnder};
-ghost use Rattle.lb_balancer_group.specs.Readiness.{AllServe, OneLags, SawServed};
+ghost use Rattle.lb_balancer_group.specs.Made.{IsNewGroup, slot_configs};
 
-use crate::making::{make, share, update_noting};
+use crate::configured::{Configured, SlotConfig};
+use crate::making::{configs_of, first_cause, opened, own_gate, update_noting};
 use crate::noting::Noting;
-use crate::parts::GroupParts;
 use lb_balancer_core::timings::{SelectorUpdateTimings, UpdateTimings};
 use lb_health_check::health_check::{BoxedCheck, HealthCheck};
 use lb_health_registry::keys::{KeyRule, Rule};
 use lb_health_view::discovery::{BoxedDiscovery, DiscoverySource, ServiceDiscovery};
 use lb_select_base::backend::Backend;
+use lb_select_base::causes::least_refusal;
 use lb_select_base::moments::MomentSource;
 use lb_select_base::refusal::Refusal;
 use lb_select_base::walk::BackendSelection;
 use lb_threads_group::group::SharedGroup;
+use lb_threads_registry::backends::Backends;
+use lb_threads_registry::gate::SelectorRebuildGate;
 use lb_threads_registry::keyed::NoRule;
+use lb_threads_registry::owner::ViewOwner;
 use lb_threads_registry::registry::HealthRegistry;
 use std::alloc::Global;
 use std::sync::{Arc, Mutex, Wait};
 
 /// A group of slots, each of which serves a selector of its own. Its frequencies are set before threads share it.
 ///
-/// It keeps the runtime on which it may wait, so that its drop can cancel it: rebuilds stop then, its workers end, and its view leaves
-/// the registry once nothing of it is in use.
+/// Its drop takes no lock and no memory: its workers cancel it at their next turn, let a build that runs end, destroy what their slots
+/// retired and end; the next call of the registry removes its view, so that its backends are checked no longer.
 pub struct LoadBalancerGroup<
     S: BackendSelection,
-    W: Wait + Copy,
     D: Drop = BoxedDiscovery,
     R: KeyRule + Drop = Rule<NoRule>,
     C: HealthCheck + Drop = BoxedCheck,
 > {
-    pub(crate) rt: W,
     pub(crate) discovery: DiscoverySource<D>,
     pub(crate) registry: Arc<HealthRegistry<R, C>>,
     pub(crate) owns_checks: bool,
-    pub(crate) shared: Arc<SharedGroup<S, R, C>>,
+    // What the slots are built with.
+    configs: Vec<SlotConfig<S>>,
+    pub(crate) shared: Arc<SharedGroup<Configured<S>, R, C>>,
+    view: ViewOwner,
     // Held by an update to its end, so that the timing is that of the last one.
     updates: Mutex<()>,
     pub(crate) timing: Mutex<Option<UpdateTimings>>,
@@ -58,82 +63,121 @@ pub struct LoadBalancerGroup<
     pub parallel_health_check: bool,
 }
 
-impl<S: BackendSelection, W: Wait + Copy, D: Drop, R: KeyRule + Drop, C: HealthCheck + Drop> Drop
-    for LoadBalancerGroup<S, W, D, R, C> {
+impl<S: BackendSelection, D: Drop, R: KeyRule + Drop, C: HealthCheck + Drop> Drop
+    for LoadBalancerGroup<S, D, R, C> {
     fn drop(self) {
         let LoadBalancerGroup {
-            rt,
             discovery: _,
             registry: _,
             owns_checks: _,
+            configs: _,
             shared,
+            view: _,
             updates: _,
             timing: _,
             health_check_frequency: _,
             update_frequency: _,
             parallel_health_check: _,
         } = self;
-        shared.cancel(&rt);
+        shared.let_go();
     }
 }
 
 impl<
     S: BackendSelection,
-    W: Wait + Copy,
     D: ServiceDiscovery + Drop,
     R: KeyRule + Drop,
     C: HealthCheck + Drop,
-> LoadBalancerGroup<S, W, D, R, C> {
-    /// Returns a group of one slot for each configuration, with a view of its own in the registry, at generation 0.
-    ///
-    /// No worker runs yet.
+> LoadBalancerGroup<S, D, R, C> {
+    /// Returns a group of one slot for each configuration, with a view of its own in the registry and a gate of its own, at generation 0.
+    /// A slot without a configuration has that of `S::build`. No worker runs yet.
     ///
     /// # Errors
     ///
     /// The least cause for which one of the configurations gives no selector over no backends; where there is none,
     /// `NumbersExhausted` where no number is left for a view, and else `OutOfMemory` where memory is refused. The registry has no
     /// view of it then.
-    pub fn from_backends_with_configs(
-        rt: W,
+    pub fn from_backends_with_configs<W: Wait>(
+        rt: &W,
         alloc: Global,
-        parts: GroupParts<D, R, C>,
-        configs: Vec<S::Config>,
-    ) -> Result<LoadBalancerGroup<S, W, D, R, C>, Refusal>
-        ensures made { IfOk result (λ g. Stands
-            (record { id = (arc_value g.shared).core.group.id; gate = (arc_value parts.gate).id; configs = configs.items }) []
-            (arc_value g.shared).core) }
+        backends: Backends<D, R, C>,
+        configs: Vec<Option<S::Config>>,
+    ) -> Result<LoadBalancerGroup<S, D, R, C>, Refusal>
+        ensures made { IfOk result (λ g. IsNewGroup (slot_configs S.default_config configs.items) (arc_value g.shared).core) }
         ensures words { IfOk result (λ g. (arc_value g.shared).board.words ≡ length configs.items + 1) }
-        ensures registry { IfOk result (λ g. (arc_value g.shared).registry ≡ (arc_value parts.registry).start) }
-        ensures parts { IfOk result (λ g. (g.discovery ≡ parts.discovery) × (g.owns_checks ≡ parts.owns_checks)
-            × (g.health_check_frequency ≡ None) × (g.update_frequency ≡ None) × (g.parallel_health_check ≡ false)) }
-        ensures refused { IsMakingRefusal (least (map (S.refusal []) configs.items)) result }
+        ensures registry { IfOk result (λ g. (arc_value g.shared).registry ≡ (arc_value backends.registry).start) }
+        ensures parts { IfOk result (λ g. (g.discovery ≡ backends.discovery) × (g.owns_checks ≡ backends.owns_checks)
+            × (g.registry ≡ backends.registry) × (g.configs.items ≡ slot_configs S.default_config configs.items)) }
+        ensures settings { IfOk result (λ g. (g.health_check_frequency ≡ None) × (g.update_frequency ≡ None)
+            × (g.parallel_health_check ≡ false)) }
+        ensures refused { IsMakingRefusal (least (map (S.refusal []) (slot_configs S.default_config configs.items))) result }
     {
-        let GroupParts {
+        let Backends {
             discovery,
             registry,
             owns_checks,
-            gate,
-        } = parts;
-        let core = make(&rt, alloc, &*registry, &*gate, configs)?;
-        let id = core.id();
-        match share(alloc, core, &registry, gate) {
-            Ok(shared) => Ok(LoadBalancerGroup {
-                rt,
-                discovery,
-                registry,
-                owns_checks,
-                shared,
-                updates: Mutex::new(()),
-                timing: Mutex::new(None),
-                health_check_frequency: None,
-                update_frequency: None,
-                parallel_health_check: false,
-            }),
-            Err(refusal) => {
-                registry.remove_view(&rt, id);
-                Err(refusal)
-            }
+        } = backends;
+        if let Some(refusal) = first_cause::<S, R, C, W>(
+            rt,
+            alloc,
+            &*registry,
+            configs.as_slice(),
+        ) {
+            return Err(refusal);
         }
+        let configs: Vec<SlotConfig<S>> = configs_of(alloc, configs)?;
+        let gate = own_gate(alloc)?;
+        let (shared, view) = opened(rt, alloc, &registry, configs.as_slice(), gate)?;
+        Ok(LoadBalancerGroup {
+            discovery,
+            registry,
+            owns_checks,
+            configs,
+            shared,
+            view,
+            updates: Mutex::new(()),
+            timing: Mutex::new(None),
+            health_check_frequency: None,
+            update_frequency: None,
+            parallel_health_check: false,
+        })
+    }
+
+    /// Gives the group this gate for its rebuilds, which other groups may share. It is for a group at generation 0 that no thread uses yet.
+    ///
+    /// The group is made again from its parts, with a new view of the registry, without loads and without workers; what was before ends
+    /// as by a drop of the group.
+    ///
+    /// # Errors
+    ///
+    /// Those of `from_backends_with_configs`; the group is then as before, and the registry has no view more.
+    pub fn with_rebuild_gate<W: Wait>(
+        &mut self,
+        rt: &W,
+        alloc: Global,
+        gate: Arc<SelectorRebuildGate>,
+    ) -> Result<(), Refusal>
+        ensures made { OnOk result (IsNewGroup self.old.configs.items (arc_value self.new.shared).core) }
+        ensures gate { OnOk result ((arc_value self.new.shared).core.group.gate ≡ (arc_value gate).id) }
+        ensures words { OnOk result ((arc_value self.new.shared).board.words ≡ length self.old.configs.items + 1) }
+        ensures registry { OnOk result ((arc_value self.new.shared).registry ≡ (arc_value self.old.registry).start) }
+        ensures parts { (self.new.discovery ≡ self.old.discovery) × (self.new.owns_checks ≡ self.old.owns_checks)
+            × (self.new.registry ≡ self.old.registry) × (self.new.configs ≡ self.old.configs) }
+        ensures settings { (self.new.health_check_frequency ≡ self.old.health_check_frequency)
+            × (self.new.update_frequency ≡ self.old.update_frequency)
+            × (self.new.parallel_health_check ≡ self.old.parallel_health_check) }
+        ensures refused { IsMakingRefusal (least (map (S.refusal []) self.old.configs.items)) result }
+        ensures refused_stays { OnErr result (self.new ≡ self.old) }
+    {
+        if let Some(refusal) = least_refusal::<Configured<S>>(alloc, self.configs.as_slice()) {
+            return Err(refusal);
+        }
+        let (shared, view) = opened(rt, alloc, &self.registry, self.configs.as_slice(), gate)?;
+        self.shared.let_go();
+        self.shared = shared;
+        self.view = view;
+        self.timing = Mutex::new(None);
+        Ok(())
     }
 
     /// Discovers, and makes what was discovered the newest membership. Returns the newest generation after it.
@@ -143,18 +187,23 @@ impl<
     /// # Errors
     ///
     /// Those of `SharedGroup::update`; the timing is then as before.
-    pub fn update<K: MomentSource>(&self, alloc: Global, clock: &mut K) -> Result<u64, Refusal>
+    pub fn update<W: Wait, K: MomentSource>(
+        &self,
+        rt: &W,
+        alloc: Global,
+        clock: &mut K,
+    ) -> Result<u64, Refusal>
         ensures { UpdatedUnder R.gives K.reads FoundBy self.now.discovery clock.old (arc_value self.now.shared) result clock.new }
     {
-        let turn = self.updates.lock(&self.rt);
+        let turn = self.updates.lock(rt);
         let mut noting = Noting {
             clock,
             first: None,
             last: 0,
         };
-        let told = update_noting(&self.rt, alloc, &*self.shared, &self.discovery, &mut noting);
+        let told = update_noting(rt, alloc, &*self.shared, &self.discovery, &mut noting);
         if told.is_ok() {
-            *self.timing.lock(&self.rt) = Some(UpdateTimings {
+            *self.timing.lock(rt) = Some(UpdateTimings {
                 discovery_duration: noting.passed(),
                 build_duration: 0,
             });
@@ -170,8 +219,9 @@ impl<
     /// # Errors
     ///
     /// Those of `select_with`.
-    pub fn select(
+    pub fn select<W: Wait>(
         &self,
+        rt: &W,
         alloc: Global,
         slot: usize,
         key: &[u8],
@@ -180,7 +230,7 @@ impl<
         ensures { SelectedUnder R.gives (λ b ready a. a ≡ ready) max_iterations S.walks key.now (arc_value self.now.shared) slot
             result }
     {
-        self.select_with(alloc, slot, key, max_iterations, &ready_ones)
+        self.select_with(rt, alloc, slot, key, max_iterations, &ready_ones)
     }
 
     /// Returns the first backend that `accept` takes among the distinct candidates of what the slot serves, or `None`.
@@ -191,8 +241,9 @@ impl<
     /// # Errors
     ///
     /// Those of `SharedGroup::select_with`.
-    pub fn select_with<F: Fn(&Backend, bool) -> bool>(
+    pub fn select_with<W: Wait, F: Fn(&Backend, bool) -> bool>(
         &self,
+        rt: &W,
         alloc: Global,
         slot: usize,
         key: &[u8],
@@ -203,14 +254,14 @@ impl<
         ensures { SelectedUnder R.gives (λ b ready a. Answers F.Fn accept.now b ready a) max_iterations S.walks key.now
             (arc_value self.now.shared) slot result }
     {
-        let shared: &SharedGroup<S, R, C> = &*self.shared;
-        shared.select_with(&self.rt, alloc, slot, key, max_iterations, accept)
+        let shared: &SharedGroup<Configured<S>, R, C> = &*self.shared;
+        shared.select_with(rt, alloc, slot, key, max_iterations, accept)
     }
 
     /// Returns the group itself, for threads that hold it beyond a borrow or take its workers' turns.
     ///
     /// It is cancelled with this handle.
-    pub fn shared(&self) -> &Arc<SharedGroup<S, R, C>>
+    pub fn shared(&self) -> &Arc<SharedGroup<Configured<S>, R, C>>
         ensures { result.now ≡ self.now.shared }
     {
         &self.shared
@@ -219,24 +270,30 @@ impl<
     /// Sets the check of the registry.
     ///
     /// Refused `HealthCheckSet` where one is set, which stays.
-    pub fn set_health_check(&self, check: C) -> Result<(), Refusal>
+    pub fn set_health_check<W: Wait>(&self, rt: &W, check: C) -> Result<(), Refusal>
         ensures { IfErr result (λ e. e ≡ Refusal.HealthCheckSet) }
     {
-        self.registry.set_health_check(&self.rt, check)
+        self.registry.set_health_check(rt, check)
     }
 
     /// Sets the load of a backend's identity, for all slots whose selectors go by loads.
     ///
     /// Refused `OutOfMemory` where memory is refused; nothing is set then.
-    pub fn set_load(&self, alloc: Global, backend: &Backend, load: u64) -> Result<(), Refusal>
+    pub fn set_load<W: Wait>(
+        &self,
+        rt: &W,
+        alloc: Global,
+        backend: &Backend,
+        load: u64,
+    ) -> Result<(), Refusal>
         ensures { IfErr result (λ e. e ≡ Refusal.OutOfMemory) }
     {
-        self.shared.set_load(&self.rt, alloc, backend, load)
+        self.shared.set_load(rt, alloc, backend, load)
     }
 
-    /// Stops the rebuilds for good, as its drop does. Selections and readings go on.
-    pub fn cancel(&self) {
-        self.shared.cancel(&self.rt);
+    /// Stops the rebuilds for good, and marks the view for removal; selections and readings go on.
+    pub fn cancel<W: Wait>(&self, rt: &W) {
+        self.shared.cancel(rt);
     }
 }
 

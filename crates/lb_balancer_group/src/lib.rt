@@ -3,11 +3,11 @@
 #![tactic(auto)]
 
 pub mod backends;
+pub mod configured;
 pub mod drive;
 pub mod group;
 mod making;
 mod noting;
-pub mod parts;
 mod passes;
 pub mod port;
 mod readings;

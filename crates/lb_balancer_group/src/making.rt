@@ -1,25 +1,30 @@
 //! Making a group from its parts, and an update that notes its moments.
-ghost use Rattle.std.specs.Prelude.{◌≡◌, ◌+◌, [], map, length, IfErr, IfOk};
+ghost use Rattle.std.specs.Prelude.{◌≡◌, ◌+◌, ◌⊎◌, [], Some, None, map, length, unwrap_or, IfErr, IfOk, IfSome, IfNone};
 ghost use Rattle.std.specs.Arc.{arc_value};
-ghost use Rattle.lb_select_base.specs.Refusals.{least};
+ghost use Rattle.lb_select_base.specs.Refusals.{least, memory_apart as apart};
 ghost use Rattle.lb_rebuild_group.specs.GroupCalls.{IsMakingRefusal};
-ghost use Rattle.lb_rebuild_group.specs.Stands.{Stands};
 ghost use Rattle.lb_balancer_core.specs.Found.{FoundBy};
 ghost use Rattle.lb_threads_group.specs.Group.{UpdatedUnder};
+ghost use Rattle.lb_balancer_group.specs.Made.{IsNewGroup, slot_configs};
 
+use crate::configured::{Configured, SlotConfig};
 use crate::noting::Noting;
 use lb_health_check::health_check::HealthCheck;
 use lb_health_registry::keys::KeyRule;
 use lb_health_view::discovery::{DiscoverySource, ServiceDiscovery};
 use lb_rebuild_group::group::GroupCore;
+use lb_select_base::backend::Backend;
+use lb_select_base::causes::{earlier, memory_apart};
 use lb_select_base::moments::MomentSource;
 use lb_select_base::refusal::Refusal;
 use lb_select_base::walk::BackendSelection;
 use lb_threads_group::group::SharedGroup;
 use lb_threads_registry::gate::SelectorRebuildGate;
+use lb_threads_registry::owner::ViewOwner;
 use lb_threads_registry::registry::HealthRegistry;
 use rand_pcg::Pcg64;
 use std::alloc::Global;
+use std::collections::BTreeSet;
 use std::sync::{Arc, Wait};
 
 // A group with a view of its own in the registry; both locks are held for this one call.
@@ -30,7 +35,7 @@ pub(crate) fn make<S: BackendSelection, R: KeyRule + Drop, C: HealthCheck + Drop
     gate: &SelectorRebuildGate,
     configs: Vec<S::Config>,
 ) -> Result<GroupCore<S>, Refusal>
-    ensures stands { IfOk result (λ g. Stands (record { id = g.group.id; gate = gate.now.id; configs = configs.items }) [] g) }
+    ensures stands { IfOk result (λ g. IsNewGroup configs.items g) }
     ensures gate { IfOk result (λ g. g.group.gate ≡ gate.now.id) }
     ensures slots { IfOk result (λ g. length g.group.slots ≡ length configs.items) }
     ensures refused { IsMakingRefusal (least (map (S.refusal []) configs.items)) result }
@@ -43,23 +48,149 @@ pub(crate) fn make<S: BackendSelection, R: KeyRule + Drop, C: HealthCheck + Drop
     made
 }
 
-// The group behind its lock, for threads. Its random words are those of a generator that differs from view to view.
-pub(crate) fn share<S: BackendSelection, R: KeyRule + Drop, C: HealthCheck + Drop>(
+// The group behind its lock, for threads, and the owner of its view. Its random words are those of a generator that differs from view to
+// view.
+pub(crate) fn share<S: BackendSelection, R: KeyRule + Drop, C: HealthCheck + Drop, W: Wait>(
+    rt: &W,
     alloc: Global,
     core: GroupCore<S>,
     registry: &Arc<HealthRegistry<R, C>>,
     gate: Arc<SelectorRebuildGate>,
-) -> Result<Arc<SharedGroup<S, R, C>>, Refusal>
+) -> Result<(Arc<SharedGroup<S, R, C>>, ViewOwner), Refusal>
     requires { (arc_value gate).id ≡ core.group.gate }
-    ensures made { IfOk result (λ g. ((arc_value g).core ≡ core)
-        × ((arc_value g).registry ≡ (arc_value registry.now).start)) }
-    ensures words { IfOk result (λ g. (arc_value g).board.words ≡ length core.group.slots + 1) }
+    ensures made { IfOk result (λ g. ((arc_value g.0).core ≡ core)
+        × ((arc_value g.0).registry ≡ (arc_value registry.now).start)) }
+    ensures words { IfOk result (λ g. (arc_value g.0).board.words ≡ length core.group.slots + 1) }
     ensures refused { IfErr result (λ e. e ≡ Refusal.OutOfMemory) }
 {
     let generator = Pcg64::new(0, u128::from(core.id()));
+    let view = registry.own_view(rt, alloc, core.id())?;
     let registry = Arc::try_clone(registry)?;
     let shared = SharedGroup::new(alloc, core, registry, gate, generator)?;
-    Ok(Arc::new(alloc, shared)?)
+    Ok((Arc::new(alloc, shared)?, view))
+}
+
+// Why a group with these configurations is refused before memory is asked for: the least cause for which one of them gives no selector
+// over no backends, and else that no number is left for a view.
+pub(crate) fn first_cause<S: BackendSelection, R: KeyRule + Drop, C: HealthCheck + Drop, W: Wait>(
+    rt: &W,
+    alloc: Global,
+    registry: &HealthRegistry<R, C>,
+    configs: &[Option<S::Config>],
+) -> Option<Refusal>
+    ensures some { IfSome result (λ e. (least (map (S.refusal []) (slot_configs S.default_config configs.now)) ≡ Some e)
+        ⊎ ((least (map (S.refusal []) (slot_configs S.default_config configs.now)) ≡ None) × (e ≡ Refusal.NumbersExhausted))) }
+    ensures none { IfNone result (least (map (S.refusal []) (slot_configs S.default_config configs.now)) ≡ None) }
+{
+    match least_cause::<S>(alloc, configs) {
+        Some(refusal) => Some(refusal),
+        None if is_full(rt, registry) => Some(Refusal::NumbersExhausted),
+        None => None,
+    }
+}
+
+// The least cause for which one of these configurations gives no selector over no backends, memory apart.
+fn least_cause<S: BackendSelection>(alloc: Global, configs: &[Option<S::Config>]) -> Option<Refusal>
+    ensures { result ≡ least (map (S.refusal []) (slot_configs S.default_config configs.now)) }
+{
+    let empty = BTreeSet::new(alloc);
+    let mut found = None;
+    for config in configs {
+        found = earlier(found, cause_over::<S>(alloc, &empty, config));
+    }
+    found
+}
+
+// Why there is no selector over this set, memory apart.
+fn cause_over<S: BackendSelection>(
+    alloc: Global,
+    backends: &BTreeSet<Backend>,
+    config: &Option<S::Config>,
+) -> Option<Refusal>
+    ensures { result ≡ apart (S.refusal backends.now.keys (unwrap_or config.now S.default_config)) }
+{
+    let built = match config {
+        Some(config) => S::build_with_config(alloc, backends, config),
+        None => S::build(alloc, backends),
+    };
+    match built {
+        Ok(_) => None,
+        Err(refusal) => memory_apart(refusal),
+    }
+}
+
+// The configurations of a group's slots.
+pub(crate) fn configs_of<S: BackendSelection>(
+    alloc: Global,
+    configs: Vec<Option<S::Config>>,
+) -> Result<Vec<SlotConfig<S>>, Refusal>
+    ensures made { IfOk result (λ c. c.items ≡ slot_configs S.default_config configs.items) }
+    ensures refused { IfErr result (λ e. e ≡ Refusal.OutOfMemory) }
+{
+    let mut slots = Vec::new(alloc);
+    for config in configs {
+        slots.push(SlotConfig::new(alloc, config)?)?;
+    }
+    Ok(slots)
+}
+
+// The same configurations once more.
+fn copies_of<S: BackendSelection>(
+    alloc: Global,
+    configs: &[SlotConfig<S>],
+) -> Result<Vec<SlotConfig<S>>, Refusal>
+    ensures same { IfOk result (λ c. c.items ≡ configs.now) }
+    ensures refused { IfErr result (λ e. e ≡ Refusal.OutOfMemory) }
+{
+    let mut slots = Vec::new(alloc);
+    for config in configs {
+        slots.push(config.try_clone()?)?;
+    }
+    Ok(slots)
+}
+
+// A gate for one group.
+pub(crate) fn own_gate(alloc: Global) -> Result<Arc<SelectorRebuildGate>, Refusal>
+    ensures { IfErr result (λ e. e ≡ Refusal.OutOfMemory) }
+{
+    let gate = SelectorRebuildGate::new(alloc)?;
+    Ok(Arc::new(alloc, gate)?)
+}
+
+// A new group over this gate, with a view of its own in the registry.
+pub(crate) fn opened<S: BackendSelection, R: KeyRule + Drop, C: HealthCheck + Drop, W: Wait>(
+    rt: &W,
+    alloc: Global,
+    registry: &Arc<HealthRegistry<R, C>>,
+    configs: &[SlotConfig<S>],
+    gate: Arc<SelectorRebuildGate>,
+) -> Result<(Arc<SharedGroup<Configured<S>, R, C>>, ViewOwner), Refusal>
+    requires { least (map (S.refusal []) configs.now) ≡ None }
+    ensures made { IfOk result (λ g. IsNewGroup configs.now (arc_value g.0).core) }
+    ensures gate { IfOk result (λ g. (arc_value g.0).core.group.gate ≡ (arc_value gate).id) }
+    ensures words { IfOk result (λ g. (arc_value g.0).board.words ≡ length configs.now + 1) }
+    ensures registry { IfOk result (λ g. (arc_value g.0).registry ≡ (arc_value registry.now).start) }
+    ensures refused { IfErr result (λ e. (e ≡ Refusal.OutOfMemory) ⊎ (e ≡ Refusal.NumbersExhausted)) }
+{
+    let copies = copies_of(alloc, configs)?;
+    let core: GroupCore<Configured<S>> = make(rt, alloc, &**registry, &*gate, copies)?;
+    let id = core.id();
+    let opened = share(rt, alloc, core, registry, gate);
+    if opened.is_err() {
+        registry.remove_view(rt, id);
+    }
+    opened
+}
+
+// Whether no number is left for one more view.
+fn is_full<R: KeyRule + Drop, C: HealthCheck + Drop, W: Wait>(
+    rt: &W,
+    registry: &HealthRegistry<R, C>,
+) -> bool {
+    let cells = registry.take(rt);
+    let full = cells.value.is_full();
+    registry.put(cells);
+    full
 }
 
 // Updates by a clock that notes its readings, which are those of the clock that it borrows.

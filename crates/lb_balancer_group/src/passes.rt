@@ -8,6 +8,7 @@ ghost use Rattle.lb_balancer_core.specs.Found.{FoundBy};
 ghost use Rattle.lb_threads_group.specs.Group.{EnteredUnder, LeftUnder, UpdatedUnder};
 ghost use Rattle.lb_threads_group.specs.Shared.{IsEntryRefusal, SelectsByAny};
 
+use crate::configured::Configured;
 use crate::group::LoadBalancerGroup;
 use lb_health_check::health_check::HealthCheck;
 use lb_health_registry::keys::KeyRule;
@@ -24,16 +25,15 @@ use std::sync::Wait;
 
 impl<
     S: BackendSelection,
-    W: Wait + Copy,
     D: ServiceDiscovery + Drop,
     R: KeyRule + Drop,
     C: HealthCheck + Drop,
-> LoadBalancerGroup<S, W, D, R, C> {
+> LoadBalancerGroup<S, D, R, C> {
     /// Returns a new pass over the group's generations, without a lock or memory.
     pub fn pass(&self) -> GroupPass
         ensures { result.board ≡ (arc_value self.now.shared).board }
     {
-        let shared: &SharedGroup<S, R, C> = &*self.shared;
+        let shared: &SharedGroup<Configured<S>, R, C> = &*self.shared;
         shared.pass()
     }
 
@@ -44,7 +44,7 @@ impl<
         requires { pass.old.board ≡ (arc_value self.now.shared).board }
         ensures { IsLoad pass.old 0 result pass.new }
     {
-        let shared: &SharedGroup<S, R, C> = &*self.shared;
+        let shared: &SharedGroup<Configured<S>, R, C> = &*self.shared;
         shared.backend_generation_as(pass)
     }
 
@@ -57,7 +57,7 @@ impl<
             × IsLoad pass.old (slot + 1) g pass.new) }
         ensures none { IfNone result (((arc_value self.now.shared).board.words ≤ slot + 1) × (pass.new ≡ pass.old)) }
     {
-        let shared: &SharedGroup<S, R, C> = &*self.shared;
+        let shared: &SharedGroup<Configured<S>, R, C> = &*self.shared;
         shared.selector_generation_as(slot, pass)
     }
 
@@ -70,20 +70,20 @@ impl<
             (HasSeenBelow (arc_value self.now.shared).board pass.old pass.new generation) }
         ensures later { IsLater pass.old pass.new }
     {
-        let shared: &SharedGroup<S, R, C> = &*self.shared;
+        let shared: &SharedGroup<Configured<S>, R, C> = &*self.shared;
         shared.selectors_ready_for_as(generation, pass)
     }
 
     /// Joins what two passes have seen: afterwards neither is below what either was, in any word.
-    pub fn meet(&self, pass: &mut GroupPass, other: &mut GroupPass)
+    pub fn meet<W: Wait>(&self, rt: &W, pass: &mut GroupPass, other: &mut GroupPass)
         requires pass { pass.old.board ≡ (arc_value self.now.shared).board }
         requires other { other.old.board ≡ (arc_value self.now.shared).board }
         ensures pass { HasMet (arc_value self.now.shared).board other.old pass.new }
         ensures other { HasMet (arc_value self.now.shared).board pass.old other.new }
         ensures later { IsLater pass.old pass.new × IsLater other.old other.new }
     {
-        let shared: &SharedGroup<S, R, C> = &*self.shared;
-        shared.meet(&self.rt, pass, other);
+        let shared: &SharedGroup<Configured<S>, R, C> = &*self.shared;
+        shared.meet(rt, pass, other);
     }
 
     /// Updates the group as `update` does, and has the pass see the newest generation, which is returned.
@@ -93,8 +93,9 @@ impl<
     /// # Errors
     ///
     /// Those of `update`.
-    pub fn update_as<K: MomentSource>(
+    pub fn update_as<W: Wait, K: MomentSource>(
         &self,
+        rt: &W,
         alloc: Global,
         clock: &mut K,
         pass: &mut GroupPass,
@@ -105,10 +106,10 @@ impl<
         ensures seen { IfOk result (λ g. g ≤ newest_of pass.new) }
         ensures later { IsLater pass.old pass.new }
     {
-        let told = self.update(alloc, clock);
+        let told = self.update(rt, alloc, clock);
         if let Ok(generation) = told {
-            let shared: &SharedGroup<S, R, C> = &*self.shared;
-            shared.catch_up(&self.rt, generation, pass);
+            let shared: &SharedGroup<Configured<S>, R, C> = &*self.shared;
+            shared.catch_up(rt, generation, pass);
         }
         told
     }
@@ -120,7 +121,12 @@ impl<
     /// # Errors
     ///
     /// Those of `SharedGroup::enter_as`. No reader has entered then.
-    pub fn enter_as(&self, slot: usize, pass: &mut GroupPass) -> Result<Reader<S>, Refusal>
+    pub fn enter_as<W: Wait>(
+        &self,
+        rt: &W,
+        slot: usize,
+        pass: &mut GroupPass,
+    ) -> Result<Reader<Configured<S>>, Refusal>
         requires { pass.old.board ≡ (arc_value self.now.shared).board }
         ensures reader { IfOk result (λ r. (slot + 1 < (arc_value self.now.shared).board.words) × (r.slot ≡ slot)
             × (r.generation ≡ served_of pass.new slot)) }
@@ -129,8 +135,8 @@ impl<
         ensures refused { IfErr result (IsEntryRefusal (arc_value self.now.shared).board slot) }
         ensures later { IsLater pass.old pass.new }
     {
-        let shared: &SharedGroup<S, R, C> = &*self.shared;
-        shared.enter_as(&self.rt, slot, pass)
+        let shared: &SharedGroup<Configured<S>, R, C> = &*self.shared;
+        shared.enter_as(rt, slot, pass)
     }
 
     /// Returns the first accepted backend of the selector that a reader is in, or `None`.
@@ -141,10 +147,11 @@ impl<
     /// # Errors
     ///
     /// `OutOfMemory` where memory is refused.
-    pub fn select_in<F: Fn(&Backend) -> bool>(
+    pub fn select_in<W: Wait, F: Fn(&Backend) -> bool>(
         &self,
+        rt: &W,
         alloc: Global,
-        reader: &Reader<S>,
+        reader: &Reader<Configured<S>>,
         key: &[u8],
         max_iterations: usize,
         accept: &F,
@@ -153,16 +160,16 @@ impl<
         ensures { SelectsByAny (λ b r. FnReturnsAt F.Fn accept.now b r) max_iterations
             (S.walks reader.now.members reader.now.config key.now) result }
     {
-        let shared: &SharedGroup<S, R, C> = &*self.shared;
-        shared.select_in(&self.rt, alloc, reader, key, max_iterations, accept)
+        let shared: &SharedGroup<Configured<S>, R, C> = &*self.shared;
+        shared.select_in(rt, alloc, reader, key, max_iterations, accept)
     }
 
     /// Gives an entry of this group back to its slot.
-    pub fn leave(&self, reader: Reader<S>)
+    pub fn leave<W: Wait>(&self, rt: &W, reader: Reader<Configured<S>>)
         requires { reader.group ≡ (arc_value self.now.shared).core.group.id }
         ensures { LeftUnder (arc_value self.now.shared).core reader }
     {
-        let shared: &SharedGroup<S, R, C> = &*self.shared;
-        shared.leave(&self.rt, reader);
+        let shared: &SharedGroup<Configured<S>, R, C> = &*self.shared;
+        shared.leave(rt, reader);
     }
 }

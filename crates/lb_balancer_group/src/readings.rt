@@ -1,14 +1,14 @@
 //! Readings of a group that its users own. Each call takes the group's lock once for each slot that it reads.
-ghost use Rattle.std.specs.Prelude.{◌≡◌, ◌+◌, MatchBool, option_map};
+ghost use Rattle.std.specs.Prelude.{◌≡◌, ◌+◌, MatchBool};
 ghost use Rattle.std.specs.Arc.{arc_value};
 ghost use Rattle.lb_rebuild_slots.specs.SlotsCalls.{at_slot};
 ghost use Rattle.lb_rebuild_slots.specs.SlotsHistory.{past_of, newest, is_cancelled, coalesced, failed, timing as timing_after};
 ghost use Rattle.lb_rebuild_group.specs.GroupHistory.{slot_events};
 ghost use Rattle.lb_rebuild_group.specs.Stands.{After};
-ghost use Rattle.lb_balancer_core.specs.Timings.{selector_timings};
 ghost use Rattle.lb_threads_group.specs.Group.{Seen};
-ghost use Rattle.lb_balancer_group.specs.Readiness.{AllServe, OneLags, SawServed};
+ghost use Rattle.lb_balancer_group.specs.Readiness.{AllServe, OneLags, SawServed, last_timing};
 
+use crate::configured::Configured;
 use crate::group::LoadBalancerGroup;
 use lb_balancer_core::timings::{SelectorUpdateTimings, UpdateTimings};
 use lb_health_check::health_check::HealthCheck;
@@ -20,18 +20,17 @@ use std::sync::Wait;
 
 impl<
     S: BackendSelection,
-    W: Wait + Copy,
     D: ServiceDiscovery + Drop,
     R: KeyRule + Drop,
     C: HealthCheck + Drop,
-> LoadBalancerGroup<S, W, D, R, C> {
+> LoadBalancerGroup<S, D, R, C> {
     /// Returns how many slots there are.
     ///
     /// The board has a word for each, and one more for the newest generation.
     pub fn selector_count(&self) -> usize
         ensures { (arc_value self.now.shared).board.words ≡ result + 1 }
     {
-        let shared: &SharedGroup<S, R, C> = &*self.shared;
+        let shared: &SharedGroup<Configured<S>, R, C> = &*self.shared;
         shared.slot_count()
     }
 
@@ -41,38 +40,38 @@ impl<
     }
 
     /// Returns the newest generation of the backends; 0 before the first membership.
-    pub fn backend_generation(&self) -> u64
+    pub fn backend_generation<W: Wait>(&self, rt: &W) -> u64
         ensures { Seen (arc_value self.now.shared).core (λ v. After v (λ made e. result ≡ newest (slot_events e))) }
     {
-        let shared: &SharedGroup<S, R, C> = &*self.shared;
-        shared.backend_generation(&self.rt)
+        let shared: &SharedGroup<Configured<S>, R, C> = &*self.shared;
+        shared.backend_generation(rt)
     }
 
     /// Returns whether the group is cancelled.
-    pub fn is_cancelled(&self) -> bool
+    pub fn is_cancelled<W: Wait>(&self, rt: &W) -> bool
         ensures { Seen (arc_value self.now.shared).core (λ v. After v (λ made e. result ≡ is_cancelled (slot_events e))) }
     {
-        let shared: &SharedGroup<S, R, C> = &*self.shared;
-        shared.is_cancelled(&self.rt)
+        let shared: &SharedGroup<Configured<S>, R, C> = &*self.shared;
+        shared.is_cancelled(rt)
     }
 
     /// Returns the generation that a slot serves, or `None` where no such slot is there.
-    pub fn selector_generation(&self, slot: usize) -> Option<u64>
+    pub fn selector_generation<W: Wait>(&self, rt: &W, slot: usize) -> Option<u64>
         ensures { SawServed (arc_value self.now.shared).core slot result }
     {
-        let shared: &SharedGroup<S, R, C> = &*self.shared;
-        shared.selector_generation(&self.rt, slot)
+        let shared: &SharedGroup<Configured<S>, R, C> = &*self.shared;
+        shared.selector_generation(rt, slot)
     }
 
     /// Returns whether each slot serves this generation or a newer one; true without slots.
     ///
     /// The slots are read one after another.
-    pub fn selectors_ready_for(&self, generation: u64) -> bool
+    pub fn selectors_ready_for<W: Wait>(&self, rt: &W, generation: u64) -> bool
         ensures { MatchBool result (AllServe (arc_value self.now.shared).core generation)
             (OneLags (arc_value self.now.shared).core generation) }
     {
         for slot in 0..usize::MAX {
-            match self.selector_generation(slot) {
+            match self.selector_generation(rt, slot) {
                 None => return true,
                 Some(served) if served < generation => return false,
                 Some(_) => {}
@@ -82,51 +81,54 @@ impl<
     }
 
     // The least generation that a slot serves, read one after another; 18446744073709551615 without slots.
-    pub(crate) fn least_served(&self) -> u64 {
+    pub(crate) fn least_served<W: Wait>(&self, rt: &W) -> u64 {
         let mut least = u64::MAX;
         for slot in 0..self.shared.slot_count() {
-            if let Some(served) = self.selector_generation(slot) {
+            if let Some(served) = self.selector_generation(rt, slot) {
                 least = least.min(served);
             }
         }
         least
     }
 
-    /// Returns the timing of a slot's last publication: `None` where no such slot is there, and none in it before the first.
-    pub fn selector_last_update_timing(&self, slot: usize) -> Option<Option<SelectorUpdateTimings>>
+    /// Returns the timing of a slot's last publication, or `None` before the first and where no such slot is there.
+    pub fn selector_last_update_timing<W: Wait>(
+        &self,
+        rt: &W,
+        slot: usize,
+    ) -> Option<SelectorUpdateTimings>
         ensures { Seen (arc_value self.now.shared).core (λ v. After v (λ made e. result
-            ≡ at_slot made slot (option_map selector_timings (timing_after (past_of slot (slot_events e)))))) }
+            ≡ last_timing (at_slot made slot (timing_after (past_of slot (slot_events e)))))) }
     {
-        let shared: &SharedGroup<S, R, C> = &*self.shared;
-        match shared.selector_timing(&self.rt, slot) {
-            Some(Some(timing)) => Some(Some(timing.into())),
-            Some(None) => Some(None),
-            None => None,
+        let shared: &SharedGroup<Configured<S>, R, C> = &*self.shared;
+        match shared.selector_timing(rt, slot) {
+            Some(Some(timing)) => Some(timing.into()),
+            Some(None) | None => None,
         }
     }
 
     /// Returns how many memberships came while an earlier one waited in a slot, or `None` where no such slot is there.
-    pub fn selector_coalesced_rebuilds(&self, slot: usize) -> Option<u64>
+    pub fn selector_coalesced_rebuilds<W: Wait>(&self, rt: &W, slot: usize) -> Option<u64>
         ensures { Seen (arc_value self.now.shared).core (λ v. After v
             (λ made e. result ≡ at_slot made slot (coalesced (past_of slot (slot_events e))))) }
     {
-        let shared: &SharedGroup<S, R, C> = &*self.shared;
-        let counts = shared.selector_counts(&self.rt, slot)?;
+        let shared: &SharedGroup<Configured<S>, R, C> = &*self.shared;
+        let counts = shared.selector_counts(rt, slot)?;
         Some(counts.coalesced)
     }
 
     /// Returns how many builds of a slot failed, up to 18446744073709551615, or `None` where no such slot is there.
-    pub fn selector_failed_rebuilds(&self, slot: usize) -> Option<u64>
+    pub fn selector_failed_rebuilds<W: Wait>(&self, rt: &W, slot: usize) -> Option<u64>
         ensures { Seen (arc_value self.now.shared).core (λ v. After v
             (λ made e. result ≡ at_slot made slot (failed (past_of slot (slot_events e))))) }
     {
-        let shared: &SharedGroup<S, R, C> = &*self.shared;
-        let counts = shared.selector_counts(&self.rt, slot)?;
+        let shared: &SharedGroup<Configured<S>, R, C> = &*self.shared;
+        let counts = shared.selector_counts(rt, slot)?;
         Some(counts.failed)
     }
 
     /// Returns how long the last accepted update took; `None` before the first.
-    pub fn last_update_timing(&self) -> Option<UpdateTimings> {
-        *self.timing.lock(&self.rt)
+    pub fn last_update_timing<W: Wait>(&self, rt: &W) -> Option<UpdateTimings> {
+        *self.timing.lock(rt)
     }
 }

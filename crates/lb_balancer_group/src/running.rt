@@ -30,11 +30,10 @@ const WITHOUT_NOTIFIER: u128 = 1_000_000_000;
 
 impl<
     S: BackendSelection + Send + Sync + 'static,
-    W: Log + Threads + Wait + Copy + Send + 'static,
     D: ServiceDiscovery + Drop,
     R: KeyRule + Drop + Send + Sync + 'static,
     C: HealthCheck + Drop + Send + Sync + 'static,
-> LoadBalancerGroup<S, W, D, R, C>
+> LoadBalancerGroup<S, D, R, C>
 where
     S::Iter: Send + Sync + 'static,
     S::Config: Send + Sync + 'static,
@@ -43,22 +42,20 @@ where
     /// Starts a worker for each slot that has none. Returns how many couldn't be started; their slots wait for the next call.
     ///
     /// Each worker reads a copy of the clock, and ends once the group is cancelled and what its slot retired is destroyed and reported.
-    pub fn start_workers<K: MomentSource + Copy + Send + 'static>(
-        &self,
-        alloc: Global,
-        clock: K,
-    ) -> usize {
-        start_workers(&self.rt, alloc, &self.shared, clock)
+    pub fn start_workers<
+        W: Log + Threads + Wait + Copy + Send + 'static,
+        K: MomentSource + Copy + Send + 'static,
+    >(&self, rt: &W, alloc: Global, clock: K) -> usize {
+        start_workers(rt, alloc, &self.shared, clock)
     }
 }
 
 impl<
     S: BackendSelection + Send + Sync + 'static,
-    W: Log + Threads + Wait + Copy + Send + Sync + 'static,
     D: ServiceDiscovery + Drop,
     R: KeyRule + Drop + Send + Sync + 'static,
     C: HealthCheck + Drop + Send + Sync + 'static,
-> LoadBalancerGroup<S, W, D, R, C>
+> LoadBalancerGroup<S, D, R, C>
 where
     S::Iter: Send + Sync + 'static,
     S::Config: Send + Sync + 'static,
@@ -71,11 +68,15 @@ where
     /// # Errors
     ///
     /// Those of `HealthRegistry::run_health_check`, before the first check.
-    pub fn run_health_check(&self, alloc: Global) -> Result<(), Refusal>
+    pub fn run_health_check<W: Log + Threads + Wait + Sync>(
+        &self,
+        rt: &W,
+        alloc: Global,
+    ) -> Result<(), Refusal>
         ensures { OnErr result (IsGrowthRefusal result) }
     {
         self.registry
-            .run_health_check(&self.rt, alloc, self.parallel_health_check)
+            .run_health_check(rt, alloc, self.parallel_health_check)
     }
 
     /// Updates the group and, where it owns them, runs the checks of its registry, each on its schedule.
@@ -83,8 +84,12 @@ where
     /// It returns when all was done, or when the watch says that the run is to end; an update, a check or a build that is under way then
     /// goes on to its end. At each turn the missing workers are started. The notifier is called once each slot serves what was updated
     /// last. An update that is refused is logged, and a pass of checks that is refused counts as one.
-    pub fn run<K: MomentSource + Copy + Send + 'static>(
+    pub fn run<
+        W: Log + Threads + Wait + Copy + Send + Sync + 'static,
+        K: MomentSource + Copy + Send + 'static,
+    >(
         &self,
+        rt: &W,
         alloc: Global,
         clock: &mut K,
         watch: &ShutdownWatch,
@@ -98,12 +103,12 @@ where
         );
         let own = *clock;
         let start = || {
-            let _ = start_workers(&self.rt, alloc, &self.shared, own);
+            let _ = start_workers(rt, alloc, &self.shared, own);
         };
         let pass = || {
-            let _ = self.run_health_check(alloc);
+            let _ = self.run_health_check(rt, alloc);
         };
-        run_over(self, &start, &pass, alloc, clock, watch, notifier, run);
+        run_over(rt, self, &start, &pass, alloc, clock, watch, notifier, run);
     }
 }
 
@@ -112,13 +117,14 @@ fn run_over<
     F: Fn(),
     G: Fn(),
     S: BackendSelection,
-    W: Log + Wait + Copy,
+    W: Log + Wait,
     D: ServiceDiscovery + Drop,
     R: KeyRule + Drop,
     C: HealthCheck + Drop,
     K: MomentSource,
 >(
-    group: &LoadBalancerGroup<S, W, D, R, C>,
+    rt: &W,
+    group: &LoadBalancerGroup<S, D, R, C>,
     start: &F,
     pass: &G,
     alloc: Global,
@@ -133,6 +139,7 @@ fn run_over<
 {
     start();
     let mut port = LockedRun {
+        rt,
         group,
         start,
         pass,
@@ -142,20 +149,20 @@ fn run_over<
         notifier,
         told: 0,
     };
-    drive(&group.rt, run, &mut port);
+    drive(rt, run, &mut port);
 }
 
 // A group that runs, as the port that drives it. The start of workers and a pass of checks are closures, since they start threads.
 #[derive(Drop)]
-struct LockedRun<'g, 's, 'p, 'c, 'w, F, G, S, W, D, R, C, K>
+struct LockedRun<'r, 'g, 's, 'p, 'c, 'w, F, G, S, W, D, R, C, K>
 where
     S: BackendSelection,
-    W: Wait + Copy,
     D: Drop,
     R: KeyRule + Drop,
     C: HealthCheck + Drop,
 {
-    group: &'g LoadBalancerGroup<S, W, D, R, C>,
+    rt: &'r W,
+    group: &'g LoadBalancerGroup<S, D, R, C>,
     start: &'s F,
     pass: &'p G,
     alloc: Global,
@@ -168,6 +175,7 @@ where
 
 // Nothing is said of what other threads change: what the slots serve, the registry, and what the watch says.
 impl<
+    'r,
     'g,
     's,
     'p,
@@ -176,12 +184,12 @@ impl<
     F: Fn(),
     G: Fn(),
     S: BackendSelection,
-    W: Log + Wait + Copy,
+    W: Log + Wait,
     D: ServiceDiscovery + Drop,
     R: KeyRule + Drop,
     C: HealthCheck + Drop,
     K: MomentSource,
-> RunPort for LockedRun<'g, 's, 'p, 'c, 'w, F, G, S, W, D, R, C, K> {
+> RunPort for LockedRun<'r, 'g, 's, 'p, 'c, 'w, F, G, S, W, D, R, C, K> {
     ghost use Rattle.std.specs.Prelude.{◌≡◌, None};
     ghost use Rattle.std.specs.Arc.{arc_value};
     ghost use Rattle.lb_threads_group.specs.Group.{UpdatedUnder};
@@ -210,7 +218,7 @@ impl<
     }
 
     fn least(&mut self) -> u64 {
-        self.told = self.group.least_served();
+        self.told = self.group.least_served(self.rt);
         self.told
     }
 
@@ -219,9 +227,9 @@ impl<
     }
 
     fn update(&mut self) -> Result<u64, Refusal> {
-        let told = self.group.update(self.alloc, self.clock);
+        let told = self.group.update(self.rt, self.alloc, self.clock);
         if let Err(refusal) = told {
-            error!(&self.group.rt; "load balancer group update failed: {refusal}");
+            error!(self.rt; "load balancer group update failed: {refusal}");
         }
         told
     }
@@ -237,14 +245,16 @@ impl<
     }
 
     fn sleep_until(&mut self, moment: u128) -> Event {
-        for _ in self.group.rt.forever() {
+        for _ in self.rt.forever() {
             let heard = self.watch.event();
             if let Some(Event::Shutdown) = heard {
                 return Event::Shutdown;
             }
             let now = self.clock.now();
             let has_come = moment <= now;
-            if has_come || (self.notifier.is_some() && self.group.least_served() != self.told) {
+            if has_come
+                || (self.notifier.is_some() && self.group.least_served(self.rt) != self.told)
+            {
                 (self.start)();
                 return if has_come {
                     Event::Woke
@@ -258,8 +268,7 @@ impl<
                 WITHOUT_NOTIFIER
             };
             let look = moment.min(now.saturating_add(longest));
-            self.watch
-                .wait_until(&self.group.rt, self.clock, look, heard);
+            self.watch.wait_until(self.rt, self.clock, look, heard);
         }
         unreachable!()
     }

@@ -4,7 +4,6 @@
 use crate::members::members;
 use crate::words::{Usage, number_at, word_at};
 use anyhow::Error;
-use lb_balancer::backends::Backends;
 use lb_balancer::load_balancer::LoadBalancer;
 use lb_health_check::error::CheckError;
 use lb_health_check::health_check::HealthCheck;
@@ -16,6 +15,7 @@ use lb_select_base::backend::Backend;
 use lb_select_base::moments::MomentSource;
 use lb_select_base::refusal::Refusal;
 use lb_select_base::walk::BackendSelection;
+use lb_threads_registry::backends::Backends;
 use lb_threads_registry::clock::RuntimeClock;
 use lb_threads_registry::keyed::NoRule;
 use std::alloc::Global;

@@ -26,7 +26,7 @@ enum Fault {
     #[error("a call was refused, or a reading fell")]
     Refused,
     #[error("of what groups leave one isn't right, in the order of Crowd::leave: {0:?}")]
-    Left([bool; 5]),
+    Left([bool; 6]),
 }
 
 // Starts the workers of both groups, and has threads use them; they are cancelled then, or are left to the drop of their handles.
@@ -38,8 +38,8 @@ fn used<W: Log + Threads + Wait + Clock + Copy + Send + Sync + Drop + 'static>(
 ) -> Result<(), Fault> {
     let mut clock = RuntimeClock::new(*rt);
     let missing = [
-        crowd.first.start_workers(alloc, clock),
-        crowd.second.start_workers(alloc, clock),
+        crowd.first.start_workers(rt, alloc, clock),
+        crowd.second.start_workers(rt, alloc, clock),
     ];
     if missing != [0; 2] {
         return Err(Fault::Unstarted);
@@ -49,8 +49,8 @@ fn used<W: Log + Threads + Wait + Clock + Copy + Send + Sync + Drop + 'static>(
         return Err(Fault::Refused);
     }
     if is_cancelled {
-        crowd.first.cancel();
-        crowd.second.cancel();
+        crowd.first.cancel(rt);
+        crowd.second.cancel(rt);
     }
     Ok(())
 }
@@ -64,9 +64,9 @@ fn round<W: Log + Threads + Wait + Clock + Copy + Send + Sync + Drop + 'static>(
     let registry = Arc::new(alloc, HealthRegistry::new(alloc)?)?;
     let crowd = Crowd::new(*rt, alloc, &registry)?;
     let told = used(rt, alloc, &crowd, is_cancelled);
-    let left = crowd.leave(rt, TURNS)?;
+    let left = crowd.leave(rt, alloc, TURNS)?;
     told?;
-    if left != [true; 5] {
+    if left != [true; 6] {
         Err(Fault::Left(left))?;
     }
     Ok(())

@@ -2,8 +2,8 @@
 ghost use Rattle.std.specs.Prelude.{◌≡◌};
 
 use crate::counted::{Counted, Counting, Counts};
+use lb_balancer_group::configured::Configured;
 use lb_balancer_group::group::LoadBalancerGroup;
-use lb_balancer_group::parts::GroupParts;
 use lb_health_check::error::CheckError;
 use lb_health_check::health_check::HealthCheck;
 use lb_health_registry::keys::{KeyRule, Rule};
@@ -14,6 +14,7 @@ use lb_select_base::moments::MomentSource;
 use lb_select_base::refusal::Refusal;
 use lb_select_base::walk::BackendSelection;
 use lb_threads_group::group::SharedGroup;
+use lb_threads_registry::backends::Backends;
 use lb_threads_registry::gate::SelectorRebuildGate;
 use lb_threads_registry::keyed::NoRule;
 use lb_threads_registry::registry::HealthRegistry;
@@ -42,16 +43,16 @@ impl HealthCheck for NoCheck {
 }
 
 /// A group whose selectors are counted.
-pub type Group<W> = SharedGroup<Counted<W>, Rule<NoRule>, NoCheck>;
+pub type Group<W> = SharedGroup<Configured<Counted<W>>, Rule<NoRule>, NoCheck>;
 
 /// The handle of such a group.
-pub type Handle<W> = LoadBalancerGroup<Counted<W>, W, Static, Rule<NoRule>, NoCheck>;
+pub type Handle<W> = LoadBalancerGroup<Counted<W>, Static, Rule<NoRule>, NoCheck>;
 
 /// The registry of such groups. The caller makes it, since a function that made one would hide its boxed rule.
 pub type Registry = HealthRegistry<Rule<NoRule>, NoCheck>;
 
-// What such a group is made of.
-type Parts = GroupParts<Static, Rule<NoRule>, NoCheck>;
+// What such a group is made over.
+type Found = Backends<Static, Rule<NoRule>, NoCheck>;
 
 /// What groups share: the counts of their selectors, a registry and a gate.
 #[derive(Drop)]
@@ -72,24 +73,27 @@ impl<W: Wait + Clock + Copy + Drop> Site<W> {
     }
 
     /// A group of two slots that serve selectors over no backends; its discovery finds one backend.
-    pub fn group(&self, rt: W, alloc: Global) -> Result<Handle<W>, Refusal> {
+    pub fn group(&self, rt: &W, alloc: Global) -> Result<Handle<W>, Refusal> {
         let configs = self.configs(alloc)?;
-        let parts = self.parts(alloc)?;
-        LoadBalancerGroup::from_backends_with_configs(rt, alloc, parts, configs)
+        let backends = self.backends(alloc)?;
+        let mut group = LoadBalancerGroup::from_backends_with_configs(
+            rt, alloc, backends, configs,
+        )?;
+        group.with_rebuild_gate(rt, alloc, Arc::try_clone(&self.gate)?)?;
+        Ok(group)
     }
 
-    fn configs(&self, alloc: Global) -> Result<Vec<Counting<W>>, Refusal> {
+    fn configs(&self, alloc: Global) -> Result<Vec<Option<Counting<W>>>, Refusal> {
         let mut configs = Vec::new(alloc);
         for _ in 0..2 {
-            configs.push(Counting(Some(Arc::try_clone(&self.counts)?)))?;
+            configs.push(Some(Counting(Some(Arc::try_clone(&self.counts)?))))?;
         }
         Ok(configs)
     }
 
-    fn parts(&self, alloc: Global) -> Result<Parts, Refusal> {
+    fn backends(&self, alloc: Global) -> Result<Found, Refusal> {
         let registry = Arc::try_clone(&self.registry)?;
-        let gate = Arc::try_clone(&self.gate)?;
-        Ok(GroupParts::shared(one_backend(alloc, 1)?, registry, gate))
+        Ok(Backends::new_with_health_registry(one_backend(alloc, 1)?, registry))
     }
 }
 
@@ -105,8 +109,11 @@ impl<W: Wait + Clock + Copy + Drop> Crowd<W> {
     /// Makes two groups without workers over this registry.
     pub fn new(rt: W, alloc: Global, registry: &Arc<Registry>) -> Result<Crowd<W>, Refusal> {
         let site = Site::new(rt, alloc, registry)?;
-        let first = site.group(rt, alloc)?;
-        let second = site.group(rt, alloc)?;
+        let first = site.group(&rt, alloc)?;
+        let second = site.group(&rt, alloc)?;
+        // Each of the four slots has a selector now; those that were built to make the groups are gone.
+        site.counts.begun.store(4, SeqCst);
+        site.counts.most.store(4, SeqCst);
         Ok(Crowd {
             site,
             first,
@@ -119,13 +126,14 @@ impl<W: Wait + Clock + Copy + Drop> Crowd<W> {
         [&**self.first.shared(), &**self.second.shared()]
     }
 
-    /// Drops both handles, and tells what the groups leave: whether both are cancelled, their workers end within that many turns of ten
-    /// milliseconds, no more selectors than the slots and one ever lived, the permit is back, and no selector lives on.
+    /// Drops both handles, and tells what the groups leave: whether both are let go, their workers end within that many turns of ten
+    /// milliseconds, no more selectors than the slots and one ever lived, the permit is back, no selector lives on, and the registry has
+    /// no backend to check.
     ///
     /// # Errors
     ///
     /// `OutOfMemory`: the groups are dropped then too.
-    pub fn leave(self, rt: &W, turns: u64) -> Result<[bool; 5], Refusal> {
+    pub fn leave(self, rt: &W, alloc: Global, turns: u64) -> Result<[bool; 6], Refusal> {
         let shared = self.shared()?;
         let Crowd {
             site,
@@ -134,7 +142,7 @@ impl<W: Wait + Clock + Copy + Drop> Crowd<W> {
         } = self;
         drop(first);
         drop(second);
-        Ok(left(rt, &site, shared, turns))
+        Ok(left(rt, alloc, &site, shared, turns))
     }
 
     fn shared(&self) -> Result<[Arc<Group<W>>; 2], Refusal> {
@@ -148,21 +156,23 @@ impl<W: Wait + Clock + Copy + Drop> Crowd<W> {
 // What groups leave whose handles are gone.
 fn left<W: Wait + Clock + Copy + Drop>(
     rt: &W,
+    alloc: Global,
     site: &Site<W>,
     shared: [Arc<Group<W>>; 2],
     turns: u64,
-) -> [bool; 5] {
+) -> [bool; 6] {
     let [one, other] = shared;
-    let are_cancelled = one.is_cancelled(rt) && other.is_cancelled(rt);
+    let are_let_go = one.is_let_go() && other.is_let_go();
     let have_ended = ends(rt, &*one, turns) && ends(rt, &*other, turns);
     drop(one);
     drop(other);
     [
-        are_cancelled,
+        are_let_go,
         have_ended,
         site.counts.most.load(SeqCst) <= 5,
         is_free(rt, &site.gate),
         lives_none(&site.counts),
+        site.registry.target_count(rt, alloc) == Ok(0),
     ]
 }
 

@@ -1,5 +1,5 @@
 -- A good answer gives no fault but that of a device or of memory.
-use Rattle.std.proofs.Common.{◌≡◌, ℕ, ◌≤◌, inl, inr, Bool, true, false, List, [], ◌∷◌, ◌++◌, None, Some, Result, Ok, Err, length, refl, sym}
+use Rattle.std.proofs.Common.{◌≡◌, ℕ, ◌≤◌, inl, inr, Bool, true, false, List, [], ◌∷◌, ◌++◌, None, Some, Result, Ok, Err, refl, sym}
 use Rattle.std.proofs.Common.{ap, ◌∙◌, subst, arith}
 use Rattle.std.specs.Bool.{⊤}
 use Rattle.http.specs.declared.response.Parts.{Parts}
@@ -16,6 +16,7 @@ use Rattle.lb_health_http.specs.Framing.{framing_of}
 use Rattle.lb_health_http.specs.Head.{HasBadHead, HasLargeHead}
 use Rattle.lb_health_http.specs.Parts.{parts_of}
 use Rattle.lb_health_http.proofs.ChunkLemmas.{large_size}
+use Rattle.lb_health_http.proofs.RoomLemmas.{shorter_front}
 
 -- the check passed, a read failed, or memory was refused
 abbrev pub IsOkOrDevice : Result Unit CheckError → Type 0
@@ -23,17 +24,6 @@ IsOkOrDevice (Ok _) = ⊤
 IsOkOrDevice (Err Read) = ⊤
 IsOkOrDevice (Err OutOfMemory) = ⊤
 IsOkOrDevice (Err e) = ⊥
-
--- of two fronts of one text the shorter begins the longer
-shorter_front : (a b x y : List ℕ) → length b ≤ length a → a ++ x ≡ b ++ y → (z : List ℕ) × (a ≡ b ++ z)
-shorter_front a [] x y short e = (a, refl)
-shorter_front [] (c ∷ b) x y short e = absurd (omega arith)
-shorter_front (d ∷ a) (c ∷ b) x y short e =
-    let tails : a ++ x ≡ b ++ y = cc in
-    let rest = shorter_front a b x y (omega arith) tails in
-    let more : a ≡ b ++ rest.0 = rest.1 in
-    let heads : d ≡ c = cc in
-    (rest.0, cc)
 
 module _ (is_head : Bool) (limit : ℕ) (accepts : Parts → Bool) where
   -- what is large is no body within the limit

@@ -4,10 +4,10 @@ use Rattle.std.proofs.Common.{subst, append_assoc, append-nil, length-append, ar
 use Rattle.std.specs.List.{flat_map}
 use Rattle.std.proofs.lemmas.Grind.{flat_map-append}
 use Rattle.httparse.specs.Grammar.{LineEnd, crlf, lf, print_end, print_blank, print_section, print_field, print_version, print_reason}
-use Rattle.httparse.specs.Grammar.{ResponseHead, print_response, ReadsResponse, HasNoResponse, MayBecomeResponse}
+use Rattle.httparse.specs.Grammar.{ResponseHead, print_response, ReadsResponse, HasNoResponse}
 use Rattle.httparse.proofs.GrammarLemmas.{ReadsResponse-append, print_response-append}
 use Rattle.lb_health_http.specs.Head.{BeginsWithHead, IsRefusedHead, IsOpenAtFeeds, HasBadHead, HasLargeHead, EndsInHead}
-use Rattle.lb_health_http.specs.Head.{IsBlankLine, AfterBlank}
+use Rattle.lb_health_http.specs.Head.{IsBlankLine, AfterBlank, MayBecomeHead}
 use Rattle.lb_health_http.specs.Chunked.{NoFeed}
 use Rattle.lb_health_http.specs.declared.head.HeadParts.{HeadParts}
 use Rattle.std.specs.Char.{is_ascii_digit}
@@ -22,7 +22,7 @@ pub record OpenAtLast (bytes : List ℕ) : Type 0 where
   pub front : List ℕ
   pub line : List ℕ
   pub is : bytes ≡ front ++ line
-  pub may_go_on : MayBecomeResponse front
+  pub may_go_on : MayBecomeHead front
   pub clear : NoFeed line
 
 -- what is known while a head is read: the bytes since the last empty line hold no whole head, aren't refused at a line feed,
@@ -39,7 +39,7 @@ end_is crlf = (13 ∷ [], refl)
 end_is lf = ([], refl)
 
 -- a head ends in a line feed
-head_ends : (h : ResponseHead) → (f : List ℕ) × (print_response h ≡ f ++ 10 ∷ [])
+pub head_ends : (h : ResponseHead) → (f : List ℕ) × (print_response h ≡ f ++ 10 ∷ [])
 unfolding print_response
 head_ends h =
     let e = end_is h.last in
@@ -51,14 +51,14 @@ head_ends h =
     )
 
 -- a list is empty or has a last element
-last_cases : (xs : List ℕ) → (xs ≡ []) ⊎ ((init : List ℕ) × (x : ℕ) × (xs ≡ init ++ x ∷ []))
+pub last_cases : (xs : List ℕ) → (xs ≡ []) ⊎ ((init : List ℕ) × (x : ℕ) × (xs ≡ init ++ x ∷ []))
 last_cases [] = inl refl
 last_cases (y ∷ ys) = elim (last_cases ys) [
   | inl none ↦ inr ([], y, ap (λ (l : List ℕ). y ∷ l) none)
   | inr some ↦ inr (y ∷ some.0, some.1, ap (λ (l : List ℕ). y ∷ l) some.2)
 ]
 
-push_same : (a b : List ℕ) (x y : ℕ) → a ++ x ∷ [] ≡ b ++ y ∷ [] → (a ≡ b) × (x ≡ y)
+pub push_same : (a b : List ℕ) (x y : ℕ) → a ++ x ∷ [] ≡ b ++ y ∷ [] → (a ≡ b) × (x ≡ y)
 push_same a b x y e =
     let n : length a ≡ length b = omega (arith, ap length e, length-append a (x ∷ []), length-append b (y ∷ [])) in
     let same = fronts_same a b (x ∷ []) (y ∷ []) n e in
@@ -185,13 +185,13 @@ feed_within (y ∷ line) rest (x ∷ front) b e clear =
     (more.0, cc)
 
 -- what begins a text that can become a head can
-open_front : (a b : List ℕ) → MayBecomeResponse (a ++ b) → MayBecomeResponse a
-open_front a b (more, h, reads) = (b ++ more, h, (reads.0, sym (append_assoc a b more) ∙ reads.1))
+open_front : (a b : List ℕ) → MayBecomeHead (a ++ b) → MayBecomeHead a
+open_front a b (more, h, reads, few) = (b ++ more, h, (reads.0, sym (append_assoc a b more) ∙ reads.1), few)
 
-open_blank : (ends : List LineEnd) (bytes : List ℕ) → MayBecomeResponse bytes → MayBecomeResponse (print_blank ends ++ bytes)
-open_blank ends bytes (more, h, reads) =
+open_blank : (ends : List LineEnd) (bytes : List ℕ) → MayBecomeHead bytes → MayBecomeHead (print_blank ends ++ bytes)
+open_blank ends bytes (more, h, reads, few) =
     let all = reads_with_blank ends (bytes ++ more) h [] reads in
-    (more, with_blank ends h, (all.0, append_assoc (print_blank ends) bytes more ∙ all.1))
+    (more, with_blank ends h, (all.0, append_assoc (print_blank ends) bytes more ∙ all.1), few)
 
 -- the whole of what was read
 open_at_feeds : (ends : List LineEnd) (bytes : List ℕ) → OpenAtLast bytes → IsOpenAtFeeds (print_blank ends ++ bytes)
@@ -200,7 +200,7 @@ open_at_feeds ends bytes o line rest e =
     let split : front ++ o.line ≡ (line ++ 10 ∷ []) ++ rest =
     append_assoc (print_blank ends) o.front o.line ∙ ap (λ (l : List ℕ). print_blank ends ++ l) (sym o.is) ∙ e in
     let more = feed_within line rest front o.line split o.clear in
-    open_front (line ++ 10 ∷ []) more.0 (subst MayBecomeResponse more.1 (open_blank ends o.front o.may_go_on))
+    open_front (line ++ 10 ∷ []) more.0 (subst MayBecomeHead more.1 (open_blank ends o.front o.may_go_on))
 
 -- the head of an answer of status 200 without fields
 abbrev plain_head : ResponseHead
@@ -223,6 +223,7 @@ open_nil = record {
       },
       sym (append-nil (print_response plain_head)),
     ),
+    omega arith,
   );
   clear = tt;
 }
@@ -240,7 +241,7 @@ open_push bytes b o other = record {
   clear = clear_push o.line b o.clear other;
 }
 
-pub open_feed : (bytes : List ℕ) → MayBecomeResponse bytes → OpenAtLast bytes
+pub open_feed : (bytes : List ℕ) → MayBecomeHead bytes → OpenAtLast bytes
 open_feed bytes o = record { front = bytes; line = []; is = sym (append-nil bytes); may_go_on = o; clear = tt }
 
 -- ---- the exits of reading a head

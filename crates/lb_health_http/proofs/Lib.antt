@@ -9,5 +9,6 @@ pub mod HeadLemmas
 pub mod LengthLemmas
 pub mod LineLemmas
 pub mod PartsLemmas
+pub mod RoomLemmas
 pub mod Streams
 pub mod TrailerLemmas

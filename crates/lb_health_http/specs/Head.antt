@@ -22,6 +22,10 @@ pub record BeginsWithHead (stream : List ℕ) (h : ResponseHead) (rest : List �
   pub reads : ReadsResponse stream h rest
   pub fit : IsFitHead h
 
+-- some bytes can follow that make a head of at most 64 fields
+abbrev pub MayBecomeHead : List ℕ → Type 0
+MayBecomeHead bytes = (more : List ℕ) × (h : ResponseHead) × ReadsResponse (bytes ++ more) h [] × (length h.fields ≤ 64)
+
 -- the bytes are a head and then the beginning of a 65th field or of more, and each head that begins them has more than 64
 pub record HasManyFields (bytes : List ℕ) : Type 0 where
   pub exceeds : ResponseExceeds 64 bytes
@@ -35,9 +39,9 @@ IsLowHead bytes = (h : ResponseHead) × ReadsResponse bytes h [] × (status_code
 abbrev pub IsRefusedHead : List ℕ → Type 0
 IsRefusedHead bytes = NeverHasResponse bytes ⊎ (HasManyFields bytes ⊎ IsLowHead bytes)
 
--- at each line feed of the text bytes can follow that make a head of what came up to there
+-- at each line feed of the text bytes can follow that make a head of at most 64 fields of what came up to there
 abbrev pub IsOpenAtFeeds : List ℕ → Type 0
-IsOpenAtFeeds text = (line rest : List ℕ) → text ≡ (line ++ 10 ∷ []) ++ rest → MayBecomeResponse (line ++ 10 ∷ [])
+IsOpenAtFeeds text = (line rest : List ℕ) → text ≡ (line ++ 10 ∷ []) ++ rest → MayBecomeHead (line ++ 10 ∷ [])
 
 -- within the limit the stream has a line feed at which what came up to there is refused, as it is at none before; the rest
 -- is what follows it

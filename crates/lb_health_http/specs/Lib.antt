@@ -7,3 +7,4 @@ pub mod Steps
 pub mod ChunkLines
 pub mod Request
 pub mod Check
+pub mod Limits

@@ -1,7 +1,6 @@
 //! The head of an answer, read byte by byte, so that nothing after it is read.
 //! Empty lines before it are passed over, and the rest is parsed at each line feed.
-ghost use Rattle.std.specs.Prelude.{◌≡◌, ◌≢◌, ℕ, true, IfOk, length};
-ghost use Rattle.std.specs.Bool.{OnTrue};
+ghost use Rattle.std.specs.Prelude.{◌≡◌, ◌≢◌, ℕ, true, IfOk, MatchBool, length};
 ghost use Rattle.lb_stream.specs.Counted.{inner_of, has_failed};
 ghost use Rattle.lb_stream.specs.Stream.{OnBytes};
 ghost use Rattle.lb_health_http.specs.Head.{Sees, HoldsHead, HeadOutcome, IsBlankLine};
@@ -18,6 +17,9 @@ pub(crate) const HEAD_LIMIT: u64 = 65536;
 
 /// The most fields that a head may have.
 pub(crate) const FIELD_LIMIT: usize = 64;
+
+// The most lines that a head may have before its empty line: the start line and the fields.
+const LINE_LIMIT: usize = FIELD_LIMIT + 1;
 
 /// Where the parts of a head are in its bytes.
 #[derive(Drop)]
@@ -58,7 +60,7 @@ fn look_at(bytes: &[u8]) -> Seen
 
 // Whether a line that has just ended was empty.
 fn is_blank(line: &[u8]) -> bool
-    ensures { OnTrue result (IsBlankLine line.now) }
+    ensures { MatchBool result (IsBlankLine line.now) (¬ (IsBlankLine line.now)) }
 {
     line.is_empty() || (line.len() == 1 && line[0] == b'\r')
 }
@@ -66,7 +68,9 @@ fn is_blank(line: &[u8]) -> bool
 /// Reads the head of an answer and no byte after it.
 ///
 /// An empty line before the start line isn't parsed again with what follows it, so hostile empty lines cost no more than
-/// others. Faults: `Read`, `BadHead`, `HeadTooLarge`, `EndInMessage`, `OutOfMemory`.
+/// others. A head of more than 64 fields is refused at the end of its 65th.
+///
+/// Faults: `Read`, `BadHead`, `HeadTooLarge`, `EndInMessage`, `OutOfMemory`.
 pub(crate) fn read_head<R: Read>(alloc: Global, reader: &mut Counted<R>) -> Result<Head, CheckError>
     ensures outcome { OnBytes (R.remaining (inner_of reader.old)) (R.remaining (inner_of reader.new)) (HeadOutcome result) }
     ensures whole { IfOk result HoldsHead }
@@ -75,6 +79,7 @@ pub(crate) fn read_head<R: Read>(alloc: Global, reader: &mut Counted<R>) -> Resu
     ensures kept { result ≢ Err CheckError.Read → has_failed reader.new ≡ has_failed reader.old }
 {
     let mut bytes: Vec<u8> = Vec::new(alloc);
+    let mut lines = 0;
     for _ in 0..HEAD_LIMIT {
         let byte = match reader.next_byte() {
             Ok(Some(byte)) => byte,
@@ -92,10 +97,12 @@ pub(crate) fn read_head<R: Read>(alloc: Global, reader: &mut Counted<R>) -> Resu
         if byte != b'\n' {
             continue;
         }
+        lines += 1;
         match look_at(&bytes) {
             Seen::Whole(parts) if parts.found.code >= 100 => return Ok(Head { bytes, parts }),
             Seen::Whole(_) => return Err(CheckError::BadHead),
-            Seen::Open => {}
+            Seen::Open if lines <= LINE_LIMIT => {}
+            Seen::Open => return Err(CheckError::BadHead),
             Seen::Bad => return Err(CheckError::BadHead),
         }
     }

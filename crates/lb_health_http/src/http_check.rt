@@ -8,9 +8,10 @@ ghost use Rattle.lb_stream.specs.Stream.{OnBytes};
 ghost use Rattle.lb_health_http.specs.Check.{accepts_of, IsGood, CheckOutcome, IsOkOrFailed};
 ghost use Rattle.lb_health_http.specs.Request.{text_of, asks_for_head, default_text};
 
+use crate::deadline::{Deadline, Limited, Timed, least_of};
 use crate::engine::check_over;
 use crate::observer::NoObserver;
-use crate::peer::{HttpPeer, connect, connect_unix, duration_of, with_port};
+use crate::peer::{HttpPeer, connect, connect_unix, with_port};
 use crate::request::request_for;
 use crate::validate::{AcceptStatus, Validate};
 use http::{Method, Request};
@@ -22,6 +23,7 @@ use lb_stream::counted::Counted;
 use std::alloc::Global;
 use std::io::{BufReader, Read, Write};
 use std::net::{Net, TcpStream};
+use std::rt::Clock;
 
 /// The most bytes that a body may have, unless another limit is set.
 pub const MAX_BODY_BYTES: u64 = 1048576;
@@ -53,9 +55,9 @@ pub struct HttpHealthCheck<N, V = AcceptStatus, O = NoObserver, S = IdentitySumm
 impl<N> HttpHealthCheck<N> {
     /// Returns a check over that network that asks `host` for `/`.
     ///
-    /// Its thresholds are 1; it waits a second to connect and for each read, and has no limit for writes; a body has at most 1048576
-    /// bytes. It has no validator, no other port and no observer. Refused `InvalidAddress` exactly where the host is no header value, and
-    /// `OutOfMemory`.
+    /// Its thresholds are 1; it waits a second to connect and for each read, and has no limit for writes and for the whole check; a body
+    /// has at most 1048576 bytes. It has no validator, no other port and no observer. To check, the network has to read a clock too.
+    /// Refused `InvalidAddress` exactly where the host is no header value, and `OutOfMemory`.
     pub fn new(alloc: Global, net: N, host: &str) -> Result<HttpHealthCheck<N>, Refusal>
     where
         N: Drop,
@@ -66,6 +68,7 @@ impl<N> HttpHealthCheck<N> {
         ensures connects { IfOk result (λ check. check.peer_template.connection_timeout ≡ Some 1000000000) }
         ensures reads { IfOk result (λ check. check.peer_template.read_timeout ≡ Some 1000000000) }
         ensures writes { IfOk result (λ check. check.peer_template.write_timeout ≡ None) }
+        ensures whole { IfOk result (λ check. check.peer_template.total_timeout ≡ None) }
         ensures port { IfOk result (λ check. check.port_override ≡ None) }
         ensures silent { IfOk result (λ check. check.health_changed_callback ≡ None) }
         ensures invalid { result ≡ Err Refusal.InvalidAddress ↔ ¬ (IsFieldValue host.now) }
@@ -205,14 +208,19 @@ impl<N, V: Validate, O, S> HttpHealthCheck<N, V, O, S> {
             writer,
         )
     }
+}
 
-    // One exchange over a connection.
-    fn exchange<R: Read + Drop, W: Write + Drop>(
+impl<N: Clock, V: Validate, O, S> HttpHealthCheck<N, V, O, S> {
+    // One exchange over a connection, by both handles of it.
+    fn exchange<C: Read + Write + Limited + Drop>(
         &self,
         alloc: Global,
-        reader: R,
-        writer: W,
+        deadline: Deadline,
+        reader: C,
+        writer: C,
     ) -> Result<(), CheckError> {
+        let reader = Timed::new(&self.net, self.peer_template, deadline, reader)?;
+        let writer = Timed::new(&self.net, self.peer_template, deadline, writer)?;
         let Ok(buffered) = BufReader::new(alloc, reader) else {
             return Err(CheckError::OutOfMemory);
         };
@@ -222,35 +230,27 @@ impl<N, V: Validate, O, S> HttpHealthCheck<N, V, O, S> {
     }
 }
 
-impl<N: Net<Stream = TcpStream>, V: Validate, O: HealthObserve, S: BackendSummary> HealthCheck
-    for HttpHealthCheck<N, V, O, S> {
+impl<
+    N: Net<Stream = TcpStream> + Clock,
+    V: Validate,
+    O: HealthObserve,
+    S: BackendSummary,
+> HealthCheck for HttpHealthCheck<N, V, O, S> {
     ghost threshold = { λ s success. if success then s.consecutive_success else s.consecutive_failure };
 
     fn check(&self, alloc: Global, target: &Backend) -> Result<(), CheckError> {
         let peer = self.peer_template;
-        let (reads, writes) = (
-            duration_of(peer.read_timeout),
-            duration_of(peer.write_timeout),
-        );
+        let deadline = Deadline::begin(&self.net, peer.total_timeout)?;
         match &target.addr {
             SocketAddr::Inet(addr) => {
                 let addr = with_port(*addr, self.port_override);
-                let stream = connect(&self.net, addr, peer.connection_timeout)?;
-                if stream.set_read_timeout(reads).is_err()
-                    || stream.set_write_timeout(writes).is_err()
-                {
-                    return Err(CheckError::Connect);
-                }
-                self.exchange(alloc, &stream, &stream)
+                let limit = least_of(peer.connection_timeout, peer.total_timeout);
+                let stream = connect(&self.net, addr, limit)?;
+                self.exchange(alloc, deadline, &stream, &stream)
             }
             SocketAddr::Unix(path) => {
                 let stream = connect_unix(&self.net, path.as_str())?;
-                if stream.set_read_timeout(reads).is_err()
-                    || stream.set_write_timeout(writes).is_err()
-                {
-                    return Err(CheckError::Connect);
-                }
-                self.exchange(alloc, &stream, &stream)
+                self.exchange(alloc, deadline, &stream, &stream)
             }
         }
     }

@@ -5,6 +5,7 @@
 mod body;
 mod chunk;
 mod chunk_line;
+mod deadline;
 mod engine;
 mod framing;
 mod head;

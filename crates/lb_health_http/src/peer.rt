@@ -30,26 +30,32 @@ impl BasicPeer {
     }
 }
 
-/// How long a check waits to connect, and for each read and each write, in nanoseconds; without a limit, as long as the system
-/// does. A limit of 0 acts as 1. To connect to a Unix socket has no limit.
+/// How long a check waits to connect, and for each read and each write, and how long it may take as a whole, in nanoseconds;
+/// without a limit, as long as the system does. A limit of 0 acts as 1. To connect to a Unix socket has no limit.
+///
+/// The limit on the whole check begins before it connects. Where less is left of it than a call's own limit, that call waits no longer
+/// than what is left; its fault is the same as where its own limit is exceeded.
 #[derive(Clone, Copy, Debug)]
 pub struct HttpPeer {
     pub connection_timeout: Option<u128>,
     pub read_timeout: Option<u128>,
     pub write_timeout: Option<u128>,
+    pub total_timeout: Option<u128>,
 }
 
 impl HttpPeer {
-    /// Returns a limit of one second to connect and for each read, and none for writes.
+    /// Returns a limit of one second to connect and for each read, and none for writes and for the whole check.
     pub fn new() -> HttpPeer
         ensures connect { result.connection_timeout ≡ Some SECOND }
         ensures read { result.read_timeout ≡ Some SECOND }
         ensures write { result.write_timeout ≡ None }
+        ensures whole { result.total_timeout ≡ None }
     {
         HttpPeer {
             connection_timeout: Some(SECOND),
             read_timeout: Some(SECOND),
             write_timeout: None,
+            total_timeout: None,
         }
     }
 }

@@ -136,7 +136,7 @@ fn made_stream_rows<R: Print + AllocGlobal>(rt: &R, rows: &[MadeStream]) -> io::
 fn server_rows<R>(rt: &R, rows: &[Server]) -> io::Result<bool>
 where
     R: Net<Listener = TcpListener, Stream = TcpStream>,
-    R: Threads + Clock + Files + Print + AllocGlobal,
+    R: Threads + Clock + Files + Sync + Print + AllocGlobal,
 {
     let mut all = true;
     for row in rows {
@@ -148,7 +148,7 @@ where
 fn pass_rows<R>(rt: &R, rows: &[Pass]) -> io::Result<bool>
 where
     R: Net<Listener = TcpListener, Stream = TcpStream>,
-    R: Threads + log::Log + Print + AllocGlobal,
+    R: Threads + Clock + Print + AllocGlobal,
 {
     let mut all = true;
     for row in rows {
@@ -172,7 +172,7 @@ fn memory_rows<R: Files + Print + AllocGlobal>(rt: &R) -> io::Result<bool> {
 fn rows<R>(rt: &R) -> io::Result<bool>
 where
     R: Net<Listener = TcpListener, Stream = TcpStream>,
-    R: Threads + Clock + Files + log::Log + Print + AllocGlobal,
+    R: Threads + Clock + Files + Sync + Print + AllocGlobal,
 {
     let mut all = memory_rows(rt)?;
     all &= server_rows(rt, &SERVERS)?;

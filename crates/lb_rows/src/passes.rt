@@ -11,52 +11,107 @@ use lb_health_view::discovery::{DiscoverySource, Static};
 use lb_health_view::registry::HealthRegistry;
 use lb_select_base::backend::Backend;
 use lb_select_base::refusal::Refusal;
-use log::Log;
+use log::kv::Source;
+use log::span::Spans;
+use log::{Log, Metadata, Record};
 use std::alloc::Global;
 use std::collections::BTreeSet;
+use std::fmt::Display;
 use std::io::{self, Error, ErrorKind, Read, Write};
 use std::net::{Net, TcpListener, TcpStream};
+use std::rt::Clock;
 use std::sync::atomic::{AtomicU64, Ordering};
 use std::thread::{Threads, join};
 
-// Counts the changes that are reported to it.
+// What comes of the flips of a row: reports to the observer, each of the right target and flag and before its line, lines of the log,
+// and reports that are otherwise.
 #[derive(Drop)]
-struct Flips<'a> {
-    told: &'a AtomicU64,
+struct Flips {
+    reported: AtomicU64,
+    logged: AtomicU64,
+    astray: AtomicU64,
 }
 
-impl HealthObserve for Flips<'_> {
-    fn observe(&self, _target: &Backend, _healthy: bool) {
-        self.told.fetch_add(1, Ordering::SeqCst);
+impl Flips {
+    fn new() -> Flips {
+        Flips {
+            reported: AtomicU64::new(0),
+            logged: AtomicU64::new(0),
+            astray: AtomicU64::new(0),
+        }
+    }
+
+    // Whether there were so many, each reported and then logged.
+    fn are(&self, count: u64) -> bool {
+        let reported = self.reported.load(Ordering::SeqCst);
+        let logged = self.logged.load(Ordering::SeqCst);
+        let astray = self.astray.load(Ordering::SeqCst);
+        (reported, logged, astray) == (count, count, 0)
+    }
+}
+
+impl Log for Flips {
+    fn enabled(&self, _metadata: &Metadata<'_>) -> bool {
+        true
+    }
+
+    fn log<D: Display, K: Source, S: Spans>(&self, _record: &Record<'_, D, K, S>) {
+        self.logged.fetch_add(1, Ordering::SeqCst);
+    }
+
+    fn flush(&self) {}
+
+    fn target(&self) -> &str {
+        ""
+    }
+}
+
+// The observer of a row whose backend becomes healthy, or unhealthy.
+#[derive(Drop)]
+struct Observer<'a> {
+    flips: &'a Flips,
+    backend: &'a Backend,
+    healthy: bool,
+}
+
+impl HealthObserve for Observer<'_> {
+    fn observe(&self, target: &Backend, healthy: bool) {
+        let flips = self.flips;
+        let is_first = flips.reported.load(Ordering::SeqCst) == flips.logged.load(Ordering::SeqCst);
+        if is_first && target == self.backend && healthy == self.healthy {
+            flips.reported.fetch_add(1, Ordering::SeqCst);
+        } else {
+            flips.astray.fetch_add(1, Ordering::SeqCst);
+        }
     }
 }
 
 /// Whether both passes leave the backend and its observer as the row says.
 pub(crate) fn agrees<R>(rt: &R, row: &Pass) -> io::Result<bool>
 where
-    R: Net<Listener = TcpListener, Stream = TcpStream> + Threads + Log + AllocGlobal,
+    R: Net<Listener = TcpListener, Stream = TcpStream> + Threads + Clock + AllocGlobal,
 {
-    let told = AtomicU64::new(0);
+    let flips = Flips::new();
     let ready = if row.listens {
-        passes_where_served(rt, row, &told)?
+        passes_where_served(rt, row, &flips)?
     } else {
-        passes_where_closed(rt, row, &told)?
+        passes_where_closed(rt, row, &flips)?
     };
     let wanted = [row.is_ready, row.is_ready];
-    Ok(ready == Ok(wanted) && told.load(Ordering::SeqCst) == row.flips)
+    Ok(ready == Ok(wanted) && flips.are(row.flips))
 }
 
 // Passes over a port where nobody listens.
 fn passes_where_closed<R>(
     rt: &R,
     row: &Pass,
-    told: &AtomicU64,
+    flips: &Flips,
 ) -> io::Result<Result<[bool; 2], Refusal>>
 where
-    R: Net<Listener = TcpListener, Stream = TcpStream> + Log + AllocGlobal,
+    R: Net<Listener = TcpListener, Stream = TcpStream> + Clock + AllocGlobal,
 {
     let backend = backend_at_closed_port(rt)?;
-    Ok(passes(rt, row, told, &backend))
+    Ok(passes(rt, row, flips, &backend))
 }
 
 // Passes over a port where somebody listens, who gives good answers where there are requests. What owns the listener makes one
@@ -64,30 +119,30 @@ where
 fn passes_where_served<R>(
     rt: &R,
     row: &Pass,
-    told: &AtomicU64,
+    flips: &Flips,
 ) -> io::Result<Result<[bool; 2], Refusal>>
 where
-    R: Net<Listener = TcpListener, Stream = TcpStream> + Threads + Log + AllocGlobal,
+    R: Net<Listener = TcpListener, Stream = TcpStream> + Threads + Clock + AllocGlobal,
 {
     let listener = TcpListener::bind(rt, "127.0.0.1:0")?;
-    passes_at(rt, row, told, &listener)
+    passes_at(rt, row, flips, &listener)
 }
 
 // The same at the port of that listener.
 fn passes_at<R>(
     rt: &R,
     row: &Pass,
-    told: &AtomicU64,
+    flips: &Flips,
     listener: &TcpListener,
 ) -> io::Result<Result<[bool; 2], Refusal>>
 where
-    R: Net<Listener = TcpListener, Stream = TcpStream> + Threads + Log + AllocGlobal,
+    R: Net<Listener = TcpListener, Stream = TcpStream> + Threads + Clock + AllocGlobal,
 {
     let backend = backend_at(rt.alloc(), listener.local_addr()?.port())?;
     let (_served, ready) = join(
         rt,
         || serve(listener, row.by),
-        || passes(rt, row, told, &backend),
+        || passes(rt, row, flips, &backend),
     );
     Ok(ready)
 }
@@ -108,46 +163,55 @@ fn serve(listener: &TcpListener, by: By) -> io::Result<()> {
 }
 
 // Runs both passes of the row's check.
-fn passes<R: Net<Stream = TcpStream> + Log + AllocGlobal>(
+fn passes<R: Net<Stream = TcpStream> + Clock + AllocGlobal>(
     rt: &R,
     row: &Pass,
-    told: &AtomicU64,
+    flips: &Flips,
     backend: &Backend,
 ) -> Result<[bool; 2], Refusal> {
     let alloc = rt.alloc();
-    let observer = Flips { told };
+    let observer = Observer {
+        flips,
+        backend,
+        healthy: row.is_ready,
+    };
     match row.by {
         By::Tcp => {
             let check = TcpHealthCheck::new(rt).with_callbacks(Some(observer), IdentitySummary);
-            passes_of(rt, alloc, backend, check)
+            passes_of(row.starts_healthy, flips, backend, check, alloc)
         }
         By::Http => {
             let check = HttpHealthCheck::new(alloc, rt, "h")?;
             let check = check.with_callbacks(None::<AcceptStatus>, Some(observer), IdentitySummary);
-            passes_of(rt, alloc, backend, check)
+            passes_of(row.starts_healthy, flips, backend, check, alloc)
         }
     }
 }
 
 // Runs both passes of the check over a view of that one backend. What owns the view makes one call.
 fn passes_of<L: Log, C: HealthCheck + Drop>(
-    rt: &L,
-    alloc: Global,
+    starts_healthy: bool,
+    log: &L,
     backend: &Backend,
     check: C,
+    alloc: Global,
 ) -> Result<[bool; 2], Refusal> {
     // The view has a boxed rule of keys in its type, so the function that makes it calls what borrows it.
     let mut set = BTreeSet::new(alloc);
     set.insert(backend.clone()?)?;
     let source: DiscoverySource<Static> = DiscoverySource::Static(Static::new(set));
-    let registry = HealthRegistry::over(RegistryCore::new(alloc));
+    let registry = HealthRegistry::over(if starts_healthy {
+        RegistryCore::new(alloc)
+    } else {
+        RegistryCore::new(alloc).start_unhealthy()
+    });
     let mut backends = Backends::new_with_health_registry(alloc, source, registry)?;
-    run_passes(rt, alloc, &mut backends, backend, check)
+    run_passes(log, alloc, &mut backends, backend, check)
 }
 
 // Sets the check, updates the view and runs two passes; whether the backend is ready after each.
 fn run_passes<L: Log, C: HealthCheck + Drop>(
-    rt: &L,
+    log: &L,
     alloc: Global,
     backends: &mut Backends<Static, Rule<ByNumber>, C>,
     backend: &Backend,
@@ -155,8 +219,8 @@ fn run_passes<L: Log, C: HealthCheck + Drop>(
 ) -> Result<[bool; 2], Refusal> {
     backends.set_health_check(check)?;
     backends.update(alloc, |lent: &BTreeSet<Backend>| lent.len())?;
-    backends.run_health_check(rt, alloc)?;
+    backends.run_health_check(log, alloc)?;
     let once = backends.ready(backend);
-    backends.run_health_check(rt, alloc)?;
+    backends.run_health_check(log, alloc)?;
     Ok([once, backends.ready(backend)])
 }

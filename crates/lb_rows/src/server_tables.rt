@@ -18,6 +18,8 @@ pub(crate) enum Place {
     ClosedPort,
     /// A Unix socket in the folder that the program is run in.
     Path(&'static str),
+    /// The same, and the check has a port of its own.
+    PathAndPort(&'static str),
     /// Nobody made the socket.
     NoPath(&'static str),
 }
@@ -29,19 +31,23 @@ pub(crate) enum Serves {
     Answer(&'static [u8]),
     /// Writes the bytes one at a time and closes.
     Drops(&'static [u8]),
+    /// Writes the bytes and then one each 100 ms, until the other side closes.
+    Trickle(&'static [u8]),
     /// Waits until the other side closes.
     Silence,
     /// Takes no connection, which the system holds for it.
     Nothing,
 }
 
-/// A check of a server: the request has a field of so many bytes more, and this comes of it, within ten seconds.
+/// A check of a server: the request has a field of so many bytes more, the whole check may take so long, in nanoseconds, and this comes
+/// of it, within ten seconds.
 pub(crate) struct Server {
     pub(crate) name: &'static str,
     pub(crate) by: By,
     pub(crate) place: Place,
     pub(crate) serves: Serves,
     pub(crate) field_bytes: usize,
+    pub(crate) total_timeout: Option<u128>,
     pub(crate) outcome: Result<(), CheckError>,
 }
 
@@ -50,17 +56,20 @@ pub(crate) const ANSWER: &[u8] = b"HTTP/1.1 200 OK\r\nContent-Length: 2\r\n\r\no
 
 const CUT: &[u8] = b"HTTP/1.1 200 OK\r\nContent-Length: 2\r\n\r\no";
 
+const STATUS_LINE: &[u8] = b"HTTP/1.1 200 OK\r\n";
+
 // More bytes of a request than sockets hold for a server that reads none.
 const MANY_BYTES: usize = 16777216;
 
 /// The checks of servers.
-pub(crate) const SERVERS: [Server; 11] = [
+pub(crate) const SERVERS: [Server; 13] = [
     Server {
         name: "a served answer",
         by: By::Http,
         place: Place::Port,
         serves: Serves::Answer(ANSWER),
         field_bytes: 0,
+        total_timeout: None,
         outcome: Ok(()),
     },
     Server {
@@ -69,6 +78,7 @@ pub(crate) const SERVERS: [Server; 11] = [
         place: Place::Port,
         serves: Serves::Drops(ANSWER),
         field_bytes: 0,
+        total_timeout: None,
         outcome: Ok(()),
     },
     Server {
@@ -77,6 +87,7 @@ pub(crate) const SERVERS: [Server; 11] = [
         place: Place::Port,
         serves: Serves::Answer(CUT),
         field_bytes: 0,
+        total_timeout: None,
         outcome: Err(CheckError::EndInMessage),
     },
     Server {
@@ -85,6 +96,7 @@ pub(crate) const SERVERS: [Server; 11] = [
         place: Place::CheckPort,
         serves: Serves::Answer(ANSWER),
         field_bytes: 0,
+        total_timeout: None,
         outcome: Ok(()),
     },
     Server {
@@ -93,6 +105,7 @@ pub(crate) const SERVERS: [Server; 11] = [
         place: Place::NoPath("absent.sock"),
         serves: Serves::Nothing,
         field_bytes: 0,
+        total_timeout: None,
         outcome: Err(CheckError::Connect),
     },
     Server {
@@ -101,6 +114,7 @@ pub(crate) const SERVERS: [Server; 11] = [
         place: Place::Path("http.sock"),
         serves: Serves::Answer(ANSWER),
         field_bytes: 0,
+        total_timeout: None,
         outcome: Ok(()),
     },
     Server {
@@ -109,7 +123,26 @@ pub(crate) const SERVERS: [Server; 11] = [
         place: Place::Path("tcp.sock"),
         serves: Serves::Nothing,
         field_bytes: 0,
+        total_timeout: None,
         outcome: Ok(()),
+    },
+    Server {
+        name: "a server behind a Unix socket, and a port of the check",
+        by: By::Http,
+        place: Place::PathAndPort("port.sock"),
+        serves: Serves::Answer(ANSWER),
+        field_bytes: 0,
+        total_timeout: None,
+        outcome: Ok(()),
+    },
+    Server {
+        name: "a server that goes on for ever, byte by byte",
+        by: By::Http,
+        place: Place::Port,
+        serves: Serves::Trickle(STATUS_LINE),
+        field_bytes: 0,
+        total_timeout: Some(1_000_000_000),
+        outcome: Err(CheckError::Read),
     },
     Server {
         name: "a server that says nothing",
@@ -117,6 +150,7 @@ pub(crate) const SERVERS: [Server; 11] = [
         place: Place::Port,
         serves: Serves::Silence,
         field_bytes: 0,
+        total_timeout: None,
         outcome: Err(CheckError::Read),
     },
     Server {
@@ -125,6 +159,7 @@ pub(crate) const SERVERS: [Server; 11] = [
         place: Place::Port,
         serves: Serves::Nothing,
         field_bytes: MANY_BYTES,
+        total_timeout: None,
         outcome: Err(CheckError::Write),
     },
     Server {
@@ -133,6 +168,7 @@ pub(crate) const SERVERS: [Server; 11] = [
         place: Place::ClosedPort,
         serves: Serves::Nothing,
         field_bytes: 0,
+        total_timeout: None,
         outcome: Err(CheckError::Connect),
     },
     Server {
@@ -141,25 +177,29 @@ pub(crate) const SERVERS: [Server; 11] = [
         place: Place::ClosedPort,
         serves: Serves::Nothing,
         field_bytes: 0,
+        total_timeout: None,
         outcome: Err(CheckError::Connect),
     },
 ];
 
-/// Two passes of a check over a backend: whether it is ready after each, and how many flips the observer gets.
+/// Two passes of a check over a backend: whether it begins healthy, whether it is ready after each pass, and how many flips the observer
+/// gets.
 pub(crate) struct Pass {
     pub(crate) name: &'static str,
     pub(crate) by: By,
     pub(crate) listens: bool,
+    pub(crate) starts_healthy: bool,
     pub(crate) is_ready: bool,
     pub(crate) flips: u64,
 }
 
 /// The passes.
-pub(crate) const PASSES: [Pass; 4] = [
+pub(crate) const PASSES: [Pass; 5] = [
     Pass {
         name: "a closed port, by TCP",
         by: By::Tcp,
         listens: false,
+        starts_healthy: true,
         is_ready: false,
         flips: 1,
     },
@@ -167,6 +207,7 @@ pub(crate) const PASSES: [Pass; 4] = [
         name: "an open port, by TCP",
         by: By::Tcp,
         listens: true,
+        starts_healthy: true,
         is_ready: true,
         flips: 0,
     },
@@ -174,6 +215,7 @@ pub(crate) const PASSES: [Pass; 4] = [
         name: "a closed port, by HTTP",
         by: By::Http,
         listens: false,
+        starts_healthy: true,
         is_ready: false,
         flips: 1,
     },
@@ -181,7 +223,16 @@ pub(crate) const PASSES: [Pass; 4] = [
         name: "a good answer, by HTTP",
         by: By::Http,
         listens: true,
+        starts_healthy: true,
         is_ready: true,
         flips: 0,
+    },
+    Pass {
+        name: "a good answer, by HTTP, of a backend that begins unhealthy",
+        by: By::Http,
+        listens: true,
+        starts_healthy: false,
+        is_ready: true,
+        flips: 1,
     },
 ];

@@ -11,7 +11,7 @@ use std::io::{self, Error, ErrorKind, Read, Write};
 use std::net::{Net, TcpListener, TcpStream};
 use std::os::unix::net::UnixListener;
 use std::rt::{Clock, Files};
-use std::thread::{Threads, join};
+use std::thread::{Threads, join, sleep};
 use std::time::{Duration, Instant};
 
 // How long a check waits for a read, and for a write that is to fail, in nanoseconds.
@@ -23,13 +23,19 @@ const LATEST: u64 = 10;
 /// Whether the row's check answers as the row says, in time.
 pub(crate) fn agrees<R>(rt: &R, row: &Server) -> io::Result<bool>
 where
-    R: Net<Listener = TcpListener, Stream = TcpStream> + Threads + Clock + Files + AllocGlobal,
+    R: Net<Listener = TcpListener, Stream = TcpStream>
+        + Threads
+        + Clock
+        + Files
+        + Sync
+        + AllocGlobal,
 {
     match row.place {
         Place::Port => at_port(rt, row, false),
         Place::CheckPort => at_port(rt, row, true),
         Place::ClosedPort => where_none_listens(rt, row, backend_at_closed_port(rt)),
-        Place::Path(path) => at_path(rt, row, path),
+        Place::Path(path) => at_path(rt, row, path, None),
+        Place::PathAndPort(path) => at_path(rt, row, path, Some(1)),
         Place::NoPath(path) => where_none_listens(rt, row, backend_behind(rt.alloc(), path)),
     }
 }
@@ -76,8 +82,20 @@ fn backend_behind(alloc: Global, path: &str) -> io::Result<Backend> {
     }
 }
 
+// How many bytes a trickle has at most.
+const TRICKLE: u32 = 1000;
+
+// Writes a byte each 100 ms until the other side closes.
+fn trickle<C: Clock, S: Write>(clock: &C, stream: &mut S) -> io::Result<()> {
+    for _ in 0..TRICKLE {
+        sleep(clock, Duration::from_millis(100));
+        stream.write_all(b"x")?;
+    }
+    Ok(())
+}
+
 // Serves a connection that was made.
-fn serve<S: Read + Write>(stream: &mut S, serves: Serves) -> io::Result<()> {
+fn serve<C: Clock, S: Read + Write>(clock: &C, stream: &mut S, serves: Serves) -> io::Result<()> {
     let mut request = [0u8; 512];
     let _ = stream.read(&mut request)?;
     match serves {
@@ -88,6 +106,10 @@ fn serve<S: Read + Write>(stream: &mut S, serves: Serves) -> io::Result<()> {
             }
             Ok(())
         }
+        Serves::Trickle(bytes) => {
+            stream.write_all(bytes)?;
+            trickle(clock, stream)
+        }
         Serves::Silence => {
             let _ = stream.read(&mut request)?;
             Ok(())
@@ -97,28 +119,28 @@ fn serve<S: Read + Write>(stream: &mut S, serves: Serves) -> io::Result<()> {
 }
 
 // Serves one connection over TCP, if any.
-fn serve_tcp(listener: &TcpListener, serves: Serves) -> io::Result<()> {
+fn serve_tcp<C: Clock>(clock: &C, listener: &TcpListener, serves: Serves) -> io::Result<()> {
     if matches!(&serves, Serves::Nothing) {
         return Ok(());
     }
     let (stream, _) = listener.accept()?;
-    serve(&mut &stream, serves)
+    serve(clock, &mut &stream, serves)
 }
 
 // Serves one connection over a Unix socket, if any.
-fn serve_unix(listener: &UnixListener, serves: Serves) -> io::Result<()> {
+fn serve_unix<C: Clock>(clock: &C, listener: &UnixListener, serves: Serves) -> io::Result<()> {
     if matches!(&serves, Serves::Nothing) {
         return Ok(());
     }
     let (stream, _) = listener.accept()?;
-    serve(&mut &stream, serves)
+    serve(clock, &mut &stream, serves)
 }
 
 // Whether the check of a server at a port agrees: at the backend's, or at that of the check alone. What owns the listener makes
 // one call.
 fn at_port<R>(rt: &R, row: &Server, of_check: bool) -> io::Result<bool>
 where
-    R: Net<Listener = TcpListener, Stream = TcpStream> + Threads + Clock + AllocGlobal,
+    R: Net<Listener = TcpListener, Stream = TcpStream> + Threads + Clock + Sync + AllocGlobal,
 {
     let listener = TcpListener::bind(rt, "127.0.0.1:0")?;
     at_listener(rt, row, &listener, of_check)
@@ -127,38 +149,54 @@ where
 // The same of the server of that listener.
 fn at_listener<R>(rt: &R, row: &Server, listener: &TcpListener, of_check: bool) -> io::Result<bool>
 where
-    R: Net<Listener = TcpListener, Stream = TcpStream> + Threads + Clock + AllocGlobal,
+    R: Net<Listener = TcpListener, Stream = TcpStream> + Threads + Clock + Sync + AllocGlobal,
 {
     let port = listener.local_addr()?.port();
     let backend = backend_at(rt.alloc(), if of_check { 1 } else { port })?;
     let own = if of_check { Some(port) } else { None };
     let (_served, agreed) = join(
         rt,
-        || serve_tcp(listener, row.serves),
+        || serve_tcp(rt, listener, row.serves),
         || check_agrees(rt, row, &backend, own),
     );
     agreed
 }
 
-// Whether the check of a server behind a Unix socket agrees. What owns the backend makes one call.
-fn at_path<R>(rt: &R, row: &Server, path: &str) -> io::Result<bool>
+// Whether the check of a server behind a Unix socket agrees, with that port of its own. What owns the backend makes one call.
+fn at_path<R>(rt: &R, row: &Server, path: &str, port: Option<u16>) -> io::Result<bool>
 where
-    R: Net<Listener = TcpListener, Stream = TcpStream> + Threads + Clock + Files + AllocGlobal,
+    R: Net<Listener = TcpListener, Stream = TcpStream>
+        + Threads
+        + Clock
+        + Files
+        + Sync
+        + AllocGlobal,
 {
     let backend = backend_behind(rt.alloc(), path)?;
-    behind_path(rt, row, path, &backend)
+    behind_path(rt, row, path, &backend, port)
 }
 
 // The same of that backend.
-fn behind_path<R>(rt: &R, row: &Server, path: &str, backend: &Backend) -> io::Result<bool>
+fn behind_path<R>(
+    rt: &R,
+    row: &Server,
+    path: &str,
+    backend: &Backend,
+    port: Option<u16>,
+) -> io::Result<bool>
 where
-    R: Net<Listener = TcpListener, Stream = TcpStream> + Threads + Clock + Files + AllocGlobal,
+    R: Net<Listener = TcpListener, Stream = TcpStream>
+        + Threads
+        + Clock
+        + Files
+        + Sync
+        + AllocGlobal,
 {
     let listener = UnixListener::bind(rt, path)?;
     let (_served, agreed) = join(
         rt,
-        || serve_unix(&listener, row.serves),
-        || check_agrees(rt, row, backend, None),
+        || serve_unix(rt, &listener, row.serves),
+        || check_agrees(rt, row, backend, port),
     );
     agreed
 }
@@ -201,6 +239,7 @@ fn set_check_agrees<R: Net<Stream = TcpStream> + Clock + AllocGlobal>(
         connection_timeout: None,
         read_timeout: Some(TIMEOUT),
         write_timeout: Some(TIMEOUT),
+        total_timeout: row.total_timeout,
     };
     check.port_override = port;
     if row.field_bytes > 0 {

@@ -67,8 +67,8 @@ fn played<W: Abort + Log + Threads + Wait + Clock + Copy + Send + Sync + Drop + 
 ) {
     let crowd = Crowd::new(*rt, alloc, registry).expect(rt, "refused");
     play(rt, alloc, &crowd, row);
-    let left = crowd.leave(rt, TURNS).expect(rt, "refused");
-    assert_eq!(rt; left, [true; 5], "{row:?}");
+    let left = crowd.leave(rt, alloc, TURNS).expect(rt, "refused");
+    assert_eq!(rt; left, [true; 6], "{row:?}");
 }
 
 #[test]

@@ -21,3 +21,5 @@ mod service_fixtures;
 mod services;
 #[cfg(test)]
 mod signals;
+#[cfg(test)]
+mod views;

@@ -2,6 +2,7 @@
 //! be the lock's own; and the gate and the registry behind it. Of the value of std's `Mutex` only the invariant of its type is known.
 #![tactic(auto)]
 
+pub mod backends;
 pub mod clock;
 pub mod gate;
 pub mod keyed;

@@ -55,7 +55,7 @@ const MAX_BODY: Row = Row {
 const TCP: [Row; 1] = [ADDRESS];
 
 // lbcheck http
-const HTTP: [Row; 9] = [
+const HTTP: [Row; 10] = [
     ADDRESS,
     Row {
         name: "host",
@@ -82,6 +82,12 @@ const HTTP: [Row; 9] = [
         name: "timeout",
         value: "MS",
         help: "How long to wait to connect, for a read and for a write, else 1000, and any time for a write",
+        kind: Kind::Number64,
+    },
+    Row {
+        name: "total-timeout",
+        value: "MS",
+        help: "How long the whole check may take, else 10000",
         kind: Kind::Number64,
     },
     Row {

@@ -6,13 +6,16 @@ use http::request::Parts;
 use http::uri::UriError;
 use http::{HeaderMap, HeaderName, HeaderValue, Method, Request, StatusCode, Uri};
 use http_header::{HeaderNameError, HeaderValueError};
-use lb_health_http::{AcceptStatus, MAX_BODY_BYTES};
+use lb_health_http::{AcceptStatus, HttpPeer, MAX_BODY_BYTES};
 use lb_select_base::backend::{Backend, SocketAddr};
 use lb_select_base::refusal::Refusal;
 use std::alloc::Global;
 
 // A millisecond, in nanoseconds.
 const MILLISECOND: u128 = 1_000_000;
+
+// How long a whole check may take unless another limit is given, in nanoseconds.
+const TOTAL_TIMEOUT: u128 = 10_000_000_000;
 
 /// Why nothing can be checked.
 #[derive(Clone, Copy)]
@@ -76,10 +79,22 @@ pub(crate) fn accepted_of(given: &ArgMatches<'_>) -> Result<Accepted, Refused> {
     })
 }
 
-/// How long is waited, in nanoseconds, where that is given.
-pub(crate) fn timeout_of(given: &ArgMatches<'_>) -> Option<u128> {
-    let milliseconds = given.get_one::<u64>("timeout")?;
+// A limit in nanoseconds, where one is given under that name.
+fn limit_of(given: &ArgMatches<'_>, name: &str) -> Option<u128> {
+    let milliseconds = given.get_one::<u64>(name)?;
     Some(milliseconds as u128 * MILLISECOND)
+}
+
+/// How long is waited for the peer.
+pub(crate) fn peer_of(given: &ArgMatches<'_>) -> HttpPeer {
+    let mut peer = HttpPeer::new();
+    if let Some(limit) = limit_of(given, "timeout") {
+        peer.connection_timeout = Some(limit);
+        peer.read_timeout = Some(limit);
+        peer.write_timeout = Some(limit);
+    }
+    peer.total_timeout = Some(limit_of(given, "total-timeout").unwrap_or(TOTAL_TIMEOUT));
+    peer
 }
 
 /// The method.

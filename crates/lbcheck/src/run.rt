@@ -1,6 +1,6 @@
 //! The three commands.
 use crate::arguments::command;
-use crate::asked::{Accepted, Refused, accepted_of, backend_of, method_of, request_of, timeout_of};
+use crate::asked::{Accepted, Refused, accepted_of, backend_of, method_of, peer_of, request_of};
 use crate::lines::{CheckLine, ReplayLine, exit_status};
 use crate::stored::replay;
 use clap::error::ErrorKind;
@@ -8,14 +8,14 @@ use clap::{ArgMatches, Command, Error};
 use http::Request;
 use lb_health_check::error::CheckError;
 use lb_health_check::health_check::HealthCheck;
-use lb_health_http::{HttpHealthCheck, HttpPeer, TcpHealthCheck, request_for};
+use lb_health_http::{HttpHealthCheck, TcpHealthCheck, request_for};
 use lb_select_base::backend::Backend;
 use lb_stream::counted::Counted;
 use std::alloc::Global;
 use std::env;
 use std::io::{self, BufReader};
 use std::net::{Net, TcpStream};
-use std::rt::Env;
+use std::rt::{Clock, Env};
 
 // How many bytes of standard input are read at a time.
 const INPUT_CAPACITY: usize = 65536;
@@ -34,19 +34,13 @@ fn prepare<N>(
     check.validator = accepted.validator;
     check.max_body_bytes = accepted.max_body_bytes;
     check.port_override = given.get_one::<u16>("port");
-    if let Some(limit) = timeout_of(given) {
-        check.peer_template = HttpPeer {
-            connection_timeout: Some(limit),
-            read_timeout: Some(limit),
-            write_timeout: Some(limit),
-        };
-    }
+    check.peer_template = peer_of(given);
     check.req = request_of(alloc, given, backend)?;
     Ok(())
 }
 
 // The outcome of the check, once it is prepared.
-fn check_prepared<N: Net<Stream = TcpStream>>(
+fn check_prepared<N: Net<Stream = TcpStream> + Clock>(
     alloc: Global,
     check: &mut HttpHealthCheck<N>,
     given: &ArgMatches<'_>,
@@ -57,7 +51,7 @@ fn check_prepared<N: Net<Stream = TcpStream>>(
 }
 
 // lbcheck http: the outcome of the check.
-fn check_http<R: Net<Stream = TcpStream> + AllocGlobal>(
+fn check_http<R: Net<Stream = TcpStream> + Clock + AllocGlobal>(
     rt: &R,
     given: &ArgMatches<'_>,
     backend: &Backend,
@@ -69,7 +63,7 @@ fn check_http<R: Net<Stream = TcpStream> + AllocGlobal>(
 }
 
 // lbcheck tcp, or lbcheck http: the outcome of the check.
-fn check_backend<R: Net<Stream = TcpStream> + AllocGlobal>(
+fn check_backend<R: Net<Stream = TcpStream> + Clock + AllocGlobal>(
     rt: &R,
     name: &str,
     given: &ArgMatches<'_>,
@@ -168,7 +162,7 @@ fn tell_input<R: Print>(rt: &R, line: ReplayLine) -> io::Result<u8> {
 // Checks what is asked for, and prints the line of it, or what is wrong; the answer is the exit status.
 fn answer<R>(rt: &R, command: &mut Command<'_>, matches: &ArgMatches<'_>) -> io::Result<u8>
 where
-    R: Net<Stream = TcpStream> + Input + Print + Eprint + AllocGlobal,
+    R: Net<Stream = TcpStream> + Clock + Input + Print + Eprint + AllocGlobal,
 {
     let Some((name, given)) = matches.subcommand() else {
         return Ok(2);
@@ -190,7 +184,7 @@ where
 // Reads the words, checks, and prints the line of it; the answer is the exit status.
 fn run_words<'a, R>(rt: &R, command: &mut Command<'a>, words: &'a [String]) -> io::Result<u8>
 where
-    R: Net<Stream = TcpStream> + Input + Print + Eprint + AllocGlobal,
+    R: Net<Stream = TcpStream> + Clock + Input + Print + Eprint + AllocGlobal,
 {
     match command.try_get_matches_from_mut(words) {
         Ok(matches) => answer(rt, command, &matches),
@@ -202,7 +196,7 @@ where
 /// was asked for, 1 where the check failed, 2 for bad arguments.
 pub(crate) fn run<R>(rt: &R) -> io::Result<u8>
 where
-    R: Net<Stream = TcpStream> + Env + Input + Print + Eprint + AllocGlobal,
+    R: Net<Stream = TcpStream> + Clock + Env + Input + Print + Eprint + AllocGlobal,
 {
     let words: Vec<String> = env::args(rt)?.collect(rt.alloc())?;
     let mut command = command(rt.alloc())?;

@@ -1,12 +1,12 @@
 //! Balancers that share a registry, and leave it.
 use crate::balancer::fixtures::{SecondDown, Tested, listed, note};
 use crate::service_fixtures::Ticks;
-use lb_balancer::backends::Backends;
 use lb_balancer::load_balancer::LoadBalancer;
 use lb_health_registry::keys::Rule;
 use lb_health_view::discovery::{DiscoverySource, Static};
 use lb_select::selection::RoundRobin;
 use lb_select_base::backend::Backend;
+use lb_threads_registry::backends::Backends;
 use lb_threads_registry::keyed::NoRule;
 use lb_threads_registry::registry::HealthRegistry;
 use std::alloc::Global;

@@ -21,10 +21,10 @@ fn start<W: Log + Threads + Wait + Clock + Copy + Send + Sync + Drop + 'static>(
 ) -> [usize; 4] {
     let clock = RuntimeClock::new(*rt);
     [
-        crowd.first.start_workers(alloc, clock),
-        crowd.second.start_workers(alloc, clock),
-        crowd.first.start_workers(alloc, clock),
-        crowd.second.start_workers(alloc, clock),
+        crowd.first.start_workers(rt, alloc, clock),
+        crowd.second.start_workers(rt, alloc, clock),
+        crowd.first.start_workers(rt, alloc, clock),
+        crowd.second.start_workers(rt, alloc, clock),
     ]
 }
 
@@ -72,7 +72,7 @@ pub fn selects_beside_a_build<
     let [first, second] = crowd.groups();
     crowd.site.counts.hold(true);
     let missing = start(rt, alloc, crowd);
-    let generation = crowd.first.update(alloc, &mut RuntimeClock::new(*rt));
+    let generation = crowd.first.update(rt, alloc, &mut RuntimeClock::new(*rt));
     let has_begun = begins(&crowd.site.counts, 5);
     let beside = selects(rt, alloc, first);
     crowd.site.counts.hold(false);
@@ -101,10 +101,10 @@ pub fn cancels_a_build<
     let [first, second] = crowd.groups();
     crowd.site.counts.hold(true);
     let missing = start(rt, alloc, crowd);
-    let generation = crowd.first.update(alloc, &mut RuntimeClock::new(*rt));
+    let generation = crowd.first.update(rt, alloc, &mut RuntimeClock::new(*rt));
     let has_begun = begins(&crowd.site.counts, 5);
-    crowd.first.cancel();
-    crowd.second.cancel();
+    crowd.first.cancel(rt);
+    crowd.second.cancel(rt);
     let second_ends = ends(rt, second, TURNS);
     let first_stays = first.worker_count() > 0;
     let is_out = !is_free(rt, &crowd.site.gate);
@@ -115,7 +115,7 @@ pub fn cancels_a_build<
         first_stays,
         is_out,
         ends(rt, first, TURNS),
-        crowd.first.selector_generation(0) == Some(0),
+        crowd.first.selector_generation(rt, 0) == Some(0),
         is_free(rt, &crowd.site.gate),
         crowd.site.counts.live.load(SeqCst) == 4,
     ];

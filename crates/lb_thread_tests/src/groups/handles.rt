@@ -20,7 +20,7 @@ fn selected<W: Abort + Wait + Clock + Copy + Drop>(
     alloc: Global,
     group: &Handle<W>,
 ) -> Option<Backend> {
-    group.select(alloc, 0, b"k", 4).expect(rt, "refused")
+    group.select(rt, alloc, 0, b"k", 4).expect(rt, "refused")
 }
 
 // What a handle answers before its first update.
@@ -32,13 +32,13 @@ fn fresh<W: Abort + Wait + Clock + Copy + Drop>(
     [
         group.selector_count() == 2,
         group.worker_count() == 0,
-        group.backend_generation() == 0,
-        group.selectors_ready_for(0),
-        !group.selectors_ready_for(1),
-        group.selector_generation(2).is_none(),
-        group.last_update_timing().is_none(),
+        group.backend_generation(rt) == 0,
+        group.selectors_ready_for(rt, 0),
+        !group.selectors_ready_for(rt, 1),
+        group.selector_generation(rt, 2).is_none(),
+        group.last_update_timing(rt).is_none(),
         selected(rt, alloc, group).is_none(),
-        !group.is_cancelled(),
+        !group.is_cancelled(rt),
     ]
 }
 
@@ -51,21 +51,21 @@ fn lent<W: Abort + Wait + Clock + Copy + Drop>(
     let backends = group.backends();
     let one = Backend::new(alloc, "1.0.0.1:80").expect(rt, "refused");
     let other = Backend::new(alloc, "1.0.0.2:80").expect(rt, "refused");
-    let before = (backends.generation(), backends.ready(&one));
-    let generation = group.update(alloc, &mut RuntimeClock::new(*rt));
-    let members = backends.get_backend().expect(rt, "refused");
-    let is_ready = backends.ready(&one);
-    backends.set_enable(&one, false);
+    let before = (backends.generation(rt), backends.ready(rt, &one));
+    let generation = group.update(rt, alloc, &mut RuntimeClock::new(*rt));
+    let members = backends.get_backend(rt).expect(rt, "refused");
+    let is_ready = backends.ready(rt, &one);
+    backends.set_enable(rt, &one, false);
     [
         before == (0, false),
         generation == Ok(1),
-        backends.generation() == 1,
+        backends.generation(rt) == 1,
         members.len() == 1 && members.contains(&one),
         is_ready,
-        !backends.ready(&one),
-        !backends.ready(&other),
+        !backends.ready(rt, &one),
+        !backends.ready(rt, &other),
         selected(rt, alloc, group).is_none(),
-        !group.is_cancelled(),
+        !group.is_cancelled(rt),
     ]
 }
 
@@ -82,7 +82,7 @@ pub fn without_workers<W: Abort + Wait + Clock + Copy + Drop>(
 // Whether each slot of a group serves its newest generation within a thousand turns of ten milliseconds.
 fn becomes_ready<W: Wait + Clock + Copy + Drop>(rt: &W, group: &Handle<W>) -> bool {
     for _ in 0..TURNS {
-        if group.selectors_ready_for(group.backend_generation()) {
+        if group.selectors_ready_for(rt, group.backend_generation(rt)) {
             return true;
         }
         thread::sleep(rt, Duration::from_millis(10));
@@ -96,13 +96,13 @@ pub fn starts_but_one<
     W: Abort + Log + Threads + Wait + Clock + Copy + Send + Sync + Drop + 'static,
 >(rt: &W, alloc: Global, group: &Handle<W>) {
     let mut clock = RuntimeClock::new(*rt);
-    group.update(alloc, &mut clock).expect(rt, "refused");
+    group.update(rt, alloc, &mut clock).expect(rt, "refused");
     let asked = AtomicU64::new(0);
     let starts = |_slot: usize| asked.fetch_add(1, SeqCst) != 0;
     let shared: &Group<W> = &**group.shared();
     let missing = start_workers_by(shared, &starts);
     // The second slot counts as one with a worker, though none runs here.
     shared.leave_slot(1);
-    let started = [missing, group.start_workers(alloc, clock)];
+    let started = [missing, group.start_workers(rt, alloc, clock)];
     assert_eq!(rt; (started, becomes_ready(rt, group)), ([1, 0], true));
 }

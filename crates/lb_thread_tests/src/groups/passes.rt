@@ -22,7 +22,7 @@ fn told_before<W: Wait + Clock + Copy + Drop>(
     group: &Handle<W>,
 ) -> [bool; 5] {
     let mut pass = group.pass();
-    let generation = group.update_as(alloc, &mut RuntimeClock::new(*rt), &mut pass);
+    let generation = group.update_as(rt, alloc, &mut RuntimeClock::new(*rt), &mut pass);
     [
         generation == Ok(1),
         group.backend_generation_as(&mut pass) == 1,
@@ -59,10 +59,10 @@ fn entered<W: Abort + Wait + Clock + Copy + Drop>(
 ) -> (u64, Option<Backend>)
     requires { pass.old.board ≡ (arc_value group.now.shared).board }
 {
-    let reader = group.enter_as(0, pass).expect(rt, "refused");
+    let reader = group.enter_as(rt, 0, pass).expect(rt, "refused");
     let generation = reader.generation();
-    let answer = group.select_in(alloc, &reader, b"k", 1, &|_backend: &Backend| true);
-    group.leave(reader);
+    let answer = group.select_in(rt, alloc, &reader, b"k", 1, &|_backend: &Backend| true);
+    group.leave(rt, reader);
     (generation, answer.expect(rt, "refused"))
 }
 
@@ -76,7 +76,7 @@ fn told_after<W: Abort + Wait + Clock + Copy + Drop>(
     let (mut pass, mut other) = (group.pass(), group.pass());
     let serves = comes_to_serve(rt, group, &mut pass);
     let served = group.selector_generation_as(0, &mut pass);
-    group.meet(&mut pass, &mut other);
+    group.meet(rt, &mut pass, &mut other);
     let is_met = group.selectors_ready_for_as(1, &mut other);
     let (generation, chosen) = entered(rt, alloc, group, &mut other);
     [
@@ -96,7 +96,7 @@ fn selects<W: Abort + Wait + Clock + Copy + Drop>(
     slot: usize,
     expected: Option<&Backend>,
 ) -> bool {
-    let found = group.select(alloc, slot, b"k", 4).expect(rt, "refused");
+    let found = group.select(rt, alloc, slot, b"k", 4).expect(rt, "refused");
     found.as_ref() == expected
 }
 
@@ -108,13 +108,13 @@ fn served<W: Abort + Wait + Clock + Copy + Drop>(
     expected: &Backend,
 ) -> [bool; 7] {
     [
-        group.selectors_ready_for(group.backend_generation()),
+        group.selectors_ready_for(rt, group.backend_generation(rt)),
         selects(rt, alloc, group, 0, Some(expected)),
         selects(rt, alloc, group, 1, Some(expected)),
         selects(rt, alloc, group, 2, None),
-        matches!(group.selector_last_update_timing(0), Some(Some(_))),
-        matches!(group.last_update_timing(), Some(timing) if timing.build_duration == 0),
-        !group.is_cancelled(),
+        group.selector_last_update_timing(rt, 0).is_some(),
+        matches!(group.last_update_timing(rt), Some(timing) if timing.build_duration == 0),
+        !group.is_cancelled(rt),
     ]
 }
 
@@ -126,7 +126,7 @@ pub fn with_workers<W: Abort + Log + Threads + Wait + Clock + Copy + Send + Sync
 ) {
     let expected = Backend::new(alloc, "1.0.0.1:80").expect(rt, "refused");
     let before = told_before(rt, alloc, group);
-    let missing = group.start_workers(alloc, RuntimeClock::new(*rt));
+    let missing = group.start_workers(rt, alloc, RuntimeClock::new(*rt));
     assert_eq!(rt; (before, missing), ([true; 5], 0));
     let after = told_after(rt, alloc, group, &expected);
     let served = served(rt, alloc, group, &expected);

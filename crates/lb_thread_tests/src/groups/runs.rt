@@ -1,10 +1,9 @@
-//! Runs of a group in the background that are told to end in the middle of an update, of a check, and of a build: what is under way is let
-//! end, and what it did stands.
+//! Runs of a group in the background. Some are told to end in the middle of an update, of a check, and of a build: what is under way is let
+//! end, and what it did stands. The last one updates again and again, and is told to end once its slots serve what was found.
 use super::TURNS;
 use lb_background::ready::{ReadyWatch, ServiceReadyNotifier, ready_pair};
 use lb_background::shutdown::{ShutdownSignal, ShutdownWatch, shutdown_pair};
 use lb_balancer_group::group::LoadBalancerGroup;
-use lb_balancer_group::parts::GroupParts;
 use lb_crowd::counted::{Counted, Counting, Counts};
 use lb_crowd::crowd::serves;
 use lb_health_check::error::CheckError;
@@ -14,6 +13,7 @@ use lb_health_view::discovery::{Discovered, DiscoverySource, ServiceDiscovery};
 use lb_health_view::view::Settings;
 use lb_select_base::backend::Backend;
 use lb_select_base::refusal::Refusal;
+use lb_threads_registry::backends::Backends;
 use lb_threads_registry::clock::RuntimeClock;
 use lb_threads_registry::keyed::NoRule;
 use std::alloc::Global;
@@ -33,8 +33,8 @@ struct Calls {
     checks: AtomicU64,
 }
 
-// A discovery of one backend, and a check that finds it down. The first call of each waits, for ten seconds at most, until the watch tells
-// that runs are to end.
+// A discovery of one backend, whose weight is 2 from the fourth call on, and a check that finds it down. The first call of each waits, for
+// ten seconds at most, until the watch tells that runs are to end. The fifth discovery is refused.
 #[derive(Drop)]
 struct Slow<W> {
     rt: W,
@@ -43,25 +43,32 @@ struct Slow<W> {
 }
 
 impl<W: Clock> Slow<W> {
-    fn count(&self, calls: &AtomicU64) {
-        if calls.fetch_add(1, SeqCst) != 0 {
-            return;
+    // Counts a call. Returns how many came before it.
+    fn count(&self, calls: &AtomicU64) -> u64 {
+        let before = calls.fetch_add(1, SeqCst);
+        if before != 0 {
+            return before;
         }
         for _ in 0..10_000 {
             if self.watch.is_shut() {
-                return;
+                break;
             }
             thread::sleep(&self.rt, Duration::from_millis(1));
         }
+        before
     }
 }
 
 impl<W: Clock> ServiceDiscovery for Slow<W> {
     fn discover(&self, alloc: Global) -> Result<Discovered, Refusal> {
         let calls: &Calls = &*self.calls;
-        self.count(&calls.updates);
+        let before = self.count(&calls.updates);
+        if before == 4 {
+            return Err(Refusal::Discovery);
+        }
         let mut backends = BTreeSet::new(alloc);
-        backends.insert(Backend::new(alloc, "1.0.0.1:80")?)?;
+        let weight = if before < 3 { 1 } else { 2 };
+        backends.insert(Backend::new_with_weight(alloc, "1.0.0.1:80", weight)?)?;
         Ok((backends, Settings::new(alloc)))
     }
 }
@@ -80,16 +87,15 @@ impl<W: Clock> HealthCheck for Slow<W> {
     }
 }
 
-type Group<W> = LoadBalancerGroup<Counted<W>, W, Slow<W>, Rule<NoRule>, Slow<W>>;
+type Group<W> = LoadBalancerGroup<Counted<W>, Slow<W>, Rule<NoRule>, Slow<W>>;
 
-// A group of one slot, the counts of its selectors and of its calls, what tells its runs to end, and what its last run notified.
+// A group of two slots, the counts of the first one's selectors and of the group's calls, and what tells its runs to end.
 #[derive(Drop)]
 struct Bench<W: Wait + Clock + Copy + Drop> {
     counts: Arc<Counts<W>>,
     calls: Arc<Calls>,
     signal: ShutdownSignal,
     watch: ShutdownWatch,
-    ready: Option<ReadyWatch>,
     group: Group<W>,
 }
 
@@ -104,42 +110,52 @@ impl<W: Abort + Wait + Clock + Copy + Drop> Bench<W> {
         };
         let calls = Arc::new(alloc, calls).expect(&rt, "refused");
         let group = group_of(rt, alloc, &counts, &calls, &watch);
+        // The slot has a selector now.
+        counts.begun.store(1, SeqCst);
         counts.hold(true);
         Bench {
             counts,
             calls,
             signal,
             watch,
-            ready: None,
             group,
         }
     }
 
-    // The notifier of a new run, which is not yet to end.
-    fn begin(&mut self, rt: &W, alloc: Global) -> ServiceReadyNotifier {
-        let (notifier, ready) = ready_pair(alloc).expect(rt, "refused");
-        self.ready = Some(ready);
+    // The notifier of a new run, which is not yet to end, and its other half. A run whose notifier is to be told updates each millisecond;
+    // before it the build goes on, and comes to be served.
+    fn begin(
+        &mut self,
+        rt: &W,
+        alloc: Global,
+        wanted: Wanted,
+    ) -> (ServiceReadyNotifier, ReadyWatch) {
         self.signal.send(false);
-        notifier
-    }
-
-    // What the last run left.
-    fn left(&self, rt: &W, alloc: Global) -> Left {
-        let backend = Backend::new(alloc, "1.0.0.1:80").expect(rt, "refused");
-        Left {
-            updates: self.calls.updates.load(SeqCst),
-            checks: self.calls.checks.load(SeqCst),
-            generation: self.group.backend_generation(),
-            served: self.group.selector_generation(0),
-            is_ready: self.group.backends().ready(&backend),
-            is_told: matches!(&self.ready, Some(ready) if ready.is_ready()),
+        if wanted.is_told {
+            self.group.update_frequency = Some(1_000_000);
+            self.counts.hold(false);
+            let shared = &**self.group.shared();
+            assert!(rt; serves(rt, shared, 0, 1, TURNS) && serves(rt, shared, 1, 1, TURNS));
         }
+        ready_pair(alloc).expect(rt, "refused")
     }
 
-    // Lets the build go on; whether it comes to be served.
-    fn is_served(&self, rt: &W) -> bool {
-        self.counts.hold(false);
-        serves(rt, &**self.group.shared(), 0, 1, TURNS)
+    // What the last run left. A run that updates again and again discovers more often than it has to.
+    fn left(&self, rt: &W, alloc: Global, ready: &ReadyWatch, wanted: Wanted) -> Left {
+        let backend = Backend::new(alloc, "1.0.0.1:80").expect(rt, "refused");
+        let updates = self.calls.updates.load(SeqCst);
+        Left {
+            updates: if wanted.is_told {
+                updates.min(wanted.updates)
+            } else {
+                updates
+            },
+            checks: self.calls.checks.load(SeqCst),
+            generation: self.group.backend_generation(rt),
+            served: self.group.selector_generation(rt, 0),
+            is_ready: self.group.backends().ready(rt, &backend),
+            is_told: ready.is_ready(),
+        }
     }
 }
 
@@ -163,18 +179,20 @@ fn group_of<W: Abort + Wait + Clock + Copy + Drop>(
     watch: &ShutdownWatch,
 ) -> Group<W> {
     let discovery = DiscoverySource::Boxed(slow_for(rt, calls, watch));
-    let parts: GroupParts<Slow<W>, Rule<NoRule>, Slow<W>> = GroupParts::new(
-        alloc, discovery,
-    ).expect(&rt, "refused");
-    parts
-        .registry
-        .set_health_check(&rt, slow_for(rt, calls, watch))
-        .expect(&rt, "refused");
+    let backends: Backends<Slow<W>, Rule<NoRule>, Slow<W>> = Backends::new(alloc, discovery).expect(
+        &rt, "refused",
+    );
     let counts = Arc::try_clone(counts).expect(&rt, "refused");
     let mut configs = Vec::new(alloc);
-    configs.push(Counting(Some(counts))).expect(&rt, "refused");
-    let group = LoadBalancerGroup::from_backends_with_configs(rt, alloc, parts, configs);
-    group.expect(&rt, "refused")
+    configs
+        .push(Some(Counting(Some(counts))))
+        .expect(&rt, "refused");
+    configs.push(None).expect(&rt, "refused");
+    let group = LoadBalancerGroup::from_backends_with_configs(&rt, alloc, backends, configs);
+    let group = group.expect(&rt, "refused");
+    let check = slow_for(rt, calls, watch);
+    group.set_health_check(&rt, check).expect(&rt, "refused");
+    group
 }
 
 fn slow_for<W: Abort + Copy + Drop>(rt: W, calls: &Arc<Calls>, watch: &ShutdownWatch) -> Slow<W> {
@@ -185,18 +203,20 @@ fn slow_for<W: Abort + Copy + Drop>(rt: W, calls: &Arc<Calls>, watch: &ShutdownW
     }
 }
 
-// How many discoveries, checks and builds there are to be before a run is told to end.
+// How many discoveries, checks and builds there are to be before a run is told to end, and whether its notifier is to be told before.
 #[derive(Clone, Copy, Debug)]
 struct Wanted {
     updates: u64,
     checks: u64,
     builds: u64,
+    is_told: bool,
 }
 
 // Sends the end once so much was counted, within ten seconds; whether it was.
 fn end_after<W: Clock>(
     counts: &Counts<W>,
     calls: &Calls,
+    ready: &ReadyWatch,
     wanted: Wanted,
     signal: &mut ShutdownSignal,
 ) -> bool {
@@ -204,7 +224,8 @@ fn end_after<W: Clock>(
     for _ in 0..10_000 {
         came = calls.updates.load(SeqCst) >= wanted.updates
             && calls.checks.load(SeqCst) >= wanted.checks
-            && counts.begun.load(SeqCst) >= wanted.builds;
+            && counts.begun.load(SeqCst) >= wanted.builds
+            && (ready.is_ready() || !wanted.is_told);
         if came {
             break;
         }
@@ -216,37 +237,42 @@ fn end_after<W: Clock>(
 
 // Runs that are told to end in their update, in their check, and while they wait for a build that is held. An update is let end: its
 // membership stands. So is a check: its verdict stands. A build doesn't hold up the end; it is let end, and served. No notifier is told.
+// Then a run that updates again and again: its notifier is told once what it found is served, and an update that is refused doesn't end it.
 #[test]
 fn what_is_under_way_is_let_end(rt: HostRuntime) {
     let alloc = rt.alloc();
     let mut bench = Bench::new(rt, alloc);
-    for (updates, checks, builds, is_ready) in [
-        (1, 0, 1, true),
+    for (updates, checks, builds, is_told) in [
+        (1, 0, 1, false),
         (2, 1, 1, false),
         (3, 2, 2, false),
+        (6, 3, 2, true),
     ] {
-        let notifier = bench.begin(&rt, alloc);
         let wanted = Wanted {
             updates,
             checks,
             builds,
+            is_told,
         };
+        let (notifier, ready) = bench.begin(&rt, alloc, wanted);
         let (counts, calls, signal) = (&*bench.counts, &*bench.calls, &mut bench.signal);
         let (group, watch, mut clock) = (&bench.group, &bench.watch, RuntimeClock::new(rt));
         let (came, _) = join(
             &rt,
-            || end_after(counts, calls, wanted, signal),
-            || group.run(alloc, &mut clock, watch, Some(notifier)),
+            || end_after(counts, calls, &ready, wanted, signal),
+            || group.run(&rt, alloc, &mut clock, watch, Some(notifier)),
         );
         let left = Left {
             updates,
             checks,
-            generation: 1,
-            served: Some(0),
-            is_ready,
-            is_told: false,
+            generation: if is_told { 2 } else { 1 },
+            served: Some(if is_told { 2 } else { 0 }),
+            is_ready: updates == 1,
+            is_told,
         };
-        assert_eq!(rt; (came, bench.left(&rt, alloc)), (true, left));
+        assert_eq!(rt;
+            (came, bench.left(&rt, alloc, &ready, wanted)),
+            (true, left)
+        );
     }
-    assert!(rt; bench.is_served(&rt));
 }

@@ -103,7 +103,7 @@ pub fn last_reader_wakes<
     W: Abort + Log + Threads + Wait + Clock + Copy + Send + Sync + Drop + 'static,
 >(rt: &W, alloc: Global, crowd: &Crowd<W>) {
     let [group, _] = crowd.groups();
-    let missing = crowd.first.start_workers(alloc, RuntimeClock::new(*rt));
+    let missing = crowd.first.start_workers(rt, alloc, RuntimeClock::new(*rt));
     let is_served = comes_to(rt, alloc, group, 0, 1) && serves(rt, group, 1, 1, TURNS);
     let told = both_leave(rt, alloc, group, &crowd.site.gate);
     let are_woken = [
@@ -156,7 +156,7 @@ pub fn rebuilds_go_on<
 >(rt: &W, alloc: Global, crowd: &Crowd<W>) {
     let [group, _] = crowd.groups();
     let mut clock = RuntimeClock::new(*rt);
-    let missing = crowd.first.start_workers(alloc, clock);
+    let missing = crowd.first.start_workers(rt, alloc, clock);
     let begun = clock.now();
     let have_stayed = eight_stay(rt, alloc, group);
     let told = [

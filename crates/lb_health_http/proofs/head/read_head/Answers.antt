@@ -1,12 +1,17 @@
-use Rattle.std.proofs.Common.{◌≡◌, ℕ, ◌+◌, ◌<◌, ◌≤◌, List, [], ◌∷◌, ◌++◌, Some, Ok, length-append, subst, arith, rules, refl, ap, ◌∙◌, sym}
+use Rattle.std.proofs.Common.{◌≡◌, ℕ, ◌+◌, ◌<◌, ◌≤◌, inl, inr, List}
+use Rattle.std.proofs.Common.{[], ◌∷◌, ◌++◌, Some, Ok, length-append, subst, arith, rules, refl, ap, ◌∙◌, sym}
 use Rattle.httparse.specs.Grammar.{ResponseHead, HasNoResponse, MayBecomeResponse}
 use Rattle.lb_health_http.specs.declared.head.Seen.TheVariants.{Whole, Bad}
-use Rattle.lb_health_http.specs.Head.{Sees, IsBlankLine, IsWholeHead, AfterBlank, HasBadHead, HasLargeHead, EndsInHead}
+use Rattle.lb_health_http.specs.Head.{MayBecomeHead, Sees, IsBlankLine, IsWholeHead, AfterBlank, HasBadHead, HasLargeHead, EndsInHead}
 use Rattle.lb_health_http.proofs.HeadLemmas.{no_response-push, no_response-nil, open_nil, open_push, open_feed}
 use Rattle.lb_health_http.proofs.HeadLemmas.{head_ended, head_too_large, head_pushed, head_blank, head_refused, head_is_bad, head_is_low}
 use Rattle.lb_health_http.proofs.HeadLemmas.{head_is_whole}
+use Rattle.lb_health_http.proofs.RoomLemmas.{BeginsWithText, feeds, text_nil, text_push, text_feed}
+use Rattle.lb_health_http.proofs.RoomLemmas.{feeds_push, feeds_feed, feeds_blank, has_room, has_many}
 use Rattle.lb_health_http.proofs.Streams.{OnBytes-then, OnBytes-map, OnBytes-here, gave_byte, gave_none}
 use Rattle.lb_health_http.proofs.head.read_head.Goals as goal
+use Rattle.lb_health_http.proofs.head.read_head.Goals.{else-byte-eq10-via-then-byte-eq10+else-is_blank}
+use Rattle.lb_health_http.proofs.head.read_head.Goals.{else-byte-eq10-via-else-byte-eq10}
 
 pub loop-init : goal.loop-init
 loop-init g c =
@@ -14,6 +19,9 @@ loop-init g c =
     rw c.new-bytes.ensures.items (record {
       read = OnBytes-here P _ (λ x. record { ends = []; is = refl; counted = refl });
       so_far = record { none = no_response-nil; may_go_on = open_nil; within = omega arith };
+      text = text_nil;
+      counted = refl;
+      room = omega arith;
       kept = refl;
     })
 
@@ -40,6 +48,9 @@ loop-preserved-then-is_blank g c =
       read = OnBytes-then P Q S _ _ _ c.loop.invariant.read (gave_byte _ _ _ c.next_byte.ensures.byte c.in-Ok-Some.byte gave)
           (λ x y z p q. head_blank c.loop.counter bytes x y z p (q ∙ ap (λ (b : ℕ). b ∷ z) feed) blank);
       so_far = record { none = no_response-nil; may_go_on = open_nil; within = omega arith };
+      text = text_nil;
+      counted = c.loop.invariant.counted ∙ feeds_blank bytes blank;
+      room = c.loop.invariant.room;
       kept = search rules;
     })
 
@@ -61,6 +72,9 @@ loop-preserved-then-byte-ne10 g c =
         may_go_on = open_push bytes b c.loop.invariant.so_far.may_go_on c.if-byte-ne10.true;
         within = omega (arith, length-append bytes (b ∷ []));
       };
+      text = text_push bytes b c.loop.invariant.text c.if-byte-ne10.true;
+      counted = c.loop.invariant.counted ∙ sym (feeds_push bytes b c.if-byte-ne10.true);
+      room = c.loop.invariant.room;
       kept = search rules;
     })
 
@@ -138,22 +152,65 @@ loop-preserved g c =
     let b = c.in-Ok-Some.byte in
     let gave : c.next_byte.result ≡ Ok (Some b) = cc in
     let grown : c.push.new.self.items ≡ bytes ++ b ∷ [] = search rules in
-    let unread : HasNoResponse c.deref-in-loop.result.now = c.in-Open.ensures.0 in
-    let goes_on : MayBecomeResponse c.deref-in-loop.result.now = c.in-Open.ensures.1 in
+    let feed : b ≡ 10 = c.if-byte-ne10.false in
+    let ended : c.deref-in-loop.result.now ≡ bytes ++ 10 ∷ [] =
+    c.deref-in-loop.ensures.value ∙ grown ∙ ap (λ (x : ℕ). bytes ++ x ∷ []) feed in
+    let unread : HasNoResponse (bytes ++ 10 ∷ []) = subst HasNoResponse ended c.in-Open.ensures.0 in
+    let goes_on : MayBecomeResponse (bytes ++ 10 ∷ []) = subst MayBecomeResponse ended c.in-Open.ensures.1 in
+    let text : BeginsWithText (bytes ++ 10 ∷ []) =
+    elim c.else-byte-eq10.branch [
+      | else-byte-eq10-via-then-byte-eq10+else-is_blank w ↦ text_feed bytes c.loop.invariant.text
+          (λ blank. w.if-is_blank.ensures (subst IsBlankLine (sym w.deref.ensures.value) blank))
+      | else-byte-eq10-via-else-byte-eq10 w ↦ absurd (w.if-byte-eq10.false feed)
+    ] in
+    let counted : c.loop.lines + 1 ≡ feeds (bytes ++ b ∷ []) = omega (arith, c.loop.invariant.counted, feeds_feed bytes b feed) in
+    let few : feeds (bytes ++ 10 ∷ []) ≤ 65 =
+    omega (arith, c.loop.invariant.counted, feeds_feed bytes 10 refl, c.if-lines-le-LINE_LIMIT.true) in
     let P : List ℕ → List ℕ → Type 0 = AfterBlank c.loop.counter bytes in
     let Q : List ℕ → List ℕ → Type 0 = λ s t. s ≡ b ∷ t in
     let S : List ℕ → List ℕ → Type 0 = AfterBlank (c.loop.counter + 1) (bytes ++ b ∷ []) in
     let within = c.loop.invariant.so_far.within in
+    let again : bytes ++ 10 ∷ [] ≡ bytes ++ b ∷ [] = ap (λ (x : ℕ). bytes ++ x ∷ []) (sym feed) in
     rw grown (record {
       read = OnBytes-then P Q S _ _ _ c.loop.invariant.read (gave_byte _ _ _ c.next_byte.ensures.byte b gave)
           (λ x y z p q. head_pushed c.loop.counter b bytes x y z p q);
       so_far = record {
-        none = subst HasNoResponse (c.deref-in-loop.ensures.value ∙ grown) unread;
-        may_go_on = open_feed (bytes ++ b ∷ []) (subst MayBecomeResponse (c.deref-in-loop.ensures.value ∙ grown) goes_on);
+        none = subst HasNoResponse again unread;
+        may_go_on = open_feed (bytes ++ b ∷ []) (subst MayBecomeHead again (has_room bytes text unread goes_on few));
         within = omega (arith, length-append bytes (b ∷ []));
       };
+      text = subst BeginsWithText again text;
+      counted = counted;
+      room = c.if-lines-le-LINE_LIMIT.true;
       kept = search rules;
     })
+
+pub returns-in-Open-2-clause-outcome : goal.returns-in-Open-2-clause-outcome
+returns-in-Open-2-clause-outcome g c =
+    let bytes = c.loop.bytes.items in
+    let b = c.in-Ok-Some.byte in
+    let gave : c.next_byte.result ≡ Ok (Some b) = cc in
+    let grown : c.push.new.self.items ≡ bytes ++ b ∷ [] = search rules in
+    let feed : b ≡ 10 = c.if-byte-ne10.false in
+    let ended : c.deref-in-loop.result.now ≡ bytes ++ 10 ∷ [] =
+    c.deref-in-loop.ensures.value ∙ grown ∙ ap (λ (x : ℕ). bytes ++ x ∷ []) feed in
+    let unread : HasNoResponse (bytes ++ 10 ∷ []) = subst HasNoResponse ended c.in-Open.ensures.0 in
+    let goes_on : MayBecomeResponse (bytes ++ 10 ∷ []) = subst MayBecomeResponse ended c.in-Open.ensures.1 in
+    let text : BeginsWithText (bytes ++ 10 ∷ []) =
+    elim c.else-byte-eq10.branch [
+      | else-byte-eq10-via-then-byte-eq10+else-is_blank w ↦ text_feed bytes c.loop.invariant.text
+          (λ blank. w.if-is_blank.ensures (subst IsBlankLine (sym w.deref.ensures.value) blank))
+      | else-byte-eq10-via-else-byte-eq10 w ↦ absurd (w.if-byte-eq10.false feed)
+    ] in
+    let many : 65 < feeds (bytes ++ 10 ∷ []) =
+    omega (arith, c.loop.invariant.counted, feeds_feed bytes 10 refl, c.if-lines-le-LINE_LIMIT.false) in
+    let small : c.loop.counter < 65536 = c.loop-test.true in
+    let P : List ℕ → List ℕ → Type 0 = AfterBlank c.loop.counter bytes in
+    let Q : List ℕ → List ℕ → Type 0 = λ s t. s ≡ b ∷ t in
+    let S : List ℕ → List ℕ → Type 0 = HasBadHead in
+    OnBytes-then P Q S _ _ _ c.loop.invariant.read (gave_byte _ _ _ c.next_byte.ensures.byte b gave)
+    (λ x y z p q. head_refused c.loop.counter bytes x y z small p c.loop.invariant.so_far (q ∙ ap (λ (n : ℕ). n ∷ z) feed)
+    (inr (inl (has_many bytes text unread goes_on many))))
 
 pub returns-clause-outcome : goal.returns-clause-outcome
 returns-clause-outcome g c =

@@ -3,7 +3,7 @@ use Rattle.std.proofs.Common.{◌≡◌, [], rules, subst, sym}
 use Rattle.std.specs.Arc.{arc_value}
 use Rattle.lb_health_registry.specs.Keys.{by_identity, rule_gives}
 use Rattle.lb_health_registry.specs.Registry.{IsRegistryAfter}
-use Rattle.lb_balancer_group.proofs.parts.GroupParts+D+Rule+N+C.new.Goals as goal
+use Rattle.lb_threads_registry.proofs.backends.Backends+D+Rule+N+C.new.Goals as goal
 
 pub returns-clause-registry : goal.returns-clause-registry
 returns-clause-registry g c =

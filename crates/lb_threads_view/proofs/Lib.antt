@@ -1,0 +1,3 @@
+mod Memberships
+mod Registrations
+mod Updates
