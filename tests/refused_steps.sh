@@ -12,7 +12,8 @@ crate=$here/../crates/lb_rows
 room=$(mktemp -d)
 trap 'rm -rf "$room"' EXIT
 if [ -z "${LBROWS-}" ]; then
-    (cd "$crate" && rt run >/dev/null)
+    # The program is run there too, without its files, and ends with status 1.
+    (cd "$crate" && rt check && { rt run || true; }) >/dev/null 2>&1 || { echo "lb_rows isn't proved" >&2; exit 2; }
     LBROWS=$crate/out/lb_rows
 fi
 LBROWS=$(readlink -f "$LBROWS")

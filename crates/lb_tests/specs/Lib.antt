@@ -1,2 +1,1 @@
-pub mod Expanded
 pub mod ListWalks
