@@ -1,3 +1,4 @@
 pub mod Accepts
 pub mod Crossings
 pub mod FirstSlots
+pub mod Handles
