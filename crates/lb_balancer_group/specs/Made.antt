@@ -1,6 +1,13 @@
 -- What a group is that was just made.
-use Rattle.std.specs.Prelude.{List, [], Option, map, unwrap_or}
-use Rattle.lb_rebuild_group.specs.Stands.{GroupValue, Stands}
+use Rattle.std.specs.Prelude.{◌≡◌, ◌<◌, List, [], Option, None, Result, Ok, Err, map, unwrap_or}
+use Rattle.lb_select_base.specs.declared.refusal.Refusal.{Refusal}
+use Rattle.lb_rebuild_slots.specs.SlotsHistory.{newest}
+use Rattle.lb_rebuild_group.specs.GroupCalls.{IsMakingRefusal}
+use Rattle.lb_rebuild_group.specs.GroupHistory.{slot_events}
+use Rattle.lb_rebuild_group.specs.Stands.{After, GroupValue, Stands}
+use Rattle.lb_threads_group.specs.Group.{Seen}
+use Rattle.lb_balancer_group.specs.declared.gate_refusal.GateRefusal.{GateRefusal}
+use Rattle.lb_balancer_group.specs.declared.gate_refusal.GateRefusal.TheVariants.{WasUpdated, NotMade}
 
 -- nothing has happened to it, and it has a slot for each of these configurations
 abbrev pub IsNewGroup : {C : Type 0} → List C → GroupValue C → Type 0
@@ -9,3 +16,9 @@ IsNewGroup configs v = Stands (record { id = v.group.id; gate = v.group.gate; co
 -- what the slots of a group are built with: the default one where none is given
 abbrev pub slot_configs : {C : Type 0} → C → List (Option C) → List C
 slot_configs default configs = map (λ c. unwrap_or c default) configs
+
+-- A group takes another gate unless it was seen past generation 0, or can't be made with that gate.
+abbrev pub IsGateRefusal : {C : Type 0} → GroupValue C → Option Refusal → Result (Unit {0}) GateRefusal → Type 0
+IsGateRefusal site cause (Ok a) = cause ≡ None
+IsGateRefusal site cause (Err WasUpdated) = Seen site (λ v. After v (λ made e. 0 < newest (slot_events e)))
+IsGateRefusal site cause (Err (NotMade e)) = IsMakingRefusal {A = Unit {0}} cause (Err e)

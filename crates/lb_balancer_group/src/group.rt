@@ -12,9 +12,10 @@ ghost use Rattle.lb_balancer_core.specs.Timings.{selector_timings};
 ghost use Rattle.lb_balancer_core.specs.Found.{FoundBy};
 ghost use Rattle.lb_balancer_core.specs.Looks.{Answers};
 ghost use Rattle.lb_threads_group.specs.Group.{Seen, SelectedUnder, UpdatedUnder};
-ghost use Rattle.lb_balancer_group.specs.Made.{IsNewGroup, slot_configs};
+ghost use Rattle.lb_balancer_group.specs.Made.{IsGateRefusal, IsNewGroup, slot_configs};
 
 use crate::configured::{Configured, SlotConfig};
+use crate::gate_refusal::GateRefusal;
 use crate::making::{configs_of, first_cause, opened, own_gate, update_noting};
 use crate::noting::Noting;
 use lb_balancer_core::timings::{SelectorUpdateTimings, UpdateTimings};
@@ -143,20 +144,21 @@ impl<
         })
     }
 
-    /// Gives the group this gate for its rebuilds, which other groups may share. It is for a group at generation 0 that no thread uses yet.
+    /// Gives the group this gate for its rebuilds, which other groups may share. It is for a group that no thread uses yet.
     ///
     /// The group is made again from its parts, with a new view of the registry, without loads and without workers; what was before ends
     /// as by a drop of the group.
     ///
     /// # Errors
     ///
-    /// Those of `from_backends_with_configs`; the group is then as before, and the registry has no view more.
+    /// `WasUpdated` where the group is past generation 0; `NotMade` for the causes of `from_backends_with_configs`. The group is then as
+    /// before, and the registry has no view more.
     pub fn with_rebuild_gate<W: Wait>(
         &mut self,
         rt: &W,
         alloc: Global,
         gate: Arc<SelectorRebuildGate>,
-    ) -> Result<(), Refusal>
+    ) -> Result<(), GateRefusal>
         ensures made { OnOk result (IsNewGroup self.old.configs.items (arc_value self.new.shared).core) }
         ensures gate { OnOk result ((arc_value self.new.shared).core.group.gate ≡ (arc_value gate).id) }
         ensures words { OnOk result ((arc_value self.new.shared).board.words ≡ length self.old.configs.items + 1) }
@@ -166,11 +168,14 @@ impl<
         ensures settings { (self.new.health_check_frequency ≡ self.old.health_check_frequency)
             × (self.new.update_frequency ≡ self.old.update_frequency)
             × (self.new.parallel_health_check ≡ self.old.parallel_health_check) }
-        ensures refused { IsMakingRefusal (least (map (S.refusal []) self.old.configs.items)) result }
+        ensures refused { IsGateRefusal (arc_value self.old.shared).core (least (map (S.refusal []) self.old.configs.items)) result }
         ensures refused_stays { OnErr result (self.new ≡ self.old) }
     {
+        if self.backend_generation(rt) > 0 {
+            return Err(GateRefusal::WasUpdated);
+        }
         if let Some(refusal) = least_refusal::<Configured<S>>(alloc, self.configs.as_slice()) {
-            return Err(refusal);
+            return Err(GateRefusal::NotMade(refusal));
         }
         let (shared, view) = opened(rt, alloc, &self.registry, self.configs.as_slice(), gate)?;
         self.shared.let_go();

@@ -5,6 +5,7 @@
 pub mod backends;
 pub mod configured;
 pub mod drive;
+pub mod gate_refusal;
 pub mod group;
 mod making;
 mod noting;

@@ -3,6 +3,7 @@ ghost use Rattle.std.specs.Prelude.{◌≡◌};
 
 use crate::counted::{Counted, Counting, Counts};
 use lb_balancer_group::configured::Configured;
+use lb_balancer_group::gate_refusal::GateRefusal;
 use lb_balancer_group::group::LoadBalancerGroup;
 use lb_health_check::error::CheckError;
 use lb_health_check::health_check::HealthCheck;
@@ -79,8 +80,11 @@ impl<W: Wait + Clock + Copy + Drop> Site<W> {
         let mut group = LoadBalancerGroup::from_backends_with_configs(
             rt, alloc, backends, configs,
         )?;
-        group.with_rebuild_gate(rt, alloc, Arc::try_clone(&self.gate)?)?;
-        Ok(group)
+        match group.with_rebuild_gate(rt, alloc, Arc::try_clone(&self.gate)?) {
+            Ok(()) => Ok(group),
+            Err(GateRefusal::NotMade(refusal)) => Err(refusal),
+            Err(GateRefusal::WasUpdated) => Err(Refusal::NoSuch),
+        }
     }
 
     fn configs(&self, alloc: Global) -> Result<Vec<Option<Counting<W>>>, Refusal> {

@@ -1,7 +1,6 @@
 //! The limit on a whole check: by when it has to be over, and connections whose calls wait no longer than that.
-ghost use Rattle.std.specs.Prelude.{◌≡◌, ◌↔◌, ◌+◌, ◌*◌, ◌^◌, ◌<◌, max, None, Some, Err, IfSome, IsSomeAnd, IfOk, IsErr, IsOkAnd, OnErr};
+ghost use Rattle.std.specs.Prelude.{◌≡◌, ◌↔◌, ◌*◌, ◌^◌, ◌<◌, max, Some, Err, IfSome, IsSomeAnd, IfOk, IsErr, OnErr, option_map};
 ghost use Rattle.std.specs.Duration.{as_nanos};
-ghost use Rattle.std.specs.Time.{instant_nanos, FitsClock};
 ghost use Rattle.lb_health_http.specs.Limits.{least_limit, left_at};
 
 use crate::peer::{HttpPeer, duration_of};
@@ -23,60 +22,59 @@ pub(crate) fn least_of(one: Option<u128>, other: Option<u128>) -> Option<u128>
     }
 }
 
-/// By when a check has to be over: without an end, at any time.
+/// How long a check may take as a whole, and since when.
 #[derive(Clone, Copy)]
 pub(crate) struct Deadline {
-    end: Option<Instant>,
+    start: Instant,
+    // In nanoseconds, at least 1.
+    limit: u128,
 }
 
 impl Deadline {
-    /// Returns the deadline of a check that begins at that moment; a limit of 0 acts as 1. There is no end without a limit, and none
-    /// past the last moment that a clock can read.
-    fn after(start: Instant, limit: Option<u128>) -> Deadline
-        ensures none { limit ≡ None → result.end ≡ None }
-        ensures some { IfSome limit (λ nanos. FitsClock (instant_nanos start + max nanos 1)
-            → IsSomeAnd result.end (λ end. instant_nanos end ≡ instant_nanos start + max nanos 1)) }
-    {
-        let end = match duration_of(limit) {
-            Some(limit) => start.checked_add(limit),
-            None => None,
-        };
-        Deadline { end }
-    }
-
-    /// Returns the deadline of a check that begins now. Without a limit the clock isn't read.
+    /// Returns the deadline of a check that begins now, with that limit; a limit of 0 acts as 1. Without a limit there is none, and the
+    /// clock isn't read.
     ///
     /// Fault: `Connect`, where the clock can't be read.
-    pub(crate) fn begin<C: Clock>(clock: &C, limit: Option<u128>) -> Result<Deadline, CheckError>
-        ensures none { limit ≡ None → IsOkAnd result (λ deadline. deadline.end ≡ None) }
+    pub(crate) fn begin<C: Clock>(
+        clock: &C,
+        limit: Option<u128>,
+    ) -> Result<Option<Deadline>, CheckError>
+        ensures begun { IfOk result (λ deadline. option_map (λ d. d.limit) deadline ≡ option_map (λ nanos. max nanos 1) limit) }
         ensures refused { OnErr result (result ≡ Err CheckError.Connect) }
     {
-        if limit.is_none() {
-            return Ok(Deadline { end: None });
-        }
+        let Some(limit) = limit else {
+            return Ok(None);
+        };
         match Instant::now(clock) {
-            Ok(start) => Ok(Deadline::after(start, limit)),
+            Ok(start) => Ok(Some(Deadline {
+                start,
+                limit: limit.max(1),
+            })),
             Err(_) => Err(CheckError::Connect),
         }
+    }
+
+    /// Returns how many nanoseconds are left at that moment.
+    fn left_at(self, now: Instant) -> u128
+        ensures { result ≡ left_at self now }
+    {
+        self.limit
+            .saturating_sub(now.duration_since(self.start).as_nanos())
     }
 
     /// Returns how long a call may wait at that moment, whose own limit is given: the smaller of that limit and of what is left.
     ///
     /// Refused `TimedOut` where nothing is left.
     fn limit_at(self, now: Instant, own: Option<u128>) -> io::Result<Option<Duration>>
-        ensures over { IsErr result ↔ left_at self.end now ≡ Some 0 }
-        ensures none { IfOk result (λ limit. limit ≡ None ↔ least_limit own (left_at self.end now) ≡ None) }
-        ensures some { IfOk result (λ limit. IfSome (least_limit own (left_at self.end now))
-            (λ nanos. nanos < 2 ^ 64 * 1000000000 → IfSome limit (λ d. as_nanos d ≡ max nanos 1))) }
+        ensures over { IsErr result ↔ left_at self now ≡ 0 }
+        ensures some { IfOk result (λ limit. IfSome (least_limit own (Some (left_at self now)))
+            (λ nanos. nanos < 2 ^ 64 * 1000000000 → IsSomeAnd limit (λ d. as_nanos d ≡ max nanos 1))) }
     {
-        let left = match self.end {
-            Some(end) => Some(end.duration_since(now).as_nanos()),
-            None => None,
-        };
-        if left == Some(0) {
+        let left = self.left_at(now);
+        if left == 0 {
             return Err(Error::from(ErrorKind::TimedOut));
         }
-        Ok(duration_of(least_of(own, left)))
+        Ok(duration_of(least_of(own, Some(left))))
     }
 }
 
@@ -114,7 +112,7 @@ impl Limited for &UnixStream {
 pub(crate) struct Timed<'a, C, S> {
     clock: &'a C,
     peer: HttpPeer,
-    deadline: Deadline,
+    deadline: Option<Deadline>,
     stream: S,
 }
 
@@ -125,7 +123,7 @@ impl<'a, C: Clock, S: Limited + Drop> Timed<'a, C, S> {
     pub(crate) fn new(
         clock: &'a C,
         peer: HttpPeer,
-        deadline: Deadline,
+        deadline: Option<Deadline>,
         stream: S,
     ) -> Result<Timed<'a, C, S>, CheckError>
         ensures { OnErr result (result ≡ Err CheckError.Connect) }
@@ -150,10 +148,10 @@ impl<C: Clock, S: Limited + Read> Read for Timed<'_, C, S> {
     ghost remaining = { λ s. S.remaining s.stream };
 
     fn read(&mut self, buf: &mut [u8]) -> io::Result<usize> {
-        if self.deadline.end.is_some() {
+        if let Some(deadline) = self.deadline {
             let now = Instant::now(self.clock)?;
             self.stream
-                .limit_reads(self.deadline.limit_at(now, self.peer.read_timeout)?)?;
+                .limit_reads(deadline.limit_at(now, self.peer.read_timeout)?)?;
         }
         self.stream.read(buf)
     }
@@ -163,10 +161,10 @@ impl<C: Clock, S: Limited + Write> Write for Timed<'_, C, S> {
     ghost contents = { λ s. S.contents s.stream };
 
     fn write(&mut self, buf: &[u8]) -> io::Result<usize> {
-        if self.deadline.end.is_some() {
+        if let Some(deadline) = self.deadline {
             let now = Instant::now(self.clock)?;
             self.stream
-                .limit_writes(self.deadline.limit_at(now, self.peer.write_timeout)?)?;
+                .limit_writes(deadline.limit_at(now, self.peer.write_timeout)?)?;
         }
         self.stream.write(buf)
     }

@@ -215,7 +215,7 @@ impl<N: Clock, V: Validate, O, S> HttpHealthCheck<N, V, O, S> {
     fn exchange<C: Read + Write + Limited + Drop>(
         &self,
         alloc: Global,
-        deadline: Deadline,
+        deadline: Option<Deadline>,
         reader: C,
         writer: C,
     ) -> Result<(), CheckError> {
