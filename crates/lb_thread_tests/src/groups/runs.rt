@@ -3,6 +3,7 @@
 use super::TURNS;
 use lb_background::ready::{ReadyWatch, ServiceReadyNotifier, ready_pair};
 use lb_background::shutdown::{ShutdownSignal, ShutdownWatch, shutdown_pair};
+use lb_balancer_group::gate_refusal::GateRefusal;
 use lb_balancer_group::group::LoadBalancerGroup;
 use lb_crowd::counted::{Counted, Counting, Counts};
 use lb_crowd::crowd::serves;
@@ -15,6 +16,7 @@ use lb_select_base::backend::Backend;
 use lb_select_base::refusal::Refusal;
 use lb_threads_registry::backends::Backends;
 use lb_threads_registry::clock::RuntimeClock;
+use lb_threads_registry::gate::SelectorRebuildGate;
 use lb_threads_registry::keyed::NoRule;
 use std::alloc::Global;
 use std::collections::BTreeSet;
@@ -136,8 +138,17 @@ impl<W: Abort + Wait + Clock + Copy + Drop> Bench<W> {
             self.counts.hold(false);
             let shared = &**self.group.shared();
             assert!(rt; serves(rt, shared, 0, 1, TURNS) && serves(rt, shared, 1, 1, TURNS));
+            assert!(rt; self.refuses_a_gate(rt, alloc));
         }
         ready_pair(alloc).expect(rt, "refused")
+    }
+
+    // Whether the group, which was updated, refuses another gate.
+    fn refuses_a_gate(&mut self, rt: &W, alloc: Global) -> bool {
+        let gate = SelectorRebuildGate::new(alloc).expect(rt, "refused");
+        let gate = Arc::new(alloc, gate).expect(rt, "refused");
+        let answer = self.group.with_rebuild_gate(rt, alloc, gate);
+        answer == Err(GateRefusal::WasUpdated)
     }
 
     // What the last run left. A run that updates again and again discovers more often than it has to.
