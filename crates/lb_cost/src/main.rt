@@ -1,11 +1,14 @@
 //! What the library's parts cost: `lb_cost WORD [WORD ..]`. The first word says what is measured, and the scripts of `bench/` print the
-//! results; `soak` runs groups under threads. Without a word each is done once in a small form, whose lines are always the same.
+//! results; `soak` runs groups under threads; `refused` makes the calls of which each request for memory is refused. Without a word each
+//! is done once in a small form, whose lines are always the same.
 #![tactic(auto)]
 
 mod board;
 mod group;
 mod health;
 mod members;
+mod refused;
+mod refused_subjects;
 mod selects;
 mod shared;
 mod soak;
@@ -31,6 +34,7 @@ fn measure<R: Log + Threads + Wait + Clock + Input + Print + Copy + Send + Sync 
         "board" => board::run(rt, alloc, numbers),
         "group" => group::run(rt, alloc, numbers),
         "health" => health::run(rt, alloc, numbers),
+        "refused" => refused::run(rt, alloc),
         "selects" => selects::run(rt, alloc),
         "shared" => shared::run(rt, alloc, numbers),
         "soak" => soak::run(rt, alloc, numbers),
@@ -45,6 +49,7 @@ fn measure_all<
     for word in ["board", "group", "health"] {
         measure(rt, alloc, word, &[])?;
     }
+    refused::run(rt, alloc)?;
     selects::few(rt, alloc)?;
     shared::run(rt, alloc, &[])?;
     soak::run(rt, alloc, &[])

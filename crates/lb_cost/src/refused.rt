@@ -1,0 +1,252 @@
+//! Calls of shared types in which memory may be refused: `refused`. A call that was refused for it has to leave all that can be read as it
+//! was, and is made again. Each call has to answer what its row says, whether it was made again or not.
+use crate::refused_subjects::{BalancerCalls, GroupCalls, RegistryCalls, ViewCalls};
+use anyhow::Error;
+use lb_balancer_core::timings::UpdateTimings;
+use lb_health_view::discovery::{Discovered, ServiceDiscovery};
+use lb_health_view::view::Settings;
+use lb_select_base::backend::Backend;
+use lb_select_base::moments::MomentSource;
+use lb_select_base::refusal::Refusal;
+use std::alloc::Global;
+use std::collections::BTreeSet;
+use std::io;
+use std::sync::atomic::AtomicBool;
+use std::sync::atomic::Ordering::SeqCst;
+use std::sync::{Arc, Wait};
+
+/// Backends by address and weight.
+pub type Members = &'static [(&'static str, usize)];
+
+pub const FIRST: Members = &[("1.0.0.1:80", 1), ("1.0.0.2:80", 2)];
+
+const OTHER: Members = &[("1.0.0.2:80", 2), ("1.0.0.3:80", 3), ("1.0.0.4:80", 4)];
+
+/// A discovery that finds `FIRST`, or `OTHER` where that is set; each backend is enabled.
+#[derive(Drop)]
+pub struct Lists {
+    pub other: Arc<AtomicBool>,
+}
+
+impl ServiceDiscovery for Lists {
+    fn discover(&self, alloc: Global) -> Result<Discovered, Refusal> {
+        let members = if self.other.load(SeqCst) {
+            OTHER
+        } else {
+            FIRST
+        };
+        let set = set_of(alloc, members)?;
+        let mut settings = Settings::new(alloc);
+        for backend in &set {
+            settings.insert((backend.addr.clone()?, backend.weight), true)?;
+        }
+        Ok((set, settings))
+    }
+}
+
+/// Returns the backends of a list.
+pub fn set_of(alloc: Global, members: Members) -> Result<BTreeSet<Backend>, Refusal> {
+    let mut set = BTreeSet::new(alloc);
+    for (address, weight) in members {
+        set.insert(Backend::new_with_weight(alloc, address, *weight)?)?;
+    }
+    Ok(set)
+}
+
+/// A clock that goes on by five at each reading.
+#[derive(Drop)]
+pub struct Ticks {
+    pub next: u128,
+}
+
+impl MomentSource for Ticks {
+    ghost use Rattle.std.specs.Prelude.{◌≡◌};
+
+    ghost reads = { λ s m _. m ≡ s.next };
+
+    fn now(&mut self) -> u128 {
+        let moment = self.next;
+        self.next = moment.saturating_add(5);
+        moment
+    }
+}
+
+/// A call, of those that take memory.
+#[derive(Clone, Copy)]
+pub enum Call {
+    /// Discovers the first list or the other one. Answers the newest generation.
+    Update(bool),
+    /// Sets the load of the second backend of the first list.
+    Load,
+    /// Takes a worker's turn. Answers the generation that is published.
+    Turn,
+    /// Registers a view. Answers its number.
+    Register,
+    /// Gives a view of that number these backends.
+    Members(u64, Members),
+    /// Answers how many targets there are, by their count or by their list.
+    Targets,
+    List,
+}
+
+/// What can be read: generations, or how many targets there are; the weight of what is selected; and how long the last update took.
+#[derive(Clone, Copy, PartialEq, Eq)]
+pub struct Seen {
+    pub newest: u64,
+    pub served: u64,
+    pub targets: usize,
+    pub selected: Option<usize>,
+    pub timing: Option<UpdateTimings>,
+}
+
+/// What the calls are made of.
+pub trait Subject {
+    /// Reads what can be read; once more, where that is refused.
+    fn seen(&self) -> Option<Seen>;
+
+    /// Makes a call.
+    fn make(&self, call: Call) -> Result<u64, Refusal>;
+}
+
+/// Calls with what they answer.
+type Row = (Call, u64);
+
+const REGISTRY: &[Row] = &[
+    (Call::Register, 1),
+    (Call::Members(1, FIRST), 0),
+    (Call::Register, 2),
+    (Call::Members(2, OTHER), 0),
+    (Call::List, 4),
+    (Call::Members(1, OTHER), 0),
+    (Call::Targets, 3),
+];
+
+const VIEW: &[Row] = &[
+    (Call::Update(false), 1),
+    (Call::Update(false), 1),
+    (Call::Update(true), 2),
+    (Call::Update(false), 3),
+];
+
+const BALANCER: &[Row] = &[
+    (Call::Update(false), 1),
+    (Call::Load, 0),
+    (Call::Update(false), 1),
+    (Call::Update(true), 2),
+    (Call::Update(false), 3),
+];
+
+const GROUP: &[Row] = &[
+    (Call::Update(false), 1),
+    (Call::Turn, 1),
+    (Call::Load, 0),
+    (Call::Update(false), 1),
+    (Call::Update(true), 2),
+    (Call::Turn, 2),
+    (Call::Update(false), 3),
+    (Call::Turn, 3),
+];
+
+/// What came of a subject's calls: whether all agreed, and which one was made again, by its number from 1; 0 for the one that makes the
+/// subject.
+#[derive(Clone, Copy)]
+pub struct Course {
+    agrees: bool,
+    again: Option<usize>,
+}
+
+impl Course {
+    /// Returns that nothing was made again, where it agrees.
+    pub fn new(agrees: bool) -> Course {
+        Course {
+            agrees,
+            again: None,
+        }
+    }
+
+    /// Returns that the maker was called again, where what is left agrees.
+    pub fn made_again(agrees: bool) -> Course {
+        Course {
+            agrees,
+            again: Some(0),
+        }
+    }
+
+    // Makes a call, again where memory was refused for it.
+    fn call<T: Subject>(&mut self, subject: &T, number: usize, (call, wanted): Row) {
+        let before = subject.seen();
+        let mut answer = subject.make(call);
+        if answer == Err(Refusal::OutOfMemory) {
+            self.again = Some(number);
+            self.agrees &= subject.seen() == before;
+            answer = subject.make(call);
+        }
+        self.agrees &= answer == Ok(wanted) && subject.seen().is_some();
+    }
+
+    // Makes the calls of a table.
+    fn play<T: Subject>(mut self, subject: Option<&T>, rows: &[Row]) -> Course {
+        let Some(subject) = subject else {
+            return Course::new(false);
+        };
+        let mut number: usize = 0;
+        for row in rows {
+            number = number.saturating_add(1);
+            self.call(subject, number, *row);
+        }
+        self
+    }
+
+    // Prints the line of a subject. Returns whether it agrees.
+    fn report<W: Print>(self, rt: &W, name: &str) -> io::Result<bool> {
+        let verdict = if self.agrees {
+            "as it should be"
+        } else {
+            "differs"
+        };
+        match self.again {
+            None => println!(rt; "{name}, a step at a time: {verdict}")?,
+            Some(number) => println!(rt; "{name}, call {number} given again: {verdict}")?,
+        }
+        Ok(self.agrees)
+    }
+}
+
+// Reports the calls of each subject. Returns whether all agree.
+fn all_agree<W: Wait + Print + Copy + Drop>(rt: &W, alloc: Global) -> io::Result<bool> {
+    let (made, course) = RegistryCalls::new(*rt, alloc);
+    let mut all = course
+        .play(made.as_ref(), REGISTRY)
+        .report(rt, "the calls of a shared registry")?;
+    let (made, course) = ViewCalls::new(*rt, alloc);
+    all &= course
+        .play(made.as_ref(), VIEW)
+        .report(rt, "the calls of a shared view")?;
+    let (made, course) = BalancerCalls::new(*rt, alloc);
+    all &= course
+        .play(made.as_ref(), BALANCER)
+        .report(rt, "the calls of a shared balancer")?;
+    let (made, course) = GroupCalls::new(*rt, alloc);
+    all &= course
+        .play(made.as_ref(), GROUP)
+        .report(rt, "the calls of a shared group")?;
+    Ok(all)
+}
+
+/// Reports the calls of a shared registry, view, balancer and group, a line each.
+///
+/// # Errors
+///
+/// `Differs` where one isn't as it should be.
+pub fn run<W: Wait + Print + Copy + Drop>(rt: &W, alloc: Global) -> Result<(), Error> {
+    if all_agree(rt, alloc)? {
+        Ok(())
+    } else {
+        Err(Differs)?
+    }
+}
+
+/// A call of a table came to something else.
+#[derive(Clone, Copy, Debug, PartialEq, Eq, thiserror::Error)]
+#[error("a call came to something else")]
+pub struct Differs;
