@@ -1,6 +1,8 @@
 //! What a configuration says: the pools, the listeners, the check of backends and the limits, or the first fault with its place.
-ghost use Rattle.std.specs.Prelude.{◌≡◌, ◌<◌, length, IfOk, IfSome};
-ghost use Rattle.lb_proxy.specs.Config.{selection_of, LeadsTo};
+ghost use Rattle.std.specs.Prelude.{◌≡◌, ◌≢◌, codes, string_bytes, IfOk, IfSome, IfNone, OnOk};
+ghost use Rattle.std.specs.List.{AllByRecursion};
+ghost use Rattle.std.specs.Result.{result_map_both};
+ghost use Rattle.lb_proxy.specs.Config.{part_of, said, selection_of, selection_in, IsWord, IsPoolNamed, IsListen, LeadsTo};
 
 use crate::config_fault::{Cause, Fault, Place};
 use crate::section::Section;
@@ -188,7 +190,7 @@ fn read_pools<'t>(alloc: Global, top: &Section<'t>) -> Result<Vec<PoolConfig>, F
     let mut pools: Vec<PoolConfig> = Vec::new(alloc);
     let tables = top.list("pool")?;
     for number in 0..tables.len() {
-        let section = top.entry(tables, number, Place::Pool(number))?;
+        let section = top.entry(&tables[number], Place::Pool(number))?;
         let pool = read_pool(alloc, &section)?;
         if pool_number(pools.as_slice(), pool.name.as_str()).is_some() {
             return Err(section.fault("name", Cause::SameName));
@@ -258,7 +260,8 @@ fn read_backend<'t>(
 
 // The number of the pool of this name.
 fn pool_number(pools: &[PoolConfig], name: &str) -> Option<usize>
-    ensures { IfSome result (λ number. number < length pools.now) }
+    ensures some { IfSome result (λ number. IsPoolNamed pools.now name.now number) }
+    ensures none { IfNone result (AllByRecursion (λ pool. string_bytes pool.name ≢ name.now) pools.now) }
 {
     pools.iter().position(|pool| pool.name.as_str() == name)
 }
@@ -274,7 +277,7 @@ fn read_listens<'t>(
     let mut listens = Vec::new(alloc);
     let tables = top.list("listen")?;
     for number in 0..tables.len() {
-        let section = top.entry(tables, number, Place::Listen(number))?;
+        let section = top.entry(&tables[number], Place::Listen(number))?;
         let listen = read_listen(&section, pools)?;
         if listens.push(listen).is_err() {
             return Err(section.fault("address", Cause::OutOfMemory));
@@ -288,7 +291,7 @@ fn read_listens<'t>(
 
 // One listener.
 fn read_listen<'t>(section: &Section<'t>, pools: &[PoolConfig]) -> Result<ListenConfig, Fault<'t>>
-    ensures { IfOk result (λ listen. listen.pool < length pools.now) }
+    ensures { IfOk result (IsListen pools.now (part_of section.now)) }
 {
     section.only(&["address", "mode", "pool", "select", "key"])?;
     let address = section.address("address")?;
@@ -306,7 +309,10 @@ fn read_listen<'t>(section: &Section<'t>, pools: &[PoolConfig]) -> Result<Listen
 }
 
 // The mode and the key, of which there is one each so far.
-fn read_mode<'t>(section: &Section<'t>) -> Result<(), Fault<'t>> {
+fn read_mode<'t>(section: &Section<'t>) -> Result<(), Fault<'t>>
+    ensures mode { OnOk result (IsWord (part_of section.now) (codes "mode") (codes "tcp")) }
+    ensures key { OnOk result (IsWord (part_of section.now) (codes "key") (codes "source")) }
+{
     match section.text("mode")? {
         None | Some("tcp") => {}
         Some("http") => return Err(section.fault("mode", Cause::NotYet)),
@@ -319,7 +325,9 @@ fn read_mode<'t>(section: &Section<'t>) -> Result<(), Fault<'t>> {
 }
 
 // How it selects: in turn, unless the section says otherwise.
-fn read_selection<'t>(section: &Section<'t>) -> Result<Selection, Fault<'t>> {
+fn read_selection<'t>(section: &Section<'t>) -> Result<Selection, Fault<'t>>
+    ensures { result_map_both (λ selection. selection) said result ≡ selection_in (part_of section.now) }
+{
     let Some(word) = section.text("select")? else {
         return Ok(Selection::RoundRobin);
     };

@@ -1,6 +1,10 @@
 //! A table of a configuration, with the place that its faults name.
-ghost use Rattle.std.specs.Prelude.{◌≡◌};
-ghost use Rattle.lb_proxy.specs.Config.{units_of};
+ghost use Rattle.std.specs.Prelude.{◌≡◌, map, option_map, is_some, IfOk, IfErr};
+ghost use Rattle.std.specs.Result.{result_map_both};
+ghost use Rattle.toml.specs.Data.{get_member, as_table};
+ghost use Rattle.toml.specs.View.{table_view, view};
+ghost use Rattle.lb_proxy.specs.Config.{part_of, said, text_of, required_of, number_of, flag_of, list_at, table_at, entry_by};
+ghost use Rattle.lb_proxy.specs.Config.{IsAddressOf, IsNoAddress, natural, units_of};
 
 use crate::config_fault::{Cause, Fault, Place};
 use crate::pool_file::weight_of;
@@ -17,17 +21,23 @@ pub struct Section<'t> {
 
 impl<'t> Section<'t> {
     /// Returns the section of this table.
-    pub fn new(table: &'t Table, place: Place) -> Section<'t> {
+    pub fn new(table: &'t Table, place: Place) -> Section<'t>
+        ensures { part_of result ≡ (place, table_view table.now) }
+    {
         Section { table, place }
     }
 
     /// Returns where the section is.
-    pub fn place(&self) -> Place {
+    pub fn place(&self) -> Place
+        ensures { result ≡ (part_of self.now).0 }
+    {
         self.place
     }
 
     /// Returns a fault of a field of the section.
-    pub fn fault(&self, field: &'t str, cause: Cause) -> Fault<'t> {
+    pub fn fault(&self, field: &'t str, cause: Cause) -> Fault<'t>
+        ensures { said result ≡ ((part_of self.now).0, field.now, cause) }
+    {
         Fault {
             place: self.place,
             field,
@@ -45,22 +55,37 @@ impl<'t> Section<'t> {
         Ok(())
     }
 
+    // The value of a field.
+    fn get(&self, field: &str) -> Option<&'t Value>
+        ensures { option_map (λ value. view value.now) result ≡ get_member field.now (part_of self.now).1 }
+    {
+        self.table.get(field)
+    }
+
     /// Returns whether there is such a field.
-    pub fn has(&self, field: &'static str) -> bool {
-        self.table.get(field).is_some()
+    pub fn has(&self, field: &'static str) -> bool
+        ensures { result ≡ is_some (get_member field.now (part_of self.now).1) }
+    {
+        self.get(field).is_some()
     }
 
     /// Returns the text of a field.
-    pub fn text(&self, field: &'static str) -> Result<Option<&'t str>, Fault<'t>> {
-        match self.table.get(field) {
-            None => Ok(None),
-            Some(Value::String(text)) => Ok(Some(text.as_str())),
-            Some(_) => Err(self.fault(field, Cause::NotText)),
+    pub fn text(&self, field: &'static str) -> Result<Option<&'t str>, Fault<'t>>
+        ensures { result_map_both (option_map (λ text. text.now)) said result ≡ text_of (part_of self.now) field.now }
+    {
+        let Some(value) = self.get(field) else {
+            return Ok(None);
+        };
+        match value.as_str() {
+            Some(text) => Ok(Some(text)),
+            None => Err(self.fault(field, Cause::NotText)),
         }
     }
 
     /// Returns the text of a field that has to be there.
-    pub fn required(&self, field: &'static str) -> Result<&'t str, Fault<'t>> {
+    pub fn required(&self, field: &'static str) -> Result<&'t str, Fault<'t>>
+        ensures { result_map_both (λ text. text.now) said result ≡ required_of (part_of self.now) field.now }
+    {
         match self.text(field)? {
             Some(text) => Ok(text),
             None => Err(self.fault(field, Cause::Missing)),
@@ -68,28 +93,35 @@ impl<'t> Section<'t> {
     }
 
     /// Returns the number of a field, or this one where there is none.
-    pub fn number(&self, field: &'static str, default: u64) -> Result<u64, Fault<'t>> {
-        match self.table.get(field) {
-            None => Ok(default),
-            Some(Value::Integer(number)) => match u64::try_from(*number) {
-                Ok(number) => Ok(number),
-                Err(_) => Err(self.fault(field, Cause::NotNumber)),
-            },
-            Some(_) => Err(self.fault(field, Cause::NotNumber)),
+    pub fn number(&self, field: &'static str, default: u64) -> Result<u64, Fault<'t>>
+        ensures { result_map_both (λ number. number) said result ≡ number_of (part_of self.now) field.now default }
+    {
+        let Some(value) = self.get(field) else {
+            return Ok(default);
+        };
+        match natural(value.as_integer()) {
+            Some(number) => Ok(number),
+            None => Err(self.fault(field, Cause::NotNumber)),
         }
     }
 
     /// Returns the number of a field, or this one where there is none.
-    pub fn count(&self, field: &'static str, default: u64) -> Result<usize, Fault<'t>> {
+    pub fn count(&self, field: &'static str, default: u64) -> Result<usize, Fault<'t>>
+        ensures { result_map_both (λ number. number) said result ≡ number_of (part_of self.now) field.now default }
+    {
         Ok(self.number(field, default)? as usize)
     }
 
     /// Returns the flag of a field, or this one where there is none.
-    pub fn flag(&self, field: &'static str, default: bool) -> Result<bool, Fault<'t>> {
-        match self.table.get(field) {
-            None => Ok(default),
-            Some(Value::Boolean(flag)) => Ok(*flag),
-            Some(_) => Err(self.fault(field, Cause::NotFlag)),
+    pub fn flag(&self, field: &'static str, default: bool) -> Result<bool, Fault<'t>>
+        ensures { result_map_both (λ flag. flag) said result ≡ flag_of (part_of self.now) field.now default }
+    {
+        let Some(value) = self.get(field) else {
+            return Ok(default);
+        };
+        match value.as_bool() {
+            Some(flag) => Ok(flag),
+            None => Err(self.fault(field, Cause::NotFlag)),
         }
     }
 
@@ -105,7 +137,10 @@ impl<'t> Section<'t> {
     }
 
     /// Returns the socket address of a field that has to be there.
-    pub fn address(&self, field: &'static str) -> Result<SocketAddr, Fault<'t>> {
+    pub fn address(&self, field: &'static str) -> Result<SocketAddr, Fault<'t>>
+        ensures spelled { IfOk result (IsAddressOf (part_of self.now) field.now) }
+        ensures fault { IfErr result (λ f. IsNoAddress (part_of self.now) field.now (required_of (part_of self.now) field.now) (said f)) }
+    {
         match self.required(field)?.parse::<SocketAddr>() {
             Ok(address) => Ok(address),
             Err(_) => Err(self.fault(field, Cause::NotAddress)),
@@ -113,37 +148,39 @@ impl<'t> Section<'t> {
     }
 
     /// Returns the table of a field, as a section at that place.
-    pub fn table(
-        &self,
-        field: &'static str,
-        place: Place,
-    ) -> Result<Option<Section<'t>>, Fault<'t>> {
-        match self.table.get(field) {
-            None => Ok(None),
-            Some(Value::Table(table)) => Ok(Some(Section { table, place })),
-            Some(_) => Err(self.fault(field, Cause::NotTable)),
+    pub fn table(&self, field: &'static str, place: Place) -> Result<Option<Section<'t>>, Fault<'t>>
+        ensures { result_map_both (option_map part_of) said result ≡ table_at (part_of self.now) field.now place }
+    {
+        let Some(value) = self.get(field) else {
+            return Ok(None);
+        };
+        match value.as_table() {
+            Some(table) => Ok(Some(Section { table, place })),
+            None => Err(self.fault(field, Cause::NotTable)),
         }
     }
 
     /// Returns the list of a field, an empty one where there is none.
-    pub fn list(&self, field: &'static str) -> Result<&'t [Value], Fault<'t>> {
-        match self.table.get(field) {
-            None => Ok(&[]),
-            Some(Value::Array(values)) => Ok(values.as_slice()),
-            Some(_) => Err(self.fault(field, Cause::NotList)),
+    #[tactic(auto, using(crate::proofs::ConfigLemmas::items_listed))]
+    pub fn list(&self, field: &'static str) -> Result<&'t [Value], Fault<'t>>
+        ensures { result_map_both (λ values. map view values.now) said result ≡ list_at (part_of self.now) field.now }
+    {
+        let Some(value) = self.get(field) else {
+            return Ok(&[]);
+        };
+        match value.as_array() {
+            Some(values) => Ok(values.as_slice()),
+            None => Err(self.fault(field, Cause::NotList)),
         }
     }
 
-    /// Returns the table of a list at that number, as a section at that place.
-    pub fn entry(
-        &self,
-        values: &'t [Value],
-        number: usize,
-        place: Place,
-    ) -> Result<Section<'t>, Fault<'t>> {
-        match values.get(number) {
-            Some(Value::Table(table)) => Ok(Section { table, place }),
-            _ => Err(Fault {
+    /// Returns the table that a list has as an entry, as a section at that place.
+    pub fn entry(&self, value: &'t Value, place: Place) -> Result<Section<'t>, Fault<'t>>
+        ensures { result_map_both part_of said result ≡ entry_by place (as_table (view value.now)) }
+    {
+        match value.as_table() {
+            Some(table) => Ok(Section { table, place }),
+            None => Err(Fault {
                 place,
                 field: "it",
                 cause: Cause::NotTable,
@@ -162,6 +199,18 @@ impl<'t> Section<'t> {
             Ok(text) => Ok(text),
             Err(_) => Err(self.fault(field, Cause::OutOfMemory)),
         }
+    }
+}
+
+// The number, where it is one from 0 on.
+fn natural(number: Option<i64>) -> Option<u64>
+    ensures { result ≡ natural number }
+{
+    let number = number?;
+    if number < 0 {
+        None
+    } else {
+        Some(number as u64)
     }
 }
 
