@@ -1,18 +1,22 @@
 -- What a configuration spells, over the table that its text is: fields, words, pools and listeners.
-use Rattle.std.specs.Prelude.{◌≡◌, ◌≢◌, ℕ, ℤ, pos, negsuc, ◌*◌, ◌^◌, ◌<◌, List, [], ◌∷◌, map, codes, length, nat_lt, bytes_eq, Bool}
+use Rattle.std.specs.Prelude.{◌≡◌, ◌≢◌, ℕ, ℤ, pos, negsuc, ◌*◌, ◌^◌, ◌<◌, List, [], ◌∷◌, codes, length, nat_lt, bytes_eq, Bool}
 use Rattle.std.specs.Prelude.{◌⊎◌, slice_get, Option, Some, None, option_map, Result, Ok, Err, ⊤, string_bytes, if◌then◌else◌}
-use Rattle.std.specs.Borrow.{Bor}
-use Rattle.std.specs.List.{AllByRecursion}
+use Rattle.std.specs.List.{AllByRecursion, AllZip}
 use Rattle.std.specs.Net.Grammar.{IsSocketText}
 use Rattle.std.specs.declared.net.socket_addr.SocketAddr.{SocketAddr}
 use Rattle.toml.specs.Data.{Data, Items, no_items, item, Members, get_member, as_str, as_integer, as_bool, as_array, as_table}
 use Rattle.toml.specs.View.{table_view}
+use Rattle.lb_select_base.specs.AddressText.{address_of_text, bare_member}
+use Rattle.lb_select_base.specs.Backends.{Member}
 use Rattle.lb_proxy.specs.PoolFile.{weight_of}
 use Rattle.lb_proxy.specs.declared.config.PoolConfig.{PoolConfig}
 use Rattle.lb_proxy.specs.declared.config.ListenConfig.{ListenConfig}
 use Rattle.lb_proxy.specs.declared.config.Selection.{Selection}
 use Rattle.lb_proxy.specs.declared.config.Selection.TheVariants.{RoundRobin, Fnv, Ketama, Least}
 use Rattle.lb_proxy.specs.declared.config_fault.Place.{Place}
+use Rattle.lb_proxy.specs.declared.config.PoolSource.{PoolSource}
+use Rattle.lb_proxy.specs.declared.config.PoolSource.TheVariants.{Fixed, File}
+use Rattle.lb_proxy.specs.declared.config_fault.Place.TheVariants as place
 use Rattle.lb_proxy.specs.declared.config_fault.Cause.{Cause}
 use Rattle.lb_proxy.specs.declared.config_fault.Cause.TheVariants as cause
 use Rattle.lb_proxy.specs.declared.config_fault.Fault.{Fault}
@@ -157,10 +161,6 @@ units_by (Some number) unit = if nat_lt (number * unit) (2 ^ 64) then Some (numb
 abbrev pub units_of : List ℕ → ℕ → Option ℕ
 units_of digits unit = units_by (weight_of digits) unit
 
--- each listener leads to a pool
-abbrev pub LeadsTo : List PoolConfig → List ListenConfig → Type 0
-LeadsTo pools listens = AllByRecursion (λ listen. listen.pool < length pools) listens
-
 -- the field is not there, or its text is the word
 abbrev pub IsWord : Part → List ℕ → List ℕ → Type 0
 IsWord part field word = (text_of part field ≡ Ok None) ⊎ (text_of part field ≡ Ok (Some word))
@@ -177,3 +177,66 @@ pub record IsListen (pools : List PoolConfig) (part : Part) (listen : ListenConf
   pub key : IsWord part (codes "key") (codes "source")
   pub pool : (name : List ℕ) × (required_of part (codes "pool") ≡ Ok name) × IsPoolNamed pools name listen.pool
   pub selection : selection_in part ≡ Ok listen.selection
+
+-- an entry of a list is a table that is such a thing
+abbrev pub EntryIs : {A : Type 0} → (Part → A → Type 0) → Data → A → Type 0
+EntryIs Is d x = (part : Part) × (as_table d ≡ Some part.1) × Is part x
+
+-- the listeners are what the entries of the list spell, in its order
+abbrev pub AreListens : List PoolConfig → Part → List ListenConfig → Type 0
+AreListens pools top listens =
+    (entries : List Data) × (list_at top (codes "listen") ≡ Ok entries) × AllZip (EntryIs (IsListen pools)) entries listens
+
+-- the text of a backend's address and its weight: a text alone weighs 1, a table may have a weight
+abbrev pub IsWeighed : Option (List ℕ) → Option Members → List ℕ → ℕ → Type 0
+IsWeighed (Some s) t text weight = (text ≡ s) × (weight ≡ 1)
+IsWeighed None None text weight = ⊥
+IsWeighed None (Some ms) text weight =
+    (place : Place) × (required_of (place, ms) (codes "address") ≡ Ok text) × (number_of (place, ms) (codes "weight") 1 ≡ Ok weight)
+
+-- the backend has the address and the weight that the value spells, and nothing attached
+abbrev pub IsBackend : Data → Member → Type 0
+IsBackend d backend =
+    (text : List ℕ) × (weight : ℕ) × IsWeighed (as_str d) (as_table d) text weight
+    × (option_map (bare_member weight) (address_of_text text) ≡ Some backend)
+
+-- the backends are what the list spells, in its order
+abbrev pub AreBackends : Part → List Member → Type 0
+AreBackends part backends =
+    (values : List Data) × (list_at part (codes "backends") ≡ Ok values) × AllZip IsBackend values backends
+
+-- the backends come from a list or from a file, as the part says
+abbrev pub IsSource : Part → PoolSource → Type 0
+IsSource part (Fixed backends) = (text_of part (codes "file") ≡ Ok None) × AreBackends part backends.items
+IsSource part (File path) =
+    (text_of part (codes "file") ≡ Ok (Some (string_bytes path))) × (get_member (codes "backends") part.1 ≡ None)
+
+-- the pool is the one that the part spells
+pub record IsPool (part : Part) (pool : PoolConfig) : Type 0 where
+  pub name : required_of part (codes "name") ≡ Ok (string_bytes pool.name)
+  pub source : IsSource part pool.source
+
+-- the pools are what the entries of the list spell, in its order
+abbrev pub ArePools : Part → List PoolConfig → Type 0
+ArePools top pools =
+    (entries : List Data) × (list_at top (codes "pool") ≡ Ok entries) × AllZip (EntryIs IsPool) entries pools
+
+-- no two pools have one name: none has that of a later one
+abbrev pub HaveOwnNames : List PoolConfig → Type 0
+HaveOwnNames [] = ⊤
+HaveOwnNames (pool ∷ pools) = AllByRecursion (λ later. string_bytes pool.name ≢ string_bytes later.name) pools × HaveOwnNames pools
+
+-- where the status page is, if anywhere
+abbrev pub IsStatus : Part → Option SocketAddr → Type 0
+IsStatus top None = table_at top (codes "status") place.Status ≡ Ok None
+IsStatus top (Some address) =
+    (part : Part) × (table_at top (codes "status") place.Status ≡ Ok (Some part)) × IsAddressOf part (codes "listen") address
+
+-- the configuration's parts are what the table spells
+pub record IsConfig (top : Part) (status : Option SocketAddr) (pools : List PoolConfig) (listens : List ListenConfig) : Type 0 where
+  pub page : IsStatus top status
+  pub spelled : ArePools top pools
+  pub own_names : HaveOwnNames pools
+  pub some_pool : 0 < length pools
+  pub listening : AreListens pools top listens
+  pub some_listen : 0 < length listens

@@ -1,8 +1,12 @@
 //! What a configuration says: the pools, the listeners, the check of backends and the limits, or the first fault with its place.
-ghost use Rattle.std.specs.Prelude.{◌≡◌, ◌≢◌, codes, string_bytes, IfOk, IfSome, IfNone, OnOk};
+ghost use Rattle.std.specs.Prelude.{◌≡◌, ◌≢◌, ◌<◌, codes, length, string_bytes, IfOk, IfSome, IfNone, OnOk};
 ghost use Rattle.std.specs.List.{AllByRecursion};
 ghost use Rattle.std.specs.Result.{result_map_both};
-ghost use Rattle.lb_proxy.specs.Config.{part_of, said, selection_of, selection_in, IsWord, IsPoolNamed, IsListen, LeadsTo};
+ghost use Rattle.lb_proxy.specs.Config.{part_of, said, selection_of, selection_in, IsWord, IsPoolNamed, IsListen, IsBackend, AreBackends};
+ghost use Rattle.lb_proxy.specs.Config.{IsWeighed, IsSource, IsPool, ArePools, HaveOwnNames, AreListens, IsStatus, IsConfig};
+ghost use Rattle.lb_proxy.specs.declared.config_fault.Place.TheVariants.{Top};
+ghost use Rattle.toml.specs.Data.{as_str, as_table};
+ghost use Rattle.toml.specs.View.{table_view, view};
 
 use crate::config_fault::{Cause, Fault, Place};
 use crate::section::Section;
@@ -89,7 +93,7 @@ pub struct Config {
 
 /// Returns the configuration that a table spells, or the first fault.
 pub fn read_config<'t>(alloc: Global, table: &'t Table) -> Result<Config, Fault<'t>>
-    ensures { IfOk result (λ config. LeadsTo config.pools.items config.listens.items) }
+    ensures { IfOk result (λ config. IsConfig (Top, table_view table.now) config.status config.pools.items config.listens.items) }
 {
     let top = Section::new(table, Place::Top);
     top.only(&["check", "status", "limits", "pool", "listen"])?;
@@ -150,7 +154,9 @@ fn read_kind<'t>(alloc: Global, section: &Section<'t>) -> Result<CheckKind, Faul
 }
 
 // Where the status page is, if anywhere.
-fn read_status<'t>(top: &Section<'t>) -> Result<Option<SocketAddr>, Fault<'t>> {
+fn read_status<'t>(top: &Section<'t>) -> Result<Option<SocketAddr>, Fault<'t>>
+    ensures { IfOk result (IsStatus (part_of top.now)) }
+{
     let Some(section) = top.table("status", Place::Status)? else {
         return Ok(None);
     };
@@ -186,7 +192,11 @@ fn read_limits<'t>(top: &Section<'t>) -> Result<Limits, Fault<'t>> {
 }
 
 // The pools. There is one, and no two have one name.
-fn read_pools<'t>(alloc: Global, top: &Section<'t>) -> Result<Vec<PoolConfig>, Fault<'t>> {
+fn read_pools<'t>(alloc: Global, top: &Section<'t>) -> Result<Vec<PoolConfig>, Fault<'t>>
+    ensures pools { IfOk result (λ pools. ArePools (part_of top.now) pools.items) }
+    ensures names { IfOk result (λ pools. HaveOwnNames pools.items) }
+    ensures some { IfOk result (λ pools. 0 < length pools.items) }
+{
     let mut pools: Vec<PoolConfig> = Vec::new(alloc);
     let tables = top.list("pool")?;
     for number in 0..tables.len() {
@@ -195,8 +205,9 @@ fn read_pools<'t>(alloc: Global, top: &Section<'t>) -> Result<Vec<PoolConfig>, F
         if pool_number(pools.as_slice(), pool.name.as_str()).is_some() {
             return Err(section.fault("name", Cause::SameName));
         }
-        if pools.push(pool).is_err() {
-            return Err(section.fault("name", Cause::OutOfMemory));
+        match pools.push(pool) {
+            Ok(()) => {}
+            Err(_) => return Err(section.fault("name", Cause::OutOfMemory)),
         }
     }
     if pools.is_empty() {
@@ -206,7 +217,9 @@ fn read_pools<'t>(alloc: Global, top: &Section<'t>) -> Result<Vec<PoolConfig>, F
 }
 
 // One pool.
-fn read_pool<'t>(alloc: Global, section: &Section<'t>) -> Result<PoolConfig, Fault<'t>> {
+fn read_pool<'t>(alloc: Global, section: &Section<'t>) -> Result<PoolConfig, Fault<'t>>
+    ensures { IfOk result (IsPool (part_of section.now)) }
+{
     section.only(&["name", "backends", "file"])?;
     let name = section.required("name")?;
     let name = section.owned(alloc, "name", name)?;
@@ -215,7 +228,9 @@ fn read_pool<'t>(alloc: Global, section: &Section<'t>) -> Result<PoolConfig, Fau
 }
 
 // Where its backends come from: a list or a file.
-fn read_source<'t>(alloc: Global, section: &Section<'t>) -> Result<PoolSource, Fault<'t>> {
+fn read_source<'t>(alloc: Global, section: &Section<'t>) -> Result<PoolSource, Fault<'t>>
+    ensures { IfOk result (IsSource (part_of section.now)) }
+{
     match (section.text("file")?, section.has("backends")) {
         (None, true) => Ok(PoolSource::Fixed(read_backends(alloc, section)?)),
         (Some(path), false) => Ok(PoolSource::File(section.owned(alloc, "file", path)?)),
@@ -225,12 +240,16 @@ fn read_source<'t>(alloc: Global, section: &Section<'t>) -> Result<PoolSource, F
 }
 
 // The backends of a list.
-fn read_backends<'t>(alloc: Global, section: &Section<'t>) -> Result<Vec<Backend>, Fault<'t>> {
+fn read_backends<'t>(alloc: Global, section: &Section<'t>) -> Result<Vec<Backend>, Fault<'t>>
+    ensures { IfOk result (λ backends. AreBackends (part_of section.now) backends.items) }
+{
     let mut backends = Vec::new(alloc);
-    for value in section.list("backends")? {
-        let backend = read_backend(alloc, section, value)?;
-        if backends.push(backend).is_err() {
-            return Err(section.fault("backends", Cause::OutOfMemory));
+    let values = section.list("backends")?;
+    for number in 0..values.len() {
+        let backend = read_backend(alloc, section, &values[number])?;
+        match backends.push(backend) {
+            Ok(()) => {}
+            Err(_) => return Err(section.fault("backends", Cause::OutOfMemory)),
         }
     }
     Ok(backends)
@@ -241,16 +260,10 @@ fn read_backend<'t>(
     alloc: Global,
     section: &Section<'t>,
     value: &'t Value,
-) -> Result<Backend, Fault<'t>> {
-    let (text, weight) = match value {
-        Value::String(text) => (text.as_str(), 1),
-        Value::Table(table) => {
-            let entry = Section::new(table, section.place());
-            entry.only(&["address", "weight"])?;
-            (entry.required("address")?, entry.count("weight", 1)?)
-        }
-        _ => return Err(section.fault("backends", Cause::NotBackend)),
-    };
+) -> Result<Backend, Fault<'t>>
+    ensures { IfOk result (IsBackend (view value.now)) }
+{
+    let (text, weight) = backend_word(section, value)?;
     match Backend::from_text(alloc, text, weight) {
         Ok(backend) => Ok(backend),
         Err(Refusal::OutOfMemory) => Err(section.fault("backends", Cause::OutOfMemory)),
@@ -258,12 +271,34 @@ fn read_backend<'t>(
     }
 }
 
+// The text of a backend's address, and its weight.
+fn backend_word<'t>(section: &Section<'t>, value: &'t Value) -> Result<(&'t str, usize), Fault<'t>>
+    ensures { IfOk result (λ p. IsWeighed (as_str (view value.now)) (as_table (view value.now)) p.0.now p.1) }
+{
+    if let Some(text) = value.as_str() {
+        return Ok((text, 1));
+    }
+    let Some(table) = value.as_table() else {
+        return Err(section.fault("backends", Cause::NotBackend));
+    };
+    let entry = Section::new(table, section.place());
+    entry.only(&["address", "weight"])?;
+    let text = entry.required("address")?;
+    let weight = entry.count("weight", 1)?;
+    Ok((text, weight))
+}
+
 // The number of the pool of this name.
 fn pool_number(pools: &[PoolConfig], name: &str) -> Option<usize>
     ensures some { IfSome result (λ number. IsPoolNamed pools.now name.now number) }
     ensures none { IfNone result (AllByRecursion (λ pool. string_bytes pool.name ≢ name.now) pools.now) }
 {
-    pools.iter().position(|pool| pool.name.as_str() == name)
+    for number in 0..pools.len() {
+        if pools[number].name.as_str() == name {
+            return Some(number);
+        }
+    }
+    None
 }
 
 // The listeners. There is one.
@@ -272,15 +307,17 @@ fn read_listens<'t>(
     top: &Section<'t>,
     pools: &[PoolConfig],
 ) -> Result<Vec<ListenConfig>, Fault<'t>>
-    ensures { IfOk result (λ listens. LeadsTo pools.now listens.items) }
+    ensures listens { IfOk result (λ listens. AreListens pools.now (part_of top.now) listens.items) }
+    ensures some { IfOk result (λ listens. 0 < length listens.items) }
 {
     let mut listens = Vec::new(alloc);
     let tables = top.list("listen")?;
     for number in 0..tables.len() {
         let section = top.entry(&tables[number], Place::Listen(number))?;
         let listen = read_listen(&section, pools)?;
-        if listens.push(listen).is_err() {
-            return Err(section.fault("address", Cause::OutOfMemory));
+        match listens.push(listen) {
+            Ok(()) => {}
+            Err(_) => return Err(section.fault("address", Cause::OutOfMemory)),
         }
     }
     if listens.is_empty() {

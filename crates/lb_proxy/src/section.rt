@@ -1,5 +1,5 @@
 //! A table of a configuration, with the place that its faults name.
-ghost use Rattle.std.specs.Prelude.{◌≡◌, map, option_map, is_some, IfOk, IfErr};
+ghost use Rattle.std.specs.Prelude.{◌≡◌, map, option_map, is_some, string_bytes, IfOk, IfErr};
 ghost use Rattle.std.specs.Result.{result_map_both};
 ghost use Rattle.toml.specs.Data.{get_member, as_table};
 ghost use Rattle.toml.specs.View.{table_view, view};
@@ -189,12 +189,9 @@ impl<'t> Section<'t> {
     }
 
     /// Returns a copy of a field's text.
-    pub fn owned(
-        &self,
-        alloc: Global,
-        field: &'static str,
-        text: &str,
-    ) -> Result<String, Fault<'t>> {
+    pub fn owned(&self, alloc: Global, field: &'static str, text: &str) -> Result<String, Fault<'t>>
+        ensures { IfOk result (λ copy. string_bytes copy ≡ text.now) }
+    {
         match text.to_string(alloc) {
             Ok(text) => Ok(text),
             Err(_) => Err(self.fault(field, Cause::OutOfMemory)),
