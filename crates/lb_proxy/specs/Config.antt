@@ -1,6 +1,6 @@
 -- What a configuration spells, over the table that its text is: fields, words, pools and listeners.
 use Rattle.std.specs.Prelude.{◌≡◌, ◌≢◌, ℕ, ℤ, pos, negsuc, ◌*◌, ◌^◌, ◌<◌, List, [], ◌∷◌, codes, length, nat_lt, bytes_eq, Bool}
-use Rattle.std.specs.Prelude.{◌⊎◌, slice_get, Option, Some, None, option_map, Result, Ok, Err, ⊤, string_bytes, if◌then◌else◌}
+use Rattle.std.specs.Prelude.{◌⊎◌, slice_get, Option, Some, None, IsSome, option_map, Result, Ok, Err, ⊤, string_bytes, if◌then◌else◌}
 use Rattle.std.specs.List.{AllByRecursion, AllZip}
 use Rattle.std.specs.Net.Grammar.{IsSocketText}
 use Rattle.std.specs.declared.net.socket_addr.SocketAddr.{SocketAddr}
@@ -207,7 +207,8 @@ AreBackends part backends =
 
 -- the backends come from a list or from a file, as the part says
 abbrev pub IsSource : Part → PoolSource → Type 0
-IsSource part (Fixed backends) = (text_of part (codes "file") ≡ Ok None) × AreBackends part backends.items
+IsSource part (Fixed backends) =
+    (text_of part (codes "file") ≡ Ok None) × IsSome (get_member (codes "backends") part.1) × AreBackends part backends.items
 IsSource part (File path) =
     (text_of part (codes "file") ≡ Ok (Some (string_bytes path))) × (get_member (codes "backends") part.1 ≡ None)
 
