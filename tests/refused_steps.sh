@@ -43,23 +43,30 @@ judge() {
 
 # PROGRAM WORD: refuses each of its requests in turn, and judges each name that it says.
 refuse_each() {
-    local requests number names lines verdict odd name again which
+    local requests number names own said lines verdict odd name again which
     names=$(refused 0 "$1" "$2" | sed -n 's/, a step at a time: as it should be$//p')
     requests=$(cat "$room/counted")
+    # Where memory is refused for the words of the command line, the program says so and ends.
+    own=0
     for number in $(seq "$requests"); do
-        refused "$number" "$1" "$2" | sed "s/^/$number: /"
+        said=$(refused "$number" "$1" "$2")
+        if [ "$said" = $'Error: out of memory\nstatus 1' ]; then
+            own=$((own + 1))
+        else
+            sed "s/^/$number: /" <<<"$said"
+        fi
     done >"$room/said"
-    lines=$((($(wc -l <<<"$names") + 1) * requests))
+    lines=$((($(wc -l <<<"$names") + 1) * (requests - own)))
     verdict=
-    [ -n "$names" ] && [ "$requests" -gt 0 ] && [ "$(wc -l <"$room/said")" -eq "$lines" ] || verdict='there are other lines'
+    [ -n "$names" ] && [ "$own" -lt 10 ] && [ "$(wc -l <"$room/said")" -eq "$lines" ] || verdict='there are other lines'
     odd=$(grep -vE ': status 0$|: as it should be$' "$room/said" | head -n 5 || true)
-    judge "$requests requests of ${1##*/} $2" "$verdict$odd"
+    judge "$requests requests of ${1##*/} $2, $own of them for its words" "$verdict$odd"
     while read -r name; do
         again=$(sed -n "s/^[0-9]*: $name, \(.*\) given again: as it should be$/\1/p" "$room/said")
         verdict=
         [ -n "$again" ] || verdict='none of its own was refused'
         which=$(grep -o '[0-9]*' <<<"$again" | sort -nu | tr '\n' ' ')
-        judge "$name, $(wc -l <<<"$again") of them its own, in the lines ${which% }" "$verdict"
+        judge "$name, $(wc -l <<<"$again") of them its own, in the lines or calls ${which% }" "$verdict"
     done <<<"$names"
 }
 
