@@ -1,6 +1,6 @@
 //! Calls of shared types in which memory may be refused: `refused`. A call that was refused for it has to leave all that can be read as it
 //! was, and is made again. Each call has to answer what its row says, whether it was made again or not.
-use crate::refused_subjects::{BalancerCalls, GroupCalls, RegistryCalls, ViewCalls};
+use crate::refused_subjects::{Alone, Balancer, Calls, Group, Made, View};
 use anyhow::Error;
 use lb_balancer_core::timings::UpdateTimings;
 use lb_health_view::discovery::{Discovered, ServiceDiscovery};
@@ -76,7 +76,7 @@ impl MomentSource for Ticks {
 pub enum Call {
     /// Discovers the first list or the other one. Answers the newest generation.
     Update(bool),
-    /// Sets the load of the second backend of the first list.
+    /// Sets the loads of the first list.
     Load,
     /// Takes a worker's turn. Answers the generation that is published.
     Turn,
@@ -212,24 +212,26 @@ impl Course {
     }
 }
 
+// Makes the calls of a subject, and reports what came of them.
+fn agree<W: Wait + Print + Copy + Drop, T: Made + Drop>(
+    rt: &W,
+    alloc: Global,
+    name: &str,
+    rows: &[Row],
+) -> io::Result<bool>
+where
+    Calls<W, T>: Subject,
+{
+    let (made, course): (Option<Calls<W, T>>, Course) = Calls::new(*rt, alloc);
+    course.play(made.as_ref(), rows).report(rt, name)
+}
+
 // Reports the calls of each subject. Returns whether all agree.
 fn all_agree<W: Wait + Print + Copy + Drop>(rt: &W, alloc: Global) -> io::Result<bool> {
-    let (made, course) = RegistryCalls::new(*rt, alloc);
-    let mut all = course
-        .play(made.as_ref(), REGISTRY)
-        .report(rt, "the calls of a shared registry")?;
-    let (made, course) = ViewCalls::new(*rt, alloc);
-    all &= course
-        .play(made.as_ref(), VIEW)
-        .report(rt, "the calls of a shared view")?;
-    let (made, course) = BalancerCalls::new(*rt, alloc);
-    all &= course
-        .play(made.as_ref(), BALANCER)
-        .report(rt, "the calls of a shared balancer")?;
-    let (made, course) = GroupCalls::new(*rt, alloc);
-    all &= course
-        .play(made.as_ref(), GROUP)
-        .report(rt, "the calls of a shared group")?;
+    let mut all = agree::<W, Alone>(rt, alloc, "the calls of a shared registry", REGISTRY)?;
+    all &= agree::<W, View>(rt, alloc, "the calls of a shared view", VIEW)?;
+    all &= agree::<W, Balancer>(rt, alloc, "the calls of a shared balancer", BALANCER)?;
+    all &= agree::<W, Group>(rt, alloc, "the calls of a shared group", GROUP)?;
     Ok(all)
 }
 
