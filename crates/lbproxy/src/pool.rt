@@ -9,7 +9,7 @@ use pingora_load_balancing::discovery::DiscoverySource;
 use pingora_load_balancing::health_check::{HealthCheck, NoRule, Rule};
 use pingora_load_balancing::selection::{Chosen, Kind};
 use pingora_load_balancing::{
-    Backend, Backends, HealthRegistry, LoadBalancerGroup, Refusal, SelectorRebuildGate,
+    Backend, Backends, GateRefusal, HealthRegistry, LoadBalancerGroup, Refusal, SelectorRebuildGate,
 };
 use std::alloc::{AllocError, Global};
 use std::collections::BTreeMap;
@@ -191,8 +191,11 @@ fn group_of<R: Log + Wait + Drop, C: HealthCheck + Drop>(
     let gate = Arc::try_clone(&common.gate)?;
     let backends = Backends::new_with_health_registry(DiscoverySource::Boxed(discovery), registry);
     let mut group = LoadBalancerGroup::from_backends_with_configs(rt, alloc, backends, kinds)?;
-    group.with_rebuild_gate(rt, alloc, gate)?;
-    Ok(group)
+    match group.with_rebuild_gate(rt, alloc, gate) {
+        Ok(()) => Ok(group),
+        Err(GateRefusal::NotMade(refusal)) => Err(refusal),
+        Err(GateRefusal::WasUpdated) => Err(Refusal::NoSuch),
+    }
 }
 
 impl<

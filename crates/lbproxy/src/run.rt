@@ -75,7 +75,7 @@ fn print_error<R: Print + Eprint>(rt: &R, error: &Error) -> io::Result<u8> {
 /// Returns what the words ask for; help, and what is wrong with the words or the file, is printed.
 ///
 /// The status to end with is 0 after help and for a good file, 2 for bad words or a bad file.
-pub fn asked<R: Files + Env + Print + Eprint + AllocGlobal>(rt: &R) -> io::Result<Asked> {
+pub fn read_words<R: Files + Env + Print + Eprint + AllocGlobal>(rt: &R) -> io::Result<Asked> {
     let words: Vec<String> = env::args(rt)?.collect(rt.alloc())?;
     let mut command: Command<'_> = command(rt.alloc())?;
     match command.try_get_matches_from_mut(words.as_slice()) {

@@ -46,6 +46,10 @@ where
         + Send
         + Sync
         + 'static,
+    R::Stream: Send + Sync + 'static,
+    R::Listener: Send + Sync + 'static,
+    R::File: Send + Sync + 'static,
+    R::Dir: Send + Sync + 'static,
     N: Net<Listener = TcpListener, Stream = TcpStream>,
     C: HealthCheck + Drop + Send + Sync + 'static,
 {
@@ -139,7 +143,7 @@ where
         if pool.start(rt, alloc) > 0 {
             error!(rt; "pool {name}: a worker couldn't be started");
         }
-        pool.backends.look(rt);
+        pool.backends.look(rt, alloc);
         pool.update(rt, alloc);
         for _ in 0..LOOKS {
             if pool
@@ -164,6 +168,8 @@ fn start_helpers<R, C>(
 ) -> Result<Vec<Thread>, anyhow::Error>
 where
     R: Log + Files + Threads + Wait + Clock + AllocGlobal + Copy + Drop + Send + Sync + 'static,
+    R::File: Send + Sync + 'static,
+    R::Dir: Send + Sync + 'static,
     C: HealthCheck + Drop + Send + Sync + 'static,
 {
     let mut threads = Vec::new(alloc);
@@ -189,6 +195,8 @@ fn start_loops<R, C>(
 ) -> Result<Vec<Thread>, anyhow::Error>
 where
     R: Log + Net + Threads + Wait + Clock + Copy + Drop + Send + Sync + 'static,
+    R::Stream: Send + Sync + 'static,
+    R::Listener: Send + Sync + 'static,
     C: HealthCheck + Drop + Send + Sync + 'static,
 {
     let mut threads = Vec::new(alloc);

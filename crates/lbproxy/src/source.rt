@@ -48,7 +48,7 @@ impl PoolBackends {
     /// Reads the file again. Returns whether it says something new; a list never does.
     ///
     /// A file that can't be read is as before, and is logged once.
-    pub fn look<R: Log + Files + Wait + AllocGlobal>(&self, rt: &R) -> bool {
+    pub fn look<R: Log + Files + Wait + AllocGlobal>(&self, rt: &R, alloc: Global) -> bool {
         if self.path.is_empty() {
             return false;
         }
@@ -60,7 +60,7 @@ impl PoolBackends {
                 is_new
             }
             Err(error) => {
-                let said = format!(in rt.alloc(); "can't be read: {error}");
+                let said = format!(in alloc; "can't be read: {error}");
                 self.note(rt, said);
                 false
             }

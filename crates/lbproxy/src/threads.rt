@@ -37,6 +37,8 @@ pub fn start_loop<R, C>(
 ) -> io::Result<Thread>
 where
     R: Log + Net + Threads + Wait + Clock + Copy + Drop + Send + Sync + 'static,
+    R::Stream: Send + Sync + 'static,
+    R::Listener: Send + Sync + 'static,
     C: HealthCheck + Drop + Send + Sync + 'static,
 {
     let listeners = copies(alloc, listeners)?;
@@ -75,6 +77,8 @@ pub fn start_looking<R, C>(
 ) -> io::Result<Thread>
 where
     R: Log + Files + Threads + Wait + Clock + AllocGlobal + Copy + Drop + Send + Sync + 'static,
+    R::File: Send + Sync + 'static,
+    R::Dir: Send + Sync + 'static,
     C: HealthCheck + Drop + Send + Sync + 'static,
 {
     let started = thread::spawn(&rt, move || {
@@ -98,7 +102,7 @@ where
     C: HealthCheck + Drop + Send + Sync + 'static,
 {
     for pool in proxy.pools.iter() {
-        if pool.backends.look(rt) {
+        if pool.backends.look(rt, alloc) {
             pool.update(rt, alloc);
         }
     }
