@@ -18,7 +18,7 @@ use Rattle.lb_health_view.specs.Snapshots.{SnapshotValue, snapshot_at, value_at}
 use Rattle.lb_health_view.specs.ViewEvents.{ViewEvent, Shown, Released, Set, Held, flag_after, listed, snapshots_after}
 use Rattle.lb_health_view.proofs.ViewLemmas.{lists-same}
 use Rattle.lb_rebuild_slots.specs.Values.{ReaderValue}
-use Rattle.lb_rebuild_group.specs.Stands.{GroupValue}
+use Rattle.lb_rebuild_group.specs.Stands.{GroupValue, views_of}
 use Rattle.lb_balancer_core.specs.Plain.{IsReadyFor}
 use Rattle.lb_threads_group.specs.Group.{ReadyUnder}
 use Rattle.lb_threads_group.specs.Shared.{SharedValue}
@@ -56,11 +56,11 @@ module _ (b m : Member) (same : same_member b m ≡ true) where
     ready-for : (v : GroupValue C) (x : RegistryValue R) (r : ReaderValue C) → IsReadyFor gives v x r m true → IsReadyFor gives v x r b true
     ready-for v x r is key_of events after made e stands =
         let told = is key_of events after made e stands in
-        ((λ t. ready-same key_of _ events r.generation (told.0 refl)), (λ ready. refl))
+        ((λ t. ready-same key_of (views_of made e) events r.generation (told.0 refl)), (λ ready. refl))
 
     -- where a member is ready, so is a backend of its identity
     pub ready-under : (site : SharedValue C R) (r : ReaderValue C) → ReadyUnder gives site r m true → ReadyUnder gives site r b true
-    ready-under site r (v, x, state, of, is) = (v, x, state, of, ready-for v x r is)
+    ready-under site r (v, (x, (state, (of, is)))) = (v, (x, (state, (of, ready-for v x r is))))
 
 module _ {C R : Type 0} (gives : R → Member → Member → Type 0) (site : SharedValue C R) (r : ReaderValue C) (b : Member) where
   here : (m : Member) (ms : List Member) (t : Bool) → same_member b m ≡ t → ReadyUnder gives site r m true
