@@ -20,7 +20,8 @@ use Rattle.lb_health_view.proofs.ViewLemmas.{lists-same}
 use Rattle.lb_rebuild_slots.specs.Values.{ReaderValue}
 use Rattle.lb_rebuild_group.specs.Stands.{GroupValue, views_of}
 use Rattle.lb_balancer_core.specs.Plain.{IsReadyFor}
-use Rattle.lb_threads_group.specs.Group.{ReadyUnder}
+use Rattle.lb_threads_registry.specs.Registry.{IsRegistryOf}
+use Rattle.lb_threads_group.specs.Group.{IsState, ReadyUnder}
 use Rattle.lb_threads_group.specs.Shared.{SharedValue}
 
 some-more : {A : Type 0} (o : Option A) (P Q : A → Type 0) → ((x : A) → P x → Q x) → IsSomeAnd o P → IsSomeAnd o Q
@@ -92,3 +93,10 @@ module _ {F : Type 0} (g : Mut F (Bor Member × Unit {0}) Bool) (P : Member → 
 
   pub kept-true : (ms us : List Member) → IsFiltered (CalledAt g) f ms us → Each (λ m. P m true) us
   kept-true ms us k = subst (λ (xs : List Member). Each (λ m. P m true) xs) (sym k.4) (parted k.0 ms k.1 k.2 k.3)
+
+-- what was ready at a state of group and registry was ready at some state of this group
+pub each-under : {C R : Type 0} (gives : R → Member → Member → Type 0) (site : SharedValue C R) (r : ReaderValue C) (v : GroupValue C)
+    (x : RegistryValue R) → IsState site.core v → IsRegistryOf gives site.registry x → (bs : List Member)
+    → Each (λ b. IsReadyFor gives v x r b true) bs → Each (λ b. ReadyUnder gives site r b true) bs
+each-under gives site r v x state of [] all = tt
+each-under gives site r v x state of (b ∷ bs) all = ((v, (x, (state, (of, all.0)))), each-under gives site r v x state of bs all.1)

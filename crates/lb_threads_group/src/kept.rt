@@ -207,7 +207,10 @@ impl<S: BackendSelection, R: KeyRule + Drop, C: HealthCheck + Drop> SharedGroup<
     {
         let version = self.version();
         let mut port = LockedPort { group: self, rt };
-        let reader = port.enter(slot)?;
+        let reader = match port.enter(slot) {
+            Ok(reader) => reader,
+            Err(refusal) => return Err(refusal),
+        };
         let ready = self.ready_for(rt, alloc, &reader);
         Ok(Entry {
             slot,
