@@ -1,6 +1,6 @@
 //! Selections of threads from a group that they share.
-ghost use Rattle.std.specs.Prelude.{◌≡◌, IfSome};
-ghost use Rattle.lb_balancer_core.specs.Looks.{Answers};
+ghost use Rattle.std.specs.Prelude.{◌≡◌, Err, IfSome, MatchBool, None, Ok};
+ghost use Rattle.lb_balancer_core.specs.Looks.{Answers, is_no_such};
 ghost use Rattle.lb_threads_group.specs.Kept.{AnswersUnder, IsKeptFor, SelectedFrom};
 ghost use Rattle.lb_threads_group.specs.Shared.{SelectsByAny};
 
@@ -8,6 +8,7 @@ use crate::group::SharedGroup;
 use crate::kept::{Entry, hint_of};
 use lb_health_check::health_check::HealthCheck;
 use lb_health_registry::keys::KeyRule;
+use lb_lanes::lane::Seen;
 use lb_select_base::backend::Backend;
 use lb_select_base::refusal::Refusal;
 use lb_select_base::walk::BackendSelection;
@@ -48,8 +49,7 @@ impl<S: BackendSelection, R: KeyRule + Drop, C: HealthCheck + Drop> SharedGroup<
                 self.keep(rt, hint, entry);
                 answer
             }
-            Err(Refusal::NoSuch) => Ok(None),
-            Err(refusal) => Err(refusal),
+            Err(refusal) => unentered(refusal),
         }
     }
 
@@ -69,14 +69,42 @@ impl<S: BackendSelection, R: KeyRule + Drop, C: HealthCheck + Drop> SharedGroup<
             self.now slot) }
     {
         let seen = self.seen_in_lane(rt, slot, hint)?;
-        let answer = match seen.value() {
-            Some(entry) if entry.slot == slot => {
-                Some(self.select_for(rt, alloc, entry, key, max_iterations, accept))
-            }
-            Some(_) | None => None,
+        let answer = match self.entry_in(&seen) {
+            Some(entry) => self.select_kept(rt, alloc, slot, entry, key, max_iterations, accept),
+            None => None,
         };
         self.end_reading(rt, seen);
         answer
+    }
+
+    // What a lane has.
+    fn entry_in<'s>(&self, seen: &'s Seen<'_, Entry<S, R, C>>) -> Option<&'s Entry<S, R, C>>
+        requires { seen.now.hand.tag ≡ self.now }
+        ensures { IfSome result (λ e. IsKeptFor R.gives self.now e.now.slot e.now.reader e.now.ready.keys) }
+    {
+        seen.value()
+    }
+
+    // Selects in what was entered, where it is of this slot.
+    fn select_kept<W: Wait, F: Fn(&Backend, bool) -> bool>(
+        &self,
+        rt: &W,
+        alloc: Global,
+        slot: usize,
+        entry: &Entry<S, R, C>,
+        key: &[u8],
+        max_iterations: usize,
+        accept: &F,
+    ) -> Option<Result<Option<Backend>, Refusal>>
+        requires accept { F.IsAlwaysCallable accept.now }
+        requires kept { IsKeptFor R.gives self.now entry.now.slot entry.now.reader entry.now.ready.keys }
+        ensures { IfSome result (SelectedFrom R.gives (λ b ready a. Answers F.Fn accept.now b ready a) max_iterations S.walks key.now
+            self.now slot) }
+    {
+        if entry.slot != slot {
+            return None;
+        }
+        Some(self.select_for(rt, alloc, entry, key, max_iterations, accept))
     }
 
     // Selects in what was entered.
@@ -101,5 +129,15 @@ impl<S: BackendSelection, R: KeyRule + Drop, C: HealthCheck + Drop> SharedGroup<
                 backend.entry.now result }
         { accept(backend, self.judge(rt, entry, backend)) };
         self.select_in(rt, alloc, &entry.reader, key, max_iterations, &judged)
+    }
+}
+
+// What is selected where no reader entered.
+fn unentered(refusal: Refusal) -> Result<Option<Backend>, Refusal>
+    ensures { MatchBool (is_no_such refusal) (result ≡ Ok None) (result ≡ Err refusal) }
+{
+    match refusal {
+        Refusal::NoSuch => Ok(None),
+        refusal => Err(refusal),
     }
 }
