@@ -1,2 +1,3 @@
 pub mod Group
+pub mod Kept
 pub mod Shared

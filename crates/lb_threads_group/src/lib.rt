@@ -4,6 +4,7 @@
 
 mod backends;
 pub mod group;
+pub mod kept;
 pub mod passes;
 pub mod port;
 mod reading;
