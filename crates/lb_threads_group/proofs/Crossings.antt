@@ -43,11 +43,11 @@ module _ (T R H I C W : RattleType) (g : Selection T.Denot I.Denot C.Denot W.Den
   reader_sync : IsSync (reader.the_row T I C W g h)
   reader_sync = search (sendable, crosses, place_sync) depth 20
 
-  entry_send : IsSend (entry.the_row T R H I C W g h k)
+  entry_send : IsSend (entry.the_row T R H I C W g h)
   entry_send =
       search (sendable, crosses, sets.crosses, maps.crosses, backend.the_send, backend.the_sync, version.the_send, reader_send) depth 30
 
-  entry_sync : IsSync (entry.the_row T R H I C W g h k)
+  entry_sync : IsSync (entry.the_row T R H I C W g h)
   entry_sync =
       search (sendable, crosses, sets.crosses, maps.crosses, backend.the_send, backend.the_sync, version.the_sync, reader_sync) depth 30
 
