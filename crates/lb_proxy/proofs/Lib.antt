@@ -1,4 +1,5 @@
 pub mod AttemptsLemmas
+pub mod ConfigLemmas
 pub mod FlowLemmas
 pub mod MetricsLemmas
 pub mod PoolFileLemmas

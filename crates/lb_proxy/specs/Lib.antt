@@ -1,4 +1,5 @@
 pub mod Attempts
+pub mod Config
 pub mod Key
 pub mod Metrics
 pub mod PoolFile

@@ -171,8 +171,8 @@ fn is_path(word: &str) -> bool
     word.as_bytes().starts_with(b"unix:")
 }
 
-// The weight that a word spells, if it spells one. A sign is refused.
-fn weight_of(word: &str) -> Option<usize>
+// The number that a word spells, if it spells one, as a weight is written. A sign is refused.
+pub(crate) fn weight_of(word: &str) -> Option<usize>
     ensures { result ≡ weight_of word.now }
 {
     if has_plus(word) {

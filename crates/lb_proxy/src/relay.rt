@@ -115,6 +115,22 @@ impl Flow {
         Ok(count)
     }
 
+    // How many bytes may be read before some are written.
+    fn room(&self) -> usize
+        ensures { result ≡ self.now.room }
+    {
+        FLOW_CAPACITY - self.end
+    }
+
+    // Makes it as new: nothing came yet.
+    fn reset(&mut self)
+        ensures { self.new ≡ idle }
+    {
+        self.start = 0;
+        self.end = 0;
+        self.phase = Phase::Open;
+    }
+
     // The bytes that wait.
     fn pending(&self) -> &[u8]
         ensures { result.now ≡ self.now.pending }
@@ -200,6 +216,22 @@ impl Relay {
             from_backend: Flow::new(alloc)?,
             failed: false,
         })
+    }
+
+    /// Makes the relay that of a new connection, with the memory that it has.
+    pub fn reset(&mut self)
+        ensures { self.new ≡ fresh }
+    {
+        self.from_client.reset();
+        self.from_backend.reset();
+        self.failed = false;
+    }
+
+    /// Returns how many bytes of the source may be read before some are written.
+    pub fn room(&self, source: Side) -> usize
+        ensures { result ≡ (flow_of source self.now).room }
+    {
+        self.flow(source).room()
     }
 
     /// Returns whether the source may be read: it has not ended, and there is room.

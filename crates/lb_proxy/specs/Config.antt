@@ -1,0 +1,243 @@
+-- What a configuration spells, over the table that its text is: fields, words, pools and listeners.
+use Rattle.std.specs.Prelude.{◌≡◌, ◌≢◌, ℕ, ℤ, pos, negsuc, ◌*◌, ◌^◌, ◌<◌, List, [], ◌∷◌, codes, length, nat_lt, bytes_eq, Bool}
+use Rattle.std.specs.Prelude.{◌⊎◌, slice_get, Option, Some, None, IsSome, option_map, Result, Ok, Err, ⊤, string_bytes, if◌then◌else◌}
+use Rattle.std.specs.List.{AllByRecursion, AllZip}
+use Rattle.std.specs.Net.Grammar.{IsSocketText}
+use Rattle.std.specs.declared.net.socket_addr.SocketAddr.{SocketAddr}
+use Rattle.toml.specs.Data.{Data, Items, no_items, item, Members, get_member, as_str, as_integer, as_bool, as_array, as_table}
+use Rattle.toml.specs.View.{table_view}
+use Rattle.lb_select_base.specs.AddressText.{address_of_text, bare_member}
+use Rattle.lb_select_base.specs.Backends.{Member}
+use Rattle.lb_proxy.specs.PoolFile.{weight_of}
+use Rattle.lb_proxy.specs.declared.config.PoolConfig.{PoolConfig}
+use Rattle.lb_proxy.specs.declared.config.ListenConfig.{ListenConfig}
+use Rattle.lb_proxy.specs.declared.config.Selection.{Selection}
+use Rattle.lb_proxy.specs.declared.config.Selection.TheVariants.{RoundRobin, Fnv, Ketama, Least}
+use Rattle.lb_proxy.specs.declared.config_fault.Place.{Place}
+use Rattle.lb_proxy.specs.declared.config.PoolSource.{PoolSource}
+use Rattle.lb_proxy.specs.declared.config.PoolSource.TheVariants.{Fixed, File}
+use Rattle.lb_proxy.specs.declared.config_fault.Place.TheVariants as place
+use Rattle.lb_proxy.specs.declared.config_fault.Cause.{Cause}
+use Rattle.lb_proxy.specs.declared.config_fault.Cause.TheVariants as cause
+use Rattle.lb_proxy.specs.declared.config_fault.Fault.{Fault}
+use Rattle.lb_proxy.specs.declared.section.Section.{Section}
+
+-- a part of a configuration: where it is, and its fields
+abbrev pub Part : Type 0
+Part = Place × Members
+
+abbrev pub part_of : Section → Part
+part_of s = (s.place, table_view s.table.now)
+
+-- what a fault says: in which part, of which field, and why
+abbrev pub Said : Type 0
+Said = Place × List ℕ × Cause
+
+abbrev pub said : Fault → Said
+said f = (f.place, f.field.now, f.cause)
+
+-- a value of a field, or the fault of that field
+abbrev pub blamed : {A : Type 0} → Part → List ℕ → Result A Cause → Result A Said
+blamed part field (Ok x) = Ok x
+blamed part field (Err c) = Err (part.0, field, c)
+
+-- what is found, or why it is refused
+abbrev pub or_refused : {A : Type 0} → Cause → Option A → Result A Cause
+or_refused c (Some x) = Ok x
+or_refused c None = Err c
+
+abbrev pub some_or_refused : {A : Type 0} → Cause → Option A → Result (Option A) Cause
+some_or_refused c (Some x) = Ok (Some x)
+some_or_refused c None = Err c
+
+-- the text of a field, none where the field is not there
+abbrev pub text_in : Option Data → Result (Option (List ℕ)) Cause
+text_in None = Ok None
+text_in (Some d) = some_or_refused cause.NotText (as_str d)
+
+abbrev pub text_of : Part → List ℕ → Result (Option (List ℕ)) Said
+text_of part field = blamed part field (text_in (get_member field part.1))
+
+-- the text of a field that has to be there
+abbrev pub required_in : Option Data → Result (List ℕ) Cause
+required_in None = Err cause.Missing
+required_in (Some d) = or_refused cause.NotText (as_str d)
+
+abbrev pub required_of : Part → List ℕ → Result (List ℕ) Said
+required_of part field = blamed part field (required_in (get_member field part.1))
+
+-- a number from 0 on
+abbrev pub natural : Option ℤ → Option ℕ
+natural None = None
+natural (Some (pos n)) = Some n
+natural (Some (negsuc n)) = None
+
+abbrev pub number_in : ℕ → Option Data → Result ℕ Cause
+number_in default None = Ok default
+number_in default (Some d) = or_refused cause.NotNumber (natural (as_integer d))
+
+abbrev pub number_of : Part → List ℕ → ℕ → Result ℕ Said
+number_of part field default = blamed part field (number_in default (get_member field part.1))
+
+abbrev pub flag_in : Bool → Option Data → Result Bool Cause
+flag_in default None = Ok default
+flag_in default (Some d) = or_refused cause.NotFlag (as_bool d)
+
+abbrev pub flag_of : Part → List ℕ → Bool → Result Bool Said
+flag_of part field default = blamed part field (flag_in default (get_member field part.1))
+
+-- the items in their order
+abbrev pub list_of_items : Items → List Data
+list_of_items no_items = []
+list_of_items (item d ds) = d ∷ list_of_items ds
+
+abbrev pub list_by : Option Items → Result (List Data) Cause
+list_by None = Err cause.NotList
+list_by (Some ds) = Ok (list_of_items ds)
+
+-- the values of a list, none where the field is not there
+abbrev pub list_in : Option Data → Result (List Data) Cause
+list_in None = Ok []
+list_in (Some d) = list_by (as_array d)
+
+abbrev pub list_at : Part → List ℕ → Result (List Data) Said
+list_at part field = blamed part field (list_in (get_member field part.1))
+
+-- the table of a field, as a part at that place
+abbrev pub placed_by : Place → Option Members → Result (Option Part) Cause
+placed_by place None = Err cause.NotTable
+placed_by place (Some ms) = Ok (Some (place, ms))
+
+abbrev pub table_in : Place → Option Data → Result (Option Part) Cause
+table_in place None = Ok None
+table_in place (Some d) = placed_by place (as_table d)
+
+abbrev pub table_at : Part → List ℕ → Place → Result (Option Part) Said
+table_at part field place = blamed part field (table_in place (get_member field part.1))
+
+-- the table that a list has as an entry, as a part at that place
+abbrev pub entry_by : Place → Option Members → Result Part Said
+entry_by place None = Err (place, codes "it", cause.NotTable)
+entry_by place (Some ms) = Ok (place, ms)
+
+-- the text of the field spells the socket address
+abbrev pub IsAddressOf : Part → List ℕ → SocketAddr → Type 0
+IsAddressOf part field address = (text : List ℕ) × (required_of part field ≡ Ok text) × IsSocketText text address
+
+-- why a field gives no socket address: it gives no text, or its text spells none
+abbrev pub IsNoAddress : Part → List ℕ → Result (List ℕ) Said → Said → Type 0
+IsNoAddress part field (Err e) s = s ≡ e
+IsNoAddress part field (Ok text) s = ((a : SocketAddr) → ¬ (IsSocketText text a)) × (s ≡ (part.0, field, cause.NotAddress))
+
+-- what comes next, where nothing is wrong so far
+abbrev pub and_then : {A B : Type 0} → Result A Said → (A → Result B Said) → Result B Said
+and_then (Ok x) next = next x
+and_then (Err e) next = Err e
+
+abbrev pub selection_of : List ℕ → Option Selection
+selection_of word =
+    if bytes_eq word (codes "rr") then Some RoundRobin else
+    if bytes_eq word (codes "fnv") then Some Fnv else
+    if bytes_eq word (codes "ketama") then Some Ketama else
+    if bytes_eq word (codes "least") then Some Least else None
+
+-- how a listener selects: in turn, unless a word says otherwise
+abbrev pub selection_or : List ℕ → Option Selection → Result Selection Cause
+selection_or word (Some s) = Ok s
+selection_or word None = if bytes_eq word (codes "random") then Err cause.NotYet else Err cause.NotSelection
+
+abbrev pub selection_by : Option (List ℕ) → Result Selection Cause
+selection_by None = Ok RoundRobin
+selection_by (Some word) = selection_or word (selection_of word)
+
+abbrev pub selection_in : Part → Result Selection Said
+selection_in part = and_then (text_of part (codes "select")) (λ word. blamed part (codes "select") (selection_by word))
+
+-- as many units as a number says, where 64 bits can say it
+abbrev pub units_by : Option ℕ → ℕ → Option ℕ
+units_by None unit = None
+units_by (Some number) unit = if nat_lt (number * unit) (2 ^ 64) then Some (number * unit) else None
+
+abbrev pub units_of : List ℕ → ℕ → Option ℕ
+units_of digits unit = units_by (weight_of digits) unit
+
+-- the field is not there, or its text is the word
+abbrev pub IsWord : Part → List ℕ → List ℕ → Type 0
+IsWord part field word = (text_of part field ≡ Ok None) ⊎ (text_of part field ≡ Ok (Some word))
+
+-- the pool of this number has this name
+pub record IsPoolNamed (pools : List PoolConfig) (name : List ℕ) (number : ℕ) : Type 0 where
+  pub is_there : number < length pools
+  pub named : option_map (λ pool. string_bytes pool.name) (slice_get pools number) ≡ Some name
+
+-- the listener is the one that the part spells
+pub record IsListen (pools : List PoolConfig) (part : Part) (listen : ListenConfig) : Type 0 where
+  pub address : IsAddressOf part (codes "address") listen.address
+  pub mode : IsWord part (codes "mode") (codes "tcp")
+  pub key : IsWord part (codes "key") (codes "source")
+  pub pool : (name : List ℕ) × (required_of part (codes "pool") ≡ Ok name) × IsPoolNamed pools name listen.pool
+  pub selection : selection_in part ≡ Ok listen.selection
+
+-- an entry of a list is a table that is such a thing
+abbrev pub EntryIs : {A : Type 0} → (Part → A → Type 0) → Data → A → Type 0
+EntryIs Is d x = (part : Part) × (as_table d ≡ Some part.1) × Is part x
+
+-- the listeners are what the entries of the list spell, in its order
+abbrev pub AreListens : List PoolConfig → Part → List ListenConfig → Type 0
+AreListens pools top listens =
+    (entries : List Data) × (list_at top (codes "listen") ≡ Ok entries) × AllZip (EntryIs (IsListen pools)) entries listens
+
+-- the text of a backend's address and its weight: a text alone weighs 1, a table may have a weight
+abbrev pub IsWeighed : Option (List ℕ) → Option Members → List ℕ → ℕ → Type 0
+IsWeighed (Some s) t text weight = (text ≡ s) × (weight ≡ 1)
+IsWeighed None None text weight = ⊥
+IsWeighed None (Some ms) text weight =
+    (place : Place) × (required_of (place, ms) (codes "address") ≡ Ok text) × (number_of (place, ms) (codes "weight") 1 ≡ Ok weight)
+
+-- the backend has the address and the weight that the value spells, and nothing attached
+abbrev pub IsBackend : Data → Member → Type 0
+IsBackend d backend =
+    (text : List ℕ) × (weight : ℕ) × IsWeighed (as_str d) (as_table d) text weight
+    × (option_map (bare_member weight) (address_of_text text) ≡ Some backend)
+
+-- the backends are what the list spells, in its order
+abbrev pub AreBackends : Part → List Member → Type 0
+AreBackends part backends =
+    (values : List Data) × (list_at part (codes "backends") ≡ Ok values) × AllZip IsBackend values backends
+
+-- the backends come from a list or from a file, as the part says
+abbrev pub IsSource : Part → PoolSource → Type 0
+IsSource part (Fixed backends) =
+    (text_of part (codes "file") ≡ Ok None) × IsSome (get_member (codes "backends") part.1) × AreBackends part backends.items
+IsSource part (File path) =
+    (text_of part (codes "file") ≡ Ok (Some (string_bytes path))) × (get_member (codes "backends") part.1 ≡ None)
+
+-- the pool is the one that the part spells
+pub record IsPool (part : Part) (pool : PoolConfig) : Type 0 where
+  pub name : required_of part (codes "name") ≡ Ok (string_bytes pool.name)
+  pub source : IsSource part pool.source
+
+-- the pools are what the entries of the list spell, in its order
+abbrev pub ArePools : Part → List PoolConfig → Type 0
+ArePools top pools =
+    (entries : List Data) × (list_at top (codes "pool") ≡ Ok entries) × AllZip (EntryIs IsPool) entries pools
+
+-- no two pools have one name: none has that of a later one
+abbrev pub HaveOwnNames : List PoolConfig → Type 0
+HaveOwnNames [] = ⊤
+HaveOwnNames (pool ∷ pools) = AllByRecursion (λ later. string_bytes pool.name ≢ string_bytes later.name) pools × HaveOwnNames pools
+
+-- where the status page is, if anywhere
+abbrev pub IsStatus : Part → Option SocketAddr → Type 0
+IsStatus top None = table_at top (codes "status") place.Status ≡ Ok None
+IsStatus top (Some address) =
+    (part : Part) × (table_at top (codes "status") place.Status ≡ Ok (Some part)) × IsAddressOf part (codes "listen") address
+
+-- the configuration's parts are what the table spells
+pub record IsConfig (top : Part) (status : Option SocketAddr) (pools : List PoolConfig) (listens : List ListenConfig) : Type 0 where
+  pub page : IsStatus top status
+  pub spelled : ArePools top pools
+  pub own_names : HaveOwnNames pools
+  pub some_pool : 0 < length pools
+  pub listening : AreListens pools top listens
+  pub some_listen : 0 < length listens
