@@ -101,7 +101,7 @@ impl<W: Wait> Subject for RegistryCalls<W> {
     fn seen(&self) -> Option<Seen> {
         let mut ready: u64 = 0;
         for cell in 0..8 {
-            ready += u64::from(self.registry.cell_ready(&self.rt, cell));
+            ready = ready.saturating_add(u64::from(self.registry.cell_ready(&self.rt, cell)));
         }
         Some(Seen {
             newest: ready,
