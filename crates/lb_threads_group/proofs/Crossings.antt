@@ -20,7 +20,8 @@ use Rattle.lb_lanes.proofs.lanes.Lanes.TheSendSync as lanes
 use Rattle.lb_rebuild_slots.specs.contracts.place.SlotPlace as place
 use Rattle.lb_rebuild_slots.specs.contracts.retired.Reader as reader
 use Rattle.lb_threads_group.proofs.group.SlotCounters.TheSendSync as line
-use Rattle.lb_threads_group.proofs.kept.Version.TheSendSync as version
+use Rattle.lb_threads_group.proofs.found.Version.TheSendSync as version
+use Rattle.lb_threads_group.specs.contracts.found.Found as found
 use Rattle.lb_threads_group.specs.contracts.kept.Entry as entry
 use Rattle.lb_threads_group.specs.contracts.kept.Site as site
 use Rattle.lb_threads_group.specs.contracts.group.SharedGroup as shared
@@ -31,6 +32,12 @@ place_send = search (sendable, crosses) depth 20
 
 place_sync : IsSync place.the_row
 place_sync = search (sendable, crosses) depth 20
+
+found_send : IsSend found.the_row
+found_send = search (sendable, crosses, sets.crosses, maps.crosses, backend.the_send, backend.the_sync, version.the_send) depth 30
+
+found_sync : IsSync found.the_row
+found_sync = search (sendable, crosses, sets.crosses, maps.crosses, backend.the_send, backend.the_sync, version.the_sync) depth 30
 
 module _ (T R H I C W : RattleType) (g : Selection T.Denot I.Denot C.Denot W.Denot) (h : Iter I.Denot) (k : Keys R.Denot) (s : IsSend T)
     (sc : IsSend C) (y : IsSync T) (yc : IsSync C) (sr : IsSend R) (yr : IsSync R) (sh : IsSend H) (yh : IsSync H) where
@@ -44,12 +51,10 @@ module _ (T R H I C W : RattleType) (g : Selection T.Denot I.Denot C.Denot W.Den
   reader_sync = search (sendable, crosses, place_sync) depth 20
 
   entry_send : IsSend (entry.the_row T R H I C W g h)
-  entry_send =
-      search (sendable, crosses, sets.crosses, maps.crosses, backend.the_send, backend.the_sync, version.the_send, reader_send) depth 30
+  entry_send = search (sendable, crosses, found_send, found_sync, reader_send) depth 30
 
   entry_sync : IsSync (entry.the_row T R H I C W g h)
-  entry_sync =
-      search (sendable, crosses, sets.crosses, maps.crosses, backend.the_send, backend.the_sync, version.the_sync, reader_sync) depth 30
+  entry_sync = search (sendable, crosses, found_send, found_sync, reader_sync) depth 30
 
   site_send : IsSend (site.the_row T R H I C W g h k)
   site_send = search (sendable, crosses) depth 20
@@ -81,7 +86,10 @@ module _ (T R H I C W : RattleType) (g : Selection T.Denot I.Denot C.Denot W.Den
                           search (sendable, site_send) depth 20,
                           (
                             search (sendable, crosses, lanes.the_send, lanes.the_sync, entry_send, entry_sync) depth 20,
-                            (search (sendable, crosses) depth 20, (search (sendable, crosses) depth 20, tt)),
+                            (
+                              search (sendable, crosses, lock.the_send, lock.the_field_send, found_send, found_sync) depth 20,
+                              (search (sendable, crosses) depth 20, (search (sendable, crosses) depth 20, tt)),
+                            ),
                           ),
                         ),
                       ),
@@ -118,7 +126,10 @@ module _ (T R H I C W : RattleType) (g : Selection T.Denot I.Denot C.Denot W.Den
                           search (sendable, site_sync) depth 20,
                           (
                             search (sendable, crosses, lanes.the_send, lanes.the_sync, entry_send, entry_sync) depth 20,
-                            (search (sendable, crosses) depth 20, (search (sendable, crosses) depth 20, tt)),
+                            (
+                              search (sendable, crosses, lock.the_sync, lock.the_field_sync, found_send, found_sync) depth 20,
+                              (search (sendable, crosses) depth 20, (search (sendable, crosses) depth 20, tt)),
+                            ),
                           ),
                         ),
                       ),

@@ -1,6 +1,8 @@
 -- Readiness goes by identity, and what a filter by readiness leaves is ready.
 use Rattle.std.proofs.Common.{◌≡◌, ◌∙◌, ℕ, Bool, true, false, List, [], ◌∷◌, Option, Some, None, length, refl, sym, ap, subst, arith}
-use Rattle.std.specs.Prelude.{◌&&◌, if◌then◌else◌}
+use Rattle.std.specs.Prelude.{◌&&◌, if◌then◌else◌, IfSome}
+use Rattle.std.specs.Arc.{arc_value}
+use Rattle.std.specs.declared.sync.Arc.{Arc}
 use Rattle.std.specs.Borrow.{Bor}
 use Rattle.std.specs.Fn.{Mut, CalledAt}
 use Rattle.std.specs.List.{list_any, items_where_true, AllByRecursion as Each}
@@ -22,6 +24,8 @@ use Rattle.lb_rebuild_group.specs.Stands.{GroupValue, views_of}
 use Rattle.lb_balancer_core.specs.Plain.{IsReadyFor}
 use Rattle.lb_threads_registry.specs.Registry.{IsRegistryOf}
 use Rattle.lb_threads_group.specs.Group.{IsState, ReadyUnder}
+use Rattle.lb_threads_group.specs.Found.{IsFoundAt, IsFoundHere}
+use Rattle.lb_threads_group.specs.declared.found.Found.{Found}
 use Rattle.lb_threads_group.specs.Shared.{SharedValue}
 
 some-more : {A : Type 0} (o : Option A) (P Q : A → Type 0) → ((x : A) → P x → Q x) → IsSomeAnd o P → IsSomeAnd o Q
@@ -100,3 +104,13 @@ pub each-under : {C R : Type 0} (gives : R → Member → Member → Type 0) (si
     → Each (λ b. IsReadyFor gives v x r b true) bs → Each (λ b. ReadyUnder gives site r b true) bs
 each-under gives site r v x state of [] all = tt
 each-under gives site r v x state of (b ∷ bs) all = ((v, (x, (state, (of, all.0)))), each-under gives site r v x state of bs all.1)
+
+-- what was found of a generation is so at its own where it is kept once more
+pub kept-again : {C R Z : Type 0} (gives : R → Member → Member → Type 0) (site : SharedValue C R) (g : ℕ) (o p : Option (Arc Found Z))
+    → IfSome o (λ f. ((arc_value f).generation ≡ g) × IsFoundAt gives site g (arc_value f))
+    → IfSome p (λ f. IsSomeAnd o (λ h. arc_value f ≡ arc_value h)) → IsFoundHere gives site p
+kept-again gives site g o None found same = tt
+kept-again gives site g None (Some f) found same = absurd same
+kept-again gives site g (Some h) (Some f) found same =
+    subst (λ (x : Found). IsFoundAt gives site x.generation x) (sym same)
+    (subst (λ (n : ℕ). IsFoundAt gives site n (arc_value h)) (sym found.0) found.1)

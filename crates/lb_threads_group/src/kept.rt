@@ -2,33 +2,29 @@
 //! a lock.
 ghost use Rattle.std.specs.Prelude.{◌≡◌, All, Ok, Err, IfOk, IfErr, IfSome, true};
 ghost use Rattle.std.specs.Arc.{arc_value};
-ghost use Rattle.std.specs.List.{AllByRecursion as Each};
-ghost use Rattle.lb_balancer_core.specs.Plain.{IsReadyFor};
 ghost use Rattle.lb_threads_group.specs.Group.{EnteredUnder, ReadyUnder};
 ghost use Rattle.lb_threads_group.specs.Kept.{IsKeptFor};
 
+use crate::found::{Found, Version};
 use crate::group::SharedGroup;
 use crate::port::LockedPort;
 use counted_slot::Fits;
 use lb_balancer_core::port::{GroupPort, TakesBack};
 use lb_health_check::health_check::HealthCheck;
 use lb_health_registry::keys::KeyRule;
-use lb_health_registry::registry::Registry;
 use lb_lanes::lane::Seen;
 use lb_lanes::lanes::Lanes;
 use lb_rebuild::watched::Watched;
-use lb_rebuild_group::group::GroupCore;
 use lb_rebuild_slots::retired::Reader;
 use lb_select_base::backend::Backend;
 use lb_select_base::refusal::Refusal;
 use lb_select_base::walk::BackendSelection;
 use lb_threads_registry::registry::HealthRegistry;
 use std::alloc::Global;
-use std::collections::BTreeSet;
 use std::marker::{Model, PhantomData};
 use std::snapshot::Snapshot;
-use std::sync::Wait;
 use std::sync::atomic::Ordering::SeqCst;
+use std::sync::{Arc, Wait};
 
 /// Which group and which registry the readers of lanes are of. It has no bytes.
 ///
@@ -62,19 +58,11 @@ impl<S: BackendSelection, R: KeyRule + Drop, C> Site<S, R, C> {
 /// The lanes of a slot.
 pub type SlotLanes<S, R, C> = Lanes<Entry<S, R, C>>;
 
-// How often what is ready may have changed.
-#[derive(Clone, Copy, PartialEq, Eq)]
-pub(crate) struct Version {
-    group: u64,
-    registry: u64,
-}
-
-/// A reader that entered a slot, with the backends that were found ready for it at one moment.
+/// A reader that entered a slot, with what was found of its generation, where memory was there.
 pub struct Entry<S: BackendSelection, R: KeyRule + Drop, C> {
     pub(crate) slot: usize,
     pub(crate) reader: Reader<S>,
-    pub(crate) ready: BTreeSet<Backend>,
-    pub(crate) version: Version,
+    pub(crate) found: Option<Arc<Found>>,
     of: PhantomData<(R, C)>,
 }
 
@@ -83,10 +71,18 @@ impl<S: BackendSelection, R: KeyRule + Drop, C> Fits for Entry<S, R, C> {
 
     type Tag = Site<S, R, C>;
 
-    ghost fits = { λ site e. IsKeptFor R.gives site e.slot e.reader e.ready.keys };
+    ghost fits = { λ site e. IsKeptFor R.gives site e.slot e.reader e.found };
 }
 
 impl<S: BackendSelection, R: KeyRule + Drop, C> Entry<S, R, C> {
+    // Whether what was found is of this version.
+    fn is_of(&self, version: Version) -> bool {
+        match &self.found {
+            Some(found) => found.version == version,
+            None => false,
+        }
+    }
+
     // Its reader.
     fn into_reader(self) -> Reader<S>
         ensures { result ≡ self.reader }
@@ -94,8 +90,7 @@ impl<S: BackendSelection, R: KeyRule + Drop, C> Entry<S, R, C> {
         let Self {
             slot: _,
             reader,
-            ready: _,
-            version: _,
+            found: _,
             of: _,
         } = self;
         reader
@@ -108,8 +103,7 @@ impl<S: BackendSelection, R: KeyRule + Drop, C> Drop for Entry<S, R, C> {
         let Self {
             slot: _,
             reader,
-            ready: _,
-            version: _,
+            found: _,
             of: _,
         } = self;
         reader.close();
@@ -134,25 +128,12 @@ impl<S: BackendSelection, R: KeyRule + Drop, C: HealthCheck + Drop> SharedGroup<
         self.lanes.get(slot)
     }
 
-    // How often what is ready may have changed.
-    pub(crate) fn version(&self) -> Version {
-        Version {
-            group: self.changes.load(SeqCst),
-            registry: self.registry.changes(),
-        }
-    }
-
-    // Notes that what is ready may have changed, but for the registry.
-    pub(crate) fn note_change(&self) {
-        self.changes.fetch_add(1, SeqCst);
-    }
-
     // Whether an entry is of what the slot serves now, and nothing changed since what is ready was read.
     fn is_present(&self, entry: &Entry<S, R, C>, slot: usize) -> bool {
         let _board = &self.board;
         let mut pass = self.board.pass();
         self.board.selector_generation_as(slot, &mut pass) == Some(entry.reader.generation())
-            && entry.version == self.version()
+            && entry.is_of(self.version())
             && !self.is_closed.load(SeqCst)
     }
 
@@ -195,64 +176,48 @@ impl<S: BackendSelection, R: KeyRule + Drop, C: HealthCheck + Drop> SharedGroup<
         port.leave(entry.into_reader());
     }
 
-    // Enters a slot, and reads which of the newest backends are ready for the reader.
+    // Enters a slot, with what is found of the reader's generation.
     pub(crate) fn enter_lane<W: Wait>(
         &self,
         rt: &W,
         alloc: Global,
         slot: usize,
     ) -> Result<Entry<S, R, C>, Refusal>
-        ensures kept { IfOk result (λ e. (e.slot ≡ slot) × IsKeptFor R.gives self.now e.slot e.reader e.ready.keys) }
+        ensures kept { IfOk result (λ e. (e.slot ≡ slot) × IsKeptFor R.gives self.now e.slot e.reader e.found) }
         ensures refused { IfErr result (λ e. EnteredUnder self.now.core slot (Err e)) }
     {
-        let version = self.version();
         let mut port = LockedPort { group: self, rt };
         let reader = match port.enter(slot) {
             Ok(reader) => reader,
             Err(refusal) => return Err(refusal),
         };
-        let ready = self.ready_for(rt, alloc, &reader);
+        let found = self.found_for(rt, alloc, &reader);
         Ok(Entry {
             slot,
             reader,
-            ready,
-            version,
+            found,
             of: PhantomData,
         })
     }
 
-    // The newest backends that are ready for a reader. Where memory is refused there are none here.
-    fn ready_for<W: Wait>(&self, rt: &W, alloc: Global, reader: &Reader<S>) -> BTreeSet<Backend>
-        requires { reader.now.group ≡ self.now.core.group.id }
-        ensures { Each (λ b. ReadyUnder R.gives self.now reader.now b true) result.keys }
-    {
-        let registries: &HealthRegistry<R, C> = &*self.registry;
-        let _gate = &self.gate;
-        let held = self.lock.take(rt);
-        held.value.founded();
-        let cells = registries.take(rt);
-        let ready = ready_among(alloc, held.value.core(), &cells.value, reader);
-        registries.put(cells);
-        self.lock.put(held);
-        ready
-    }
-
-    // Whether a backend is ready for an entry: those that were found ready are, and of others the group and the registry are asked.
+    // Whether a backend is ready for an entry: as it was found, and where it wasn't the group and the registry are asked.
     pub(crate) fn judge<W: Wait>(&self, rt: &W, entry: &Entry<S, R, C>, backend: &Backend) -> bool
-        requires { IsKeptFor R.gives self.now entry.now.slot entry.now.reader entry.now.ready.keys }
+        requires { IsKeptFor R.gives self.now entry.now.slot entry.now.reader entry.now.found }
         ensures { ReadyUnder R.gives self.now entry.now.reader backend.now result }
     {
-        if entry.ready.contains(backend) {
-            return true;
+        match self.known(&entry.found, &entry.reader, backend) {
+            Some(ready) => ready,
+            None => {
+                let mut port = LockedPort { group: self, rt };
+                port.ready(&entry.reader, backend)
+            }
         }
-        let mut port = LockedPort { group: self, rt };
-        port.ready(&entry.reader, backend)
     }
 
     // Puts an entry into the hint's lane of its slot. Where something changed meanwhile, the lane is emptied, so that none has for long
     // what isn't served.
     pub(crate) fn keep<W: Wait>(&self, rt: &W, hint: u64, entry: Entry<S, R, C>)
-        requires { IsKeptFor R.gives self.now entry.slot entry.reader entry.ready.keys }
+        requires { IsKeptFor R.gives self.now entry.slot entry.reader entry.found }
     {
         let slot = entry.slot;
         let generation = entry.reader.generation();
@@ -288,26 +253,4 @@ impl<S: BackendSelection, R: KeyRule + Drop, C: HealthCheck + Drop> SharedGroup<
             }
         }
     }
-}
-
-// The newest backends that are ready for a reader, or none where memory is refused.
-fn ready_among<S: BackendSelection, R: KeyRule + Drop>(
-    alloc: Global,
-    core: &GroupCore<S>,
-    registry: &Registry<R>,
-    reader: &Reader<S>,
-) -> BTreeSet<Backend>
-    requires { reader.now.group ≡ core.now.group.id }
-    ensures { Each (λ b. IsReadyFor R.gives core.now registry.now reader.now b true) result.keys }
-{
-    let Ok(mut ready) = core.members().clone() else {
-        return BTreeSet::new(alloc);
-    };
-    ready.retain(
-        |backend: &Backend| -> bool
-            requires { reader.now.group ≡ core.now.group.id }
-            ensures { IsReadyFor R.gives core.entry.now registry.entry.now reader.entry.now backend.now result }
-        { core.ready(reader, registry, backend) },
-    );
-    ready
 }

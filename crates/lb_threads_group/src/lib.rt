@@ -3,6 +3,7 @@
 #![tactic(auto)]
 
 mod backends;
+pub mod found;
 pub mod group;
 pub mod kept;
 pub mod passes;

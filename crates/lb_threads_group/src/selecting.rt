@@ -80,7 +80,7 @@ impl<S: BackendSelection, R: KeyRule + Drop, C: HealthCheck + Drop> SharedGroup<
     // What a lane has.
     fn entry_in<'s>(&self, seen: &'s Seen<'_, Entry<S, R, C>>) -> Option<&'s Entry<S, R, C>>
         requires { seen.now.hand.tag ≡ self.now }
-        ensures { IfSome result (λ e. IsKeptFor R.gives self.now e.now.slot e.now.reader e.now.ready.keys) }
+        ensures { IfSome result (λ e. IsKeptFor R.gives self.now e.now.slot e.now.reader e.now.found) }
     {
         seen.value()
     }
@@ -97,7 +97,7 @@ impl<S: BackendSelection, R: KeyRule + Drop, C: HealthCheck + Drop> SharedGroup<
         accept: &F,
     ) -> Option<Result<Option<Backend>, Refusal>>
         requires accept { F.IsAlwaysCallable accept.now }
-        requires kept { IsKeptFor R.gives self.now entry.now.slot entry.now.reader entry.now.ready.keys }
+        requires kept { IsKeptFor R.gives self.now entry.now.slot entry.now.reader entry.now.found }
         ensures { IfSome result (SelectedFrom R.gives (λ b ready a. Answers F.Fn accept.now b ready a) max_iterations S.walks key.now
             self.now slot) }
     {
@@ -118,13 +118,13 @@ impl<S: BackendSelection, R: KeyRule + Drop, C: HealthCheck + Drop> SharedGroup<
         accept: &F,
     ) -> Result<Option<Backend>, Refusal>
         requires accept { F.IsAlwaysCallable accept.now }
-        requires kept { IsKeptFor R.gives self.now entry.now.slot entry.now.reader entry.now.ready.keys }
+        requires kept { IsKeptFor R.gives self.now entry.now.slot entry.now.reader entry.now.found }
         ensures { SelectsByAny (AnswersUnder R.gives (λ b ready a. Answers F.Fn accept.now b ready a) self.now entry.now.reader)
             max_iterations (S.walks entry.now.reader.members entry.now.reader.config key.now) result }
     {
         let judged = |backend: &Backend| -> bool
             requires accept { F.IsAlwaysCallable accept.now }
-            requires kept { IsKeptFor R.gives self.now entry.now.slot entry.now.reader entry.now.ready.keys }
+            requires kept { IsKeptFor R.gives self.now entry.now.slot entry.now.reader entry.now.found }
             ensures { AnswersUnder R.gives (λ b ready a. Answers F.Fn accept.entry.now b ready a) self.entry.now entry.entry.now.reader
                 backend.entry.now result }
         { accept(backend, self.judge(rt, entry, backend)) };

@@ -2,7 +2,7 @@
 use Rattle.std.proofs.Common.{rules}
 use Rattle.lb_balancer_core.specs.Plain.{IsReadyFor}
 use Rattle.lb_threads_group.proofs.Readiness.{kept-true}
-use Rattle.lb_threads_group.proofs.kept.ready_among.Goals as goal
+use Rattle.lb_threads_group.proofs.found.ready_among.Goals as goal
 
 pub returns : goal.returns
 returns g c =
