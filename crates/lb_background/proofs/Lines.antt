@@ -16,7 +16,8 @@ stored words views old new h here id v e sends =
     (at_set views 0 id (sender new) v e)
 
 stores : (slots old new : ℕ) (c : List (ℕ × Unit {0})) → c ≡ []
-    → Allows {S = Unit {0}} {V = SignalMark} (λ s. SaysWord s.words s.views) slots 0 (sender old, c) 0 (λ _. new) (λ _ w. w ≡ (sender new, []))
+    → Allows {S = Unit {0}} {V = SignalMark} (λ s. SaysWord s.words s.views) slots 0 (sender old, c) 0 (λ _. new)
+    (λ _ w. w ≡ (sender new, []))
 stores slots old new c none s h _ at _ = (
   sender new,
   keeps,

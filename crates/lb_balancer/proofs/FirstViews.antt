@@ -1,5 +1,6 @@
 -- The first view of a registry without views: what its first membership leaves, and why that is refused.
-use Rattle.std.proofs.Common.{◌≡◌, ◌⊎◌, inl, inr, ◌+◌, ◌^◌, ◌≤◌, ℕ, Bool, true, false, List, [], ◌∷◌, Some, None, Result, Err, IsErrOf, refl, sym, arith}
+use Rattle.std.proofs.Common.{◌≡◌, ◌⊎◌, inl, inr, ◌+◌, ◌^◌, ◌≤◌, ℕ, Bool, true, false, List, [], ◌∷◌, Some, None, Result, Err, IsErrOf}
+use Rattle.std.proofs.Common.{refl, sym, arith}
 use Rattle.std.specs.Prelude.{if◌then◌else◌, nat_le}
 use Rattle.std.proofs.lemmas.Bool.{false≢true}
 use Rattle.std.proofs.lemmas.Bool.Decides.{nat_tests}
@@ -33,7 +34,8 @@ err_of : (A : Type 0) (e f : Refusal) → (let x : Result A Refusal = Err e in l
 err_of A e f h = cc
 
 -- a registry without views has a number for the first one
-pub registers : {A : Type 0} (e : Refusal) → (let r : Result A Refusal = Err e in IsGrowthRefusal r × (IsErrOf r NumbersExhausted → ⊥)) → e ≡ OutOfMemory
+pub registers : {A : Type 0} (e : Refusal) → (let r : Result A Refusal = Err e in IsGrowthRefusal r × (IsErrOf r NumbersExhausted → ⊥))
+    → e ≡ OutOfMemory
 registers {A = A} e (inl memory, few) = err_of A e OutOfMemory memory
 registers {A = A} e (inr numbers, few) = absurd (few numbers)
 

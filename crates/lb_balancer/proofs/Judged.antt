@@ -1,5 +1,6 @@
 -- A selection in what is shown, and which members are found not ready.
-use Rattle.std.proofs.Common.{◌≡◌, inl, inr, ◌∷◌, ℕ, Bool, true, false, not, List, [], length, take, Option, Some, None, Result, Ok, Err, refl, sym, subst, arith}
+use Rattle.std.proofs.Common.{◌≡◌, inl, inr, ◌∷◌, ℕ, Bool, true, false, not, List, [], length, take, Option, Some, None, Result, Ok, Err}
+use Rattle.std.proofs.Common.{refl, sym, subst, arith}
 use Rattle.std.specs.Borrow.{Bor}
 use Rattle.std.specs.Fn.{Shared, Mut, FnReturns, FnReturnsAt, CalledAt}
 use Rattle.std.specs.List.{items_where_true, AllByRecursion as Each}
@@ -22,7 +23,8 @@ forgot same accepts limit gives walks s t (Err e) refused = refused.0
 
 -- what was asked is told by what follows from it
 pub asked-of : {S F : Type 0} {g : Shared F (Bor Member × Unit {0}) Bool} {f : F} (gives : S → Draw → S → Type 0)
-    (walks : List Draw → List Member → Bool → Type 0) (Q : Member → Bool → Type 0) (limit : ℕ) (s t : S) (r : Result (Option Member) Refusal)
+    (walks : List Draw → List Member → Bool → Type 0) (Q : Member → Bool → Type 0) (limit : ℕ) (s t : S)
+    (r : Result (Option Member) Refusal)
     → Selects same_member (λ b a. FnReturnsAt g f b a) limit gives walks s r t
     → ((b : Member) (a : Bool) → FnReturnsAt g f b a → Q b a) → SelectsOf same_member Q limit walks r
 asked-of {g = g} {f = f} gives walks Q limit s t r is more =
@@ -34,8 +36,14 @@ each_more P Q more (x ∷ xs) all = (more x all.0, each_more P Q more xs all.1)
 
 module _ {B : Type 0} (same : B → B → Bool) (P Q : B → Bool → Type 0) (more : (b : B) (a : Bool) → P b a → Q b a) (limit : ℕ) where
   answer_more : (cs : List B) (ended : Bool) (r : Option B) → IsAnswer same P limit cs ended r → IsAnswer same Q limit cs ended r
-  answer_more cs ended (Some b) (before, parts, few, first, refused, accepted) =
-      (before, parts, few, first, each_more (λ x. P x false) (λ x. Q x false) (λ x. more x false) (distinct same before) refused, more b true accepted)
+  answer_more cs ended (Some b) (before, parts, few, first, refused, accepted) = (
+    before,
+    parts,
+    few,
+    first,
+    each_more (λ x. P x false) (λ x. Q x false) (λ x. more x false) (distinct same before) refused,
+    more b true accepted,
+  )
   answer_more cs ended None (refused, over) =
       (each_more (λ x. P x false) (λ x. Q x false) (λ x. more x false) (distinct same (take limit cs)) refused, over)
 
@@ -67,11 +75,17 @@ module _ {F : Type 0} (g : Mut F (Bor Member × Unit {0}) Bool) (right : Member 
   parted [] (m ∷ ms) q e t = absurd (omega arith)
   parted (b ∷ bs) [] q e t = absurd t
   parted (true ∷ bs) (m ∷ ms) q e t =
-      let one = tells m true t.0 t.1 in
-      (items_where_true bs ms, parted bs ms q (omega arith) (subst (λ (y : F). ReturnsInTurn (CalledAt g) y bs ms q) one.1 t.2), inl (as-told (right m) true one.0, refl))
+      let one = tells m true t.0 t.1 in (
+        items_where_true bs ms,
+        parted bs ms q (omega arith) (subst (λ (y : F). ReturnsInTurn (CalledAt g) y bs ms q) one.1 t.2),
+        inl (as-told (right m) true one.0, refl),
+      )
   parted (false ∷ bs) (m ∷ ms) q e t =
-      let one = tells m false t.0 t.1 in
-      (items_where_true bs ms, parted bs ms q (omega arith) (subst (λ (y : F). ReturnsInTurn (CalledAt g) y bs ms q) one.1 t.2), inr (as-told (right m) false one.0, refl))
+      let one = tells m false t.0 t.1 in (
+        items_where_true bs ms,
+        parted bs ms q (omega arith) (subst (λ (y : F). ReturnsInTurn (CalledAt g) y bs ms q) one.1 t.2),
+        inr (as-told (right m) false one.0, refl),
+      )
 
   pub kept_unready : (ms us : List Member) → IsFiltered (CalledAt g) f ms us → AreUnready right ms us
   kept_unready ms us k = subst (AreUnready right ms) (sym k.4) (parted k.0 ms k.1 k.2 k.3)

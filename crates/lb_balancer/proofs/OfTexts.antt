@@ -1,5 +1,6 @@
 -- A balancer that is made of texts: why it is refused, and what it read of the clock.
-use Rattle.std.proofs.Common.{◌≡◌, ◌⊎◌, inl, inr, ◌∙◌, ◌++◌, ℕ, suc, Bool, true, false, List, [], ◌∷◌, length, Option, Some, None, Ok, refl, sym, ap, subst}
+use Rattle.std.proofs.Common.{◌≡◌, ◌⊎◌, inl, inr, ◌∙◌, ◌++◌, ℕ, suc, Bool, true, false, List, [], ◌∷◌, length, Option, Some, None, Ok, refl}
+use Rattle.std.proofs.Common.{sym, ap, subst}
 use Rattle.std.specs.Prelude.{if◌then◌else◌}
 use Rattle.std.specs.Borrow.{Bor}
 use Rattle.lb_select_base.specs.Backends.{Member}
@@ -53,7 +54,8 @@ module _ (texts : List (Bor (List ℕ))) (build : List Member → Option Refusal
 
   -- the view of them is refused
   pub view-refused : build members ≡ None
-      → (e ≡ refusal.OutOfMemory) ⊎ (update_cause None by_identity 1 members one_view (Took [] ∷ []) ≡ Some e) → IsTextsRefusal texts build e
+      → (e ≡ refusal.OutOfMemory) ⊎ (update_cause None by_identity 1 members one_view (Took [] ∷ []) ≡ Some e)
+      → IsTextsRefusal texts build e
   view-refused none (inl memory) = inr (inl memory)
   view-refused none (inr cause) = inr (inr (inr (members, there, rw none cause)))
 

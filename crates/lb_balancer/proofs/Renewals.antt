@@ -17,7 +17,8 @@ module _ {R : Type 0} {gives : R → Member → Member → Type 0} where
       → IsRegistryAfter gives key_of events x → IsRegistryAfter gives key_of (registry_updated key_of v.id members views events) y)
       → OnErr r (Becomes gives x (λ events. events) y) → IsRegistryOf gives x y
   renewed_later (Ok a) v members p ok err =
-      lengthened (λ key_of events. registry_updated key_of v.id members p.0 events) (λ key_of events. changed key_of v.id members p.0 events)
+      lengthened (λ key_of events. registry_updated key_of v.id members p.0 events)
+      (λ key_of events. changed key_of v.id members p.0 events)
       (λ key_of events after. ok key_of p.0 events p.1 after)
   renewed_later (Err a) v members p ok err = stays err
 

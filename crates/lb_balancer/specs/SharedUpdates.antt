@@ -4,7 +4,8 @@ use Rattle.std.specs.Prelude.{◌≡◌, ◌⊎◌, ℕ, Bool, List, length, Opt
 use Rattle.lb_select_base.specs.Backends.{Member}
 use Rattle.lb_select_base.specs.Refusals.{memory_apart}
 use Rattle.lb_select_base.specs.declared.refusal.Refusal.{Refusal}
-use Rattle.lb_select_base.specs.declared.refusal.Refusal.TheVariants.{Discovery, OutOfMemory, GenerationsExhausted, NoSuch, NumbersExhausted}
+use Rattle.lb_select_base.specs.declared.refusal.Refusal.TheVariants.{Discovery, OutOfMemory, GenerationsExhausted, NoSuch}
+use Rattle.lb_select_base.specs.declared.refusal.Refusal.TheVariants.{NumbersExhausted}
 use Rattle.lb_health_view.specs.Discoveries.{Discovers, MayFault}
 use Rattle.lb_health_view.specs.declared.discovery.DiscoverySource.{DiscoverySource}
 use Rattle.lb_balancer_core.specs.Timings.{Reads}

@@ -10,7 +10,8 @@ use Rattle.lb_threads_group.specs.Group.{EnteredUnder, LeftUnder, ReadyUnder, Se
 use Rattle.lb_threads_group.specs.Shared.{SharedValue}
 use Rattle.lb_balancer_core.specs.Looks.{Answers, told_of, AreRefused, IsTold, SelectsBy, Inside}
 
-module _ (accepts other : Member → Bool → Bool → Type 0) (more : (b : Member) (ready a : Bool) → accepts b ready a → other b ready a) (limit : ℕ) where
+module _ (accepts other : Member → Bool → Bool → Type 0) (more : (b : Member) (ready a : Bool) → accepts b ready a → other b ready a)
+    (limit : ℕ) where
   refused : (asked : List (Member × Bool)) → AreRefused accepts limit asked → AreRefused other limit asked
   refused [] all = tt
   refused (x ∷ asked) all = (more x.0 x.1 false all.0, refused asked all.1)
@@ -33,7 +34,8 @@ module _ (accepts other : Member → Bool → Bool → Type 0) (more : (b : Memb
       (left : P → ReaderValue C → P → Type 0)
       (walks : List Member → C → List ℕ → List Draw → List Member → Bool → Type 0) (key : List ℕ) where
     inside : (a : Result (ReaderValue C) Refusal) (p : P) (r : Result (Option Member) Refusal) (q : P)
-        → Inside accepts limit draws readies entered left walks key a p r q → Inside other limit draws readies entered left walks key a p r q
+        → Inside accepts limit draws readies entered left walks key a p r q
+        → Inside other limit draws readies entered left walks key a p r q
     inside (Ok v) p r q (m, is, leaves) = (m, selects draws readies (walks v.members v.config key) r p v m is, leaves)
     inside (Err e) p r q is = is
 
@@ -52,7 +54,8 @@ selected gives accepts other more limit walks key site slot r (a, m, enters, is)
 
 -- where what was asked answers as it is told, the ready ones are selected
 pub selected-ready : {C R F : Type 0} {g : Shared F (Bor Member × (Bool × Unit {0})) Bool} {f : F} (gives : R → Member → Member → Type 0)
-    (limit : ℕ) (walks : List Member → C → List ℕ → List Draw → List Member → Bool → Type 0) (key : List ℕ) (site : SharedValue C R) (slot : ℕ)
+    (limit : ℕ) (walks : List Member → C → List ℕ → List Draw → List Member → Bool → Type 0) (key : List ℕ) (site : SharedValue C R)
+    (slot : ℕ)
     (r : Result (Option Member) Refusal)
     → SelectedUnder gives (λ b ready a. Answers g f b ready a) limit walks key site slot r
     → ((p : Bor Member) (ready a : Bool) → FnReturns g f (p, (ready, tt)) a → a ≡ ready)

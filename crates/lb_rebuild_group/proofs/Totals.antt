@@ -76,7 +76,8 @@ pub total-other : (f : SnapshotValue → ℕ) (change : SnapshotValue → Snapsh
 total-other f change same g n [] apart = refl
 total-other f change same g n (s ∷ ss) apart =
     elim (s.generation == g) as (λ b. (s.generation == g) ≡ b
-    → total f n (if b then change s ∷ ss else s ∷ at_generation g change ss) ≡ cond (s.generation == n) (f s + total f n ss) (total f n ss)) [
+    → total f n (if b then change s ∷ ss else s ∷ at_generation g change ss)
+    ≡ cond (s.generation == n) (f s + total f n ss) (total f n ss)) [
       | true ↦ λ e.
           let away : (s.generation == n) ≡ false = ne_eqb s.generation n (λ at. apart (sym (eqb-true s.generation g e) ∙ at)) in
           rw (same s, away) refl

@@ -28,7 +28,8 @@ returns-in_err-update-clause-refused g c =
     let is : c.from_residual-in_err-update.result ≡ Err e = search rules in
     rw is (first-refused members e (λ same. false≢true (told.same [] made.made same)) told.refused (λ x. told.last x [] made.made)
     (λ x. subst (λ i. has_view i (views_after one_view) ≡ false) id (told.unknown x by_identity one_view registry))
-    (λ x. subst (λ i. 2 ^ 64 ≤ cells_given by_identity (Updated i members ∷ Applied ∷ one_view)) id (told.numbers x by_identity one_view registry)))
+    (λ x. subst (λ i. 2 ^ 64 ≤ cells_given by_identity (Updated i members ∷ Applied ∷ one_view)) id
+    (told.numbers x by_identity one_view registry)))
 
 pub new-requires : goal.new-requires
 new-requires g c =
@@ -39,7 +40,8 @@ new-requires g c =
     let updated = c.in_ok-update.ensures.view by_identity [] one_view made.made registry in (
       view_updated by_identity 1 members [] one_view [],
       subst (λ i. IsViewAfter (view_updated by_identity i members [] one_view []) c.update.new.self) id
-          (subst (λ s. IsViewAfter (view_updated by_identity c.in_ok-view.view.id members (settings_of s) one_view []) c.update.new.self) c.new-settings.ensures.empty updated),
+          (subst (λ s. IsViewAfter (view_updated by_identity c.in_ok-view.view.id members (settings_of s) one_view []) c.update.new.self)
+          c.new-settings.ensures.empty updated),
       c.requires.members ∙ sym (first-members members),
     )
 
@@ -52,7 +54,8 @@ returns-clause-served g c =
     let updated = c.in_ok-update.ensures.view by_identity [] one_view made.made registry in
     rw c.new.ensures (
       subst (λ i. IsViewAfter (view_updated by_identity i members [] one_view []) c.update.new.self) id
-          (subst (λ s. IsViewAfter (view_updated by_identity c.in_ok-view.view.id members (settings_of s) one_view []) c.update.new.self) c.new-settings.ensures.empty updated),
+          (subst (λ s. IsViewAfter (view_updated by_identity c.in_ok-view.view.id members (settings_of s) one_view []) c.update.new.self)
+          c.new-settings.ensures.empty updated),
       c.requires.members,
       refl,
     )
@@ -62,5 +65,6 @@ returns-clause-registry g c =
     let made = c.in_ok-view.ensures in
     let id : c.in_ok-view.view.id ≡ 1 = made.id by_identity [] c.requires.empty in
     let registry = made.registry by_identity [] c.requires.empty in
-    subst (λ i. IsRegistryAfter g.R.KeyRule.gives by_identity (registry_updated by_identity i c.args.members.keys [] one_view) c.update.new.registry) id
+    subst (λ i. IsRegistryAfter g.R.KeyRule.gives by_identity (registry_updated by_identity i c.args.members.keys [] one_view)
+    c.update.new.registry) id
     (c.in_ok-update.ensures.registry by_identity [] one_view made.made registry)

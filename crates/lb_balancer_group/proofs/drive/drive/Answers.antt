@@ -27,7 +27,8 @@ act-event-requires g c =
     let begun = has_begun (Reads p.moments p.leasts) (ActsUnlessShut p.looks (TakesTurn p.updates p.checks p.tells p.sleeps))
     _ i.3 c.loop.port i.0 c.loop.event i.4 i.5 in
     record {
-      asked = asks_port c.step-action.new.self h c.step-action.result (c.step-action.ensures.history i.0 i.1) begun refl c.in_default.not-Return;
+      asked = asks_port c.step-action.new.self h c.step-action.result (c.step-action.ensures.history i.0 i.1) begun refl
+          c.in_default.not-Return;
       can = c.requires.can;
     }
 

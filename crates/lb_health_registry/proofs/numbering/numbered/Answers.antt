@@ -7,7 +7,6 @@ use Rattle.lb_health_registry.proofs.NumberLemmas.{below_apart, numbered-had, nu
 use Rattle.lb_health_registry.proofs.NumberLemmas.{untargeted, exhausted_by}
 use Rattle.lb_health_registry.proofs.numbering.numbered.Goals as goal
 use Rattle.lb_health_registry.proofs.numbering.numbered.Goals.{in-Some+in_ok-clone-in-Some+in_ok-insert-in-Some}
-use Rattle.lb_health_registry.proofs.numbering.numbered.Goals.{in-None+in-Some-checked_add+in_ok-clone-in-None+in_ok-insert-in-None+in_ok-clone-in-None-2+in_ok-insert-in-None-2}
 
 pub returns-in_default-clause-exhausted : goal.returns-in_default-clause-exhausted
 returns-in_default-clause-exhausted g c =
@@ -49,7 +48,7 @@ loop-key-preserved g c =
                 (omega (arith, n.given)) c.loop-key.invariant.others s)
                 (c.loop-key.invariant.stored all first n s);
           })
-      | in-None+in-Some-checked_add+in_ok-clone-in-None+in_ok-insert-in-None+in_ok-clone-in-None-2+in_ok-insert-in-None-2 w ↦
+      | goal.in-None+in-Some-checked_add+in_ok-clone-in-None+in_ok-insert-in-None+in_ok-clone-in-None-2+in_ok-insert-in-None-2 w ↦
           let none : value_at g.K.Ord.cmp c.args.before.now.by_key.entries x ≡ None
           = sym c.get.ensures.value ∙ sym c.copied-had.ensures ∙ w.in-None.is in
           let stored = rw (g.met.K.HealthKey.clone_is _ _ w.in_ok-clone-in-None.ensures.cases) at w.in_ok-insert-in-None.ensures.stored in

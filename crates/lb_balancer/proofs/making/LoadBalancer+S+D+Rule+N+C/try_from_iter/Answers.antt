@@ -14,7 +14,8 @@ returns-in_err-built-clause-refused g c =
     rw is (
       looked.0,
       looked.1,
-      build-refused looked.0 (λ members. g.S.BackendSelection.refusal members g.S.BackendSelection.default_config) c.in_ok-members.members.keys c.in_ok-found.found e
+      build-refused looked.0 (λ members. g.S.BackendSelection.refusal members g.S.BackendSelection.default_config)
+          c.in_ok-members.members.keys c.in_ok-found.found e
           looked.2 c.in_ok-members.ensures.ok c.in_err-built.ensures.built,
     )
 
@@ -29,7 +30,8 @@ returns-in_err-serving-clause-refused g c =
     rw is (
       looked.0,
       looked.1,
-      view-refused looked.0 (λ members. g.S.BackendSelection.refusal members g.S.BackendSelection.default_config) c.in_ok-members.members.keys c.in_ok-found.found e
+      view-refused looked.0 (λ members. g.S.BackendSelection.refusal members g.S.BackendSelection.default_config)
+          c.in_ok-members.members.keys c.in_ok-found.found e
           looked.2 c.in_ok-members.ensures.ok c.in_ok-built.ensures.built.0 c.in_err-serving.ensures.refused,
     )
 
@@ -38,7 +40,8 @@ returns-clause-made g c =
     let looked = c.in_ok-found.ensures.made in
     let found = c.in_ok-found.found in
     let members : c.in_ok-members.members.keys ≡ found = c.in_ok-members.ensures.ok in
-    let times = reads-around g.K.MomentSource.reads (same_members c.in_ok-members.members.keys []) _ _ c.args.clock.now _ _ c.now-end.new.self
+    let times = reads-around g.K.MomentSource.reads (same_members c.in_ok-members.members.keys []) _ _ c.args.clock.now _ _
+    c.now-end.new.self
     c.now-start.ensures c.in_ok-built.ensures.reads c.now-end.ensures in (
       looked.0,
       looked.1,

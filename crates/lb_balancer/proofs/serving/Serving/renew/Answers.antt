@@ -35,13 +35,15 @@ invariant_of-self-in-Ok-None g c =
 pub returns-in-Ok-Some-clause-updated : goal.returns-in-Ok-Some-clause-updated
 returns-in-Ok-Some-clause-updated g c key_of views events after r =
     let here = subst (λ (v : ServingValue g.row.S-Config.Denot). IsViewAfter views v.view) (sym c.self.view_is) after in
-    subst (λ (v : ServingValue g.row.S-Config.Denot). IsViewAfter (view_updated key_of v.view.id c.args.members.keys (settings_of c.args.settings.entries) events views) c.update.new.self)
+    subst (λ (v : ServingValue g.row.S-Config.Denot). IsViewAfter
+    (view_updated key_of v.view.id c.args.members.keys (settings_of c.args.settings.entries) events views) c.update.new.self)
     c.self.view_is
     (on-ok c.update.result _ (ap is_ok c.in-Ok-Some.is) c.update.ensures.view key_of views events here r)
 
 pub returns-in-Ok-Some-clause-registry : goal.returns-in-Ok-Some-clause-registry
 returns-in-Ok-Some-clause-registry g c key_of views events after r =
     let here = subst (λ (v : ServingValue g.row.S-Config.Denot). IsViewAfter views v.view) (sym c.self.view_is) after in
-    subst (λ (v : ServingValue g.row.S-Config.Denot). IsRegistryAfter g.R.KeyRule.gives key_of (registry_updated key_of v.view.id c.args.members.keys views events) c.update.new.registry)
+    subst (λ (v : ServingValue g.row.S-Config.Denot). IsRegistryAfter g.R.KeyRule.gives key_of
+    (registry_updated key_of v.view.id c.args.members.keys views events) c.update.new.registry)
     c.self.view_is
     (on-ok c.update.result _ (ap is_ok c.in-Ok-Some.is) c.update.ensures.registry key_of views events here r)

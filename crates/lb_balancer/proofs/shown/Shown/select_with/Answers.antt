@@ -16,8 +16,10 @@ returns g c =
     let asked = asked-of _ _ (accepts c.self.inside.unready.keys) c.args.max_iterations _ _ c.select.result c.select.ensures
     (λ b a is. subst (λ m. accepts c.self.inside.unready.keys m a) is.shows is.says.met) in
     record {
-      answers = subst (λ (v : ShownValue g.row.S-Config.Denot). SelectsOf same_member (accepts v.unready) c.args.max_iterations (walks v.members v.config c.args.key.now) c.select.result)
+      answers = subst (λ (v : ShownValue g.row.S-Config.Denot). SelectsOf same_member (accepts v.unready) c.args.max_iterations
+          (walks v.members v.config c.args.key.now) c.select.result)
           c.self.view_is
-          (subst (λ (ms : List Member). SelectsOf same_member (accepts c.self.inside.unready.keys) c.args.max_iterations (walks ms (g.S.BackendSelection.built_with (arc_value selector)) c.args.key.now) c.select.result)
+          (subst (λ (ms : List Member). SelectsOf same_member (accepts c.self.inside.unready.keys) c.args.max_iterations
+          (walks ms (g.S.BackendSelection.built_with (arc_value selector)) c.args.key.now) c.select.result)
           c.self.invariant asked);
     }

@@ -12,7 +12,8 @@ invariant_of-self g c =
       (
         _,
         joined-still p.0 p.1.0 (done_at c.args.reader.slot (Left c.args.reader.generation) c.leave.result) _ _ _ _ refl p.1.1
-            (c.leave.ensures.stands p.0) (still-done (length p.0.configs) c.args.reader.slot (Left c.args.reader.generation) c.leave.result p.1.0
+            (c.leave.ensures.stands p.0) (still-done (length p.0.configs) c.args.reader.slot (Left c.args.reader.generation) c.leave.result
+            p.1.0
             (λ b p. refl)),
       ),
     )

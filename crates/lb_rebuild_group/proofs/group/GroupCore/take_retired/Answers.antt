@@ -12,7 +12,8 @@ invariant_of-self g c =
       (
         _,
         joined-still p.0 p.1.0 (done_at c.args.slot TakenOut c.take_retired.result) _ _ _ _ refl p.1.1
-            (c.take_retired.ensures.stands p.0) (still-done (length p.0.configs) c.args.slot TakenOut c.take_retired.result p.1.0 (λ b p. refl)),
+            (c.take_retired.ensures.stands p.0) (still-done (length p.0.configs) c.args.slot TakenOut c.take_retired.result p.1.0
+            (λ b p. refl)),
       ),
     )
 

@@ -12,7 +12,8 @@ invariant_of-self g c =
       (
         _,
         joined-still p.0 p.1.0 (done_at c.args.slot WorkerLost c.worker_lost.result) _ _ _ _ refl p.1.1
-            (c.worker_lost.ensures.stands p.0) (still-done (length p.0.configs) c.args.slot WorkerLost c.worker_lost.result p.1.0 (λ b p. refl)),
+            (c.worker_lost.ensures.stands p.0) (still-done (length p.0.configs) c.args.slot WorkerLost c.worker_lost.result p.1.0
+            (λ b p. refl)),
       ),
     )
 

@@ -7,7 +7,13 @@ returns-in-Ok g c =
     let is = c.leave-told.ensures in (
       (
         c.leave-told.result,
-        (c.take-held.result.value.core, (c.leave-told.new.self.core, ((search rules, c.founded.ensures), (is.answers, is.stands, is.site)))),
+        (
+          c.take-held.result.value.core,
+          (
+            c.leave-told.new.self.core,
+            ((search rules, c.founded.ensures), (is.answers, is.stands, is.site)),
+          ),
+        ),
       ),
       refl,
     )
@@ -17,7 +23,13 @@ returns-in-Err g c =
     let is = c.leave-told.ensures in (
       (
         c.leave-told.result,
-        (c.take-held.result.value.core, (c.leave-told.new.self.core, ((search rules, c.founded.ensures), (is.answers, is.stands, is.site)))),
+        (
+          c.take-held.result.value.core,
+          (
+            c.leave-told.new.self.core,
+            ((search rules, c.founded.ensures), (is.answers, is.stands, is.site)),
+          ),
+        ),
       ),
       refl,
     )
