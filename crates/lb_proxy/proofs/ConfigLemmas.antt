@@ -1,5 +1,6 @@
 -- Lists of a configuration.
-use Rattle.std.proofs.Common.{Bool, true, false, Option, Some, None, Result, Ok, Err, is_some, IfNone, eqb, ◌≡◌, ◌≢◌, ℕ, ◌+◌, ◌<◌, List, [], ◌∷◌, ◌++◌, map, take, length, get_or, string_bytes, refl, ap, sym, ◌∙◌}
+use Rattle.std.proofs.Common.{Bool, true, false, Option, Some, None, Result, Ok, Err, is_some, IfNone, eqb, ◌≡◌, ◌≢◌, ℕ, ◌+◌, ◌<◌, List, []}
+use Rattle.std.proofs.Common.{◌∷◌, ◌++◌, map, take, length, get_or, string_bytes, refl, ap, sym, ◌∙◌}
 use Rattle.std.proofs.lemmas.List.{take_more}
 use Rattle.std.proofs.lemmas.Bool.{false≢true}
 use Rattle.std.specs.Cmp.Lexicographic.{pointwise, bytes_decides}
