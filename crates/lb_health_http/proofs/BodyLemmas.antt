@@ -5,7 +5,7 @@ use Rattle.httparse.specs.Ascii.{crlf_bytes}
 use Rattle.lb_stream.specs.Stream.{Takes}
 use Rattle.lb_health_check.specs.declared.error.CheckError.{CheckError}
 use Rattle.lb_health_check.specs.declared.error.CheckError.TheVariants.{BadFraming, EndInMessage, Read}
-use Rattle.lb_health_http.specs.Steps.{Passed, SkipOutcome, ExpectOutcome, HasContent, ContentOutcome}
+use Rattle.lb_health_http.specs.Internal.Steps.{Passed, SkipOutcome, ExpectOutcome, HasContent, ContentOutcome}
 
 -- after some bytes n more were passed over
 pub passed_more : (s m r : List ℕ) (left all n : ℕ) → Passed left all s m → Takes n m r → n ≤ left → Passed (left - n) all s r

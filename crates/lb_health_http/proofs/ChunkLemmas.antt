@@ -10,7 +10,7 @@ use Rattle.lb_health_http.specs.declared.framing.Framing.TheVariants.{Chunked}
 use Rattle.lb_health_http.specs.Body.{BodyOutcome}
 use Rattle.lb_health_http.specs.Chunked.{IsLine, Chunk, HasTrailers, HasChunkFault, IsChunkedFault, HasChunked, IsLineText, IsNoChunkLine}
 use Rattle.lb_health_http.specs.Chunked.{ContentFault, FaultBehind, HasLineBefore}
-use Rattle.lb_health_http.specs.Steps.{LineFault, IsChunkLineOf, HasContent, ContentOutcome, PassesChunks, PassesLast, StepOutcome}
+use Rattle.lb_health_http.specs.Internal.Steps.{LineFault, IsChunkLineOf, HasContent, ContentOutcome, PassesChunks, PassesLast, StepOutcome}
 use Rattle.lb_health_http.proofs.LineLemmas.{line_same, line_longer, no_line, chunk_line_text}
 use Rattle.lb_health_http.proofs.BodyLemmas.{fronts_same}
 

@@ -16,7 +16,7 @@ use Rattle.httparse.specs.Pieces.{Stops}
 use Rattle.httparse.proofs.RunLemmas.{run_unique}
 use Rattle.httparse.proofs.ChunkLemmas.{chunk_pieces, chunk_from_pieces}
 use Rattle.lb_health_http.specs.Chunked.{NoFeed, IsLineText, IsNoChunkLine}
-use Rattle.lb_health_http.specs.Steps.{IsChunkLineOf}
+use Rattle.lb_health_http.specs.Internal.Steps.{IsChunkLineOf}
 use Rattle.lb_health_http.specs.ChunkLines.{EndsChunkLine}
 use Rattle.lb_health_http.proofs.LineLemmas.{line_of}
 

@@ -6,7 +6,7 @@ use Rattle.lb_health_check.specs.declared.error.CheckError.TheVariants.{BadFrami
 use Rattle.lb_health_http.specs.declared.framing.Framing.TheVariants.{Chunked}
 use Rattle.lb_health_http.specs.Body.{BodyOutcome}
 use Rattle.lb_health_http.specs.Chunked.{HasTrailers, HasChunked, IsChunkedFault, HasLineBefore, AreTrailersAtFault}
-use Rattle.lb_health_http.specs.Steps.{TrailersOutcome, PassesChunks, PassesLast, StepOutcome}
+use Rattle.lb_health_http.specs.Internal.Steps.{TrailersOutcome, PassesChunks, PassesLast, StepOutcome}
 use Rattle.lb_health_http.proofs.ChunkLemmas.{passes_step}
 
 pub passes_none : (s : List ℕ) → PassesChunks 0 s s

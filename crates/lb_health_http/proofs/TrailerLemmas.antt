@@ -8,7 +8,7 @@ use Rattle.httparse.specs.Grammar.{is_extension_byte}
 use Rattle.lb_health_check.specs.declared.error.CheckError.{CheckError}
 use Rattle.lb_health_check.specs.declared.error.CheckError.TheVariants.{BadFraming, EndInMessage, Read, OutOfMemory}
 use Rattle.lb_health_http.specs.Chunked.{IsTrailer, print_trailer, HasTrailers, AreTrailersAtFault, NoFeed, IsLineText, IsTrailerLine}
-use Rattle.lb_health_http.specs.Steps.{LineFault, TrailersOutcome}
+use Rattle.lb_health_http.specs.Internal.Steps.{LineFault, TrailersOutcome}
 use Rattle.lb_health_http.proofs.LineLemmas.{line_same, line_longer, no_line, crlf_line, clear_of}
 
 -- trailer lines were passed, and so many bytes are left for others: what stands after them stands behind them, and back

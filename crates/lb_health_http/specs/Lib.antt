@@ -3,8 +3,8 @@ pub mod Parts
 pub mod Framing
 pub mod Body
 pub mod Chunked
-pub mod Steps
 pub mod ChunkLines
 pub mod Request
 pub mod Check
 pub mod Limits
+pub mod Internal

@@ -3,7 +3,7 @@ ghost use Rattle.std.specs.Prelude.{◌≡◌, ◌≢◌, true};
 ghost use Rattle.lb_stream.specs.Counted.{inner_of, has_failed};
 ghost use Rattle.lb_stream.specs.Stream.{OnBytes};
 ghost use Rattle.lb_health_http.specs.Body.{BodyOutcome};
-ghost use Rattle.lb_health_http.specs.Steps.{SkipOutcome};
+ghost use Rattle.lb_health_http.specs.Internal.Steps.{SkipOutcome};
 
 use crate::chunk::read_chunked;
 use crate::framing::Framing;

@@ -3,7 +3,7 @@ ghost use Rattle.std.specs.Prelude.{◌≡◌, ◌≢◌, ◌≤◌, true, IfOk}
 ghost use Rattle.lb_stream.specs.Counted.{inner_of, has_failed};
 ghost use Rattle.lb_stream.specs.Stream.{OnBytes};
 ghost use Rattle.lb_health_http.specs.Body.{BodyOutcome};
-ghost use Rattle.lb_health_http.specs.Steps.{ContentOutcome, StepOutcome};
+ghost use Rattle.lb_health_http.specs.Internal.Steps.{ContentOutcome, StepOutcome};
 
 use crate::body::skip;
 use crate::chunk_line::size_of;

@@ -6,7 +6,7 @@ ghost use Rattle.std.specs.Char.{is_ascii_hexdigit, digit_value};
 ghost use Rattle.std.specs.Str.Parse.{digits_value};
 ghost use Rattle.httparse.specs.Grammar.{AllPass};
 ghost use Rattle.lb_health_http.specs.Chunked.{IsLineText, IsNoChunkLine};
-ghost use Rattle.lb_health_http.specs.Steps.{IsChunkLineOf};
+ghost use Rattle.lb_health_http.specs.Internal.Steps.{IsChunkLineOf};
 ghost use Rattle.lb_health_http.specs.ChunkLines.{class_has, EndsChunkLine};
 
 use crate::line::is_end;

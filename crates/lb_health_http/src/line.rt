@@ -4,7 +4,7 @@ ghost use Rattle.httparse.specs.Ascii.{crlf_bytes};
 ghost use Rattle.lb_stream.specs.Counted.{inner_of, has_failed};
 ghost use Rattle.lb_stream.specs.Stream.{OnBytes};
 ghost use Rattle.lb_health_http.specs.Chunked.{IsLineText};
-ghost use Rattle.lb_health_http.specs.Steps.{LineOutcome, ExpectOutcome};
+ghost use Rattle.lb_health_http.specs.Internal.Steps.{LineOutcome, ExpectOutcome};
 
 use lb_health_check::error::CheckError;
 use lb_stream::counted::Counted;

@@ -3,7 +3,7 @@ ghost use Rattle.std.specs.Prelude.{◌≡◌, ◌≢◌, true, MatchBool};
 ghost use Rattle.lb_stream.specs.Counted.{inner_of, has_failed};
 ghost use Rattle.lb_stream.specs.Stream.{OnBytes};
 ghost use Rattle.lb_health_http.specs.Chunked.{IsTrailerLine};
-ghost use Rattle.lb_health_http.specs.Steps.{TrailersOutcome};
+ghost use Rattle.lb_health_http.specs.Internal.Steps.{TrailersOutcome};
 
 use crate::line::{is_end, read_line};
 use lb_health_check::error::CheckError;

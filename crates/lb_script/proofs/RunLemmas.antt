@@ -15,7 +15,7 @@ use Rattle.lb_script.specs.declared.session.LineTurn.TheVariants.{Answered, Last
 use Rattle.lb_script_text.specs.declared.kinds.Kind.{Kind}
 use Rattle.lb_stream.specs.Lines.{lines_of, whole_lines, first_line, IsLine}
 use Rattle.lb_script.specs.Output.{IsOutput, ends, answered, bad_line, too_long, no_memory, read_fails, IsToAnswer, Wrote, WroteFront}
-use Rattle.lb_script.specs.Session.{AnsweredLine, AnsweredRest, FailsFor, TakesTurn, Joins}
+use Rattle.lb_script.specs.Internal.Session.{AnsweredLine, AnsweredRest, FailsFor, TakesTurn, Joins}
 use Rattle.lb_stream.specs.Stream.{OnBytes, AppendsFront}
 use Rattle.lb_script_text.specs.Texts.{answer_text, error_text}
 use Rattle.lb_stream.proofs.LinesLemmas.{lines_first, lines_feed, lines_last, whole_feed, whole_none, first_of_none}

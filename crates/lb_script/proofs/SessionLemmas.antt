@@ -15,7 +15,7 @@ use Rattle.lb_script_text.specs.declared.kinds.Kind.{Kind}
 use Rattle.lb_stream.specs.Stream.{OnBytes}
 use Rattle.lb_stream.specs.Lines.{Finds, IsLine}
 use Rattle.lb_script_text.specs.StepLines.{step_of}
-use Rattle.lb_script.specs.Session.{AnsweredLine, AnsweredRest, AnswersLine, TakesTurn, Joins}
+use Rattle.lb_script.specs.Internal.Session.{AnsweredLine, AnsweredRest, AnswersLine, TakesTurn, Joins}
 use Rattle.lb_stream.proofs.LinesLemmas.{first_of_stream}
 
 -- a line that was read, and that has no answer

@@ -1,2 +1,2 @@
 pub mod Output
-pub mod Session
+pub mod Internal

@@ -9,7 +9,7 @@ ghost use Rattle.lb_script_text.specs.LineSteps.{line_step_seen, selection_seen}
 ghost use Rattle.lb_script_text.specs.StepLines.{step_of};
 ghost use Rattle.lb_stream.specs.Counted.{inner_of, has_failed};
 ghost use Rattle.lb_stream.specs.Stream.{OnBytes, AppendsFront};
-ghost use Rattle.lb_script.specs.Session.{AnswersLine, TakesTurn, Joins};
+ghost use Rattle.lb_script.specs.Internal.Session.{AnswersLine, TakesTurn, Joins};
 
 use lb_script_text::error::ScriptError;
 use lb_script_text::kinds::Kind;

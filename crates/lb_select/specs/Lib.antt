@@ -9,7 +9,6 @@ pub mod RingLaws
 pub mod Removal
 pub mod Rings
 pub mod Sorted
-pub mod Spread
 pub mod LeastLaws
 pub mod LeastLoads
 pub mod Readings
@@ -18,3 +17,4 @@ pub mod Sums
 pub mod WeightLaws
 pub mod Weights
 pub mod UniqueWalks
+pub mod Internal

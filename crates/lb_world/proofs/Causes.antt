@@ -11,7 +11,7 @@ use Rattle.lb_select_base.specs.declared.refusal.Refusal.TheVariants as refusal
 use Rattle.lb_world.specs.Steps.{Step}
 use Rattle.lb_world.specs.declared.answer.Answer.{Answer}
 use Rattle.lb_world.specs.Answers.{no_number, no_such, refuse, unless_refused, where_, without_memory}
-use Rattle.lb_world.specs.Calls.{making_cause, or_memory}
+use Rattle.lb_world.specs.Internal.Calls.{making_cause, or_memory}
 use Rattle.lb_world.proofs.Accepted.{earlier-none}
 
 -- no refusal has a greater number than the want of numbers

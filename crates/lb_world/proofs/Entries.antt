@@ -17,7 +17,7 @@ use Rattle.lb_world.proofs.Together.{joins-alike}
 use Rattle.lb_world.specs.Answers.{flight_of, asked, built_or_failed, destroy_refusal, of_built, of_job}
 use Rattle.lb_world.specs.History.{drew, gate_of, is_grant, is_held}
 use Rattle.lb_world.specs.Shared.{registry_in, registry_made, extra_at}
-use Rattle.lb_world.specs.Calls.{IsUngranted, told_as}
+use Rattle.lb_world.specs.Internal.Calls.{IsUngranted, told_as}
 use Rattle.lb_world.specs.Stands.{AreHeld}
 use Rattle.lb_world.specs.Views.{NotBuilding, NotBuilt}
 use Rattle.lb_world.specs.Works.{last_job}

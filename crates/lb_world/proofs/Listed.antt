@@ -12,7 +12,7 @@ use Rattle.lb_health_registry.specs.declared.keys.Rule.TheVariants.{Address, Equ
 use Rattle.lb_select_base.specs.Seen.{address_seen}
 use Rattle.lb_select_base.specs.Unique.{distinct, firsts}
 use Rattle.lb_select_base.specs.declared.backend.SocketAddr.{SocketAddr}
-use Rattle.lb_world.specs.Calls.{none_or}
+use Rattle.lb_world.specs.Internal.Calls.{none_or}
 use Rattle.std.proofs.Common.{filter}
 use Rattle.std.proofs.lemmas.Bool.{cond_both, or_parts}
 use Rattle.std.proofs.lemmas.Grind.{common_steps}

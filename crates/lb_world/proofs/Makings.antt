@@ -23,7 +23,7 @@ use Rattle.lb_world.specs.GroupEvents.{group_events}
 use Rattle.lb_world.specs.Answers.{Answers, IsRun, no_number, no_such, refuse, unless_refused, without_memory}
 use Rattle.lb_world.proofs.Absent.{absent, config-made, found, get-front}
 use Rattle.lb_world.proofs.Accepted.{earlier-none, right-is, unrefused, right_answer}
-use Rattle.lb_world.specs.Calls.{making_cause, or_memory}
+use Rattle.lb_world.specs.Internal.Calls.{making_cause, or_memory}
 use Rattle.lb_world.proofs.Causes.{caused, cause-first, earlier-assoc, none-missing, refused-for, uncaused}
 use Rattle.lb_world.proofs.Counting.{permits-out}
 use Rattle.lb_world.proofs.Extras.{get-kept}

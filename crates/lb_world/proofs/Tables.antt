@@ -17,7 +17,7 @@ use Rattle.lb_health_registry.specs.Registry.{IsGrowthRefusal, targets_after}
 use Rattle.lb_health_registry.specs.RegistryEvents.{IsCellKept, Observed, cell_health}
 use Rattle.lb_health_registry.specs.Verdicts.{agree}
 use Rattle.lb_health_registry.specs.declared.targets.Target.{Target}
-use Rattle.lb_world.specs.Calls.{IsCounted}
+use Rattle.lb_world.specs.Internal.Calls.{IsCounted}
 use Rattle.lb_world.specs.Stands.{OnSite}
 use Rattle.std.proofs.Common.{◌≢◌, get_or}
 use Rattle.std.proofs.lemmas.Grind.{common_steps}

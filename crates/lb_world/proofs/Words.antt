@@ -44,9 +44,9 @@ pub use Rattle.lb_select_base.specs.Loads.{load_in}
 pub use Rattle.lb_select_base.specs.Memberships.{same_members, set_of}
 pub use Rattle.lb_select_base.specs.Refusals.{earlier, least}
 pub use Rattle.lb_select_base.specs.declared.refusal.Refusal.{Refusal}
-pub use Rattle.lb_world.specs.Calls.{in_tables, set_marked, with_core, with_key}
-pub use Rattle.lb_world.specs.Cells.{lists_key, new_keys, starts_cell}
-pub use Rattle.lb_world.specs.Calls.{some_and}
+pub use Rattle.lb_world.specs.Internal.Calls.{in_tables, set_marked, with_core, with_key}
+pub use Rattle.lb_world.specs.Internal.Cells.{lists_key, new_keys, starts_cell}
+pub use Rattle.lb_world.specs.Internal.Calls.{some_and}
 pub use Rattle.lb_world.specs.Rules.{WorldRule, key_gives}
 pub use Rattle.lb_world.specs.Stands.{Before, EntryIs, EntryNext, Stands, made_of, permit_after}
 pub use Rattle.lb_world.specs.Views.{EntryValue, OpenReaderValue, IsOwnReader, Origin, WorkValue, WorldValue, entered_of, origin, site}

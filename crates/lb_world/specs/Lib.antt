@@ -7,12 +7,10 @@ pub mod Refused
 pub mod Selected
 pub mod Shared
 pub mod Steps
-pub mod Calls
-pub mod Cells
 pub mod Ever
 pub mod Headline
-pub mod GroupSteps
 pub mod Rules
 pub mod Stands
 pub mod Views
 pub mod Works
+pub mod Internal

@@ -8,7 +8,7 @@ ghost use Rattle.lb_world.specs.Meanings.{meaning_of};
 ghost use Rattle.lb_world.specs.Steps as seen;
 ghost use Rattle.lb_rebuild_group.specs.GroupHistory.{slot_events};
 ghost use Rattle.lb_rebuild_group.specs.Stands.{After};
-ghost use Rattle.lb_world.specs.GroupSteps.{group_step_seen, IsWhole};
+ghost use Rattle.lb_world.specs.Internal.GroupSteps.{group_step_seen, IsWhole};
 ghost use Rattle.lb_world.specs.Stands.{IsEntry, Performs, PerformsAtRegistry, PerformsAlone};
 
 mod listed;

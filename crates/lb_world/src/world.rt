@@ -9,7 +9,7 @@ ghost use Rattle.lb_world.specs.Headline.{KeepsPromises};
 ghost use Rattle.lb_world.specs.Refused.{unrefused};
 ghost use Rattle.lb_world.specs.Steps as seen;
 ghost use Rattle.lb_world.specs.Steps.{step_seen};
-ghost use Rattle.lb_world.specs.GroupSteps.{group_step_seen, IsWhole};
+ghost use Rattle.lb_world.specs.Internal.GroupSteps.{group_step_seen, IsWhole};
 ghost use Rattle.lb_world.specs.Works.{world_value};
 ghost use Rattle.lb_world.specs.Stands.{IsFounded, Stands};
 

@@ -11,7 +11,7 @@ ghost use Rattle.lb_world.specs.Meanings.{meaning_of};
 ghost use Rattle.lb_world.specs.Steps as seen;
 ghost use Rattle.lb_world.specs.Rules.{key_gives};
 ghost use Rattle.lb_world.specs.Stands.{IsEntry, Performs, PerformsAtRegistry};
-ghost use Rattle.lb_world.specs.Calls.{IsNewEntry, making_cause, or_memory, scheduled_as, selection_as};
+ghost use Rattle.lb_world.specs.Internal.Calls.{IsNewEntry, making_cause, or_memory, scheduled_as, selection_as};
 ghost use Rattle.lb_rebuild_slots.specs.Gate.{GateValue};
 ghost use Rattle.lb_select_base.specs.Backends.{Member};
 ghost use Rattle.lb_select_base.specs.Refusals.{least};

@@ -10,7 +10,7 @@ ghost use Rattle.lb_health_registry.specs.Registry.{IsRegistryAfter};
 ghost use Rattle.lb_health_registry.specs.RegistryEvents.{Event};
 ghost use Rattle.lb_world.specs.Rules.{key_gives};
 ghost use Rattle.lb_world.specs.Views.{IsOwnReader};
-ghost use Rattle.lb_world.specs.Calls.{with_core, IsCounted};
+ghost use Rattle.lb_world.specs.Internal.Calls.{with_core, IsCounted};
 
 use super::Entry;
 use crate::rule::WorldRegistry;

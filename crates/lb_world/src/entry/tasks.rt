@@ -4,7 +4,7 @@ ghost use Rattle.std.specs.Prelude.{◌≡◌, ℕ, MatchResult};
 ghost use Rattle.lb_rebuild_slots.specs.SlotCalls.{ask_told};
 ghost use Rattle.lb_world.specs.Meanings.{meaning_of};
 ghost use Rattle.lb_world.specs.Steps as seen;
-ghost use Rattle.lb_world.specs.Calls.{IsUngranted, number_of, told_as};
+ghost use Rattle.lb_world.specs.Internal.Calls.{IsUngranted, number_of, told_as};
 ghost use Rattle.lb_world.specs.Stands.{IsEntry, Performs, PerformsAtGate, PerformsAlone};
 
 use super::Entry;

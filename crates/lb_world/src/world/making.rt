@@ -4,7 +4,7 @@ ghost use Rattle.lb_select_base.specs.Backends.{Member};
 ghost use Rattle.lb_select_base.specs.Refusals.{earlier as earlier_of, least};
 ghost use Rattle.lb_health_registry.specs.Registry.{IsRegistryAfter};
 ghost use Rattle.lb_health_registry.specs.RegistryEvents.{Event, registered_after};
-ghost use Rattle.lb_world.specs.Calls.{in_tables, making_cause, or_memory};
+ghost use Rattle.lb_world.specs.Internal.Calls.{in_tables, making_cause, or_memory};
 ghost use Rattle.lb_world.specs.History.{History};
 ghost use Rattle.lb_world.specs.Meanings.{meaning_of};
 ghost use Rattle.lb_world.specs.Rules.{key_gives};

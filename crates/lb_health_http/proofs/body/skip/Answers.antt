@@ -1,6 +1,6 @@
 use Rattle.std.proofs.Common.{◌≡◌, ℕ, ◌-◌, List, [], arith, rules}
 use Rattle.lb_stream.specs.Stream.{Takes}
-use Rattle.lb_health_http.specs.Steps.{Passed}
+use Rattle.lb_health_http.specs.Internal.Steps.{Passed}
 use Rattle.lb_health_http.proofs.BodyLemmas.{passed_more}
 use Rattle.lb_health_http.proofs.Streams.{OnBytes-then}
 use Rattle.lb_health_http.proofs.body.skip.Goals as goal

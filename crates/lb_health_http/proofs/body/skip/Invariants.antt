@@ -1,7 +1,7 @@
 use Rattle.std.proofs.Common.{◌≡◌, ◌≤◌}
 use Rattle.lb_stream.specs.Counted.{inner_of, has_failed}
 use Rattle.lb_stream.specs.Stream.{OnBytes}
-use Rattle.lb_health_http.specs.Steps.{Passed}
+use Rattle.lb_health_http.specs.Internal.Steps.{Passed}
 use Rattle.lb_health_http.proofs.body.skip.Given as goal
 
 abbrev pub invariant-loop-left : goal.invariant-loop-left

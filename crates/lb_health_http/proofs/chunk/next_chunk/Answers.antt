@@ -3,7 +3,7 @@ use Rattle.lb_health_check.specs.declared.error.CheckError.TheVariants.{BadFrami
 use Rattle.lb_health_http.specs.declared.framing.Framing.TheVariants.{Chunked}
 use Rattle.lb_health_http.specs.Body.{BodyOutcome}
 use Rattle.lb_health_http.specs.Chunked.{IsNoChunkLine}
-use Rattle.lb_health_http.specs.Steps.{LineFault, IsChunkLineOf, HasContent, ContentOutcome, StepOutcome}
+use Rattle.lb_health_http.specs.Internal.Steps.{LineFault, IsChunkLineOf, HasContent, ContentOutcome, StepOutcome}
 use Rattle.lb_health_http.proofs.ChunkLemmas.{line_fault, no_chunk_line, chunk_too_large, content_fault, passes_chunk, step_last}
 use Rattle.lb_health_http.proofs.ChunkLemmas.{step_passes}
 use Rattle.lb_health_http.proofs.Streams.{OnBytes-then, OnBytes-map}

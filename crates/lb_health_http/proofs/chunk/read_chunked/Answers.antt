@@ -1,7 +1,7 @@
 use Rattle.std.proofs.Common.{◌≡◌, ℕ, ◌-◌, List, Ok, Err, arith, rules}
 use Rattle.lb_health_http.specs.declared.framing.Framing.TheVariants.{Chunked}
 use Rattle.lb_health_http.specs.Body.{BodyOutcome}
-use Rattle.lb_health_http.specs.Steps.{TrailersOutcome, PassesChunks, PassesLast, StepOutcome}
+use Rattle.lb_health_http.specs.Internal.Steps.{TrailersOutcome, PassesChunks, PassesLast, StepOutcome}
 use Rattle.lb_health_http.proofs.ChunkLemmas.{last_step}
 use Rattle.lb_health_http.proofs.ChunksLemmas.{passes_on, chunks_ended, behind_chunks}
 use Rattle.lb_health_http.proofs.Streams.{OnBytes-then}

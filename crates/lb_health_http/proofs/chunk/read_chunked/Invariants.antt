@@ -1,7 +1,7 @@
 use Rattle.std.proofs.Common.{◌≡◌, ◌≤◌, ◌-◌}
 use Rattle.lb_stream.specs.Counted.{inner_of, has_failed}
 use Rattle.lb_stream.specs.Stream.{OnBytes}
-use Rattle.lb_health_http.specs.Steps.{PassesChunks}
+use Rattle.lb_health_http.specs.Internal.Steps.{PassesChunks}
 use Rattle.lb_health_http.proofs.chunk.read_chunked.Given as goal
 
 abbrev pub invariant-loop-reader : goal.invariant-loop-reader

@@ -1,6 +1,6 @@
 use Rattle.std.proofs.Common.{◌≡◌, ℕ, List, ◌∷◌, Err}
 use Rattle.lb_stream.specs.Stream.{Takes}
-use Rattle.lb_health_http.specs.Steps.{SkipOutcome, ExpectOutcome, ContentOutcome}
+use Rattle.lb_health_http.specs.Internal.Steps.{SkipOutcome, ExpectOutcome, ContentOutcome}
 use Rattle.lb_health_http.proofs.BodyLemmas.{content_cut, content_cr_fault, content_second}
 use Rattle.lb_health_http.proofs.Streams.{OnBytes-then, OnBytes-map}
 use Rattle.lb_health_http.proofs.chunk.read_content.Goals as goal

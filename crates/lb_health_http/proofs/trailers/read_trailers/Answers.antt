@@ -2,7 +2,7 @@ use Rattle.std.proofs.Common.{◌≡◌, ◌≢◌, ℕ, ◌-◌, ◌≤◌, max
 use Rattle.httparse.specs.Ascii.{crlf_bytes}
 use Rattle.lb_health_check.specs.declared.error.CheckError.TheVariants.{BadFraming}
 use Rattle.lb_health_http.specs.Chunked.{IsTrailerLine}
-use Rattle.lb_health_http.specs.Steps.{LineFault, TrailersOutcome}
+use Rattle.lb_health_http.specs.Internal.Steps.{LineFault, TrailersOutcome}
 use Rattle.lb_health_http.proofs.TrailerLemmas.{PassesTrailers, trailers_more, trailer_fits, bad_trailer, trailer_fault}
 use Rattle.lb_health_http.proofs.Streams.{OnBytes-then}
 use Rattle.lb_health_http.proofs.trailers.read_trailers.Goals as goal

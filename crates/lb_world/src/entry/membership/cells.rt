@@ -2,9 +2,9 @@
 //! the numbers that are left may not be enough.
 ghost use Rattle.std.specs.Prelude.{◌≡◌, ◌↔◌, ◌≤◌, ◌^◌, ◌∷◌, ℕ, List, true, IsTrue};
 ghost use Rattle.lb_world.specs.History.{members_in};
-ghost use Rattle.lb_world.specs.Cells.{lists_key, new_keys, starts_cell};
+ghost use Rattle.lb_world.specs.Internal.Cells.{lists_key, new_keys, starts_cell};
 ghost use Rattle.lb_world.specs.Rules.{key_gives};
-ghost use Rattle.lb_world.specs.Calls.{some_and};
+ghost use Rattle.lb_world.specs.Internal.Calls.{some_and};
 ghost use Rattle.lb_health_registry.specs.Registry.{IsRegistryAfter};
 ghost use Rattle.lb_health_registry.specs.RegistryEvents.{Event, Applied, Updated, cells_given, has_view, views_after};
 ghost use Rattle.lb_health_registry.specs.Targets.{live};

@@ -2,7 +2,7 @@ use Rattle.std.proofs.Common.{◌≡◌, ◌++◌, List, ℕ, Err, sym}
 use Rattle.std.specs.Io.KnownBytes.{prepend_known}
 use Rattle.lb_world.specs.Meanings.{meaning_of}
 use Rattle.lb_stream.specs.Counted.{inner_of}
-use Rattle.lb_script.specs.Session.{Joins}
+use Rattle.lb_script.specs.Internal.Session.{Joins}
 use Rattle.lb_script.proofs.SessionLemmas.{answered_line, failed_line, held_found, line_told, answers_told, turn_told, joins_unwritten}
 use Rattle.lb_script.proofs.SessionLemmas.{joins_written}
 use Rattle.lb_script.proofs.session.Session.take_turn.Goals as goal

@@ -4,7 +4,7 @@ use Rattle.lb_world.proofs.Selections.{Told, drew-so, selects}
 use Rattle.lb_world.specs.Answers.{selected}
 use Rattle.lb_rebuild_group.proofs.Undrawn.{undrawn}
 use Rattle.lb_rebuild_group.specs.GroupCalls.{after_select}
-use Rattle.lb_world.specs.Calls.{selected_as, selection_as}
+use Rattle.lb_world.specs.Internal.Calls.{selected_as, selection_as}
 use Rattle.lb_rebuild_group.specs.GroupHistory as group
 use Rattle.lb_rebuild_group.specs.Stands as stands
 use Rattle.lb_world.proofs.Words.{◌≡◌, Before, EntryNext, EntryValue, Err, GateValue, History, inl, inr, group_events, GroupValue, List}

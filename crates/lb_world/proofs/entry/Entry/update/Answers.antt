@@ -4,7 +4,7 @@ use Rattle.lb_rebuild_slots.specs.declared.membership.Scheduled.{Scheduled}
 use Rattle.lb_health_view.specs.RegistrySide.{registry_updated}
 use Rattle.lb_world.proofs.Updates.{Lacks, lacking, owned, refused, starved, updates, view-there}
 use Rattle.lb_rebuild_group.specs.GroupCalls.{IsRefusedFor, Schedules, after_schedule}
-use Rattle.lb_world.specs.Calls.{scheduled_as}
+use Rattle.lb_world.specs.Internal.Calls.{scheduled_as}
 use Rattle.lb_rebuild_group.specs.GroupHistory as group
 use Rattle.lb_rebuild_group.specs.Stands as stands
 use Rattle.lb_health_registry.specs.RegistryEvents as registry

@@ -1,5 +1,5 @@
 -- The group with its gate and its registry, lent to the entry's call.
-use Rattle.lb_world.specs.GroupSteps.{IsWhole, group_step_seen}
+use Rattle.lb_world.specs.Internal.GroupSteps.{IsWhole, group_step_seen}
 use Rattle.lb_world.specs.declared.group_step.GroupStep.{GroupStep}
 use Rattle.lb_world.proofs.Words.{◌∷◌, ◌∙◌, ◌≡◌, Answer, Answers, ap, arith, entries, group_at, History, inl, made_at, Meaning, meaning_of}
 use Rattle.lb_world.proofs.Words.{None, refl, Refusal, same_Some, slice_get_within, Some, sym, ℕ, at-place}

@@ -1,7 +1,7 @@
 -- The entry that is new joins the groups, over its registry and its gate; a refusal is for the least cause.
 use Rattle.lb_rebuild_slots.proofs.SlotsSteps.{configs-after}
 use Rattle.lb_world.proofs.Makings.{group-absent, group-made, group-refused, starts}
-use Rattle.lb_world.specs.Calls.{IsNewEntry, making_cause, or_memory}
+use Rattle.lb_world.specs.Internal.Calls.{IsNewEntry, making_cause, or_memory}
 use Rattle.lb_world.specs.Views.{nothing}
 use Rattle.std.proofs.Common.{get_or}
 use Rattle.std.proofs.lemmas.List.{length-replicate}

@@ -3,7 +3,7 @@ use Rattle.lb_select_base.specs.Backends.{Member}
 use Rattle.lb_health_registry.specs.Registry.{IsRegistryAfter}
 use Rattle.lb_health_registry.specs.RegistryEvents.{Event, views_after}
 use Rattle.lb_health_registry.specs.Targets.{live}
-use Rattle.lb_world.specs.Cells.{new_keys}
+use Rattle.lb_world.specs.Internal.Cells.{new_keys}
 use Rattle.lb_world.specs.Rules.{key_gives}
 use Rattle.lb_world.proofs.entry.membership.cells.starting_count.Given as goal
 

@@ -3,7 +3,7 @@ use Rattle.std.specs.Prelude.{ℕ, Bool, not, ◌&&◌, List, map, filter}
 use Rattle.std.specs.List.{filter_map, list_any}
 use Rattle.std.specs.Set.{distinct_count}
 use Rattle.lb_select_base.specs.Backends.{Member, same_member}
-use Rattle.lb_world.specs.Calls.{some_and}
+use Rattle.lb_world.specs.Internal.Calls.{some_and}
 use Rattle.lb_health_registry.specs.Fresh.{has_key}
 use Rattle.lb_health_registry.specs.Targets.{ViewValue}
 use Rattle.lb_world.specs.declared.step.Listing.{Listing}

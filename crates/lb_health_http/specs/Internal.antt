@@ -1,0 +1,2 @@
+-- Definitions that only proofs and private functions need: what the parts of reading a body do to the stream.
+pub mod Steps

@@ -1,0 +1,2 @@
+-- Definitions that only proofs and private functions need: what a run does for one line.
+pub mod Session

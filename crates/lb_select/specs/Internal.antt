@@ -1,0 +1,2 @@
+-- Definitions that only proofs and private functions need: entries on their way to their buckets.
+pub mod Spread
