@@ -1,6 +1,6 @@
 #!/bin/bash
 # Whether the documents fit the repository: crates and definitions that are named, README's example and its
-# counts, lines that are short.
+# counts, definitions that are quoted, comments and lines.
 # A line for each case; the last line is 'N passed, M failed'.
 set -euo pipefail
 unset CDPATH
@@ -72,6 +72,46 @@ stale_counts() {
         grep -qF "$said" README.md || echo "README doesn't say '$said'"
     done
 }
+# Files of definitions that contracts of libraries cite, and those that the headline rests on: its own, and what these import.
+definitions() { find crates/lb_*/specs -name '*.antt' ! -name Lib.antt ! -path '*/Internal*' ! -path 'crates/lb_tests/*'; }
+headline_definitions() {
+    local found=crates/lb_world/specs/Headline.antt more
+    while :; do
+        more=$(xargs grep -oh 'Rattle\.lb_[a-z_]*\.specs\.[A-Z][A-Za-z]*' <<<"$found" | sed 's|\.|/|g; s|^Rattle|crates|; s|$|.antt|')
+        more=$(printf '%s\n' "$found" "$more" | sort -u)
+        [ "$more" != "$found" ] || break
+        found=$more
+    done
+    echo "$found"
+}
+# Counts of definitions in README and docs/TOUR.md that aren't the repository's.
+stale_definitions() {
+    local files lines document
+    files=$(definitions | wc -l) lines=$(definitions | xargs cat | wc -l | sed 's/...$/,&/')
+    grep -qF "$files files of $lines lines" README.md || echo "README doesn't say '$files files of $lines lines'"
+    files=$(headline_definitions | wc -l) lines=$(headline_definitions | xargs cat | wc -l | sed 's/...$/,&/')
+    for document in README.md docs/TOUR.md; do
+        tr '\n' ' ' <"$document" | grep -qE "rests on $files of (these files|them), $lines lines" ||
+            echo "$document doesn't say that the headline rests on $files of them, $lines lines"
+    done
+}
+# Definitions that docs/TOUR.md quotes and that the file named before them doesn't have, letter for letter but for their indentation.
+absent_quotes() {
+    python3 - <<'EOF'
+import re
+
+with open("docs/TOUR.md", encoding="utf-8") as tour:
+    parts = re.split(r"```text\n(.*?)\n```", tour.read(), flags=re.S)
+for said, quoted in zip(parts[::2], parts[1::2]):
+    path = re.findall(r"`(crates/[^`]*\.(?:antt|rt))`", said)[-1]
+    with open(path, encoding="utf-8") as file:
+        text = file.read()
+    for definition in quoted.split("\n\n"):
+        lines = definition.splitlines()
+        if not any("\n" + "\n".join(" " * depth + it for it in lines) + "\n" in text for depth in range(0, 13, 2)):
+            print(f"{path} has no such lines as {lines[0]}")
+EOF
+}
 long_lines() { LC_ALL=C.UTF-8 grep -nE '.{141}' README.md docs/*.md || true; }
 # FROM TO TABLE: each row in a file that ends in FROM has one that ends in TO, and its name is in the table and in what is written.
 rows_that_lack() {
@@ -95,6 +135,8 @@ silent 'no document is named that is not there' absent_documents
 silent 'no name of the facade is named that is not there' absent_names
 silent 'the example in README is the one that is proved' example_of_readme
 silent 'the counts in README are those of the repository' stale_counts
+silent 'the definitions in docs/TOUR.md are those of their files' absent_quotes
+silent 'the counts of definitions are those of the repository' stale_definitions
 silent 'no line of a document is over 140 columns' long_lines
 silent 'each row has answers and is run' rows_without_answers
 
