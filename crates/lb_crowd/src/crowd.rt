@@ -64,7 +64,7 @@ pub struct Site<W> {
 }
 
 impl<W: Wait + Clock + Copy + Drop> Site<W> {
-    /// Without groups, over this registry.
+    /// Returns a site without groups, over this registry.
     pub fn new(rt: W, alloc: Global, registry: &Arc<Registry>) -> Result<Site<W>, Refusal> {
         Ok(Site {
             counts: Arc::new(alloc, Counts::new(rt, false))?,
@@ -73,7 +73,7 @@ impl<W: Wait + Clock + Copy + Drop> Site<W> {
         })
     }
 
-    /// A group of two slots that serve selectors over no backends; its discovery finds one backend.
+    /// Returns a group of two slots that serve selectors over no backends; its discovery finds one backend.
     pub fn group(&self, rt: &W, alloc: Global) -> Result<Handle<W>, Refusal> {
         let configs = self.configs(alloc)?;
         let backends = self.backends(alloc)?;
@@ -125,7 +125,7 @@ impl<W: Wait + Clock + Copy + Drop> Crowd<W> {
         })
     }
 
-    /// The groups themselves.
+    /// Returns the groups themselves.
     pub fn groups(&self) -> [&Group<W>; 2] {
         [&**self.first.shared(), &**self.second.shared()]
     }
@@ -191,7 +191,7 @@ fn lives_none<W: Clock>(counts: &Counts<W>) -> bool {
     false
 }
 
-/// The backend of this weight at 1.0.0.1:80, always.
+/// Returns a discovery that always finds the backend of this weight at 1.0.0.1:80.
 pub fn one_backend(alloc: Global, weight: usize) -> Result<DiscoverySource<Static>, Refusal> {
     let mut backends = BTreeSet::new(alloc);
     backends.insert(Backend::new_with_weight(alloc, "1.0.0.1:80", weight)?)?;
@@ -281,7 +281,7 @@ fn selects_and_reads<S: BackendSelection, R: KeyRule + Drop, C: HealthCheck + Dr
     false
 }
 
-/// What a slot selects now, of the ready ones.
+/// Selects one of the ready backends of a slot.
 pub fn select_one<S: BackendSelection, R: KeyRule + Drop, C: HealthCheck + Drop, W: Wait>(
     rt: &W,
     alloc: Global,
@@ -309,7 +309,7 @@ pub fn is_free<W: Wait>(rt: &W, gate: &SelectorRebuildGate) -> bool {
     }
 }
 
-/// Whether that many turns of ten milliseconds are enough until a group has no worker any more.
+/// Returns whether that many turns of ten milliseconds are enough until a group has no worker any more.
 pub fn ends<S: BackendSelection, R: KeyRule + Drop, C: HealthCheck + Drop, W: Wait + Clock>(
     rt: &W,
     group: &SharedGroup<S, R, C>,
@@ -324,7 +324,7 @@ pub fn ends<S: BackendSelection, R: KeyRule + Drop, C: HealthCheck + Drop, W: Wa
     false
 }
 
-/// Whether a slot serves that generation within that many turns of ten milliseconds.
+/// Returns whether a slot serves that generation within that many turns of ten milliseconds.
 pub fn serves<S: BackendSelection, R: KeyRule + Drop, C: HealthCheck + Drop, W: Wait + Clock>(
     rt: &W,
     group: &SharedGroup<S, R, C>,
@@ -377,7 +377,7 @@ fn joined<W: Threads>(rt: &W, reader: Option<JoinHandle<bool>>) -> bool {
     }
 }
 
-/// Four threads that select from two new groups so many times each, and read them by passes until the last update is served, while the
+/// Runs four threads that select from two new groups so many times each, and read them by passes until the last update is served, while the
 /// caller's updates both so many times and their workers build; whether nothing was refused, each update was the next generation, and no
 /// reading fell.
 pub fn crowd_in<

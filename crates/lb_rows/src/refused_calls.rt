@@ -1,5 +1,5 @@
 //! Calls of a plain balancer, a plain group and a registry that memory may be refused in: a call that was refused for it has to leave all
-//! that can be read as it was, and is given again. What is read after each call is that of the call's row, whether it was given again or not.
+//! that can be read as it was, and is made again. What is read after each call is that of the call's row, whether it was made again or not.
 ghost use Rattle.std.specs.Prelude.{◌≡◌, IfOk};
 ghost use Rattle.lb_rebuild_group.specs.Stands.{SameSite};
 
@@ -79,7 +79,7 @@ impl MomentSource for Ticks {
     }
 }
 
-/// What can be read of a balancer or of a group, and of its registry: its newest generation, what is served and selected of it, how long the
+/// What can be read of a balancer or a group, and of its registry: the newest generation, what is served and selected of it, how long the
 /// last update took, and the numbers that are left for cells.
 #[derive(Clone, Copy, PartialEq, Eq)]
 struct Seen {

@@ -1,2 +1,2 @@
-//! Groups in a world: random words that are handed in.
+//! Groups in a world: random words that are given.
 mod worlds;

@@ -1,5 +1,5 @@
 //! Tests of what no clause says, across the crates: worked values from outside, and that ordinary calls succeed.
-//! There is no code here beside them.
+//! There is no other code here.
 #![tactic(auto)]
 
 #[cfg(test)]

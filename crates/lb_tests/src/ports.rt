@@ -1,5 +1,5 @@
 //! Tests of groups by their calls: updates, workers' turns and selections through the port of a plain group.
-//! The clock goes on by five at each reading. Who owns what the port is lent makes one call with it.
+//! The clock goes on by five at each reading. The owner of what the port borrows makes one call with it.
 use crate::asserted::assert_same;
 use crate::balance::balancers::Rows;
 use crate::told::{Answer, DONE, Members, Ticks, Told, YES, always, is_at};
@@ -139,7 +139,7 @@ fn selects<P: GroupPort<RoundRobin>>(
     Ok(Told::Flag(is_at(alloc, &found, wanted)?))
 }
 
-// Makes the calls of a row, which is named by its place: a port has lifetimes of its own, beside which no other may be named.
+// Makes the calls of a row, which is named by its place: a port has lifetimes of its own, and no other may be named with them.
 fn plays<P: GroupPort<RoundRobin>>(alloc: Global, port: &mut P, row: usize, rt: &impl Abort) {
     let mut clock = Ticks { next: 10 };
     let Some(calls) = ROWS.get(row) else {

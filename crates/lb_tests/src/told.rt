@@ -13,7 +13,7 @@ use std::alloc::Global;
 /// Backends by address and weight.
 pub(crate) type Members = &'static [(&'static str, usize)];
 
-/// What a call told.
+/// What a call returned.
 #[derive(Clone, Copy, Debug, PartialEq, Eq)]
 pub(crate) enum Told {
     Done,

@@ -14,7 +14,7 @@ pub struct Ends {
 }
 
 impl Ends {
-    /// A new signal and a new notifier, each with its watch.
+    /// Returns a new signal and a new notifier, each with its watch.
     pub fn new(alloc: Global) -> Result<Ends, Refusal> {
         let (signal, watch) = shutdown_pair(alloc)?;
         let (notifier, ready) = ready_pair(alloc)?;

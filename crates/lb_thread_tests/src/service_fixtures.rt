@@ -70,7 +70,7 @@ impl<R: Clock> HealthCheck for Down<R> {
 /// A registry with a check of this type.
 pub type Checked<R> = HealthRegistry<Rule<NoRule>, Down<R>>;
 
-/// A registry with a view, its first, of the backend 1.0.0.1:80/1 or of none.
+/// Returns a registry with a view, its first, of the backend 1.0.0.1:80/1 or of none.
 pub fn registry_of<R: Abort>(rt: &R, alloc: Global, is_empty: bool) -> KeyedRegistry {
     let mut registry = keyed_by_identity(alloc);
     let id = registry.register_view(alloc).expect(rt, "refused");
@@ -91,7 +91,7 @@ pub struct ServiceBench<R> {
 }
 
 impl<R: Abort + Wait + Clock + Copy + Send + Sync + Drop> ServiceBench<R> {
-    /// Over this registry, which has no check yet.
+    /// Returns a service over this registry, which has no check yet.
     pub fn new(rt: &R, alloc: Global, registry: KeyedRegistry) -> ServiceBench<R> {
         let registry = HealthRegistry::over(alloc, registry).expect(rt, "refused");
         let registry: Arc<Checked<R>> = Arc::new(alloc, registry).expect(rt, "refused");
@@ -122,7 +122,7 @@ impl<R: Abort + Wait + Clock + Copy + Send + Sync + Drop> ServiceBench<R> {
     }
 }
 
-/// The backend 1.0.0.1:80/1.
+/// Returns the set of the backend 1.0.0.1:80/1.
 pub fn one_backend<R: Abort>(rt: &R, alloc: Global) -> BTreeSet<Backend> {
     let backend = Backend::new(alloc, "1.0.0.1:80").expect(rt, "refused");
     let mut set = BTreeSet::new(alloc);

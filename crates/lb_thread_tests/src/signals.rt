@@ -16,7 +16,7 @@ const SHUTDOWN: Option<Event> = Some(Event::Shutdown);
 
 const CLOSED: Option<Event> = Some(Event::Closed);
 
-// What two watches of a signal tell once this was sent, the first one beside the signal too; and whether that is the end to the other.
+// What two watches of a signal return once this was sent, the first one also with the signal; and whether the other sees the end.
 fn told(
     signal: &mut ShutdownSignal,
     watch: &ShutdownWatch,
@@ -101,7 +101,7 @@ fn send_later<R: Clock>(rt: &R, signal: &mut ShutdownSignal) {
     signal.send(true);
 }
 
-// A watch of a clock that stands still is woken by the signal of another thread.
+// A watch with a stopped clock is woken by the signal of another thread.
 #[test]
 fn signal_wakes_a_watch(rt: HostRuntime) {
     let (mut signal, watch) = shutdown_pair(rt.alloc()).expect(&rt, "refused");

@@ -1,5 +1,5 @@
 //! Rows of balancers: one of texts that selects by loads, and one at random whose discovery goes on with each update.
-//! A balancer is lent to its calls.
+//! Calls borrow a balancer.
 ghost use Rattle.std.specs.Prelude.{⊤};
 
 use crate::asserted::assert_same;
@@ -339,7 +339,7 @@ const OF_ROWS: Calls = &[
         }))),
     ),
     (Call::SelectsFirst, YES),
-    // Few backends after too many are served, by a clock that goes back; it counts as one that stands.
+    // Few backends after too many are served, by a clock that goes back; it counts as one that stays.
     (Call::Update(&[40, 30, 20, 10]), DONE),
     (Call::Generation, Ok(Told::Number(2))),
     (Call::CountMembers, Ok(Told::Length(2))),

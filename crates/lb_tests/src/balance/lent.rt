@@ -1,4 +1,4 @@
-//! A caller of lent backends: its contract tells that what is set through them reaches the balancer.
+//! A caller of borrowed backends: its contract says that what is set through them reaches the balancer.
 ghost use Rattle.std.specs.Prelude.{◌≡◌, ◌∷◌, false};
 ghost use Rattle.lb_balancer_core.specs.Balancer.{After, Set, Stands};
 

@@ -69,7 +69,7 @@ fn made(alloc: Global, world: &mut Worlds) -> Result<[Said; 4], Refusal> {
     ])
 }
 
-// Its build, and selections of three candidates by three words and by four, which are lent.
+// Its build, and selections of three candidates by three words and by four, which are borrowed.
 fn served(world: &mut Worlds) -> [Said; 5] {
     let (group, slot, now) = (0, 0, 0);
     [

@@ -1,5 +1,5 @@
 //! Backends with a check: a discovery that answers a fault, what a pass asks and tells the check, and what it writes to the log.
-//! No contract sees these. The backends are lent to one row after another.
+//! No contract sees these. One row after another borrows the backends.
 use crate::asserted::{assert_row, assert_same};
 use crate::selection::fixtures::set_of;
 use lb_health_check::error::CheckError;
@@ -20,7 +20,7 @@ use std::process::Abort;
 use std::rc::Rc;
 use std::test::Fail;
 
-/// What a check was asked and told, whether it finds 1.0.0.1:80/1 down, and whether discoveries answer a fault.
+/// How often a check was asked and got a report, whether it finds 1.0.0.1:80/1 down, and whether discoveries answer a fault.
 #[derive(Drop)]
 struct Counts {
     asked: Cell<u64>,
@@ -45,7 +45,7 @@ impl ServiceDiscovery for Pair {
     }
 }
 
-/// A check that counts what it is asked and told. Two failures in a row flip a cell, or one success.
+/// A check that counts its calls and reports. Two failures in a row flip a cell, or one success.
 #[derive(Drop)]
 struct Counting {
     counts: Rc<Counts>,
@@ -145,8 +145,8 @@ fn ready(alloc: Global, backends: &Counted) -> Result<bool, Refusal> {
     Ok(backends.ready(&Backend::new(alloc, "1.0.0.1:80")?))
 }
 
-// Whether a pass finds the backend down; how often the check was asked and told then, and whether the backend is ready. The first pass
-// finds it down for the first time, the second flips it, the third finds it up and flips it back; each pass checks each target once.
+// Whether a pass finds the backend down; how often the check was asked and got a report then, and whether the backend is ready. The first
+// pass finds it down for the first time, the second flips it, the third finds it up and flips it back; each pass checks each target once.
 const PASSES: [(bool, u64, u64, bool); 3] = [
     (true, 2, 0, true),
     (true, 4, 1, false),

@@ -1,4 +1,4 @@
-//! Health of a cell, and rows of a registry's calls. A row has a registry of its own, which is lent to its calls.
+//! Health of a cell, and rows of a registry's calls. A row has a registry of its own, which its calls borrow.
 use crate::asserted::assert_same;
 use crate::selection::fixtures::set_of;
 use crate::told::{Answer, DONE, Members, NO, Told, YES};
@@ -284,7 +284,7 @@ fn plays(alloc: Global, registry: &mut RegistryCore, calls: Calls, name: &str, r
     }
 }
 
-// Plays a row on the registry, which is lent to each of its lists.
+// Plays a row on the registry, which each of its lists borrows.
 fn plays_row(alloc: Global, registry: &mut RegistryCore, row: &Row, rt: &impl Abort) {
     plays(alloc, registry, row.first, row.name, rt);
     plays(alloc, registry, row.then, row.name, rt);

@@ -1,4 +1,4 @@
-//! Rows of views, flags and readiness. A row has a registry of its own with two views, which are lent to its calls.
+//! Rows of views, flags and readiness. A row has a registry of its own with two views, which its calls borrow.
 use crate::asserted::assert_same;
 use crate::health::registries::{Call as RegistryCall, answer};
 use crate::selection::fixtures::set_of;
@@ -18,7 +18,7 @@ type Setting = Option<(&'static str, bool)>;
 #[derive(Clone, Copy)]
 enum Call {
     Registry(RegistryCall),
-    /// Updates the view; how many members its callback was lent, or that it wasn't called.
+    /// Updates the view; how many members its callback was passed, or that it wasn't called.
     Update(Members, Setting),
     /// The same of the other view.
     UpdateOther(Members),
@@ -120,7 +120,7 @@ impl Viewed {
     }
 }
 
-// Updates a view; how many members the callback was lent, or that it wasn't called.
+// Updates a view; how many members the callback was passed, or that it wasn't called.
 fn update(
     alloc: Global,
     registry: &mut RegistryCore,

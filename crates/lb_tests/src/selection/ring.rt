@@ -21,7 +21,7 @@ fn ring_of(alloc: Global, points: &[(u32, &str)]) -> Result<Ring, Refusal> {
     Ring::of_points(placed)
 }
 
-// The owner of the point that stands `j` after a place on the ring of these points; an empty text where there is none.
+// The owner of the point that comes `j` after a place on the ring of these points; an empty text where there is none.
 fn owner(alloc: Global, points: &[(u32, &str)], place: u32, j: u64) -> Result<String, Refusal> {
     let ring = ring_of(alloc, points)?;
     match ring.owner(place, j) {

@@ -1,4 +1,4 @@
-//! Selections beside updates and checks, in threads.
+//! Selections during updates and checks, in threads.
 use crate::balancer::fixtures::{Bench, ROWS, is_second, waited};
 use lb_select::selection::RoundRobin;
 use log::Log;
@@ -134,7 +134,7 @@ fn cases<R: Abort + Log + Threads + Wait + Clock + Copy + Send + Sync + Drop>(
     [asked, updated, checked]
 }
 
-// While a discovery is asked selections go on, in what was served before. Beside updates each thread sees one membership at a time, with a
+// While a discovery is asked selections go on, in what was served before. During updates each thread sees one membership at a time, with a
 // selector of it, and generations that only rise. A thread that keeps what it saw selects what is found down meanwhile no longer.
 #[test]
 fn selections_go_on(rt: HostRuntime) {

@@ -20,11 +20,13 @@ use std::sync::{Arc, Wait};
 use std::thread;
 use std::time::{Clock, Duration};
 
-/// What a discovery answers: its rows in turn, a fault, or a membership of too much weight.
+/// The word by which a discovery answers its rows in turn.
 pub const ROWS: u64 = 0;
 
+/// The word by which it answers a fault.
 pub const FAULT: u64 = 1;
 
+/// The word by which it answers a membership of too much weight.
 pub const HEAVY: u64 = 2;
 
 /// A line between the test and what a balancer calls: how often that was called, whether it may answer, and what.
@@ -70,7 +72,7 @@ pub fn waited<R: Clock>(rt: &R, word: &AtomicU64, wanted: u64) -> bool {
     false
 }
 
-/// Answers the backends 1.0.0.1:80 to 1.0.0.3:80 and 2.0.0.1:80 to 2.0.0.3:80 in turn, or what its line says.
+/// A discovery that answers the backends 1.0.0.1:80 to 1.0.0.3:80 and 2.0.0.1:80 to 2.0.0.3:80 in turn, or what its line says.
 #[derive(Drop)]
 pub struct InTurn<R> {
     rt: R,
@@ -82,7 +84,7 @@ const FIRST: [&str; 3] = ["1.0.0.1:80", "1.0.0.2:80", "1.0.0.3:80"];
 
 const SECOND: [&str; 3] = ["2.0.0.1:80", "2.0.0.2:80", "2.0.0.3:80"];
 
-/// Backends of weight 1 at these addresses.
+/// Returns backends of weight 1 at these addresses.
 pub fn listed(alloc: Global, texts: &[&str]) -> Result<BTreeSet<Backend>, Refusal> {
     let mut set = BTreeSet::new(alloc);
     for text in texts {
@@ -112,7 +114,7 @@ impl<R: Clock> ServiceDiscovery for InTurn<R> {
     }
 }
 
-/// Whether a backend is the second of what is found in turn.
+/// Returns whether a backend is the second of what is found in turn.
 pub fn is_second(backend: &Backend) -> bool {
     match &backend.addr {
         SocketAddr::Inet(InetAddr::V4([_, 0, 0, 2], 80)) => true,
@@ -156,7 +158,7 @@ pub struct Bench<S: BackendSelection, R> {
 }
 
 impl<S: BackendSelection, R: Abort + Wait + Clock + Copy + Drop> Bench<S, R> {
-    /// Over the discovery in turn; nothing is found yet, and both lines are open.
+    /// Returns a balancer over the discovery in turn; nothing is found yet, and both lines are open.
     pub fn new(rt: &R, alloc: Global) -> Bench<S, R> {
         let line = Arc::new(alloc, Line::new()).expect(rt, "refused");
         let discovery = InTurn {

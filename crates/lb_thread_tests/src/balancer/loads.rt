@@ -48,7 +48,7 @@ fn set_meanwhile<R: Abort + Wait + Clock + Copy + Drop>(
     note(rt, text, &found.expect(rt, "refused"));
 }
 
-// Selections beside a reader's, by loads that were set before.
+// Selections next to a reader's, by loads that were set before.
 fn loaded<R: Abort + Wait + Clock + Copy + Drop>(
     rt: &R,
     bench: &Bench<LeastConnections, R>,

@@ -32,12 +32,12 @@ enum Case {
     EndedInCheck,
 }
 
-// What the thread beside the run saw: whether what it waited for came, by how much the generation had risen, and whether the run's notifier
-// was told.
+// What the other thread saw of the run: whether what it waited for came, by how much the generation had risen, and whether the run's
+// notifier was notified.
 type Told = (bool, u64, bool);
 
 // What is there after the run: by how much the generation has risen, whether a member isn't ready, how often discovery and check were
-// asked, and whether the notifier was told.
+// asked, and whether the notifier was notified.
 type Left = (u64, bool, u64, u64, bool);
 
 // Sets up the bench for a run.
@@ -76,7 +76,7 @@ fn rises<R: Wait + Clock + Copy + Drop>(rt: &R, bench: &Bench<RoundRobin, R>, fi
     false
 }
 
-// What the thread beside a run does: it waits until discovery or check is asked, looks, and opens its line; in most cases it sends the end.
+// What the other thread does during a run: it waits until discovery or check is asked, looks, and opens its line; mostly it sends the end.
 fn tells<R: Wait + Clock + Copy + Drop>(
     rt: &R,
     bench: &Bench<RoundRobin, R>,
@@ -140,7 +140,7 @@ fn left<R: Wait + Clock + Copy + Drop>(
     )
 }
 
-// A run, and the thread beside it.
+// A run, and the other thread.
 fn run_beside<
     R: Threads + Wait + Clock + Copy + Send + Sync + Drop,
     W: Log + Threads + Wait + Sync,
@@ -169,9 +169,9 @@ fn play<
     run_beside(rt, logged, bench, case, &mut ends)
 }
 
-// A run that is to end before it begins updates nothing. A refused update is one too: the notifier is told, and the run that has no other
-// one ends by itself. The notifier is told after the first update and not before. An update that runs when services are to end goes on to
-// its end, and then the run ends without telling its notifier. So is a pass of checks: each verdict stands, and then the run ends.
+// A run that is to end before it begins updates nothing. A refused update is one too: the notifier is notified, and the run that has no
+// other one ends by itself. The notifier is notified after the first update and not before. An update that runs when services are to end
+// goes on to its end, and then the run ends without notifying. So is a pass of checks: each verdict counts, and then the run ends.
 fn rows<
     R: Abort + Threads + Wait + Clock + Copy + Send + Sync + Drop,
     W: Log + Threads + Wait + Sync,

@@ -34,7 +34,7 @@ fn note_ready<R: Abort + Wait + Clock + Copy + Drop>(
     write!(text, " {is_ready}").expect(rt, "refused");
 }
 
-// Notes where the clock stands, the generation, what the last update took, how many members there are and are ready, and a selection.
+// Notes the clock, the generation, what the last update took, how many members there are and are ready, and a selection.
 fn look<R: Abort + Wait + Clock + Copy + Drop>(
     rt: &R,
     alloc: Global,

@@ -1,4 +1,4 @@
-//! Workers of two groups on one gate: they build beside selections, one selector more than the slots at most, and end when their group
+//! Workers of two groups on one gate: they build during selections, one selector more than the slots at most, and end when their group
 //! does.
 use super::TURNS;
 use lb_crowd::counted::Counts;
@@ -64,8 +64,8 @@ pub fn served_in_a_crowd<
     assert_eq!(rt; (missing, holds), ([0; 4], true));
 }
 
-/// A build of the first group that is held doesn't hold up a selection; once it goes on, what it built is served. Workers of groups that
-/// are let go end.
+/// A build of the first group that is held doesn't hold up a selection; once it goes on, what it built is served. Workers of dropped groups
+/// end.
 pub fn selects_beside_a_build<
     W: Abort + Log + Threads + Wait + Clock + Copy + Send + Sync + Drop + 'static,
 >(rt: &W, alloc: Global, crowd: &Crowd<W>) {

@@ -42,7 +42,7 @@ fn fresh<W: Abort + Wait + Clock + Copy + Drop>(
     ]
 }
 
-// What the lent backends of a handle tell before its first update, after it, and once a flag is set.
+// What the borrowed backends of a handle show before its first update, after it, and once a flag is set.
 fn lent<W: Abort + Wait + Clock + Copy + Drop>(
     rt: &W,
     alloc: Global,

@@ -1,4 +1,4 @@
-//! A pass over a group whose workers are started: what is told of its first update before that and after it, by the group's handle.
+//! A pass over a group whose workers are started: what is read of its first update before that and after it, by the group's handle.
 ghost use Rattle.std.specs.Prelude.{◌≡◌};
 ghost use Rattle.std.specs.Arc.{arc_value};
 
@@ -15,7 +15,7 @@ use std::thread;
 use std::thread::Threads;
 use std::time::{Clock, Duration};
 
-// What is told of the first update while no worker runs.
+// What is read of the first update while no worker runs.
 fn told_before<W: Wait + Clock + Copy + Drop>(
     rt: &W,
     alloc: Global,
@@ -66,7 +66,7 @@ fn entered<W: Abort + Wait + Clock + Copy + Drop>(
     (generation, answer.expect(rt, "refused"))
 }
 
-// What passes are told once the workers run: by one that waits for it, and by one that meets that. What a reader selects then.
+// What passes read once the workers run: by one that waits for it, and by one that meets that. What a reader selects then.
 fn told_after<W: Abort + Wait + Clock + Copy + Drop>(
     rt: &W,
     alloc: Global,
@@ -118,7 +118,7 @@ fn served<W: Abort + Wait + Clock + Copy + Drop>(
     ]
 }
 
-/// An update is told to its pass at once, and what the slots serve once the workers have published, which serve what was found.
+/// A pass sees its update at once, and what the slots serve once the workers have published, which serve what was found.
 pub fn with_workers<W: Abort + Log + Threads + Wait + Clock + Copy + Send + Sync + Drop + 'static>(
     rt: &W,
     alloc: Global,
