@@ -28,7 +28,7 @@ use std::rt::Clock;
 /// The most bytes that a body may have, unless another limit is set.
 pub const MAX_BODY_BYTES: u64 = 1048576;
 
-/// Checks that a backend gives a whole answer that is accepted.
+/// A check that a backend gives a whole answer that is accepted.
 #[derive(Drop)]
 pub struct HttpHealthCheck<N, V = AcceptStatus, O = NoObserver, S = IdentitySummary> {
     net: N,

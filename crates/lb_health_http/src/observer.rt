@@ -3,7 +3,7 @@
 use lb_health_check::health_check::HealthObserve;
 use lb_select_base::backend::Backend;
 
-/// Does nothing where the health of a backend changes.
+/// An observer that does nothing.
 #[derive(Clone, Copy, Debug)]
 pub struct NoObserver;
 

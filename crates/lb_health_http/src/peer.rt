@@ -13,7 +13,7 @@ use std::time::Duration;
 // A second, in nanoseconds.
 const SECOND: u128 = 1_000_000_000;
 
-/// How long a check waits to connect, in nanoseconds; without a limit, as long as the system does. A limit of 0 acts as 1.
+/// The limit on how long a check waits to connect, in nanoseconds; without a limit, as long as the system does. A limit of 0 acts as 1.
 #[derive(Clone, Copy, Debug)]
 pub struct BasicPeer {
     pub connection_timeout: Option<u128>,

@@ -11,7 +11,7 @@ use lb_select_base::refusal::Refusal;
 use std::alloc::Global;
 use std::net::{Net, TcpStream};
 
-/// Checks that a backend takes connections.
+/// A check that a backend takes connections.
 #[derive(Drop)]
 pub struct TcpHealthCheck<N, O = NoObserver, S = IdentitySummary> {
     net: N,

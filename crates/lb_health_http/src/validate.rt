@@ -8,7 +8,7 @@ use http::StatusCode;
 use http::response::Parts;
 use lb_health_check::error::CheckError;
 
-/// Says of the head of an answer whether a check accepts it. Names of fields are in lower case, and values without the white
+/// A rule by which a check accepts the head of an answer. Names of fields are in lower case, and values without the white
 /// space around them.
 pub trait Validate {
     ghost accepts: { Self → Parts → Bool };
@@ -18,7 +18,7 @@ pub trait Validate {
         ensures { result ≡ accepts self.now head.now };
 }
 
-/// Accepts one status and no other.
+/// The rule that accepts one status and no other.
 #[derive(Clone, Copy, Debug)]
 pub struct AcceptStatus(pub StatusCode);
 

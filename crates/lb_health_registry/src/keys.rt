@@ -71,7 +71,7 @@ impl ByNumber {
     }
 }
 
-/// By which rule the backends of a registry share a cell.
+/// The rule by which the backends of a registry share a cell.
 #[derive(Drop)]
 pub enum Rule<N> {
     /// Those of one address and weight.

@@ -2,7 +2,7 @@
 //! Registries, gates, groups and readers are named by numbers, from 0 in the order in which they were made, each kind by itself.
 use lb_select_base::backend::Backend;
 
-/// By what the backends of a registry share a cell.
+/// The rule by which the backends of a registry share a cell.
 #[derive(Clone, Copy, Debug, PartialEq, Eq)]
 pub enum CellKey {
     /// The identity of a backend: address and weight.

@@ -75,7 +75,7 @@ TrailersOutcome (Err Read) stream rest = ⊤
 TrailersOutcome (Err OutOfMemory) stream rest = ⊤
 TrailersOutcome (Err e) stream rest = ⊥
 
--- chunks of that size together were passed: a body stands there where the rest of one stands after them, and so on back; it
+-- chunks of that size together were passed: a body is there where the rest of one is after them, and so on back; it
 -- has the faults that the rest has
 pub record PassesChunks (size : ℕ) (stream rest : List ℕ) : Type 0 where
   pub front : List ℕ
