@@ -113,6 +113,12 @@ for said, quoted in zip(parts[::2], parts[1::2]):
 EOF
 }
 long_lines() { LC_ALL=C.UTF-8 grep -nE '.{141}' README.md docs/*.md || true; }
+long_source_lines() { LC_ALL=C.UTF-8 grep -rnE '.{141}' crates/*/src crates/*/specs crates/*/proofs --include='*.rt' --include='*.antt' || true; }
+# Comments of items whose first words don't say what the item is or does.
+empty_beginnings() {
+    find crates/*/src -name '*.rt' -exec awk 'FNR == 1 { after = 0 }
+        /^ *\/\/\/ (The same|As) / && !after { print FILENAME ":" FNR ":" $0 } { after = /^ *\/\/\// }' {} +
+}
 # FROM TO TABLE: each row in a file that ends in FROM has one that ends in TO, and its name is in the table and in what is written.
 rows_that_lack() {
     local row name
@@ -138,6 +144,8 @@ silent 'the counts in README are those of the repository' stale_counts
 silent 'the definitions in docs/TOUR.md are those of their files' absent_quotes
 silent 'the counts of definitions are those of the repository' stale_definitions
 silent 'no line of a document is over 140 columns' long_lines
+silent 'no line of a source is over 140 columns' long_source_lines
+silent "no comment of an item begins with 'The same' or 'As'" empty_beginnings
 silent 'each row has answers and is run' rows_without_answers
 
 echo "$passed passed, $failed failed"

@@ -25,7 +25,7 @@ use std::process::Abort;
 enum Call {
     /// An update by a discovery of these; the newest generation then.
     Update(Members),
-    /// The same by that answer of a discovery by rows.
+    /// An update by that answer of a discovery by rows; the newest generation then.
     UpdateByRow(u8),
     /// Sets the clock, also back.
     SetClock(u128),

@@ -138,7 +138,7 @@ enum Call {
     IsReady(&'static str),
     /// Whether it is the one at that address that is selected within a limit, or none.
     Selects(usize, Option<&'static str>),
-    /// The same where each one is accepted, within a limit of 2.
+    /// Whether it is selected where each one is accepted, within a limit of 2.
     SelectsAny(&'static str),
     /// Whether what is selected is 1.0.0.1:80 with `first` attached.
     SelectsFirst,

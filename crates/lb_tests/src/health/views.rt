@@ -20,7 +20,7 @@ enum Call {
     Registry(RegistryCall),
     /// Updates the view; how many members its callback was passed, or that it wasn't called.
     Update(Members, Setting),
-    /// The same of the other view.
+    /// Updates the other view; how many members its callback was passed, or that it wasn't called.
     UpdateOther(Members),
     /// Updates the view, once more where memory was refused; whether nothing changed then.
     UpdateAtLast(Members),
@@ -30,7 +30,7 @@ enum Call {
     Release(u64),
     /// Whether the backend of weight 1 at that address is ready.
     IsReady(&'static str),
-    /// The same in the other view, of 1.0.0.1:80.
+    /// Whether 1.0.0.1:80 is ready in the other view.
     IsReadyInOther,
     /// Whether 1.0.0.1:80 is ready in the snapshot of this generation.
     IsReadyIn(u64),
