@@ -81,7 +81,7 @@ or_true true b is = refl
 or_true false b is = is
 
 module _ {P : Type 0} (reads : P → ℕ → ℕ → P → Type 0) (does : P → Action → Event → P → Type 0) where
-  -- the first event that is told is the start
+  -- the first event is the start
   pub has_begun : (p q m : P) (h : List Heard) (e : Event) → Driven reads does p h q → Told reads does q h e m
       → ((is_start e || is_shutdown e) || begun h) ≡ true
   has_begun p q m [] e driven told = rw told.0 refl

@@ -1,4 +1,4 @@
--- A loop that drives a service: what holds before each event is told, and that a service never asks for an update.
+-- A loop that drives a service: what holds before each event, and that a service never asks for an update.
 use Rattle.std.proofs.Common.{◌≡◌, ◌≢◌, ◌∙◌, ℕ, Bool, true, false, not, ◌&&◌, ◌||◌, ◌==◌, List, [], ◌∷◌, Option, Some, None, refl, sym, ap}
 use Rattle.std.proofs.Common.{if◌then◌else◌}
 use Rattle.lb_background.specs.declared.event.Event.{Event}

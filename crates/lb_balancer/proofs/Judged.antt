@@ -21,7 +21,7 @@ forgot : {S B : Type 0} (same : B → B → Bool) (accepts : B → Bool → Type
 forgot same accepts limit gives walks s t (Ok r) (cs, ended, walked, answer) = (walked.draws, cs, ended, walked.walked, answer)
 forgot same accepts limit gives walks s t (Err e) refused = refused.0
 
--- what was asked is told by what follows from it
+-- what was asked is described by what follows from it
 pub asked-of : {S F : Type 0} {g : Shared F (Bor Member × Unit {0}) Bool} {f : F} (gives : S → Draw → S → Type 0)
     (walks : List Draw → List Member → Bool → Type 0) (Q : Member → Bool → Type 0) (limit : ℕ) (s t : S)
     (r : Result (Option Member) Refusal)
@@ -53,7 +53,7 @@ module _ {B : Type 0} (same : B → B → Bool) (P Q : B → Bool → Type 0) (m
   of-more walks (Ok r) (draws, cs, ended, walked, answer) = (draws, cs, ended, walked, answer_more cs ended r answer)
   of-more walks (Err e) refused = refused
 
--- where what was asked answers as it is told, what it accepts is what is right
+-- where what was asked answers by what it is passed, what it accepts is what is right
 pub of-told : {F : Type 0} {g : Shared F (Bor Member × (Bool × Unit {0})) Bool} {f : F} (right : Member → Bool → Type 0) (limit : ℕ)
     (walks : List Draw → List Member → Bool → Type 0) (r : Result (Option Member) Refusal)
     → SelectsOf same_member (λ b a. AcceptsBy g f right b a) limit walks r

@@ -22,7 +22,7 @@ module _ {R : Type 0} {gives : R → Member → Member → Type 0} where
       (λ key_of events after. ok key_of p.0 events p.1 after)
   renewed_later (Err a) v members p ok err = stays err
 
-  -- the view is marked, and its newest generation let go
+  -- the view is marked, and its newest generation released
   pub left_later : (v : ViewValue) {x y : RegistryValue R} → IsFounded v
       → ((key_of : Member → Member) (views : List ViewEvent) (events : List Event) → IsViewAfter views v
       → IsRegistryAfter gives key_of events x

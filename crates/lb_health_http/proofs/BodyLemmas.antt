@@ -27,7 +27,7 @@ fronts_same (x ∷ a) (y ∷ b) m r n e =
     let heads : x ≡ y = cc in
     (cc, rest.1)
 
--- what follows n bytes, where the content of a chunk of n bytes stands
+-- what follows n bytes, where there is the content of a chunk of n bytes
 content_tail : (n : ℕ) (s m after : List ℕ) → Takes n s m → HasContent n s after → m ≡ crlf_bytes ++ after
 content_tail n s m after t h =
     (fronts_same t.front h.0 m (crlf_bytes ++ after) (t.count ∙ sym h.1) (sym t.is ∙ h.2)).1

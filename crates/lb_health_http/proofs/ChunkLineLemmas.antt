@@ -20,7 +20,7 @@ use Rattle.lb_health_http.specs.Internal.Steps.{IsChunkLineOf}
 use Rattle.lb_health_http.specs.ChunkLines.{EndsChunkLine}
 use Rattle.lb_health_http.proofs.LineLemmas.{line_of}
 
--- the first n bytes of a line pass the test, and what stands behind them is a line that begins with a byte that doesn't
+-- the first n bytes of a line pass the test, and what follows them is a line that begins with a byte that doesn't
 pub record ReachesTo (test : ℕ → Bool) (text : List ℕ) (n : ℕ) : Type 0 where
   pub passes : AllPass test (take n text)
   pub stops : Stops test (drop n text)
@@ -60,7 +60,7 @@ reaches test text n p none is =
     subst (λ (m : ℕ). ReachesTo test text m) (sym is)
     (subst (λ (l : List ℕ). ReachesTo test l (prefix_len test l)) (sym p.is) (reaches_front test p.front p.clear none))
 
--- what stands behind the first byte of a line, where that isn't its line feed
+-- what follows the first byte of a line, where that isn't its line feed
 pub line_tail : (x : ℕ) (rest : List ℕ) → IsLineText (x ∷ rest) → x ≢ 10 → IsLineText rest
 line_tail x rest p other = by p.front p.clear p.is
   where
@@ -137,7 +137,7 @@ read_here line digits rest parts some few ending size is =
     ) in
     (_, reads.0, reads.1 ∙ append-nil _, is)
 
--- whoever reads a chunk line in it reads the same parts
+-- each reading of a chunk line in it gives the same parts
 pub not_here : (line digits rest : List ℕ) → SplitLine line digits rest
     → (0 < length digits → length digits ≤ 16 → EndsChunkLine rest → ⊥) → IsNoChunkLine line
 not_here line digits rest parts nothing l valid e =

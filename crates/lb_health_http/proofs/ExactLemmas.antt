@@ -121,7 +121,7 @@ or_failed reader writer (Err Read) read d = read refl
 or_failed reader writer (Err OutOfMemory) read d = tt
 or_failed reader writer (Err e) read d = absurd d
 
--- a writer that hasn't failed, told of any
+-- a writer that hasn't failed, for any
 pub any_writer : (reader writer : Bool) (r : Result Unit CheckError) → IsOkOrFailed reader false r → IsOkOrFailed reader writer r
 any_writer reader writer (Ok _) d = tt
 any_writer reader writer (Err Read) d = d

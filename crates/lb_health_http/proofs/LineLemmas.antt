@@ -1,4 +1,4 @@
--- Lemmas on lines: where the first line feed of a text stands.
+-- Lemmas on lines: where the first line feed of a text is.
 use Rattle.std.proofs.Common.{◌≡◌, ◌≢◌, ℕ, suc, ◌<◌, ◌≤◌, Bool, true, false, List, [], ◌∷◌, ◌++◌, Option, None, Some, length, refl, sym, ap}
 use Rattle.std.proofs.Common.{◌∙◌, subst, append_assoc, append-nil, length-append, arith}
 use Rattle.httparse.specs.Grammar.{AllPass, ChunkLine, IsChunkLine, IsExtension, print_chunk_line, print_extension, is_extension_byte}

@@ -10,7 +10,7 @@ OnBytes-then P Q S (Some x) None c p q f = absurd p
 OnBytes-then P Q S (Some x) (Some y) None p q f = absurd q
 OnBytes-then P Q S (Some x) (Some y) (Some z) p q f = f x y z p q
 
--- one call, told in other words
+-- one call, in other words
 pub OnBytes-map : (P Q : List ℕ → List ℕ → Type 0) (a b : Option (List ℕ)) → OnBytes a b P
     → ((x y : List ℕ) → P x y → Q x y) → OnBytes a b Q
 OnBytes-map P Q None b p f = tt

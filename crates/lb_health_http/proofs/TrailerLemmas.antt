@@ -11,7 +11,7 @@ use Rattle.lb_health_http.specs.Chunked.{IsTrailer, print_trailer, HasTrailers, 
 use Rattle.lb_health_http.specs.Internal.Steps.{LineFault, TrailersOutcome}
 use Rattle.lb_health_http.proofs.LineLemmas.{line_same, line_longer, no_line, crlf_line, clear_of}
 
--- trailer lines were passed, and so many bytes are left for others: what stands after them stands behind them, and back
+-- trailer lines were passed, and so many bytes are left for others: what is after them is behind them, and back
 pub record PassesTrailers (left : ℕ) (stream rest : List ℕ) : Type 0 where
   pub front : List ℕ
   pub is : stream ≡ front ++ rest

@@ -160,7 +160,7 @@ missing_view see id xs none =
     missing true n e = absurd (cc)
     missing false n e = refl
 
--- a view that is found stands with those whose removal doesn't wait
+-- a view that is found is among those whose removal doesn't wait
 pub has_live : (id : ℕ) (vs : List ViewValue) → has_view id (live vs) ≡ has_view id vs
 has_live id [] = refl
 has_live id (v ∷ vs) = by_mark v.marked refl (has_live id vs) where

@@ -9,7 +9,7 @@ use Rattle.lb_health_registry.specs.Starts.{value_at}
 use Rattle.lb_health_registry.proofs.TableLemmas.{at_itself, at_other}
 use borrow.Author.Tests.{ne_eqb}
 
--- where another cell stands under one number, and the same under the others
+-- where another cell has one number, and the same under the others
 pub others_stay : {K : Type 0} (before after : List (ℕ × Cell K)) (c : ℕ) (made : Cell K)
     → ((d : ℕ) → value_at nat_cmp after d ≡ cond (is_at (nat_cmp c) d) (Some made) (value_at nat_cmp before d))
     → (d : ℕ) → d ≢ c → stored_health after d ≡ stored_health before d

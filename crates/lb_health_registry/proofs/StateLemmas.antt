@@ -261,7 +261,7 @@ pub never_lacks :
     → 2 ^ 64 ≤ cells_given key_of (Applied ∷ events) → ⊥
 never_lacks key_of events views t state l = omega (arith, l, marks_start_none key_of events state.sets, state.fits)
 
--- whether numbers are left for a view's change, told by the keys that its membership starts
+-- whether numbers are left for a view's change, by the keys that its membership starts
 pub lacks_told :
     (key_of : Member → Member) (events : List Event) (id : ℕ) (members : List Member) (items seen : List View) (t : TableValue Member)
     (b : Bool)

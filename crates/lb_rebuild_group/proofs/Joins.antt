@@ -237,7 +237,7 @@ module _ {C : Type 0} where
         (subst (λ (n : ℕ). IsViewAfter (view.Held n ∷ views_of made e) t) at i);
   }
 
-  -- a job that failed, and what was destroyed, is let go
+  -- the snapshot of a job that failed, and of what was destroyed, is released
   pub failed-joined : (made : Made C) (e : History) (slot now g : ℕ) (ms : List Member) (c : C) (v : GroupValue C) (w : SlotsValue C)
       (t : ViewValue) → Stands made e v
       → slice_get (configs_of v.group) slot ≡ Some c → is_awaited slot g (slot_events e) ≡ true

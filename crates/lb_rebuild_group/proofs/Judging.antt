@@ -41,7 +41,7 @@ module _ {R : Type 0} {gives : R → Member → Member → Type 0} {v : ViewValu
         says = by.says;
       }
 
--- where what was asked answers as it is told, what it accepts is what is right
+-- where what was asked answers by what it is passed, what it accepts is what is right
 pub told-in-more : {C F : Type 0} {g : Shared F (Bor Member × (Bool × Unit {0})) Bool} {f : F}
     (right : Member → Bool → Type 0) (may : List Member → C → Bool) (walks : List Member → C → List ℕ → List Draw → List Member → Bool
     → Type 0) (load_by : Member → ℕ)

@@ -73,7 +73,7 @@ module _ (n i : ℕ) (p : History) where
   pub taken-holds : MayHappen p TakenOut → slot_holds n (At i TakenOut ∷ p) ≡ slot_holds n p
   taken-holds may = retired-of n (served p) (extra p) may.0
 
--- what a slot serves is never what else stands in it
+-- what a slot serves is never what else is in it
 both : (n s m : ℕ) (a b : Bool) → ((a ≡ true) → s ≡ n) → ((b ≡ true) → m ≡ n) → ¬ (m ≡ s) → number a + number b ≤ 1
 both n s m true true p q apart = absurd (apart (q refl ∙ sym (p refl)))
 both n s m true false p q apart = omega arith

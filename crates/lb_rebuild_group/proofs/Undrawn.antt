@@ -1,4 +1,4 @@
--- A selection that draws no ticket leaves a joined group as it was: a counter that is left where it stands changes nothing.
+-- A selection that draws no ticket leaves a joined group as it was: a counter that is left where it is changes nothing.
 use Rattle.std.proofs.Common.{◌≡◌, ◌+◌, ◌==◌, ◌∙◌, ℕ, Bool, true, false, cond, nat_lt, List, [], ◌∷◌, ◌++◌, length, inl, inr, refl, sym, ap}
 use Rattle.std.proofs.Common.{subst}
 use Rattle.std.proofs.lemmas.Bool.{cases_eq}

@@ -96,7 +96,7 @@ module _ (M : Meaning Kind) where
     to_answer : IsToAnswer failed script left lines
     output : IsOutput M failed [] 1 lines (done ++ text) status
 
-  -- what a turn gives, after each history that the world stands for
+  -- what a turn gives, after each history that explains the world
   abbrev pub Gives : Option (List ℕ) → Option (List ℕ) → WorldValue Kind → WorldValue Kind → (List ℕ → Type 0) → LineTurn → Type 0
   Gives left now w v P r =
       (h : History Kind) → Stands M w h → OnBytes left now (TakesTurn M h v P r)

@@ -59,7 +59,7 @@ answered_rest M h (Some s) None line w P found is = absurd found
 answered_rest M h (Some s) (Some rest) line w P found is =
     subst (AnsweredRest M h w P) (sym found.2) (record { is_line = found.0; some = found.1; answered = is })
 
--- what holds of the text of an answer, told otherwise
+-- what holds of the text of an answer, in other words
 pub line_told : (M : Meaning Kind) (h : History Kind) (line : List ℕ) (w : WorldValue Kind) (P Q : List ℕ → Type 0)
     → ((text : List ℕ) → P text → Q text)
     → AnsweredLine M h line w P → AnsweredLine M h line w Q

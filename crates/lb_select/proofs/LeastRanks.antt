@@ -136,7 +136,7 @@ partner R (u ∷ xs) (v ∷ ys) y h (suc k, inside, is) =
     let (x, (i, within, same), r) = partner R xs ys y h.1 (k, omega (arith, inside), is) in
     (x, (suc i, omega (arith, within), same), r)
 
--- what stands at a place of the order is the candidate of that place
+-- what is at a place of the order is the candidate of that place
 pub candidate_at :
     (may_give : Draw → Type 0) (ms : List Member) (order : List Reading) (k : ℕ) (r : Reading) (c : Member)
     → (p : IsArranged may_give ms order) → slice_get order k ≡ Some r → slice_get ms r.index ≡ Some c

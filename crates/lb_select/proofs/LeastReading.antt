@@ -110,7 +110,7 @@ read_more may_give ms i rs m r p at index_is weight_is given =
           (eqb_tells r.index k);
     }
 
--- loads that a source may give as it stands are drawn from it, and it stays as it is
+-- loads that a source may give as it is are drawn from it, and it stays as it is
 pub all_given :
     {S : Type 0} (gives : S → Draw → S → Type 0) (s : S) (read : List (Member × ℕ))
     → Each (λ e. gives s (load e.0 e.1) s) read → Gives gives s (map (λ e. load e.0 e.1) read) s

@@ -42,7 +42,7 @@ module _ {X : Type 0} where
     pub rest_rises : (x : X) (xs : List X) → Rises f (x ∷ xs) → Rises f xs
     rest_rises x xs (more a r) = r
 
-    -- of two elements the one that stands first is below
+    -- of two elements the one that comes first is below
     pub below_at : (xs : List X) → Rises f xs → (i j : ℕ) (d : X) → i < j → j < length xs → f (get_or xs i d) < f (get_or xs j d)
     below_at [] r i j d h k = absurd (omega arith)
     below_at (x ∷ xs) r i zero d h k = absurd (omega arith)

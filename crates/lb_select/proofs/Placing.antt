@@ -111,7 +111,7 @@ not_less a b h =
 
 module _ (ms : List Member) (order : IsStrictlySortedBy member_cmp ms) (owners : List ℕ) (points kept : List (ℕ × ℕ))
     (h : IsFilled ms (length ms) owners points) (a : IsArranged nat_cmp points kept) where
-  -- an address that has a point: it is marked, with the number of who stands for the address
+  -- an address that has a point: it is marked, with the number of its owner
   record Marked (p : ℕ) (b : Address) : Type 0 where
     number : ℕ
     index : ℕ
@@ -162,7 +162,7 @@ module _ (ms : List Member) (order : IsStrictlySortedBy member_cmp ms) (owners :
             let same : b ≡ d = same_Some b d (sym (subst P e p) ∙ q) in let g : b ≤ d = omega arith in g)
       ]
 
-  -- a member that stands first has no greater address
+  -- a member that comes first has no greater address
   addresses_rise : (i j : ℕ) (x y : Member) → slice_get ms i ≡ Some x → slice_get ms j ≡ Some y → i ≤ j
       → is_lt (address_cmp y.address x.address) ≡ false
   addresses_rise i j x y p q l =

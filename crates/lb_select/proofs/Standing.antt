@@ -1,4 +1,4 @@
--- Which backend of a set in order stands for its address.
+-- Which backend of a set in order is the one of its address.
 use Rattle.std.proofs.Common.{◌≡◌, ◌≢◌, ℕ, zero, suc, ◌+◌, ◌<◌, ◌≤◌, ◌⊎◌, inl, inr, Bool, true, false, cond, not, ◌==◌, IsTrue, List, []}
 use Rattle.std.proofs.Common.{◌∷◌, length, get_or, refl, sym, ap, subst, ◌∙◌, arith}
 use Rattle.std.specs.Prelude.{Some, slice_get}
@@ -84,7 +84,7 @@ module _ (ms : List Member) (order : IsStrictlySortedBy member_cmp ms) where
             let w : other.weight ≡ m.weight = ap (λ (z : Member). z.weight) one in let g : other.weight ≤ m.weight = omega arith in g)
       ]
 
-  -- the last member stands for its address
+  -- the last member is the one of its address
   pub stands_last : (i : ℕ) (m : Member) → slice_get ms i ≡ Some m → length ms ≤ i + 1 → StandsFor ms m.address m
   stands_last i m p last = record {
     among = contains_at ms i m p;

@@ -30,7 +30,7 @@ given_answer (Some a) = a
 abbrev pub right_answer : {C : Type 0} → Meaning C → History C → Step C → Answer
 right_answer M h st = given_answer (answer_after M h st)
 
--- an answer that stands for itself: no refusal, and no failure that may stand in place of a build
+-- an answer that is the right one itself: no refusal, and no failure that may stand in place of a build
 abbrev pub is_lasting : Answer → Bool
 is_lasting (answer.Refused r) = false
 is_lasting (answer.BuildFailed n r) = false
@@ -40,7 +40,7 @@ false-true : false ≡ true → ⊥
 false-true e = absurd (cc)
 
 module _ {C : Type 0} where
-  -- nothing lasting stands in the place of another answer
+  -- nothing lasting comes in the place of another answer
   lasting : (st : Step C) (x a : Answer) → a ≡ without_memory st x → is_lasting a ≡ true → x ≡ a
   lasting st (answer.Registry n) a e l = absurd (false-true (ap is_lasting (sym e) ∙ l))
   lasting st (answer.Gate n) a e l = absurd (false-true (ap is_lasting (sym e) ∙ l))

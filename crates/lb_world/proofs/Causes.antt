@@ -1,5 +1,5 @@
 -- The causes for which a step is refused: the want of numbers goes after all others, and memory is no cause; and what is right to
--- answer where a cause stands, and where none does and memory is refused.
+-- answer where there is a cause, and where there is none and memory is refused.
 use Rattle.std.proofs.Common.{◌≡◌, ◌⊎◌, ◌↔◌, ◌+◌, ◌<◌, ◌≤◌, ◌^◌, ◌&&◌, ◌||◌, ◌∙◌, ℕ, Bool, true, false, cond, nat_le, nat_lt, List, [], ◌∷◌}
 use Rattle.std.proofs.Common.{inl, inr, refl, sym, ap, arith}
 use Rattle.std.specs.Prelude.{Option, Some, None, Result, Ok, Err, IsErrOf}
@@ -22,7 +22,7 @@ last-of e = refl
 abbrev pub wanted : Bool → Option Refusal
 wanted b = where_ b refusal.NumbersExhausted
 
--- so a cause that stands goes before it
+-- so a cause goes before it
 pub cause-first : {p : Option Refusal} {e : Refusal} (b : Bool) → p ≡ Some e → earlier p (wanted b) ≡ Some e
 cause-first {e = e} true is =
     ap (λ o. earlier o (Some refusal.NumbersExhausted)) is ∙ ap (λ t. cond t (Some refusal.NumbersExhausted) (Some e)) (last-of e)
@@ -89,7 +89,7 @@ least-apart (c ∷ cs) = apart-earlier (memory_apart c) (least cs) (apart-twice 
 abbrev pub IsRight : {C : Type 0} → Step C → Answer → Answer → Type 0
 IsRight st y a = (a ≡ y) ⊎ (a ≡ without_memory st y)
 
--- what is right for a step that answers x where no cause stands
+-- what is right for a step that answers x where there is no cause
 module _ {C : Type 0} (st : Step C) (x : Answer) {y : Answer} {o : Option Refusal} (told : y ≡ unless_refused o x) where
   pub caused : {r : Refusal} → o ≡ Some r → IsRight st y (refuse r)
   caused is = inl (sym (told ∙ ap (λ o. unless_refused o x) is))
@@ -100,13 +100,13 @@ module _ {C : Type 0} (st : Step C) (x : Answer) {y : Answer} {o : Option Refusa
   pub out-of-memory : o ≡ None → without_memory st x ≡ refuse refusal.OutOfMemory → IsRight st y (refuse refusal.OutOfMemory)
   out-of-memory none memory = inr (sym (ap (without_memory st) (uncaused none) ∙ memory))
 
--- a refusal for the cause that stands, or for memory where there is none
+-- a refusal for the cause that there is, or for memory where there is none
 pub refused-for : {C : Type 0} (st : Step C) (x : Answer) → without_memory st x ≡ refuse refusal.OutOfMemory → (o : Option Refusal)
     → (refuse (or_memory o) ≡ unless_refused o x) ⊎ (refuse (or_memory o) ≡ without_memory st (unless_refused o x))
 refused-for st x memory (Some e) = inl refl
 refused-for st x memory None = inr (sym memory)
 
--- no cause stands where the selectors have none and a number is left
+-- there is no cause where the selectors have none and a number is left
 pub makes-for : (c : Option Refusal) (n : ℕ) → c ≡ None → n + 1 < 2 ^ 64 → making_cause c n ≡ None
 makes-for c n none few = ap (λ o. earlier o (no_number (n + 1))) none ∙ number-left (n + 1) few
 
@@ -119,7 +119,7 @@ memory-or-numbers e = absurd (cc)
 made-or-refused : {A : Type 0} {x : A} {e : Refusal} → ◌≡◌ {A = Result A Refusal} (Ok x) (Err e) → ⊥
 made-or-refused is = absurd (cc)
 
--- why the core of a group was not made, so why the group was not; and that no cause stands where one was made
+-- why the core of a group was not made, so why the group was not; and that there is no cause where one was made
 module _ {A : Type 0} (c : Option Refusal) (n : ℕ) where
   abbrev Exhausts : Result A Refusal → Type 0
   Exhausts result = memory_apart c ≡ None → (IsErrOf result refusal.NumbersExhausted ↔ (2 ^ 64 ≤ n + 1))

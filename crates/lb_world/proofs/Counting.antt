@@ -1,4 +1,4 @@
--- The extras of a gate, counted: over the steps, and over what stands in the slots.
+-- The extras of a gate, counted: over the steps, and over what the slots have.
 use Rattle.std.proofs.Common.{◌≡◌, inl, inr, ◌<◌, ◌≤◌, ◌+◌, ◌-◌, ◌==◌, ◌&&◌, ◌||◌, ◌∙◌, ℕ, zero, suc, Bool, true, false, cond, List, []}
 use Rattle.std.proofs.Common.{◌∷◌, length, refl, sym, ap, subst, arith, if◌then◌else◌}
 use Rattle.std.specs.Prelude.{Option, Some, None, slice_get}
@@ -123,7 +123,7 @@ module _ {C : Type 0} (h : History C) (a : ℕ) where
       (λ u. off (only g r (slot-there g r m (first-made g m ms all) (eqb-true m.gate a t) (omega arith)) u).0)))
       (one-over (g + 1) ms i s (next g m ms all) (omega arith) (omega arith) on has_ only))
 
-  -- what stands in the slots on the gate
+  -- what the slots on the gate have
   from-first : Stand 0 (made h)
   from-first j m e = subst (λ (i : ℕ). made_at i h ≡ Some m) (let same : j ≡ 0 + j = omega arith in same) e
 

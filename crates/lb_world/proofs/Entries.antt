@@ -136,7 +136,7 @@ module _ {C : Type 0} where
   joined-here h st a g at = taken _ (group_events g h) g (group_at h st) at
 
 module _ {C : Type 0} {h : History C} {g : ℕ} {e : EntryValue C} (is : EntryIs h g e) where
-  -- what is told of an entry's group
+  -- what is said of an entry's group
   pub config-here : (s : ℕ) → config g s h ≡ slice_get (configs_of e.core.group) s
   config-here s = ap (config_in s) is.made_is
 
@@ -233,7 +233,7 @@ module _ {C : Type 0} {M : Meaning C} {h : History C} {g : ℕ} {e : EntryValue 
       (sym (ap (λ x. cond (works_at g s st) x (work g s h)) (stay (work g s h)) ∙ same-either (works_at g s st) (work g s h))))
       (λ m. b.is.loads_are m ∙ sym (loads m)) out kept
 
-  -- a refusal after which the core stands for the same events leaves all else
+  -- a refusal after which the core is in the state after the same events leaves all else
   pub next-refused : {st : Step C} {r : Refusal} {core : GroupValue C} → group_at h st ≡ Some g → Answers M h st (Answer.Refused r)
       → Moves e (group_events g h) core → EntryNext M h g st (Answer.Refused r) e z (with_core core e) z v
   next-refused {st} {r} {core} at right moves =
@@ -396,7 +396,7 @@ module _ {C : Type 0} {M : Meaning C} {h : History C} {g : ℕ} {e : EntryValue 
       subst (λ ws. EntryNext M h g st (Answer.Refused r) e z (record e { works = ws }) z v)
       (sym (ap (slice_set e.works s) same ∙ set-same e.works s _ at)) (next-refused b here right (stays b.is))
 
-  -- the snapshot of what stood in the slot is let go
+  -- the snapshot of what was in the slot is released
   abbrev pub Releases : ℕ → RegistryValue WorldRule → Type 0
   Releases n u =
       IsRegistryAfter key_gives (key_of g h)
@@ -473,7 +473,7 @@ module _ {C : Type 0} {M : Meaning C} {h : History C} {g : ℕ} {e : EntryValue 
         ended_is)
         (λ m. refl) refl (unshared b (Step.build g s now) (Answer.Built j.generation) refl refl)
 
-    -- a build that failed: its permit comes back, and its snapshot is let go
+    -- a build that failed: its permit comes back, and its snapshot is released
     module _ {now : ℕ} {core : GroupValue C} {y : GateValue} {u : RegistryValue WorldRule}
         (held : slice_get e.works s ≡ Some (WorkValue.building j))
         (moves : Moves e (group.At j.slot (slots.Failed now j.members) ∷ group_events g h) core) (back : y ≡ gate z.id false)

@@ -114,7 +114,7 @@ pub kept-group : (b : Bool) (n r : ℕ) (es k : History) → all-unread es ≡ t
 kept-group true n r es k u = kept-readers n r es k u
 kept-group false n r es k u = refl
 
--- pasts beside an event, and at it
+-- pasts of other slots at an event, and of its own
 pub off-past : (K : ℕ → History) (e : ℕ → SlotEvent) (g s i r : ℕ) → ¬ ((i ≡ g) × (r ≡ s))
     → past_of r (cond (g == i) (At s (e i) ∷ K i) (K i)) ≡ past_of r (K i)
 off-past K e g s i r off =

@@ -1,4 +1,4 @@
--- Histories that tell alike stay so, and the same answers are right after both; a refused step makes no difference to what is told.
+-- Histories that give the same stay so, and the same answers are right after both; a refused step makes no difference to what is given.
 use Rattle.std.proofs.Common.{◌≡◌, ◌+◌, ◌==◌, ◌&&◌, ◌||◌, ◌∙◌, ℕ, Bool, true, false, cond, List, [], ◌∷◌, ◌++◌, length, refl, sym, ap}
 use Rattle.std.proofs.Common.{arith}
 use Rattle.std.specs.Prelude.{Option, Some, None, slice_get, slice_set}
@@ -44,7 +44,7 @@ out-kept b false false true out e f d = absurd (cc)
 out-kept b false false false out e f d = same-either b out
 
 module _ {C : Type 0} where
-  -- A refused step is told of nothing.
+  -- A refused step adds nothing.
   registries-kept : (h : History C) (st : Step C) (r : Refusal) → registries ((st, answer.Refused r) ∷ h) ≡ registries h
   registries-kept h (step.registry rule healthy) r = refl
   registries-kept h st r = refl

@@ -94,7 +94,7 @@ module _ {C : Type 0} (M : Meaning C) where
       → is_under_way (granted (past g s h)) (extra (past g s h)) ≡ true
   under_way h g s w all is held = (all g s).1 ∙ ap is_held is ∙ held
 
-  -- whoever leaves was in
+  -- what leaves was in
   pub reading : (h : History C) → IsRun M h → (t m : ℕ) (e : Entered) → slice_get (entries h) t ≡ Some (Some e) → e.generation ≡ m
       → 0 < readers m (past e.group e.slot h)
   reading h run t m e there of =

@@ -1,4 +1,4 @@
--- The right answer to a selection, by what the call of a joined group told of it, and where it left the counter of its slot.
+-- The right answer to a selection, by what the call of a joined group says of it, and where it left the counter of its slot.
 use Rattle.std.proofs.Common.{◌≡◌, ◌⊎◌, ◌&&◌, ◌++◌, ◌∙◌, ℕ, Bool, true, false, cond, nat_le, nat_lt, List, [], ◌∷◌, length, inl, inr, refl}
 use Rattle.std.proofs.Common.{sym, ap, subst}
 use Rattle.std.specs.Prelude.{MatchOption, Option, Some, None, Result, Ok, Err, slice_get}
@@ -62,14 +62,14 @@ module _ {C : Type 0} (M : Meaning C) (h : History C) (g s : ℕ) (key : List �
   abbrev Right : Answer → Type 0
   Right a = SelectAnswers M h g s key limit words a
 
-  -- what the call judged by, and what it told
+  -- what the call judged by, and what it says
   abbrev Was : Member → Bool → Type 0
   Was = joined-calls.Judges (key_of g h) (registry_events m.registry h) made (group_events g h) (served_at s (group_events g h))
 
   abbrev pub Told : slots.History → Type 0
   Told k = calls.SelectsIn M.random M.walks Was load_by made k s key limit words x
 
-  -- too few words were handed in, or it was refused for memory at most
+  -- too few words were given, or it was refused for memory at most
   abbrev pub Selected : Type 0
   Selected =
       ((x.answer ≡ Err refusal.NotEnoughWords) × (x.tickets ≡ drawn (past_of s (group.slot_events (group_events g h))))

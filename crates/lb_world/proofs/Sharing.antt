@@ -41,7 +41,7 @@ module _ {C : Type 0} where
       (sym there) (rw (eq-eqb m.registry m.registry refl, alike) refl)
 
 module _ {C : Type 0} (M : Meaning C) where
-  -- a snapshot that is let go once, after a step with these events of the group
+  -- a snapshot that is released once, after a step with these events of the group
   gone-alike : (h : History C) (st : Step C) (a : Answer) → IsRun M ((st, a) ∷ h) → (g n : ℕ) (m : Made C)
       → made_at g ((st, a) ∷ h) ≡ Some m
       → view_events g ((st, a) ∷ h) ≡ Released n ∷ view_events g h

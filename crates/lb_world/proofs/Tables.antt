@@ -1,5 +1,5 @@
 -- What a step leaves of a world, table by table; then the steps at a registry, those that make a registry or a gate, and those
--- of readers. A world stands for each run that tells the same as its history.
+-- of readers. A world is in the state after each run that gives the same as its history.
 use Rattle.lb_rebuild_slots.specs.SlotsCalls.{Enters, enter_refusal}
 use Rattle.lb_rebuild_slots.specs.Values.{ReaderValue}
 use Rattle.lb_world.proofs.Absent.{config-made}
@@ -330,14 +330,14 @@ module _ {C : Type 0} {M : Meaning C} {w : WorldValue C} {h : History C} (s : St
       w.registries r u v there now (λ i t off was. rw (others i off) (s.kept i t was)) i x found_))
       joins groups works loads outs
 
-  -- and one that was lent stands for the same history
+  -- and one that was borrowed is in the state after the same history
   registry-lent : (r : ℕ) (u v : RegistryValue WorldRule) → slice_get w.registries r ≡ Some u
       → IsRegistryAfter key_gives (key_at r h) (registry_events r h) v → Stands M (record w { registries = slice_set w.registries r v }) h
   registry-lent r u v there now =
       registry-set h r u v s.run refl refl refl refl (λ i off. refl) (λ g. refl) (λ g. refl) (λ g i. refl) (λ g b. refl) (λ x. refl) there
       now
 
--- a flip is told where the health is another one
+-- a flip is answered where the health is another one
 flip-told : (b new old : Bool) → (IsTrue b ↔ (new ≢ old)) → b ≡ not (agree old new)
 flip-told true true true p = absurd (p.0 refl refl)
 flip-told true false false p = absurd (p.0 refl refl)
@@ -358,7 +358,7 @@ pub marks-fit : (key_of : Member → Member) (events : List Event) (u : Registry
 marks-fit key_of events u now = omega (arith, marks_start_none key_of events now.state.sets, now.state.fits)
 
 module _ {C : Type 0} {M : Meaning C} {w : WorldValue C} {h : History C} (s : Stands M w h) where
-  -- a right refusal, of a world whose registry was lent
+  -- a right refusal, of a world whose registry was borrowed
   pub lent-refused : {st : Step C} {f : Refusal} (r : ℕ) {u v : RegistryValue WorldRule} → slice_get w.registries r ≡ Some u
       → Answers M h st (Answer.Refused f) → Tells u (λ k es. IsRegistryAfter key_gives k es v)
       → Stands M (record w { registries = slice_set w.registries r v }) ((st, Answer.Refused f) ∷ h)
@@ -468,7 +468,7 @@ module _ {C : Type 0} {M : Meaning C} {w : WorldValue C} {h : History C} (s : St
           ∙ reading-told (s.each g e there_) slot (λ p. slots.readers (served p) p)
           (λ n. enter_answer n (length w.readers) (served (past g slot h))) r to
 
-      -- a refusal of a world whose group was lent and stays as it was
+      -- a refusal of a world whose group was borrowed and stays as it was
       abbrev pub Refuses : Refusal → Type 0
       Refuses f = Stands M (record w { groups = slice_set w.groups g e }) ((Step.enter g slot, Answer.Refused f) ∷ h)
 

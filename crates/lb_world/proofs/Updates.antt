@@ -1,4 +1,4 @@
--- The right answer to an update, by what the call of a joined group told of it: why the membership was refused, or which generation
+-- The right answer to an update, by what the call of a joined group says of it: why the membership was refused, or which generation
 -- is the newest; and what an update that wasn't refused does, in the words of that call.
 use Rattle.std.proofs.Common.{◌≡◌, ◌≤◌, ◌+◌, ◌==◌, ◌^◌, ◌&&◌, ◌∙◌, ℕ, Bool, true, false, true≢false, cond, nat_le, List, ◌∷◌, length, inl}
 use Rattle.std.proofs.Common.{inr, refl, sym, ap, subst, arith}
@@ -125,7 +125,7 @@ module _ {C : Type 0} (M : Meaning C) (h : History C) (g now : ℕ) (ls : List L
     starved none few =
         out-of-memory st answered told (fits none few) (memory-told st (newest (group.slot_events (group_events g h))) change)
 
-    -- what the call told of a refusal
+    -- what the call says of a refusal
     pub refused : {r : Refusal} → IsRefusedFor (group.slot_events (group_events g h)) (members_in ls) r
         → (r ≡ refusal.NoSuch → IsThere false) → (r ≡ refusal.NumbersExhausted → 2 ^ 64 ≤ cells) → Lacks (Err r) → Answers M h st (refuse r)
     refused {r} why unknown numbers lacks =

@@ -1,4 +1,4 @@
--- A new world stands for the empty history, so what a run promises of every history holds of that one.
+-- A new world is in the state after the empty history, so what a run promises of every history holds of that one.
 use Rattle.std.specs.Prelude.{List, [], map, Result, Ok, Err, IfOk}
 use Rattle.lb_world.specs.Answers.{IsRun}
 use Rattle.lb_world.specs.Headline.{Headline, KeepsPromises}

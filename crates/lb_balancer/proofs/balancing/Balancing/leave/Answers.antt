@@ -1,4 +1,4 @@
--- The view is marked, and its newest generation let go.
+-- The view is marked, and its newest generation released.
 use Rattle.lb_threads_registry.proofs.Histories.{later}
 use Rattle.lb_balancer.proofs.Renewals.{left_later}
 use Rattle.lb_balancer.proofs.balancing.Balancing.leave.Goals as goal

@@ -1,4 +1,4 @@
--- The walk is over the members that are shown, and each candidate is told by those that aren't ready.
+-- The walk is over the members that are shown, and each candidate is judged by those that aren't ready.
 use Rattle.std.proofs.Common.{◌≡◌, List, Bool, subst}
 use Rattle.std.specs.Arc.{arc_value}
 use Rattle.lb_select_base.specs.Backends.{Member, same_member}

@@ -1,4 +1,4 @@
--- The snapshot of what was destroyed is let go.
+-- The snapshot of what was destroyed is released.
 use Rattle.std.proofs.Common.{ap, sym, subst}
 use Rattle.lb_health_registry.specs.Registry.{IsRegistryAfter}
 use Rattle.lb_health_view.specs.RegistrySide.{registry_released}

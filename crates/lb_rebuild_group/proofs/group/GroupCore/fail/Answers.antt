@@ -1,4 +1,4 @@
--- The snapshot of the job is let go.
+-- The snapshot of the job is released.
 use Rattle.std.proofs.Common.{ap, subst}
 use Rattle.lb_health_registry.specs.Registry.{IsRegistryAfter}
 use Rattle.lb_health_view.specs.RegistrySide.{registry_released}

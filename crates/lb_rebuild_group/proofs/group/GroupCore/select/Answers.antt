@@ -1,4 +1,4 @@
--- What is asked answers as it is told.
+-- What is asked answers by what it is passed.
 use Rattle.lb_select_base.specs.Loads.{load_in}
 use Rattle.lb_rebuild_group.specs.GroupCalls.{served_at, Judges}
 use Rattle.lb_rebuild_group.specs.GroupHistory.{slot_events}

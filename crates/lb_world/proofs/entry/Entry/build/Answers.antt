@@ -1,4 +1,4 @@
--- The job that is held is the last one, so it is awaited; its snapshot is let go.
+-- The job that is held is the last one, so it is awaited; its snapshot is released.
 use Rattle.lb_world.proofs.Words.{◌∙◌, ap, arith, inl, meaning_of, refl, Some, Work, at-place}
 use Rattle.lb_world.proofs.Entries.{next-refused, stays, beyond, does-build, does-fall, holds, left-so, own-task, unawaited, unstarted}
 use Rattle.lb_world.proofs.entry.Entry.build.Goals as goal

@@ -25,7 +25,7 @@ module _ {C : Type 0} {M : Meaning C} {h : History C} {g : ℕ} {e : EntryValue 
   cells =
       registry.cells_given (key_of g h) (registry.Updated e.core.view.id (members_in ls) ∷ registry.Applied ∷ registry_events e.registry h)
 
-  -- the group has no cause of its own; and what the count of numbers told then, before memory is taken
+  -- the group has no cause of its own; and what the count of numbers says then, before memory is taken
   module _ (none : schedule_refusal (members_in ls) (group.slot_events (group_events g h)) ≡ None) {lack : Bool}
       (told : registry.has_view e.core.view.id (registry.views_after (registry_events e.registry h)) ≡ true
       → (IsTrue lack ↔ ((is_change (members_in ls) (group.slot_events (group_events g h)) ≡ true) × (2 ^ 64 ≤ cells))))

@@ -1,4 +1,4 @@
--- The group with its gate and its registry, lent to the entry's call.
+-- The group with its gate and its registry, which the entry's call borrows.
 use Rattle.lb_world.specs.Internal.GroupSteps.{IsWhole, group_step_seen}
 use Rattle.lb_world.specs.declared.group_step.GroupStep.{GroupStep}
 use Rattle.lb_world.proofs.Words.{◌∷◌, ◌∙◌, ◌≡◌, Answer, Answers, ap, arith, entries, group_at, History, inl, made_at, Meaning, meaning_of}

@@ -1,4 +1,4 @@
--- The group with its registry, lent to the entry's call; its gate stays as it is.
+-- The group with its registry, which the entry's call borrows; its gate stays as it is.
 use Rattle.lb_world.specs.Steps.{select}
 use Rattle.lb_world.proofs.Words.{◌∙◌, ap, arith, at-place, inl, meaning_of, refl, set-same, slice_get_within, sym}
 use Rattle.lb_world.proofs.Tables.{before, no-group, own-kept, world-moves, world-refused}

@@ -1,4 +1,4 @@
--- The empty history stands behind it.
+-- Its history is empty.
 use Rattle.lb_world.proofs.Words.{[]}
 use Rattle.lb_world.proofs.Tables.{empty}
 use Rattle.lb_world.proofs.world.World.new.Goals as goal

@@ -1,4 +1,4 @@
--- A loop over the steps, in which the world stands for the history so far; the promises are laws of every run.
+-- A loop over the steps, in which the world is in the state after the history so far; the promises are laws of every run.
 use Rattle.lb_world.proofs.Kept.{keeps-promises}
 use Rattle.lb_world.specs.Steps.{step_seen}
 use Rattle.lb_world.proofs.Words.{◌++◌, ◌∙◌, ◌∷◌, ◌≡◌, [], after, Answer, ap, arith, History, IsRun, length, length-map, length_push, List}
