@@ -91,7 +91,7 @@ stale_definitions() {
     grep -qF "$files files of $lines lines" README.md || echo "README doesn't say '$files files of $lines lines'"
     files=$(headline_definitions | wc -l) lines=$(headline_definitions | xargs cat | wc -l | sed 's/...$/,&/')
     for document in README.md docs/TOUR.md; do
-        tr '\n' ' ' <"$document" | grep -qE "rests on $files of (these files|them), $lines lines" ||
+        tr -s '\n ' ' ' <"$document" | grep -qE "rests on $files of (these files|them), $lines lines" ||
             echo "$document doesn't say that the headline rests on $files of them, $lines lines"
     done
 }
