@@ -146,7 +146,7 @@ fn answer<T: Subject>(alloc: Global, subject: &T, call: Call) -> Result<u64, Ref
 }
 
 // What can be read of a subject, and how many backends of the first list are ready; counted once more, where that is refused.
-fn seen<T: Subject>(alloc: Global, subject: &T) -> Option<(Seen, u64)> {
+fn look_at<T: Subject>(alloc: Global, subject: &T) -> Option<(Seen, u64)> {
     let set = match set_of(alloc, FIRST) {
         Ok(set) => set,
         Err(_) => set_of(alloc, FIRST).ok()?,
@@ -224,14 +224,14 @@ impl Course {
 
     // Makes a call, again where memory was refused for it.
     fn call<T: Subject>(&mut self, alloc: Global, subject: &T, number: usize, (call, wanted): Row) {
-        let before = seen(alloc, subject);
+        let before = look_at(alloc, subject);
         let mut told = answer(alloc, subject, call);
         if told == Err(Refusal::OutOfMemory) {
             self.again = Some(number);
-            self.agrees &= seen(alloc, subject) == before;
+            self.agrees &= look_at(alloc, subject) == before;
             told = answer(alloc, subject, call);
         }
-        self.agrees &= told == Ok(wanted) && seen(alloc, subject).is_some();
+        self.agrees &= told == Ok(wanted) && look_at(alloc, subject).is_some();
     }
 
     // Makes the calls of a table.
