@@ -28,7 +28,7 @@ count() {
 # The tests of a crate.
 tests_of() {
     local status=0
-    (cd "crates/$1" && rt try --test --seconds 600) >"$room/said" 2>&1 </dev/null || status=$?
+    (cd "crates/$1" && rt try --test --seconds 1800) >"$room/said" 2>&1 </dev/null || status=$?
     count "$1: its tests" "$status"
 }
 
@@ -37,7 +37,7 @@ program() {
     local status=0 words=() files=() file
     [ ! -e "crates/$1/args" ] || mapfile -t words <"crates/$1/args"
     for file in crates/"$1"/data/*; do files+=(--data "$(basename "$file")=data/$(basename "$file")"); done
-    (cd "crates/$1" && rt try --seconds 600 "${files[@]}" -- "${words[@]}") </dev/null >"$room/output" 2>"$room/said" || status=$?
+    (cd "crates/$1" && rt try --seconds 1800 "${files[@]}" -- "${words[@]}") </dev/null >"$room/output" 2>"$room/said" || status=$?
     if [ "$status" -eq 0 ] && [ -e "crates/$1/stdout" ]; then
         diff "crates/$1/stdout" "$room/output" >"$room/said" || status=$?
     fi
@@ -47,7 +47,7 @@ program() {
 # CRATE: its program is run on each case in the folder $room/cases, and each run ends as the case wants.
 cases_of() {
     local status=0 wanted held
-    (cd "crates/$1" && rt try --seconds 600 --cases "$room/cases") >"$room/said" 2>&1 </dev/null || true
+    (cd "crates/$1" && rt try --seconds 1800 --cases "$room/cases") >"$room/said" 2>&1 </dev/null || true
     wanted=$(find "$room/cases" -name '*.stdout' | wc -l)
     held=$(grep -c '^case=.* run=ended .*output=expected' "$room/said" || true)
     [ "$wanted" -gt 0 ] && [ "$held" -eq "$wanted" ] || status=1
