@@ -1,7 +1,8 @@
 #!/bin/bash
 # Runs each test, each row and each program once as `rt try` builds it, with checks at run time: it stops at an index out of bounds, an
-# overflow, a failed `unwrap`, and, by the address sanitizer, at memory that is not the program's. Nothing is proved. It takes the crates that
-# are named, else all. A line for each, with its seconds; the last line is 'N passed, M failed'.
+# overflow, a failed `unwrap`, and, by the address sanitizer, at memory that is not the program's. lbsim and lbcheck are given the rows'
+# scripts and streams in `crates/lb_rows/data`. Nothing is proved. It takes the crates that are named, else all. A line for each, with its
+# seconds; the last line is 'N passed, M failed'.
 set -euo pipefail
 shopt -s nullglob
 unset CDPATH
@@ -27,7 +28,7 @@ count() {
 # The tests of a crate.
 tests_of() {
     local status=0
-    (cd "crates/$1" && rt try --test --seconds 600) >"$room/said" 2>&1 </dev/null || status=$?
+    (cd "crates/$1" && rt try --test --seconds 1800) >"$room/said" 2>&1 </dev/null || status=$?
     count "$1: its tests" "$status"
 }
 
@@ -36,21 +37,72 @@ program() {
     local status=0 words=() files=() file
     [ ! -e "crates/$1/args" ] || mapfile -t words <"crates/$1/args"
     for file in crates/"$1"/data/*; do files+=(--data "$(basename "$file")=data/$(basename "$file")"); done
-    (cd "crates/$1" && rt try --seconds 600 "${files[@]}" -- "${words[@]}") </dev/null >"$room/output" 2>"$room/said" || status=$?
+    (cd "crates/$1" && rt try --seconds 1800 "${files[@]}" -- "${words[@]}") </dev/null >"$room/output" 2>"$room/said" || status=$?
     if [ "$status" -eq 0 ] && [ -e "crates/$1/stdout" ]; then
         diff "crates/$1/stdout" "$room/output" >"$room/said" || status=$?
     fi
     count "$1" "$status"
 }
 
+# CRATE: its program is run on each case in the folder $room/cases, and each run ends as the case wants.
+cases_of() {
+    local status=0 wanted held
+    (cd "crates/$1" && rt try --seconds 1800 --cases "$room/cases") >"$room/said" 2>&1 </dev/null || true
+    wanted=$(find "$room/cases" -name '*.stdout' | wc -l)
+    held=$(grep -c '^case=.* run=ended .*output=expected' "$room/said" || true)
+    [ "$wanted" -gt 0 ] && [ "$held" -eq "$wanted" ] || status=1
+    grep -v '^case=.* run=ended .*output=expected' "$room/said" >"$room/odd" || true
+    mv "$room/odd" "$room/said"
+    count "$1: $held of $wanted cases" "$status"
+}
+
+# ENDING ANSWERS WORD..: the rows with these endings as cases, each with these words.
+lay_out() {
+    local file name
+    rm -rf "$room/cases"
+    mkdir "$room/cases"
+    for file in crates/lb_rows/data/*."$1"; do
+        name=$(basename "$file" ."$1")
+        cp "$file" "$room/cases/$name"
+        cp "${file%."$1"}.$2" "$room/cases/$name.stdout"
+        [ "$#" -eq 2 ] || printf '%s\n' "${@:3}" >"$room/cases/$name.args"
+    done
+}
+
+# The words that a row's stream is replayed with, as lb_rows replays it.
+words_of() {
+    case $1 in
+    *-at-limit | *-past-limit) echo --max-body 5 ;;
+    head-alone) echo --method HEAD ;;
+    no-content-accepted | refused-by-validator) echo --accept 204 ;;
+    not-modified-accepted) echo --accept 304 ;;
+    esac
+}
+
+replays() {
+    local file name words
+    lay_out stream answer replay
+    for file in "$room"/cases/*.args; do
+        name=$(basename "$file" .args)
+        read -ra words <<<"$(words_of "$name")" || true
+        [ "${#words[@]}" -eq 0 ] || printf '%s\n' "${words[@]}" >>"$file"
+    done
+    cases_of lbcheck
+}
+
 names=("$@")
 if [ "$#" -eq 0 ]; then
-    names=(lb_tests lb_thread_tests lb_rows lb_example lb_example_threads lb_cost)
+    names=(lb_tests lb_thread_tests lb_rows lb_example lb_example_threads lb_example_groups lbsim lbcheck lb_cost)
 fi
 for name in "${names[@]}"; do
     begun=$SECONDS
     case $name in
     *_tests) tests_of "$name" ;;
+    lbsim)
+        lay_out script answers
+        cases_of lbsim
+        ;;
+    lbcheck) replays ;;
     *) program "$name" ;;
     esac
 done

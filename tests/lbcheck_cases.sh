@@ -188,7 +188,7 @@ measure() {
 # The most resident memory that lbcheck may have, in KiB.
 most_memory=8192
 program=${LBCHECK:-$(proved)}
-if [ -z "$program" ]; then
+if [ ! -x "$program" ]; then
     echo "memory: not measured, since no proved lbcheck is there"
 else
     measuring=()

@@ -22,14 +22,15 @@ ROOM=$room LBSIM=$LBSIM PLAIN=$here/../bench/plain/target/release/plainsim ROWS=
 import os
 import subprocess
 import sys
+from concurrent.futures import ThreadPoolExecutor
 
 ROOM, LBSIM, PLAIN, ROWS = (os.environ[name] for name in ("ROOM", "LBSIM", "PLAIN", "ROWS"))
 
 
-def written(program, lines, number=None):
-    """What the program writes, a list of lines; the Nth request refused."""
+def written(program, lines, number=None, counted="/dev/null"):
+    """What the program writes, a list of lines; the Nth request refused, and their number in that file."""
     told = {} if number is None else {
-        "REFUSED": str(number), "COUNTED": f"{ROOM}/counted", "LD_PRELOAD": f"{ROOM}/refuse.so"}
+        "REFUSED": str(number), "COUNTED": counted, "LD_PRELOAD": f"{ROOM}/refuse.so"}
     run = subprocess.run([program], input=b"".join(line + b"\n" for line in lines), stdout=subprocess.PIPE, env=told)
     return run.stdout.split(b"\n")[:-1]
 
@@ -86,9 +87,10 @@ def row(name):
         lines.pop()
     with open(f"{ROWS}/{name}.answers", "rb") as source:
         answers = source.read().split(b"\n")[:-1]
-    if written(LBSIM, lines, 0) != answers:
+    counted = f"{ROOM}/{name}.counted"
+    if written(LBSIM, lines, 0, counted) != answers:
         return f"{name}: other answers with all memory", False
-    with open(f"{ROOM}/counted") as source:
+    with open(counted) as source:
         requests = int(source.read())
     wrong = [number for number in range(1, requests + 1) if not is_right(lines, answers, written(LBSIM, lines, number))]
     told = f"wrong where request {wrong[:5]} is refused" if wrong else "as it should be"
@@ -97,10 +99,10 @@ def row(name):
 
 names = sys.argv[1:] or sorted(file[:-7] for file in os.listdir(ROWS) if file.endswith(".script"))
 failed = 0
-for name in names:
-    told, passed = row(name)
-    print(told, flush=True)
-    failed += not passed
+with ThreadPoolExecutor(os.cpu_count()) as pool:
+    for told, passed in pool.map(row, names):
+        print(told, flush=True)
+        failed += not passed
 print(f"{len(names) - failed} passed, {failed} failed")
 sys.exit(failed != 0)
 END

@@ -7,29 +7,42 @@ mod board;
 mod group;
 mod health;
 mod members;
+mod process;
 mod refused;
 mod refused_subjects;
 mod selects;
 mod shared;
 mod soak;
+mod soak_groups;
+mod soak_threads;
 mod words;
 
 use anyhow::Error;
 use log::Log;
 use std::alloc::Global;
 use std::env;
+use std::rt::Files;
 use std::sync::Wait;
 use std::thread::Threads;
 use std::time::Clock;
 use words::Usage;
 
 // Measures what a word says, by these numbers.
-fn measure<R: Log + Threads + Wait + Clock + Input + Print + Copy + Send + Sync + Drop + 'static>(
-    rt: &R,
-    alloc: Global,
-    word: &str,
-    numbers: &[String],
-) -> Result<(), Error> {
+fn measure<
+    R: Log
+        + Threads
+        + Wait
+        + Clock
+        + Files
+        + Input
+        + Print
+        + AllocGlobal
+        + Copy
+        + Send
+        + Sync
+        + Drop
+        + 'static,
+>(rt: &R, alloc: Global, word: &str, numbers: &[String]) -> Result<(), Error> {
     match word {
         "board" => board::run(rt, alloc, numbers),
         "group" => group::run(rt, alloc, numbers),
@@ -44,7 +57,19 @@ fn measure<R: Log + Threads + Wait + Clock + Input + Print + Copy + Send + Sync 
 
 // Measures each once, in its small form.
 fn measure_all<
-    R: Log + Threads + Wait + Clock + Input + Print + Copy + Send + Sync + Drop + 'static,
+    R: Log
+        + Threads
+        + Wait
+        + Clock
+        + Files
+        + Input
+        + Print
+        + AllocGlobal
+        + Copy
+        + Send
+        + Sync
+        + Drop
+        + 'static,
 >(rt: &R, alloc: Global) -> Result<(), Error> {
     for word in ["board", "group", "health"] {
         measure(rt, alloc, word, &[])?;

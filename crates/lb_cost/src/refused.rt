@@ -8,12 +8,14 @@ use lb_health_view::view::Settings;
 use lb_select_base::backend::Backend;
 use lb_select_base::moments::MomentSource;
 use lb_select_base::refusal::Refusal;
+use log::Log;
 use std::alloc::Global;
 use std::collections::BTreeSet;
 use std::io;
 use std::sync::atomic::AtomicBool;
 use std::sync::atomic::Ordering::SeqCst;
 use std::sync::{Arc, Wait};
+use std::thread::Threads;
 
 /// Backends by address and weight.
 pub type Members = &'static [(&'static str, usize)];
@@ -87,6 +89,10 @@ pub enum Call {
     /// Answers how many targets there are, by their count or by their list.
     Targets,
     List,
+    /// Checks each target once, and finds it up.
+    Check,
+    /// Disables the last backend of the first list. Answers how many of that list are ready then.
+    Disable,
 }
 
 /// What can be read: generations, or how many targets there are; the weight of what is selected; and how long the last update took.
@@ -104,8 +110,48 @@ pub trait Subject {
     /// Reads what can be read; once more, where that is refused.
     fn seen(&self) -> Option<Seen>;
 
-    /// Makes a call.
+    /// Returns whether a backend is ready.
+    fn is_ready(&self, backend: &Backend) -> bool;
+
+    /// Disables a backend.
+    fn disable(&self, backend: &Backend);
+
+    /// Makes a call, of those without flags.
     fn make(&self, call: Call) -> Result<u64, Refusal>;
+}
+
+// How many of these backends are ready.
+fn count_in<T: Subject>(subject: &T, set: &BTreeSet<Backend>) -> u64 {
+    let mut count: u64 = 0;
+    for backend in set {
+        if subject.is_ready(backend) {
+            count = count.saturating_add(1);
+        }
+    }
+    count
+}
+
+// Makes any call.
+fn answer<T: Subject>(alloc: Global, subject: &T, call: Call) -> Result<u64, Refusal> {
+    match call {
+        Call::Disable => {
+            let set = set_of(alloc, FIRST)?;
+            if let Some(backend) = set.last() {
+                subject.disable(backend);
+            }
+            Ok(count_in(subject, &set))
+        }
+        _ => subject.make(call),
+    }
+}
+
+// What can be read of a subject, and how many backends of the first list are ready; counted once more, where that is refused.
+fn look_at<T: Subject>(alloc: Global, subject: &T) -> Option<(Seen, u64)> {
+    let set = match set_of(alloc, FIRST) {
+        Ok(set) => set,
+        Err(_) => set_of(alloc, FIRST).ok()?,
+    };
+    Some((subject.seen()?, count_in(subject, &set)))
 }
 
 /// Calls with what they answer.
@@ -117,12 +163,14 @@ const REGISTRY: &[Row] = &[
     (Call::Register, 2),
     (Call::Members(2, OTHER), 0),
     (Call::List, 4),
+    (Call::Check, 0),
     (Call::Members(1, OTHER), 0),
     (Call::Targets, 3),
 ];
 
 const VIEW: &[Row] = &[
     (Call::Update(false), 1),
+    (Call::Disable, 1),
     (Call::Update(false), 1),
     (Call::Update(true), 2),
     (Call::Update(false), 3),
@@ -131,6 +179,7 @@ const VIEW: &[Row] = &[
 const BALANCER: &[Row] = &[
     (Call::Update(false), 1),
     (Call::Load, 0),
+    (Call::Disable, 1),
     (Call::Update(false), 1),
     (Call::Update(true), 2),
     (Call::Update(false), 3),
@@ -140,6 +189,7 @@ const GROUP: &[Row] = &[
     (Call::Update(false), 1),
     (Call::Turn, 1),
     (Call::Load, 0),
+    (Call::Disable, 1),
     (Call::Update(false), 1),
     (Call::Update(true), 2),
     (Call::Turn, 2),
@@ -173,26 +223,26 @@ impl Course {
     }
 
     // Makes a call, again where memory was refused for it.
-    fn call<T: Subject>(&mut self, subject: &T, number: usize, (call, wanted): Row) {
-        let before = subject.seen();
-        let mut answer = subject.make(call);
-        if answer == Err(Refusal::OutOfMemory) {
+    fn call<T: Subject>(&mut self, alloc: Global, subject: &T, number: usize, (call, wanted): Row) {
+        let before = look_at(alloc, subject);
+        let mut told = answer(alloc, subject, call);
+        if told == Err(Refusal::OutOfMemory) {
             self.again = Some(number);
-            self.agrees &= subject.seen() == before;
-            answer = subject.make(call);
+            self.agrees &= look_at(alloc, subject) == before;
+            told = answer(alloc, subject, call);
         }
-        self.agrees &= answer == Ok(wanted) && subject.seen().is_some();
+        self.agrees &= told == Ok(wanted) && look_at(alloc, subject).is_some();
     }
 
     // Makes the calls of a table.
-    fn play<T: Subject>(mut self, subject: Option<&T>, rows: &[Row]) -> Course {
+    fn play<T: Subject>(mut self, alloc: Global, subject: Option<&T>, rows: &[Row]) -> Course {
         let Some(subject) = subject else {
             return Course::new(false);
         };
         let mut number: usize = 0;
         for row in rows {
             number = number.saturating_add(1);
-            self.call(subject, number, *row);
+            self.call(alloc, subject, number, *row);
         }
         self
     }
@@ -223,11 +273,14 @@ where
     Calls<W, T>: Subject,
 {
     let (made, course): (Option<Calls<W, T>>, Course) = Calls::new(*rt, alloc);
-    course.play(made.as_ref(), rows).report(rt, name)
+    course.play(alloc, made.as_ref(), rows).report(rt, name)
 }
 
 // Reports the calls of each subject. Returns whether all agree.
-fn all_agree<W: Wait + Print + Copy + Drop>(rt: &W, alloc: Global) -> io::Result<bool> {
+fn all_agree<W: Log + Threads + Wait + Print + Copy + Sync + Drop>(
+    rt: &W,
+    alloc: Global,
+) -> io::Result<bool> {
     let mut all = agree::<W, Alone>(rt, alloc, "the calls of a shared registry", REGISTRY)?;
     all &= agree::<W, View>(rt, alloc, "the calls of a shared view", VIEW)?;
     all &= agree::<W, Balancer>(rt, alloc, "the calls of a shared balancer", BALANCER)?;
@@ -240,7 +293,10 @@ fn all_agree<W: Wait + Print + Copy + Drop>(rt: &W, alloc: Global) -> io::Result
 /// # Errors
 ///
 /// `Differs` where one isn't as it should be.
-pub fn run<W: Wait + Print + Copy + Drop>(rt: &W, alloc: Global) -> Result<(), Error> {
+pub fn run<W: Log + Threads + Wait + Print + Copy + Sync + Drop>(
+    rt: &W,
+    alloc: Global,
+) -> Result<(), Error> {
     if all_agree(rt, alloc)? {
         Ok(())
     } else {

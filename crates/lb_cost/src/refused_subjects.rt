@@ -8,6 +8,7 @@ use lb_crowd::crowd::NoCheck;
 use lb_health_registry::keys::Rule;
 use lb_health_view::discovery::DiscoverySource;
 use lb_select::selection::FNVHash;
+use lb_select_base::backend::Backend;
 use lb_select_base::refusal::Refusal;
 use lb_threads_group::group::SharedGroup;
 use lb_threads_group::port::LockedPort;
@@ -16,10 +17,12 @@ use lb_threads_registry::gate::SelectorRebuildGate;
 use lb_threads_registry::keyed::NoRule;
 use lb_threads_registry::registry::HealthRegistry;
 use lb_threads_view::view::BackendView;
+use log::Log;
 use std::alloc::Global;
 use std::sync::atomic::Ordering::SeqCst;
 use std::sync::atomic::{AtomicBool, AtomicU64};
 use std::sync::{Arc, Wait};
+use std::thread::Threads;
 
 // How many cells the calls give, or more.
 const CELLS: u64 = 8;
@@ -60,10 +63,12 @@ impl<W: Wait> Site<W> {
     where
         W: Drop,
     {
+        let registry = HealthRegistry::new(alloc)?;
+        registry.set_health_check(&rt, NoCheck {})?;
         Ok(Site {
             rt,
             alloc,
-            registry: Arc::new(alloc, HealthRegistry::new(alloc)?)?,
+            registry: Arc::new(alloc, registry)?,
             other: Arc::new(alloc, AtomicBool::new(false))?,
             moment: AtomicU64::new(0),
         })
@@ -168,7 +173,7 @@ fn made_in<W: Wait, T: Made>(site: &Site<W>) -> (Option<T>, Course) {
     }
 }
 
-impl<W: Wait> Subject for Calls<W, Alone> {
+impl<W: Log + Threads + Wait + Sync> Subject for Calls<W, Alone> {
     fn seen(&self) -> Option<Seen> {
         let mut ready: u64 = 0;
         for cell in 0..CELLS {
@@ -185,6 +190,12 @@ impl<W: Wait> Subject for Calls<W, Alone> {
         })
     }
 
+    fn is_ready(&self, _backend: &Backend) -> bool {
+        false
+    }
+
+    fn disable(&self, _backend: &Backend) {}
+
     fn make(&self, call: Call) -> Result<u64, Refusal> {
         let (rt, alloc) = (&self.site.rt, self.site.alloc);
         let registry: &Registry = &*self.site.registry;
@@ -197,7 +208,11 @@ impl<W: Wait> Subject for Calls<W, Alone> {
             }
             Call::Targets => Ok(registry.target_count(rt, alloc)? as u64),
             Call::List => Ok(registry.targets(rt, alloc)?.len() as u64),
-            Call::Update(_) | Call::Load | Call::Turn => Err(Refusal::NoSuch),
+            Call::Check => {
+                registry.run_health_check(rt, alloc, false)?;
+                Ok(0)
+            }
+            _ => Err(Refusal::NoSuch),
         }
     }
 }
@@ -216,6 +231,14 @@ impl<W: Wait> Subject for Calls<W, View> {
             selected: None,
             timing: None,
         })
+    }
+
+    fn is_ready(&self, backend: &Backend) -> bool {
+        self.subject.ready(&self.site.rt, backend)
+    }
+
+    fn disable(&self, backend: &Backend) {
+        self.subject.set_enable(&self.site.rt, backend, false);
     }
 
     fn make(&self, call: Call) -> Result<u64, Refusal> {
@@ -246,6 +269,17 @@ impl<W: Wait> Subject for Calls<W, Balancer> {
             selected: selected.map(|backend| backend.weight),
             timing: self.subject.last_update_timing(rt),
         })
+    }
+
+    fn is_ready(&self, backend: &Backend) -> bool {
+        self.subject.backends().ready(&self.site.rt, backend)
+    }
+
+    fn disable(&self, backend: &Backend) {
+        let (rt, alloc) = (&self.site.rt, self.site.alloc);
+        self.subject
+            .backends()
+            .set_enable(rt, alloc, backend, false);
     }
 
     fn make(&self, call: Call) -> Result<u64, Refusal> {
@@ -299,6 +333,16 @@ impl<W: Wait> Subject for Calls<W, Group> {
             selected: selected.map(|backend| backend.weight),
             timing: self.subject.last_update_timing(rt),
         })
+    }
+
+    fn is_ready(&self, backend: &Backend) -> bool {
+        self.subject.backends().ready(&self.site.rt, backend)
+    }
+
+    fn disable(&self, backend: &Backend) {
+        self.subject
+            .backends()
+            .set_enable(&self.site.rt, backend, false);
     }
 
     fn make(&self, call: Call) -> Result<u64, Refusal> {

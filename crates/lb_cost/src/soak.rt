@@ -1,73 +1,220 @@
-//! A soak: `soak [SECONDS]`. Groups that share a gate are updated and selected from by threads, and then cancelled or dropped, round after
-//! round, for as many seconds (1 without the number). A line each five seconds shows that it goes on. It ends well where in each round
-//! every permit came back, the workers ended, and no selector lived on.
+//! A soak: `soak [SECONDS]`, ten seconds without the number. Round after round four groups on two gates and over two registries are made,
+//! updated, checked, flagged and selected from by threads, and then cancelled or dropped. It ends well where no answer was wrong, every
+//! permit came back and no thread stays; where groups in which nothing happens take less than a hundredth of a processor for ten seconds;
+//! and, after two minutes or more, where little more is resident than was after one minute. A line each minute shows that it goes on.
+use crate::process::{Process, resident};
+use crate::soak_groups::{Flips, Groups, Registry, Site, settles, starts, stir};
+use crate::soak_threads::{Tally, joined, start_user};
 use crate::words::number_at;
 use anyhow::Error;
-use lb_crowd::crowd::{Crowd, crowd_in};
-use lb_threads_registry::clock::RuntimeClock;
+use lb_select_base::refusal::Refusal;
+use lb_threads_registry::gate::SelectorRebuildGate;
 use lb_threads_registry::registry::HealthRegistry;
-use log::Log;
+use log::sink::Locked;
+use log::{Level, Log, Logged};
 use std::alloc::Global;
+use std::rt::Files;
+use std::sync::atomic::AtomicU64;
+use std::sync::atomic::Ordering::SeqCst;
 use std::sync::{Arc, Wait};
 use std::thread::Threads;
 use std::time::{Clock, Duration};
+use std::{io, thread};
 
-// After how many seconds a line shows that the soak goes on.
-const LINE_SECONDS: u64 = 5;
+// How many updates a round has, and how long it sleeps after each, in milliseconds.
+const UPDATES: u64 = 200;
 
-// Within how many turns of ten milliseconds workers are to end: a minute.
-const TURNS: u64 = 6000;
+const PAUSE: u64 = 5;
 
-// What a round came to.
+// A line shows each so many seconds that the soak goes on; what is resident after the first of them is noted.
+const MINUTE: u64 = 60;
+
+// How long groups are idle, in seconds, and how much processor time they may take in it, in hundredths of a second: less than a hundredth.
+const IDLE: u64 = 10;
+
+const IDLE_TICKS: u64 = 10;
+
+// How much more may be resident than after a minute, in KiB, or a twentieth where that is more: the C library's allocator comes to touch what
+// it has reserved only in the course of minutes.
+const SLACK: u64 = 1024;
+
+// What went wrong.
 #[derive(Clone, Copy, Debug, PartialEq, Eq, thiserror::Error)]
 enum Fault {
     #[error("a worker couldn't be started")]
     Unstarted,
-    #[error("a call was refused, or a reading fell")]
-    Refused,
-    #[error("of what groups leave one isn't right, in the order of Crowd::leave: {0:?}")]
-    Left([bool; 6]),
+    #[error("an answer was wrong, a call was refused, or a reading fell")]
+    Wrong,
+    #[error("of what groups leave one isn't right, in the order of Groups::leave: {0:?}")]
+    Left([bool; 5]),
+    #[error("{0} threads are left")]
+    Threads(u64),
+    #[error("idle groups took {0} hundredths of a second in ten seconds")]
+    Busy(u64),
+    #[error("{0} KiB were resident after a minute, and {1} at the end")]
+    Grown(u64, u64),
 }
 
-// Starts the workers of both groups, and has threads use them; they are cancelled then, or are left to the drop of their handles.
-fn used<W: Log + Threads + Wait + Clock + Copy + Send + Sync + Drop + 'static>(
+// What was done so far.
+#[derive(Clone, Copy)]
+struct Done {
+    rounds: u64,
+    turns: u64,
+    builds: u64,
+    after_a_minute: u64,
+}
+
+// Starts the workers of all groups.
+fn all_start<W: Log + Threads + Wait + Clock + Copy + Send + Sync + Drop + 'static>(
     rt: &W,
     alloc: Global,
-    crowd: &Crowd<W>,
-    is_cancelled: bool,
+    groups: &Groups<W>,
 ) -> Result<(), Fault> {
-    let mut clock = RuntimeClock::new(*rt);
-    let missing = [
-        crowd.first.start_workers(rt, alloc, clock),
-        crowd.second.start_workers(rt, alloc, clock),
-    ];
-    if missing != [0; 2] {
-        return Err(Fault::Unstarted);
+    let mut are_started = starts(rt, alloc, &*groups.random);
+    for group in &groups.chosen {
+        are_started &= starts(rt, alloc, &**group);
     }
-    let (first, second) = (crowd.first.shared(), crowd.second.shared());
-    if !crowd_in(rt, alloc, first, second, 500, 20, &mut clock) {
-        return Err(Fault::Refused);
+    if are_started {
+        Ok(())
+    } else {
+        Err(Fault::Unstarted)
+    }
+}
+
+// Updates one of the groups, in turn, and now and then checks the targets of a registry, in turn too.
+fn happens<W: Log + Threads + Wait + Clock + Copy + Send + Sync + Drop>(
+    rt: &W,
+    alloc: Global,
+    site: &Site,
+    groups: &Groups<W>,
+    turn: u64,
+) -> Result<(), Refusal> {
+    let place = (turn % 4) as usize;
+    match groups.chosen.get(place) {
+        Some(group) => stir(rt, alloc, &**group, turn)?,
+        None => stir(rt, alloc, &*groups.random, turn)?,
+    }
+    let [registry, other] = &site.registries;
+    match turn % 16 {
+        3 => pass(rt, alloc, registry, false),
+        7 => pass(rt, alloc, other, false),
+        11 => pass(rt, alloc, registry, true),
+        15 => pass(rt, alloc, other, true),
+        _ => Ok(()),
+    }
+}
+
+// Checks the targets of a registry, without a line for each flip.
+fn pass<W: Log + Threads + Wait + Copy + Sync + Drop>(
+    rt: &W,
+    alloc: Global,
+    registry: &Registry,
+    is_parallel: bool,
+) -> Result<(), Refusal> {
+    let sink = Locked::new(*rt, Vec::new(alloc));
+    let logged = Logged::new(*rt, Level::Error, &sink);
+    registry.run_health_check(&logged, alloc, is_parallel)
+}
+
+// All updates of a round. Two groups are cancelled then, or none.
+fn stirred<W: Log + Threads + Wait + Clock + Copy + Send + Sync + Drop>(
+    rt: &W,
+    alloc: Global,
+    site: &Site,
+    groups: &Groups<W>,
+    is_cancelled: bool,
+) -> Result<(), Refusal> {
+    for turn in 0..UPDATES {
+        happens(rt, alloc, site, groups, turn)?;
+        thread::sleep(rt, Duration::from_millis(PAUSE));
     }
     if is_cancelled {
-        crowd.first.cancel(rt);
-        crowd.second.cancel(rt);
+        groups.cancel_two(rt);
+        thread::sleep(rt, Duration::from_millis(10 * PAUSE));
     }
     Ok(())
 }
 
-// Two groups of a registry of their own, with their workers, threads that use them, and their end.
+// Threads use the groups while all of a round happens. Returns how many turns they took.
+fn used<W: Log + Threads + Wait + Clock + Copy + Send + Sync + Drop + 'static>(
+    rt: &W,
+    alloc: Global,
+    site: &Site,
+    groups: &Groups<W>,
+    is_cancelled: bool,
+) -> Result<u64, Error> {
+    all_start(rt, alloc, groups)?;
+    let tally = Arc::new(alloc, Tally::new())?;
+    let [first, second, third] = &groups.chosen;
+    let users = [
+        start_user(rt, alloc, first, &tally),
+        start_user(rt, alloc, second, &tally),
+        start_user(rt, alloc, third, &tally),
+        start_user(rt, alloc, &groups.random, &tally),
+    ];
+    let stirred = stirred(rt, alloc, site, groups, is_cancelled);
+    tally.over.store(true, SeqCst);
+    let mut are_right = true;
+    for user in users {
+        are_right &= joined(rt, user);
+    }
+    stirred?;
+    if !are_right {
+        Err(Fault::Wrong)?;
+    }
+    Ok(tally.turns.load(SeqCst))
+}
+
+// Drops the groups, and looks at what they leave.
+fn left<W: Wait + Clock + Copy + Drop>(
+    rt: &W,
+    alloc: Global,
+    site: &Site,
+    groups: Groups<W>,
+) -> Result<(), Error> {
+    let left = groups.leave(rt, alloc, site)?;
+    if left != [true; 5] {
+        Err(Fault::Left(left))?;
+    }
+    Ok(())
+}
+
+// A round on new groups.
 fn round<W: Log + Threads + Wait + Clock + Copy + Send + Sync + Drop + 'static>(
     rt: &W,
     alloc: Global,
-    is_cancelled: bool,
+    site: &Site,
+    done: &mut Done,
 ) -> Result<(), Error> {
-    let registry = Arc::new(alloc, HealthRegistry::new(alloc)?)?;
-    let crowd = Crowd::new(*rt, alloc, &registry)?;
-    let told = used(rt, alloc, &crowd, is_cancelled);
-    let left = crowd.leave(rt, alloc, TURNS)?;
-    told?;
-    if left != [true; 6] {
-        Err(Fault::Left(left))?;
+    let groups = Groups::new(*rt, alloc, site)?;
+    let turns = used(rt, alloc, site, &groups, done.rounds % 2 == 0)?;
+    done.rounds = done.rounds.saturating_add(1);
+    done.turns = done.turns.saturating_add(turns);
+    done.builds = done.builds.saturating_add(groups.builds());
+    left(rt, alloc, site, groups)
+}
+
+// Groups that serve what they were updated to, and in which nothing happens for ten seconds.
+fn idle<
+    W: Log + Threads + Wait + Clock + Files + AllocGlobal + Copy + Send + Sync + Drop + 'static,
+>(rt: &W, alloc: Global, site: &Site) -> Result<(), Error> {
+    let groups = Groups::new(*rt, alloc, site)?;
+    all_start(rt, alloc, &groups)?;
+    let mut are_served = true;
+    for group in &groups.chosen {
+        stir(rt, alloc, &**group, 0)?;
+        are_served &= settles(rt, &**group);
+    }
+    stir(rt, alloc, &*groups.random, 0)?;
+    if !are_served || !settles(rt, &*groups.random) {
+        Err(Fault::Wrong)?;
+    }
+    let before = Process::read(rt)?.ticks;
+    thread::sleep(rt, Duration::from_secs(IDLE));
+    let taken = Process::read(rt)?.ticks.saturating_sub(before);
+    left(rt, alloc, site, groups)?;
+    if taken >= IDLE_TICKS {
+        Err(Fault::Busy(taken))?;
     }
     Ok(())
 }
@@ -78,26 +225,146 @@ fn seconds_since<W: Clock>(rt: &W, begun: Duration) -> u64 {
     now.saturating_sub(begun).as_secs()
 }
 
-/// Goes on for so many seconds, or until a round isn't good.
-pub fn run<W: Log + Threads + Wait + Clock + Print + Copy + Send + Sync + Drop + 'static>(
+// Prints what was done in so many seconds, and how many KiB are resident.
+fn print_done<W: Print>(
     rt: &W,
-    alloc: Global,
-    numbers: &[String],
-) -> Result<(), Error> {
-    let seconds = u64::from(number_at(numbers, 0, 1)?);
+    seconds: u64,
+    done: &Done,
+    flips: u64,
+    resident: u64,
+) -> io::Result<()> {
+    let (rounds, turns, builds) = (done.rounds, done.turns, done.builds);
+    println!(rt;
+        "{seconds} seconds: {rounds} rounds, {turns} turns of threads, {builds} builds, {flips} flips, {resident} KiB"
+    )
+}
+
+// Rounds for so many seconds, with a line each minute.
+fn rounds<
+    W: Log
+        + Threads
+        + Wait
+        + Clock
+        + Files
+        + Print
+        + AllocGlobal
+        + Copy
+        + Send
+        + Sync
+        + Drop
+        + 'static,
+>(rt: &W, alloc: Global, site: &Site, seconds: u64) -> Result<Done, Error> {
     let begun = rt.monotonic().unwrap_or(Duration::from_secs(0));
-    let mut line = LINE_SECONDS;
-    for rounds in 1..u64::MAX {
-        round(rt, alloc, rounds % 2 == 1)?;
+    let mut minutes = 0;
+    let mut done = Done {
+        rounds: 0,
+        turns: 0,
+        builds: 0,
+        after_a_minute: 0,
+    };
+    for _ in rt.forever() {
+        round(rt, alloc, site, &mut done)?;
         let passed = seconds_since(rt, begun);
+        if passed / MINUTE > minutes {
+            minutes = passed / MINUTE;
+            let now = resident(rt)?;
+            if done.after_a_minute == 0 {
+                done.after_a_minute = now;
+            }
+            print_done(rt, passed, &done, site.flipped.load(SeqCst), now)?;
+        }
         if passed >= seconds {
             break;
         }
-        if passed >= line {
-            println!(rt; "{passed} seconds, {rounds} rounds")?;
-            line = passed.saturating_add(LINE_SECONDS);
-        }
     }
-    println!(rt; "every permit is back")?;
+    Ok(done)
+}
+
+// Waits, for ten seconds at most, until no thread but this one is left.
+fn remains<W: Clock + Files + AllocGlobal>(rt: &W) -> Result<(), Error> {
+    let mut threads = 0;
+    for _ in 0..1000 {
+        threads = Process::read(rt)?.threads;
+        if threads == 1 {
+            return Ok(());
+        }
+        thread::sleep(rt, Duration::from_millis(10));
+    }
+    Err(Fault::Threads(threads))?
+}
+
+// Soaks at a site.
+fn soaked<
+    W: Log
+        + Threads
+        + Wait
+        + Clock
+        + Files
+        + Print
+        + AllocGlobal
+        + Copy
+        + Send
+        + Sync
+        + Drop
+        + 'static,
+>(rt: &W, alloc: Global, site: &Site, seconds: u64) -> Result<(), Error> {
+    let done = rounds(rt, alloc, site, seconds)?;
+    println!(rt; "no answer was wrong, and every permit is back")?;
+    remains(rt)?;
+    let at_the_end = resident(rt)?;
+    println!(rt; "no thread is left")?;
+    idle(rt, alloc, site)?;
+    remains(rt)?;
+    println!(rt; "idle groups take less than a hundredth of a processor")?;
+    if seconds < 2 * MINUTE {
+        return Ok(());
+    }
+    let before = done.after_a_minute;
+    if at_the_end > before.saturating_add(SLACK.max(before / 20)) {
+        Err(Fault::Grown(before, at_the_end))?;
+    }
+    println!(rt; "resident: {before} KiB after a minute, {at_the_end} at the end")?;
     Ok(())
+}
+
+// A registry with its check.
+fn checked<W: Wait>(rt: &W, registry: &Registry, flipped: &Arc<AtomicU64>) -> Result<(), Refusal> {
+    let check = Flips {
+        asked: AtomicU64::new(0),
+        flipped: Arc::try_clone(flipped)?,
+    };
+    registry.set_health_check(rt, check)
+}
+
+/// Goes on for so many seconds, or until something is wrong.
+pub fn run<
+    W: Log
+        + Threads
+        + Wait
+        + Clock
+        + Files
+        + Print
+        + AllocGlobal
+        + Copy
+        + Send
+        + Sync
+        + Drop
+        + 'static,
+>(rt: &W, alloc: Global, numbers: &[String]) -> Result<(), Error> {
+    let seconds = u64::from(number_at(numbers, 0, 10)?);
+    let site = Site {
+        gates: [
+            Arc::new(alloc, SelectorRebuildGate::new(alloc)?)?,
+            Arc::new(alloc, SelectorRebuildGate::new(alloc)?)?,
+        ],
+        registries: [
+            Arc::new(alloc, HealthRegistry::new(alloc)?)?,
+            Arc::new(alloc, HealthRegistry::new(alloc)?)?,
+        ],
+        flipped: Arc::new(alloc, AtomicU64::new(0))?,
+    };
+    for registry in &site.registries {
+        checked(rt, &**registry, &site.flipped)?;
+    }
+    soaked(rt, alloc, &site, seconds)
 }

@@ -1,15 +1,7 @@
-//! A selector in turn that is counted while it lives, and whose build can be held. It walks as a selector in turn does.
-ghost use Rattle.std.specs.Prelude.{false, ⊤};
+//! A selector that is counted while it lives, and whose build can be held. It is built and walks as the selector in it does.
 ghost use Rattle.std.specs.Arc.{arc_value};
-ghost use Rattle.lb_select_base.specs.Algorithms.{ticket_word};
-ghost use Rattle.lb_select.specs.Weights.{IsWeightedRest};
-ghost use Rattle.lb_select.specs.WeightLaws.{rest_none, rest_ends};
-ghost use Rattle.lb_script_text.specs.Kinds.{kind_walks, kind_refusal, kind_undrawn, kind_few_words};
-ghost use Rattle.lb_script_text.specs.declared.kinds.Kind.TheVariants.{RoundRobin as in_turn};
 
 use lb_select::selection::RoundRobin;
-use lb_select::weighted::{WeightedIterator, WeightedWalk};
-use lb_select_base::algorithms;
 use lb_select_base::backend::Backend;
 use lb_select_base::refusal::Refusal;
 use lb_select_base::walk::BackendSelection;
@@ -52,29 +44,32 @@ impl<W> Counts<W> {
     }
 }
 
-/// Where selectors are counted; `None` counts nothing. Contracts see nothing of it.
+/// What a counted selector is built with, and where it is counted; `None` counts nothing. Contracts see what it is built with.
 #[derive(Drop)]
-pub struct Counting<W>(pub Option<Arc<Counts<W>>>);
-
-impl<W> Model for Counting<W> {
-    ghost Value = { Unit {0} };
-
-    ghost view = { λ _. tt };
+pub struct Counting<W, S: BackendSelection = RoundRobin> {
+    pub config: S::Config,
+    pub counts: Option<Arc<Counts<W>>>,
 }
 
-/// A selector in turn that is counted from its build to its drop.
-pub struct Counted<W: Clock + Drop> {
-    selector: Arc<RoundRobin>,
-    counting: Counting<W>,
+impl<W, S: BackendSelection> Model for Counting<W, S> {
+    ghost Value = { S.Config };
+
+    ghost view = { λ c. c.config };
 }
 
-impl<W: Clock + Drop> Drop for Counted<W> {
+/// A selector that is counted from its build to its drop.
+pub struct Counted<W: Clock + Drop, S: BackendSelection = RoundRobin> {
+    selector: Arc<S>,
+    counts: Option<Arc<Counts<W>>>,
+}
+
+impl<W: Clock + Drop, S: BackendSelection> Drop for Counted<W, S> {
     fn drop(self) {
         let Counted {
             selector: _,
-            counting,
+            counts,
         } = self;
-        if let Some(counts) = &counting.0 {
+        if let Some(counts) = &counts {
             counts.live.fetch_sub(1, SeqCst);
         }
     }
@@ -93,83 +88,87 @@ fn begin<W: Clock>(counts: &Counts<W>) {
     }
 }
 
-impl<W: Clock + Drop> BackendSelection for Counted<W> {
-    type Iter = WeightedIterator<algorithms::RoundRobin>;
+impl<W: Clock + Drop, S: BackendSelection> BackendSelection for Counted<W, S> {
+    type Iter = S::Iter;
 
-    type Config = Counting<W>;
+    type Config = Counting<W, S>;
 
-    type Walk = WeightedWalk;
+    type Walk = S::Walk;
 
-    ghost walks = { λ ms counting. kind_walks ms in_turn };
+    ghost use Rattle.std.specs.Arc.{arc_value};
 
-    ghost members = { λ s. arc_value s.selector };
+    ghost walks = { S.walks };
 
-    ghost built_with = { λ s. tt };
+    ghost members = { λ s. S.members (arc_value s.selector) };
 
-    ghost refusal = { λ ms counting. kind_refusal ms in_turn };
+    ghost built_with = { λ s. S.built_with (arc_value s.selector) };
 
-    ghost default_config = { tt };
+    ghost refusal = { S.refusal };
 
-    ghost may_draw_random = { λ ms counting. false };
+    ghost default_config = { S.default_config };
 
-    ghost fits = { λ s w. ⊤ };
+    ghost may_draw_random = { S.may_draw_random };
 
-    ghost rest = { λ s w. IsWeightedRest ticket_word w.first (arc_value s.selector) w.word };
+    ghost fits = { λ s w. S.fits (arc_value s.selector) w };
 
-    ghost undrawn = { λ ms counting. kind_undrawn ms in_turn };
+    ghost rest = { λ s w. S.rest (arc_value s.selector) w };
 
-    ghost few_words = { λ ms counting. kind_few_words ms in_turn };
+    ghost undrawn = { S.undrawn };
 
-    ghost rest_starts = { λ s w. rest_none ticket_word w.first (arc_value s.selector) w.word };
+    ghost few_words = { S.few_words };
 
-    ghost rest_ends = { λ s w. rest_ends ticket_word w.first (arc_value s.selector) w.word };
+    ghost rest_starts = { λ s w. S.rest_starts (arc_value s.selector) w };
 
-    fn build(alloc: Global, backends: &BTreeSet<Backend>) -> Result<Counted<W>, Refusal> {
-        Counted::build_with_config(alloc, backends, &Counting(None))
+    ghost rest_ends = { λ s w. S.rest_ends (arc_value s.selector) w };
+
+    fn build(alloc: Global, backends: &BTreeSet<Backend>) -> Result<Counted<W, S>, Refusal> {
+        let selector = S::build(alloc, backends)?;
+        let selector = Arc::new(alloc, selector)?;
+        Ok(Counted {
+            selector,
+            counts: None,
+        })
     }
 
     fn build_with_config(
         alloc: Global,
         backends: &BTreeSet<Backend>,
-        counting: &Counting<W>,
-    ) -> Result<Counted<W>, Refusal> {
-        let selector = RoundRobin::build(alloc, backends)?;
+        counting: &Counting<W, S>,
+    ) -> Result<Counted<W, S>, Refusal> {
+        let selector = S::build_with_config(alloc, backends, &counting.config)?;
         let selector = Arc::new(alloc, selector)?;
-        let counts = match &counting.0 {
+        let counts = match &counting.counts {
             Some(counts) => Some(counts.clone()?),
             None => None,
         };
         if let Some(counts) = &counts {
             begin(&**counts);
         }
-        Ok(Counted {
-            selector,
-            counting: Counting(counts),
-        })
+        Ok(Counted { selector, counts })
     }
 
     fn iter<W2: WordSource>(
-        of: &Arc<Counted<W>>,
+        of: &Arc<Counted<W, S>>,
         key: &[u8],
         words: &mut W2,
-    ) -> Result<WeightedIterator<algorithms::RoundRobin>, Refusal> {
-        let counted: &Counted<W> = &**of;
-        RoundRobin::iter(&counted.selector, key, words)
+    ) -> Result<S::Iter, Refusal> {
+        let counted: &Counted<W, S> = &**of;
+        S::iter(&counted.selector, key, words)
     }
 
-    fn start<W2: WordSource>(&self, key: &[u8], words: &mut W2) -> Result<WeightedWalk, Refusal> {
+    fn start<W2: WordSource>(&self, key: &[u8], words: &mut W2) -> Result<S::Walk, Refusal> {
         self.selector.start(key, words)
     }
 
     fn step<'s, W2: WordSource>(
         &'s self,
-        walk: &mut WeightedWalk,
+        walk: &mut S::Walk,
         words: &mut W2,
     ) -> Option<&'s Backend> {
         self.selector.step(walk, words)
     }
 
     fn draws_random(&self) -> bool {
-        false
+        self.selector.draws_random()
     }
 }

@@ -90,7 +90,8 @@ impl<W: Wait + Clock + Copy + Drop> Site<W> {
     fn configs(&self, alloc: Global) -> Result<Vec<Option<Counting<W>>>, Refusal> {
         let mut configs = Vec::new(alloc);
         for _ in 0..2 {
-            configs.push(Some(Counting(Some(Arc::try_clone(&self.counts)?))))?;
+            let counts = Some(Arc::try_clone(&self.counts)?);
+            configs.push(Some(Counting { config: (), counts }))?;
         }
         Ok(configs)
     }
@@ -180,8 +181,8 @@ fn left<W: Wait + Clock + Copy + Drop>(
     ]
 }
 
-// Whether no selector lives any more, within a thousand turns of ten milliseconds: a worker that ended lets its group go a little later.
-fn lives_none<W: Clock>(counts: &Counts<W>) -> bool {
+/// Whether no selector lives any more, within a thousand turns of ten milliseconds: a worker that ended drops its group a little later.
+pub fn lives_none<W: Clock>(counts: &Counts<W>) -> bool {
     for _ in 0..1000 {
         if counts.live.load(SeqCst) == 0 {
             return true;

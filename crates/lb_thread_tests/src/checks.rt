@@ -14,7 +14,7 @@ use std::sync::atomic::AtomicU64;
 use std::sync::atomic::Ordering::SeqCst;
 use std::sync::{Arc, Wait};
 use std::thread;
-use std::thread::Threads;
+use std::thread::{Threads, join};
 use std::time::{Clock, Duration};
 
 // How many checks there were, how many run, and the most that ran at once.
@@ -70,15 +70,21 @@ impl<R: Clock> HealthCheck for Meeting<R> {
     }
 }
 
+// Backends of this weight to 3.
+fn backends_from<R: Abort>(rt: &R, alloc: Global, least: usize) -> BTreeSet<Backend> {
+    let mut set = BTreeSet::new(alloc);
+    for weight in least..4 {
+        let backend = Backend::new_with_weight(alloc, "1.0.0.1:80", weight).expect(rt, "refused");
+        set.insert(backend).expect(rt, "refused");
+    }
+    set
+}
+
 // The registry with a view of three backends, of weights 1 to 3.
 fn three_targets<R: Abort>(rt: &R, alloc: Global, registry: KeyedRegistry) -> KeyedRegistry {
     let mut registry = registry;
     let id = registry.register_view(alloc).expect(rt, "refused");
-    let mut set = BTreeSet::new(alloc);
-    for weight in 1..4 {
-        let backend = Backend::new_with_weight(alloc, "1.0.0.1:80", weight).expect(rt, "refused");
-        set.insert(backend).expect(rt, "refused");
-    }
+    let set = backends_from(rt, alloc, 1);
     registry.update_view(alloc, id, set).expect(rt, "refused");
     registry
 }
@@ -156,4 +162,66 @@ fn passes_of_checks(rt: HostRuntime) {
         );
         assert_eq!(rt; pass(rt, rt.alloc(), parallel, turns), wanted);
     }
+}
+
+// Removes all targets but the last while the first is checked, and lets the checks go on then; whether it could.
+fn removes<R: Abort + Wait + Clock + Drop>(
+    rt: &R,
+    alloc: Global,
+    registry: &Registry<R>,
+    seen: &Seen,
+) -> bool {
+    for _ in 0..10_000 {
+        if seen.checks.load(SeqCst) > 0 {
+            break;
+        }
+        thread::sleep(rt, Duration::from_millis(1));
+    }
+    let removed = registry.update_view(rt, alloc, 1, backends_from(rt, alloc, 3));
+    let is_checked = seen.checks.load(SeqCst) == 1;
+    seen.most.store(2, SeqCst);
+    removed == Ok(()) && is_checked
+}
+
+// A pass meanwhile: whether all was removed in its first check; how many checks and how many targets there were in the end; and which cells
+// are healthy once the backends are back.
+fn passed_meanwhile<R: Abort + Log + Threads + Wait + Clock + Copy + Send + Sync + Drop>(
+    rt: &R,
+    alloc: Global,
+    registry: &Registry<R>,
+    seen: &Arc<Seen>,
+) -> (bool, u64, usize, [bool; 5]) {
+    set(rt, registry, seen, 10_000).expect(rt, "refused");
+    let (removed, passed) = join(
+        rt,
+        || removes(rt, alloc, registry, &**seen),
+        || registry.run_health_check(rt, alloc, false),
+    );
+    let targets = registry.target_count(rt, alloc).expect(rt, "refused");
+    let back = registry.update_view(rt, alloc, 1, backends_from(rt, alloc, 1));
+    let healthy = [
+        registry.cell_ready(rt, 0),
+        registry.cell_ready(rt, 1),
+        registry.cell_ready(rt, 2),
+        registry.cell_ready(rt, 3),
+        registry.cell_ready(rt, 4),
+    ];
+    let is_done = removed && passed == Ok(()) && back == Ok(());
+    (is_done, seen.checks.load(SeqCst), targets, healthy)
+}
+
+// The verdicts of backends that were removed while they were checked go nowhere, that of the one that stays reaches its cell; those that come
+// back have new cells.
+#[test]
+fn removed_while_checked(rt: HostRuntime) {
+    let alloc = rt.alloc();
+    let seen = Arc::new(alloc, Seen::new()).expect(&rt, "refused");
+    let registry = three_targets(&rt, alloc, keyed_by_identity(alloc));
+    let registry: Registry<HostRuntime> = HealthRegistry::over(alloc, registry).expect(
+        &rt, "refused",
+    );
+    assert_eq!(rt;
+        passed_meanwhile(&rt, alloc, &registry, &seen),
+        (true, 3, 1, [false, false, true, true, true])
+    );
 }

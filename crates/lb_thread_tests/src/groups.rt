@@ -2,8 +2,10 @@
 
 mod builds;
 mod handles;
+mod moments;
 mod passes;
 mod runs;
+mod staying;
 mod turns;
 mod waking;
 
@@ -33,6 +35,10 @@ enum Row {
     RefusedOnce,
     LastReaderWakes,
     RebuildsGoOn,
+    ClockGoesBack,
+    AtTheLastMoment,
+    ReaderStays,
+    CancelledWhileRead,
 }
 
 // Plays a case. No worker of the groups was started before.
@@ -55,6 +61,12 @@ fn play<W: Abort + Log + Threads + Wait + Clock + Copy + Send + Sync + Drop + 's
         Row::RefusedOnce => turns::refused_once(rt, alloc, first),
         Row::LastReaderWakes => waking::last_reader_wakes(rt, alloc, crowd),
         Row::RebuildsGoOn => waking::rebuilds_go_on(rt, alloc, crowd),
+        Row::ClockGoesBack => moments::clock_goes_back(rt, alloc, first),
+        Row::AtTheLastMoment => moments::at_the_last_moment(rt, alloc, crowd),
+        Row::ReaderStays => staying::reader_stays(rt, alloc, first),
+        Row::CancelledWhileRead => {
+            staying::cancelled_while_read(rt, alloc, first, &*crowd.site.registry)
+        }
     }
 }
 
@@ -88,6 +100,10 @@ fn rows_of_groups(rt: HostRuntime) {
         Row::RefusedOnce,
         Row::LastReaderWakes,
         Row::RebuildsGoOn,
+        Row::ClockGoesBack,
+        Row::AtTheLastMoment,
+        Row::ReaderStays,
+        Row::CancelledWhileRead,
     ] {
         played(&rt, alloc, &registry, row);
     }

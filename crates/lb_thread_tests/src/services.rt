@@ -50,7 +50,7 @@ struct Row {
     wanted: Told,
 }
 
-const ROWS: [Row; 5] = [
+const ROWS: [Row; 6] = [
     // Without a frequency the one target is checked once, the service is ready, and it is done.
     Row {
         name: "one pass",
@@ -71,6 +71,18 @@ const ROWS: [Row; 5] = [
         frequency: Some(10),
         is_parallel: true,
         step: 5,
+        signal: Signal::Stays,
+        beside: Beside::Ends(3),
+        wanted: (true, 3, true, false),
+    },
+    // Where a pass takes longer than the frequency, the next one begins when it has ended.
+    Row {
+        name: "passes longer than their frequency",
+        is_empty: false,
+        waits: false,
+        frequency: Some(10),
+        is_parallel: false,
+        step: 1000,
         signal: Signal::Stays,
         beside: Beside::Ends(3),
         wanted: (true, 3, true, false),

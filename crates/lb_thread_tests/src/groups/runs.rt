@@ -196,7 +196,10 @@ fn group_of<W: Abort + Wait + Clock + Copy + Drop>(
     let counts = Arc::try_clone(counts).expect(&rt, "refused");
     let mut configs = Vec::new(alloc);
     configs
-        .push(Some(Counting(Some(counts))))
+        .push(Some(Counting {
+            config: (),
+            counts: Some(counts),
+        }))
         .expect(&rt, "refused");
     configs.push(None).expect(&rt, "refused");
     let group = LoadBalancerGroup::from_backends_with_configs(&rt, alloc, backends, configs);

@@ -1,4 +1,4 @@
-//! Turns that the caller's thread takes for slot 0 of groups on one gate, and their workers' last ones.
+//! Turns that the caller's thread takes for slots of groups on one gate, and their workers' last ones.
 use lb_balancer_core::turn::{Turn, worker_turn};
 use lb_crowd::crowd::{one_backend, select_one};
 use lb_health_check::health_check::HealthCheck;
@@ -32,26 +32,28 @@ impl MomentSource for Still {
     }
 }
 
-// Updates a group; the generation.
-fn update<S: BackendSelection, R: KeyRule + Drop, C: HealthCheck + Drop, W: Wait + Abort>(
-    rt: &W,
-    alloc: Global,
-    group: &SharedGroup<S, R, C>,
-) -> u64 {
-    let discovery = one_backend(alloc, 1).expect(rt, "refused");
+// Updates a group to a backend of this weight; the generation.
+pub(super) fn update<
+    S: BackendSelection,
+    R: KeyRule + Drop,
+    C: HealthCheck + Drop,
+    W: Wait + Abort,
+>(rt: &W, alloc: Global, group: &SharedGroup<S, R, C>, weight: usize) -> u64 {
+    let discovery = one_backend(alloc, weight).expect(rt, "refused");
     group
         .update(rt, alloc, &discovery, &mut Still {})
         .expect(rt, "refused")
 }
 
-// Takes a turn for slot 0.
-fn turn<S: BackendSelection, R: KeyRule + Drop, C: HealthCheck + Drop, W: Wait + Abort>(
+// Takes a turn for a slot.
+pub(super) fn turn<S: BackendSelection, R: KeyRule + Drop, C: HealthCheck + Drop, W: Wait + Abort>(
     rt: &W,
     alloc: Global,
     group: &SharedGroup<S, R, C>,
+    slot: usize,
 ) -> Turn {
     let mut port = LockedPort { group, rt };
-    worker_turn(alloc, &mut port, 0, &mut Still {}).expect(rt, "refused")
+    worker_turn(alloc, &mut port, slot, &mut Still {}).expect(rt, "refused")
 }
 
 // Whether slot 0 selects the one backend.
@@ -73,13 +75,13 @@ pub fn turns_on_one_gate<
     C: HealthCheck + Drop,
     W: Wait + Abort,
 >(rt: &W, alloc: Global, first: &SharedGroup<S, R, C>, second: &SharedGroup<S, R, C>) {
-    let generations = [update(rt, alloc, first), update(rt, alloc, second)];
+    let generations = [update(rt, alloc, first, 1), update(rt, alloc, second, 1)];
     let turns = [
-        turn(rt, alloc, first),
-        turn(rt, alloc, second),
-        turn(rt, alloc, first),
-        turn(rt, alloc, second),
-        turn(rt, alloc, second),
+        turn(rt, alloc, first, 0),
+        turn(rt, alloc, second, 0),
+        turn(rt, alloc, first, 0),
+        turn(rt, alloc, second, 0),
+        turn(rt, alloc, second, 0),
     ];
     let is_selected = selects(rt, alloc, first);
     first.cancel(rt);
@@ -90,7 +92,7 @@ pub fn turns_on_one_gate<
         Turn::Published(1),
         Turn::Nothing,
     ];
-    let last = turn(rt, alloc, first);
+    let last = turn(rt, alloc, first, 0);
     assert_eq!(rt;
         (generations, turns, is_selected, last),
         ([1, 1], wanted, true, Turn::Cancelled)
@@ -104,7 +106,7 @@ pub fn worker_of_one_let_go<
     C: HealthCheck + Drop,
     W: Log + Wait + Abort,
 >(rt: &W, alloc: Global, group: &SharedGroup<S, R, C>) {
-    let generation = update(rt, alloc, group);
+    let generation = update(rt, alloc, group, 1);
     group.let_go();
     let was_cancelled = group.is_cancelled(rt);
     let told = [
@@ -120,7 +122,7 @@ pub fn worker_of_one_let_go<
 }
 
 // Two backends whose weights have no sum of 64 bits, always.
-fn too_heavy(alloc: Global) -> Result<DiscoverySource<Static>, Refusal> {
+pub(super) fn too_heavy(alloc: Global) -> Result<DiscoverySource<Static>, Refusal> {
     let mut backends = BTreeSet::new(alloc);
     backends.insert(Backend::new_with_weight(alloc, "1.0.0.1:80", usize::MAX)?)?;
     backends.insert(Backend::new(alloc, "1.0.0.2:80")?)?;

@@ -1,0 +1,145 @@
+//! Turns and workers by clocks that go wrong: one that goes back, and one that is at the last moment there is.
+ghost use Rattle.std.specs.Prelude.{◌≡◌};
+
+use crate::groups::turns::too_heavy;
+use lb_balancer_core::turn::{Turn, worker_turn};
+use lb_crowd::crowd::{Crowd, crowd_in, one_backend};
+use lb_health_check::health_check::HealthCheck;
+use lb_health_registry::keys::KeyRule;
+use lb_rebuild_slots::answers::Timing;
+use lb_select_base::moments::MomentSource;
+use lb_select_base::refusal::Refusal;
+use lb_select_base::walk::BackendSelection;
+use lb_threads_group::group::SharedGroup;
+use lb_threads_group::port::LockedPort;
+use log::Log;
+use std::alloc::Global;
+use std::process::Abort;
+use std::sync::Wait;
+use std::thread::Threads;
+use std::time::Clock;
+
+// A clock that is at one moment.
+#[derive(Clone, Copy)]
+struct At {
+    moment: u128,
+}
+
+impl MomentSource for At {
+    ghost reads = { λ s m _. m ≡ s.moment };
+
+    fn now(&mut self) -> u128 {
+        self.moment
+    }
+}
+
+// What is done at a moment, and what comes of it: an update to a backend of a weight, or to two of too much weight, with the newest
+// generation; or a turn for slot 0.
+#[derive(Clone, Copy, Debug, PartialEq, Eq)]
+enum Done {
+    Updated(usize, u64),
+    Heavy(u64),
+    Took(Turn),
+}
+
+const LAST: u128 = u128::MAX;
+
+// At the last moment a build that failed is due again at that moment, since none comes later. The clock goes back then: a newer generation is
+// due at once, whatever the moment, and a build that fails is due ten milliseconds after its own moment.
+const ROWS: [(u128, Done); 14] = [
+    (LAST, Done::Updated(1, 1)),
+    (LAST, Done::Took(Turn::Published(1))),
+    (LAST, Done::Heavy(2)),
+    (LAST, Done::Took(Turn::Failed(2, Refusal::WeightTooLarge))),
+    (LAST, Done::Took(Turn::Failed(2, Refusal::WeightTooLarge))),
+    (LAST - 1, Done::Took(Turn::NotDue(LAST))),
+    (7, Done::Updated(2, 3)),
+    (5, Done::Took(Turn::Published(3))),
+    (3, Done::Took(Turn::Nothing)),
+    (9, Done::Heavy(4)),
+    (9, Done::Took(Turn::Failed(4, Refusal::WeightTooLarge))),
+    (0, Done::Took(Turn::NotDue(10_000_009))),
+    (8, Done::Updated(1, 5)),
+    (6, Done::Took(Turn::Published(5))),
+];
+
+// Does what the row says, and returns what came of it.
+fn comes_of<S: BackendSelection, R: KeyRule + Drop, C: HealthCheck + Drop, W: Wait>(
+    rt: &W,
+    alloc: Global,
+    group: &SharedGroup<S, R, C>,
+    mut clock: At,
+    row: Done,
+) -> Result<Done, Refusal> {
+    match row {
+        Done::Updated(weight, _) => {
+            let found = one_backend(alloc, weight)?;
+            let newest = group.update(rt, alloc, &found, &mut clock)?;
+            Ok(Done::Updated(weight, newest))
+        }
+        Done::Heavy(_) => {
+            let found = too_heavy(alloc)?;
+            let newest = group.update(rt, alloc, &found, &mut clock)?;
+            Ok(Done::Heavy(newest))
+        }
+        Done::Took(_) => {
+            let mut port = LockedPort { group, rt };
+            let turn = worker_turn(alloc, &mut port, 0, &mut clock)?;
+            Ok(Done::Took(turn))
+        }
+    }
+}
+
+/// Turns by a clock that goes back, from the last moment on; no duration is below 0.
+pub fn clock_goes_back<
+    S: BackendSelection,
+    R: KeyRule + Drop,
+    C: HealthCheck + Drop,
+    W: Wait + Abort,
+>(rt: &W, alloc: Global, group: &SharedGroup<S, R, C>) {
+    for (moment, wanted) in &ROWS {
+        let clock = At { moment: *moment };
+        assert!(rt;
+            comes_of(rt, alloc, group, clock, *wanted) == Ok(*wanted),
+            "{wanted:?}"
+        );
+    }
+    let timing = Timing {
+        generation: 5,
+        queue: 0,
+        build: 0,
+    };
+    let last = comes_of(
+        rt,
+        alloc,
+        group,
+        At { moment: 6 },
+        Done::Took(Turn::Nothing),
+    );
+    assert_eq!(rt;
+        (group.selector_timing(rt, 0), last),
+        (Some(Some(timing)), Ok(Done::Took(Turn::Nothing)))
+    );
+}
+
+/// Four threads select and read while workers build, all at the last moment.
+pub fn at_the_last_moment<
+    W: Abort + Log + Threads + Wait + Clock + Copy + Send + Sync + Drop + 'static,
+>(rt: &W, alloc: Global, crowd: &Crowd<W>) {
+    let mut clock = At { moment: LAST };
+    let missing = [
+        crowd.first.start_workers(rt, alloc, clock),
+        crowd.second.start_workers(rt, alloc, clock),
+    ];
+    let (first, second) = (crowd.first.shared(), crowd.second.shared());
+    let holds = crowd_in(rt, alloc, first, second, 200, 20, &mut clock);
+    let timing = Timing {
+        generation: 20,
+        queue: 0,
+        build: 0,
+    };
+    assert_eq!(rt;
+        (missing, holds, first.selector_timing(rt, 0)),
+        ([0; 2], true, Some(Some(timing)))
+    );
+}

@@ -1,0 +1,121 @@
+//! Readers that stay in what their slot retired, by calls: they hold up each rebuild on their gate, also in a cancelled group, and what they
+//! are in is destroyed once they have left.
+use crate::groups::turns::{turn, update};
+use lb_balancer_core::port::{GroupPort, TakesBack};
+use lb_balancer_core::turn::Turn;
+use lb_crowd::crowd::{Registry, select_one};
+use lb_health_check::health_check::HealthCheck;
+use lb_health_registry::keys::KeyRule;
+use lb_rebuild_slots::answers::Counts;
+use lb_select_base::refusal::Refusal;
+use lb_select_base::walk::BackendSelection;
+use lb_threads_group::group::SharedGroup;
+use lb_threads_group::port::LockedPort;
+use std::alloc::Global;
+use std::process::Abort;
+use std::sync::Wait;
+
+// Destroys what a slot retired, and reports it.
+fn destroyed<S: BackendSelection, R: KeyRule + Drop, C: HealthCheck + Drop, W: Wait>(
+    rt: &W,
+    group: &SharedGroup<S, R, C>,
+    slot: usize,
+) -> Result<(), Refusal> {
+    let mut port = LockedPort { group, rt };
+    let retired = port.take_retired(slot)?;
+    let permit = retired.destroy();
+    port.destroyed(slot, permit);
+    Ok(())
+}
+
+// The counts of a slot that published so often, and that so many memberships came for while one waited.
+fn counts(published: u64, coalesced: u64) -> Option<Counts> {
+    Some(Counts {
+        published,
+        coalesced,
+        superseded: 0,
+        failed: 0,
+    })
+}
+
+/// A reader stays in what slot 0 retired while newer memberships come: neither slot is rebuilt until it has left, and the other slot then
+/// serves the newest.
+pub fn reader_stays<S: BackendSelection, R: KeyRule + Drop, C: HealthCheck + Drop, W: Wait + Abort>(
+    rt: &W,
+    alloc: Global,
+    group: &SharedGroup<S, R, C>,
+) {
+    let mut pass = group.pass();
+    let newest = update(rt, alloc, group, 1);
+    let reader = group.enter_as(rt, 0, &mut pass).expect(rt, "refused");
+    let turns = [
+        turn(rt, alloc, group, 0),
+        turn(rt, alloc, group, 0),
+        turn(rt, alloc, group, 1),
+    ];
+    let read = destroyed(rt, group, 0);
+    let newest = [
+        newest,
+        update(rt, alloc, group, 2),
+        update(rt, alloc, group, 3),
+    ];
+    let later = [turn(rt, alloc, group, 0), turn(rt, alloc, group, 1)];
+    let waits = group.selector_counts(rt, 1);
+    group.leave(rt, reader);
+    let gone = destroyed(rt, group, 0);
+    let last = [turn(rt, alloc, group, 1), turn(rt, alloc, group, 0)];
+    assert_eq!(rt;
+        (newest, turns, read, later),
+        (
+            [1, 2, 3],
+            [Turn::Published(1), Turn::Nothing, Turn::Busy],
+            Err(Refusal::StillRead(1)),
+            [Turn::Busy; 2]
+        )
+    );
+    assert_eq!(rt;
+        (waits, gone, last, destroyed(rt, group, 1)),
+        (
+            counts(0, 2),
+            Ok(()),
+            [Turn::Published(3), Turn::Busy],
+            Ok(())
+        )
+    );
+}
+
+/// A group is cancelled while a reader stays in what it retired: the selector that it serves goes on, by the health of cells that nothing
+/// checks any more, and the permit comes back once the reader has left.
+pub fn cancelled_while_read<
+    S: BackendSelection,
+    R: KeyRule + Drop,
+    C: HealthCheck + Drop,
+    W: Wait + Abort,
+>(rt: &W, alloc: Global, group: &SharedGroup<S, R, C>, registry: &Registry) {
+    let mut pass = group.pass();
+    update(rt, alloc, group, 1);
+    let reader = group.enter_as(rt, 0, &mut pass).expect(rt, "refused");
+    let published = turn(rt, alloc, group, 0);
+    let targets = registry.targets(rt, alloc).expect(rt, "refused");
+    let cell = targets.get(0).map(|target| target.cell).unwrap_or(0);
+    group.cancel(rt);
+    let read = destroyed(rt, group, 0);
+    let before = select_one(rt, alloc, group, 0).expect(rt, "refused");
+    group.leave(rt, reader);
+    let gone = destroyed(rt, group, 0);
+    let unchecked = registry.target_count(rt, alloc);
+    let flipped = registry.observe(rt, cell, false, 1);
+    let after = select_one(rt, alloc, group, 0).expect(rt, "refused");
+    let told = [
+        published == Turn::Published(1),
+        read == Err(Refusal::StillRead(1)),
+        before.is_some(),
+        gone == Ok(()),
+        unchecked == Ok(0),
+        flipped == Ok(true),
+        after.is_none(),
+        group.selector_counts(rt, 0) == counts(1, 0),
+        turn(rt, alloc, group, 0) == Turn::Cancelled,
+    ];
+    assert_eq!(rt; told, [true; 9]);
+}
