@@ -13,6 +13,7 @@ import time
 import urllib.request
 
 PROGRAM = sys.argv[1:]
+LBSIM = os.environ.get("LBSIM") or os.path.join(os.path.dirname(os.path.realpath(__file__)), "..", "lbsim")
 ROOM = tempfile.mkdtemp()
 COUNTS = collections.Counter()
 
@@ -160,32 +161,46 @@ pool = "p"
 
 FAULTS = [
     ("bad TOML", GOOD + "x = = 1\n", "line 7"),
-    ("no pool", '[[listen]]\naddress = "127.0.0.1:2"\npool = "p"\n', "pool is missing"),
-    ("no listener", '[[pool]]\nname = "p"\nbackends = []\n', "listen is missing"),
-    ("unknown section", GOOD + "[checks]\n", "checks isn't known"),
-    ("unknown name", GOOD + 'weight = 1\n', "[[listen]] number 1: weight isn't known"),
-    ("name is no text", GOOD.replace('name = "p"', "name = 1"), "[[pool]] number 1: name is to be a text"),
-    ("no name", GOOD.replace('name = "p"\n', ""), "name is missing"),
-    ("same name", '[[pool]]\nname = "p"\nbackends = []\n' + GOOD, "[[pool]] number 2: name is the name"),
-    ("no backends", GOOD.replace('backends = ["127.0.0.1:1"]\n', ""), "backends is missing"),
-    ("two sources", GOOD.replace('name = "p"', 'name = "p"\nfile = "f"'), "file can't be there"),
-    ("no backend", GOOD.replace('"127.0.0.1:1"', '"localhost:1"'), "backends has what is no backend"),
-    ("backend is a number", GOOD.replace('"127.0.0.1:1"', "1"), "backends has what is no backend"),
-    ("weight below 0", GOOD.replace('"127.0.0.1:1"', '{ address = "127.0.0.1:1", weight = -1 }'), "weight is to be a number"),
-    ("no address", GOOD.replace("127.0.0.1:2", "somewhere"), "address is to be an address"),
-    ("no such pool", GOOD.replace('pool = "p"', 'pool = "q"'), "pool names no pool"),
-    ("no selection", GOOD + 'select = "best"\n', "select is to be rr, fnv, ketama or least"),
-    ("random", GOOD + 'select = "random"\n', "select can't be that yet"),
-    ("http mode", GOOD + 'mode = "http"\n', "mode can't be that yet"),
-    ("no mode", GOOD + 'mode = "udp"\n', "mode is to be tcp"),
-    ("no key", GOOD + 'key = "uri"\n', "key is to be source"),
-    ("no time", GOOD + '[check]\nevery = "soon"\n', "[check]: every is to be a time"),
-    ("time too long", GOOD + '[check]\nevery = "99999999999h"\n', "every is to be a time"),
-    ("no check", GOOD + '[check]\nkind = "ping"\n', "kind is to be tcp or http"),
-    ("no path", GOOD + '[check]\nkind = "http"\npath = "x"\n', "path is to begin with a slash"),
-    ("no flag", GOOD + '[check]\nparallel = "yes"\n', "parallel is to be true or false"),
-    ("check is no table", "check = 1\n" + GOOD, "check is to be a table"),
-    ("pool is no list", 'pool = "p"\n', "pool is to be a list"),
+    ("no pool", '[[listen]]\naddress = "127.0.0.1:2"\npool = "p"\n', "line 1, column 1: top: pool is missing"),
+    ("no listener", '[[pool]]\nname = "p"\nbackends = []\n', "line 1, column 1: top: listen is missing"),
+    ("unknown section", GOOD + "[checks]\n", "line 7, column 1: top: checks isn't known"),
+    ("unknown name", GOOD + 'weight = 1\n', "line 7, column 1: [[listen]] number 1: weight isn't known"),
+    ("after blanks", GOOD + '\n# a word\n  \tweight = 1\n', "line 9, column 4: [[listen]] number 1: weight isn't known"),
+    ("no line feed", GOOD + 'weight = 1', "line 7, column 1: [[listen]] number 1: weight isn't known"),
+    ("name is no text", GOOD.replace('name = "p"', "name = 1"), "line 2, column 1: [[pool]] number 1: name is to be a text"),
+    ("no name", GOOD.replace('name = "p"\n', ""), "line 1, column 1: [[pool]] number 1: name is missing"),
+    ("same name", '[[pool]]\nname = "p"\nbackends = []\n' + GOOD, "line 5, column 1: [[pool]] number 2: name is the name"),
+    ("no backends", GOOD.replace('backends = ["127.0.0.1:1"]\n', ""), "line 1, column 1: [[pool]] number 1: backends is missing"),
+    ("two sources", GOOD.replace('name = "p"', 'name = "p"\nfile = "f"'), "line 3, column 1: [[pool]] number 1: file can't be there"),
+    ("no backend", GOOD.replace('"127.0.0.1:1"', '"localhost:1"'), "line 3, column 1: [[pool]] number 1: backends has what is no backend"),
+    ("backend is a number", GOOD.replace('"127.0.0.1:1"', "1"), "line 3, column 1: [[pool]] number 1: backends has what is no backend"),
+    (
+        "weight below 0",
+        GOOD.replace('"127.0.0.1:1"', '{ address = "127.0.0.1:1", weight = -1 }'),
+        "line 3, column 1: [[pool]] number 1, backend number 1: weight is to be a number",
+    ),
+    (
+        "a list of lines",
+        GOOD.replace('"127.0.0.1:1"', '\n  "127.0.0.1:1",\n  { address = "127.0.0.1:2", wieght = 3 },\n'),
+        "line 3, column 1: [[pool]] number 1, backend number 2: wieght isn't known",
+    ),
+    ("no address", GOOD.replace("127.0.0.1:2", "somewhere"), "line 5, column 1: [[listen]] number 1: address is to be an address"),
+    ("no such pool", GOOD.replace('pool = "p"', 'pool = "q"'), "line 6, column 1: [[listen]] number 1: pool names no pool"),
+    ("no selection", GOOD + 'select = "best"\n', "line 7, column 1: [[listen]] number 1: select is to be rr, fnv, ketama or least"),
+    ("random", GOOD + 'select = "random"\n', "line 7, column 1: [[listen]] number 1: select can't be that yet"),
+    ("http mode", GOOD + 'mode = "http"\n', "line 7, column 1: [[listen]] number 1: mode can't be that yet"),
+    ("no mode", GOOD + 'mode = "udp"\n', "line 7, column 1: [[listen]] number 1: mode is to be tcp"),
+    ("no key", GOOD + 'key = "uri"\n', "line 7, column 1: [[listen]] number 1: key is to be source"),
+    ("no time", GOOD + '[check]\nevery = "soon"\n', "line 8, column 1: [check]: every is to be a time"),
+    ("time too long", GOOD + '[check]\nevery = "99999999999h"\n', "line 8, column 1: [check]: every is to be a time"),
+    ("no check", GOOD + '[check]\nkind = "ping"\n', "line 8, column 1: [check]: kind is to be tcp or http"),
+    ("no path", GOOD + '[check]\nkind = "http"\npath = "x"\n', "line 9, column 1: [check]: path is to begin with a slash"),
+    ("no flag", GOOD + '[check]\nparallel = "yes"\n', "line 8, column 1: [check]: parallel is to be true or false"),
+    ("no number", GOOD + '[limits]\nthreads = "many"\n', "line 8, column 1: [limits]: threads is to be a number from 0 on"),
+    ("no page", GOOD + '[status]\n', "line 7, column 1: [status]: listen is missing"),
+    ("check is no table", "check = 1\n" + GOOD, "line 1, column 1: top: check is to be a table"),
+    ("pool is no list", 'pool = "p"\n', "line 1, column 1: top: pool is to be a list"),
+    ("pool is no table", "pool = [1]\n", "line 1, column 1: top: pool is to be a list of tables"),
 ]
 
 
@@ -276,6 +291,23 @@ def one_client_stays_at_one_backend():
             expect(len(names) == 1 and names < {"a", "b", "c"}, names)
     spread = {named(KETAMA, f"127.0.0.{number}") for number in range(1, 40)}
     expect(spread == {"a", "b", "c"}, spread)
+
+
+def ketama_chooses_as_lbsim_does():
+    # (200 clients, whose addresses are words of a script, byte for byte)
+    sources = [f"127.0.{third}.{last}" for third in (1, 2) for last in range(27, 127) if last != 32] + ["127.0.3.65", "127.0.3.66"]
+    backends = f"{A.address}/1 {B.address}/3 {C.address}/1"
+    lines = ["registry identity", "gate", "group 0 0 ketama 1", f"update 0 0 {backends}", "ask 0 0 0", "build 0 0 0", "publish 0 0"]
+    script = os.path.join(ROOM, "ketama.script")
+    with open(script, "wb") as file:
+        file.write("\n".join(lines).encode() + b"\n")
+        for source in sources:
+            file.write(b"select 0 0 " + socket.inet_aton(source) + b" 256\n")
+    said = subprocess.run([LBSIM, script], capture_output=True, timeout=600, check=True).stdout.decode().splitlines()
+    names = {f"backend {backend.address}/{weight}": backend.name for backend, weight in ((A, 1), (B, 3), (C, 1))}
+    wanted = [names[line] for line in said[len(lines):]]
+    expect(len(wanted) == 200 and set(wanted) == {"a", "b", "c"}, said[:9])
+    expect([named(KETAMA, source) for source in sources] == wanted, "another backend was chosen")
 
 
 def least_goes_by_live_connections():
@@ -392,6 +424,25 @@ def the_page_shows_the_pools():
     expect(fetch(PAGE, "/elsewhere")[0] == 404, "something is elsewhere")
 
 
+def put(path):
+    request = urllib.request.Request(f"http://127.0.0.1:{PAGE}{path}", method="PUT")
+    try:
+        with urllib.request.urlopen(request, timeout=5) as answer:
+            return answer.status
+    except urllib.error.HTTPError as error:
+        return error.code
+
+
+def a_flag_is_set_by_put():
+    path = f"/pools/web/backends/{B.address}"
+    expect(put(path + "/disable") == 200, "not disabled")
+    wait_until(lambda: "b" not in {named(RR) for _ in range(12)}, "a disabled backend is selected")
+    expect(put(path + "/enable") == 200, "not enabled")
+    wait_until(lambda: "b" in {named(RR) for _ in range(12)}, "an enabled backend isn't selected")
+    for other in ("/pools/web/backends/127.0.0.1:1/disable", f"/pools/none/backends/{B.address}/disable", path, path + "/stop"):
+        expect(put(other) == 404, other)
+
+
 def log_lines_have_their_time():
     lines = PROXY.log().splitlines()
     expect(lines and all(re.match(r"\d{4}-\d\d-\d\dT\d\d:\d\d:\d\d", line) for line in lines), lines[:3])
@@ -469,6 +520,7 @@ try:
     for work in (
         weights_in_turn,
         one_client_stays_at_one_backend,
+        ketama_chooses_as_lbsim_does,
         least_goes_by_live_connections,
         bytes_both_ways,
         a_half_closed_side_goes_on,
@@ -479,6 +531,7 @@ try:
         no_backend_closes_the_connection,
         a_file_is_read_again,
         the_page_shows_the_pools,
+        a_flag_is_set_by_put,
         log_lines_have_their_time,
         the_end_lets_connections_finish,
         the_end_cuts_what_stays,

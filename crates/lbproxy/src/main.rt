@@ -4,6 +4,7 @@
 mod arguments;
 mod build;
 mod check;
+mod flag;
 mod pool;
 mod proxy;
 mod render;

@@ -30,12 +30,7 @@ fn parse(alloc: Global, path: &str, text: &str) -> Result<Config, String> {
 }
 
 // A fault with its line and its column, where the text has one.
-fn located(
-    alloc: Global,
-    path: &str,
-    text: &str,
-    fault: &Fault<'_>,
-) -> Result<String, AllocError> {
+fn located(alloc: Global, path: &str, text: &str, fault: &Fault<'_>) -> Result<String, AllocError> {
     match position_of(alloc, text.as_bytes(), fault) {
         Some(place) => {
             let line = line_at(text.as_bytes(), place);

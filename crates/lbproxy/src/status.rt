@@ -1,5 +1,7 @@
-//! The status page: what the pools and their backends are doing, for a person, as JSON, and as Prometheus reads it.
+//! The status page: what the pools and their backends are doing, for a person, as JSON, and as Prometheus reads it; and the flags of
+//! backends, which a request from this machine sets.
 
+use crate::flag::set_flag;
 use crate::proxy::Proxy;
 use crate::render::{json_text, metrics_text, page_text, text};
 use crate::shown::{Shown, shown_of};
@@ -25,6 +27,8 @@ const BUSY: &str = "503 Service Unavailable";
 
 const ABSENT: &str = "404 Not Found";
 
+const REFUSED: &str = "403 Forbidden";
+
 // An answer: its status, the kind of its body, and its body.
 #[derive(Drop)]
 struct Page {
@@ -33,14 +37,23 @@ struct Page {
     body: Vec<u8>,
 }
 
-/// Answers one request.
+// What a request asks for, by its target.
+#[derive(Clone, Copy)]
+enum Asked<'h> {
+    Get(&'h str),
+    Put(&'h str),
+    Other,
+}
+
+/// Answers one request. One that comes from this machine may set a flag.
 pub fn serve_page<R: Log + Wait + Copy + Drop, C: HealthCheck + Drop>(
     rt: &R,
     alloc: Global,
     proxy: &Proxy<R, C>,
     mut stream: TcpStream,
+    is_local: bool,
 ) {
-    if let Err(error) = answer(rt, alloc, proxy, &mut stream) {
+    if let Err(error) = answer(rt, alloc, proxy, &mut stream, is_local) {
         warn!(rt; "status page: {error}");
     }
 }
@@ -51,12 +64,18 @@ fn answer<R: Log + Wait + Copy + Drop, C: HealthCheck + Drop>(
     alloc: Global,
     proxy: &Proxy<R, C>,
     stream: &mut TcpStream,
+    is_local: bool,
 ) -> io::Result<()> {
     stream.set_nonblocking(false)?;
     stream.set_read_timeout(Some(Duration::from_secs(LIMIT)))?;
     stream.set_write_timeout(Some(Duration::from_secs(LIMIT)))?;
     let head = read_head(alloc, stream)?;
-    let page = page_of(rt, alloc, proxy, target_of(head.as_slice()))?;
+    let page = match asked_of(head.as_slice()) {
+        Asked::Get(target) => page_of(rt, alloc, proxy, target)?,
+        Asked::Put(target) if is_local => flag_page(rt, alloc, proxy, target)?,
+        Asked::Put(_) => plain(alloc, REFUSED, "a flag is set from this machine alone\n")?,
+        Asked::Other => plain(alloc, ABSENT, "nothing is there\n")?,
+    };
     let length = page.body.len();
     let Page { status, kind, body } = page;
     let first = format!(in alloc; "HTTP/1.1 {status}\r\nContent-Type: {kind}\r\n")?;
@@ -80,17 +99,41 @@ fn read_head(alloc: Global, stream: &mut TcpStream) -> io::Result<Vec<u8>> {
     Ok(head)
 }
 
-// The target of a GET request; an empty one where there is none.
-fn target_of(head: &[u8]) -> &str {
+// What a request asks for, by the first words of its head.
+fn asked_of(head: &[u8]) -> Asked<'_> {
     let Ok(text) = str::from_utf8(head) else {
-        return "";
+        return Asked::Other;
     };
-    match text.strip_prefix("GET ") {
-        Some(rest) => match rest.split_once(' ') {
-            Some((target, _)) => target,
-            None => "",
-        },
-        None => "",
+    let Some((method, rest)) = text.split_once(' ') else {
+        return Asked::Other;
+    };
+    match (method, rest.split_once(' ')) {
+        ("GET", Some((target, _))) => Asked::Get(target),
+        ("PUT", Some((target, _))) => Asked::Put(target),
+        _ => Asked::Other,
+    }
+}
+
+// An answer of one line.
+fn plain(alloc: Global, status: &'static str, line: &str) -> io::Result<Page> {
+    Ok(Page {
+        status,
+        kind: "text/plain",
+        body: text(alloc, line)?,
+    })
+}
+
+// Sets the flag that a target names, and says so.
+fn flag_page<R: Log + Wait + Copy + Drop, C: HealthCheck + Drop>(
+    rt: &R,
+    alloc: Global,
+    proxy: &Proxy<R, C>,
+    target: &str,
+) -> io::Result<Page> {
+    match set_flag(rt, alloc, proxy, target) {
+        Ok(true) => plain(alloc, FINE, "set\n"),
+        Ok(false) => plain(alloc, ABSENT, "no such backend\n"),
+        Err(_) => Err(io::ErrorKind::OutOfMemory.into()),
     }
 }
 

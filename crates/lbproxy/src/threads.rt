@@ -126,7 +126,9 @@ where
                 return;
             }
             match page.accept() {
-                Ok((stream, _)) => serve_page(&rt, alloc, &*proxy, stream),
+                Ok((stream, peer)) => {
+                    serve_page(&rt, alloc, &*proxy, stream, peer.ip().is_loopback())
+                }
                 Err(_) => thread::sleep(&rt, Duration::from_millis(NAP)),
             }
         }
