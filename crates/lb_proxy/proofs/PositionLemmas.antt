@@ -1,8 +1,12 @@
 -- Lines of a text.
-use Rattle.std.proofs.Common.{Bool, true, false, ◌||◌, ◌≡◌, ℕ, ◌+◌, ◌<◌, ◌≤◌, ◌==◌, List, [], ◌∷◌, ◌++◌, length, take, slice_index, if◌then◌else◌, refl, sym, inr, arith}
+use Rattle.std.proofs.Common.{Bool, true, false, Some, None, option_map, ◌||◌, ◌≡◌, ◌⊎◌, ℕ, ◌+◌, ◌<◌, ◌≤◌, ◌==◌, List, [], ◌∷◌, ◌++◌, length, take}
+use Rattle.std.proofs.Common.{slice_index, if◌then◌else◌, refl, ap, sym, ◌∙◌, inl, inr, arith}
 use Rattle.std.proofs.lemmas.Bool.{eqb-true, eq-eqb, ne_eqb, false≢true}
 use Rattle.std.proofs.lemmas.List.{take_more}
-use Rattle.lb_proxy.specs.Position.{IsLineStart, feeds, line_at}
+use Rattle.toml.specs.Data.{Members}
+use Rattle.toml.specs.Parse.{parse_document}
+use Rattle.lb_proxy.specs.Config.{Said}
+use Rattle.lb_proxy.specs.Position.{IsLineStart, shows, shown_by, feeds, line_at}
 
 not_less : {m n : ℕ} → m ≡ n → m < n → ⊥
 not_less e lt = grind arith
@@ -12,6 +16,22 @@ one_later le = grind arith
 
 pub one_more_later : {m n : ℕ} → m ≤ n → m + 1 ≤ n + 1
 one_more_later le = grind arith
+
+not_both : {m n : ℕ} → m < n → n ≤ m → ⊥
+not_both lt le = grind arith
+
+not_zero : (m : ℕ) → m + 1 ≡ 0 → ⊥
+not_zero m e = grind arith
+
+one_before : {m n : ℕ} → m + 1 ≡ n + 1 → m ≡ n
+one_before e = grind arith
+
+le_or_next : (m n : ℕ) → m ≤ n + 1 → (m ≤ n) ⊎ (m ≡ n + 1)
+le_or_next m n le = grind arith
+
+neither : (a b : Bool) → (a || b) ≡ false → a ≡ false
+neither true b e = absurd (false≢true (sym e))
+neither false b e = refl
 
 -- a line begins after one that ends, unless the text does
 ends : (text : List ℕ) (place : ℕ) (is_feed is_last : Bool) → is_feed ≡ (slice_index text place == 10)
@@ -40,3 +60,32 @@ feed_more text place line lt is so = rw (line_more text place lt, eq-eqb (slice_
 pub other_more : (text : List ℕ) (place line : ℕ) → place < length text → ¬ (slice_index text place ≡ 10) → line ≡ line_at text place
     → line ≡ line_at text (place + 1)
 other_more text place line lt is so = rw (line_more text place lt, ne_eqb (slice_index text place) 10 is, so) (grind arith)
+
+-- what a text shows, by the text that was read
+pub shown_there : (read text : List ℕ) (said : Said) (table : Members) (r : Bool) → read ≡ text → parse_document read ≡ Some table
+    → r ≡ shows table said → Some r ≡ shown_by text said
+shown_there read text said table r same is so =
+    ap Some so ∙ sym (ap (option_map (λ t. shows t said)) (ap parse_document (sym same) ∙ is))
+
+pub shown_none : (read text : List ℕ) (said : Said) → read ≡ text → parse_document read ≡ None → None ≡ shown_by text said
+shown_none read text said same is = sym (ap (option_map (λ t. shows t said)) (ap parse_document (sym same) ∙ is))
+
+-- up to one more place: no line begins there, or its start ends no document
+pub none_more : (text : List ℕ) (said : Said) (start place : ℕ)
+    → ((at : ℕ) → start < at → at ≤ place → IsLineStart text at → shown_by (take at text) said ≡ None)
+    → (IsLineStart text (place + 1) → shown_by (take (place + 1) text) said ≡ None)
+    → (at : ℕ) → start < at → at ≤ place + 1 → IsLineStart text at → shown_by (take at text) said ≡ None
+none_more text said start place before here at later le line = by_order (le_or_next at place le)
+  where
+    by_order : (at ≤ place) ⊎ (at ≡ place + 1) → shown_by (take at text) said ≡ None
+    by_order (inl earlier) = before at later earlier line
+    by_order (inr same) = rw same (here (rw (sym same) line))
+
+pub none_between : (text : List ℕ) (said : Said) (start : ℕ) (at : ℕ) → start < at → at ≤ start → IsLineStart text at
+    → shown_by (take at text) said ≡ None
+none_between text said start at later le line = absurd (not_both later le)
+
+-- no line begins after a byte that ends none
+pub no_line : (text : List ℕ) (place : ℕ) → ((slice_index text place == 10) || (place + 1 == length text)) ≡ false → ¬ (IsLineStart text (place + 1))
+no_line text place not_end (inl zero) = absurd (not_zero place zero)
+no_line text place not_end (inr (before, same, feed)) = absurd (false≢true (sym (neither _ _ not_end) ∙ eq-eqb _ 10 (ap (slice_index text) (one_before same) ∙ feed)))

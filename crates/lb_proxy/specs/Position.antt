@@ -1,6 +1,6 @@
 -- Where a fault of a configuration is: the part that it names, and the line of the text that makes it.
 use Rattle.std.specs.Prelude.{◌≡◌, ℕ, ◌+◌, ◌-◌, ◌<◌, ◌≤◌, List, [], ◌∷◌, codes, length, take, drop, slice_index, Bool, true, false, ◌==◌, is_some}
-use Rattle.std.specs.Prelude.{◌⊎◌, slice_get, Option, Some, None, Result, Ok, Err, if◌then◌else◌}
+use Rattle.std.specs.Prelude.{◌⊎◌, slice_get, Option, Some, None, option_map, Result, Ok, Err, if◌then◌else◌}
 use Rattle.std.specs.Str.{IsTrimAsciiStart}
 use Rattle.toml.specs.Data.{Data, Members, get_member, as_table}
 use Rattle.toml.specs.Parse.{parse_document}
@@ -61,23 +61,20 @@ shows table said = has_or_misses (part_at (place.Top, table) said.0) said.1 said
 abbrev pub IsLineStart : List ℕ → ℕ → Type 0
 IsLineStart text start = (start ≡ 0) ⊎ ((before : ℕ) × (start ≡ before + 1) × (slice_index text before ≡ 10))
 
--- so many bytes are a document that shows what the fault is about
-abbrev pub ShowsAt : List ℕ → Said → ℕ → Type 0
-ShowsAt text said end = (table : Members) × (parse_document (take end text) ≡ Some table) × (shows table said ≡ true)
+-- whether a text has what the fault is about; `None` where it is no document
+abbrev pub shown_by : List ℕ → Said → Option Bool
+shown_by text said = option_map (λ table. shows table said) (parse_document text)
 
--- the bytes before this place are a document that doesn't show it, or there are none
-abbrev pub IsHiddenAt : List ℕ → Said → ℕ → Type 0
-IsHiddenAt text said start =
-    (start ≡ 0) ⊎ ((table : Members) × (parse_document (take start text) ≡ Some table) × (shows table said ≡ false))
-
--- a statement begins here, at the start of a line: with it the text shows what the fault is about, and without it not
+-- a statement begins here, at the start of a line. What is before it is a document that doesn't show what the fault is about, unless nothing
+-- is. Up to the end of a later line the text is one that shows it, and up to the start of no line between them is it a document.
 pub record BeginsAt (text : List ℕ) (said : Said) (start : ℕ) : Type 0 where
   pub line : IsLineStart text start
-  pub before : IsHiddenAt text said start
+  pub before : (start ≡ 0) ⊎ (shown_by (take start text) said ≡ Some false)
   pub end : ℕ
   pub later : start < end
   pub within : end ≤ length text
-  pub after : ShowsAt text said end
+  pub after : shown_by (take end text) said ≡ Some true
+  pub between : (at : ℕ) → start < at → at < end → IsLineStart text at → shown_by (take at text) said ≡ None
 
 -- the line feeds of a text
 abbrev pub feeds : List ℕ → ℕ

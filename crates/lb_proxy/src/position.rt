@@ -1,13 +1,18 @@
 //! Where in a configuration's text a fault is.
-ghost use Rattle.std.specs.Prelude.{◌≡◌, ◌≤◌, ◌<◌, ◌+◌, ◌==◌, ◌||◌, slice_index, length, IfSome};
+ghost use Rattle.std.specs.Prelude.{◌≡◌, ◌≤◌, ◌<◌, ◌+◌, ◌==◌, ◌||◌, slice_index, length, IfOk, IfSome};
 ghost use Rattle.toml.specs.View.{table_view};
 ghost use Rattle.lb_proxy.specs.Config.{said};
-ghost use Rattle.lb_proxy.specs.Position.{shows, BeginsAt, line_at, IsColumn};
+ghost use Rattle.lb_proxy.specs.Position.{shows, shown_by, BeginsAt, line_at, IsColumn};
 
 use crate::config_fault::{Cause, Fault, Place};
 use crate::section::Section;
 use std::alloc::Global;
+use std::str;
 use toml::Table;
+
+// Why nothing is known of a text's first lines: memory was refused, or they aren't UTF-8.
+#[derive(Clone, Copy)]
+struct Unread;
 
 /// Returns where the line begins that makes a fault, as a place in the text.
 ///
@@ -19,15 +24,29 @@ pub fn position_of(alloc: Global, text: &[u8], fault: &Fault<'_>) -> Option<usiz
     let mut start = 0;
     for place in 0..text.len() {
         if is_end(text, place) {
-            if let Ok(table) = toml::table_from_slice(alloc, &text[..place + 1]) {
-                if is_shown(&table, fault) {
-                    return Some(start);
-                }
-                start = place + 1;
+            match shown(alloc, &text[..place + 1], fault) {
+                Ok(Some(true)) => return Some(start),
+                Ok(Some(false)) => start = place + 1,
+                Ok(None) => {}
+                Err(Unread) => return None,
             }
         }
     }
     None
+}
+
+// Whether the text has what the fault is about; `None` where it is no document.
+fn shown(alloc: Global, text: &[u8], fault: &Fault<'_>) -> Result<Option<bool>, Unread>
+    ensures { IfOk result (λ shown. shown ≡ shown_by text.now (said fault.now)) }
+{
+    let Ok(text) = str::from_utf8(text) else {
+        return Err(Unread);
+    };
+    match toml::table_from_str(alloc, text) {
+        Ok(table) => Ok(Some(is_shown(&table, fault))),
+        Err(error) if error.is_memory() => Err(Unread),
+        Err(_) => Ok(None),
+    }
 }
 
 /// Returns the number of the line at this place of the text; the first line is 1.
