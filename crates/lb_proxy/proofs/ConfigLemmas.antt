@@ -68,10 +68,10 @@ abbrev members_or : Result Part Said → Option Members
 members_or (Ok p) = Some p.1
 members_or (Err e) = None
 
-entry_members : (place : Place) (o : Option Members) → members_or (entry_by place o) ≡ o
-entry_members place None = refl
-entry_members place (Some ms) = refl
+entry_members : (part : Part) (field : List ℕ) (place : Place) (o : Option Members) → members_or (entry_by part field place o) ≡ o
+entry_members part field place None = refl
+entry_members part field place (Some ms) = refl
 
-pub entry_is : {A : Type 0} (Is : Part → A → Type 0) (place : Place) (d : Data) (s : Section) (x : A)
-    → Ok (part_of s) ≡ entry_by place (as_table d) → Is (part_of s) x → EntryIs Is d x
-entry_is Is place d s x h is = (part_of s, sym (entry_members place (as_table d)) ∙ sym (ap members_or h), is)
+pub entry_is : {A : Type 0} (Is : Part → A → Type 0) (part : Part) (field : List ℕ) (place : Place) (d : Data) (s : Section) (x : A)
+    → Ok (part_of s) ≡ entry_by part field place (as_table d) → Is (part_of s) x → EntryIs Is d x
+entry_is Is part field place d s x h is = (part_of s, sym (entry_members part field place (as_table d)) ∙ sym (ap members_or h), is)

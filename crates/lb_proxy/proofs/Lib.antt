@@ -3,4 +3,5 @@ pub mod ConfigLemmas
 pub mod FlowLemmas
 pub mod MetricsLemmas
 pub mod PoolFileLemmas
+pub mod PositionLemmas
 pub mod RelayLemmas

@@ -115,10 +115,10 @@ table_in place (Some d) = placed_by place (as_table d)
 abbrev pub table_at : Part → List ℕ → Place → Result (Option Part) Said
 table_at part field place = blamed part field (table_in place (get_member field part.1))
 
--- the table that a list has as an entry, as a part at that place
-abbrev pub entry_by : Place → Option Members → Result Part Said
-entry_by place None = Err (place, codes "it", cause.NotTable)
-entry_by place (Some ms) = Ok (place, ms)
+-- the table that the list of a field has as an entry, as a part at that place
+abbrev pub entry_by : Part → List ℕ → Place → Option Members → Result Part Said
+entry_by part field place None = Err (part.0, field, cause.NotTables)
+entry_by part field place (Some ms) = Ok (place, ms)
 
 -- the text of the field spells the socket address
 abbrev pub IsAddressOf : Part → List ℕ → SocketAddr → Type 0

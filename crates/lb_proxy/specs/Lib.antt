@@ -3,4 +3,5 @@ pub mod Config
 pub mod Key
 pub mod Metrics
 pub mod PoolFile
+pub mod Position
 pub mod Relay

@@ -200,7 +200,7 @@ fn read_pools<'t>(alloc: Global, top: &Section<'t>) -> Result<Vec<PoolConfig>, F
     let mut pools: Vec<PoolConfig> = Vec::new(alloc);
     let tables = top.list("pool")?;
     for number in 0..tables.len() {
-        let section = top.entry(&tables[number], Place::Pool(number))?;
+        let section = top.entry("pool", &tables[number], Place::Pool(number))?;
         let pool = read_pool(alloc, &section)?;
         if pool_number(pools.as_slice(), pool.name.as_str()).is_some() {
             return Err(section.fault("name", Cause::SameName));
@@ -246,7 +246,8 @@ fn read_backends<'t>(alloc: Global, section: &Section<'t>) -> Result<Vec<Backend
     let mut backends = Vec::new(alloc);
     let values = section.list("backends")?;
     for number in 0..values.len() {
-        let backend = read_backend(alloc, section, &values[number])?;
+        let place = section.place().backend(number);
+        let backend = read_backend(alloc, section, &values[number], place)?;
         match backends.push(backend) {
             Ok(()) => {}
             Err(_) => return Err(section.fault("backends", Cause::OutOfMemory)),
@@ -255,15 +256,16 @@ fn read_backends<'t>(alloc: Global, section: &Section<'t>) -> Result<Vec<Backend
     Ok(backends)
 }
 
-// One backend: its address, or a table of address and weight.
+// One backend: its address, or a table of address and weight, whose faults are at that place.
 fn read_backend<'t>(
     alloc: Global,
     section: &Section<'t>,
     value: &'t Value,
+    place: Place,
 ) -> Result<Backend, Fault<'t>>
     ensures { IfOk result (IsBackend (view value.now)) }
 {
-    let (text, weight) = backend_word(section, value)?;
+    let (text, weight) = backend_word(section, value, place)?;
     match Backend::from_text(alloc, text, weight) {
         Ok(backend) => Ok(backend),
         Err(Refusal::OutOfMemory) => Err(section.fault("backends", Cause::OutOfMemory)),
@@ -272,7 +274,11 @@ fn read_backend<'t>(
 }
 
 // The text of a backend's address, and its weight.
-fn backend_word<'t>(section: &Section<'t>, value: &'t Value) -> Result<(&'t str, usize), Fault<'t>>
+fn backend_word<'t>(
+    section: &Section<'t>,
+    value: &'t Value,
+    place: Place,
+) -> Result<(&'t str, usize), Fault<'t>>
     ensures { IfOk result (λ p. IsWeighed (as_str (view value.now)) (as_table (view value.now)) p.0.now p.1) }
 {
     if let Some(text) = value.as_str() {
@@ -281,7 +287,7 @@ fn backend_word<'t>(section: &Section<'t>, value: &'t Value) -> Result<(&'t str,
     let Some(table) = value.as_table() else {
         return Err(section.fault("backends", Cause::NotBackend));
     };
-    let entry = Section::new(table, section.place());
+    let entry = Section::new(table, place);
     entry.only(&["address", "weight"])?;
     let text = entry.required("address")?;
     let weight = entry.count("weight", 1)?;
@@ -313,7 +319,7 @@ fn read_listens<'t>(
     let mut listens = Vec::new(alloc);
     let tables = top.list("listen")?;
     for number in 0..tables.len() {
-        let section = top.entry(&tables[number], Place::Listen(number))?;
+        let section = top.entry("listen", &tables[number], Place::Listen(number))?;
         let listen = read_listen(&section, pools)?;
         match listens.push(listen) {
             Ok(()) => {}

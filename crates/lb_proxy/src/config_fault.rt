@@ -12,6 +12,18 @@ pub enum Place {
     Limits,
     Pool(usize),
     Listen(usize),
+    /// A backend that is a table.
+    Backend { pool: usize, number: usize },
+}
+
+impl Place {
+    /// Returns the place of a backend with this number, of the pool that is here; elsewhere there is none, and it is here.
+    pub fn backend(self, number: usize) -> Place {
+        match self {
+            Place::Pool(pool) => Place::Backend { pool, number },
+            place => place,
+        }
+    }
 }
 
 impl fmt::Display for Place {
@@ -23,6 +35,10 @@ impl fmt::Display for Place {
             Place::Limits => f.write_str("[limits]"),
             Place::Pool(number) => numbered(f, "[[pool]]", *number),
             Place::Listen(number) => numbered(f, "[[listen]]", *number),
+            Place::Backend { pool, number } => {
+                numbered(f, "[[pool]]", *pool)?;
+                numbered(f, ", backend", *number)
+            }
         }
     }
 }
@@ -50,6 +66,8 @@ pub enum Cause {
     NotTable,
     #[error("is to be a list")]
     NotList,
+    #[error("is to be a list of tables")]
+    NotTables,
     #[error("is to be a time: a number and ms, s, m or h, as \"500ms\"")]
     NotDuration,
     #[error("is to be an address, as \"127.0.0.1:8080\"")]

@@ -9,5 +9,6 @@ pub mod config_fault;
 pub mod key;
 pub mod metrics;
 pub mod pool_file;
+pub mod position;
 pub mod relay;
 pub mod section;

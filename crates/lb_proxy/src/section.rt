@@ -5,6 +5,7 @@ ghost use Rattle.toml.specs.Data.{get_member, as_table};
 ghost use Rattle.toml.specs.View.{table_view, view};
 ghost use Rattle.lb_proxy.specs.Config.{part_of, said, text_of, required_of, number_of, flag_of, list_at, table_at, entry_by};
 ghost use Rattle.lb_proxy.specs.Config.{IsAddressOf, IsNoAddress, natural, units_of};
+ghost use Rattle.lb_proxy.specs.Position.{there, entry_there, part_at};
 
 use crate::config_fault::{Cause, Fault, Place};
 use crate::pool_file::weight_of;
@@ -63,7 +64,7 @@ impl<'t> Section<'t> {
     }
 
     /// Returns whether there is such a field.
-    pub fn has(&self, field: &'static str) -> bool
+    pub fn has(&self, field: &str) -> bool
         ensures { result ≡ is_some (get_member field.now (part_of self.now).1) }
     {
         self.get(field).is_some()
@@ -174,17 +175,59 @@ impl<'t> Section<'t> {
         }
     }
 
-    /// Returns the table that a list has as an entry, as a section at that place.
-    pub fn entry(&self, value: &'t Value, place: Place) -> Result<Section<'t>, Fault<'t>>
-        ensures { result_map_both part_of said result ≡ entry_by place (as_table (view value.now)) }
+    /// Returns the table that the list of a field has as an entry, as a section at that place.
+    pub fn entry(
+        &self,
+        field: &'static str,
+        value: &'t Value,
+        place: Place,
+    ) -> Result<Section<'t>, Fault<'t>>
+        ensures { result_map_both part_of said result ≡ entry_by (part_of self.now) field.now place (as_table (view value.now)) }
     {
         match value.as_table() {
             Some(table) => Ok(Section { table, place }),
-            None => Err(Fault {
-                place,
-                field: "it",
-                cause: Cause::NotTable,
-            }),
+            None => Err(self.fault(field, Cause::NotTables)),
+        }
+    }
+
+    // The table of a field, where it has one, as a section at that place.
+    fn table_there(&self, field: &'static str, place: Place) -> Option<Section<'t>>
+        ensures { option_map part_of result ≡ there (table_at (part_of self.now) field.now place) }
+    {
+        match self.table(field, place) {
+            Ok(part) => part,
+            Err(_) => None,
+        }
+    }
+
+    // The entry of a field's list with this number, where it is a table, as a section at that place.
+    fn entry_there(&self, field: &'static str, number: usize, place: Place) -> Option<Section<'t>>
+        ensures { option_map part_of result ≡ entry_there (part_of self.now) field.now number place }
+    {
+        let Ok(values) = self.list(field) else {
+            return None;
+        };
+        match values.get(number)?.as_table() {
+            Some(table) => Some(Section { table, place }),
+            None => None,
+        }
+    }
+
+    /// Returns the part of a configuration at that place, where this is the whole of it.
+    pub fn part_at(&self, place: Place) -> Option<Section<'t>>
+        ensures { option_map part_of result ≡ part_at (part_of self.now) place }
+    {
+        match place {
+            Place::Top => Some(*self),
+            Place::Check => self.table_there("check", place),
+            Place::Status => self.table_there("status", place),
+            Place::Limits => self.table_there("limits", place),
+            Place::Pool(number) => self.entry_there("pool", number, place),
+            Place::Listen(number) => self.entry_there("listen", number, place),
+            Place::Backend { pool, number } => {
+                let pool = self.entry_there("pool", pool, place)?;
+                pool.entry_there("backends", number, place)
+            }
         }
     }
 

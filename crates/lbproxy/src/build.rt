@@ -1,0 +1,145 @@
+//! Makes what the loops share from a configuration.
+
+use crate::check::ProxyCheck;
+use crate::pool::{Common, Pool, Registry};
+use crate::proxy::{Counts, Listen, Proxy};
+use crate::source::PoolBackends;
+use lb_proxy::config::{CheckConfig, Config, ListenConfig, PoolConfig, Selection};
+use log::Log;
+use mio::net::TcpListener;
+use pingora_load_balancing::health_check::{HealthCheck, keyed_by_identity};
+use pingora_load_balancing::selection::Kind;
+use pingora_load_balancing::{HealthRegistry, Refusal, SelectorRebuildGate};
+use std::alloc::{AllocError, Global};
+use std::net::{Net, TcpStream};
+use std::sync::atomic::AtomicU64;
+use std::sync::{Arc, Wait};
+use std::time::Clock;
+use std::{io, net};
+
+/// Returns a listener for each of the configuration's.
+pub fn bind<N: Net>(
+    net: &N,
+    alloc: Global,
+    listens: &[ListenConfig],
+) -> io::Result<Vec<net::TcpListener>> {
+    let mut listeners = Vec::new(alloc);
+    for listen in listens {
+        let listener = TcpListener::bind(net, listen.address)?;
+        listeners.push(net::TcpListener::from(listener))?;
+    }
+    Ok(listeners)
+}
+
+/// Returns another handle of each of these listeners, for a loop.
+pub fn copies(alloc: Global, listeners: &[net::TcpListener]) -> io::Result<Vec<TcpListener>> {
+    let mut copies = Vec::new(alloc);
+    for listener in listeners {
+        copies.push(TcpListener::from_std(listener.try_clone()?))?;
+    }
+    Ok(copies)
+}
+
+// The kind of selector of a listener.
+fn kind_of(selection: Selection) -> Kind {
+    match selection {
+        Selection::RoundRobin => Kind::RoundRobin,
+        Selection::Fnv => Kind::Fnv,
+        Selection::Ketama => Kind::Ketama,
+        Selection::Least => Kind::Least,
+    }
+}
+
+// The kinds of the listeners on a pool, in order: one for each slot of its group.
+fn kinds_of(
+    alloc: Global,
+    listens: &[ListenConfig],
+    pool: usize,
+) -> Result<Vec<Option<Kind>>, AllocError> {
+    let mut kinds = Vec::new(alloc);
+    for listen in listens {
+        if listen.pool == pool {
+            kinds.push(Some(kind_of(listen.selection)))?;
+        }
+    }
+    Ok(kinds)
+}
+
+// How many of the listeners before this place are on the pool.
+fn count_before(listens: &[ListenConfig], place: usize, pool: usize) -> usize {
+    let earlier = listens.iter().take(place);
+    earlier.filter(|listen| listen.pool == pool).count()
+}
+
+// The listeners with their slots: those on one pool are numbered in order.
+fn slots_of(alloc: Global, listens: &[ListenConfig]) -> Result<Vec<Listen>, AllocError> {
+    let mut numbered = Vec::new(alloc);
+    for (place, listen) in listens.iter().enumerate() {
+        let slot = count_before(listens, place, listen.pool);
+        numbered.push(Listen {
+            config: *listen,
+            slot,
+        })?;
+    }
+    Ok(numbered)
+}
+
+/// Returns the registry of all pools, with the configured check, and their gate.
+pub fn common<R: Wait, N: Net<Stream = TcpStream> + Clock + Copy + Drop>(
+    rt: &R,
+    net: N,
+    alloc: Global,
+    check: &Option<CheckConfig>,
+) -> Result<Common<ProxyCheck<N>>, Refusal> {
+    let registry: Registry<ProxyCheck<N>> = HealthRegistry::over(alloc, keyed_by_identity(alloc))?;
+    if let Some(check) = check {
+        registry.set_health_check(rt, ProxyCheck::new(net, alloc, check)?)?;
+    }
+    Ok(Common {
+        registry: Arc::new(alloc, registry)?,
+        gate: Arc::new(alloc, SelectorRebuildGate::new(alloc)?)?,
+    })
+}
+
+// The pools, each with a slot for each listener on it.
+fn pools_of<R: Log + Wait + Copy + Drop, C: HealthCheck + Drop>(
+    rt: R,
+    alloc: Global,
+    pools: Vec<PoolConfig>,
+    listens: &[ListenConfig],
+    common: &Common<C>,
+) -> Result<Vec<Pool<R, C>>, Refusal> {
+    let mut made = Vec::new(alloc);
+    for PoolConfig { name, source } in pools {
+        let kinds = kinds_of(alloc, listens, made.len())?;
+        let backends = Arc::new(alloc, PoolBackends::new(alloc, source))?;
+        made.push(Pool::new(rt, alloc, name, backends, kinds, common)?)?;
+    }
+    Ok(made)
+}
+
+/// Returns what the loops share.
+pub fn build<R: Log + Wait + Copy + Drop, C: HealthCheck + Drop>(
+    rt: R,
+    alloc: Global,
+    config: Config,
+    common: &Common<C>,
+) -> Result<Proxy<R, C>, Refusal> {
+    let Config {
+        limits,
+        pools,
+        listens,
+        ..
+    } = config;
+    Ok(Proxy {
+        pools: pools_of(rt, alloc, pools, listens.as_slice(), common)?,
+        listens: slots_of(alloc, listens.as_slice())?,
+        limits,
+        counts: Counts {
+            live: AtomicU64::new(0),
+            total: AtomicU64::new(0),
+            unserved: AtomicU64::new(0),
+        },
+        ends: AtomicU64::new(0),
+    })
+}

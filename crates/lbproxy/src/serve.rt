@@ -1,0 +1,207 @@
+//! Starts a proxy and its threads, and ends them in order.
+
+use crate::build::{bind, build};
+use crate::pool::Common;
+use crate::proxy::Proxy;
+use crate::threads::{Service, Thread, start_checks, start_looking, start_loop, start_page};
+use lb_proxy::config::{CheckConfig, Config};
+use log::{Log, error, info};
+use pingora_load_balancing::background::{ShutdownWatch, shutdown_pair};
+use pingora_load_balancing::health_check::HealthCheck;
+use pingora_load_balancing::{HealthCheckService, Refusal};
+use std::alloc::Global;
+use std::io::Read;
+use std::net::{Net, TcpListener, TcpStream};
+use std::rt::Files;
+use std::sync::atomic::Ordering;
+use std::sync::{Arc, Wait};
+use std::thread::Threads;
+use std::time::{Clock, Duration};
+use std::{io, thread};
+
+// How often the first selectors of a pool are looked for, and how long after each look, in milliseconds.
+const LOOKS: usize = 200;
+
+const PAUSE: u64 = 10;
+
+/// Runs the proxy that is configured, over what its pools share. With `until_eof` it ends where standard input does, else it doesn't end.
+pub fn serve<R, N, C>(
+    rt: R,
+    net: &N,
+    common: &Common<C>,
+    config: Config,
+    until_eof: bool,
+) -> Result<(), anyhow::Error>
+where
+    R: Log
+        + Net
+        + Files
+        + Input
+        + Threads
+        + Wait
+        + Clock
+        + AllocGlobal
+        + Copy
+        + Drop
+        + Send
+        + Sync
+        + 'static,
+    R::Stream: Send + Sync + 'static,
+    R::Listener: Send + Sync + 'static,
+    R::File: Send + Sync + 'static,
+    R::Dir: Send + Sync + 'static,
+    N: Net<Listener = TcpListener, Stream = TcpStream>,
+    C: HealthCheck + Drop + Send + Sync + 'static,
+{
+    let alloc = rt.alloc();
+    let listeners = bind(net, alloc, config.listens.as_slice())?;
+    let service = service_of(common, &config.check)?;
+    let page = page_of(net, &config)?;
+    let count = thread_count(&rt, config.limits.threads);
+    let proxy = Arc::new(alloc, build(rt, alloc, config, common)?)?;
+    begin(&rt, alloc, &*proxy);
+    let (mut signal, watch) = shutdown_pair(alloc)?;
+    let helpers = start_helpers(rt, alloc, &proxy, &watch, service, page)?;
+    let loops = start_loops(rt, alloc, &proxy, listeners, count)?;
+    if until_eof {
+        wait_for_end(&rt);
+        info!(rt; "standard input ended: no more connections are taken");
+        proxy.ends.store(1, Ordering::SeqCst);
+    }
+    join_all(&rt, loops);
+    signal.send(true);
+    join_all(&rt, helpers);
+    info!(rt; "ended");
+    Ok(())
+}
+
+// Waits until the threads have ended.
+fn join_all<R: Threads>(rt: &R, threads: Vec<Thread>) {
+    for thread in threads {
+        thread.join(rt);
+    }
+}
+
+// Reads standard input to its end.
+fn wait_for_end<R: Input>(rt: &R) {
+    let mut reader = rt.reader();
+    let mut buffer = [0u8; 1024];
+    for _ in 0..u64::MAX {
+        match reader.read(&mut buffer) {
+            Ok(0) | Err(_) => return,
+            Ok(_) => {}
+        }
+    }
+}
+
+// How many loops run: as many as processors, unless the configuration says otherwise.
+fn thread_count<R: Threads>(rt: &R, configured: u64) -> u64 {
+    if configured > 0 {
+        return configured;
+    }
+    match thread::available_parallelism(rt) {
+        Ok(count) => count.get() as u64,
+        Err(_) => 1,
+    }
+}
+
+// The service that checks the backends of all pools, where a check is configured.
+fn service_of<C: HealthCheck + Drop + Send + Sync>(
+    common: &Common<C>,
+    check: &Option<CheckConfig>,
+) -> Result<Option<Service<C>>, Refusal> {
+    let Some(check) = check else {
+        return Ok(None);
+    };
+    let mut service = HealthCheckService::new(Arc::try_clone(&common.registry)?);
+    service.health_check_frequency = Some(u128::from(check.every));
+    service.parallel_health_check = check.parallel;
+    Ok(Some(service))
+}
+
+// The listener of the status page, where one is configured.
+fn page_of<N: Net<Listener = TcpListener, Stream = TcpStream>>(
+    net: &N,
+    config: &Config,
+) -> io::Result<Option<TcpListener>> {
+    let Some(address) = config.status else {
+        return Ok(None);
+    };
+    let page = TcpListener::bind(net, address)?;
+    page.set_nonblocking(true)?;
+    Ok(Some(page))
+}
+
+// Starts the workers of all pools, and waits for their first selectors.
+fn begin<R, C>(rt: &R, alloc: Global, proxy: &Proxy<R, C>)
+where
+    R: Log + Files + Threads + Wait + Clock + AllocGlobal + Copy + Drop + Send + Sync + 'static,
+    C: HealthCheck + Drop + Send + Sync + 'static,
+{
+    for pool in proxy.pools.iter() {
+        let name = pool.name.as_str();
+        if pool.start(rt, alloc) > 0 {
+            error!(rt; "pool {name}: a worker couldn't be started");
+        }
+        pool.backends.look(rt, alloc);
+        pool.update(rt, alloc);
+        for _ in 0..LOOKS {
+            if pool
+                .group
+                .selectors_ready_for(rt, pool.group.backend_generation(rt))
+            {
+                break;
+            }
+            thread::sleep(rt, Duration::from_millis(PAUSE));
+        }
+    }
+}
+
+// Starts the threads that check, read files and answer at the status page.
+fn start_helpers<R, C>(
+    rt: R,
+    alloc: Global,
+    proxy: &Arc<Proxy<R, C>>,
+    watch: &ShutdownWatch,
+    service: Option<Service<C>>,
+    page: Option<TcpListener>,
+) -> Result<Vec<Thread>, anyhow::Error>
+where
+    R: Log + Files + Threads + Wait + Clock + AllocGlobal + Copy + Drop + Send + Sync + 'static,
+    R::File: Send + Sync + 'static,
+    R::Dir: Send + Sync + 'static,
+    C: HealthCheck + Drop + Send + Sync + 'static,
+{
+    let mut threads = Vec::new(alloc);
+    if let Some(service) = service {
+        threads.push(start_checks(rt, alloc, service, watch.try_clone()?)?)?;
+    }
+    if let Some(page) = page {
+        let shared = Arc::try_clone(proxy)?;
+        threads.push(start_page(rt, alloc, shared, watch.try_clone()?, page)?)?;
+    }
+    let shared = Arc::try_clone(proxy)?;
+    threads.push(start_looking(rt, alloc, shared, watch.try_clone()?)?)?;
+    Ok(threads)
+}
+
+// Starts so many loops.
+fn start_loops<R, C>(
+    rt: R,
+    alloc: Global,
+    proxy: &Arc<Proxy<R, C>>,
+    listeners: Vec<TcpListener>,
+    count: u64,
+) -> Result<Vec<Thread>, anyhow::Error>
+where
+    R: Log + Net + Threads + Wait + Clock + Copy + Drop + Send + Sync + 'static,
+    R::Stream: Send + Sync + 'static,
+    R::Listener: Send + Sync + 'static,
+    C: HealthCheck + Drop + Send + Sync + 'static,
+{
+    let mut threads = Vec::new(alloc);
+    for _ in 0..count {
+        threads.push(start_loop(rt, alloc, proxy, listeners.as_slice())?)?;
+    }
+    Ok(threads)
+}

@@ -1,0 +1,141 @@
+//! What a proxy is doing, as values that the status page shows.
+
+use crate::pool::{Pool, Traffic};
+use crate::proxy::Proxy;
+use log::Log;
+use pingora_load_balancing::health_check::HealthCheck;
+use pingora_load_balancing::{Backend, Refusal};
+use serde::Serialize;
+use std::alloc::Global;
+use std::sync::Wait;
+use std::sync::atomic::Ordering;
+
+/// A backend, and what it has carried.
+#[derive(Drop, Serialize)]
+pub struct ShownBackend {
+    pub address: String,
+    pub ready: bool,
+    pub live: u64,
+    pub total: u64,
+    pub refused: u64,
+    pub sent: u64,
+    pub received: u64,
+}
+
+/// What a slot of a pool serves.
+#[derive(Clone, Copy, Serialize)]
+pub struct ShownSlot {
+    pub generation: u64,
+    pub failed: u64,
+}
+
+/// A pool. `fault` says what is wrong with its file.
+#[derive(Drop, Serialize)]
+pub struct ShownPool {
+    pub name: String,
+    pub generation: u64,
+    pub fault: String,
+    pub slots: Vec<ShownSlot>,
+    pub backends: Vec<ShownBackend>,
+}
+
+/// A proxy.
+#[derive(Drop, Serialize)]
+pub struct Shown {
+    pub live: u64,
+    pub total: u64,
+    pub unserved: u64,
+    pub pools: Vec<ShownPool>,
+}
+
+impl Shown {
+    /// Returns whether a pool has a ready backend.
+    pub fn is_ready(&self) -> bool {
+        self.pools
+            .iter()
+            .any(|pool| pool.backends.iter().any(|backend| backend.ready))
+    }
+}
+
+/// Returns what the proxy is doing now.
+pub fn shown_of<R: Log + Wait + Copy + Drop, C: HealthCheck + Drop>(
+    rt: &R,
+    alloc: Global,
+    proxy: &Proxy<R, C>,
+) -> Result<Shown, Refusal> {
+    let mut pools = Vec::new(alloc);
+    for pool in proxy.pools.iter() {
+        pools.push(shown_pool(rt, alloc, pool)?)?;
+    }
+    Ok(Shown {
+        live: proxy.counts.live.load(Ordering::SeqCst),
+        total: proxy.counts.total.load(Ordering::SeqCst),
+        unserved: proxy.counts.unserved.load(Ordering::SeqCst),
+        pools,
+    })
+}
+
+// What a pool is doing.
+fn shown_pool<R: Log + Wait + Copy + Drop, C: HealthCheck + Drop>(
+    rt: &R,
+    alloc: Global,
+    pool: &Pool<R, C>,
+) -> Result<ShownPool, Refusal> {
+    Ok(ShownPool {
+        name: pool.name.clone()?,
+        generation: pool.group.backend_generation(rt),
+        fault: pool.backends.fault(rt)?,
+        slots: shown_slots(rt, alloc, pool)?,
+        backends: shown_backends(rt, alloc, pool)?,
+    })
+}
+
+// What the slots of a pool serve.
+fn shown_slots<R: Log + Wait + Copy + Drop, C: HealthCheck + Drop>(
+    rt: &R,
+    alloc: Global,
+    pool: &Pool<R, C>,
+) -> Result<Vec<ShownSlot>, Refusal> {
+    let mut slots = Vec::new(alloc);
+    for slot in 0..pool.group.selector_count() {
+        slots.push(ShownSlot {
+            generation: pool.group.selector_generation(rt, slot).unwrap_or(0),
+            failed: pool.group.selector_failed_rebuilds(rt, slot).unwrap_or(0),
+        })?;
+    }
+    Ok(slots)
+}
+
+// The backends of a pool, in order.
+fn shown_backends<R: Log + Wait + Copy + Drop, C: HealthCheck + Drop>(
+    rt: &R,
+    alloc: Global,
+    pool: &Pool<R, C>,
+) -> Result<Vec<ShownBackend>, Refusal> {
+    let members = pool.group.backends().get_backend(rt)?;
+    let mut backends = Vec::new(alloc);
+    for backend in members.iter() {
+        let ready = pool.group.backends().ready(rt, backend);
+        let traffic = pool.traffic_of(rt, backend);
+        backends.push(shown_backend(alloc, backend, ready, traffic)?)?;
+    }
+    Ok(backends)
+}
+
+// A backend, and what it has carried.
+fn shown_backend(
+    alloc: Global,
+    backend: &Backend,
+    ready: bool,
+    traffic: Traffic,
+) -> Result<ShownBackend, Refusal> {
+    Ok(ShownBackend {
+        address: format!(in alloc; "{backend}")?,
+        ready,
+        live: traffic.live,
+        total: traffic.total,
+        refused: traffic.refused,
+        sent: traffic.sent,
+        received: traffic.received,
+    })
+}
