@@ -1,5 +1,6 @@
 -- Lines of a text.
-use Rattle.std.proofs.Common.{Bool, true, false, Some, None, option_map, ◌||◌, ◌≡◌, ◌⊎◌, ℕ, ◌+◌, ◌<◌, ◌≤◌, ◌==◌, List, [], ◌∷◌, ◌++◌, length, take}
+use Rattle.std.proofs.Common.{Bool, true, false, Some, None, option_map, ◌||◌, ◌≡◌, ◌⊎◌, ℕ, ◌+◌, ◌<◌, ◌≤◌, ◌==◌, List, [], ◌∷◌, ◌++◌}
+use Rattle.std.proofs.Common.{length, take}
 use Rattle.std.proofs.Common.{slice_index, if◌then◌else◌, refl, ap, sym, ◌∙◌, inl, inr, arith}
 use Rattle.std.proofs.lemmas.Bool.{eqb-true, eq-eqb, ne_eqb, false≢true}
 use Rattle.std.proofs.lemmas.List.{take_more}
@@ -40,8 +41,8 @@ ends text place true is_last f l is lt = inr (place, refl, eqb-true _ _ (sym f))
 ends text place false true f l is lt = absurd (not_less (eqb-true _ _ (sym l)) lt)
 ends text place false false f l is lt = absurd (false≢true is)
 
-pub start_after : (text : List ℕ) (place : ℕ) → ((slice_index text place == 10) || (place + 1 == length text)) ≡ true → place + 1 < length text
-    → IsLineStart text (place + 1)
+pub start_after : (text : List ℕ) (place : ℕ) → ((slice_index text place == 10) || (place + 1 == length text)) ≡ true
+    → place + 1 < length text → IsLineStart text (place + 1)
 start_after text place is lt = ends text place _ _ refl refl is lt
 
 -- a byte more
@@ -86,6 +87,8 @@ pub none_between : (text : List ℕ) (said : Said) (start : ℕ) (at : ℕ) → 
 none_between text said start at later le line = absurd (not_both later le)
 
 -- no line begins after a byte that ends none
-pub no_line : (text : List ℕ) (place : ℕ) → ((slice_index text place == 10) || (place + 1 == length text)) ≡ false → ¬ (IsLineStart text (place + 1))
+pub no_line : (text : List ℕ) (place : ℕ) → ((slice_index text place == 10) || (place + 1 == length text)) ≡ false
+    → ¬ (IsLineStart text (place + 1))
 no_line text place not_end (inl zero) = absurd (not_zero place zero)
-no_line text place not_end (inr (before, same, feed)) = absurd (false≢true (sym (neither _ _ not_end) ∙ eq-eqb _ 10 (ap (slice_index text) (one_before same) ∙ feed)))
+no_line text place not_end (inr (before, same, feed)) =
+    absurd (false≢true (sym (neither _ _ not_end) ∙ eq-eqb _ 10 (ap (slice_index text) (one_before same) ∙ feed)))

@@ -1,6 +1,6 @@
 -- Where a fault of a configuration is: the part that it names, and the line of the text that makes it.
-use Rattle.std.specs.Prelude.{◌≡◌, ℕ, ◌+◌, ◌-◌, ◌<◌, ◌≤◌, List, [], ◌∷◌, codes, length, take, drop, slice_index, Bool, true, false, ◌==◌, is_some}
-use Rattle.std.specs.Prelude.{◌⊎◌, slice_get, Option, Some, None, option_map, Result, Ok, Err, if◌then◌else◌}
+use Rattle.std.specs.Prelude.{◌≡◌, ℕ, ◌+◌, ◌-◌, ◌<◌, ◌≤◌, List, [], ◌∷◌, codes, length, take, drop, slice_index, Bool, true, false}
+use Rattle.std.specs.Prelude.{◌==◌, is_some, ◌⊎◌, slice_get, Option, Some, None, option_map, Result, Ok, Err, if◌then◌else◌}
 use Rattle.std.specs.Str.{IsTrimAsciiStart}
 use Rattle.toml.specs.Data.{Data, Members, get_member, as_table}
 use Rattle.toml.specs.Parse.{parse_document}
@@ -65,8 +65,8 @@ IsLineStart text start = (start ≡ 0) ⊎ ((before : ℕ) × (start ≡ before 
 abbrev pub shown_by : List ℕ → Said → Option Bool
 shown_by text said = option_map (λ table. shows table said) (parse_document text)
 
--- a statement begins here, at the start of a line. What is before it is a document that doesn't show what the fault is about, unless nothing
--- is. Up to the end of a later line the text is one that shows it, and up to the start of no line between them is it a document.
+-- a statement begins here, at the start of a line. What is before it is a document that doesn't show what the fault is about, unless
+-- nothing is. Up to the end of a later line the text is one that shows it, and up to the start of no line between them is it a document.
 pub record BeginsAt (text : List ℕ) (said : Said) (start : ℕ) : Type 0 where
   pub line : IsLineStart text start
   pub before : (start ≡ 0) ⊎ (shown_by (take start text) said ≡ Some false)
