@@ -105,10 +105,10 @@ pub struct Site {
 }
 
 // The configuration of a slot whose selectors are counted.
-fn slot<W, S: BackendSelection>(
+fn slot<W: Drop, C: Drop>(
     counts: &Arc<Counts<W>>,
-    config: S::Config,
-) -> Result<Option<Counting<W, S>>, Refusal> {
+    config: C,
+) -> Result<Option<Counting<W, C>>, Refusal> {
     Ok(Some(Counting {
         config,
         counts: Some(Arc::try_clone(counts)?),

@@ -46,13 +46,13 @@ impl<W> Counts<W> {
 
 /// What a counted selector is built with, and where it is counted; `None` counts nothing. Contracts see what it is built with.
 #[derive(Drop)]
-pub struct Counting<W, S: BackendSelection = RoundRobin> {
-    pub config: S::Config,
+pub struct Counting<W, C = ()> {
+    pub config: C,
     pub counts: Option<Arc<Counts<W>>>,
 }
 
-impl<W, S: BackendSelection> Model for Counting<W, S> {
-    ghost Value = { S.Config };
+impl<W, C> Model for Counting<W, C> {
+    ghost Value = { C };
 
     ghost view = { λ c. c.config };
 }
@@ -91,7 +91,7 @@ fn begin<W: Clock>(counts: &Counts<W>) {
 impl<W: Clock + Drop, S: BackendSelection> BackendSelection for Counted<W, S> {
     type Iter = S::Iter;
 
-    type Config = Counting<W, S>;
+    type Config = Counting<W, S::Config>;
 
     type Walk = S::Walk;
 
@@ -133,7 +133,7 @@ impl<W: Clock + Drop, S: BackendSelection> BackendSelection for Counted<W, S> {
     fn build_with_config(
         alloc: Global,
         backends: &BTreeSet<Backend>,
-        counting: &Counting<W, S>,
+        counting: &Counting<W, S::Config>,
     ) -> Result<Counted<W, S>, Refusal> {
         let selector = S::build_with_config(alloc, backends, &counting.config)?;
         let selector = Arc::new(alloc, selector)?;
