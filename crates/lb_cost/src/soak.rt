@@ -34,8 +34,8 @@ const IDLE: u64 = 10;
 
 const IDLE_TICKS: u64 = 10;
 
-// How much more may be resident than after a minute, in KiB, or a twentieth where that is more: the C library's allocator comes to touch what
-// it has reserved only in the course of minutes.
+// How much more may be resident than after a minute, in KiB, or a twentieth where that is more: the C library's allocator comes to touch
+// what it has reserved only in the course of minutes.
 const SLACK: u64 = 1024;
 
 // What went wrong.

@@ -101,7 +101,8 @@ fn reads<S: BackendSelection, D: ServiceDiscovery + Drop, R: KeyRule + Drop, C: 
     read.note(slot, newest, served)
 }
 
-// Selects by a reader of a slot, which stays for some milliseconds or doesn't. Returns whether what was found is of the reader's generation.
+// Selects by a reader of a slot, which stays for some milliseconds or doesn't. Returns whether what was found is of the reader's
+// generation.
 fn by_reader<
     S: BackendSelection,
     D: ServiceDiscovery + Drop,

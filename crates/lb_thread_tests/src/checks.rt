@@ -210,8 +210,8 @@ fn passed_meanwhile<R: Abort + Log + Threads + Wait + Clock + Copy + Send + Sync
     (is_done, seen.checks.load(SeqCst), targets, healthy)
 }
 
-// The verdicts of backends that were removed while they were checked go nowhere, that of the one that stays reaches its cell; those that come
-// back have new cells.
+// The verdicts of backends that were removed while they were checked go nowhere, that of the one that stays reaches its cell; those that
+// come back have new cells.
 #[test]
 fn removed_while_checked(rt: HostRuntime) {
     let alloc = rt.alloc();

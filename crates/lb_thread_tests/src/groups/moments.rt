@@ -44,8 +44,8 @@ enum Done {
 
 const LAST: u128 = u128::MAX;
 
-// At the last moment a build that failed is due again at that moment, since none comes later. The clock goes back then: a newer generation is
-// due at once, whatever the moment, and a build that fails is due ten milliseconds after its own moment.
+// At the last moment a build that failed is due again at that moment, since none comes later. The clock goes back then: a newer generation
+// is due at once, whatever the moment, and a build that fails is due ten milliseconds after its own moment.
 const ROWS: [(u128, Done); 14] = [
     (LAST, Done::Updated(1, 1)),
     (LAST, Done::Took(Turn::Published(1))),

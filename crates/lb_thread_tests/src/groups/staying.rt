@@ -1,5 +1,5 @@
-//! Readers that stay in what their slot retired, by calls: they hold up each rebuild on their gate, also in a cancelled group, and what they
-//! are in is destroyed once they have left.
+//! Readers that stay in what their slot retired, by calls: they hold up each rebuild on their gate, also in a cancelled group, and what
+//! they are in is destroyed once they have left.
 use crate::groups::turns::{turn, update};
 use lb_balancer_core::port::{GroupPort, TakesBack};
 use lb_balancer_core::turn::Turn;
