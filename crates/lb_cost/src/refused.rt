@@ -8,14 +8,12 @@ use lb_health_view::view::Settings;
 use lb_select_base::backend::Backend;
 use lb_select_base::moments::MomentSource;
 use lb_select_base::refusal::Refusal;
-use log::Log;
 use std::alloc::Global;
 use std::collections::BTreeSet;
 use std::io;
 use std::sync::atomic::AtomicBool;
 use std::sync::atomic::Ordering::SeqCst;
 use std::sync::{Arc, Wait};
-use std::thread::Threads;
 
 /// Backends by address and weight.
 pub type Members = &'static [(&'static str, usize)];
@@ -89,8 +87,6 @@ pub enum Call {
     /// Answers how many targets there are, by their count or by their list.
     Targets,
     List,
-    /// Checks each target once, and finds it up.
-    Check,
     /// Disables the last backend of the first list. Answers how many of that list are ready then.
     Disable,
 }
@@ -163,7 +159,6 @@ const REGISTRY: &[Row] = &[
     (Call::Register, 2),
     (Call::Members(2, OTHER), 0),
     (Call::List, 4),
-    (Call::Check, 0),
     (Call::Members(1, OTHER), 0),
     (Call::Targets, 3),
 ];
@@ -277,7 +272,7 @@ where
 }
 
 // Reports the calls of each subject. Returns whether all agree.
-fn all_agree<W: Log + Threads + Wait + Print + Copy + Sync + Drop>(
+fn all_agree<W: Wait + Print + Copy + Drop>(
     rt: &W,
     alloc: Global,
 ) -> io::Result<bool> {
@@ -293,7 +288,7 @@ fn all_agree<W: Log + Threads + Wait + Print + Copy + Sync + Drop>(
 /// # Errors
 ///
 /// `Differs` where one isn't as it should be.
-pub fn run<W: Log + Threads + Wait + Print + Copy + Sync + Drop>(
+pub fn run<W: Wait + Print + Copy + Drop>(
     rt: &W,
     alloc: Global,
 ) -> Result<(), Error> {

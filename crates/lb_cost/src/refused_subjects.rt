@@ -17,12 +17,10 @@ use lb_threads_registry::gate::SelectorRebuildGate;
 use lb_threads_registry::keyed::NoRule;
 use lb_threads_registry::registry::HealthRegistry;
 use lb_threads_view::view::BackendView;
-use log::Log;
 use std::alloc::Global;
 use std::sync::atomic::Ordering::SeqCst;
 use std::sync::atomic::{AtomicBool, AtomicU64};
 use std::sync::{Arc, Wait};
-use std::thread::Threads;
 
 // How many cells the calls give, or more.
 const CELLS: u64 = 8;
@@ -63,12 +61,10 @@ impl<W: Wait> Site<W> {
     where
         W: Drop,
     {
-        let registry = HealthRegistry::new(alloc)?;
-        registry.set_health_check(&rt, NoCheck {})?;
         Ok(Site {
             rt,
             alloc,
-            registry: Arc::new(alloc, registry)?,
+            registry: Arc::new(alloc, HealthRegistry::new(alloc)?)?,
             other: Arc::new(alloc, AtomicBool::new(false))?,
             moment: AtomicU64::new(0),
         })
@@ -173,7 +169,7 @@ fn made_in<W: Wait, T: Made>(site: &Site<W>) -> (Option<T>, Course) {
     }
 }
 
-impl<W: Log + Threads + Wait + Sync> Subject for Calls<W, Alone> {
+impl<W: Wait> Subject for Calls<W, Alone> {
     fn seen(&self) -> Option<Seen> {
         let mut ready: u64 = 0;
         for cell in 0..CELLS {
@@ -208,10 +204,6 @@ impl<W: Log + Threads + Wait + Sync> Subject for Calls<W, Alone> {
             }
             Call::Targets => Ok(registry.target_count(rt, alloc)? as u64),
             Call::List => Ok(registry.targets(rt, alloc)?.len() as u64),
-            Call::Check => {
-                registry.run_health_check(rt, alloc, false)?;
-                Ok(0)
-            }
             _ => Err(Refusal::NoSuch),
         }
     }
