@@ -298,14 +298,11 @@ def ketama_chooses_as_lbsim_does():
     sources = [f"127.0.{third}.{last}" for third in (1, 2) for last in range(27, 127) if last != 32] + ["127.0.3.65", "127.0.3.66"]
     backends = f"{A.address}/1 {B.address}/3 {C.address}/1"
     lines = ["registry identity", "gate", "group 0 0 ketama 1", f"update 0 0 {backends}", "ask 0 0 0", "build 0 0 0", "publish 0 0"]
-    script = os.path.join(ROOM, "ketama.script")
-    with open(script, "wb") as file:
-        file.write("\n".join(lines).encode() + b"\n")
-        for source in sources:
-            file.write(b"select 0 0 " + socket.inet_aton(source) + b" 256\n")
-    said = subprocess.run([LBSIM, script], capture_output=True, timeout=600, check=True).stdout.decode().splitlines()
+    lines += ["select 0 0 " + socket.inet_aton(source).decode() + " 256" for source in sources]
+    script = "".join(line + "\n" for line in lines).encode()
+    said = subprocess.run([LBSIM], input=script, capture_output=True, timeout=600, check=True).stdout.decode().splitlines()
     names = {f"backend {backend.address}/{weight}": backend.name for backend, weight in ((A, 1), (B, 3), (C, 1))}
-    wanted = [names[line] for line in said[len(lines):]]
+    wanted = [names[line] for line in said[-len(sources):]]
     expect(len(wanted) == 200 and set(wanted) == {"a", "b", "c"}, said[:9])
     expect([named(KETAMA, source) for source in sources] == wanted, "another backend was chosen")
 

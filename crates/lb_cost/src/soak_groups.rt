@@ -47,7 +47,7 @@ pub struct Generations {
 
 /// Returns a backend of a generation, by its place below `MEMBERS`.
 pub fn member_of(alloc: Global, generation: u64, place: u32) -> Backend {
-    let number = (generation as u32)
+    let number = ((generation % (1 << 32)) as u32)
         .wrapping_mul(MEMBERS)
         .wrapping_add(place);
     member(alloc, 10, number, place.wrapping_add(1) as usize)
