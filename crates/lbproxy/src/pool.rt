@@ -43,7 +43,7 @@ pub type TrafficTable = BTreeMap<Backend, Traffic>;
 #[derive(Drop)]
 pub struct Pool<R: Log + Wait + Drop, C: HealthCheck + Drop> {
     pub name: String,
-    pub group: Group<R, C>,
+    pub group: Arc<Group<R, C>>,
     pub backends: Arc<PoolBackends>,
     pub traffic: Mutex<TrafficTable>,
     // Whether a slot goes by loads.
@@ -74,7 +74,7 @@ impl<R: Log + Wait + Copy + Drop, C: HealthCheck + Drop> Pool<R, C> {
         let by_load = has_least(kinds.as_slice());
         Ok(Pool {
             name,
-            group: group_of(&rt, alloc, discovery, kinds, common)?,
+            group: Arc::new(alloc, group_of(&rt, alloc, discovery, kinds, common)?)?,
             backends,
             traffic: Mutex::new(BTreeMap::new(alloc)),
             by_load,
@@ -206,7 +206,9 @@ impl<
     pub fn start(&self, rt: &R, alloc: Global) -> usize {
         start_workers(rt, alloc, self.group.shared(), RuntimeClock::new(*rt))
     }
+}
 
+impl<R: Log + Wait + Clock + Copy + Drop, C: HealthCheck + Drop> Pool<R, C> {
     /// Discovers the backends, and has the workers build.
     pub fn update(&self, rt: &R, alloc: Global) {
         let name = self.name.as_str();

@@ -98,8 +98,8 @@ where
 // Updates the pools whose files say something new.
 fn look<R, C>(rt: &R, alloc: Global, proxy: &Proxy<R, C>)
 where
-    R: Log + Files + Threads + Wait + Clock + AllocGlobal + Copy + Drop + Send + Sync + 'static,
-    C: HealthCheck + Drop + Send + Sync + 'static,
+    R: Log + Files + Wait + Clock + AllocGlobal + Copy + Drop,
+    C: HealthCheck + Drop,
 {
     for pool in proxy.pools.iter() {
         if pool.backends.look(rt, alloc) {
