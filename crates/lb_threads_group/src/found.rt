@@ -21,10 +21,14 @@ use lb_threads_registry::lock::KeyedLock;
 use lb_threads_registry::registry::HealthRegistry;
 use lb_threads_registry::rule::LockRule;
 use std::alloc::Global;
-use std::collections::BTreeSet;
+use std::collections::HashSet;
 use std::mem::replace;
 use std::sync::atomic::Ordering::SeqCst;
 use std::sync::{Arc, Wait};
+
+// How many members there are at most where it is found of all of them at once which are ready. Of more, each candidate is asked for under
+// the locks, since a request that looks at so many would hold up updates and checks.
+const MOST_FOUND: usize = 512;
 
 /// How often what is ready may have changed.
 #[derive(Clone, Copy, PartialEq, Eq)]
@@ -38,7 +42,7 @@ pub struct Version {
 pub struct Found {
     pub(crate) generation: u64,
     pub(crate) version: Version,
-    pub(crate) ready: BTreeSet<Backend>,
+    pub(crate) ready: HashSet<Backend>,
 }
 
 /// What was found is so for each reader of its generation, at some state of group and registry.
@@ -149,8 +153,8 @@ impl<S: BackendSelection, R: KeyRule + Drop, C: HealthCheck + Drop> SharedGroup<
         .ok()
     }
 
-    // The newest backends that are ready for a reader. Where memory is refused there are none here.
-    fn ready_for<W: Wait>(&self, rt: &W, alloc: Global, reader: &Reader<S>) -> BTreeSet<Backend>
+    // The newest backends that are ready for a reader, as `ready_among` finds them.
+    fn ready_for<W: Wait>(&self, rt: &W, alloc: Global, reader: &Reader<S>) -> HashSet<Backend>
         requires { reader.now.group ≡ self.now.core.group.id }
         ensures { Each (λ b. ReadyUnder R.gives self.now reader.now b true) result.keys }
     {
@@ -198,24 +202,30 @@ fn shared(found: &Option<Arc<Found>>) -> Option<Arc<Found>>
     }
 }
 
-// The newest backends that are ready for a reader, or none where memory is refused.
+// The newest backends that are ready for a reader: none where there are too many members, and some are left out where memory is refused.
 fn ready_among<S: BackendSelection, R: KeyRule + Drop>(
     alloc: Global,
     core: &GroupCore<S>,
     registry: &Registry<R>,
     reader: &Reader<S>,
-) -> BTreeSet<Backend>
+) -> HashSet<Backend>
     requires { reader.now.group ≡ core.now.group.id }
     ensures { Each (λ b. IsReadyFor R.gives core.now registry.now reader.now b true) result.keys }
 {
-    let Ok(mut ready) = core.members().clone() else {
-        return BTreeSet::new(alloc);
-    };
-    ready.retain(
-        |backend: &Backend| -> bool
-            requires { reader.now.group ≡ core.now.group.id }
-            ensures { IsReadyFor R.gives core.entry.now registry.entry.now reader.entry.now backend.now result }
-        { core.ready(reader, registry, backend) },
-    );
+    let mut ready = HashSet::new(alloc);
+    if core.members().len() > MOST_FOUND {
+        return ready;
+    }
+    for backend in core.members() {
+        if !core.ready(reader, registry, backend) {
+            continue;
+        }
+        let Ok(copy) = backend.copied(alloc) else {
+            return ready;
+        };
+        if ready.insert(copy).is_err() {
+            return ready;
+        }
+    }
     ready
 }

@@ -34,8 +34,8 @@ use std::sync::atomic::Ordering::SeqCst;
 use std::sync::atomic::{AtomicBool, AtomicU64};
 use std::sync::{Arc, Mutex, Wait};
 
-// The number of lanes of a slot: as many as threads that select at once may want, a power of two.
-const LANES: usize = 64;
+// The number of lanes of a slot, a power of two: some more than the threads that select at once.
+const LANES: usize = 16;
 
 /// The group under the lock is the one that the lock was made with, on the same board: its identity, its gate and its configurations
 /// stay.
