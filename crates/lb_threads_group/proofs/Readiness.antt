@@ -1,15 +1,15 @@
--- Readiness goes by identity, and what a filter by readiness leaves is ready.
+-- Readiness goes by identity, and what is judged at one state stays so of a set.
 use Rattle.std.proofs.Common.{◌≡◌, ◌∙◌, ℕ, Bool, true, false, List, [], ◌∷◌, Option, Some, None, length, refl, sym, ap, subst, arith}
-use Rattle.std.specs.Prelude.{◌&&◌, if◌then◌else◌, IfSome}
+use Rattle.std.specs.Prelude.{◌&&◌, if◌then◌else◌, IfSome, MatchBool}
 use Rattle.std.specs.Arc.{arc_value}
 use Rattle.std.specs.declared.sync.Arc.{Arc}
-use Rattle.std.specs.Borrow.{Bor}
-use Rattle.std.specs.Fn.{Mut, CalledAt}
-use Rattle.std.specs.List.{list_any, items_where_true, AllByRecursion as Each}
-use Rattle.std.specs.List.Retain.{IsFiltered, ReturnsInTurn}
+use Rattle.std.specs.List.{list_any, AllByRecursion as Each}
+use Rattle.std.specs.List.Sorted.{IsPermutation}
 use Rattle.std.specs.Option.{IsSomeAnd}
 use Rattle.std.specs.HashMap.Eq.{lookup_congr}
 use Rattle.std.proofs.lemmas.Bool.{false≢true}
+use Rattle.std.proofs.lemmas.List.Elements.{All-from_recursion, recursion_from_All}
+use Rattle.std.proofs.lemmas.List.Sorted.{All-permutation}
 use Rattle.std.proofs.lemmas.Map.Steps.{list_any_congr}
 use Rattle.lb_select_base.specs.Backends.{Member, same_member}
 use Rattle.lb_select_base.proofs.Turns.{same_equiv}
@@ -57,53 +57,45 @@ module _ (b m : Member) (same : same_member b m ≡ true) where
     ready-same g is =
         some-more (snapshot_at g (snapshots_after views)) (IsReadyIn key_of views events m) (IsReadyIn key_of views events b) ready-in is
 
-  module _ {C R : Type 0} (gives : R → Member → Member → Type 0) where
-    ready-for : (v : GroupValue C) (x : RegistryValue R) (r : ReaderValue C) → IsReadyFor gives v x r m true → IsReadyFor gives v x r b true
-    ready-for v x r is key_of events after made e stands =
-        let told = is key_of events after made e stands in
-        ((λ t. ready-same key_of (views_of made e) events r.generation (told.0 refl)), (λ ready. refl))
+module _ (b m : Member) (same : same_member b m ≡ true) {C R : Type 0} (gives : R → Member → Member → Type 0) (a : Bool) where
+  judged-for : (v : GroupValue C) (x : RegistryValue R) (r : ReaderValue C) → IsReadyFor gives v x r m a → IsReadyFor gives v x r b a
+  judged-for v x r is key_of events after made e stands =
+      let told = is key_of events after made e stands in
+      let views = views_of made e in (
+        (λ t. ready-same b m same key_of views events r.generation (told.0 t)),
+        (λ ready. told.1 (ready-same m b (same_equiv.symm m b ∙ same) key_of views events r.generation ready)),
+      )
 
-    -- where a member is ready, so is a backend of its identity
-    pub ready-under : (site : SharedValue C R) (r : ReaderValue C) → ReadyUnder gives site r m true → ReadyUnder gives site r b true
-    ready-under site r (v, (x, (state, (of, is)))) = (v, (x, (state, (of, ready-for v x r is))))
+  -- as a member is judged, so is a backend of its identity
+  pub judged-under : (site : SharedValue C R) (r : ReaderValue C) → ReadyUnder gives site r m a → ReadyUnder gives site r b a
+  judged-under site r (v, (x, (state, (of, is)))) = (v, (x, (state, (of, judged-for v x r is))))
 
-module _ {C R : Type 0} (gives : R → Member → Member → Type 0) (site : SharedValue C R) (r : ReaderValue C) (b : Member) where
-  here : (m : Member) (ms : List Member) (t : Bool) → same_member b m ≡ t → ReadyUnder gives site r m true
-      → (list_any (same_member b) ms ≡ true → ReadyUnder gives site r b true) → list_any (same_member b) (m ∷ ms) ≡ true
-      → ReadyUnder gives site r b true
-  here m ms true same is rest any = ready-under b m same gives site r is
+module _ {C R : Type 0} (gives : R → Member → Member → Type 0) (site : SharedValue C R) (r : ReaderValue C) (b : Member) (a : Bool) where
+  here : (m : Member) (ms : List Member) (t : Bool) → same_member b m ≡ t → ReadyUnder gives site r m a
+      → (list_any (same_member b) ms ≡ true → ReadyUnder gives site r b a) → list_any (same_member b) (m ∷ ms) ≡ true
+      → ReadyUnder gives site r b a
+  here m ms true same is rest any = judged-under b m same gives a site r is
   here m ms false same is rest any = rest (rw same at any)
 
-  -- a backend among those that are ready is ready
-  pub kept-ready : (ms : List Member) → Each (λ m. ReadyUnder gives site r m true) ms → list_any (same_member b) ms ≡ true
-      → ReadyUnder gives site r b true
-  kept-ready [] all any = absurd (false≢true any)
-  kept-ready (m ∷ ms) all any = here m ms (same_member b m) refl all.0 (kept-ready ms all.1) any
+  -- a backend among those that are judged alike is judged so
+  pub kept-judged : (ms : List Member) → Each (λ m. ReadyUnder gives site r m a) ms → list_any (same_member b) ms ≡ true
+      → ReadyUnder gives site r b a
+  kept-judged [] all any = absurd (false≢true any)
+  kept-judged (m ∷ ms) all any = here m ms (same_member b m) refl all.0 (kept-judged ms all.1) any
 
--- what a closure that stays as it is keeps, it answered true of
-module _ {F : Type 0} (g : Mut F (Bor Member × Unit {0}) Bool) (P : Member → Bool → Type 0) (f : F)
-    (tells : (m : Member) (b : Bool) (f' : F) → CalledAt g f m b f' → P m b × (f' ≡ f)) where
-  parted : (bs : List Bool) (ms : List Member) (q : F) → length bs ≡ length ms → ReturnsInTurn (CalledAt g) f bs ms q
-      → Each (λ m. P m true) (items_where_true bs ms)
-  parted [] [] q e t = tt
-  parted [] (m ∷ ms) q e t = absurd (omega arith)
-  parted (b ∷ bs) [] q e t = absurd t
-  parted (true ∷ bs) (m ∷ ms) q e t =
-      let one = tells m true t.0 t.1 in
-      (one.0, parted bs ms q (omega arith) (subst (λ (y : F). ReturnsInTurn (CalledAt g) y bs ms q) one.1 t.2))
-  parted (false ∷ bs) (m ∷ ms) q e t =
-      let one = tells m false t.0 t.1 in
-      parted bs ms q (omega arith) (subst (λ (y : F). ReturnsInTurn (CalledAt g) y bs ms q) one.1 t.2)
+-- what holds of each key and of the one that is put into a set holds of each key then
+pub each-put : (P : Member → Type 0) (k : Member) (ks ns : List Member) (added : Bool) → P k → Each P ks
+    → MatchBool added (IsPermutation (k ∷ ks) ns) (ns ≡ ks) → Each P ns
+each-put P k ks ns true is all puts =
+    recursion_from_All P ns (All-permutation P (k ∷ ks) ns puts (All-from_recursion P (k ∷ ks) (is, all)))
+each-put P k ks ns false is all puts = subst (λ (xs : List Member). Each P xs) (sym puts) all
 
-  pub kept-true : (ms us : List Member) → IsFiltered (CalledAt g) f ms us → Each (λ m. P m true) us
-  kept-true ms us k = subst (λ (xs : List Member). Each (λ m. P m true) xs) (sym k.4) (parted k.0 ms k.1 k.2 k.3)
-
--- what was ready at a state of group and registry was ready at some state of this group
-pub each-under : {C R : Type 0} (gives : R → Member → Member → Type 0) (site : SharedValue C R) (r : ReaderValue C) (v : GroupValue C)
-    (x : RegistryValue R) → IsState site.core v → IsRegistryOf gives site.registry x → (bs : List Member)
-    → Each (λ b. IsReadyFor gives v x r b true) bs → Each (λ b. ReadyUnder gives site r b true) bs
-each-under gives site r v x state of [] all = tt
-each-under gives site r v x state of (b ∷ bs) all = ((v, (x, (state, (of, all.0)))), each-under gives site r v x state of bs all.1)
+-- what was judged at a state of group and registry was judged so at some state of this group
+pub each-under : {C R : Type 0} (gives : R → Member → Member → Type 0) (site : SharedValue C R) (r : ReaderValue C) (a : Bool)
+    (v : GroupValue C) (x : RegistryValue R) → IsState site.core v → IsRegistryOf gives site.registry x → (bs : List Member)
+    → Each (λ b. IsReadyFor gives v x r b a) bs → Each (λ b. ReadyUnder gives site r b a) bs
+each-under gives site r a v x state of [] all = tt
+each-under gives site r a v x state of (b ∷ bs) all = ((v, (x, (state, (of, all.0)))), each-under gives site r a v x state of bs all.1)
 
 -- what was found of a generation is so at its own where it is kept once more
 pub kept-again : {C R Z : Type 0} (gives : R → Member → Member → Type 0) (site : SharedValue C R) (g : ℕ) (o p : Option (Arc Found Z))

@@ -1,6 +1,6 @@
--- What was found ready for the readers of a generation, each at some state of group and registry. Readiness is the same for all readers of
+-- What was found ready or unready for the readers of a generation, each at some state of group and registry. Readiness is the same for all readers of
 -- a generation.
-use Rattle.std.specs.Prelude.{◌≡◌, ◌↔◌, ℕ, Bool, true, List, Option, IsTrue, IfSome}
+use Rattle.std.specs.Prelude.{◌≡◌, ◌↔◌, ℕ, Bool, true, false, List, Option, IsTrue, IfSome}
 use Rattle.std.specs.Arc.{arc_value}
 use Rattle.std.specs.declared.sync.Arc.{Arc}
 use Rattle.std.specs.List.{AllByRecursion as Each}
@@ -23,7 +23,7 @@ module _ {C R : Type 0} (gives : R → Member → Member → Type 0) where
 
   -- what was found is so at that generation
   abbrev pub IsFoundAt : SharedValue C R → ℕ → Found → Type 0
-  IsFoundAt site g f = Each (λ b. ReadyAt site g b true) f.ready.keys
+  IsFoundAt site g f = Each (λ b. ReadyAt site g b true) f.judged.ready.keys × Each (λ b. ReadyAt site g b false) f.judged.unready.keys
 
   -- what was found, if anything, is so at its own generation
   abbrev pub IsFoundHere : {Z : Type 0} → SharedValue C R → Option (Arc Found Z) → Type 0

@@ -26,7 +26,7 @@ use std::mem::replace;
 use std::sync::atomic::Ordering::SeqCst;
 use std::sync::{Arc, Wait};
 
-// How many members there are at most where it is found of all of them at once which are ready. Of more, each candidate is asked for under
+// How many members there are at most where it is found of all of them at once whether they are ready. Of more, each candidate is asked for under
 // the locks, since a request that looks at so many would hold up updates and checks.
 const MOST_FOUND: usize = 512;
 
@@ -37,12 +37,19 @@ pub struct Version {
     registry: u64,
 }
 
-/// Which of the newest backends are ready for the readers of a generation, as it was found at one moment.
+/// Backends by whether they are ready.
+#[derive(Drop)]
+pub struct Judged {
+    pub(crate) ready: HashSet<Backend>,
+    pub(crate) unready: HashSet<Backend>,
+}
+
+/// Which of the newest backends are ready for the readers of a generation, and which are not, as it was found at one moment.
 #[derive(Drop)]
 pub struct Found {
     pub(crate) generation: u64,
     pub(crate) version: Version,
-    pub(crate) ready: HashSet<Backend>,
+    pub(crate) judged: Judged,
 }
 
 /// What was found is so for each reader of its generation, at some state of group and registry.
@@ -141,32 +148,33 @@ impl<S: BackendSelection, R: KeyRule + Drop, C: HealthCheck + Drop> SharedGroup<
             × IsFoundAt R.gives self.now reader.now.generation (arc_value f)) }
     {
         let generation = reader.generation();
-        let ready = self.ready_for(rt, alloc, reader);
+        let judged = self.judged_for(rt, alloc, reader);
         Arc::new(
             alloc,
             Found {
                 generation,
                 version,
-                ready,
+                judged,
             },
         )
         .ok()
     }
 
-    // The newest backends that are ready for a reader, as `ready_among` finds them.
-    fn ready_for<W: Wait>(&self, rt: &W, alloc: Global, reader: &Reader<S>) -> HashSet<Backend>
+    // Which of the newest backends are ready for a reader, as `judged_among` finds them.
+    fn judged_for<W: Wait>(&self, rt: &W, alloc: Global, reader: &Reader<S>) -> Judged
         requires { reader.now.group ≡ self.now.core.group.id }
-        ensures { Each (λ b. ReadyUnder R.gives self.now reader.now b true) result.keys }
+        ensures ready { Each (λ b. ReadyUnder R.gives self.now reader.now b true) result.ready.keys }
+        ensures unready { Each (λ b. ReadyUnder R.gives self.now reader.now b false) result.unready.keys }
     {
         let registries: &HealthRegistry<R, C> = &*self.registry;
         let _gate = &self.gate;
         let held = self.lock.take(rt);
         held.value.founded();
         let cells = registries.take(rt);
-        let ready = ready_among(alloc, held.value.core(), &cells.value, reader);
+        let judged = judged_among(alloc, held.value.core(), &cells.value, reader);
         registries.put(cells);
         self.lock.put(held);
-        ready
+        judged
     }
 
     // Whether a backend is ready for a reader, where that was found.
@@ -181,8 +189,10 @@ impl<S: BackendSelection, R: KeyRule + Drop, C: HealthCheck + Drop> SharedGroup<
     {
         match found {
             Some(found) => {
-                if found.ready.contains(backend) {
+                if found.judged.ready.contains(backend) {
                     Some(true)
+                } else if found.judged.unready.contains(backend) {
+                    Some(false)
                 } else {
                     None
                 }
@@ -202,30 +212,33 @@ fn shared(found: &Option<Arc<Found>>) -> Option<Arc<Found>>
     }
 }
 
-// The newest backends that are ready for a reader: none where there are too many members, and some are left out where memory is refused.
-fn ready_among<S: BackendSelection, R: KeyRule + Drop>(
+// Which of the newest backends are ready for a reader. Where there are too many, none is judged, and where memory is refused some are not.
+fn judged_among<S: BackendSelection, R: KeyRule + Drop>(
     alloc: Global,
     core: &GroupCore<S>,
     registry: &Registry<R>,
     reader: &Reader<S>,
-) -> HashSet<Backend>
+) -> Judged
     requires { reader.now.group ≡ core.now.group.id }
-    ensures { Each (λ b. IsReadyFor R.gives core.now registry.now reader.now b true) result.keys }
+    ensures ready { Each (λ b. IsReadyFor R.gives core.now registry.now reader.now b true) result.ready.keys }
+    ensures unready { Each (λ b. IsReadyFor R.gives core.now registry.now reader.now b false) result.unready.keys }
 {
     let mut ready = HashSet::new(alloc);
-    if core.members().len() > MOST_FOUND {
-        return ready;
-    }
-    for backend in core.members() {
-        if !core.ready(reader, registry, backend) {
-            continue;
+    let mut unready = HashSet::new(alloc);
+    if core.members().len() <= MOST_FOUND {
+        for backend in core.members() {
+            let Ok(copy) = backend.copied(alloc) else {
+                break;
+            };
+            let told = if core.ready(reader, registry, backend) {
+                ready.insert(copy)
+            } else {
+                unready.insert(copy)
+            };
+            if told.is_err() {
+                break;
+            }
         }
-        let Ok(copy) = backend.copied(alloc) else {
-            return ready;
-        };
-        if ready.insert(copy).is_err() {
-            return ready;
-        }
     }
-    ready
+    Judged { ready, unready }
 }
