@@ -84,11 +84,11 @@ module _ {C R : Type 0} (gives : R → Member → Member → Type 0) (site : Sha
   kept-judged (m ∷ ms) all any = here m ms (same_member b m) refl all.0 (kept-judged ms all.1) any
 
 -- what holds of each key and of the one that is put into a set holds of each key then
-pub each-put : (P : Member → Type 0) (k : Member) (ks ns : List Member) (added : Bool) → P k → Each P ks
+pub each_put : (P : Member → Type 0) (k : Member) (ks ns : List Member) (added : Bool) → P k → Each P ks
     → MatchBool added (IsPermutation (k ∷ ks) ns) (ns ≡ ks) → Each P ns
-each-put P k ks ns true is all puts =
+each_put P k ks ns true is all puts =
     recursion_from_All P ns (All-permutation P (k ∷ ks) ns puts (All-from_recursion P (k ∷ ks) (is, all)))
-each-put P k ks ns false is all puts = subst (λ (xs : List Member). Each P xs) (sym puts) all
+each_put P k ks ns false is all puts = subst (λ (xs : List Member). Each P xs) (sym puts) all
 
 -- what was judged at a state of group and registry was judged so at some state of this group
 pub each-under : {C R : Type 0} (gives : R → Member → Member → Type 0) (site : SharedValue C R) (r : ReaderValue C) (a : Bool)

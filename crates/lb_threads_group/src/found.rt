@@ -1,6 +1,6 @@
 //! What the lanes of a slot share: which backends are ready for the readers of a generation. It is found once for each generation and
 //! change, behind a lock of its own, which is taken before the group's.
-ghost use Rattle.std.specs.Prelude.{◌≡◌, IfSome, true};
+ghost use Rattle.std.specs.Prelude.{◌≡◌, IfSome, false, true};
 ghost use Rattle.std.specs.Arc.{arc_value};
 ghost use Rattle.std.specs.List.{AllByRecursion as Each};
 ghost use Rattle.std.specs.Option.{IsSomeAnd};
@@ -212,7 +212,7 @@ fn shared(found: &Option<Arc<Found>>) -> Option<Arc<Found>>
     }
 }
 
-// Which of the newest backends are ready for a reader. Where there are too many, none is judged, and where memory is refused some are not.
+// Which of the newest backends are ready for a reader; none is judged where there are too many.
 fn judged_among<S: BackendSelection, R: KeyRule + Drop>(
     alloc: Global,
     core: &GroupCore<S>,
@@ -223,22 +223,40 @@ fn judged_among<S: BackendSelection, R: KeyRule + Drop>(
     ensures ready { Each (λ b. IsReadyFor R.gives core.now registry.now reader.now b true) result.ready.keys }
     ensures unready { Each (λ b. IsReadyFor R.gives core.now registry.now reader.now b false) result.unready.keys }
 {
-    let mut ready = HashSet::new(alloc);
-    let mut unready = HashSet::new(alloc);
-    if core.members().len() <= MOST_FOUND {
-        for backend in core.members() {
-            let Ok(copy) = backend.copied(alloc) else {
-                break;
-            };
-            let told = if core.ready(reader, registry, backend) {
-                ready.insert(copy)
-            } else {
-                unready.insert(copy)
-            };
-            if told.is_err() {
-                break;
-            }
+    if core.members().len() > MOST_FOUND {
+        return Judged {
+            ready: HashSet::new(alloc),
+            unready: HashSet::new(alloc),
+        };
+    }
+    Judged {
+        ready: members_judged(alloc, core, registry, reader, true),
+        unready: members_judged(alloc, core, registry, reader, false),
+    }
+}
+
+// The newest backends of which readiness for a reader is this. Where memory is refused some are left out.
+fn members_judged<S: BackendSelection, R: KeyRule + Drop>(
+    alloc: Global,
+    core: &GroupCore<S>,
+    registry: &Registry<R>,
+    reader: &Reader<S>,
+    wanted: bool,
+) -> HashSet<Backend>
+    requires { reader.now.group ≡ core.now.group.id }
+    ensures { Each (λ b. IsReadyFor R.gives core.now registry.now reader.now b wanted) result.keys }
+{
+    let mut judged = HashSet::new(alloc);
+    for backend in core.members() {
+        if core.ready(reader, registry, backend) != wanted {
+            continue;
+        }
+        let Ok(copy) = backend.copied(alloc) else {
+            return judged;
+        };
+        if judged.insert(copy).is_err() {
+            return judged;
         }
     }
-    Judged { ready, unready }
+    judged
 }
