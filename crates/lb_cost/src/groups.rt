@@ -1,29 +1,30 @@
 //! Selections a second from one group by threads that share its handle: `groups KIND BACKENDS THREADS SECONDS`. Meanwhile another thread
 //! updates it each 10 milliseconds, where every other update leaves one backend out, and flips the health of a backend each 100. The kind
 //! is `fnv` or `rr`. The group has one slot and its worker. `bench/groups` prints them with a plain program's.
-use crate::shared::{BATCH, Halves, LIMIT, PAUSE, next_key, sum};
+use crate::shared::{BATCH, Halves, LIMIT, PAUSE, next_key};
 use crate::words::{Usage, number_at, word_at};
 use anyhow::Error;
 use lb_balancer_group::group::LoadBalancerGroup;
 use lb_health_check::error::CheckError;
 use lb_health_check::health_check::HealthCheck;
-use lb_health_registry::keys::Rule;
+use lb_health_registry::keys::{KeyRule, Rule};
 use lb_health_view::discovery::DiscoverySource;
 use lb_select::selection::{FNVHash, RoundRobin};
 use lb_select_base::backend::{Backend, InetAddr, SocketAddr};
 use lb_select_base::moments::MomentSource;
 use lb_select_base::refusal::Refusal;
 use lb_select_base::walk::BackendSelection;
+use lb_threads_group::group::SharedGroup;
 use lb_threads_registry::backends::Backends;
 use lb_threads_registry::clock::RuntimeClock;
 use lb_threads_registry::keyed::NoRule;
 use log::Log;
 use std::alloc::Global;
-use std::sync::Wait;
 use std::sync::atomic::AtomicU64;
 use std::sync::atomic::Ordering::SeqCst;
+use std::sync::{Arc, Wait};
 use std::thread;
-use std::thread::{Threads, join};
+use std::thread::{JoinHandle, Threads};
 use std::time::{Clock, Duration};
 
 // How many updates there are for each pass of checks.
@@ -34,7 +35,7 @@ const UPDATES: u64 = 10;
 struct Plan {
     backends: u32,
     threads: u32,
-    seconds: u32,
+    seconds: u64,
 }
 
 // A check that every backend passes, but for one of them in every other pass.
@@ -67,53 +68,87 @@ impl HealthCheck for Flipping {
 // The group that is measured.
 type Group<S> = LoadBalancerGroup<S, Halves, Rule<NoRule>, Flipping>;
 
-// Selects until the measurement is over, by keys of this thread's own; how often.
-fn selected<S: BackendSelection, R: Wait>(
-    rt: &R,
+// Whether a backend is selected.
+fn is_ready(_backend: &Backend, ready: bool) -> bool {
+    ready
+}
+
+// How many seconds have passed since that reading of the clock.
+fn seconds_since<W: Clock>(rt: &W, begun: Duration) -> u64 {
+    let now = rt.monotonic().unwrap_or(begun);
+    now.saturating_sub(begun).as_secs()
+}
+
+// Selects for so many seconds by keys of this thread's own; how often. A refusal ends it.
+fn selected<S: BackendSelection, R: KeyRule + Drop, C: HealthCheck + Drop, W: Wait + Clock>(
+    rt: &W,
     alloc: Global,
-    group: &Group<S>,
-    over: &AtomicU64,
+    group: &SharedGroup<S, R, C>,
     worker: u64,
-) -> Result<u64, Refusal> {
+    seconds: u64,
+) -> u64 {
+    let begun = rt.monotonic().unwrap_or(Duration::from_secs(0));
     let mut key = worker;
     let mut count = 0u64;
     for _ in rt.forever() {
         for _ in 0..BATCH {
             key = next_key(key);
-            let found = group.select(rt, alloc, 0, &key.to_le_bytes(), LIMIT)?;
-            count = count.wrapping_add(u64::from(found.is_some()));
+            match group.select_with(rt, alloc, 0, &key.to_le_bytes(), LIMIT, &is_ready) {
+                Ok(found) => count = count.wrapping_add(u64::from(found.is_some())),
+                Err(_) => return count,
+            }
         }
-        if over.load(SeqCst) > 0 {
+        if seconds_since(rt, begun) >= seconds {
             break;
         }
     }
-    Ok(count)
+    count
 }
 
-// Updates each 10 milliseconds, and checks with every tenth update, for so many seconds; how long that was, in nanoseconds. The
-// measurement is over then.
+// Starts a thread that selects so; `None` where it can't be started.
+fn starts_selecting<
+    S: BackendSelection + Send + Sync + 'static,
+    R: KeyRule + Drop + Send + Sync + 'static,
+    C: HealthCheck + Drop + Send + Sync + 'static,
+    W: Threads + Wait + Clock + Copy + Send + 'static,
+>(
+    rt: &W,
+    alloc: Global,
+    group: &Arc<SharedGroup<S, R, C>>,
+    worker: u64,
+    seconds: u64,
+) -> Option<JoinHandle<u64>>
+where
+    S::Iter: Send + Sync + 'static,
+    S::Config: Send + Sync + 'static,
+    S::Walk: Send + Sync + 'static,
+{
+    let shared = Arc::try_clone(group).ok()?;
+    let own = *rt;
+    let started = thread::spawn(rt, move || {
+        let group: &SharedGroup<S, R, C> = &*shared;
+        selected(&own, alloc, group, worker, seconds)
+    });
+    started.ok()
+}
+
+// Updates each 10 milliseconds for so many seconds, and checks with every tenth update.
 fn updated<S: BackendSelection, R: Log + Threads + Wait + Clock + Copy + Sync>(
     rt: &R,
     alloc: Global,
     group: &Group<S>,
-    over: &AtomicU64,
-    seconds: u32,
-) -> Result<u128, Refusal> {
+    seconds: u64,
+) -> Result<(), Refusal> {
     let mut clock = RuntimeClock::new(*rt);
-    let start = clock.now();
-    let mut answer = Ok(());
-    let mut spent = 0;
+    let begun = rt.monotonic().unwrap_or(Duration::from_secs(0));
     for turn in 1..u64::MAX {
-        thread::sleep(rt, Duration::from_millis(PAUSE));
-        answer = changed(rt, alloc, group, &mut clock, turn);
-        spent = clock.now().saturating_sub(start);
-        if answer.is_err() || spent >= u128::from(seconds) * 1_000_000_000 {
+        if seconds_since(rt, begun) >= seconds {
             break;
         }
+        thread::sleep(rt, Duration::from_millis(PAUSE));
+        changed(rt, alloc, group, &mut clock, turn)?;
     }
-    over.store(1, SeqCst);
-    answer?;
-    Ok(spent)
+    Ok(())
 }
 
 // One update, and in every tenth turn a pass of checks.
@@ -174,62 +209,30 @@ where
     Ok(group)
 }
 
-// Selections of all threads by a hash of their keys; how many.
-fn all_by_hash<R: Threads + Wait + Sync>(
-    rt: &R,
-    alloc: Global,
-    group: &Group<FNVHash>,
-    over: &AtomicU64,
-    plan: Plan,
-) -> Result<u64, Refusal> {
-    let selects = |worker: usize| selected(rt, alloc, group, over, worker as u64);
-    let counts = thread::map_indices(rt, alloc, plan.threads as usize, &selects)?;
-    sum(counts)
-}
-
-// The same of a new group that another thread updates meanwhile, and how long that took, in nanoseconds.
-fn by_hash<R: Log + Threads + Wait + Clock + Copy + Send + Sync + 'static>(
-    rt: &R,
-    alloc: Global,
-    plan: Plan,
-) -> Result<(u64, u128), Refusal> {
-    let group: Group<FNVHash> = made(rt, alloc, plan)?;
-    let over = AtomicU64::new(0);
-    let (count, spent) = join(
-        rt,
-        || all_by_hash(rt, alloc, &group, &over, plan),
-        || updated(rt, alloc, &group, &over, plan.seconds),
-    );
-    Ok((count?, spent?))
-}
-
-// Selections of all threads in turn; how many.
-fn all_in_turn<R: Threads + Wait + Sync>(
-    rt: &R,
-    alloc: Global,
-    group: &Group<RoundRobin>,
-    over: &AtomicU64,
-    plan: Plan,
-) -> Result<u64, Refusal> {
-    let selects = |worker: usize| selected(rt, alloc, group, over, worker as u64);
-    let counts = thread::map_indices(rt, alloc, plan.threads as usize, &selects)?;
-    sum(counts)
-}
-
-// The same of a new group that another thread updates meanwhile, and how long that took, in nanoseconds.
-fn in_turn<R: Log + Threads + Wait + Clock + Copy + Send + Sync + 'static>(
-    rt: &R,
-    alloc: Global,
-    plan: Plan,
-) -> Result<(u64, u128), Refusal> {
-    let group: Group<RoundRobin> = made(rt, alloc, plan)?;
-    let over = AtomicU64::new(0);
-    let (count, spent) = join(
-        rt,
-        || all_in_turn(rt, alloc, &group, &over, plan),
-        || updated(rt, alloc, &group, &over, plan.seconds),
-    );
-    Ok((count?, spent?))
+// Selections of so many threads from a new group, while this thread updates it; how many.
+fn all_selected<
+    S: BackendSelection + Send + Sync + 'static,
+    R: Log + Threads + Wait + Clock + Copy + Send + Sync + 'static,
+>(rt: &R, alloc: Global, plan: Plan) -> Result<u64, Refusal>
+where
+    S::Iter: Send + Sync + 'static,
+    S::Config: Send + Sync + 'static,
+    S::Walk: Send + Sync + 'static,
+{
+    let group: Group<S> = made(rt, alloc, plan)?;
+    let mut handles = Vec::new(alloc);
+    for worker in 0..plan.threads {
+        handles.push(starts_selecting(rt, alloc, group.shared(), u64::from(worker), plan.seconds))?;
+    }
+    let told = updated(rt, alloc, &group, plan.seconds);
+    let mut count = 0u64;
+    for handle in handles {
+        if let Some(handle) = handle {
+            count = count.wrapping_add(handle.join(rt));
+        }
+    }
+    told?;
+    Ok(count)
 }
 
 /// Measures, and prints selections a second; in no seconds, that there were some.
@@ -241,11 +244,11 @@ pub fn run<R: Log + Threads + Wait + Clock + Print + Copy + Send + Sync + 'stati
     let plan = Plan {
         backends: number_at(words, 1, 10)?,
         threads: number_at(words, 2, 1)?,
-        seconds: number_at(words, 3, 0)?,
+        seconds: u64::from(number_at(words, 3, 0)?),
     };
-    let (count, spent) = match word_at(words, 0, "fnv") {
-        "fnv" => by_hash(rt, alloc, plan)?,
-        "rr" => in_turn(rt, alloc, plan)?,
+    let count = match word_at(words, 0, "fnv") {
+        "fnv" => all_selected::<FNVHash, R>(rt, alloc, plan)?,
+        "rr" => all_selected::<RoundRobin, R>(rt, alloc, plan)?,
         _ => return Err(Usage::UnknownKind)?,
     };
     if plan.seconds == 0 {
@@ -254,7 +257,7 @@ pub fn run<R: Log + Threads + Wait + Clock + Print + Copy + Send + Sync + 'stati
             "a group, {backends} backends, {threads} threads: at least 1000 selections: {is_many}"
         )?;
     } else {
-        println!(rt; "{}", u128::from(count) * 1_000_000_000 / spent.max(1))?;
+        println!(rt; "{}", count / plan.seconds)?;
     }
     Ok(())
 }

@@ -188,7 +188,7 @@ fn selected<S: BackendSelection, R: Wait>(
     }
 }
 
-pub(crate) fn sum(counts: Vec<Result<u64, Refusal>>) -> Result<u64, Refusal> {
+fn sum(counts: Vec<Result<u64, Refusal>>) -> Result<u64, Refusal> {
     let mut sum = 0u64;
     for count in counts {
         sum = sum.wrapping_add(count?);
