@@ -1,6 +1,6 @@
 -- Readiness goes by identity, and what is judged at one state stays so of a set.
-use Rattle.std.proofs.Common.{◌≡◌, ◌∙◌, ℕ, Bool, true, false, List, [], ◌∷◌, Option, Some, None, length, refl, sym, ap, subst, arith}
-use Rattle.std.specs.Prelude.{◌&&◌, if◌then◌else◌, IfSome, MatchBool}
+use Rattle.std.proofs.Common.{◌≡◌, ◌∙◌, ℕ, Bool, true, false, List, [], ◌∷◌, Option, Some, None, Result, Ok, Err, refl, sym, subst}
+use Rattle.std.specs.Prelude.{◌&&◌, if◌then◌else◌, IfOk, IfSome, MatchBool, OnErr}
 use Rattle.std.specs.Arc.{arc_value}
 use Rattle.std.specs.declared.sync.Arc.{Arc}
 use Rattle.std.specs.List.{list_any, AllByRecursion as Each}
@@ -89,6 +89,12 @@ pub each_put : (P : Member → Type 0) (k : Member) (ks ns : List Member) (added
 each_put P k ks ns true is all puts =
     recursion_from_All P ns (All-permutation P (k ∷ ks) ns puts (All-from_recursion P (k ∷ ks) (is, all)))
 each_put P k ks ns false is all puts = subst (λ (xs : List Member). Each P xs) (sym puts) all
+
+-- the same whether the key is put in or refused
+pub each_after : {E : Type 0} (P : Member → Type 0) (k : Member) (ks ns : List Member) (r : Result Bool E) → P k → Each P ks
+    → IfOk r (λ added. MatchBool added (IsPermutation (k ∷ ks) ns) (ns ≡ ks)) → OnErr r (ns ≡ ks) → Each P ns
+each_after P k ks ns (Ok added) is all puts same = each_put P k ks ns added is all puts
+each_after P k ks ns (Err e) is all puts same = subst (λ (xs : List Member). Each P xs) (sym same) all
 
 -- what was judged at a state of group and registry was judged so at some state of this group
 pub each-under : {C R : Type 0} (gives : R → Member → Member → Type 0) (site : SharedValue C R) (r : ReaderValue C) (a : Bool)
