@@ -10,7 +10,7 @@ use lb_health_check::health_check::HealthCheck;
 use lb_health_registry::keys::{KeyRule, Rule};
 use lb_health_view::discovery::DiscoverySource;
 use lb_select::selection::{FNVHash, RoundRobin};
-use lb_select_base::backend::{Backend, InetAddr, SocketAddr};
+use lb_select_base::backend::Backend;
 use lb_select_base::moments::MomentSource;
 use lb_select_base::refusal::Refusal;
 use lb_select_base::walk::BackendSelection;
@@ -38,9 +38,10 @@ struct Plan {
     seconds: u64,
 }
 
-// A check that every backend passes, but for one of them in every other pass.
+// A check that every backend passes, but for the first in every other pass.
 #[derive(Drop)]
 struct Flipping {
+    first: Backend,
     pass: AtomicU64,
 }
 
@@ -48,16 +49,10 @@ impl HealthCheck for Flipping {
     ghost threshold = { λ _ _. 1 };
 
     fn check(&self, _alloc: Global, target: &Backend) -> Result<(), CheckError> {
-        match target.addr {
-            SocketAddr::Inet(InetAddr::V4([10, 0, 0, 0], _)) => {
-                if self.pass.fetch_add(1, SeqCst) % 2 == 0 {
-                    Err(CheckError::Connect)
-                } else {
-                    Ok(())
-                }
-            }
-            _ => Ok(()),
+        if *target == self.first && self.pass.fetch_add(1, SeqCst) % 2 == 0 {
+            return Err(CheckError::Connect);
         }
+        Ok(())
     }
 
     fn health_threshold(&self, _success: bool) -> usize {
@@ -196,12 +191,11 @@ where
     let group: Group<S> = LoadBalancerGroup::from_backends_with_configs(
         rt, alloc, backends, configs,
     )?;
-    group.set_health_check(
-        rt,
-        Flipping {
-            pass: AtomicU64::new(0),
-        },
-    )?;
+    let check = Flipping {
+        first: member(alloc, 10, 0, 1),
+        pass: AtomicU64::new(0),
+    };
+    group.set_health_check(rt, check)?;
     let mut clock = RuntimeClock::new(*rt);
     let _ = group.start_workers(rt, alloc, clock);
     group.update(rt, alloc, &mut clock)?;
