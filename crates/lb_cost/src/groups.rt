@@ -1,6 +1,7 @@
 //! Selections a second from one group by threads that share its handle: `groups KIND BACKENDS THREADS SECONDS`. Meanwhile another thread
 //! updates it each 10 milliseconds, where every other update leaves one backend out, and flips the health of a backend each 100. The kind
 //! is `fnv` or `rr`. The group has one slot and its worker. `bench/groups` prints them with a plain program's.
+use crate::members::member;
 use crate::shared::{BATCH, Halves, LIMIT, PAUSE, next_key};
 use crate::words::{Usage, number_at, word_at};
 use anyhow::Error;
