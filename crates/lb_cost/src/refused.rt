@@ -272,10 +272,7 @@ where
 }
 
 // Reports the calls of each subject. Returns whether all agree.
-fn all_agree<W: Wait + Print + Copy + Drop>(
-    rt: &W,
-    alloc: Global,
-) -> io::Result<bool> {
+fn all_agree<W: Wait + Print + Copy + Drop>(rt: &W, alloc: Global) -> io::Result<bool> {
     let mut all = agree::<W, Alone>(rt, alloc, "the calls of a shared registry", REGISTRY)?;
     all &= agree::<W, View>(rt, alloc, "the calls of a shared view", VIEW)?;
     all &= agree::<W, Balancer>(rt, alloc, "the calls of a shared balancer", BALANCER)?;
@@ -288,10 +285,7 @@ fn all_agree<W: Wait + Print + Copy + Drop>(
 /// # Errors
 ///
 /// `Differs` where one isn't as it should be.
-pub fn run<W: Wait + Print + Copy + Drop>(
-    rt: &W,
-    alloc: Global,
-) -> Result<(), Error> {
+pub fn run<W: Wait + Print + Copy + Drop>(rt: &W, alloc: Global) -> Result<(), Error> {
     if all_agree(rt, alloc)? {
         Ok(())
     } else {

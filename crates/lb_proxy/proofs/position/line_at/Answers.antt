@@ -9,11 +9,11 @@ loop-earlier-preserved c =
     let lt : c.loop-earlier.earlier < length c.args.text.now = search rules in
     elim c.if-text-earlier-eq10.branch [
       | then-text-earlier-eq10 w ↦ rw w.line-is (
-          feed_more c.args.text.now c.loop-earlier.earlier c.loop-earlier.line lt w.if-text-earlier-eq10.true kept.0,
-          one_more_later kept.1,
-        )
+        feed_more c.args.text.now c.loop-earlier.earlier c.loop-earlier.line lt w.if-text-earlier-eq10.true kept.0,
+        one_more_later kept.1,
+      )
       | else-text-earlier-eq10 w ↦ rw w.line-is (
-          other_more c.args.text.now c.loop-earlier.earlier c.loop-earlier.line lt w.if-text-earlier-eq10.false kept.0,
-          one_later kept.1,
-        )
+        other_more c.args.text.now c.loop-earlier.earlier c.loop-earlier.line lt w.if-text-earlier-eq10.false kept.0,
+        one_later kept.1,
+      )
     ]
