@@ -17,7 +17,7 @@ struct Unread;
 /// Returns where the line begins that makes a fault, as a place in the text.
 ///
 /// That is the line after which the lines so far show the fault's field, or, where the field is missing, its part. A statement of more
-/// lines than one is shown where it begins. `None` where no lines show it, and where memory is refused.
+/// lines than one is shown where it begins. `None` where no lines show it, where memory is refused, and where the text isn't UTF-8.
 pub fn position_of(alloc: Global, text: &[u8], fault: &Fault<'_>) -> Option<usize>
     ensures { IfSome result (BeginsAt text.now (said fault.now)) }
 {
