@@ -12,7 +12,7 @@ static int refuses(void) {
         const char *number = getenv("REFUSED");
         refused = number ? atol(number) : 0;
     }
-    return ++calls == refused;
+    return __atomic_add_fetch(&calls, 1, __ATOMIC_SEQ_CST) == refused;
 }
 void *malloc(size_t size) { return refuses() ? NULL : __libc_malloc(size); }
 void *calloc(size_t count, size_t size) { return refuses() ? NULL : __libc_calloc(count, size); }

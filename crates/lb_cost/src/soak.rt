@@ -2,6 +2,7 @@
 //! updated, checked, flagged and selected from by threads, and then cancelled or dropped. It ends well where no answer was wrong, every
 //! permit came back and no thread stays; where groups in which nothing happens take less than a hundredth of a processor for ten seconds;
 //! and, after two minutes or more, where little more is resident than was after one minute. A line each minute shows that it goes on.
+use crate::passes::pass;
 use crate::process::{Process, resident};
 use crate::soak_groups::{Flips, Groups, Registry, Site, settles, starts, stir};
 use crate::soak_threads::{Tally, joined, start_user};
@@ -10,8 +11,7 @@ use anyhow::Error;
 use lb_select_base::refusal::Refusal;
 use lb_threads_registry::gate::SelectorRebuildGate;
 use lb_threads_registry::registry::HealthRegistry;
-use log::sink::Locked;
-use log::{Level, Log, Logged};
+use log::Log;
 use std::alloc::Global;
 use std::rt::Files;
 use std::sync::atomic::AtomicU64;
@@ -102,18 +102,6 @@ fn happens<W: Log + Threads + Wait + Clock + Copy + Send + Sync + Drop>(
         15 => pass(rt, alloc, other, true),
         _ => Ok(()),
     }
-}
-
-// Checks the targets of a registry, without a line for each flip.
-fn pass<W: Log + Threads + Wait + Copy + Sync + Drop>(
-    rt: &W,
-    alloc: Global,
-    registry: &Registry,
-    is_parallel: bool,
-) -> Result<(), Refusal> {
-    let sink = Locked::new(*rt, Vec::new(alloc));
-    let logged = Logged::new(*rt, Level::Error, &sink);
-    registry.run_health_check(&logged, alloc, is_parallel)
 }
 
 // All updates of a round. Two groups are cancelled then, or none.
