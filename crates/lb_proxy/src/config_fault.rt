@@ -82,7 +82,7 @@ pub enum Cause {
     NotMode,
     #[error("is to be source")]
     NotKey,
-    #[error("is to be rr, fnv, ketama or least")]
+    #[error("is to be rr, fnv, ketama, least or random")]
     NotSelection,
     #[error("can't be that yet")]
     NotYet,
