@@ -1,0 +1,223 @@
+//! The head of a request.
+
+use crate::fault::Fault;
+use crate::field::{Field, Found, connection_options, find_one, is_option, names_guarded};
+use crate::framing::{Framing, Stated, Version, statement_of};
+use httparse::spans::{EMPTY_HEADER_SPAN, HeaderSpan, RequestSpans, parse_request};
+use httparse::{Error, Status};
+use std::alloc::{AllocError, Global};
+
+/// The most bytes that a head may have.
+pub const HEAD_LIMIT: usize = 65536;
+
+/// The most fields that a head may have.
+pub const FIELD_LIMIT: usize = 100;
+
+/// The head of a request that may be passed on.
+#[derive(Drop)]
+pub struct RequestHead<'a> {
+    pub method: &'a [u8],
+    /// A path with its query, or `*`.
+    pub target: &'a [u8],
+    pub version: Version,
+    /// In the order in which they came.
+    pub fields: Vec<Field<'a>>,
+    /// What the `Connection` fields say.
+    pub options: Vec<&'a [u8]>,
+    /// How many bytes the head has; the body begins behind them.
+    pub length: usize,
+    pub framing: Framing,
+}
+
+/// What has to be known of a request until its answer is passed on.
+#[derive(Clone, Copy, Debug)]
+pub struct Asked {
+    /// Whether the head of an answer is asked for alone.
+    pub is_head: bool,
+    pub version: Version,
+    /// Whether the client's connection is kept after the answer.
+    pub keeps: bool,
+    /// Whether the request may be sent once more.
+    pub may_repeat: bool,
+}
+
+impl RequestHead<'_> {
+    /// Returns what has to be known of the request until its answer is passed on.
+    pub fn asked(&self) -> Asked {
+        Asked {
+            is_head: self.method == b"HEAD".as_slice(),
+            version: self.version,
+            keeps: keeps(self.version, &self.options),
+            may_repeat: has_no_body(self.framing) && is_idempotent(self.method),
+        }
+    }
+
+    /// Returns the value of the first field of that name, in whatever case.
+    pub fn value(&self, name: &[u8]) -> Option<&[u8]> {
+        for field in &self.fields {
+            if field.is(name) {
+                return Some(field.value);
+            }
+        }
+        None
+    }
+}
+
+/// Returns whether a connection goes on after a message of that version with these options.
+pub(crate) fn keeps(version: Version, options: &[&[u8]]) -> bool {
+    if is_option(options, b"close") {
+        return false;
+    }
+    match version {
+        Version::Http10 => is_option(options, b"keep-alive"),
+        Version::Http11 => true,
+    }
+}
+
+// Whether there is no byte of a body.
+fn has_no_body(framing: Framing) -> bool {
+    match framing {
+        Framing::Nothing => true,
+        Framing::Sized(length) => length == 0,
+        Framing::Chunked | Framing::UntilClose => false,
+    }
+}
+
+// Whether a request of that method does no more when it comes twice.
+fn is_idempotent(method: &[u8]) -> bool {
+    method == b"GET".as_slice()
+        || method == b"HEAD".as_slice()
+        || method == b"OPTIONS".as_slice()
+        || method == b"TRACE".as_slice()
+        || method == b"PUT".as_slice()
+        || method == b"DELETE".as_slice()
+}
+
+/// Returns whether a line feed is there without a carriage return before it.
+pub(crate) fn has_bare_feed(bytes: &[u8]) -> bool {
+    let mut last = 0;
+    for byte in bytes {
+        if *byte == b'\n' && last != b'\r' {
+            return true;
+        }
+        last = *byte;
+    }
+    false
+}
+
+/// Copies where the fields are into fields.
+pub(crate) fn fields_at<'a>(
+    alloc: Global,
+    bytes: &'a [u8],
+    spans: &[HeaderSpan],
+) -> Result<Vec<Field<'a>>, AllocError> {
+    let mut fields: Vec<Field<'a>> = Vec::with_capacity(alloc, spans.len())?;
+    for span in spans {
+        fields.push(Field {
+            name: span.name.of(bytes),
+            value: span.value.of(bytes),
+        })?;
+    }
+    Ok(fields)
+}
+
+// Whether the byte may be in the name of a host, or in its port.
+fn is_host_byte(byte: u8) -> bool {
+    byte.is_ascii_alphanumeric() || b"-._~%!$&'()*+;=:[]".contains(&byte)
+}
+
+// Whether the host is named as the version wants it: once, at most once in HTTP/1.0.
+fn has_right_host(version: Version, fields: &[Field<'_>]) -> bool {
+    match find_one(fields, b"host") {
+        Found::Absent => version == Version::Http10,
+        Found::One(value) => value.iter().all(|byte| is_host_byte(*byte)),
+        Found::Many => false,
+    }
+}
+
+// Whether the target is a path, or `*` where the method takes it.
+fn is_right_target(method: &[u8], target: &[u8]) -> bool {
+    match target.first() {
+        Some(b'/') => true,
+        Some(_) => target == b"*".as_slice() && method == b"OPTIONS".as_slice(),
+        None => false,
+    }
+}
+
+// How the fields of a request frame its body.
+fn request_framing(version: Version, fields: &[Field<'_>]) -> Result<Framing, Fault> {
+    match statement_of(version, fields) {
+        Stated::Nothing => Ok(Framing::Nothing),
+        Stated::Sized(length) => Ok(Framing::Sized(length)),
+        Stated::Chunked => Ok(Framing::Chunked),
+        Stated::Coded => Err(Fault::NotImplemented),
+        Stated::Ambiguous => Err(Fault::BadRequest),
+    }
+}
+
+// The head whose parts were found there.
+fn head_at<'a>(
+    alloc: Global,
+    bytes: &'a [u8],
+    found: &RequestSpans,
+    spans: &[HeaderSpan],
+) -> Result<RequestHead<'a>, Fault> {
+    if found.len > HEAD_LIMIT {
+        return Err(Fault::HeadTooLarge);
+    }
+    if has_bare_feed(&bytes[..found.len]) {
+        return Err(Fault::BadRequest);
+    }
+    let version = if found.version == 0 {
+        Version::Http10
+    } else {
+        Version::Http11
+    };
+    let Ok(fields) = fields_at(alloc, bytes, &spans[..found.headers]) else {
+        return Err(Fault::Unavailable);
+    };
+    let Ok(options) = connection_options(alloc, &fields) else {
+        return Err(Fault::Unavailable);
+    };
+    let framing = request_framing(version, &fields)?;
+    let method = found.method.of(bytes);
+    let target = found.path.of(bytes);
+    if method == b"CONNECT".as_slice() {
+        return Err(Fault::NotImplemented);
+    }
+    if names_guarded(&options)
+        || !has_right_host(version, &fields)
+        || !is_right_target(method, target)
+    {
+        return Err(Fault::BadRequest);
+    }
+    Ok(RequestHead {
+        method,
+        target,
+        version,
+        fields,
+        options,
+        length: found.len,
+        framing,
+    })
+}
+
+/// Reads the head of a request at the front of the bytes; `None` where it isn't whole yet.
+///
+/// Refused `BadRequest` where the head is malformed or can be understood in two ways, `HeadTooLarge`, `NotImplemented` for a transfer coding
+/// other than chunked and for `CONNECT`, `VersionNotSupported`, and `Unavailable` where memory is short.
+pub fn read_request(alloc: Global, bytes: &[u8]) -> Result<Option<RequestHead<'_>>, Fault> {
+    let mut spans = [EMPTY_HEADER_SPAN; FIELD_LIMIT];
+    match parse_request(bytes, &mut spans) {
+        Ok(Status::Complete(found)) => match head_at(alloc, bytes, &found, &spans) {
+            Ok(head) => Ok(Some(head)),
+            Err(fault) => Err(fault),
+        },
+        Ok(Status::Partial) if bytes.len() >= HEAD_LIMIT => Err(Fault::HeadTooLarge),
+        Ok(Status::Partial) if has_bare_feed(bytes) => Err(Fault::BadRequest),
+        Ok(Status::Partial) => Ok(None),
+        Err(Error::TooManyHeaders) => Err(Fault::HeadTooLarge),
+        Err(Error::Version) => Err(Fault::VersionNotSupported),
+        Err(_) => Err(Fault::BadRequest),
+    }
+}
