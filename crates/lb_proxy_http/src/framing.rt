@@ -1,6 +1,8 @@
 //! How a body ends, by the fields of its head: there is exactly one statement of it, or none.
+ghost use Rattle.std.specs.Prelude.{◌≡◌};
+ghost use Rattle.lb_proxy_http.specs.Framing.{length_value, statement_of, stated_length, stated_coding};
 
-use crate::field::{Field, Found, find_one};
+use crate::field::{Field, Found, find_one, same_name};
 
 /// How a body ends.
 #[derive(Clone, Copy, Debug, PartialEq, Eq)]
@@ -26,11 +28,11 @@ pub enum Version {
 #[derive(Clone, Copy)]
 pub(crate) enum Stated {
     /// Nothing.
-    Nothing,
+    Silent,
     /// Its length.
-    Sized(u64),
+    Length(u64),
     /// That it is in chunks.
-    Chunked,
+    Chunks,
     /// A transfer coding other than chunked.
     Coded,
     /// More than one thing, or what is no length.
@@ -38,7 +40,9 @@ pub(crate) enum Stated {
 }
 
 // The number that 1 to 19 decimal digits write.
-fn length_of(digits: &[u8]) -> Option<u64> {
+fn length_of(digits: &[u8]) -> Option<u64>
+    ensures { result ≡ length_value digits.now }
+{
     if digits.is_empty() || digits.len() > 19 {
         return None;
     }
@@ -52,21 +56,42 @@ fn length_of(digits: &[u8]) -> Option<u64> {
     Some(value)
 }
 
+// What the value of a length states.
+fn stated_length(value: &[u8]) -> Stated
+    ensures { result ≡ stated_length (length_value value.now) }
+{
+    match length_of(value) {
+        Some(length) => Stated::Length(length),
+        None => Stated::Ambiguous,
+    }
+}
+
+// What the value of a transfer coding states.
+fn stated_coding(version: Version, value: &[u8]) -> Stated
+    ensures { result ≡ stated_coding version value.now }
+{
+    match version {
+        Version::Http10 => Stated::Ambiguous,
+        Version::Http11 if same_name(value, b"chunked") => Stated::Chunks,
+        Version::Http11 => Stated::Coded,
+    }
+}
+
 /// Returns what the fields state of the body.
-pub(crate) fn statement_of(version: Version, fields: &[Field<'_>]) -> Stated {
+pub(crate) fn statement_of(version: Version, fields: &[Field<'_>]) -> Stated
+    ensures { result ≡ statement_of version fields.now }
+{
     let lengths = find_one(fields, b"content-length");
-    let codings = find_one(fields, b"transfer-encoding");
-    match (codings, lengths) {
-        (Found::Absent, Found::Absent) => Stated::Nothing,
-        (Found::Absent, Found::One(value)) => match length_of(value) {
-            Some(length) => Stated::Sized(length),
-            None => Stated::Ambiguous,
+    match find_one(fields, b"transfer-encoding") {
+        Found::Absent => match lengths {
+            Found::Absent => Stated::Silent,
+            Found::One(value) => stated_length(value),
+            Found::Many => Stated::Ambiguous,
         },
-        (Found::One(value), Found::Absent) => match version {
-            Version::Http10 => Stated::Ambiguous,
-            Version::Http11 if value.eq_ignore_ascii_case(b"chunked") => Stated::Chunked,
-            Version::Http11 => Stated::Coded,
+        Found::One(value) => match lengths {
+            Found::Absent => stated_coding(version, value),
+            Found::One(_) | Found::Many => Stated::Ambiguous,
         },
-        _ => Stated::Ambiguous,
+        Found::Many => Stated::Ambiguous,
     }
 }

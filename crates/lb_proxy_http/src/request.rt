@@ -1,4 +1,7 @@
 //! The head of a request.
+ghost use Rattle.std.specs.Prelude.{◌≡◌, ◌&&◌, ◌≤◌, ◌<◌, bytes_eq, codes, length, map, IfOk, All};
+ghost use Rattle.httparse.specs.Spans.{header_bytes, IsHeaderWithin};
+ghost use Rattle.lb_proxy_http.specs.Framing.{keeps_by, has_no_body, is_idempotent, request_framing};
 
 use crate::fault::Fault;
 use crate::field::{Field, Found, connection_options, find_one, is_option, names_guarded};
@@ -43,7 +46,12 @@ pub struct Asked {
 
 impl RequestHead<'_> {
     /// Returns what has to be known of the request until its answer is passed on.
-    pub fn asked(&self) -> Asked {
+    pub fn asked(&self) -> Asked
+        ensures is_head { result.is_head ≡ bytes_eq self.now.method.now (codes "HEAD") }
+        ensures version { result.version ≡ self.now.version }
+        ensures keeps { result.keeps ≡ keeps_by self.now.version self.now.options.items }
+        ensures may_repeat { result.may_repeat ≡ (has_no_body self.now.framing && is_idempotent self.now.method.now) }
+    {
         Asked {
             is_head: self.method == b"HEAD".as_slice(),
             version: self.version,
@@ -64,18 +72,19 @@ impl RequestHead<'_> {
 }
 
 /// Returns whether a connection goes on after a message of that version with these options.
-pub(crate) fn keeps(version: Version, options: &[&[u8]]) -> bool {
-    if is_option(options, b"close") {
-        return false;
-    }
+pub(crate) fn keeps(version: Version, options: &[&[u8]]) -> bool
+    ensures { result ≡ keeps_by version options.now }
+{
     match version {
-        Version::Http10 => is_option(options, b"keep-alive"),
-        Version::Http11 => true,
+        Version::Http10 => !is_option(options, b"close") && is_option(options, b"keep-alive"),
+        Version::Http11 => !is_option(options, b"close"),
     }
 }
 
 // Whether there is no byte of a body.
-fn has_no_body(framing: Framing) -> bool {
+fn has_no_body(framing: Framing) -> bool
+    ensures { result ≡ has_no_body framing }
+{
     match framing {
         Framing::Nothing => true,
         Framing::Sized(length) => length == 0,
@@ -84,7 +93,9 @@ fn has_no_body(framing: Framing) -> bool {
 }
 
 // Whether a request of that method does no more when it comes twice.
-fn is_idempotent(method: &[u8]) -> bool {
+fn is_idempotent(method: &[u8]) -> bool
+    ensures { result ≡ is_idempotent method.now }
+{
     method == b"GET".as_slice()
         || method == b"HEAD".as_slice()
         || method == b"OPTIONS".as_slice()
@@ -144,12 +155,14 @@ fn is_right_target(method: &[u8], target: &[u8]) -> bool {
     }
 }
 
-// How the fields of a request frame its body.
-fn request_framing(version: Version, fields: &[Field<'_>]) -> Result<Framing, Fault> {
-    match statement_of(version, fields) {
-        Stated::Nothing => Ok(Framing::Nothing),
-        Stated::Sized(length) => Ok(Framing::Sized(length)),
-        Stated::Chunked => Ok(Framing::Chunked),
+// How what is stated frames the body of a request.
+fn request_framing(stated: Stated) -> Result<Framing, Fault>
+    ensures { result ≡ request_framing stated }
+{
+    match stated {
+        Stated::Silent => Ok(Framing::Nothing),
+        Stated::Length(length) => Ok(Framing::Sized(length)),
+        Stated::Chunks => Ok(Framing::Chunked),
         Stated::Coded => Err(Fault::NotImplemented),
         Stated::Ambiguous => Err(Fault::BadRequest),
     }
@@ -179,7 +192,7 @@ fn head_at<'a>(
     let Ok(options) = connection_options(alloc, &fields) else {
         return Err(Fault::Unavailable);
     };
-    let framing = request_framing(version, &fields)?;
+    let framing = request_framing(statement_of(version, &fields))?;
     let method = found.method.of(bytes);
     let target = found.path.of(bytes);
     if method == b"CONNECT".as_slice() {

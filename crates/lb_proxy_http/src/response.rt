@@ -1,4 +1,6 @@
 //! The head of an answer.
+ghost use Rattle.std.specs.Prelude.{◌≡◌, ◌&&◌, nat_lt};
+ghost use Rattle.lb_proxy_http.specs.Framing.{bodiless_framing, head_framing, full_framing, response_framing, keeps_by, has_end};
 
 use crate::fault::Fault;
 use crate::field::{Field, connection_options, names_guarded};
@@ -25,12 +27,16 @@ pub struct ResponseHead<'a> {
 
 impl ResponseHead<'_> {
     /// Returns whether another answer to the same request follows: the status is 100, 102, 103 or the like.
-    pub fn is_interim(&self) -> bool {
+    pub fn is_interim(&self) -> bool
+        ensures { result ≡ nat_lt self.now.status 200 }
+    {
         self.status < 200
     }
 
     /// Returns whether the backend's connection is kept after the answer.
-    pub fn keeps(&self) -> bool {
+    pub fn keeps(&self) -> bool
+        ensures { result ≡ (has_end self.now.framing && keeps_by self.now.version self.now.options.items) }
+    {
         match self.framing {
             Framing::UntilClose => false,
             Framing::Nothing | Framing::Sized(_) | Framing::Chunked => {
@@ -40,7 +46,9 @@ impl ResponseHead<'_> {
     }
 
     /// Returns whether the client's connection is kept after the answer to that request.
-    pub fn keeps_client(&self, asked: Asked) -> bool {
+    pub fn keeps_client(&self, asked: Asked) -> bool
+        ensures { result ≡ (has_end self.now.framing && asked.keeps) }
+    {
         match self.framing {
             Framing::UntilClose => false,
             Framing::Nothing | Framing::Sized(_) | Framing::Chunked => asked.keeps,
@@ -48,27 +56,53 @@ impl ResponseHead<'_> {
     }
 }
 
-// How the fields of an answer frame its body.
-fn response_framing(
-    asked: Asked,
-    status: u16,
-    version: Version,
-    fields: &[Field<'_>],
-) -> Result<Framing, Fault> {
-    let stated = statement_of(version, fields);
-    let is_bare = asked.is_head || status == 304;
-    let is_bodiless = status < 200 || status == 204;
+// How what is stated frames an answer that never has a body.
+fn bodiless_framing(stated: Stated) -> Result<Framing, Fault>
+    ensures { result ≡ bodiless_framing stated }
+{
     match stated {
+        Stated::Silent | Stated::Length(0) => Ok(Framing::Nothing),
+        Stated::Length(_) | Stated::Chunks | Stated::Coded | Stated::Ambiguous => {
+            Err(Fault::BadGateway)
+        }
+    }
+}
+
+// How what is stated frames an answer whose fields are those of another one.
+fn head_framing(stated: Stated) -> Result<Framing, Fault>
+    ensures { result ≡ head_framing stated }
+{
+    match stated {
+        Stated::Silent | Stated::Length(_) | Stated::Chunks => Ok(Framing::Nothing),
         Stated::Coded | Stated::Ambiguous => Err(Fault::BadGateway),
-        Stated::Nothing | Stated::Sized(0) if is_bodiless => Ok(Framing::Nothing),
-        _ if is_bodiless => Err(Fault::BadGateway),
-        _ if is_bare => Ok(Framing::Nothing),
-        Stated::Nothing => Ok(Framing::UntilClose),
-        Stated::Sized(length) => Ok(Framing::Sized(length)),
-        Stated::Chunked => match asked.version {
+    }
+}
+
+// How what is stated frames the body of an answer to a client of that version.
+fn full_framing(version: Version, stated: Stated) -> Result<Framing, Fault>
+    ensures { result ≡ full_framing version stated }
+{
+    match stated {
+        Stated::Silent => Ok(Framing::UntilClose),
+        Stated::Length(length) => Ok(Framing::Sized(length)),
+        Stated::Chunks => match version {
             Version::Http10 => Err(Fault::BadGateway),
             Version::Http11 => Ok(Framing::Chunked),
         },
+        Stated::Coded | Stated::Ambiguous => Err(Fault::BadGateway),
+    }
+}
+
+// How what is stated frames an answer of that status.
+fn response_framing(asked: Asked, status: u16, stated: Stated) -> Result<Framing, Fault>
+    ensures { result ≡ response_framing asked status stated }
+{
+    if status < 200 || status == 204 {
+        bodiless_framing(stated)
+    } else if asked.is_head || status == 304 {
+        head_framing(stated)
+    } else {
+        full_framing(asked.version, stated)
     }
 }
 
@@ -100,7 +134,7 @@ fn head_at<'a>(
     if names_guarded(&options) {
         return Err(Fault::BadGateway);
     }
-    let framing = response_framing(asked, found.code, version, &fields)?;
+    let framing = response_framing(asked, found.code, statement_of(version, &fields))?;
     Ok(ResponseHead {
         version,
         status: found.code,
