@@ -24,14 +24,16 @@ def read_chunks(reader):
         line = reader.readline()
         raw += line
         size = int(line.split(b";")[0], 16) if line.strip() else 0
-        if not line or size == 0:
+        if not line:
+            raise ValueError("the body is cut")
+        if size == 0:
             break
         raw += reader.read(size + 2)
     while line := reader.readline():
         raw += line
         if line == b"\r\n":
-            break
-    return raw
+            return raw
+    raise ValueError("the body is cut")
 
 
 def sized(body, fields=b"", status=b"200 OK"):

@@ -1,5 +1,6 @@
 //! What a listener selects by: the address of the client, the target of a request, or one of its fields.
 ghost use Rattle.std.specs.Prelude.{◌≡◌, option_map};
+ghost use Rattle.std.specs.List.{list_all};
 ghost use Rattle.lb_proxy.specs.Key.{key_seen, owned_seen, key_of_text, key_bytes, is_field_name, is_field_byte};
 
 /// What a selection takes as its key.
@@ -69,7 +70,14 @@ impl OwnedKey {
 fn is_field_name(name: &str) -> bool
     ensures { result ≡ is_field_name name.now }
 {
-    !name.is_empty() && name.as_bytes().iter().all(|byte| is_field_byte(*byte))
+    !name.is_empty() && are_field_bytes(name.as_bytes())
+}
+
+// Whether all bytes can be in the name of a field.
+fn are_field_bytes(bytes: &[u8]) -> bool
+    ensures { result ≡ list_all is_field_byte bytes.now }
+{
+    bytes.iter().all(|byte| is_field_byte(*byte))
 }
 
 // Whether a byte can be in the name of a field.

@@ -211,7 +211,7 @@ fn lose_backend<R: Log + Wait, U: Upstream>(
     }
     end_request(scene, session);
     drop_link(links, session);
-    session.down.reset();
+    session.down.reset(scene.alloc);
     session.up.repeat();
     session.anew = true;
     session.enter(Phase::Reaching, scene.now);
@@ -234,15 +234,15 @@ pub fn pass_answer<R: Log + Wait, U: Upstream>(
             return Turn::Over;
         }
         let read = read_body(scene, session, spares, &mut link.peer);
-        if read == Outcome::Broken {
-            return Turn::Over;
-        }
         moved = sent == Sent::Moved || read == Outcome::Moved;
     }
     match session.down.flush(&mut session.client) {
         Outcome::Broken => return Turn::Over,
         Outcome::Moved => moved = true,
         Outcome::Waits => {}
+    }
+    if session.down.cut && session.down.is_flushed() {
+        return Turn::Over;
     }
     let has_ended = session.down.body.is_done() || session.down.ended || session.link.is_none();
     if has_ended && session.down.is_flushed() {
@@ -255,7 +255,7 @@ pub fn pass_answer<R: Log + Wait, U: Upstream>(
     Turn::Ready
 }
 
-// Reads the body of the answer once. It is broken where it ends too early.
+// Reads the body of the answer once. It is cut where it breaks off, ends too early, or is none.
 fn read_body<R, U>(
     scene: &Scene<'_, R, U>,
     session: &mut Session,
@@ -263,16 +263,19 @@ fn read_body<R, U>(
     backend: &mut Peer,
 ) -> Outcome {
     let down = &mut session.down;
+    if down.cut {
+        return Outcome::Waits;
+    }
     if down.admit().is_err() {
-        return Outcome::Broken;
+        down.cut = true;
+        return Outcome::Waits;
     }
     if down.body.is_done() {
         return Outcome::Waits;
     }
     let read = down.fill(scene.alloc, spares, backend);
-    if down.admit().is_err() || (down.ended && !down.body.may_end()) {
-        return Outcome::Broken;
-    }
+    let is_bad = down.admit().is_err();
+    down.cut = is_bad || read == Outcome::Broken || (down.ended && !down.body.may_end());
     read
 }
 
@@ -294,7 +297,7 @@ fn finish<R: Log + Wait, U: Upstream>(
         None => {}
     }
     if keeps_client && session.has_come() && !scene.proxy.ends() {
-        session.begin(scene.now);
+        session.begin(scene.alloc, scene.now);
         return Turn::Ready;
     }
     if session.has_come() && session.up.inbox.is_empty() && !session.client.readable {

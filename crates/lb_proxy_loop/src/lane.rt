@@ -11,6 +11,9 @@ use std::io::Write;
 // Up to so many bytes of a head and its body are written at once.
 const JOINED: usize = 16384;
 
+// The memory of heads that are longer is given back with their message.
+const SHORT: usize = 4096;
+
 /// A direction.
 #[derive(Drop)]
 pub struct Lane {
@@ -24,8 +27,9 @@ pub struct Lane {
     pub body: Body,
     /// Whether bytes came of which a head may be made.
     pub fresh: bool,
-    /// Whether the source has ended.
+    /// Whether the source has ended, and whether it did so too early.
     pub ended: bool,
+    pub cut: bool,
     /// How many bytes of this message were read from the source, and how many were written to the sink.
     pub received: u64,
     pub sent: u64,
@@ -41,21 +45,26 @@ impl Lane {
             body: Body::new(Framing::Nothing),
             fresh: false,
             ended: false,
+            cut: false,
             received: 0,
             sent: 0,
         }
     }
 
     /// Forgets the message, and the bytes of the next one that came.
-    pub fn reset(&mut self) {
-        self.begin();
+    pub fn reset(&mut self, alloc: Global) {
+        self.begin(alloc);
         self.inbox.reset();
         self.fresh = false;
         self.ended = false;
+        self.cut = false;
     }
 
     /// Forgets the message.
-    pub fn begin(&mut self) {
+    pub fn begin(&mut self, alloc: Global) {
+        if self.head.len() > SHORT {
+            self.head = Vec::new(alloc);
+        }
         self.head.clear();
         self.written = 0;
         self.body = Body::new(Framing::Nothing);

@@ -176,7 +176,8 @@ impl Links {
         let link = self.links.get_mut(number)?;
         link.peer.note(event);
         let session = link.session;
-        if session.is_none() && link.peer.readable {
+        let may_speak = !link.dropped && link.peer.readable;
+        if session.is_none() && may_speak && !self.is_quiet(number) {
             self.forget(number);
             self.drop_link(number);
         }

@@ -121,10 +121,10 @@ impl Session {
     }
 
     /// Makes ready for the next request.
-    pub fn begin(&mut self, now: u64) {
+    pub fn begin(&mut self, alloc: Global, now: u64) {
         self.asked = NOTHING;
-        self.up.begin();
-        self.down.reset();
+        self.up.begin(alloc);
+        self.down.reset(alloc);
         self.anew = false;
         self.enter(Phase::Reading, now);
     }

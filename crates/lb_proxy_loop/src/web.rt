@@ -236,8 +236,8 @@ impl Web {
         scene.proxy.release();
         end_request(scene, &mut session);
         drop_link(&mut self.links, &mut session);
-        session.up.reset();
-        session.down.reset();
+        session.up.reset(scene.alloc);
+        session.down.reset(scene.alloc);
         session.release(scene.alloc, &mut self.spares);
     }
 }
