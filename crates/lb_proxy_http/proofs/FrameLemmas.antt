@@ -145,24 +145,27 @@ module _ (P : ℕ → List ℕ → Type 0) where
           let also : is_ascii_hexdigit b ≡ is_ascii_hexdigit x = ap is_ascii_hexdigit same in
           cc
 
+size_more_at : (count value b : ℕ) → is_ascii_hexdigit b ≡ true → count < 16
+    → Follows (F.Size count value) b (P.Framed (F.Size (count + 1) (value * 16 + digit_value b)))
+size_more_at count value b yes few text = (
+  λ r. (r.0, size_digit (λ s a. AfterLine r.0 s a) count value b text yes few r.1),
+  λ r. (r.0, (size_digit_back (λ s a. AfterLine r.0 s a) count value b text yes r.1).2),
+)
+
 pub size_more : (count value b digit : ℕ) → is_ascii_hexdigit b ≡ true → digit ≡ digit_value b → count < 16
     → Follows (F.Size count value) b (P.Framed (F.Size (count + 1) (value * 16 + digit)))
-size_more count value b digit yes is few text =
-    subst (λ (d : ℕ). ((n : ℕ) × Size (λ s a. AfterLine n s a) (count + 1) (value * 16 + d) text → (n : ℕ) × Size (λ s a. AfterLine n s a) count value (b ∷ text))
-    × ((n : ℕ) × Size (λ s a. AfterLine n s a) count value (b ∷ text) → (n : ℕ) × Size (λ s a. AfterLine n s a) (count + 1) (value * 16 + d) text))
-    (sym is) (
-      λ r. (r.0, size_digit (λ s a. AfterLine r.0 s a) count value b text yes few r.1),
-      λ r. (r.0, (size_digit_back (λ s a. AfterLine r.0 s a) count value b text yes r.1).2),
-    )
+size_more count value b digit yes is few =
+    subst (λ (d : ℕ). Follows (F.Size count value) b (P.Framed (F.Size (count + 1) (value * 16 + d)))) (sym is)
+    (size_more_at count value b yes few)
 
 pub size_full : (count value b : ℕ) → is_ascii_hexdigit b ≡ true → (16 ≤ count) ⊎ (1152921504606846976 ≤ value) → Blocks (F.Size count value) b
 size_full count value b yes (inl many) text r =
-    let back = (size_digit_back (λ s a. AfterLine r.0 s a) count value b text yes r.1).0 in omega arith
+    let back : count < 16 = (size_digit_back (λ s a. AfterLine r.0 s a) count value b text yes r.1).0 in omega arith
 size_full count value b yes (inr large) text r =
-    let back = (size_digit_back (λ s a. AfterLine r.0 s a) count value b text yes r.1).1 in omega arith
+    let back : value * 16 + digit_value b < 2 ^ 64 = (size_digit_back (λ s a. AfterLine r.0 s a) count value b text yes r.1).1 in omega arith
 
 pub size_none : (value b : ℕ) → is_ascii_hexdigit b ≡ false → Blocks (F.Size 0 value) b
-size_none value b no text r = let back = (size_end_back (λ s a. AfterLine r.0 s a) 0 value b text no r.1).0 in omega arith
+size_none value b no text r = let back : 0 < 0 = (size_end_back (λ s a. AfterLine r.0 s a) 0 value b text no r.1).0 in omega arith
 
 pub size_bad : (count value b : ℕ) → is_ascii_hexdigit b ≡ false → b ≢ 13 → b ≢ 59 → Blocks (F.Size count value) b
 size_bad count value b no other also text r =
@@ -259,7 +262,8 @@ start_bad room b other (inr no) text r = by r.0 r.1
     by : (n : ℕ) → Trailers n room (b ∷ text) → ⊥
     by zero e = other (cc)
     by (suc n) l =
-        let is = l.is in let pass = l.pass in let same : is_token_byte b ≡ is_token_byte l.first = ap is_token_byte (cc) in cc
+        let is = l.is in let pass = l.pass in let eq : b ≡ l.first = cc in
+        let same : is_token_byte b ≡ is_token_byte l.first = ap is_token_byte eq in cc
 
 pub name_full : (b : ℕ) → Blocks (F.Name 0) b
 name_full b text r = run_none is_token_byte 58 (InValue (λ left after. Trailers r.0 left after)) (b ∷ text) r.1

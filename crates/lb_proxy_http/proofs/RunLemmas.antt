@@ -38,7 +38,7 @@ module _ (test : ℕ → Bool) (stop : ℕ) (P : ℕ → List ℕ → Type 0) wh
           let same : stop ≡ x = cc in
           let yes : test x ≡ true = All-head (λ v. test v ≡ true) x run pass in
           let also : test stop ≡ test x = ap test same in
-          cc
+          absurd (cc)
 
   pub run_more : (b most : ℕ) (text : List ℕ) → test b ≡ true → 0 < most → Run test stop P (most - 1) text → Run test stop P most (b ∷ text)
   run_more b most text yes some r =

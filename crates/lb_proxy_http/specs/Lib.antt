@@ -3,3 +3,4 @@ pub mod Framing
 pub mod Write
 pub mod Chunked
 pub mod Body
+pub mod Heads

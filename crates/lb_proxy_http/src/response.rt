@@ -1,11 +1,16 @@
 //! The head of an answer.
-ghost use Rattle.std.specs.Prelude.{◌≡◌, ◌&&◌, nat_lt};
-ghost use Rattle.lb_proxy_http.specs.Framing.{bodiless_framing, head_framing, full_framing, response_framing, keeps_by, has_end};
+ghost use Rattle.std.specs.Prelude.{◌≡◌, ◌&&◌, ◌≤◌, ◌<◌, Ok, None, IfOk, IfSome, nat_lt, length, map, take};
+ghost use Rattle.std.specs.List.{list_any};
+ghost use Rattle.httparse.specs.Grammar.{HasNoResponse};
+ghost use Rattle.httparse.specs.Spans.{header_bytes, IsResponseWithin, span_bytes};
+ghost use Rattle.lb_proxy_http.specs.Fields.{options_of, is_guarded};
+ghost use Rattle.lb_proxy_http.specs.Framing.{bodiless_framing, head_framing, full_framing, response_framing, keeps_by, has_end, statement_of};
+ghost use Rattle.lb_proxy_http.specs.Heads.{HasStrictFeeds, plain, version_of, IsResponse};
 
 use crate::fault::Fault;
 use crate::field::{Field, connection_options, names_guarded};
 use crate::framing::{Framing, Stated, Version, statement_of};
-use crate::request::{Asked, FIELD_LIMIT, HEAD_LIMIT, fields_at, has_bare_feed, keeps};
+use crate::request::{Asked, FIELD_LIMIT, HEAD_LIMIT, fields_at, has_bare_feed, keeps, version_of};
 use httparse::Status;
 use httparse::spans::{EMPTY_HEADER_SPAN, HeaderSpan, ResponseSpans, parse_response};
 use std::alloc::Global;
@@ -113,18 +118,29 @@ fn head_at<'a>(
     asked: Asked,
     found: &ResponseSpans,
     spans: &[HeaderSpan],
-) -> Result<ResponseHead<'a>, Fault> {
-    if found.len > HEAD_LIMIT || found.code < 100 || found.code == 101 {
+) -> Result<ResponseHead<'a>, Fault>
+    requires { IsResponseWithin bytes.now spans.now found.now }
+    ensures length { IfOk result (λ head. head.length ≡ found.now.len) }
+    ensures short { IfOk result (λ head. head.length ≤ 65536) }
+    ensures strict { IfOk result (λ head. HasStrictFeeds (take head.length bytes.now)) }
+    ensures status { IfOk result (λ head. head.status ≡ found.now.code) }
+    ensures least { IfOk result (λ head. 100 ≤ head.status) }
+    ensures reason { IfOk result (λ head. head.reason.now ≡ span_bytes bytes.now found.now.reason) }
+    ensures version { IfOk result (λ head. head.version ≡ version_of found.now.version) }
+    ensures fields { IfOk result (λ head. map plain head.fields.items ≡ map (header_bytes bytes.now) (take found.now.headers spans.now)) }
+    ensures options { IfOk result (λ head. map (λ o. o.now) head.options.items ≡ options_of head.fields.items) }
+    ensures framed { IfOk result (λ head. response_framing asked head.status (statement_of head.version head.fields.items) ≡ Ok head.framing) }
+    ensures unguarded { IfOk result (λ head. list_any (λ o. is_guarded o.now) head.options.items ≡ false) }
+{
+    if found.len > HEAD_LIMIT {
         return Err(Fault::BadGateway);
     }
-    if bytes[0] != b'H' || has_bare_feed(&bytes[..found.len]) {
+    if found.code < 100 || found.code == 101 {
         return Err(Fault::BadGateway);
     }
-    let version = if found.version == 0 {
-        Version::Http10
-    } else {
-        Version::Http11
-    };
+    if has_bare_feed(&bytes[..found.len]) {
+        return Err(Fault::BadGateway);
+    }
     let Ok(fields) = fields_at(alloc, bytes, &spans[..found.headers]) else {
         return Err(Fault::Unavailable);
     };
@@ -134,7 +150,11 @@ fn head_at<'a>(
     if names_guarded(&options) {
         return Err(Fault::BadGateway);
     }
-    let framing = response_framing(asked, found.code, statement_of(version, &fields))?;
+    let version = version_of(found.version);
+    let framing = match response_framing(asked, found.code, statement_of(version, &fields)) {
+        Ok(framing) => framing,
+        Err(fault) => return Err(fault),
+    };
     Ok(ResponseHead {
         version,
         status: found.code,
@@ -146,6 +166,14 @@ fn head_at<'a>(
     })
 }
 
+// Whether a line end comes first.
+fn begins_blank(bytes: &[u8]) -> bool {
+    match bytes.first() {
+        Some(byte) => *byte == b'\r' || *byte == b'\n',
+        None => false,
+    }
+}
+
 /// Reads the head of an answer at the front of the bytes; `None` where it isn't whole yet.
 ///
 /// Refused `BadGateway` where the head is malformed, too long, can be understood in two ways, or switches protocols, and `Unavailable` where
@@ -154,16 +182,27 @@ pub fn read_response(
     alloc: Global,
     bytes: &[u8],
     asked: Asked,
-) -> Result<Option<ResponseHead<'_>>, Fault> {
+) -> Result<Option<ResponseHead<'_>>, Fault>
+    ensures whole { IfOk result (λ read. IfSome read (IsResponse bytes.now asked)) }
+    ensures open { result ≡ Ok None → HasNoResponse bytes.now }
+    ensures short { result ≡ Ok None → length bytes.now < 65536 }
+    ensures strict { result ≡ Ok None → HasStrictFeeds bytes.now }
+{
+    if begins_blank(bytes) {
+        return Err(Fault::BadGateway);
+    }
     let mut spans = [EMPTY_HEADER_SPAN; FIELD_LIMIT];
     match parse_response(bytes, &mut spans) {
         Ok(Status::Complete(found)) => match head_at(alloc, bytes, asked, &found, &spans) {
             Ok(head) => Ok(Some(head)),
             Err(fault) => Err(fault),
         },
-        Ok(Status::Partial) if bytes.len() >= HEAD_LIMIT => Err(Fault::BadGateway),
-        Ok(Status::Partial) if has_bare_feed(bytes) => Err(Fault::BadGateway),
-        Ok(Status::Partial) => Ok(None),
+        Ok(Status::Partial) => {
+            if bytes.len() >= HEAD_LIMIT || has_bare_feed(bytes) {
+                return Err(Fault::BadGateway);
+            }
+            Ok(None)
+        }
         Err(_) => Err(Fault::BadGateway),
     }
 }
