@@ -70,16 +70,16 @@ where
     Ok([both, one, again])
 }
 
-// Runs the balancer in a thread of its own, makes requests meanwhile, and prints how many servers they went to.
+// Runs the balancer in a thread of its own, and makes requests meanwhile.
 fn run_beside<R, C>(
     rt: &R,
     balancer: &Balancer<C>,
     second: R::Listener,
     signal: &mut ShutdownSignal,
     watch: &ShutdownWatch,
-) -> Result<(), anyhow::Error>
+) -> Result<[usize; 3], anyhow::Error>
 where
-    R: Log + Net + Threads + Wait + Clock + Print + AllocGlobal + Sync,
+    R: Log + Net + Threads + Wait + Clock + AllocGlobal + Sync,
     C: HealthCheck + Drop + Send + Sync,
 {
     let ((), used) = thread::join(
@@ -91,11 +91,7 @@ where
             used
         },
     );
-    let [both, one, again] = used?;
-    println!(rt; "two servers: requests go to {both}")?;
-    println!(rt; "one has stopped: requests go to {one}")?;
-    println!(rt; "it came back: requests go to {again}")?;
-    Ok(())
+    used
 }
 
 fn main(rt: HostRuntime) -> Result<(), anyhow::Error> {
@@ -105,7 +101,6 @@ fn main(rt: HostRuntime) -> Result<(), anyhow::Error> {
     let one_text = format!(in alloc; "{}", first.local_addr()?)?;
     let other_text = format!(in alloc; "{}", second.local_addr()?)?;
     let texts = [one_text.as_str(), other_text.as_str()];
-    let (mut signal, watch) = shutdown_pair(alloc)?;
     let mut clock = RuntimeClock::new(&rt);
     let mut balancer: Balancer<TcpHealthCheck<HostRuntime>> = LoadBalancer::try_from_iter(
         &rt,
@@ -116,5 +111,10 @@ fn main(rt: HostRuntime) -> Result<(), anyhow::Error> {
     )?;
     balancer.set_health_check(&rt, TcpHealthCheck::new(rt))?;
     balancer.health_check_frequency = Some(100_000_000);
-    run_beside(&rt, &balancer, second, &mut signal, &watch)
+    let (mut signal, watch) = shutdown_pair(alloc)?;
+    let [both, one, again] = run_beside(&rt, &balancer, second, &mut signal, &watch)?;
+    println!(rt; "two servers: requests go to {both}")?;
+    println!(rt; "one has stopped: requests go to {one}")?;
+    println!(rt; "it came back: requests go to {again}")?;
+    Ok(())
 }

@@ -10,10 +10,6 @@ mod turns;
 mod waking;
 
 use lb_crowd::crowd::{Crowd, Registry};
-use lb_health_check::health_check::HealthCheck;
-use lb_health_registry::keys::KeyRule;
-use lb_select_base::walk::BackendSelection;
-use lb_threads_group::group::SharedGroup;
 use lb_threads_registry::registry::HealthRegistry;
 use log::Log;
 use std::alloc::Global;
@@ -48,31 +44,6 @@ enum Row {
     CancelledWhileRead,
 }
 
-// Plays a case that no worker has a part in, on any two groups.
-fn play_by_calls<
-    S: BackendSelection,
-    R: KeyRule + Drop,
-    C: HealthCheck + Drop,
-    W: Abort + Log + Wait + Copy + Drop,
->(
-    rt: &W,
-    alloc: Global,
-    first: &SharedGroup<S, R, C>,
-    second: &SharedGroup<S, R, C>,
-    registry: &Registry,
-    row: Row,
-) {
-    match row {
-        Row::TurnsOnOneGate => turns::turns_on_one_gate(rt, alloc, first, second),
-        Row::WorkerOfOneLetGo => turns::worker_of_one_let_go(rt, alloc, first),
-        Row::RefusedOnce => turns::refused_once(rt, alloc, first),
-        Row::ClockGoesBack => moments::clock_goes_back(rt, alloc, first),
-        Row::ReaderStays => staying::reader_stays(rt, alloc, first),
-        Row::CancelledWhileRead => staying::cancelled_while_read(rt, alloc, first, registry),
-        _ => {}
-    }
-}
-
 // Plays a case. No worker of the groups was started before.
 fn play<W: Abort + Log + Threads + Wait + Clock + Copy + Send + Sync + Drop + 'static>(
     rt: &W,
@@ -88,16 +59,16 @@ fn play<W: Abort + Log + Threads + Wait + Clock + Copy + Send + Sync + Drop + 's
         Row::ServedInACrowd => builds::served_in_a_crowd(rt, alloc, crowd),
         Row::SelectsBesideABuild => builds::selects_beside_a_build(rt, alloc, crowd),
         Row::CancelsABuild => builds::cancels_a_build(rt, alloc, crowd),
+        Row::TurnsOnOneGate => turns::turns_on_one_gate(rt, alloc, first, second),
+        Row::WorkerOfOneLetGo => turns::worker_of_one_let_go(rt, alloc, first),
+        Row::RefusedOnce => turns::refused_once(rt, alloc, first),
         Row::LastReaderWakes => waking::last_reader_wakes(rt, alloc, crowd),
         Row::RebuildsGoOn => waking::rebuilds_go_on(rt, alloc, crowd),
+        Row::ClockGoesBack => moments::clock_goes_back(rt, alloc, first),
         Row::AtTheLastMoment => moments::at_the_last_moment(rt, alloc, crowd),
-        Row::TurnsOnOneGate
-        | Row::WorkerOfOneLetGo
-        | Row::RefusedOnce
-        | Row::ClockGoesBack
-        | Row::ReaderStays
-        | Row::CancelledWhileRead => {
-            play_by_calls(rt, alloc, first, second, &*crowd.site.registry, row)
+        Row::ReaderStays => staying::reader_stays(rt, alloc, first),
+        Row::CancelledWhileRead => {
+            staying::cancelled_while_read(rt, alloc, first, &*crowd.site.registry)
         }
     }
 }
