@@ -84,6 +84,8 @@ pub enum Cause {
     NotKey,
     #[error("is to be rr, fnv, ketama, least or random")]
     NotSelection,
+    #[error("can't be that yet")]
+    NotYet,
     #[error("is the name of an earlier pool too")]
     SameName,
     #[error("names no pool")]
