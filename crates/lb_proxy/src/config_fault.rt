@@ -78,9 +78,9 @@ pub enum Cause {
     NotPath,
     #[error("is to be tcp or http")]
     NotCheck,
-    #[error("is to be tcp or http")]
+    #[error("is to be tcp")]
     NotMode,
-    #[error("is to be source, and in http mode it can be uri or header:NAME too")]
+    #[error("is to be source")]
     NotKey,
     #[error("is to be rr, fnv, ketama, least or random")]
     NotSelection,
