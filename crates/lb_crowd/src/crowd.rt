@@ -131,7 +131,7 @@ impl<W: Wait + Clock + Copy + Drop> Crowd<W> {
         [&**self.first.shared(), &**self.second.shared()]
     }
 
-    /// Drops both handles, and tells what the groups leave: whether both are let go, their workers end within that many turns of ten
+    /// Drops both handles, and tells what the groups leave: whether both are gone, their workers end within that many turns of ten
     /// milliseconds, no more selectors than the slots and one ever lived, the permit is back, no selector lives on, and the registry has
     /// no backend to check.
     ///

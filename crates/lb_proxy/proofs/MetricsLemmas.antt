@@ -7,7 +7,7 @@ use Rattle.lb_proxy.specs.Metrics.{escaped, unescaped}
 is_byte : (byte n : ℕ) → (byte == n) ≡ true → n ≡ byte
 is_byte byte n is = grind (arith, nat_tests)
 
--- a byte that is no backslash stands for itself
+-- a byte that is no backslash means itself
 read_plain : (byte : ℕ) (rest : List ℕ) → (byte == 92) ≡ false → unescaped (byte ∷ rest) ≡ byte ∷ unescaped rest
 read_plain byte [] other = refl
 read_plain byte (y ∷ ys) other = rw other refl

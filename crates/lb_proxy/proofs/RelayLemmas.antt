@@ -78,7 +78,7 @@ has_ended old (wrote bytes ∷ events) new run was_open closed = has_ended run.0
 has_ended old (ended ∷ events) new run was_open closed = tt
 has_ended old (shut ∷ events) new run was_open closed = let never : Open ≡ Ending = sym was_open ∙ run.1.0.is_ending in cc
 
--- nothing happens after the sink was told
+-- nothing happens after the sink was ended
 nothing_after : (old : FlowState) (events : List Event) (new : FlowState) → Run old events new → old.phase ≡ Shut → old.pending ≡ []
     → events ≡ []
 nothing_after old [] new run told none = refl

@@ -81,8 +81,8 @@ HasEnded (wrote bytes ∷ events) = HasEnded events
 HasEnded (ended ∷ events) = ⊤
 HasEnded (shut ∷ events) = HasEnded events
 
--- What is read is written in order and once, or waits; at most 32768 bytes wait. After the end nothing is read. The sink is told
--- of the end once all is written, and after that nothing happens.
+-- What is read is written in order and once, or waits; at most 32768 bytes wait. After the end nothing is read. The sink is
+-- ended once all is written, and after that nothing happens.
 pub record IsRelayed (events : List Event) (last : FlowState) : Type 0 where
   pub ordered : read_by events ≡ written_by events ++ last.pending
   pub bounded : length last.pending ≤ 32768

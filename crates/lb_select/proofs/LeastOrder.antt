@@ -9,7 +9,7 @@ use Rattle.std.specs.Ordering.{nat_cmp, ordering_then, ordering_reverse, is_lt}
 use Rattle.lb_select.specs.Readings.{reading_cmp}
 use Rattle.lb_select.specs.declared.reading.Reading.{Reading}
 
--- two comparisons of numbers, one after the other, as they stand to each other
+-- two comparisons of numbers, one after the other, as they compare
 less_first : (p q i j : ℕ) → p < q → ordering_then (nat_cmp p q) (nat_cmp i j) ≡ Less
 less_first p q i j h = ap (λ o. ordering_then o (nat_cmp i j)) (sym (nat_cmp_is p q Less h))
 

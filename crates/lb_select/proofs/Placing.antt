@@ -148,7 +148,7 @@ module _ (ms : List Member) (order : IsStrictlySortedBy member_cmp ms) (owners :
         marked = subst P (ap (λ z. crc_chain z x.number) same ∙ x.point_is) c;
       }
 
-  -- owners of smaller numbers stand first
+  -- owners of smaller numbers come first
   indexes_rise : (i j b d : ℕ) → slice_get owners i ≡ Some b → slice_get owners j ≡ Some d → i ≤ j → b ≤ d
   indexes_rise i j b d p q l =
       elim (less_tells i j) [

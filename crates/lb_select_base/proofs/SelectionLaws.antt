@@ -131,7 +131,7 @@ take-empty n (x ∷ xs) some e =
     let one : length (take n (x ∷ xs)) ≡ min n (length (x ∷ xs)) = length-take n (x ∷ xs) in
     let zero : length (take n (x ∷ xs)) ≡ 0 = ap length e in absurd (omega arith)
 
--- none that stands in a list of refused ones is accepted
+-- none that is in a list of refused ones is accepted
 each-contained : {B : Type 0} (P : B → Type 0) (xs : List B) (b : B) → Each P xs → Contains xs b → P b
 each-contained P xs b each within = All-contains P xs b (All-from_recursion P xs each) within
 

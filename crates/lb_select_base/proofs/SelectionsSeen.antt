@@ -1,4 +1,4 @@
--- A selection told otherwise: by a test that follows from the one that was asked, and from a source seen as another one.
+-- A selection stated another way: by a test that follows from the one that was asked, and from a source seen as another one.
 use Rattle.std.specs.Prelude.{ℕ, Bool, true, false, List, [], ◌∷◌, Option, Some, None, Result, Ok, Err, take}
 use Rattle.std.proofs.Common.{ap, inl, inr}
 use Rattle.std.specs.List.{AllByRecursion as Each}

@@ -10,7 +10,7 @@ use Rattle.std.specs.Io.KnownBytes.{prepend_known, IsAtEnd}
 use Rattle.lb_stream.specs.Stream.{OnBytes}
 use Rattle.lb_stream.specs.Lines.{lines_of, whole_lines, first_line, HasNoFeed, IsLine}
 
--- what the bytes of an unfinished line are: whatever follows them, they stand at the front of the first line
+-- what the bytes of an unfinished line are: whatever follows them, they are at the front of the first line
 pub record IsFront (line : List ℕ) : Type 0 where
   pub first : (rest : List ℕ) → first_line (line ++ rest) ≡ line ++ first_line rest
 
@@ -20,7 +20,7 @@ first_line-feed x xs h = rw h
 first_line-more : (x : ℕ) (xs : List ℕ) → (x == 10) ≡ false → first_line (x ∷ xs) ≡ x ∷ first_line xs
 first_line-more x xs h = rw h
 
--- where the first line feed stands
+-- where the first line feed is
 feed_at : (bytes : List ℕ) (n : ℕ) → n < length bytes → (slice_index bytes n == 10) ≡ true
     → ((k : ℕ) → k < n → (slice_index bytes k == 10) ≢ true)
     → n ≡ length (first_line bytes)
@@ -31,7 +31,7 @@ feed_at (x ∷ xs) (suc n) within is before =
     let rest : n ≡ length (first_line xs) = feed_at xs n (omega arith) is (λ k h. before (suc k) (omega arith)) in
     rw (first_line-more x xs other) (ap suc rest)
 
--- where none stands
+-- where there is none
 feed_none : (bytes : List ℕ) → ((k : ℕ) → k < length bytes → (slice_index bytes k == 10) ≢ true) → length bytes ≡ length (first_line bytes)
 feed_none [] before = refl
 feed_none (x ∷ xs) before =
@@ -46,7 +46,7 @@ feed_found bytes place h = feed_at bytes place h.0.high h.1 (λ k below. h.0.bef
 pub feed_missing : (bytes : List ℕ) → IsFirstByte (is_byte 10) bytes None → length bytes ≡ length (first_line bytes)
 feed_missing bytes h = feed_none bytes (λ k below. h k (omega arith) below)
 
--- the first line, and what stands after it, where the first byte is a line feed and where it isn't
+-- the first line, and what comes after it, where the first byte is a line feed and where it isn't
 by_first : (P : List ℕ → Type 0) (x : ℕ) (xs : List ℕ) → ((x == 10) ≡ true → P (x ∷ xs)) → ((x == 10) ≡ false → P (x ∷ xs)) → P (x ∷ xs)
 by_first P x xs p q = elim (cases_Bool (x == 10)) [ inl h ↦ p h | inr h ↦ q h ]
 
@@ -87,7 +87,7 @@ first_line-twice (x ∷ xs) = by_first (λ bytes. first_line (first_line bytes) 
 feed_is : (x : ℕ) → (x == 10) ≡ true → x ≡ 10
 feed_is x h = grind (arith, nat_tests)
 
--- a line that ends within some bytes, its line feed, and what stands after it
+-- a line that ends within some bytes, its line feed, and what comes after it
 pub ended_at_feed : (bytes : List ℕ) → length (first_line bytes) < length bytes
     → bytes ≡ first_line bytes ++ 10 ∷ drop (length (first_line bytes) + 1) bytes
 ended_at_feed [] within = absurd (omega arith)

@@ -14,7 +14,7 @@ use std::thread;
 use std::thread::{Threads, join};
 use std::time::{Clock, Duration};
 
-// What happens beside a service.
+// What happens while a service runs.
 #[derive(Clone, Copy)]
 enum Beside {
     Nothing,
@@ -32,12 +32,12 @@ enum Signal {
     IsGone,
 }
 
-// Whether what happens beside a service came; how many checks there were, counted up to three; whether the service said that it is
+// Whether what happens while a service runs came; how many checks there were, counted up to three; whether the service said that it is
 // ready; and whether the one target's cell is ready.
 type Told = (bool, u64, bool, bool);
 
 // A case: whether the registry has no target at first, and whether each check waits until services are to end; the service's frequency, and
-// whether its checks run beside each other; by how much its clock goes on at each reading.
+// whether its checks run in parallel; by how much its clock goes on at each reading.
 struct Row {
     name: &'static str,
     is_empty: bool,
@@ -125,7 +125,7 @@ const ROWS: [Row; 6] = [
     },
 ];
 
-// Does what happens beside a service; whether it came.
+// Does what happens while a service runs; whether it came.
 fn happens<R: Abort + Wait + Clock + Drop>(
     rt: &R,
     alloc: Global,
@@ -171,7 +171,7 @@ fn begin<R: Abort + Wait + Clock + Copy + Send + Sync + Drop>(
     bench.set_check(rt, row.waits);
 }
 
-// Runs the service, beside what happens meanwhile.
+// Runs the service, and what happens meanwhile.
 fn runs<R: Abort + Log + Threads + Wait + Clock + Copy + Send + Sync + Drop>(
     rt: &R,
     alloc: Global,

@@ -49,7 +49,7 @@ pub type HeldRegistry<R> = TakenValue<Registry<R>, Snapshot<Registry<R>>>;
 /// A registry of health behind a lock, and the check of its targets, which is set once. Contracts see the registry as it was when it
 /// came under the lock, and which lock.
 ///
-/// `new`, `by_address` and `with_equivalence` make one by its rule of keys; `over` makes one of a plain registry.
+/// `new` and `by_address` make one by its rule of keys; `over` makes one of a plain registry.
 #[derive(Drop)]
 pub struct HealthRegistry<R: KeyRule + Drop = Rule<NoRule>, C = BoxedCheck> {
     lock: KeyedLock<Registry<R>, Snapshot<Registry<R>>, OfRegistry>,

@@ -1,4 +1,4 @@
-//! The search of partial sums at worked places, counted out over the list that the sums stand for: each backend as often as it weighs.
+//! The search of partial sums at worked places, counted out over the list that the sums mean: each backend as often as it weighs.
 use crate::asserted::assert_same;
 use crate::selection::fixtures::set_of_weights;
 use lb_select::selection::RoundRobin;

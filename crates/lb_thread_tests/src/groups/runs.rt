@@ -1,5 +1,5 @@
-//! Runs of a group in the background. Some are told to end in the middle of an update, of a check, and of a build: what is under way is let
-//! end, and what it did stands. The last one updates again and again, and is told to end once its slots serve what was found.
+//! Runs of a group in the background. Some are shut down in the middle of an update, of a check, and of a build: what is under way goes on to
+//! its end, and what it did is kept. The last one updates again and again, and is shut down once its slots serve what was found.
 use super::TURNS;
 use lb_background::ready::{ReadyWatch, ServiceReadyNotifier, ready_pair};
 use lb_background::shutdown::{ShutdownSignal, ShutdownWatch, shutdown_pair};
@@ -124,7 +124,7 @@ impl<W: Abort + Wait + Clock + Copy + Drop> Bench<W> {
         }
     }
 
-    // The notifier of a new run, which is not yet to end, and its other half. A run whose notifier is to be told updates each millisecond;
+    // The notifier of a new run, which is not yet to end, and its other half. A run whose notifier is to be notified updates each millisecond;
     // before it the build goes on, and comes to be served.
     fn begin(
         &mut self,
@@ -171,7 +171,7 @@ impl<W: Abort + Wait + Clock + Copy + Drop> Bench<W> {
 }
 
 // How many discoveries and checks there were, what the group's generation and its slot's is, whether the backend is ready, and whether the
-// notifier was told.
+// notifier was notified.
 #[derive(Clone, Copy, Debug, PartialEq, Eq)]
 struct Left {
     updates: u64,
@@ -217,7 +217,7 @@ fn slow_for<W: Abort + Copy + Drop>(rt: W, calls: &Arc<Calls>, watch: &ShutdownW
     }
 }
 
-// How many discoveries, checks and builds there are to be before a run is told to end, and whether its notifier is to be told before.
+// How many discoveries, checks and builds there are to be before a run is shut down, and whether its notifier is to be notified before.
 #[derive(Clone, Copy, Debug)]
 struct Wanted {
     updates: u64,
@@ -249,9 +249,10 @@ fn end_after<W: Clock>(
     came
 }
 
-// Runs that are told to end in their update, in their check, and while they wait for a build that is held. An update is let end: its
-// membership stands. So is a check: its verdict stands. A build doesn't hold up the end; it is let end, and served. No notifier is told.
-// Then a run that updates again and again: its notifier is told once what it found is served, and an update that is refused doesn't end it.
+// Runs that are shut down in their update, in their check, and while they wait for a build that is held. An update goes on to its end,
+// and its membership is kept. So does a check, and its verdict is kept. A build doesn't hold up the end; it is ended, and served. No
+// notifier is notified. Then a run that updates again and again: its notifier is notified once what it found is served, and an update
+// that is refused doesn't end it.
 #[test]
 fn what_is_under_way_is_let_end(rt: HostRuntime) {
     let alloc = rt.alloc();

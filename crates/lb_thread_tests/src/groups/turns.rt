@@ -18,7 +18,7 @@ use std::collections::BTreeSet;
 use std::process::Abort;
 use std::sync::Wait;
 
-// A clock that stands.
+// A clock that always reads the same.
 #[derive(Drop)]
 struct Still {}
 
@@ -99,7 +99,7 @@ pub fn turns_on_one_gate<
     );
 }
 
-/// A worker of a group that is let go cancels it, and ends; what it was to build is not built. A slot that isn't there has no worker.
+/// A worker of a group that is dropped cancels it, and ends; what it was to build is not built. A slot that isn't there has no worker.
 pub fn worker_of_one_let_go<
     S: BackendSelection,
     R: KeyRule + Drop,
@@ -129,7 +129,7 @@ pub(super) fn too_heavy(alloc: Global) -> Result<DiscoverySource<Static>, Refusa
     Ok(DiscoverySource::Static(Static::new(backends)))
 }
 
-// A clock at whose second reading a group is let go.
+// A clock at whose second reading a group is dropped.
 #[derive(Drop)]
 struct LettingGo<'g, S: BackendSelection, R: KeyRule + Drop, C> {
     group: &'g SharedGroup<S, R, C>,
@@ -152,7 +152,7 @@ impl<'g, S: BackendSelection, R: KeyRule + Drop, C: HealthCheck + Drop> MomentSo
     }
 }
 
-// A worker whose first build is refused, and whose group is let go then; whether it was the slot's worker.
+// A worker whose first build is refused, and whose group is dropped then; whether it was the slot's worker.
 fn works_once<S: BackendSelection, R: KeyRule + Drop, C: HealthCheck + Drop, W: Log + Wait>(
     rt: &W,
     alloc: Global,
