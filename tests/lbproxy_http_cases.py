@@ -24,7 +24,6 @@ CONFIG = f"""
 listen = "127.0.0.1:{PAGE}"
 [limits]
 threads = 2
-answer = "2s"
 drain = "5s"
 [[pool]]
 name = "one"
@@ -337,12 +336,21 @@ def a_backend_that_refuses_is_passed_over():
 
 
 def a_slow_answer_is_504():
-    with Client(ONE) as client:
-        begun = time.monotonic()
-        status, _, _ = client.ask(b"/slow?5")
-        took = time.monotonic() - begun
-        expect(status == 504 and 1.9 < took < 4, (status, took))
-        expect(client.ask(b"/")[2] == b"a", "the connection doesn't go on")
+    port = free_port()
+    proxy = Proxy(
+        f'[limits]\nanswer = "1s"\n[[pool]]\nname = "p"\nbackends = ["{A.address}"]\n'
+        f'[[listen]]\naddress = "127.0.0.1:{port}"\nmode = "http"\npool = "p"\n'
+    )
+    try:
+        wait_until(lambda: ask(port, b"/")[2] == b"a", "it doesn't run")
+        with Client(port) as client:
+            begun = time.monotonic()
+            status, _, _ = client.ask(b"/slow?3")
+            took = time.monotonic() - begun
+            expect(status == 504 and 0.9 < took < 2.5, (status, took))
+            expect(client.ask(b"/")[2] == b"a", "the connection doesn't go on")
+    finally:
+        proxy.process.kill()
 
 
 # ---- connections to backends that die
