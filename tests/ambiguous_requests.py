@@ -87,7 +87,7 @@ REQUESTS = [
     ("HTTP/2.0", b"PRI * HTTP/2.0\r\n\r\nSM\r\n\r\n", 505),
     ("HTTP/1.2", b"GET / HTTP/1.2\r\nHost: a\r\n\r\n", 505),
     ("no version", b"GET /\r\n\r\n", 400),
-    ("a version in lower case", b"GET / http/1.1\r\nHost: a\r\n\r\n", 505),
+    ("a version in lower case", b"GET / http/1.1\r\nHost: a\r\n\r\n", 400),
     ("101 fields", b"GET / HTTP/1.1\r\nHost: a\r\n" + b"X: y\r\n" * 100 + b"\r\n", 431),
     ("a head above 64 KiB", b"GET / HTTP/1.1\r\nHost: a\r\nX: " + b"y" * 65536 + b"\r\n\r\n", 431),
 ]

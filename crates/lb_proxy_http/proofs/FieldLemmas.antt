@@ -30,7 +30,7 @@ values_step name fields i f within is =
 
 pub values_with : (name : List ℕ) (fields : List Field) (i : ℕ) (f : Field) → i < length fields → f ≡ get_or fields i f
     → has_name name f ≡ true → values_of name (drop i fields) ≡ f.value.now ∷ values_of name (drop (i + 1) fields)
-values_with name fields i f within is yes = let one = values_step name fields i f within is in rw yes at one
+values_with name fields i f within is holds = let one = values_step name fields i f within is in rw holds at one
 
 pub values_without : (name : List ℕ) (fields : List Field) (i : ℕ) (f : Field) → i < length fields → f ≡ get_or fields i f
     → has_name name f ≡ false → values_of name (drop i fields) ≡ values_of name (drop (i + 1) fields)

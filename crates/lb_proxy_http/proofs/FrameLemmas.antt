@@ -43,8 +43,8 @@ extension_end size room text = (
 
 pub extension_more : (size room b : ℕ) → b ≢ 13 → is_value_byte b ≡ true → 0 < room
     → Follows (F.Extension size room) b (P.Framed (F.Extension size (room - 1)))
-extension_more size room b other yes some text = (
-  λ r. (r.0, run_more is_value_byte 13 (λ left t. Feed (λ a. AfterLine r.0 size a) t) b room text yes some r.1),
+extension_more size room b other holds some text = (
+  λ r. (r.0, run_more is_value_byte 13 (λ left t. Feed (λ a. AfterLine r.0 size a) t) b room text holds some r.1),
   λ r. (r.0, run_more_back is_value_byte 13 (λ left t. Feed (λ a. AfterLine r.0 size a) t) b room text other r.1),
 )
 
@@ -52,8 +52,8 @@ pub extension_bad : (size room b : ℕ) → b ≢ 13 → (room ≡ 0) ⊎ (is_va
 extension_bad size room b other (inl none) text r =
     run_full is_value_byte 13 (λ left t. Feed (λ a. AfterLine r.0 size a) t) b text other
     (subst (λ (n : ℕ). Run is_value_byte 13 (λ left t. Feed (λ a. AfterLine r.0 size a) t) n (b ∷ text)) none r.1)
-extension_bad size room b other (inr no) text r =
-    run_bad is_value_byte 13 (λ left t. Feed (λ a. AfterLine r.0 size a) t) b room text other no r.1
+extension_bad size room b other (inr fails) text r =
+    run_bad is_value_byte 13 (λ left t. Feed (λ a. AfterLine r.0 size a) t) b room text other fails r.1
 
 -- ---- the size of a chunk
 
@@ -68,17 +68,17 @@ module _ (P : ℕ → List ℕ → Type 0) where
   ends_first Q b text (inr e) = let is = e.1 in inr (cc)
 
   no_digit : (b : ℕ) → is_ascii_hexdigit b ≡ true → (b ≡ 13) ⊎ (b ≡ 59) → ⊥
-  no_digit b yes (inl e) = let no : is_ascii_hexdigit b ≡ false = ap is_ascii_hexdigit e in cc
-  no_digit b yes (inr e) = let no : is_ascii_hexdigit b ≡ false = ap is_ascii_hexdigit e in cc
+  no_digit b holds (inl e) = let fails : is_ascii_hexdigit b ≡ false = ap is_ascii_hexdigit e in cc
+  no_digit b holds (inr e) = let fails : is_ascii_hexdigit b ≡ false = ap is_ascii_hexdigit e in cc
 
   size_digit : (count value b : ℕ) (text : List ℕ) → is_ascii_hexdigit b ≡ true → count < 16
       → Size P (count + 1) (value * 16 + digit_value b) text → Size P count value (b ∷ text)
-  size_digit count value b text yes few s =
+  size_digit count value b text holds few s =
       let some = s.some in
       let few_left = s.few in
       record {
         digits = b ∷ s.digits;
-        pass = All-cons (λ v. is_ascii_hexdigit v ≡ true) b s.digits yes s.pass;
+        pass = All-cons (λ v. is_ascii_hexdigit v ≡ true) b s.digits holds s.pass;
         some = omega arith;
         few = omega arith;
         small = s.small;
@@ -89,14 +89,14 @@ module _ (P : ℕ → List ℕ → Type 0) where
 
   size_digit_back : (count value b : ℕ) (text : List ℕ) → is_ascii_hexdigit b ≡ true → Size P count value (b ∷ text)
       → (count < 16) × (value * 16 + digit_value b < 2 ^ 64) × Size P (count + 1) (value * 16 + digit_value b) text
-  size_digit_back count value b text yes s = by s.digits s.pass s.few s.small s.rest s.is s.ends
+  size_digit_back count value b text holds s = by s.digits s.pass s.few s.small s.rest s.is s.ends
     where
       by : (digits : List ℕ) → AllPass is_ascii_hexdigit digits → length digits ≤ 16 - count → digits_value_after 16 value digits < 2 ^ 64
           → (rest : List ℕ) → b ∷ text ≡ digits ++ rest → Ends (P (digits_value_after 16 value digits)) rest
           → (count < 16) × (value * 16 + digit_value b < 2 ^ 64) × Size P (count + 1) (value * 16 + digit_value b) text
       by [] pass few small rest is ends =
           let e : rest ≡ b ∷ text = sym is in
-          absurd (no_digit b yes (ends_first (P value) b text (subst (λ (l : List ℕ). Ends (P value) l) e ends)))
+          absurd (no_digit b holds (ends_first (P value) b text (subst (λ (l : List ℕ). Ends (P value) l) e ends)))
       by (x ∷ ds) pass few small rest is ends =
           let same : x ≡ b = cc in
           let value_is : value * 16 + digit_value x ≡ value * 16 + digit_value b = ap (λ (d : ℕ). value * 16 + digit_value d) same in
@@ -131,7 +131,7 @@ module _ (P : ℕ → List ℕ → Type 0) where
 
   size_end_back : (count value b : ℕ) (text : List ℕ) → is_ascii_hexdigit b ≡ false → Size P count value (b ∷ text)
       → (0 < count) × Ends (P value) (b ∷ text)
-  size_end_back count value b text no s = by s.digits s.pass s.some s.rest s.is s.ends
+  size_end_back count value b text fails s = by s.digits s.pass s.some s.rest s.is s.ends
     where
       by : (digits : List ℕ) → AllPass is_ascii_hexdigit digits → 0 < count + length digits
           → (rest : List ℕ) → b ∷ text ≡ digits ++ rest → Ends (P (digits_value_after 16 value digits)) rest
@@ -141,35 +141,35 @@ module _ (P : ℕ → List ℕ → Type 0) where
           (omega arith, subst (λ (l : List ℕ). Ends (P value) l) e ends)
       by (x ∷ ds) pass some rest is ends =
           let same : b ≡ x = cc in
-          let yes : is_ascii_hexdigit x ≡ true = All-head (λ v. is_ascii_hexdigit v ≡ true) x ds pass in
+          let holds : is_ascii_hexdigit x ≡ true = All-head (λ v. is_ascii_hexdigit v ≡ true) x ds pass in
           let also : is_ascii_hexdigit b ≡ is_ascii_hexdigit x = ap is_ascii_hexdigit same in
           cc
 
 size_more_at : (count value b : ℕ) → is_ascii_hexdigit b ≡ true → count < 16
     → Follows (F.Size count value) b (P.Framed (F.Size (count + 1) (value * 16 + digit_value b)))
-size_more_at count value b yes few text = (
-  λ r. (r.0, size_digit (λ s a. AfterLine r.0 s a) count value b text yes few r.1),
-  λ r. (r.0, (size_digit_back (λ s a. AfterLine r.0 s a) count value b text yes r.1).2),
+size_more_at count value b holds few text = (
+  λ r. (r.0, size_digit (λ s a. AfterLine r.0 s a) count value b text holds few r.1),
+  λ r. (r.0, (size_digit_back (λ s a. AfterLine r.0 s a) count value b text holds r.1).2),
 )
 
 pub size_more : (count value b digit : ℕ) → is_ascii_hexdigit b ≡ true → digit ≡ digit_value b → count < 16
     → Follows (F.Size count value) b (P.Framed (F.Size (count + 1) (value * 16 + digit)))
-size_more count value b digit yes is few =
+size_more count value b digit holds is few =
     subst (λ (d : ℕ). Follows (F.Size count value) b (P.Framed (F.Size (count + 1) (value * 16 + d)))) (sym is)
-    (size_more_at count value b yes few)
+    (size_more_at count value b holds few)
 
 pub size_full : (count value b : ℕ) → is_ascii_hexdigit b ≡ true → (16 ≤ count) ⊎ (1152921504606846976 ≤ value) → Blocks (F.Size count value) b
-size_full count value b yes (inl many) text r =
-    let back : count < 16 = (size_digit_back (λ s a. AfterLine r.0 s a) count value b text yes r.1).0 in omega arith
-size_full count value b yes (inr large) text r =
-    let back : value * 16 + digit_value b < 2 ^ 64 = (size_digit_back (λ s a. AfterLine r.0 s a) count value b text yes r.1).1 in omega arith
+size_full count value b holds (inl many) text r =
+    let back : count < 16 = (size_digit_back (λ s a. AfterLine r.0 s a) count value b text holds r.1).0 in omega arith
+size_full count value b holds (inr large) text r =
+    let back : value * 16 + digit_value b < 2 ^ 64 = (size_digit_back (λ s a. AfterLine r.0 s a) count value b text holds r.1).1 in omega arith
 
 pub size_none : (value b : ℕ) → is_ascii_hexdigit b ≡ false → Blocks (F.Size 0 value) b
-size_none value b no text r = let back : 0 < 0 = (size_end_back (λ s a. AfterLine r.0 s a) 0 value b text no r.1).0 in omega arith
+size_none value b fails text r = let back : 0 < 0 = (size_end_back (λ s a. AfterLine r.0 s a) 0 value b text fails r.1).0 in omega arith
 
 pub size_bad : (count value b : ℕ) → is_ascii_hexdigit b ≡ false → b ≢ 13 → b ≢ 59 → Blocks (F.Size count value) b
-size_bad count value b no other also text r =
-    by (ends_first (λ s a. AfterLine r.0 s a) (λ a. AfterLine r.0 value a) b text (size_end_back (λ s a. AfterLine r.0 s a) count value b text no r.1).1)
+size_bad count value b fails other also text r =
+    by (ends_first (λ s a. AfterLine r.0 s a) (λ a. AfterLine r.0 value a) b text (size_end_back (λ s a. AfterLine r.0 s a) count value b text fails r.1).1)
   where
     by : (b ≡ 13) ⊎ (b ≡ 59) → ⊥
     by (inl e) = other e
@@ -177,10 +177,10 @@ size_bad count value b no other also text r =
 
 ends_return_back : (Q : List ℕ → Type 0) (text : List ℕ) → Ends Q (13 ∷ text) → Feed Q text
 ends_return_back Q text (inl e) = let is = e.1 in let same : e.0 ≡ text = cc in subst (λ (l : List ℕ). Feed Q l) same e.2
-ends_return_back Q text (inr e) = let is = e.1 in let no : 13 ≡ 59 = cc in absurd (omega arith)
+ends_return_back Q text (inr e) = let is = e.1 in let fails : 13 ≡ 59 = cc in absurd (omega arith)
 
 ends_semicolon_back : (Q : List ℕ → Type 0) (text : List ℕ) → Ends Q (59 ∷ text) → InExtension Q 4096 text
-ends_semicolon_back Q text (inl e) = let is = e.1 in let no : 59 ≡ 13 = cc in absurd (omega arith)
+ends_semicolon_back Q text (inl e) = let is = e.1 in let fails : 59 ≡ 13 = cc in absurd (omega arith)
 ends_semicolon_back Q text (inr e) =
     let is = e.1 in let same : e.0 ≡ text = cc in subst (λ (l : List ℕ). InExtension Q 4096 l) same e.2
 
@@ -225,15 +225,15 @@ start_end room text = (λ e. (0, ap (λ (l : List ℕ). 13 ∷ l) e), λ r. back
     back zero e = cc
     back (suc n) l =
         let is = l.is in let same : 13 ≡ l.first = cc in let pass = l.pass in
-        let no : is_token_byte l.first ≡ false = ap is_token_byte (sym same) ∙ no_name_return in cc
+        let fails : is_token_byte l.first ≡ false = ap is_token_byte (sym same) ∙ no_name_return in cc
 
 pub start_name : (room b : ℕ) → b ≢ 13 → is_token_byte b ≡ true → 0 < room → Follows (F.Trailer room) b (P.Framed (F.Name (room - 1)))
-start_name room b other yes some text = (
+start_name room b other holds some text = (
   λ r. (
     suc r.0,
     record {
       first = b;
-      pass = yes;
+      pass = holds;
       after = text;
       is = refl;
       follows = counted (InName (λ left after. Trailers r.0 left after)) room text some r.1;
@@ -257,7 +257,7 @@ start_bad room b other (inl none) text r = by r.0 r.1
     by : (n : ℕ) → Trailers n room (b ∷ text) → ⊥
     by zero e = other (cc)
     by (suc n) l = subst (λ (k : ℕ). Counted (InName (λ left after. Trailers n left after)) k l.after) none l.follows
-start_bad room b other (inr no) text r = by r.0 r.1
+start_bad room b other (inr fails) text r = by r.0 r.1
   where
     by : (n : ℕ) → Trailers n room (b ∷ text) → ⊥
     by zero e = other (cc)
@@ -283,14 +283,14 @@ name_end room some text = (
 )
 
 pub name_more : (room b : ℕ) → b ≢ 58 → is_token_byte b ≡ true → 0 < room → Follows (F.Name room) b (P.Framed (F.Name (room - 1)))
-name_more room b other yes some text = (
-  λ r. (r.0, run_more is_token_byte 58 (Counted (InValue (λ left after. Trailers r.0 left after))) b room text yes some r.1),
+name_more room b other holds some text = (
+  λ r. (r.0, run_more is_token_byte 58 (Counted (InValue (λ left after. Trailers r.0 left after))) b room text holds some r.1),
   λ r. (r.0, run_more_back is_token_byte 58 (Counted (InValue (λ left after. Trailers r.0 left after))) b room text other r.1),
 )
 
 pub name_bad : (room b : ℕ) → b ≢ 58 → is_token_byte b ≡ false → Blocks (F.Name room) b
-name_bad room b other no text r =
-    run_bad is_token_byte 58 (Counted (InValue (λ left after. Trailers r.0 left after))) b room text other no r.1
+name_bad room b other fails text r =
+    run_bad is_token_byte 58 (Counted (InValue (λ left after. Trailers r.0 left after))) b room text other fails r.1
 
 pub value_full : (b : ℕ) → Blocks (F.Value 0) b
 value_full b text r = run_none is_value_byte 13 (AfterValue (λ left after. Trailers r.0 left after)) (b ∷ text) r.1
@@ -310,14 +310,14 @@ value_end room some text = (
 )
 
 pub value_more : (room b : ℕ) → b ≢ 13 → is_value_byte b ≡ true → 0 < room → Follows (F.Value room) b (P.Framed (F.Value (room - 1)))
-value_more room b other yes some text = (
-  λ r. (r.0, run_more is_value_byte 13 (Counted (AfterValue (λ left after. Trailers r.0 left after))) b room text yes some r.1),
+value_more room b other holds some text = (
+  λ r. (r.0, run_more is_value_byte 13 (Counted (AfterValue (λ left after. Trailers r.0 left after))) b room text holds some r.1),
   λ r. (r.0, run_more_back is_value_byte 13 (Counted (AfterValue (λ left after. Trailers r.0 left after))) b room text other r.1),
 )
 
 pub value_bad : (room b : ℕ) → b ≢ 13 → is_value_byte b ≡ false → Blocks (F.Value room) b
-value_bad room b other no text r =
-    run_bad is_value_byte 13 (Counted (AfterValue (λ left after. Trailers r.0 left after))) b room text other no r.1
+value_bad room b other fails text r =
+    run_bad is_value_byte 13 (Counted (AfterValue (λ left after. Trailers r.0 left after))) b room text other fails r.1
 
 -- ---- single bytes
 

@@ -26,7 +26,7 @@ module _ (test : ℕ → Bool) (stop : ℕ) (P : ℕ → List ℕ → Type 0) wh
   }
 
   pub run_stop_back : (most : ℕ) (text : List ℕ) → test stop ≡ false → Run test stop P most (stop ∷ text) → P most text
-  run_stop_back most text no r = by r.run r.pass r.left r.within r.after r.is r.follows
+  run_stop_back most text fails r = by r.run r.pass r.left r.within r.after r.is r.follows
     where
       by : (run : List ℕ) → AllPass test run → (left : ℕ) → most ≡ length run + left → (after : List ℕ)
           → stop ∷ text ≡ run ++ stop ∷ after → P left after → P most text
@@ -36,16 +36,16 @@ module _ (test : ℕ → Bool) (stop : ℕ) (P : ℕ → List ℕ → Type 0) wh
           subst (λ (n : ℕ). P n text) e (subst (λ (t : List ℕ). P left t) f p)
       by (x ∷ run) pass left within after is p =
           let same : stop ≡ x = cc in
-          let yes : test x ≡ true = All-head (λ v. test v ≡ true) x run pass in
+          let holds : test x ≡ true = All-head (λ v. test v ≡ true) x run pass in
           let also : test stop ≡ test x = ap test same in
           absurd (cc)
 
   pub run_more : (b most : ℕ) (text : List ℕ) → test b ≡ true → 0 < most → Run test stop P (most - 1) text → Run test stop P most (b ∷ text)
-  run_more b most text yes some r =
+  run_more b most text holds some r =
       let within = r.within in
       record {
         run = b ∷ r.run;
-        pass = All-cons (λ v. test v ≡ true) b r.run yes r.pass;
+        pass = All-cons (λ v. test v ≡ true) b r.run holds r.pass;
         left = r.left;
         within = omega arith;
         after = r.after;
@@ -70,13 +70,13 @@ module _ (test : ℕ → Bool) (stop : ℕ) (P : ℕ → List ℕ → Type 0) wh
       }
 
   pub run_bad : (b most : ℕ) (text : List ℕ) → b ≢ stop → test b ≡ false → Run test stop P most (b ∷ text) → ⊥
-  run_bad b most text other no r = by r.run r.pass r.after r.is
+  run_bad b most text other fails r = by r.run r.pass r.after r.is
     where
       by : (run : List ℕ) → AllPass test run → (after : List ℕ) → b ∷ text ≡ run ++ stop ∷ after → ⊥
       by [] pass after is = other (cc)
       by (x ∷ run) pass after is =
           let same : b ≡ x = cc in
-          let yes : test x ≡ true = All-head (λ v. test v ≡ true) x run pass in
+          let holds : test x ≡ true = All-head (λ v. test v ≡ true) x run pass in
           let also : test b ≡ test x = ap test same in
           cc
 

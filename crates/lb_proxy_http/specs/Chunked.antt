@@ -1,7 +1,7 @@
 -- A body as it is on the way. In chunks it is, by RFC 9112 section 7.1, chunks, a last chunk, trailers and an empty line. Each line ends in
 -- CR LF, a chunk's line has nothing but 1 to 16 digits of its size and perhaps an extension, and no byte of a line is a control byte but
 -- the tab.
-use Rattle.std.specs.Prelude.{◌≡◌, ◌⊎◌, ℕ, zero, suc, ◌+◌, ◌-◌, ◌<◌, ◌≤◌, ◌^◌, List, [], ◌∷◌, ◌++◌, length, ⊤}
+use Rattle.std.specs.Prelude.{◌≡◌, ◌⊎◌, Bool, true, ℕ, zero, suc, ◌+◌, ◌-◌, ◌<◌, ◌≤◌, ◌^◌, List, [], ◌∷◌, ◌++◌, length, ⊤}
 use Rattle.std.specs.Char.{is_ascii_hexdigit}
 use Rattle.std.specs.Str.Parse.{digits_value_after}
 use Rattle.httparse.specs.Grammar.{AllPass, is_token_byte, is_value_byte}

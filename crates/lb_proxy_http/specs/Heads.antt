@@ -31,10 +31,13 @@ version_of minor = if minor == 0 then Http10 else Http11
 unfoldable pub is_host_byte : ℕ → Bool
 is_host_byte b = is_ascii_alphanumeric b || list_any (λ c. c == b) (codes "-._~%!$&'()*+;=:[]")
 
+abbrev pub is_old : Version → Bool
+is_old Http10 = true
+is_old Http11 = false
+
 -- HTTP/1.1 wants one host, HTTP/1.0 at most one
 abbrev pub right_host : Version → List (List ℕ) → Bool
-right_host Http10 [] = true
-right_host Http11 [] = false
+right_host version [] = is_old version
 right_host version (value ∷ []) = list_all is_host_byte value
 right_host version (v ∷ w ∷ vs) = false
 

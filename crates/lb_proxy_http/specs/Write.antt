@@ -53,9 +53,12 @@ goes_on options f = is_end_to_end options f && not (has_name (codes "x-forwarded
 abbrev pub request_line : RequestHead → List ℕ
 request_line head = head.method.now ++ codes " " ++ head.target.now ++ codes " " ++ version_text head.version ++ crlf
 
+unfoldable pub forwarded_name : List ℕ
+forwarded_name = codes "X-Forwarded-For: "
+
 abbrev pub request_added : RequestHead → List ℕ → List ℕ
 request_added head client =
-    codes "X-Forwarded-For: " ++ forwarded_text head.fields.items ++ client ++ crlf ++ via_text head.version ++ coding_text head.framing
+    forwarded_name ++ forwarded_text head.fields.items ++ client ++ crlf ++ via_text head.version ++ coding_text head.framing
 
 -- the head of a request as a backend gets it
 abbrev pub request_text : RequestHead → List ℕ → List ℕ
@@ -94,7 +97,10 @@ fault_line Fault.VersionNotSupported = codes "HTTP/1.1 505 HTTP Version Not Supp
 abbrev pub spoken : Bool → List ℕ
 spoken keeps = if keeps then codes "Connection: keep-alive\r\n" else codes "Connection: close\r\n"
 
+unfoldable pub no_content : List ℕ
+no_content = codes "Content-Length: 0\r\n"
+
 -- a short answer: no body, and whether the connection goes on
 abbrev pub short_text : Fault → Bool → List ℕ
 short_text fault keeps =
-    fault_line fault ++ codes "Content-Length: 0\r\n" ++ spoken keeps ++ crlf
+    fault_line fault ++ no_content ++ spoken keeps ++ crlf

@@ -1,6 +1,6 @@
 //! The proxy's own answers, without a body.
 ghost use Rattle.std.specs.Prelude.{◌≡◌, ◌++◌, OnOk};
-ghost use Rattle.lb_proxy_http.specs.Write.{fault_line, spoken, short_text};
+ghost use Rattle.lb_proxy_http.specs.Write.{fault_line, no_content, spoken, short_text};
 
 use crate::fault::Fault;
 use std::alloc::AllocError;
@@ -21,6 +21,14 @@ fn status_line(fault: Fault) -> &'static [u8]
     }
 }
 
+// That there is no body.
+#[tactic(auto, unfolding(crate::specs::Write::no_content))]
+fn no_content() -> &'static [u8]
+    ensures { result.now ≡ no_content }
+{
+    b"Content-Length: 0\r\n"
+}
+
 // What the answer says of the connection.
 fn connection_line(keeps: bool) -> &'static [u8]
     ensures { result.now ≡ spoken keeps }
@@ -39,7 +47,7 @@ pub fn short_answer(fault: Fault, keeps: bool, out: &mut Vec<u8>) -> Result<(), 
     ensures { OnOk result (out.new.items ≡ out.old.items ++ short_text fault keeps) }
 {
     out.extend_from_slice(status_line(fault))?;
-    out.extend_from_slice(b"Content-Length: 0\r\n")?;
+    out.extend_from_slice(no_content())?;
     out.extend_from_slice(connection_line(keeps))?;
     out.extend_from_slice(b"\r\n")
 }

@@ -1,5 +1,5 @@
 //! Where a body ends, over whatever pieces its bytes come in. They are passed on as they came.
-ghost use Rattle.std.specs.Prelude.{◌≡◌, ◌≢◌, ◌↔◌, ℕ, ◌<◌, ◌≤◌, List, [], ◌++◌, length, take, IsTrue, IfOk, OnErr, MatchOption};
+ghost use Rattle.std.specs.Prelude.{true, false, ◌≡◌, ◌≢◌, ◌↔◌, ◌⊎◌, ◌+◌, ◌*◌, ℕ, ◌<◌, ◌≤◌, List, [], ◌++◌, length, take, IsTrue, IfOk, OnErr, MatchOption};
 ghost use Rattle.std.specs.Char.{is_ascii_hexdigit, digit_value};
 ghost use Rattle.lb_proxy_http.specs.Chunked.{IsBody, AfterLine};
 ghost use Rattle.lb_proxy_http.specs.Body.{Remains, Follows, Blocks, Passes, BlocksAll, Completes, IsEnded};
@@ -76,7 +76,11 @@ fn digit_of(byte: u8) -> Option<u8>
 }
 
 // What follows a digit in the line of a chunk, behind so many that write that value.
-fn after_digit(count: u8, value: u64, digit: u8) -> Option<Place> {
+fn after_digit(count: u8, value: u64, digit: u8) -> Option<Place>
+    requires { digit < 16 }
+    ensures { MatchOption result ((16 ≤ count) ⊎ (1152921504606846976 ≤ value))
+        (λ next. (count < 16) × (next ≡ Place.Framed (Frame.Size (count + 1) (value * 16 + digit)))) }
+{
     if count >= DIGIT_LIMIT || value >= VALUE_LIMIT {
         return None;
     }

@@ -1,5 +1,5 @@
 //! The fields of a head, and which of them are for this connection alone.
-ghost use Rattle.std.specs.Prelude.{◌≡◌, ◌++◌, map, OnOk, IfOk};
+ghost use Rattle.std.specs.Prelude.{◌≡◌, ◌≤◌, ◌++◌, length, map, slice_range, OnOk, IfOk};
 ghost use Rattle.std.specs.List.{list_any};
 ghost use Rattle.httparse.specs.Grammar.{trim_ows};
 ghost use Rattle.lb_proxy_http.specs.Fields.{same_name, has_name, options_in, options_of, values_of, Finds, is_option, is_guarded, is_hop_by_hop};
@@ -55,12 +55,12 @@ pub(crate) fn find_one<'a>(fields: &[Field<'a>], name: &[u8]) -> Found<'a>
     found
 }
 
-// The value without the spaces and tabs around it.
-fn trim(value: &[u8]) -> &[u8]
-    ensures { result.now ≡ trim_ows value.now }
+// The part of a value without the spaces and tabs around it.
+fn trim(value: &[u8], mut start: usize, mut end: usize) -> &[u8]
+    requires ordered { start ≤ end }
+    requires within { end ≤ length value.now }
+    ensures { result.now ≡ trim_ows (slice_range value.now start end) }
 {
-    let mut start = 0;
-    let mut end = value.len();
     while start < end && is_space_or_tab(value[start]) {
         start += 1;
     }
@@ -77,11 +77,11 @@ fn push_options<'a>(options: &mut Vec<&'a [u8]>, value: &'a [u8]) -> Result<(), 
     let mut start = 0;
     for (index, byte) in value.iter().enumerate() {
         if *byte == b',' {
-            options.push(trim(&value[start..index]))?;
+            options.push(trim(value, start, index))?;
             start = index + 1;
         }
     }
-    options.push(trim(&value[start..]))?;
+    options.push(trim(value, start, value.len()))?;
     Ok(())
 }
 
@@ -116,6 +116,7 @@ pub(crate) fn names_guarded(options: &[&[u8]]) -> bool
 }
 
 // Whether a field of that name says how the message is framed, where it goes or where it comes from.
+#[tactic(auto, unfolding(crate::specs::Fields::is_guarded))]
 fn is_guarded(name: &[u8]) -> bool
     ensures { result ≡ is_guarded name.now }
 {
@@ -127,6 +128,7 @@ fn is_guarded(name: &[u8]) -> bool
 }
 
 /// Returns whether a field of that name is for one connection in any message.
+#[tactic(auto, unfolding(crate::specs::Fields::is_hop_by_hop))]
 pub(crate) fn is_hop_by_hop(name: &[u8]) -> bool
     ensures { result ≡ is_hop_by_hop name.now }
 {
@@ -140,6 +142,7 @@ pub(crate) fn is_hop_by_hop(name: &[u8]) -> bool
 }
 
 /// Returns whether the field goes on to the other side: it is for no single connection, and no option names it.
+#[tactic(auto, unfolding(crate::specs::Write::is_end_to_end))]
 pub(crate) fn is_end_to_end(options: &[&[u8]], field: &Field<'_>) -> bool
     ensures { result ≡ is_end_to_end options.now field.now }
 {

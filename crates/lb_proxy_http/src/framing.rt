@@ -78,6 +78,7 @@ fn stated_coding(version: Version, value: &[u8]) -> Stated
 }
 
 /// Returns what the fields state of the body.
+#[tactic(auto, unfolding(crate::specs::Framing::statement_of))]
 pub(crate) fn statement_of(version: Version, fields: &[Field<'_>]) -> Stated
     ensures { result ≡ statement_of version fields.now }
 {

@@ -1,5 +1,5 @@
 //! The head of a request.
-ghost use Rattle.std.specs.Prelude.{◌≡◌, ◌≢◌, ◌&&◌, ◌≤◌, ◌<◌, Ok, None, All, IfOk, IfSome, MatchBool, bytes_eq, codes, length, map, take, slice_range};
+ghost use Rattle.std.specs.Prelude.{true, false, ◌≡◌, ◌≢◌, ◌&&◌, ◌≤◌, ◌<◌, Ok, None, All, IfOk, IfSome, MatchBool, bytes_eq, codes, length, map, take, slice_range};
 ghost use Rattle.std.specs.List.{list_any};
 ghost use Rattle.httparse.specs.Grammar.{HasNoRequest};
 ghost use Rattle.httparse.specs.Spans.{header_bytes, IsHeaderWithin, IsRequestWithin, span_bytes};
@@ -97,6 +97,7 @@ fn has_no_body(framing: Framing) -> bool
 }
 
 // Whether a request of that method does no more when it comes twice.
+#[tactic(auto, unfolding(crate::specs::Framing::is_idempotent))]
 fn is_idempotent(method: &[u8]) -> bool
     ensures { result ≡ is_idempotent method.now }
 {
@@ -151,6 +152,7 @@ pub(crate) fn version_of(minor: u8) -> Version
 }
 
 // Whether the byte may be in the name of a host, or in its port.
+#[tactic(auto, unfolding(crate::specs::Heads::is_host_byte))]
 fn is_host_byte(byte: u8) -> bool
     ensures { result ≡ is_host_byte byte }
 {
@@ -260,6 +262,15 @@ fn head_at<'a>(
     })
 }
 
+// Whether the third word of the bytes begins as a version does.
+fn names_protocol(bytes: &[u8]) -> bool {
+    let mut words = bytes.split(|byte| *byte == b' ');
+    match (words.next(), words.next(), words.next()) {
+        (Some(_), Some(_), Some(word)) => word.starts_with(b"HTTP/"),
+        _ => false,
+    }
+}
+
 /// Reads the head of a request at the front of the bytes; `None` where it isn't whole yet.
 ///
 /// Refused `BadRequest` where the head is malformed or can be understood in two ways, `HeadTooLarge`, `NotImplemented` for a transfer coding
@@ -286,7 +297,7 @@ pub fn read_request(alloc: Global, bytes: &[u8]) -> Result<Option<RequestHead<'_
             Ok(None)
         }
         Err(Error::TooManyHeaders) => Err(Fault::HeadTooLarge),
-        Err(Error::Version) => Err(Fault::VersionNotSupported),
+        Err(Error::Version) if names_protocol(bytes) => Err(Fault::VersionNotSupported),
         Err(_) => Err(Fault::BadRequest),
     }
 }

@@ -1,5 +1,5 @@
 //! The head of an answer.
-ghost use Rattle.std.specs.Prelude.{◌≡◌, ◌&&◌, ◌≤◌, ◌<◌, Ok, None, IfOk, IfSome, nat_lt, length, map, take};
+ghost use Rattle.std.specs.Prelude.{false, ◌≡◌, ◌&&◌, ◌≤◌, ◌<◌, Ok, None, IfOk, IfSome, nat_lt, length, map, take};
 ghost use Rattle.std.specs.List.{list_any};
 ghost use Rattle.httparse.specs.Grammar.{HasNoResponse};
 ghost use Rattle.httparse.specs.Spans.{header_bytes, IsResponseWithin, span_bytes};

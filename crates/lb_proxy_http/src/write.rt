@@ -1,7 +1,7 @@
 //! Heads as they are passed on: the end-to-end fields in order, and then those that the proxy adds.
 ghost use Rattle.std.specs.Prelude.{◌≡◌, ◌++◌, OnOk};
 ghost use Rattle.lb_proxy_http.specs.Write.{field_text, fields_text, version_text, via_text, coding_text, connection_text, forwarded_text};
-ghost use Rattle.lb_proxy_http.specs.Write.{goes_on, is_end_to_end, request_line, request_added, request_text};
+ghost use Rattle.lb_proxy_http.specs.Write.{goes_on, forwarded_name, is_end_to_end, request_line, request_added, request_text};
 ghost use Rattle.lb_proxy_http.specs.Write.{status_line, response_added, response_text};
 
 use crate::field::{Field, is_end_to_end};
@@ -121,6 +121,14 @@ fn push_request_line(out: &mut Vec<u8>, head: &RequestHead<'_>) -> Result<(), Al
     out.extend_from_slice(b"\r\n")
 }
 
+// What the field that lists the clients begins with.
+#[tactic(auto, unfolding(crate::specs::Write::forwarded_name))]
+fn forwarded_name() -> &'static [u8]
+    ensures { result.now ≡ forwarded_name }
+{
+    b"X-Forwarded-For: "
+}
+
 // Appends the fields that the proxy adds to a request.
 fn push_request_added(
     out: &mut Vec<u8>,
@@ -129,7 +137,7 @@ fn push_request_added(
 ) -> Result<(), AllocError>
     ensures { OnOk result (out.new.items ≡ out.old.items ++ request_added head.now client.now) }
 {
-    out.extend_from_slice(b"X-Forwarded-For: ")?;
+    out.extend_from_slice(forwarded_name())?;
     push_forwarded(out, &head.fields)?;
     out.extend_from_slice(client)?;
     out.extend_from_slice(b"\r\n")?;
