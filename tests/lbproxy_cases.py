@@ -120,8 +120,7 @@ FAULTS = [
     ),
     ("no address", GOOD.replace("127.0.0.1:2", "somewhere"), "line 5, column 1: [[listen]] number 1: address is to be an address"),
     ("no such pool", GOOD.replace('pool = "p"', 'pool = "q"'), "line 6, column 1: [[listen]] number 1: pool names no pool"),
-    ("no selection", GOOD + 'select = "best"\n', "line 7, column 1: [[listen]] number 1: select is to be rr, fnv, ketama or least"),
-    ("random", GOOD + 'select = "random"\n', "line 7, column 1: [[listen]] number 1: select can't be that yet"),
+    ("no selection", GOOD + 'select = "best"\n', "line 7, column 1: [[listen]] number 1: select is to be rr, fnv, ketama, least or random"),
     ("no mode", GOOD + 'mode = "udp"\n', "line 7, column 1: [[listen]] number 1: mode is to be tcp or http"),
     ("uri of tcp", GOOD + 'key = "uri"\n', "line 7, column 1: [[listen]] number 1: key is to be source, and in http mode"),
     ("field of tcp", GOOD + 'mode = "tcp"\nkey = "header:A"\n', "line 8, column 1: [[listen]] number 1: key is to be source"),
@@ -170,7 +169,7 @@ def no_file_and_no_words():
 # ---- a proxy over three backends
 
 A, B, C = Backend("a"), Backend("b"), Backend("c")
-RR, FNV, KETAMA, LEAST, FILED, EMPTY, PAGE = (free_port() for _ in range(7))
+RR, FNV, KETAMA, LEAST, RANDOM, FILED, EMPTY, PAGE = (free_port() for _ in range(8))
 FILE = os.path.join(ROOM, "pool.backends")
 
 
@@ -214,6 +213,10 @@ address = "127.0.0.1:{LEAST}"
 pool = "web"
 select = "least"
 [[listen]]
+address = "127.0.0.1:{RANDOM}"
+pool = "web"
+select = "random"
+[[listen]]
 address = "127.0.0.1:{FILED}"
 pool = "filed"
 [[listen]]
@@ -225,6 +228,16 @@ pool = "empty"
 def weights_in_turn():
     counts = collections.Counter(named(RR) for _ in range(500))
     expect(counts == {"a": 100, "b": 300, "c": 100}, counts)
+
+
+def random_goes_by_weight_and_in_no_turn():
+    names = [named(RANDOM) for _ in range(500)]
+    counts = collections.Counter(names)
+    # (by chance alone each count is within 5 of its deviations in all but one run of a million)
+    expect(245 <= counts["b"] <= 355 and 55 <= counts["a"] <= 145 and 55 <= counts["c"] <= 145, counts)
+    expect(sum(counts.values()) == counts["a"] + counts["b"] + counts["c"], counts)
+    turns = {tuple(names[start:start + 5]) for start in range(0, 500, 5)}
+    expect(len(turns) > 10, f"{len(turns)} different turns of five")
 
 
 def one_client_stays_at_one_backend():
@@ -459,6 +472,7 @@ try:
     wait_until(lambda: fetch(PAGE, "/health")[0] == 200 and named(RR), "the proxy doesn't start", 20)
     for work in (
         weights_in_turn,
+        random_goes_by_weight_and_in_no_turn,
         one_client_stays_at_one_backend,
         ketama_chooses_as_lbsim_does,
         least_goes_by_live_connections,

@@ -1,6 +1,7 @@
 // Stands before the C library: the Nth call for memory is refused, N by REFUSED; at the end the number of calls goes to the
 // file COUNTED. For the scripts that refuse each request of a program in turn.
 #define _GNU_SOURCE
+#include <errno.h>
 #include <stdio.h>
 #include <stdlib.h>
 #include <sys/syscall.h>
@@ -12,7 +13,10 @@ static int refuses(void) {
         const char *number = getenv("REFUSED");
         refused = number ? atol(number) : 0;
     }
-    return ++calls == refused;
+    if (__atomic_add_fetch(&calls, 1, __ATOMIC_SEQ_CST) != refused) return 0;
+    // The C library itself asks for it, where it starts a thread.
+    errno = ENOMEM;
+    return 1;
 }
 void *malloc(size_t size) { return refuses() ? NULL : __libc_malloc(size); }
 void *calloc(size_t count, size_t size) { return refuses() ? NULL : __libc_calloc(count, size); }
@@ -21,7 +25,7 @@ void *memalign(size_t align, size_t size) { return refuses() ? NULL : __libc_mem
 void *aligned_alloc(size_t align, size_t size) { return refuses() ? NULL : __libc_memalign(align, size); }
 int posix_memalign(void **got, size_t align, size_t size) {
     *got = refuses() ? NULL : __libc_memalign(align, size);
-    return *got ? 0 : 12;
+    return *got ? 0 : ENOMEM;
 }
 __attribute__((destructor)) static void tell(void) {
     long made = calls;

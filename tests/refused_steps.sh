@@ -1,10 +1,10 @@
 #!/bin/bash
 # Each request for memory refused in turn, of two programs: `lb_rows 0`, which runs scripts over a world a step at a time, and calls of a
-# plain balancer, group and registry; and `lb_cost refused`, calls of a registry, view, balancer and group that threads may share. A step or
-# a call that was refused for memory is given again, and so is a build that failed for it, as soon as it is due; each answer has to be that
-# of the script or of the call's row. The C library's calls are refused by refuse.c, which is compiled here by `cc`. A line for each
-# script and each kind of calls; the last line is 'N passed, M failed'.
-# LBROWS and LBCOST name other programs than those that `rt run` builds here.
+# plain balancer, group and registry; and `lb_cost refused`, calls of a registry, view, balancer and group that threads may share, and
+# passes of checks. A step or a call that was refused for memory is given again, and so is a build that failed for it, as soon as it is
+# due; each answer has to be that of the script or of the call's row. The C library's calls are refused by refuse.c, which is compiled here
+# by `cc`. A line for each script and each kind of calls; the last line is 'N passed, M failed'.
+# LBROWS and LBCOST name other programs than those that `rt run` builds here; with an argument, `lb_rows` or `lb_cost`, only that one runs.
 set -euo pipefail
 unset CDPATH
 
@@ -17,10 +17,11 @@ trap 'rm -rf "$room"' EXIT
 build() {
     (cd "$crates/$1" && rt check && { rt run || true; }) >/dev/null 2>&1 || { echo "$1 isn't proved" >&2; exit 2; }
 }
-[ -n "${LBROWS-}" ] || { build lb_rows; LBROWS=$crates/lb_rows/out/lb_rows; }
-[ -n "${LBCOST-}" ] || { build lb_cost; LBCOST=$crates/lb_cost/out/lb_cost; }
-LBROWS=$(readlink -f "$LBROWS")
-LBCOST=$(readlink -f "$LBCOST")
+# CRATE OTHER: its program, or that other one.
+program_of() {
+    [ -n "$2" ] || build "$1"
+    readlink -f "${2:-$crates/$1/out/$1}"
+}
 cc -O1 -shared -fPIC -o "$room/refuse.so" "$here/refuse.c"
 
 # N PROGRAM WORD: what the program says and its status, the Nth request refused.
@@ -44,8 +45,12 @@ judge() {
 # PROGRAM WORD: refuses each of its requests in turn, and judges each name that it says.
 refuse_each() {
     local requests number names own said lines verdict odd name again which
-    names=$(refused 0 "$1" "$2" | sed -n 's/, a step at a time: as it should be$//p')
-    requests=$(cat "$room/counted")
+    # A thread takes memory for itself, or takes over that of one that has ended: so the requests are counted in several runs.
+    requests=0
+    for number in 1 2 3 4 5; do
+        names=$(refused 0 "$1" "$2" | sed -n 's/, a step at a time: as it should be$//p')
+        [ "$(cat "$room/counted")" -le "$requests" ] || requests=$(cat "$room/counted")
+    done
     # Where memory is refused for the words of the command line, the program says so and ends.
     own=0
     for number in $(seq "$requests"); do
@@ -70,7 +75,13 @@ refuse_each() {
     done <<<"$names"
 }
 
-refuse_each "$LBROWS" 0
-refuse_each "$LBCOST" refused
+if [ "${1:-lb_rows}" = lb_rows ]; then
+    program=$(program_of lb_rows "${LBROWS-}")
+    refuse_each "$program" 0
+fi
+if [ "${1:-lb_cost}" = lb_cost ]; then
+    program=$(program_of lb_cost "${LBCOST-}")
+    refuse_each "$program" refused
+fi
 echo "$passed passed, $failed failed"
 [ "$failed" -eq 0 ]

@@ -13,7 +13,7 @@ pub record ServicePlan : Type 0 where
   pub check : Option (Option ℕ)
   pub notifier : Bool
 
--- what the answer to an event is told by: whether the service began, or was shut down, whether the notifier was told, whether a check
+-- what decides the answer to an event: whether the service began, or was shut down, whether the notifier was notified, whether a check
 -- was answered since the start, the schedule, and what was answered last
 pub record ServiceValue : Type 0 where
   pub plan : ServicePlan

@@ -17,7 +17,7 @@ pub record Plan : Type 0 where
   pub check : Option (Option ℕ)
   pub notifier : Bool
 
--- what a run is after some events: whether it began, or was shut down; whether the notifier was told; the moment of its turn; the
+-- what a run is after some events: whether it began, or was shut down; whether the notifier was notified; the moment of its turn; the
 -- generation of the last successful update; its schedule; what it answered last
 pub record RunValue : Type 0 where
   pub plan : Plan

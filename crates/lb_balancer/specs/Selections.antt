@@ -11,6 +11,6 @@ WasReady s b ready = ready ≡ is_up s.unready b
 
 module _ {C : Type 0} (accepts : (Member → Bool → Type 0) → Member → Bool → Type 0) (limit : ℕ)
     (walks : List Member → C → List ℕ → List Draw → List Member → Bool → Type 0) (key : List ℕ) where
-  -- a selection from what is shown: its candidates are those of its members, and what is asked of each is told whether it was ready
+  -- a selection from what is shown: its candidates are those of its members, and what is asked of each gets whether it was ready
   abbrev pub SelectsFrom : ShownValue C → Result (Option Member) Refusal → Type 0
   SelectsFrom s r = SelectsOf same_member (accepts (WasReady s)) limit (walks s.members s.config key) r

@@ -29,7 +29,7 @@ module _ {R : Type 0} {gives : R → Member → Member → Type 0} {v : ViewValu
         says = by.says;
       }
 
--- what was asked is told by what follows from it; its type is found from what it was asked
+-- what was asked is stated by what follows from it; its type is found from what it was asked
 pub asked-more : {S F : Type 0} {g : Shared F (Bor Member × Unit {0}) Bool} {f : F} (gives : S → Draw → S → Type 0)
     (walks : List Draw → List Member → Bool → Type 0) (Q : Member → Bool → Type 0) (limit : ℕ) (s t : S)
     (r : Result (Option Member) Refusal)
@@ -38,7 +38,7 @@ pub asked-more : {S F : Type 0} {g : Shared F (Bor Member × Unit {0}) Bool} {f 
 asked-more {g = g} {f = f} gives walks Q limit s t r is more =
     selects-more same_member (λ b a. FnReturnsAt g f b a) Q more limit gives walks s t r is
 
--- where what was asked answers as it is told, what it accepts is what is right
+-- where the test answers what its contract says, what it accepts is what is right
 pub told-more : {S F : Type 0} {g : Shared F (Bor Member × (Bool × Unit {0})) Bool} {f : F} (gives : S → Draw → S → Type 0)
     (walks : List Draw → List Member → Bool → Type 0) (right : Member → Bool → Type 0) (limit : ℕ) (s t : S)
     (r : Result (Option Member) Refusal)

@@ -36,7 +36,7 @@ job-if ca fl w d o m a b c e f = rw (a, b, c, e, f) refl
 or-neither : (a b : Bool) → a ≡ false → b ≡ false → (a || b) ≡ false
 or-neither a b x y = rw (x, y) refl
 
--- what a slot with nothing beside what it serves answers to a try to take something out
+-- what a slot that has nothing but what it serves answers to a try to take something out
 taken-none : {C : Type 0} (made : Made C) (slot : ℕ) (h : core.History) → slot < length made.configs → extra (past_of slot h) ≡ nothing
     → taken_refusal made slot h ≡ Some refusal.NothingRetired
 taken-none made slot h there bare = rw (lt-ltb slot (length made.configs) there, bare) refl

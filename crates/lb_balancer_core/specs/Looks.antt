@@ -44,7 +44,7 @@ module _ (accepts : Member → Bool → Bool → Type 0) (limit : ℕ) where
   abbrev pub AreRefused : List (Member × Bool) → Type 0
   AreRefused asked = Each (λ x. accepts x.0 x.1 false) asked
 
-  -- These candidates were drawn, ended says whether the walk then ended, readiness was told of these backends, and this was
+  -- These candidates were drawn, ended says whether the walk then ended, readiness was asked of these backends, and this was
   -- answered. Each distinct candidate within the limit is asked for once, in their order, until one is accepted.
   abbrev pub IsTold : List Member → Bool → List (Member × Bool) → Option Member → Type 0
   IsTold cs ended asked (Some b) =
@@ -58,7 +58,7 @@ module _ (accepts : Member → Bool → Bool → Type 0) (limit : ℕ) where
   module _ {P R : Type 0} (draws : P → R → Draw → P → Type 0) (readies : P → R → Member → Bool → P → Type 0)
       (walks : List Draw → List Member → Bool → Type 0) where
     -- A selection for a reader. It is refused for memory alone: before any call, or at a new candidate within the limit, of
-    -- which readiness was told.
+    -- which readiness was asked.
     abbrev pub SelectsBy : P → R → Result (Option Member) Refusal → P → Type 0
     SelectsBy p r (Ok o) q =
         (ls : List Look) × Looks draws readies r p ls q

@@ -52,7 +52,7 @@ selected gives accepts other more limit walks key site slot r (a, m, enters, is)
       (λ v slot a w. EnteredUnder v.core slot a × (w ≡ v)) (λ v r w. LeftUnder v.core r × (w ≡ v)) walks key a m r site is,
 )
 
--- where what was asked answers as it is told, the ready ones are selected
+-- where the test answers what its contract says, the ready ones are selected
 pub selected-ready : {C R F : Type 0} {g : Shared F (Bor Member × (Bool × Unit {0})) Bool} {f : F} (gives : R → Member → Member → Type 0)
     (limit : ℕ) (walks : List Member → C → List ℕ → List Draw → List Member → Bool → Type 0) (key : List ℕ) (site : SharedValue C R)
     (slot : ℕ)

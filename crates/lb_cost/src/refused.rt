@@ -1,5 +1,6 @@
 //! Calls of shared types in which memory may be refused: `refused`. A call that was refused for it has to leave all that can be read as it
 //! was, and is made again. Each call has to answer what its row says, whether it was made again or not.
+use crate::refused_passes::passes;
 use crate::refused_subjects::{Alone, Balancer, Calls, Group, Made, View};
 use anyhow::Error;
 use lb_balancer_core::timings::UpdateTimings;
@@ -8,19 +9,23 @@ use lb_health_view::view::Settings;
 use lb_select_base::backend::Backend;
 use lb_select_base::moments::MomentSource;
 use lb_select_base::refusal::Refusal;
+use log::Log;
 use std::alloc::Global;
 use std::collections::BTreeSet;
 use std::io;
 use std::sync::atomic::AtomicBool;
 use std::sync::atomic::Ordering::SeqCst;
 use std::sync::{Arc, Wait};
+use std::thread::Threads;
 
 /// Backends by address and weight.
 pub type Members = &'static [(&'static str, usize)];
 
+/// Two backends.
 pub const FIRST: Members = &[("1.0.0.1:80", 1), ("1.0.0.2:80", 2)];
 
-const OTHER: Members = &[("1.0.0.2:80", 2), ("1.0.0.3:80", 3), ("1.0.0.4:80", 4)];
+/// Other backends, of which one is in the first list too.
+pub const OTHER: Members = &[("1.0.0.2:80", 2), ("1.0.0.3:80", 3), ("1.0.0.4:80", 4)];
 
 /// A discovery that finds `FIRST`, or `OTHER` where that is set; each backend is enabled.
 #[derive(Drop)]
@@ -217,16 +222,26 @@ impl Course {
         }
     }
 
+    /// Notes that memory was refused for a call, which is made again, and whether that left what can be read as it was.
+    pub fn refused(&mut self, number: usize, is_same: bool) {
+        self.again = Some(number);
+        self.agrees &= is_same;
+    }
+
+    /// Notes whether a call came to what its row says.
+    pub fn done(&mut self, agrees: bool) {
+        self.agrees &= agrees;
+    }
+
     // Makes a call, again where memory was refused for it.
     fn call<T: Subject>(&mut self, alloc: Global, subject: &T, number: usize, (call, wanted): Row) {
         let before = look_at(alloc, subject);
         let mut told = answer(alloc, subject, call);
         if told == Err(Refusal::OutOfMemory) {
-            self.again = Some(number);
-            self.agrees &= look_at(alloc, subject) == before;
+            self.refused(number, look_at(alloc, subject) == before);
             told = answer(alloc, subject, call);
         }
-        self.agrees &= told == Ok(wanted) && look_at(alloc, subject).is_some();
+        self.done(told == Ok(wanted) && look_at(alloc, subject).is_some());
     }
 
     // Makes the calls of a table.
@@ -271,21 +286,46 @@ where
     course.play(alloc, made.as_ref(), rows).report(rt, name)
 }
 
-// Reports the calls of each subject. Returns whether all agree.
-fn all_agree<W: Wait + Print + Copy + Drop>(rt: &W, alloc: Global) -> io::Result<bool> {
+// Makes passes over a registry, from the beginning where memory was refused for the registry, and reports what came of them.
+fn passes_agree<W: Log + Threads + Wait + Print + Copy + Sync + Drop>(
+    rt: &W,
+    alloc: Global,
+) -> io::Result<bool> {
+    let course = match passes(rt, alloc) {
+        Ok(course) => course,
+        Err(_) => {
+            let course = passes(rt, alloc).unwrap_or(Course::new(false));
+            Course {
+                again: Some(0),
+                ..course
+            }
+        }
+    };
+    course.report(rt, "the passes of a shared registry")
+}
+
+// Reports the calls of each subject, and passes of checks. Returns whether all agree.
+fn all_agree<W: Log + Threads + Wait + Print + Copy + Sync + Drop>(
+    rt: &W,
+    alloc: Global,
+) -> io::Result<bool> {
     let mut all = agree::<W, Alone>(rt, alloc, "the calls of a shared registry", REGISTRY)?;
     all &= agree::<W, View>(rt, alloc, "the calls of a shared view", VIEW)?;
     all &= agree::<W, Balancer>(rt, alloc, "the calls of a shared balancer", BALANCER)?;
     all &= agree::<W, Group>(rt, alloc, "the calls of a shared group", GROUP)?;
+    all &= passes_agree(rt, alloc)?;
     Ok(all)
 }
 
-/// Reports the calls of a shared registry, view, balancer and group, a line each.
+/// Reports the calls of a shared registry, view, balancer and group, and passes of checks, a line each.
 ///
 /// # Errors
 ///
 /// `Differs` where one isn't as it should be.
-pub fn run<W: Wait + Print + Copy + Drop>(rt: &W, alloc: Global) -> Result<(), Error> {
+pub fn run<W: Log + Threads + Wait + Print + Copy + Sync + Drop>(
+    rt: &W,
+    alloc: Global,
+) -> Result<(), Error> {
     if all_agree(rt, alloc)? {
         Ok(())
     } else {

@@ -196,62 +196,58 @@ fn sum(counts: Vec<Result<u64, Refusal>>) -> Result<u64, Refusal> {
     Ok(sum)
 }
 
-// Selections of all threads by a hash of their keys; how many.
-fn all_by_hash<R: Threads + Wait + Sync>(
+// Selections of all threads; how many.
+fn all_select<S: BackendSelection + Send + Sync, R: Threads + Wait + Sync>(
     rt: &R,
     alloc: Global,
-    balancer: &Balancer<FNVHash>,
+    balancer: &Balancer<S>,
     over: &AtomicU64,
     plan: Plan,
-) -> Result<u64, Refusal> {
+) -> Result<u64, Refusal>
+where
+    S::Iter: Send + Sync,
+    S::Config: Send + Sync,
+    S::Walk: Send + Sync,
+{
     let selects = |worker: usize| selected(rt, alloc, balancer, over, plan, worker as u64);
     let counts = thread::map_indices(rt, alloc, plan.threads as usize, &selects)?;
     sum(counts)
 }
 
-// The same of a new balancer that another thread updates meanwhile, and how long that took, in nanoseconds.
-fn by_hash<R: Threads + Wait + Clock + Copy + Sync>(
+// The same while another thread updates the balancer, and how long that took, in nanoseconds.
+fn select_beside<S: BackendSelection + Send + Sync, R: Threads + Wait + Clock + Copy + Sync>(
     rt: &R,
     alloc: Global,
+    balancer: &Balancer<S>,
     plan: Plan,
-) -> Result<(u64, u128), Refusal> {
-    let balancer: Balancer<FNVHash> = made(rt, alloc, plan)?;
+) -> Result<(u64, u128), Refusal>
+where
+    S::Iter: Send + Sync,
+    S::Config: Send + Sync,
+    S::Walk: Send + Sync,
+{
     let over = AtomicU64::new(0);
     let (count, spent) = join(
         rt,
-        || all_by_hash(rt, alloc, &balancer, &over, plan),
-        || updated(rt, alloc, &balancer, &over, plan.seconds),
+        || all_select(rt, alloc, balancer, &over, plan),
+        || updated(rt, alloc, balancer, &over, plan.seconds),
     );
     Ok((count?, spent?))
 }
 
-// Selections of all threads in turn; how many.
-fn all_in_turn<R: Threads + Wait + Sync>(
-    rt: &R,
-    alloc: Global,
-    balancer: &Balancer<RoundRobin>,
-    over: &AtomicU64,
-    plan: Plan,
-) -> Result<u64, Refusal> {
-    let selects = |worker: usize| selected(rt, alloc, balancer, over, plan, worker as u64);
-    let counts = thread::map_indices(rt, alloc, plan.threads as usize, &selects)?;
-    sum(counts)
-}
-
-// The same of a new balancer that another thread updates meanwhile, and how long that took, in nanoseconds.
-fn in_turn<R: Threads + Wait + Clock + Copy + Sync>(
+// The same of a new balancer.
+fn measured<S: BackendSelection + Send + Sync, R: Threads + Wait + Clock + Copy + Sync>(
     rt: &R,
     alloc: Global,
     plan: Plan,
-) -> Result<(u64, u128), Refusal> {
-    let balancer: Balancer<RoundRobin> = made(rt, alloc, plan)?;
-    let over = AtomicU64::new(0);
-    let (count, spent) = join(
-        rt,
-        || all_in_turn(rt, alloc, &balancer, &over, plan),
-        || updated(rt, alloc, &balancer, &over, plan.seconds),
-    );
-    Ok((count?, spent?))
+) -> Result<(u64, u128), Refusal>
+where
+    S::Iter: Send + Sync,
+    S::Config: Send + Sync,
+    S::Walk: Send + Sync,
+{
+    let balancer: Balancer<S> = made(rt, alloc, plan)?;
+    select_beside(rt, alloc, &balancer, plan)
 }
 
 /// Measures, and prints selections a second; in no seconds, that there were some.
@@ -267,8 +263,8 @@ pub fn run<R: Threads + Wait + Clock + Print + Copy + Sync>(
         has_reader: word_at(words, 4, "reader") != "balancer",
     };
     let (count, spent) = match word_at(words, 0, "fnv") {
-        "fnv" => by_hash(rt, alloc, plan)?,
-        "rr" => in_turn(rt, alloc, plan)?,
+        "fnv" => measured::<FNVHash, R>(rt, alloc, plan)?,
+        "rr" => measured::<RoundRobin, R>(rt, alloc, plan)?,
         _ => return Err(Usage::UnknownKind)?,
     };
     if plan.seconds == 0 {

@@ -1,7 +1,9 @@
 //! A soak: `soak [SECONDS]`, ten seconds without the number. Round after round four groups on two gates and over two registries are made,
 //! updated, checked, flagged and selected from by threads, and then cancelled or dropped. It ends well where no answer was wrong, every
 //! permit came back and no thread stays; where groups in which nothing happens take less than a hundredth of a processor for ten seconds;
-//! and, after two minutes or more, where little more is resident than was after one minute. A line each minute shows that it goes on.
+//! and, after two minutes or more, where at most a twentieth more is resident than was after one minute. A line each minute shows that it
+//! goes on.
+use crate::passes::pass;
 use crate::process::{Process, resident};
 use crate::soak_groups::{Flips, Groups, Registry, Site, settles, starts, stir};
 use crate::soak_threads::{Tally, joined, start_user};
@@ -10,8 +12,7 @@ use anyhow::Error;
 use lb_select_base::refusal::Refusal;
 use lb_threads_registry::gate::SelectorRebuildGate;
 use lb_threads_registry::registry::HealthRegistry;
-use log::sink::Locked;
-use log::{Level, Log, Logged};
+use log::Log;
 use std::alloc::Global;
 use std::rt::Files;
 use std::sync::atomic::AtomicU64;
@@ -33,10 +34,6 @@ const MINUTE: u64 = 60;
 const IDLE: u64 = 10;
 
 const IDLE_TICKS: u64 = 10;
-
-// How much more may be resident than after a minute, in KiB, or a twentieth where that is more: the C library's allocator comes to touch
-// what it has reserved only in the course of minutes.
-const SLACK: u64 = 1024;
 
 // What went wrong.
 #[derive(Clone, Copy, Debug, PartialEq, Eq, thiserror::Error)]
@@ -102,18 +99,6 @@ fn happens<W: Log + Threads + Wait + Clock + Copy + Send + Sync + Drop>(
         15 => pass(rt, alloc, other, true),
         _ => Ok(()),
     }
-}
-
-// Checks the targets of a registry, without a line for each flip.
-fn pass<W: Log + Threads + Wait + Copy + Sync + Drop>(
-    rt: &W,
-    alloc: Global,
-    registry: &Registry,
-    is_parallel: bool,
-) -> Result<(), Refusal> {
-    let sink = Locked::new(*rt, Vec::new(alloc));
-    let logged = Logged::new(*rt, Level::Error, &sink);
-    registry.run_health_check(&logged, alloc, is_parallel)
 }
 
 // All updates of a round. Two groups are cancelled then, or none.
@@ -320,7 +305,7 @@ fn soaked<
         return Ok(());
     }
     let before = done.after_a_minute;
-    if at_the_end > before.saturating_add(SLACK.max(before / 20)) {
+    if at_the_end > before.saturating_add(before / 20) {
         Err(Fault::Grown(before, at_the_end))?;
     }
     println!(rt; "resident: {before} KiB after a minute, {at_the_end} at the end")?;

@@ -7,7 +7,7 @@ use lb_crowd::counted::{Counted, Counting, Counts};
 use lb_crowd::crowd::{ends, is_free, lives_none};
 use lb_health_check::error::CheckError;
 use lb_health_check::health_check::HealthCheck;
-use lb_health_registry::keys::Rule;
+use lb_health_registry::keys::{KeyRule, Rule};
 use lb_health_view::discovery::{Discovered, DiscoverySource, ServiceDiscovery};
 use lb_health_view::view::Settings;
 use lb_script_text::kinds::{Chosen, Kind};
@@ -248,7 +248,10 @@ fn left<W: Wait + Clock>(
 pub fn starts<
     W: Log + Threads + Wait + Clock + Copy + Send + Sync + Drop + 'static,
     S: BackendSelection + Send + Sync + 'static,
->(rt: &W, alloc: Global, group: &Handle<W, S>) -> bool
+    D: ServiceDiscovery + Drop,
+    R: KeyRule + Drop + Send + Sync + 'static,
+    C: HealthCheck + Drop + Send + Sync + 'static,
+>(rt: &W, alloc: Global, group: &LoadBalancerGroup<S, D, R, C>) -> bool
 where
     S::Iter: Send + Sync + 'static,
     S::Config: Send + Sync + 'static,
@@ -258,12 +261,13 @@ where
 }
 
 /// Updates a group, and sets a flag and a load of one of the new backends.
-pub fn stir<W: Wait + Clock + Copy + Drop, S: BackendSelection>(
-    rt: &W,
-    alloc: Global,
-    group: &Handle<W, S>,
-    turn: u64,
-) -> Result<(), Refusal> {
+pub fn stir<
+    W: Wait + Clock + Copy + Drop,
+    S: BackendSelection,
+    D: ServiceDiscovery + Drop,
+    R: KeyRule + Drop,
+    C: HealthCheck + Drop,
+>(rt: &W, alloc: Global, group: &LoadBalancerGroup<S, D, R, C>, turn: u64) -> Result<(), Refusal> {
     let generation = group.update(rt, alloc, &mut RuntimeClock::new(*rt))?;
     let place = (turn % 4) as u32;
     let backend = member_of(alloc, generation, place);
@@ -272,10 +276,13 @@ pub fn stir<W: Wait + Clock + Copy + Drop, S: BackendSelection>(
 }
 
 /// Returns whether each slot of a group serves its newest generation within so many turns of ten milliseconds.
-pub fn settles<W: Wait + Clock + Copy + Drop, S: BackendSelection>(
-    rt: &W,
-    group: &Handle<W, S>,
-) -> bool {
+pub fn settles<
+    W: Wait + Clock,
+    S: BackendSelection,
+    D: ServiceDiscovery + Drop,
+    R: KeyRule + Drop,
+    C: HealthCheck + Drop,
+>(rt: &W, group: &LoadBalancerGroup<S, D, R, C>) -> bool {
     let newest = group.backend_generation(rt);
     for _ in 0..TURNS {
         if group.selectors_ready_for(rt, newest) {

@@ -34,18 +34,19 @@ where
     C: HealthCheck + Drop + Send + Sync + 'static,
 {
     let alloc = rt.alloc();
-    let found = Static::try_from_iter(alloc, &rt, texts.iter().copied())?;
-    let backends: Backends<BoxedDiscovery, Rule<NoRule>, C> = Backends::new_with_health_registry(
-        DiscoverySource::Static(found),
-        Arc::try_clone(registry)?,
-    );
     let mut configs = Vec::new(alloc);
     configs.push(None)?;
     configs.push(None)?;
+    let (registry, gate) = (Arc::try_clone(registry)?, Arc::try_clone(gate)?);
+    let found = Static::try_from_iter(alloc, &rt, texts.iter().copied())?;
+    let found = DiscoverySource::Static(found);
+    let backends: Backends<BoxedDiscovery, Rule<NoRule>, C> = Backends::new_with_health_registry(
+        found, registry,
+    );
     let mut group: Group<C> = LoadBalancerGroup::from_backends_with_configs(
         &rt, alloc, backends, configs,
     )?;
-    group.with_rebuild_gate(&rt, alloc, Arc::try_clone(gate)?)?;
+    group.with_rebuild_gate(&rt, alloc, gate)?;
     let mut clock = RuntimeClock::new(rt);
     let _ = group.start_workers(&rt, alloc, clock);
     group.update(&rt, alloc, &mut clock)?;
@@ -107,7 +108,7 @@ where
     Ok([all, less, again])
 }
 
-// Runs the service in a thread of its own, and makes requests meanwhile.
+// Runs the service in a thread of its own, makes requests meanwhile, and prints how many servers they went to.
 fn run_beside<R, C>(
     rt: &R,
     service: &HealthCheckService<Rule<NoRule>, C>,
@@ -115,9 +116,9 @@ fn run_beside<R, C>(
     server: R::Listener,
     signal: &mut ShutdownSignal,
     watch: &ShutdownWatch,
-) -> Result<[usize; 3], anyhow::Error>
+) -> Result<(), anyhow::Error>
 where
-    R: Log + Net + Threads + Wait + Clock + AllocGlobal + Sync,
+    R: Log + Net + Threads + Wait + Clock + Print + AllocGlobal + Sync,
     C: HealthCheck + Drop + Send + Sync,
 {
     let ((), used) = thread::join(
@@ -129,7 +130,11 @@ where
             used
         },
     );
-    used
+    let [all, less, again] = used?;
+    println!(rt; "two groups of two servers: requests go to {all}")?;
+    println!(rt; "the server of both has stopped: requests go to {less}")?;
+    println!(rt; "it came back: requests go to {again}")?;
+    Ok(())
 }
 
 fn main(rt: HostRuntime) -> Result<(), anyhow::Error> {
@@ -141,20 +146,16 @@ fn main(rt: HostRuntime) -> Result<(), anyhow::Error> {
     let both_text = format!(in alloc; "{}", both.local_addr()?)?;
     let last_text = format!(in alloc; "{}", last.local_addr()?)?;
     let (mut signal, watch) = shutdown_pair(alloc)?;
+    let gate = Arc::new(alloc, SelectorRebuildGate::new(alloc)?)?;
     let registry: Registry<TcpHealthCheck<HostRuntime>> = HealthRegistry::new(alloc)?;
-    registry.set_health_check(&rt, TcpHealthCheck::new(rt))?;
     let registry = Arc::new(alloc, registry)?;
+    registry.set_health_check(&rt, TcpHealthCheck::new(rt))?;
     let mut service = HealthCheckService::new(Arc::try_clone(&registry)?);
     service.health_check_frequency = Some(100_000_000);
-    let gate = Arc::new(alloc, SelectorRebuildGate::new(alloc)?)?;
     let texts = [first_text.as_str(), both_text.as_str()];
     let one = group_of(rt, texts, &registry, &gate)?;
     let texts = [both_text.as_str(), last_text.as_str()];
     let other = group_of(rt, texts, &registry, &gate)?;
     let groups = [one, other];
-    let [all, less, again] = run_beside(&rt, &service, &groups, both, &mut signal, &watch)?;
-    println!(rt; "two groups of two servers: requests go to {all}")?;
-    println!(rt; "the server of both has stopped: requests go to {less}")?;
-    println!(rt; "it came back: requests go to {again}")?;
-    Ok(())
+    run_beside(&rt, &service, &groups, both, &mut signal, &watch)
 }

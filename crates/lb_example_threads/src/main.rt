@@ -70,16 +70,16 @@ where
     Ok([both, one, again])
 }
 
-// Runs the balancer in a thread of its own, and makes requests meanwhile.
+// Runs the balancer in a thread of its own, makes requests meanwhile, and prints how many servers they went to.
 fn run_beside<R, C>(
     rt: &R,
     balancer: &Balancer<C>,
     second: R::Listener,
     signal: &mut ShutdownSignal,
     watch: &ShutdownWatch,
-) -> Result<[usize; 3], anyhow::Error>
+) -> Result<(), anyhow::Error>
 where
-    R: Log + Net + Threads + Wait + Clock + AllocGlobal + Sync,
+    R: Log + Net + Threads + Wait + Clock + Print + AllocGlobal + Sync,
     C: HealthCheck + Drop + Send + Sync,
 {
     let ((), used) = thread::join(
@@ -91,7 +91,11 @@ where
             used
         },
     );
-    used
+    let [both, one, again] = used?;
+    println!(rt; "two servers: requests go to {both}")?;
+    println!(rt; "one has stopped: requests go to {one}")?;
+    println!(rt; "it came back: requests go to {again}")?;
+    Ok(())
 }
 
 fn main(rt: HostRuntime) -> Result<(), anyhow::Error> {
@@ -101,6 +105,7 @@ fn main(rt: HostRuntime) -> Result<(), anyhow::Error> {
     let one_text = format!(in alloc; "{}", first.local_addr()?)?;
     let other_text = format!(in alloc; "{}", second.local_addr()?)?;
     let texts = [one_text.as_str(), other_text.as_str()];
+    let (mut signal, watch) = shutdown_pair(alloc)?;
     let mut clock = RuntimeClock::new(&rt);
     let mut balancer: Balancer<TcpHealthCheck<HostRuntime>> = LoadBalancer::try_from_iter(
         &rt,
@@ -111,10 +116,5 @@ fn main(rt: HostRuntime) -> Result<(), anyhow::Error> {
     )?;
     balancer.set_health_check(&rt, TcpHealthCheck::new(rt))?;
     balancer.health_check_frequency = Some(100_000_000);
-    let (mut signal, watch) = shutdown_pair(alloc)?;
-    let [both, one, again] = run_beside(&rt, &balancer, second, &mut signal, &watch)?;
-    println!(rt; "two servers: requests go to {both}")?;
-    println!(rt; "one has stopped: requests go to {one}")?;
-    println!(rt; "it came back: requests go to {again}")?;
-    Ok(())
+    run_beside(&rt, &balancer, second, &mut signal, &watch)
 }

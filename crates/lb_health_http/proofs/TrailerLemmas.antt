@@ -116,7 +116,7 @@ trailers_end left line s m r same q e =
       is = ap (λ (l : List ℕ). l ++ r) same;
     }))
 
--- what no trailers stand behind, no trailers stand before
+-- what has no trailers after it has none before it
 behind_never : (left : ℕ) (s m k tail : List ℕ) → PassesTrailers left s m → m ≡ k ++ tail
     → ((more after : List ℕ) → HasTrailers left (k ++ more) after → ⊥)
     → (front : List ℕ) × (rest : List ℕ) × (s ≡ front ++ rest) × ((more after : List ℕ) → HasTrailers 65536 (front ++ more) after → ⊥)

@@ -1,5 +1,5 @@
 -- Targets: for each health key of the memberships of views that are not removed, the first backend by view, then by the order
--- of the set. They stand in the order of their identity, then of their view.
+-- of the set. They are in the order of their identity, then of their view.
 use Rattle.std.specs.Prelude.{ℕ, Bool, not, List, [], map, filter, fold}
 use Rattle.std.specs.declared.cmp.Ordering.{Ordering}
 use Rattle.std.specs.Ordering.{nat_cmp, on, then_cmp}

@@ -73,7 +73,7 @@ flags-set disabled enabled old new b before u none q on e =
       | false ↦ λ o. before (or_first disabled (not enabled) none) q on o
     ] (sym (u q) ∙ e)
 
--- flags that enable beside those that are there
+-- flags that enable, with those that are there
 pub flags-more : (disabled : Bool) (old new : List (Member × Bool)) → AreFlagsOf disabled old → ((q : Member) → Flags old new q)
     → AreFlagsOf disabled new
 flags-more disabled old new before more none b on o = elim (more b) [

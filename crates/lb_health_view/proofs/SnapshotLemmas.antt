@@ -141,7 +141,7 @@ lists_found b s ss i g x p here e =
     lists_place b ss i x there.0 (ap (λ y. list_any (same_member b) (snapshot_of y).members) (sym here) ∙ e) in
     elim (list_any (same_member b) s.members) as (λ t. (t || lists_in b (map snapshot_of ss)) ≡ true) [ true ↦ refl | false ↦ inside ]
 
--- a new snapshot is current, and the one before stands behind the others as long as it lives
+-- a new snapshot is current, and the one before comes after the others as long as it lives
 pub shown_snapshots : (n : ℕ) (new current : ViewSnapshot) (earlier : List ViewSnapshot) → new.generation ≡ n
     → living n (snapshot_of new ∷ map snapshot_of (earlier ++ current ∷ []))
     ≡ snapshot_of new ∷ living n (by_age (snapshot_of current ∷ map snapshot_of earlier))

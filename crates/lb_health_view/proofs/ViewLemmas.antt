@@ -94,7 +94,7 @@ unlisted-enabled (Released g ∷ earlier) b u = rw u refl
 unlisted-enabled (Held g ∷ earlier) b u =
     unlisted-enabled earlier b (sym (lists-at_generation b g held_more (λ s. refl) (snapshots_after earlier)) ∙ u)
 
--- flags that enable may be stored beside those that are needed
+-- flags that enable may be stored with those that are needed
 pub roomier : (views : List ViewEvent) (v w : ViewValue) → IsViewAfter views v → w.generation ≡ v.generation → w.snapshots ≡ v.snapshots
     → ((q : Member) → Flags v.flags w.flags q) → IsViewAfter views w
 roomier views v w h g s flags = record {

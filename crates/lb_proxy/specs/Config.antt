@@ -13,7 +13,7 @@ use Rattle.lb_proxy.specs.PoolFile.{weight_of}
 use Rattle.lb_proxy.specs.declared.config.PoolConfig.{PoolConfig}
 use Rattle.lb_proxy.specs.declared.config.ListenConfig.{ListenConfig}
 use Rattle.lb_proxy.specs.declared.config.Selection.{Selection}
-use Rattle.lb_proxy.specs.declared.config.Selection.TheVariants.{RoundRobin, Fnv, Ketama, Least}
+use Rattle.lb_proxy.specs.declared.config.Selection.TheVariants.{RoundRobin, Fnv, Ketama, Least, Random}
 use Rattle.lb_proxy.specs.declared.mode.Mode.{Mode}
 use Rattle.lb_proxy.specs.declared.mode.Mode.TheVariants.{Tcp, Http}
 use Rattle.lb_proxy.specs.declared.config_fault.Place.{Place}
@@ -142,16 +142,13 @@ selection_of word =
     if bytes_eq word (codes "rr") then Some RoundRobin else
     if bytes_eq word (codes "fnv") then Some Fnv else
     if bytes_eq word (codes "ketama") then Some Ketama else
-    if bytes_eq word (codes "least") then Some Least else None
+    if bytes_eq word (codes "least") then Some Least else
+    if bytes_eq word (codes "random") then Some Random else None
 
 -- how a listener selects: in turn, unless a word says otherwise
-abbrev pub selection_or : List ℕ → Option Selection → Result Selection Cause
-selection_or word (Some s) = Ok s
-selection_or word None = if bytes_eq word (codes "random") then Err cause.NotYet else Err cause.NotSelection
-
 abbrev pub selection_by : Option (List ℕ) → Result Selection Cause
 selection_by None = Ok RoundRobin
-selection_by (Some word) = selection_or word (selection_of word)
+selection_by (Some word) = or_refused cause.NotSelection (selection_of word)
 
 abbrev pub selection_in : Part → Result Selection Said
 selection_in part = and_then (text_of part (codes "select")) (λ word. blamed part (codes "select") (selection_by word))

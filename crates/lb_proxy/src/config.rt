@@ -29,6 +29,8 @@ pub enum Selection {
     Ketama,
     /// By the fewest connections for each unit of weight.
     Least,
+    /// At random, by weight.
+    Random,
 }
 
 /// What a check of a backend does.
@@ -382,7 +384,6 @@ fn read_selection<'t>(section: &Section<'t>) -> Result<Selection, Fault<'t>>
     };
     match selection_of(word) {
         Some(selection) => Ok(selection),
-        None if word == "random" => Err(section.fault("select", Cause::NotYet)),
         None => Err(section.fault("select", Cause::NotSelection)),
     }
 }
@@ -396,6 +397,7 @@ pub fn selection_of(word: &str) -> Option<Selection>
         "fnv" => Some(Selection::Fnv),
         "ketama" => Some(Selection::Ketama),
         "least" => Some(Selection::Least),
+        "random" => Some(Selection::Random),
         _ => None,
     }
 }

@@ -82,10 +82,8 @@ pub enum Cause {
     NotMode,
     #[error("is to be source, and in http mode it can be uri or header:NAME too")]
     NotKey,
-    #[error("is to be rr, fnv, ketama or least")]
+    #[error("is to be rr, fnv, ketama, least or random")]
     NotSelection,
-    #[error("can't be that yet")]
-    NotYet,
     #[error("is the name of an earlier pool too")]
     SameName,
     #[error("names no pool")]

@@ -1,5 +1,5 @@
 -- A group with the pass that writes its board may be sent to a thread.
--- What a `Snapshot` shows crosses freely, which rattle's own search doesn't know: so the types that hold one, and those above, stand here.
+-- What a `Snapshot` shows crosses freely, which rattle's own search doesn't know: so the types that hold one, and those above, are here.
 use denote.RattleType.{RattleType}
 use denote.Struct.Declared.{shape}
 use denote.Param.Send.{IsSend, IsSync, sendable, view_send, struct_send, recorded_send}

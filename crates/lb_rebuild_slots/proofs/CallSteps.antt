@@ -1,4 +1,4 @@
--- What each call on a slot says of the group's history: its answer, and what the group stands for after it.
+-- What each call on a slot says of the group's history: its answer, and what the group is after it.
 use Rattle.std.proofs.Common.{arith, ◌≡◌, ◌<◌, ◌&&◌, ◌||◌, ◌∙◌, ◌⊎◌, ◌++◌, ◌==◌, ◌+◌, ◌%◌, ◌^◌, MatchBool, ℕ, Bool, true, false, not, cond}
 use Rattle.std.proofs.Common.{nat_lt, List, [], ◌∷◌, length, set, refl, sym, ap, subst, inl, inr, Some, None, Result, Ok, Err, IfOk, IfErr}
 use Rattle.std.proofs.Common.{OnErr, slice_get}

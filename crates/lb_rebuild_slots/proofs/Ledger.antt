@@ -94,7 +94,7 @@ scheduled n p c u s g e below in_ fits h =
     flies_in s g n (retired m) below in_ fits = omega arith
     flies_in s g n (taken_out m) below in_ fits = omega arith
 
--- what stands there without being a flight changes nothing
+-- what is there without being a flight changes nothing
 no_flight : (n r s : ℕ) (e : Extra) → is_flight e ≡ false
     → n ≡ r + number (nat_lt (max s (flight_number e)) n) + number (is_flight e) → n ≡ r + number (nat_lt (max s 0) n) + 0
 no_flight n r s nothing out h = h

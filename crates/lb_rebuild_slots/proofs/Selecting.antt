@@ -1,4 +1,4 @@
--- A selection from a slot: the words that are counted, with the loads that are lent to it.
+-- A selection from a slot: the words that are counted, with the loads that it borrows.
 use Rattle.std.proofs.Common.{◌≡◌, ◌&&◌, ℕ, Bool, true, false, nat_le, MatchBool, MatchOption, List, length, Option, Some, None, Result}
 use Rattle.std.proofs.Common.{refl, subst, ◌∙◌, slice_get}
 use Rattle.std.specs.Borrow.{Bor}

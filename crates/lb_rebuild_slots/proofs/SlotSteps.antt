@@ -84,7 +84,7 @@ more-ends-at : (b : Bool) (k : ℕ) → cond b (more (min k 18446744073709551615
 more-ends-at true k = more-ends k
 more-ends-at false k = refl
 
--- readers that are left and permits, by what stands in the slot
+-- readers that are left and permits, by what the slot contains
 left-same : (e : Extra) (v : SlotsEvent) (h : History) → ((n : ℕ) → readers n (v ∷ h) ≡ readers n h)
     → left_readers e h ≡ left_readers e (v ∷ h)
 left-same nothing v h same = refl

@@ -117,7 +117,7 @@ module _ {C : Type 0} where
       let one : Some d ≡ Some c = sym own ∙ ap (λ (l : List C). slice_get l k) configs ∙ sym (ap (slice_get made.configs) place) ∙ there in
       cc
 
-  -- the history that stands behind a group
+  -- the history of a group
   pub founded : {u v : SlotsValue C} (p : IsFounded u) → u ≡ v → IsFounded v
   founded p is = (p.0, (p.1.0, subst (λ (z : SlotsValue C). StandsFor p.0 p.1.0 z) is p.1.1))
 

@@ -1,4 +1,4 @@
--- What the calls on a group answer after its history, and which events they add to it. An answer is told by cases; the events
+-- What the calls on a group answer after its history, and which events they add to it. An answer is stated by cases; the events
 -- are a function of the call and its answer, so that what two calls did one after the other is the one list before the other.
 use Rattle.std.specs.Prelude.{◌≡◌, ◌==◌, ◌&&◌, ◌||◌, ◌+◌, ◌%◌, ◌<◌, ◌≤◌, ◌^◌, ◌⊎◌, ℕ, Bool, true, false, not, nat_lt, List, [], ◌∷◌, map}
 use Rattle.std.specs.Prelude.{length, slice_get, Option, Some, None, Result, Ok, Err, MatchOption, if◌then◌else◌}

@@ -31,21 +31,21 @@ where
         + AllocGlobal,
 {
     match row.place {
-        Place::Port => at_port(rt, row, false),
-        Place::CheckPort => at_port(rt, row, true),
-        Place::ClosedPort => where_none_listens(rt, row, backend_at_closed_port(rt)),
-        Place::Path(path) => at_path(rt, row, path, None),
-        Place::PathAndPort(path) => at_path(rt, row, path, Some(1)),
-        Place::NoPath(path) => where_none_listens(rt, row, backend_behind(rt.alloc(), path)),
+        Place::Port | Place::CheckPort => at_port(rt, row),
+        Place::Path(path) | Place::PathAndPort(path) => at_path(rt, row, path),
+        Place::ClosedPort | Place::NoPath(_) => where_none_listens(rt, row),
     }
 }
 
 // Whether the check of a backend without a server agrees.
-fn where_none_listens<R: Net<Stream = TcpStream> + Clock + AllocGlobal>(
-    rt: &R,
-    row: &Server,
-    backend: io::Result<Backend>,
-) -> io::Result<bool> {
+fn where_none_listens<R>(rt: &R, row: &Server) -> io::Result<bool>
+where
+    R: Net<Listener = TcpListener, Stream = TcpStream> + Clock + AllocGlobal,
+{
+    let backend = match row.place {
+        Place::NoPath(path) => backend_behind(rt.alloc(), path),
+        _ => backend_at_closed_port(rt),
+    };
     match backend {
         Ok(backend) => check_agrees(rt, row, &backend, None),
         Err(error) => Err(error),
@@ -138,20 +138,21 @@ fn serve_unix<C: Clock>(clock: &C, listener: &UnixListener, serves: Serves) -> i
 
 // Whether the check of a server at a port agrees: at the backend's, or at that of the check alone. What owns the listener makes
 // one call.
-fn at_port<R>(rt: &R, row: &Server, of_check: bool) -> io::Result<bool>
+fn at_port<R>(rt: &R, row: &Server) -> io::Result<bool>
 where
     R: Net<Listener = TcpListener, Stream = TcpStream> + Threads + Clock + Sync + AllocGlobal,
 {
     let listener = TcpListener::bind(rt, "127.0.0.1:0")?;
-    at_listener(rt, row, &listener, of_check)
+    at_listener(rt, row, &listener)
 }
 
 // The same of the server of that listener.
-fn at_listener<R>(rt: &R, row: &Server, listener: &TcpListener, of_check: bool) -> io::Result<bool>
+fn at_listener<R>(rt: &R, row: &Server, listener: &TcpListener) -> io::Result<bool>
 where
     R: Net<Listener = TcpListener, Stream = TcpStream> + Threads + Clock + Sync + AllocGlobal,
 {
     let port = listener.local_addr()?.port();
+    let of_check = matches!(&row.place, Place::CheckPort);
     let backend = backend_at(rt.alloc(), if of_check { 1 } else { port })?;
     let own = if of_check { Some(port) } else { None };
     let (_served, agreed) = join(
@@ -162,8 +163,8 @@ where
     agreed
 }
 
-// Whether the check of a server behind a Unix socket agrees, with that port of its own. What owns the backend makes one call.
-fn at_path<R>(rt: &R, row: &Server, path: &str, port: Option<u16>) -> io::Result<bool>
+// Whether the check of a server behind a Unix socket agrees, which may have a port of its own. What owns the backend makes one call.
+fn at_path<R>(rt: &R, row: &Server, path: &str) -> io::Result<bool>
 where
     R: Net<Listener = TcpListener, Stream = TcpStream>
         + Threads
@@ -173,17 +174,11 @@ where
         + AllocGlobal,
 {
     let backend = backend_behind(rt.alloc(), path)?;
-    behind_path(rt, row, path, &backend, port)
+    behind_path(rt, row, path, &backend)
 }
 
 // The same of that backend.
-fn behind_path<R>(
-    rt: &R,
-    row: &Server,
-    path: &str,
-    backend: &Backend,
-    port: Option<u16>,
-) -> io::Result<bool>
+fn behind_path<R>(rt: &R, row: &Server, path: &str, backend: &Backend) -> io::Result<bool>
 where
     R: Net<Listener = TcpListener, Stream = TcpStream>
         + Threads
@@ -193,6 +188,10 @@ where
         + AllocGlobal,
 {
     let listener = UnixListener::bind(rt, path)?;
+    let port = match row.place {
+        Place::PathAndPort(_) => Some(1),
+        _ => None,
+    };
     let (_served, agreed) = join(
         rt,
         || serve_unix(rt, &listener, row.serves),

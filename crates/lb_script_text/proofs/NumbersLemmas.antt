@@ -26,7 +26,7 @@ is_text : (word : List ℕ) → has_plain_front word ≡ true → 0 < length wor
     → is_number_text word ≡ true
 is_text word plain some digits = grind (arith, common_steps)
 
--- where a plus or a 0 before others stands in front there is no number's text
+-- with a plus, or a 0 before others, in front there is no number's text
 plus_is_no_digit : (word : List ℕ) → slice_index word 0 ≡ 43 → list_all is_ascii_digit word ≡ true → 0 < length word → ⊥
 plus_is_no_digit [] is digits some = omega arith
 plus_is_no_digit (x ∷ xs) is digits some = grind (arith, common_steps)

@@ -179,6 +179,6 @@ plain_front bytes count some within plain =
     let same : get_or (take count bytes) k 0 ≡ get_or bytes k 0 = grind (arith, common_steps) in
     rw same (plain k inside))
 
--- what stands after a place, taken whole
+-- what comes after a place, taken whole
 pub dropped_all : (bytes : List ℕ) (count : ℕ) → take (length bytes - (count + 1)) (drop (count + 1) bytes) ≡ drop (count + 1) bytes
 dropped_all bytes count = take_all (length bytes - (count + 1)) (drop (count + 1) bytes) (omega (arith, length-drop (count + 1) bytes))

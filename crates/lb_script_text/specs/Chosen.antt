@@ -1,7 +1,7 @@
 -- What a selector of one of the kinds was built of, and what is left of a walk of one.
 use Rattle.std.specs.Prelude.{◌≡◌, Bool, true, false, List, []}
 use Rattle.std.specs.Arc.{arc_value}
-use Rattle.lb_select_base.specs.Algorithms.{hash_word, ticket_word}
+use Rattle.lb_select_base.specs.Algorithms.{hash_word, ticket_word, random_word}
 use Rattle.lb_select_base.specs.Backends.{Member}
 use Rattle.lb_select_base.specs.Draws.{Draw}
 use Rattle.lb_select.specs.Weights.{IsWeightedRest}
@@ -23,12 +23,14 @@ members_chosen (chosen.Fnv selector) = arc_value selector
 members_chosen (chosen.RoundRobin selector) = arc_value selector
 members_chosen (chosen.Ketama selector) = (arc_value selector).members
 members_chosen (chosen.Least selector) = arc_value selector
+members_chosen (chosen.Random selector) = arc_value selector
 
 abbrev pub kind_chosen : Chosen → Kind
 kind_chosen (chosen.Fnv selector) = kind.Fnv
 kind_chosen (chosen.RoundRobin selector) = kind.RoundRobin
 kind_chosen (chosen.Ketama selector) = kind.Ketama
 kind_chosen (chosen.Least selector) = kind.Least
+kind_chosen (chosen.Random selector) = kind.Random
 
 -- the set of a walk's selector
 abbrev pub members_walked : ChosenIterator → List Member
@@ -36,6 +38,7 @@ members_walked (walked.Fnv i) = arc_value i.backend
 members_walked (walked.RoundRobin i) = arc_value i.backend
 members_walked (walked.Ketama i) = (arc_value i.ring).members
 members_walked (walked.Least i) = arc_value i.backend
+members_walked (walked.Random i) = arc_value i.backend
 
 -- what is left of a walk
 abbrev pub chosen_walk : ChosenIterator → List Draw → List Member → Bool → Type 0
@@ -43,6 +46,7 @@ chosen_walk (walked.Fnv i) = IsWeightedRest hash_word i.walk.first (arc_value i.
 chosen_walk (walked.RoundRobin i) = IsWeightedRest ticket_word i.walk.first (arc_value i.backend) i.walk.word
 chosen_walk (walked.Ketama i) = IsWalkFrom (arc_value i.ring) i.walk.at
 chosen_walk (walked.Least i) = IsLeastRest (arc_value i.backend) i.walk.order.items i.walk.at
+chosen_walk (walked.Random i) = IsWeightedRest random_word i.walk.first (arc_value i.backend) i.walk.word
 
 -- a walk that has given nothing yet
 pub chosen_starts : (i : ChosenIterator) → chosen_walk i [] [] false
@@ -50,6 +54,7 @@ chosen_starts (walked.Fnv i) = rest_none hash_word i.walk.first (arc_value i.bac
 chosen_starts (walked.RoundRobin i) = rest_none ticket_word i.walk.first (arc_value i.backend) i.walk.word
 chosen_starts (walked.Ketama i) = walk_starts (arc_value i.ring) i.walk.at
 chosen_starts (walked.Least i) = least_starts (arc_value i.backend) i.walk.order.items i.walk.at
+chosen_starts (walked.Random i) = rest_none random_word i.walk.first (arc_value i.backend) i.walk.word
 
 -- a walk that is over gives nothing more
 pub chosen_ends :
@@ -59,3 +64,4 @@ chosen_ends (walked.Fnv i) ds cs e over h = rest_ends hash_word i.walk.first (ar
 chosen_ends (walked.RoundRobin i) ds cs e over h = rest_ends ticket_word i.walk.first (arc_value i.backend) i.walk.word ds cs e over h
 chosen_ends (walked.Ketama i) ds cs e over h = walk_ends (arc_value i.ring) i.walk.at ds cs e over h
 chosen_ends (walked.Least i) ds cs e over h = least_ends (arc_value i.backend) i.walk.order.items i.walk.at ds cs e over h
+chosen_ends (walked.Random i) ds cs e over h = rest_ends random_word i.walk.first (arc_value i.backend) i.walk.word ds cs e over h

@@ -1,7 +1,7 @@
 -- What is left of a walk over a borrowed selector of one of the kinds. A walk of another kind fits no selector, and has nothing left.
 use Rattle.std.specs.Prelude.{◌≡◌, ℕ, ⊤, Bool, true, false, List, [], refl}
 use Rattle.std.specs.Arc.{arc_value}
-use Rattle.lb_select_base.specs.Algorithms.{hash_word, ticket_word}
+use Rattle.lb_select_base.specs.Algorithms.{hash_word, ticket_word, random_word}
 use Rattle.lb_select_base.specs.Backends.{Member}
 use Rattle.lb_select_base.specs.Draws.{Draw}
 use Rattle.lb_select.specs.Weights.{IsWeightedRest}
@@ -36,6 +36,7 @@ chosen_fits (chosen.Fnv selector) w = weighted_fits w
 chosen_fits (chosen.RoundRobin selector) w = weighted_fits w
 chosen_fits (chosen.Ketama selector) w = ring_fits w
 chosen_fits (chosen.Least selector) w = least_fits (arc_value selector) w
+chosen_fits (chosen.Random selector) w = weighted_fits w
 
 -- nothing is drawn and no candidate comes
 abbrev pub IsNothing : List Draw → List Member → Bool → Type 0
@@ -101,6 +102,7 @@ chosen_rest (chosen.Fnv selector) w = weighted_rest hash_word (arc_value selecto
 chosen_rest (chosen.RoundRobin selector) w = weighted_rest ticket_word (arc_value selector) w
 chosen_rest (chosen.Ketama selector) w = ring_rest (arc_value selector) w
 chosen_rest (chosen.Least selector) w = least_rest (arc_value selector) w
+chosen_rest (chosen.Random selector) w = weighted_rest random_word (arc_value selector) w
 
 -- a walk that has given nothing yet
 pub chosen_rest_starts : (s : Chosen) (w : ChosenWalk) → chosen_rest s w [] [] false
@@ -108,6 +110,7 @@ chosen_rest_starts (chosen.Fnv selector) w = weighted_starts hash_word (arc_valu
 chosen_rest_starts (chosen.RoundRobin selector) w = weighted_starts ticket_word (arc_value selector) w
 chosen_rest_starts (chosen.Ketama selector) w = ring_starts (arc_value selector) w
 chosen_rest_starts (chosen.Least selector) w = lasting_starts (arc_value selector) w
+chosen_rest_starts (chosen.Random selector) w = weighted_starts random_word (arc_value selector) w
 
 -- a walk that is over gives nothing more
 pub chosen_rest_ends :
@@ -117,3 +120,4 @@ chosen_rest_ends (chosen.Fnv selector) w ds cs e over h = weighted_ends hash_wor
 chosen_rest_ends (chosen.RoundRobin selector) w ds cs e over h = weighted_ends ticket_word (arc_value selector) w ds cs e over h
 chosen_rest_ends (chosen.Ketama selector) w ds cs e over h = ring_ends (arc_value selector) w ds cs e over h
 chosen_rest_ends (chosen.Least selector) w ds cs e over h = lasting_ends (arc_value selector) w ds cs e over h
+chosen_rest_ends (chosen.Random selector) w ds cs e over h = weighted_ends random_word (arc_value selector) w ds cs e over h

@@ -1,19 +1,19 @@
 //! The kinds of selectors, and one selector over them.
-//! A kind is the configuration of a slot; a set and a kind determine every walk.
-ghost use Rattle.std.specs.Prelude.{◌≡◌, List, ℕ, Bool, false, option_and_then, option_copied};
+//! A kind is the configuration of a slot; a set, a kind and the words that are drawn determine every walk. No script names `Random`.
+ghost use Rattle.std.specs.Prelude.{◌≡◌, List, ℕ, Bool, option_and_then, option_copied};
 ghost use Rattle.std.specs.List.{slice_get};
 ghost use Rattle.std.specs.Arc.{arc_value};
 ghost use Rattle.lb_select_base.specs.Backends.{Member};
 ghost use Rattle.lb_select_base.specs.Draws.{Draw};
 ghost use Rattle.lb_select_base.specs.Walks.{IsStep};
 ghost use Rattle.lb_select.specs.Weights.{weighted_refusal};
-ghost use Rattle.lb_script_text.specs.Kinds.{kind_walks, kind_refusal, kind_undrawn, kind_few_words};
+ghost use Rattle.lb_script_text.specs.Kinds.{kind_walks, kind_refusal, kind_is_random, kind_undrawn, kind_few_words};
 ghost use Rattle.lb_script_text.specs.Chosen.{members_chosen, kind_chosen, chosen_walk, members_walked, chosen_starts, chosen_ends};
 ghost use Rattle.lb_script_text.specs.Lent.{chosen_fits, chosen_rest, chosen_rest_starts, chosen_rest_ends};
 
 use lb_select::ketama::{KetamaHashing, OwnedNodeIterator, RingWalk};
 use lb_select::least::{LeastConnections, LeastIterator, LeastWalk};
-use lb_select::selection::{FNVHash, RoundRobin};
+use lb_select::selection::{FNVHash, Random, RoundRobin};
 use lb_select::weighted::{WeightedIterator, WeightedWalk};
 use lb_select_base::algorithms;
 use lb_select_base::algorithms::FnvHasher;
@@ -36,6 +36,8 @@ pub enum Kind {
     Ketama,
     /// By the least load for each unit of weight.
     Least,
+    /// Weighted, at random.
+    Random,
 }
 
 /// A selector of one of the kinds.
@@ -45,9 +47,10 @@ pub enum Chosen {
     RoundRobin(Arc<RoundRobin>),
     Ketama(Arc<KetamaHashing>),
     Least(Arc<LeastConnections>),
+    Random(Arc<Random>),
 }
 
-/// What a walk over a borrowed selector of one of the kinds keeps. The two weighted kinds keep the same.
+/// What a walk over a borrowed selector of one of the kinds keeps. The three weighted kinds keep the same.
 #[derive(Drop)]
 pub enum ChosenWalk {
     Weighted(WeightedWalk),
@@ -62,6 +65,7 @@ pub enum ChosenIterator {
     RoundRobin(WeightedIterator<algorithms::RoundRobin>),
     Ketama(OwnedNodeIterator),
     Least(LeastIterator),
+    Random(WeightedIterator<algorithms::Random>),
 }
 
 impl ChosenIterator {
@@ -76,6 +80,7 @@ impl ChosenIterator {
             ChosenIterator::RoundRobin(walk) => walk.advance(words),
             ChosenIterator::Ketama(walk) => walk.advance(),
             ChosenIterator::Least(walk) => walk.advance(),
+            ChosenIterator::Random(walk) => walk.advance(words),
         }
     }
 
@@ -88,6 +93,7 @@ impl ChosenIterator {
             ChosenIterator::RoundRobin(walk) => walk.backend(index),
             ChosenIterator::Ketama(walk) => walk.backend(index),
             ChosenIterator::Least(walk) => walk.backend(index),
+            ChosenIterator::Random(walk) => walk.backend(index),
         }
     }
 }
@@ -124,7 +130,7 @@ impl BackendSelection for Chosen {
 
     ghost default_config = { Fnv };
 
-    ghost may_draw_random = { λ ms kind. false };
+    ghost may_draw_random = { λ ms. kind_is_random };
 
     ghost fits = { chosen_fits };
 
@@ -168,6 +174,11 @@ impl BackendSelection for Chosen {
                 let selector = Arc::new(alloc, selector)?;
                 Ok(Chosen::Least(selector))
             }
+            Kind::Random => {
+                let selector = Random::build(alloc, backends)?;
+                let selector = Arc::new(alloc, selector)?;
+                Ok(Chosen::Random(selector))
+            }
         }
     }
 
@@ -194,6 +205,10 @@ impl BackendSelection for Chosen {
                 let walk = LeastConnections::iter(selector, key, words)?;
                 Ok(ChosenIterator::Least(walk))
             }
+            Chosen::Random(selector) => {
+                let walk = Random::iter(selector, key, words)?;
+                Ok(ChosenIterator::Random(walk))
+            }
         }
     }
 
@@ -215,6 +230,10 @@ impl BackendSelection for Chosen {
                 let walk = selector.start(key, words)?;
                 Ok(ChosenWalk::Least(walk))
             }
+            Chosen::Random(selector) => {
+                let walk = selector.start(key, words)?;
+                Ok(ChosenWalk::Weighted(walk))
+            }
         }
     }
 
@@ -230,12 +249,13 @@ impl BackendSelection for Chosen {
             ),
             (Chosen::Ketama(selector), ChosenWalk::Ketama(walk)) => selector.step(walk, words),
             (Chosen::Least(selector), ChosenWalk::Least(walk)) => selector.step(walk, words),
+            (Chosen::Random(selector), ChosenWalk::Weighted(walk)) => selector.step(walk, words),
             // No walk of another kind fits.
             _ => None,
         }
     }
 
     fn draws_random(&self) -> bool {
-        false
+        matches!(self, Chosen::Random(_))
     }
 }

@@ -1,2 +1,3 @@
-//! Groups in a world: random words that are given.
+//! Groups: a worker that is lost, by calls; and random words that a world is given.
+mod losses;
 mod worlds;

@@ -10,6 +10,10 @@ mod turns;
 mod waking;
 
 use lb_crowd::crowd::{Crowd, Registry};
+use lb_health_check::health_check::HealthCheck;
+use lb_health_registry::keys::KeyRule;
+use lb_select_base::walk::BackendSelection;
+use lb_threads_group::group::SharedGroup;
 use lb_threads_registry::registry::HealthRegistry;
 use log::Log;
 use std::alloc::Global;
@@ -20,6 +24,9 @@ use std::time::Clock;
 
 // How often the polls of these tests look, each ten milliseconds apart.
 const TURNS: u64 = 1000;
+
+// More cells than all cases together start: each update to another membership starts one.
+const CELLS: u64 = 1000;
 
 // The cases, each as the function of its name tells it.
 #[derive(Clone, Copy, Debug)]
@@ -41,6 +48,31 @@ enum Row {
     CancelledWhileRead,
 }
 
+// Plays a case that no worker has a part in, on any two groups.
+fn play_by_calls<
+    S: BackendSelection,
+    R: KeyRule + Drop,
+    C: HealthCheck + Drop,
+    W: Abort + Log + Wait + Copy + Drop,
+>(
+    rt: &W,
+    alloc: Global,
+    first: &SharedGroup<S, R, C>,
+    second: &SharedGroup<S, R, C>,
+    registry: &Registry,
+    row: Row,
+) {
+    match row {
+        Row::TurnsOnOneGate => turns::turns_on_one_gate(rt, alloc, first, second),
+        Row::WorkerOfOneLetGo => turns::worker_of_one_let_go(rt, alloc, first),
+        Row::RefusedOnce => turns::refused_once(rt, alloc, first),
+        Row::ClockGoesBack => moments::clock_goes_back(rt, alloc, first),
+        Row::ReaderStays => staying::reader_stays(rt, alloc, first),
+        Row::CancelledWhileRead => staying::cancelled_while_read(rt, alloc, first, registry),
+        _ => {}
+    }
+}
+
 // Plays a case. No worker of the groups was started before.
 fn play<W: Abort + Log + Threads + Wait + Clock + Copy + Send + Sync + Drop + 'static>(
     rt: &W,
@@ -56,21 +88,32 @@ fn play<W: Abort + Log + Threads + Wait + Clock + Copy + Send + Sync + Drop + 's
         Row::ServedInACrowd => builds::served_in_a_crowd(rt, alloc, crowd),
         Row::SelectsBesideABuild => builds::selects_beside_a_build(rt, alloc, crowd),
         Row::CancelsABuild => builds::cancels_a_build(rt, alloc, crowd),
-        Row::TurnsOnOneGate => turns::turns_on_one_gate(rt, alloc, first, second),
-        Row::WorkerOfOneLetGo => turns::worker_of_one_let_go(rt, alloc, first),
-        Row::RefusedOnce => turns::refused_once(rt, alloc, first),
         Row::LastReaderWakes => waking::last_reader_wakes(rt, alloc, crowd),
         Row::RebuildsGoOn => waking::rebuilds_go_on(rt, alloc, crowd),
-        Row::ClockGoesBack => moments::clock_goes_back(rt, alloc, first),
         Row::AtTheLastMoment => moments::at_the_last_moment(rt, alloc, crowd),
-        Row::ReaderStays => staying::reader_stays(rt, alloc, first),
-        Row::CancelledWhileRead => {
-            staying::cancelled_while_read(rt, alloc, first, &*crowd.site.registry)
+        Row::TurnsOnOneGate
+        | Row::WorkerOfOneLetGo
+        | Row::RefusedOnce
+        | Row::ClockGoesBack
+        | Row::ReaderStays
+        | Row::CancelledWhileRead => {
+            play_by_calls(rt, alloc, first, second, &*crowd.site.registry, row)
         }
     }
 }
 
-// Plays a case, drops both handles then, and looks at what the groups leave.
+// How many cells are kept and healthy, of those that there can be.
+fn kept<W: Wait>(rt: &W, registry: &Registry) -> u64 {
+    let mut kept: u64 = 0;
+    for cell in 0..CELLS {
+        if registry.cell_ready(rt, cell) {
+            kept = kept.saturating_add(1);
+        }
+    }
+    kept
+}
+
+// Plays a case, drops both handles then, and looks at what the groups leave: the registry keeps no cell for them.
 fn played<W: Abort + Log + Threads + Wait + Clock + Copy + Send + Sync + Drop + 'static>(
     rt: &W,
     alloc: Global,
@@ -80,7 +123,7 @@ fn played<W: Abort + Log + Threads + Wait + Clock + Copy + Send + Sync + Drop + 
     let crowd = Crowd::new(*rt, alloc, registry).expect(rt, "refused");
     play(rt, alloc, &crowd, row);
     let left = crowd.leave(rt, alloc, TURNS).expect(rt, "refused");
-    assert_eq!(rt; left, [true; 6], "{row:?}");
+    assert_eq!(rt; (left, kept(rt, &**registry)), ([true; 6], 0), "{row:?}");
 }
 
 #[test]

@@ -14,7 +14,7 @@ use Rattle.lb_rebuild_group.specs.GroupHistory.{History, slot_events}
 use Rattle.lb_rebuild_group.specs.Stands.{GroupValue, IsFounded, After}
 use Rattle.lb_threads_group.specs.Shared.{SelectsByAny}
 
--- what is told of a slot is told of one that is there
+-- what is said of a slot is said of one that is there
 told_if : (b : Bool) (s g : ℕ) → cond b (Some s) None ≡ Some g → (b ≡ true) × (s ≡ g)
 told_if true s g is = (refl, cc)
 told_if false s g is = absurd (cc)
@@ -32,7 +32,7 @@ memory_or e known (inl is) = inl (known is)
 memory_or e known (inr is) = inr is.1
 
 module _ {C : Type 0} where
-  -- the group that was lent is the same one
+  -- the group that was borrowed is the same one
   pub founded_as : {u v : GroupValue C} → u ≡ v → IsFounded u → IsFounded v
   founded_as same p = subst (λ (x : GroupValue C). IsFounded x) same p
 

@@ -21,7 +21,7 @@ let_go (Err x) id g views events = no_more events
 
 module _ {R : Type 0} {gives : R → Member → Member → Type 0} where
   module _ {C : Type 0} where
-    -- a snapshot is let go of a group behind which some history stands
+    -- a snapshot of a group that has a history is released
     pub released_later : {A B : Type 0} (a : Result A B) (v : GroupValue C) (generation : Made C → History → ℕ) {x y : RegistryValue R}
         → IsFounded v → IsReleasedWhere gives a v generation x y → IsRegistryOf gives x y
     released_later a v generation p is =

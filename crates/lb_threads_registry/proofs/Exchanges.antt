@@ -47,7 +47,7 @@ module _ {T K : Type 0} (holds : T → Type 0) where
       ))
       (λ n. (key, keeps, tt, stored holds word s.words s.homes keeps_rule.one (λ z. absurd (never word some z)), λ e. absurd (n e)))
 
-  -- whoever has the value puts it back by storing 0
+  -- the holder of the value puts it back by storing 0
   pub goes : (slots id : ℕ) (me : Me (Option T) K) (value : T) → slots ≡ 1 → me.1 ≡ (0, Some value) ∷ [] → holds value
       → Allows {S = Option T} {V = K} (λ s. FreeIsHome holds s.words s.homes) slots id me 0 (λ _. 0) (λ _ _. Unit {0})
   goes slots id me value one has fact s keeps_rule count _ _ = (

@@ -30,7 +30,7 @@ given_answer (Some a) = a
 abbrev pub right_answer : {C : Type 0} → Meaning C → History C → Step C → Answer
 right_answer M h st = given_answer (answer_after M h st)
 
--- an answer that is the right one itself: no refusal, and no failure that may stand in place of a build
+-- an answer that is the right one itself: no refusal, and no failure that may come in place of a build
 abbrev pub is_lasting : Answer → Bool
 is_lasting (answer.Refused r) = false
 is_lasting (answer.BuildFailed n r) = false

@@ -62,7 +62,7 @@ tail-one true x y none rest = let e : x ≡ 0 = none refl in omega arith
 tail-one false x y none rest = omega arith
 
 module _ {C : Type 0} (h : History C) (a : ℕ) where
-  -- these groups stand from the place g on
+  -- these groups are there from the place g on
   abbrev Stand : ℕ → List (Made C) → Type 0
   Stand g ms = (j : ℕ) (m : Made C) → slice_get ms j ≡ Some m → made_at (g + j) h ≡ Some m
 

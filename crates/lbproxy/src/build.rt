@@ -47,6 +47,7 @@ fn kind_of(selection: Selection) -> Kind {
         Selection::Fnv => Kind::Fnv,
         Selection::Ketama => Kind::Ketama,
         Selection::Least => Kind::Least,
+        Selection::Random => Kind::Random,
     }
 }
 

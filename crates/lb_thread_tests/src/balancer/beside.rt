@@ -1,6 +1,10 @@
 //! Selections during updates and checks, in threads.
-use crate::balancer::fixtures::{Bench, ROWS, is_second, waited};
+use crate::balancer::fixtures::{Bench, ROWS, TestedBench, is_second, waited};
+use lb_health_check::health_check::HealthCheck;
+use lb_health_registry::keys::KeyRule;
+use lb_health_view::discovery::ServiceDiscovery;
 use lb_select::selection::RoundRobin;
+use lb_select_base::walk::BackendSelection;
 use log::Log;
 use std::process::Abort;
 use std::sync::Wait;
@@ -21,10 +25,13 @@ enum Case {
 }
 
 // Selects once the discovery was asked, and lets it answer then; whether it was asked, and nothing was selected.
-fn selects_meanwhile<R: Abort + Wait + Clock + Copy + Drop>(
-    rt: &R,
-    bench: &Bench<RoundRobin, R>,
-) -> bool {
+fn selects_meanwhile<
+    S: BackendSelection,
+    D: ServiceDiscovery + Drop,
+    K: KeyRule + Drop,
+    C: HealthCheck + Drop,
+    R: Abort + Wait + Clock,
+>(rt: &R, bench: &Bench<S, D, K, C>) -> bool {
     let came = waited(rt, &bench.line.asked, 1);
     let found = bench.select(rt, 9);
     bench.line.open.store(1, SeqCst);
@@ -32,11 +39,13 @@ fn selects_meanwhile<R: Abort + Wait + Clock + Copy + Drop>(
 }
 
 // What is shown now, whose generation is at least this one, and whether it is of one membership: each selected one is a member of it.
-fn shows_one<R: Abort + Wait + Clock + Copy + Drop>(
-    rt: &R,
-    bench: &Bench<RoundRobin, R>,
-    before: u64,
-) -> Option<u64> {
+fn shows_one<
+    S: BackendSelection,
+    D: ServiceDiscovery + Drop,
+    K: KeyRule + Drop,
+    C: HealthCheck + Drop,
+    R: Abort + Wait,
+>(rt: &R, bench: &Bench<S, D, K, C>, before: u64) -> Option<u64> {
     let shown = bench.balancer.shown(rt, bench.alloc).expect(rt, "refused");
     let shown = &*shown;
     let generation = shown.generation();
@@ -57,7 +66,13 @@ fn shows_one<R: Abort + Wait + Clock + Copy + Drop>(
 }
 
 // Whether what is shown is of one membership each time, and no generation is below one seen before.
-fn shows_ones<R: Abort + Wait + Clock + Copy + Drop>(rt: &R, bench: &Bench<RoundRobin, R>) -> bool {
+fn shows_ones<
+    S: BackendSelection,
+    D: ServiceDiscovery + Drop,
+    K: KeyRule + Drop,
+    C: HealthCheck + Drop,
+    R: Abort + Wait,
+>(rt: &R, bench: &Bench<S, D, K, C>) -> bool {
     let mut before = 0;
     for _ in 0..1000 {
         match shows_one(rt, bench, before) {
@@ -69,7 +84,13 @@ fn shows_ones<R: Abort + Wait + Clock + Copy + Drop>(rt: &R, bench: &Bench<Round
 }
 
 // Selects until the second backend was left out in two rounds of turns, for ten seconds at most; whether it was.
-fn turns_away<R: Abort + Wait + Clock + Copy + Drop>(rt: &R, bench: &Bench<RoundRobin, R>) -> bool {
+fn turns_away<
+    S: BackendSelection,
+    D: ServiceDiscovery + Drop,
+    K: KeyRule + Drop,
+    C: HealthCheck + Drop,
+    R: Abort + Wait + Clock,
+>(rt: &R, bench: &Bench<S, D, K, C>) -> bool {
     let mut reader = bench.balancer.reader(rt, bench.alloc).expect(rt, "refused");
     let mut misses = 0u64;
     for _ in 0..5000 {
@@ -89,7 +110,7 @@ fn turns_away<R: Abort + Wait + Clock + Copy + Drop>(rt: &R, bench: &Bench<Round
 // What a thread of a number does; whether all was as it is to be.
 fn part<R: Abort + Log + Threads + Wait + Clock + Copy + Send + Sync + Drop>(
     rt: &R,
-    bench: &Bench<RoundRobin, R>,
+    bench: &TestedBench<RoundRobin, R>,
     case: Case,
     thread: usize,
 ) -> bool {
@@ -112,7 +133,7 @@ fn part<R: Abort + Log + Threads + Wait + Clock + Copy + Send + Sync + Drop>(
 // The parts of three threads, whether all was as it is to be in each, and the generation then.
 fn together<R: Abort + Log + Threads + Wait + Clock + Copy + Send + Sync + Drop>(
     rt: &R,
-    bench: &Bench<RoundRobin, R>,
+    bench: &TestedBench<RoundRobin, R>,
     case: Case,
 ) -> (bool, u64) {
     let parts = thread::map_indices(rt, bench.alloc, 3, &|thread| part(rt, bench, case, thread));
@@ -124,7 +145,7 @@ fn together<R: Abort + Log + Threads + Wait + Clock + Copy + Send + Sync + Drop>
 // All cases; the check is set before the last one.
 fn cases<R: Abort + Log + Threads + Wait + Clock + Copy + Send + Sync + Drop>(
     rt: &R,
-    bench: &Bench<RoundRobin, R>,
+    bench: &TestedBench<RoundRobin, R>,
 ) -> [(bool, u64); 3] {
     bench.line.begin(false, ROWS);
     let asked = together(rt, bench, Case::Asked);

@@ -1,11 +1,13 @@
 //! A shared balancer in one thread: what its calls do to what is served. What was seen is noted as a text.
-use crate::balancer::fixtures::{Bench, FAULT, HEAVY, InTurn, ROWS, SecondDown, note};
+use crate::balancer::fixtures::{Bench, FAULT, HEAVY, ROWS, TestedBench, note};
 use crate::service_fixtures::Ticks;
 use lb_balancer::reader::BalancerReader;
-use lb_health_registry::keys::Rule;
+use lb_health_check::health_check::HealthCheck;
+use lb_health_registry::keys::KeyRule;
+use lb_health_view::discovery::ServiceDiscovery;
 use lb_select::selection::RoundRobin;
 use lb_select_base::backend::Backend;
-use lb_threads_registry::keyed::NoRule;
+use lb_select_base::walk::BackendSelection;
 use log::Log;
 use std::alloc::Global;
 use std::process::Abort;
@@ -15,12 +17,13 @@ use std::thread::Threads;
 use std::time::Clock;
 
 // Notes the generation, what the last accepted update took, and so many selections.
-fn look<R: Abort + Wait + Clock + Copy + Drop>(
-    rt: &R,
-    bench: &Bench<RoundRobin, R>,
-    times: u64,
-    text: &mut String,
-) {
+fn look<
+    S: BackendSelection,
+    D: ServiceDiscovery + Drop,
+    K: KeyRule + Drop,
+    C: HealthCheck + Drop,
+    R: Abort + Wait,
+>(rt: &R, bench: &Bench<S, D, K, C>, times: u64, text: &mut String) {
     let generation = bench.balancer.backend_generation(rt);
     write!(text, "generation {generation}").expect(rt, "refused");
     if let Some(timing) = bench.balancer.last_update_timing(rt) {
@@ -34,12 +37,13 @@ fn look<R: Abort + Wait + Clock + Copy + Drop>(
 }
 
 // Updates once where the discovery answers this, and notes a refusal.
-fn update<R: Abort + Wait + Clock + Copy + Drop>(
-    rt: &R,
-    bench: &Bench<RoundRobin, R>,
-    answers: u64,
-    text: &mut String,
-) {
+fn update<
+    S: BackendSelection,
+    D: ServiceDiscovery + Drop,
+    K: KeyRule + Drop,
+    C: HealthCheck + Drop,
+    R: Abort + Wait,
+>(rt: &R, bench: &Bench<S, D, K, C>, answers: u64, text: &mut String) {
     bench.line.begin(true, answers);
     let mut clock = Ticks { next: 0, step: 5 };
     if let Err(refusal) = bench.balancer.update(rt, bench.alloc, &mut clock) {
@@ -48,11 +52,13 @@ fn update<R: Abort + Wait + Clock + Copy + Drop>(
 }
 
 // An update, two that are refused, and one that isn't.
-fn updates<R: Abort + Wait + Clock + Copy + Drop>(
-    rt: &R,
-    bench: &Bench<RoundRobin, R>,
-    text: &mut String,
-) {
+fn updates<
+    S: BackendSelection,
+    D: ServiceDiscovery + Drop,
+    K: KeyRule + Drop,
+    C: HealthCheck + Drop,
+    R: Abort + Wait,
+>(rt: &R, bench: &Bench<S, D, K, C>, text: &mut String) {
     look(rt, bench, 1, text);
     update(rt, bench, ROWS, text);
     look(rt, bench, 2, text);
@@ -64,12 +70,13 @@ fn updates<R: Abort + Wait + Clock + Copy + Drop>(
 }
 
 // Three selections that look at one candidate each, and one of what isn't ready.
-fn sees<R: Abort + Wait + Clock + Copy + Drop>(
-    rt: &R,
-    alloc: Global,
-    reader: &mut BalancerReader<'_, RoundRobin, InTurn<R>, Rule<NoRule>, SecondDown<R>>,
-    text: &mut String,
-) {
+fn sees<
+    S: BackendSelection,
+    D: ServiceDiscovery + Drop,
+    K: KeyRule + Drop,
+    C: HealthCheck + Drop,
+    R: Abort + Wait,
+>(rt: &R, alloc: Global, reader: &mut BalancerReader<'_, S, D, K, C>, text: &mut String) {
     for _ in 0..3 {
         let found = reader.select(rt, alloc, b"k", 1).expect(rt, "refused");
         note(rt, text, &found);
@@ -82,7 +89,7 @@ fn sees<R: Abort + Wait + Clock + Copy + Drop>(
 // Checks between two readings of a reader.
 fn checks<R: Abort + Log + Threads + Wait + Clock + Copy + Send + Sync + Drop>(
     rt: &R,
-    bench: &Bench<RoundRobin, R>,
+    bench: &TestedBench<RoundRobin, R>,
     text: &mut String,
 ) {
     let (alloc, balancer) = (bench.alloc, &bench.balancer);
@@ -99,7 +106,7 @@ fn checks<R: Abort + Log + Threads + Wait + Clock + Copy + Send + Sync + Drop>(
 // All calls.
 fn calls<R: Abort + Log + Threads + Wait + Clock + Copy + Send + Sync + Drop>(
     rt: &R,
-    bench: &Bench<RoundRobin, R>,
+    bench: &TestedBench<RoundRobin, R>,
     text: &mut String,
 ) {
     updates(rt, bench, text);

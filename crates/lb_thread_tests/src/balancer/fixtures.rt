@@ -3,7 +3,7 @@ use crate::service_fixtures::Ticks;
 use lb_balancer::load_balancer::LoadBalancer;
 use lb_health_check::error::CheckError;
 use lb_health_check::health_check::HealthCheck;
-use lb_health_registry::keys::Rule;
+use lb_health_registry::keys::{KeyRule, Rule};
 use lb_health_view::discovery::{Discovered, DiscoverySource, ServiceDiscovery};
 use lb_health_view::view::Settings;
 use lb_select_base::backend::{Backend, InetAddr, SocketAddr};
@@ -150,16 +150,24 @@ pub type Tested<S, R> = LoadBalancer<S, InTurn<R>, Rule<NoRule>, SecondDown<R>>;
 
 /// A balancer, and the lines to its discovery and to its check, once that is set.
 #[derive(Drop)]
-pub struct Bench<S: BackendSelection, R> {
+pub struct Bench<S: BackendSelection, D, K: KeyRule + Drop, C> {
     pub alloc: Global,
     pub line: Arc<Line>,
     pub checks: Arc<Line>,
-    pub balancer: Tested<S, R>,
+    pub balancer: LoadBalancer<S, D, K, C>,
 }
 
-impl<S: BackendSelection, R: Abort + Wait + Clock + Copy + Drop> Bench<S, R> {
+/// The bench of the tests. What only looks at a bench is written for any: that is quicker to prove.
+pub type TestedBench<S, R> = Bench<S, InTurn<R>, Rule<NoRule>, SecondDown<R>>;
+
+impl<S: BackendSelection, R: Abort + Wait + Clock + Copy + Drop> Bench<
+    S,
+    InTurn<R>,
+    Rule<NoRule>,
+    SecondDown<R>,
+> {
     /// Returns a balancer over the discovery in turn; nothing is found yet, and both lines are open.
-    pub fn new(rt: &R, alloc: Global) -> Bench<S, R> {
+    pub fn new(rt: &R, alloc: Global) -> TestedBench<S, R> {
         let line = Arc::new(alloc, Line::new()).expect(rt, "refused");
         let discovery = InTurn {
             rt: *rt,
@@ -186,9 +194,16 @@ impl<S: BackendSelection, R: Abort + Wait + Clock + Copy + Drop> Bench<S, R> {
             .set_health_check(rt, check)
             .expect(rt, "refused");
     }
+}
 
+impl<
+    S: BackendSelection,
+    D: ServiceDiscovery + Drop,
+    K: KeyRule + Drop,
+    C: HealthCheck + Drop,
+> Bench<S, D, K, C> {
     /// Updates so many times, by a clock whose first reading is 0.
-    pub fn update(&self, rt: &R, times: u64) {
+    pub fn update<R: Abort + Wait>(&self, rt: &R, times: u64) {
         let mut clock = Ticks { next: 0, step: 5 };
         for _ in 0..times {
             self.balancer
@@ -198,14 +213,14 @@ impl<S: BackendSelection, R: Abort + Wait + Clock + Copy + Drop> Bench<S, R> {
     }
 
     /// Selects of so many candidates.
-    pub fn select(&self, rt: &R, limit: usize) -> Option<Backend> {
+    pub fn select<R: Abort + Wait>(&self, rt: &R, limit: usize) -> Option<Backend> {
         self.balancer
             .select(rt, self.alloc, b"k", limit)
             .expect(rt, "refused")
     }
 
     /// Notes what is selected of so many candidates.
-    pub fn note(&self, rt: &R, limit: usize, text: &mut String) {
+    pub fn note<R: Abort + Wait>(&self, rt: &R, limit: usize, text: &mut String) {
         note(rt, text, &self.select(rt, limit));
     }
 }

@@ -2,10 +2,12 @@
 use crate::balancer::fixtures::{SecondDown, Tested, listed, note};
 use crate::service_fixtures::Ticks;
 use lb_balancer::load_balancer::LoadBalancer;
-use lb_health_registry::keys::Rule;
-use lb_health_view::discovery::{DiscoverySource, Static};
+use lb_health_check::health_check::HealthCheck;
+use lb_health_registry::keys::{KeyRule, Rule};
+use lb_health_view::discovery::{DiscoverySource, ServiceDiscovery, Static};
 use lb_select::selection::RoundRobin;
 use lb_select_base::backend::Backend;
+use lb_select_base::walk::BackendSelection;
 use lb_threads_registry::backends::Backends;
 use lb_threads_registry::keyed::NoRule;
 use lb_threads_registry::registry::HealthRegistry;
@@ -36,10 +38,10 @@ fn sharing<R: Abort + Wait + Clock + Copy + Drop>(
 }
 
 // Notes how many targets there are.
-fn count<R: Abort + Wait + Clock + Drop>(
+fn count<K: KeyRule + Drop, C: HealthCheck + Drop, R: Abort + Wait>(
     rt: &R,
     alloc: Global,
-    registry: &Shared<R>,
+    registry: &HealthRegistry<K, C>,
     text: &mut String,
 ) {
     let targets = registry.target_count(rt, alloc).expect(rt, "refused");
@@ -47,22 +49,29 @@ fn count<R: Abort + Wait + Clock + Drop>(
 }
 
 // Notes what a balancer selects.
-fn select<R: Abort + Wait + Clock + Copy + Drop>(
-    rt: &R,
-    alloc: Global,
-    balancer: &Tested<RoundRobin, R>,
-    text: &mut String,
-) {
+fn select<
+    S: BackendSelection,
+    D: ServiceDiscovery + Drop,
+    K: KeyRule + Drop,
+    C: HealthCheck + Drop,
+    R: Abort + Wait,
+>(rt: &R, alloc: Global, balancer: &LoadBalancer<S, D, K, C>, text: &mut String) {
     let found = balancer.select(rt, alloc, b"k", 1).expect(rt, "refused");
     note(rt, text, &found);
 }
 
 // A balancer that leaves twice; what it had is no target then, and isn't ready.
-fn leaves<R: Abort + Wait + Clock + Copy + Drop>(
+fn leaves<
+    S: BackendSelection,
+    D: ServiceDiscovery + Drop,
+    K: KeyRule + Drop,
+    C: HealthCheck + Drop,
+    R: Abort + Wait,
+>(
     rt: &R,
     alloc: Global,
-    registry: &Shared<R>,
-    balancer: &Tested<RoundRobin, R>,
+    registry: &HealthRegistry<K, C>,
+    balancer: &LoadBalancer<S, D, K, C>,
     text: &mut String,
 ) {
     count(rt, alloc, registry, text);

@@ -1,11 +1,15 @@
 //! Balancers that run in the background, while another thread opens what they wait for or tells them to end.
-use crate::balancer::fixtures::{Bench, FAULT, ROWS, waited};
+use crate::balancer::fixtures::{Bench, FAULT, ROWS, TestedBench, waited};
 use crate::ends::{Ends, send_end};
 use crate::service_fixtures::Ticks;
 use lb_background::ready::{ReadyWatch, ServiceReadyNotifier};
 use lb_background::shutdown::{ShutdownSignal, ShutdownWatch};
+use lb_health_check::health_check::HealthCheck;
+use lb_health_registry::keys::KeyRule;
+use lb_health_view::discovery::ServiceDiscovery;
 use lb_select::selection::RoundRobin;
 use lb_select_base::backend::Backend;
+use lb_select_base::walk::BackendSelection;
 use log::sink::Locked;
 use log::{Level, Log, Logged};
 use std::process::Abort;
@@ -43,7 +47,7 @@ type Left = (u64, bool, u64, u64, bool);
 // Sets up the bench for a run.
 fn begin<R: Abort + Wait + Clock + Copy + Drop>(
     rt: &R,
-    bench: &mut Bench<RoundRobin, R>,
+    bench: &mut TestedBench<RoundRobin, R>,
     case: Case,
 ) {
     let waits = case == Case::Waits || case == Case::EndedInUpdate;
@@ -61,12 +65,24 @@ fn begin<R: Abort + Wait + Clock + Copy + Drop>(
 }
 
 // By how much the generation has risen.
-fn risen<R: Wait + Clock + Copy + Drop>(rt: &R, bench: &Bench<RoundRobin, R>, first: u64) -> u64 {
+fn risen<
+    S: BackendSelection,
+    D: ServiceDiscovery + Drop,
+    K: KeyRule + Drop,
+    C: HealthCheck + Drop,
+    R: Wait,
+>(rt: &R, bench: &Bench<S, D, K, C>, first: u64) -> u64 {
     bench.balancer.backend_generation(rt).wrapping_sub(first)
 }
 
 // Waits, for ten seconds at most, until the generation has risen; whether it has.
-fn rises<R: Wait + Clock + Copy + Drop>(rt: &R, bench: &Bench<RoundRobin, R>, first: u64) -> bool {
+fn rises<
+    S: BackendSelection,
+    D: ServiceDiscovery + Drop,
+    K: KeyRule + Drop,
+    C: HealthCheck + Drop,
+    R: Wait + Clock,
+>(rt: &R, bench: &Bench<S, D, K, C>, first: u64) -> bool {
     for _ in 0..5000 {
         if risen(rt, bench, first) > 0 {
             return true;
@@ -77,9 +93,15 @@ fn rises<R: Wait + Clock + Copy + Drop>(rt: &R, bench: &Bench<RoundRobin, R>, fi
 }
 
 // What the other thread does during a run: it waits until discovery or check is asked, looks, and opens its line; mostly it sends the end.
-fn tells<R: Wait + Clock + Copy + Drop>(
+fn tells<
+    S: BackendSelection,
+    D: ServiceDiscovery + Drop,
+    K: KeyRule + Drop,
+    C: HealthCheck + Drop,
+    R: Wait + Clock,
+>(
     rt: &R,
-    bench: &Bench<RoundRobin, R>,
+    bench: &Bench<S, D, K, C>,
     case: Case,
     first: u64,
     signal: &mut Option<ShutdownSignal>,
@@ -106,7 +128,7 @@ fn tells<R: Wait + Clock + Copy + Drop>(
 // Runs by a clock that goes on by five at each reading.
 fn runs<R: Wait + Clock + Copy + Send + Sync + Drop, W: Log + Threads + Wait + Sync>(
     logged: &W,
-    bench: &Bench<RoundRobin, R>,
+    bench: &TestedBench<RoundRobin, R>,
     watch: &ShutdownWatch,
     notifier: Option<ServiceReadyNotifier>,
 ) {
@@ -117,12 +139,13 @@ fn runs<R: Wait + Clock + Copy + Send + Sync + Drop, W: Log + Threads + Wait + S
 }
 
 // What a run left.
-fn left<R: Wait + Clock + Copy + Drop>(
-    rt: &R,
-    bench: &Bench<RoundRobin, R>,
-    first: u64,
-    ready: &ReadyWatch,
-) -> Left {
+fn left<
+    S: BackendSelection,
+    D: ServiceDiscovery + Drop,
+    K: KeyRule + Drop,
+    C: HealthCheck + Drop,
+    R: Wait,
+>(rt: &R, bench: &Bench<S, D, K, C>, first: u64, ready: &ReadyWatch) -> Left {
     let unready = |_: &Backend, ready: bool| !ready;
     let is_down = match bench
         .balancer
@@ -144,7 +167,13 @@ fn left<R: Wait + Clock + Copy + Drop>(
 fn run_beside<
     R: Threads + Wait + Clock + Copy + Send + Sync + Drop,
     W: Log + Threads + Wait + Sync,
->(rt: &R, logged: &W, bench: &Bench<RoundRobin, R>, case: Case, ends: &mut Ends) -> (Told, Left) {
+>(
+    rt: &R,
+    logged: &W,
+    bench: &TestedBench<RoundRobin, R>,
+    case: Case,
+    ends: &mut Ends,
+) -> (Told, Left) {
     let first = bench.balancer.backend_generation(rt);
     let notifier = ends.notifier.take();
     let (signal, watch, ready) = (&mut ends.signal, &ends.watch, &ends.ready);
@@ -160,7 +189,7 @@ fn run_beside<
 fn play<
     R: Abort + Threads + Wait + Clock + Copy + Send + Sync + Drop,
     W: Log + Threads + Wait + Sync,
->(rt: &R, logged: &W, bench: &mut Bench<RoundRobin, R>, case: Case) -> (Told, Left) {
+>(rt: &R, logged: &W, bench: &mut TestedBench<RoundRobin, R>, case: Case) -> (Told, Left) {
     begin(rt, bench, case);
     let mut ends = Ends::new(bench.alloc).expect(rt, "refused");
     if case == Case::Ended {
@@ -175,7 +204,7 @@ fn play<
 fn rows<
     R: Abort + Threads + Wait + Clock + Copy + Send + Sync + Drop,
     W: Log + Threads + Wait + Sync,
->(rt: &R, logged: &W, bench: &mut Bench<RoundRobin, R>) {
+>(rt: &R, logged: &W, bench: &mut TestedBench<RoundRobin, R>) {
     let rows: [(Case, (Told, Left)); 5] = [
         (Case::Ended, ((true, 0, false), (0, false, 0, 0, false))),
         (Case::Refused, ((true, 0, false), (0, false, 1, 0, true))),

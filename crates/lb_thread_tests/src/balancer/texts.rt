@@ -2,9 +2,13 @@
 use crate::balancer::fixtures::{Tested, note};
 use crate::service_fixtures::Ticks;
 use lb_balancer::load_balancer::LoadBalancer;
+use lb_health_check::health_check::HealthCheck;
+use lb_health_registry::keys::KeyRule;
+use lb_health_view::discovery::ServiceDiscovery;
 use lb_select::selection::RoundRobin;
 use lb_select_base::backend::Backend;
 use lb_select_base::refusal::Refusal;
+use lb_select_base::walk::BackendSelection;
 use std::alloc::Global;
 use std::net::Net;
 use std::process::Abort;
@@ -22,26 +26,26 @@ fn made_of<R: Net + Wait + Clock + Copy + Drop>(
 }
 
 // Notes what a balancer of the tests tells of a backend at this address: whether it is ready.
-fn note_ready<R: Abort + Wait + Clock + Copy + Drop>(
-    rt: &R,
-    alloc: Global,
-    balancer: &Tested<RoundRobin, R>,
-    address: &str,
-    text: &mut String,
-) {
+fn note_ready<
+    S: BackendSelection,
+    D: ServiceDiscovery + Drop,
+    K: KeyRule + Drop,
+    C: HealthCheck + Drop,
+    R: Abort + Wait,
+>(rt: &R, alloc: Global, balancer: &LoadBalancer<S, D, K, C>, address: &str, text: &mut String) {
     let backend = Backend::new(alloc, address).expect(rt, "refused");
     let is_ready = balancer.backends().ready(rt, &backend);
     write!(text, " {is_ready}").expect(rt, "refused");
 }
 
 // Notes the clock, the generation, what the last update took, how many members there are and are ready, and a selection.
-fn look<R: Abort + Wait + Clock + Copy + Drop>(
-    rt: &R,
-    alloc: Global,
-    balancer: &Tested<RoundRobin, R>,
-    clock: &Ticks,
-    text: &mut String,
-) {
+fn look<
+    S: BackendSelection,
+    D: ServiceDiscovery + Drop,
+    K: KeyRule + Drop,
+    C: HealthCheck + Drop,
+    R: Abort + Wait,
+>(rt: &R, alloc: Global, balancer: &LoadBalancer<S, D, K, C>, clock: &Ticks, text: &mut String) {
     let generation = balancer.backend_generation(rt);
     write!(text, "at {} generation {generation}", clock.next).expect(rt, "refused");
     if let Some(timing) = balancer.last_update_timing(rt) {

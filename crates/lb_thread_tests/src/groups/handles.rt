@@ -1,8 +1,13 @@
 //! What handles of groups answer: before their first update, after it, and once a worker was missing.
 use super::TURNS;
+use lb_balancer_group::group::LoadBalancerGroup;
 use lb_balancer_group::start::start_workers_by;
 use lb_crowd::crowd::{Group, Handle};
+use lb_health_check::health_check::HealthCheck;
+use lb_health_registry::keys::KeyRule;
+use lb_health_view::discovery::ServiceDiscovery;
 use lb_select_base::backend::Backend;
+use lb_select_base::walk::BackendSelection;
 use lb_threads_registry::clock::RuntimeClock;
 use log::Log;
 use std::alloc::Global;
@@ -15,20 +20,24 @@ use std::thread::Threads;
 use std::time::{Clock, Duration};
 
 // What a slot of a handle selects.
-fn selected<W: Abort + Wait + Clock + Copy + Drop>(
-    rt: &W,
-    alloc: Global,
-    group: &Handle<W>,
-) -> Option<Backend> {
+fn selected<
+    S: BackendSelection,
+    D: ServiceDiscovery + Drop,
+    R: KeyRule + Drop,
+    C: HealthCheck + Drop,
+    W: Abort + Wait,
+>(rt: &W, alloc: Global, group: &LoadBalancerGroup<S, D, R, C>) -> Option<Backend> {
     group.select(rt, alloc, 0, b"k", 4).expect(rt, "refused")
 }
 
 // What a handle answers before its first update.
-fn fresh<W: Abort + Wait + Clock + Copy + Drop>(
-    rt: &W,
-    alloc: Global,
-    group: &Handle<W>,
-) -> [bool; 9] {
+fn fresh<
+    S: BackendSelection,
+    D: ServiceDiscovery + Drop,
+    R: KeyRule + Drop,
+    C: HealthCheck + Drop,
+    W: Abort + Wait,
+>(rt: &W, alloc: Global, group: &LoadBalancerGroup<S, D, R, C>) -> [bool; 9] {
     [
         group.selector_count() == 2,
         group.worker_count() == 0,
@@ -43,11 +52,13 @@ fn fresh<W: Abort + Wait + Clock + Copy + Drop>(
 }
 
 // What the borrowed backends of a handle show before its first update, after it, and once a flag is set.
-fn lent<W: Abort + Wait + Clock + Copy + Drop>(
-    rt: &W,
-    alloc: Global,
-    group: &Handle<W>,
-) -> [bool; 9] {
+fn lent<
+    S: BackendSelection,
+    D: ServiceDiscovery + Drop,
+    R: KeyRule + Drop,
+    C: HealthCheck + Drop,
+    W: Abort + Wait + Clock + Copy + Drop,
+>(rt: &W, alloc: Global, group: &LoadBalancerGroup<S, D, R, C>) -> [bool; 9] {
     let backends = group.backends();
     let one = Backend::new(alloc, "1.0.0.1:80").expect(rt, "refused");
     let other = Backend::new(alloc, "1.0.0.2:80").expect(rt, "refused");
@@ -70,17 +81,25 @@ fn lent<W: Abort + Wait + Clock + Copy + Drop>(
 }
 
 /// A new handle tells that nothing was updated; its backends are read and marked without workers. It isn't cancelled.
-pub fn without_workers<W: Abort + Wait + Clock + Copy + Drop>(
-    rt: &W,
-    alloc: Global,
-    group: &Handle<W>,
-) {
+pub fn without_workers<
+    S: BackendSelection,
+    D: ServiceDiscovery + Drop,
+    R: KeyRule + Drop,
+    C: HealthCheck + Drop,
+    W: Abort + Wait + Clock + Copy + Drop,
+>(rt: &W, alloc: Global, group: &LoadBalancerGroup<S, D, R, C>) {
     let told = [fresh(rt, alloc, group), lent(rt, alloc, group)];
     assert_eq!(rt; told, [[true; 9]; 2]);
 }
 
 // Whether each slot of a group serves its newest generation within a thousand turns of ten milliseconds.
-fn becomes_ready<W: Wait + Clock + Copy + Drop>(rt: &W, group: &Handle<W>) -> bool {
+fn becomes_ready<
+    S: BackendSelection,
+    D: ServiceDiscovery + Drop,
+    R: KeyRule + Drop,
+    C: HealthCheck + Drop,
+    W: Wait + Clock,
+>(rt: &W, group: &LoadBalancerGroup<S, D, R, C>) -> bool {
     for _ in 0..TURNS {
         if group.selectors_ready_for(rt, group.backend_generation(rt)) {
             return true;

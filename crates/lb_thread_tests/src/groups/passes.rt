@@ -3,9 +3,14 @@ ghost use Rattle.std.specs.Prelude.{◌≡◌};
 ghost use Rattle.std.specs.Arc.{arc_value};
 
 use super::TURNS;
+use lb_balancer_group::group::LoadBalancerGroup;
 use lb_crowd::crowd::Handle;
+use lb_health_check::health_check::HealthCheck;
+use lb_health_registry::keys::KeyRule;
+use lb_health_view::discovery::ServiceDiscovery;
 use lb_rebuild::board::GroupPass;
 use lb_select_base::backend::Backend;
+use lb_select_base::walk::BackendSelection;
 use lb_threads_registry::clock::RuntimeClock;
 use log::Log;
 use std::alloc::Global;
@@ -16,11 +21,13 @@ use std::thread::Threads;
 use std::time::{Clock, Duration};
 
 // What is read of the first update while no worker runs.
-fn told_before<W: Wait + Clock + Copy + Drop>(
-    rt: &W,
-    alloc: Global,
-    group: &Handle<W>,
-) -> [bool; 5] {
+fn told_before<
+    S: BackendSelection,
+    D: ServiceDiscovery + Drop,
+    R: KeyRule + Drop,
+    C: HealthCheck + Drop,
+    W: Wait + Clock + Copy + Drop,
+>(rt: &W, alloc: Global, group: &LoadBalancerGroup<S, D, R, C>) -> [bool; 5] {
     let mut pass = group.pass();
     let generation = group.update_as(rt, alloc, &mut RuntimeClock::new(*rt), &mut pass);
     [
@@ -33,11 +40,13 @@ fn told_before<W: Wait + Clock + Copy + Drop>(
 }
 
 // Whether each slot serves generation 1 to a pass, within a thousand turns of ten milliseconds.
-fn comes_to_serve<W: Wait + Clock + Copy + Drop>(
-    rt: &W,
-    group: &Handle<W>,
-    pass: &mut GroupPass,
-) -> bool
+fn comes_to_serve<
+    S: BackendSelection,
+    D: ServiceDiscovery + Drop,
+    R: KeyRule + Drop,
+    C: HealthCheck + Drop,
+    W: Wait + Clock,
+>(rt: &W, group: &LoadBalancerGroup<S, D, R, C>, pass: &mut GroupPass) -> bool
     requires { pass.old.board ≡ (arc_value group.now.shared).board }
     ensures { pass.new.board ≡ (arc_value group.now.shared).board }
 {
@@ -51,10 +60,16 @@ fn comes_to_serve<W: Wait + Clock + Copy + Drop>(
 }
 
 // The generation of a reader that enters slot 0 and leaves again, and what it selects.
-fn entered<W: Abort + Wait + Clock + Copy + Drop>(
+fn entered<
+    S: BackendSelection,
+    D: ServiceDiscovery + Drop,
+    R: KeyRule + Drop,
+    C: HealthCheck + Drop,
+    W: Abort + Wait,
+>(
     rt: &W,
     alloc: Global,
-    group: &Handle<W>,
+    group: &LoadBalancerGroup<S, D, R, C>,
     pass: &mut GroupPass,
 ) -> (u64, Option<Backend>)
     requires { pass.old.board ≡ (arc_value group.now.shared).board }
@@ -67,12 +82,13 @@ fn entered<W: Abort + Wait + Clock + Copy + Drop>(
 }
 
 // What passes read once the workers run: by one that waits for it, and by one that meets that. What a reader selects then.
-fn told_after<W: Abort + Wait + Clock + Copy + Drop>(
-    rt: &W,
-    alloc: Global,
-    group: &Handle<W>,
-    expected: &Backend,
-) -> [bool; 5] {
+fn told_after<
+    S: BackendSelection,
+    D: ServiceDiscovery + Drop,
+    R: KeyRule + Drop,
+    C: HealthCheck + Drop,
+    W: Abort + Wait + Clock,
+>(rt: &W, alloc: Global, group: &LoadBalancerGroup<S, D, R, C>, expected: &Backend) -> [bool; 5] {
     let (mut pass, mut other) = (group.pass(), group.pass());
     let serves = comes_to_serve(rt, group, &mut pass);
     let served = group.selector_generation_as(0, &mut pass);
@@ -89,10 +105,16 @@ fn told_after<W: Abort + Wait + Clock + Copy + Drop>(
 }
 
 // Whether a slot of a handle selects that backend.
-fn selects<W: Abort + Wait + Clock + Copy + Drop>(
+fn selects<
+    S: BackendSelection,
+    D: ServiceDiscovery + Drop,
+    R: KeyRule + Drop,
+    C: HealthCheck + Drop,
+    W: Abort + Wait,
+>(
     rt: &W,
     alloc: Global,
-    group: &Handle<W>,
+    group: &LoadBalancerGroup<S, D, R, C>,
     slot: usize,
     expected: Option<&Backend>,
 ) -> bool {
@@ -101,12 +123,13 @@ fn selects<W: Abort + Wait + Clock + Copy + Drop>(
 }
 
 // What a handle answers once its workers served an update: what it selects from each slot and from one that isn't there, and its timings.
-fn served<W: Abort + Wait + Clock + Copy + Drop>(
-    rt: &W,
-    alloc: Global,
-    group: &Handle<W>,
-    expected: &Backend,
-) -> [bool; 7] {
+fn served<
+    S: BackendSelection,
+    D: ServiceDiscovery + Drop,
+    R: KeyRule + Drop,
+    C: HealthCheck + Drop,
+    W: Abort + Wait,
+>(rt: &W, alloc: Global, group: &LoadBalancerGroup<S, D, R, C>, expected: &Backend) -> [bool; 7] {
     [
         group.selectors_ready_for(rt, group.backend_generation(rt)),
         selects(rt, alloc, group, 0, Some(expected)),

@@ -1,4 +1,4 @@
--- The run has a history, which the port was driven by, and what is told next came of its last answer.
+-- The run has a history, which the port was driven by, and the next event came of its last answer.
 use Rattle.std.proofs.Common.{◌≡◌, List}
 use Rattle.lb_background.specs.History.{Heard, IsAfter}
 use Rattle.lb_background.specs.Driven.{ActsUnlessShut, Driven, Reads, TakesTurn, Told}

@@ -1,4 +1,4 @@
--- By cases on what stands in the slot.
+-- By cases on what the slot contains.
 use Rattle.lb_rebuild_slots.proofs.SlotsSteps.{permits-fit}
 use Rattle.lb_rebuild_slots.proofs.Tasks.{flight-fits}
 use Rattle.lb_rebuild_slots.proofs.laws.slots_keep.Goals as goal

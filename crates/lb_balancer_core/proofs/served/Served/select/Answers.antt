@@ -1,4 +1,4 @@
--- What is asked answers as it is told.
+-- The test answers what its contract says.
 use Rattle.lb_select_base.specs.Draws.{CoreGives}
 use Rattle.lb_select_base.specs.Loads.{load_in}
 use Rattle.lb_select_base.specs.declared.words.CoreWords.{CoreWords}

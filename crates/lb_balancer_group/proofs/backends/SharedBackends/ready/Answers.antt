@@ -1,4 +1,4 @@
--- What is told is told of the group that the handle shares.
+-- The answer is about the group that the handle shares.
 use Rattle.std.proofs.Common.{subst}
 use Rattle.lb_threads_group.specs.Group.{NewestReadyUnder}
 use Rattle.lb_balancer_group.proofs.backends.SharedBackends.ready.Goals as goal

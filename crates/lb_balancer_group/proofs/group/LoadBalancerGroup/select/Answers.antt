@@ -1,4 +1,4 @@
--- What is asked answers as it is told.
+-- The test answers what its contract says.
 use Rattle.std.specs.Arc.{arc_value}
 use Rattle.lb_balancer_group.proofs.Accepts.{selected-ready}
 use Rattle.lb_balancer_group.proofs.group.LoadBalancerGroup.select.Goals as goal

@@ -1,4 +1,4 @@
--- Every slot stands as before.
+-- Every slot is as before.
 use Rattle.std.proofs.Common.{}
 use Rattle.lb_rebuild_slots.proofs.SlotsSteps.{stays, site-of}
 use Rattle.lb_rebuild_slots.proofs.Memberships.{stops}

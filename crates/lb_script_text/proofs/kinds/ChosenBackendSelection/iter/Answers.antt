@@ -13,3 +13,6 @@ returns-in_ok-walk-in-Ketama g c = rw (sym c.deref-chosen.ensures ∙ c.in-Ketam
 
 pub returns-in_ok-walk-in-Least : goal.returns-in_ok-walk-in-Least
 returns-in_ok-walk-in-Least g c = rw (sym c.deref-chosen.ensures ∙ c.in-Least.is) c.in_ok-walk-in-Least.ensures
+
+pub returns-in_ok-walk-in-Random : goal.returns-in_ok-walk-in-Random
+returns-in_ok-walk-in-Random g c = rw (sym c.deref-chosen.ensures ∙ c.in-Random.is) c.in_ok-walk-in-Random.ensures

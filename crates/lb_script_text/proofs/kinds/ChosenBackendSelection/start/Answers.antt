@@ -13,3 +13,6 @@ returns-in_ok-walk-in-Ketama-clause-begins g c = rw c.in-Ketama.is (rw c.deref-i
 
 pub returns-in_ok-walk-in-Least-clause-begins : goal.returns-in_ok-walk-in-Least-clause-begins
 returns-in_ok-walk-in-Least-clause-begins g c = rw c.in-Least.is (rw c.deref-in-Least.ensures at c.in_ok-walk-in-Least.ensures.begins)
+
+pub returns-in_ok-walk-in-Random-clause-begins : goal.returns-in_ok-walk-in-Random-clause-begins
+returns-in_ok-walk-in-Random-clause-begins g c = rw c.in-Random.is (rw c.deref-in-Random.ensures at c.in_ok-walk-in-Random.ensures.begins)

@@ -16,3 +16,6 @@ returns-in-Ketama-clause-step g c = rw (c.in-Ketama.is, c.advance-in-Ketama.ensu
 pub returns-in-Least-clause-step : goal.returns-in-Least-clause-step
 returns-in-Least-clause-step g c =
     rw (c.in-Least.is, c.advance-in-Least.ensures.backend, c.advance-in-Least.ensures.order) ([], refl, c.advance-in-Least.ensures.step)
+
+pub returns-in-Random-clause-step : goal.returns-in-Random-clause-step
+returns-in-Random-clause-step g c = rw c.in-Random.is c.advance-in-Random.ensures.step

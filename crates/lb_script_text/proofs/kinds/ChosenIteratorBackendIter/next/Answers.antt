@@ -1,4 +1,4 @@
--- The step is that of the walk, and the backend of its index is read where it stands.
+-- The step is that of the walk, and the backend of its index is read at its place.
 use Rattle.std.proofs.Common.{refl}
 use Rattle.lb_script_text.proofs.kinds.ChosenIteratorBackendIter.next.Goals as goal
 

@@ -1,4 +1,4 @@
--- Where the report is taken, the registry lets the selector's snapshot go; some history stands behind the group that its lock gave.
+-- Where the report is taken, the registry releases the selector's snapshot; the group that its lock gave has a history.
 use Rattle.std.specs.Prelude.{Ok, Err, Result, refl}
 use Rattle.std.proofs.Common.{rules}
 use Rattle.lb_rebuild_slots.specs.Values.{PermitValue}

@@ -1,4 +1,4 @@
--- A membership that is scheduled is shown to the registry; some history stands behind the group that its lock gave.
+-- A membership that is scheduled is shown to the registry; the group that its lock gave has a history.
 use Rattle.std.specs.Prelude.{refl}
 use Rattle.std.proofs.Common.{rules}
 use Rattle.lb_threads_registry.proofs.Histories.{at_site, later}

@@ -1,4 +1,4 @@
--- Where the job is taken back, the registry lets its snapshot go; some history stands behind the group that its lock gave.
+-- Where the job is taken back, the registry releases its snapshot; the group that its lock gave has a history.
 use Rattle.std.specs.Prelude.{Ok, Err, Result, refl}
 use Rattle.std.proofs.Common.{sym, rules}
 use Rattle.lb_rebuild_slots.specs.Values.{Task}
