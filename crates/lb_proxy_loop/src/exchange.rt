@@ -81,7 +81,7 @@ pub fn await_answer<R: Log + Wait, U: Upstream>(
     session: &mut Session,
     spares: &mut Spares,
 ) -> Turn {
-    let Some(link) = session.link.and_then(|number| links.get_mut(number)) else {
+    let Some(link) = links.of(session.link) else {
         return Turn::Over;
     };
     if session.down.fresh {
@@ -202,7 +202,7 @@ fn lose_backend<R: Log + Wait, U: Upstream>(
     links: &mut Links,
     session: &mut Session,
 ) -> Turn {
-    let is_used = match session.link.and_then(|number| links.get_mut(number)) {
+    let is_used = match links.of(session.link) {
         Some(link) => link.is_used,
         None => false,
     };
@@ -228,7 +228,7 @@ pub fn pass_answer<R: Log + Wait, U: Upstream>(
     keeps_client: bool,
 ) -> Turn {
     let mut moved = false;
-    if let Some(link) = session.link.and_then(|number| links.get_mut(number)) {
+    if let Some(link) = links.of(session.link) {
         let sent = send(scene, session, spares, &mut link.peer);
         if sent == Sent::Bad || sent == Sent::Gone {
             return Turn::Over;

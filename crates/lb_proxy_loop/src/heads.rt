@@ -54,8 +54,10 @@ pub fn take_request(
     out: &mut Vec<u8>,
     key_bytes: &mut Vec<u8>,
 ) -> Result<Option<Request>, Fault> {
-    let Some(head) = read_request(alloc, bytes)? else {
-        return Ok(None);
+    let head = match read_request(alloc, bytes) {
+        Ok(Some(head)) => head,
+        Ok(None) => return Ok(None),
+        Err(fault) => return Err(fault),
     };
     match write_all(&head, client, key, out, key_bytes) {
         Ok(()) => Ok(Some(Request {
@@ -94,8 +96,10 @@ pub fn take_answer(
     keeps: bool,
     out: &mut Vec<u8>,
 ) -> Result<Option<Answer>, Fault> {
-    let Some(head) = read_response(alloc, bytes, asked)? else {
-        return Ok(None);
+    let head = match read_response(alloc, bytes, asked) {
+        Ok(Some(head)) => head,
+        Ok(None) => return Ok(None),
+        Err(fault) => return Err(fault),
     };
     let answer = Answer {
         is_interim: head.is_interim(),

@@ -58,6 +58,14 @@ impl Links {
         self.links.get_mut(number)
     }
 
+    /// Returns the connection that a session has, if any.
+    pub fn of(&mut self, number: Option<usize>) -> Option<&mut Link> {
+        match number {
+            Some(number) => self.links.get_mut(number),
+            None => None,
+        }
+    }
+
     /// Begins to connect to the backend, for a session. Returns the number of the connection.
     pub fn open<R: Net, U>(
         &mut self,
@@ -105,12 +113,14 @@ impl Links {
         checked: bool,
     ) -> Option<usize> {
         for place in (0..self.kept.len()).rev() {
-            let number = *self.kept.get(place)?;
-            let link = self.links.get_mut(number)?;
-            if link.listener != listener || link.backend != *backend {
+            if place >= self.kept.len() {
+                return None;
+            }
+            let number = self.kept[place];
+            if !self.is_to(number, listener, backend) {
                 continue;
             }
-            let number = self.kept.remove(place);
+            self.kept.remove(place);
             if checked && !self.is_quiet(number) {
                 self.drop_link(number);
                 continue;
@@ -121,6 +131,14 @@ impl Links {
             return Some(number);
         }
         None
+    }
+
+    // Whether a connection is one of the listener to this backend.
+    fn is_to(&self, number: usize, listener: usize, backend: &Backend) -> bool {
+        match self.links.get(number) {
+            Some(link) => link.listener == listener && link.backend == *backend,
+            None => false,
+        }
     }
 
     // Whether nothing came on a connection, not even its end.
