@@ -62,8 +62,8 @@ class Client:
     """A connection to the proxy."""
 
     def __init__(self, port, source="127.0.0.1"):
-        self.peer = socket.create_connection(("127.0.0.1", port), 10, (source, 0))
-        self.peer.settimeout(10)
+        self.peer = socket.create_connection(("127.0.0.1", port), 30, (source, 0))
+        self.peer.settimeout(30)
         self.peer.setsockopt(socket.IPPROTO_TCP, socket.TCP_NODELAY, 1)
         self.reader = self.peer.makefile("rb")
 
@@ -249,7 +249,7 @@ def least_goes_by_requests_in_progress():
     clients = [Client(LEAST) for _ in range(25)]
     since = {name: len(backend.asked) for name, backend in zip("abc", (A, B, C))}
     for client in clients:
-        client.send(b"GET /slow?1 HTTP/1.1\r\nHost: h\r\n\r\n")
+        client.send(b"GET /slow?2 HTTP/1.1\r\nHost: h\r\n\r\n")
         time.sleep(0.01)
     for client in clients:
         expect(client.answer()[2] == b"slow", "no answer")
@@ -449,15 +449,14 @@ def a_slow_reader_takes_little_memory():
 
 
 def a_thousand_connections():
-    clients = [Client(RR) for _ in range(1000)]
-    for _ in range(2):
-        for client in clients:
-            client.send(b"GET / HTTP/1.1\r\nHost: h\r\n\r\n")
-        names = collections.Counter(client.answer()[::2] for client in clients)
-        expect(sum(names.values()) == 1000 and set(names) == {(200, b"a"), (200, b"b"), (200, b"c")}, names)
-    used = resident(PROXY)
-    for client in clients:
-        client.__exit__()
+    with contextlib.ExitStack() as ends:
+        clients = [ends.enter_context(Client(RR)) for _ in range(1000)]
+        for _ in range(2):
+            for client in clients:
+                client.send(b"GET / HTTP/1.1\r\nHost: h\r\n\r\n")
+            names = collections.Counter(client.answer()[::2] for client in clients)
+            expect(sum(names.values()) == 1000 and set(names) == {(200, b"a"), (200, b"b"), (200, b"c")}, names)
+        used = resident(PROXY)
     expect(used < 100_000, f"{used} KiB")
 
 
