@@ -414,7 +414,8 @@ def a_killed_backend_cuts_the_client():
 
 def kill_in_the_middle(target, port, listener):
     here = os.path.dirname(os.path.realpath(__file__))
-    with subprocess.Popen([sys.executable, os.path.join(here, "lbproxy_http_server.py"), str(port)]) as server, contextlib.ExitStack() as ends:
+    words = [sys.executable, os.path.join(here, "lbproxy_http_server.py"), str(port)]
+    with subprocess.Popen(words) as server, contextlib.ExitStack() as ends:
         ends.callback(server.kill)
         wait_until(lambda: socket.create_connection(("127.0.0.1", port), 1).close() is None, "no server")
         with Client(listener) as client:
