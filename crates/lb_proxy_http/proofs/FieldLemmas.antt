@@ -34,4 +34,4 @@ values_with name fields i f within is holds = let one = values_step name fields 
 
 pub values_without : (name : List ℕ) (fields : List Field) (i : ℕ) (f : Field) → i < length fields → f ≡ get_or fields i f
     → has_name name f ≡ false → values_of name (drop i fields) ≡ values_of name (drop (i + 1) fields)
-values_without name fields i f within is no = let one = values_step name fields i f within is in rw no at one
+values_without name fields i f within is fails = let one = values_step name fields i f within is in rw fails at one
