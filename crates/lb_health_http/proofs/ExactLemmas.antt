@@ -3,8 +3,8 @@ use Rattle.std.proofs.Common.{◌≡◌, ℕ, ◌≤◌, inl, inr, Bool, true, f
 use Rattle.std.proofs.Common.{ap, ◌∙◌, subst, arith}
 use Rattle.std.specs.Bool.{⊤}
 use Rattle.http.specs.declared.response.Parts.{Parts}
-use Rattle.httparse.specs.Grammar.{ResponseHead, ReadsResponse, print_response, status_code}
-use Rattle.httparse.proofs.GrammarLemmas.{response_unique, response_prefix_free}
+use Rattle.httparse.specs.Grammar.{ResponseHead, status_code}
+use Rattle.httparse.proofs.GrammarLemmas.{response_unique}
 use Rattle.lb_health_check.specs.declared.error.CheckError.{CheckError}
 use Rattle.lb_health_check.specs.declared.error.CheckError.TheVariants.{BadHead, HeadTooLarge, Interim, Status, Rejected, BadFraming}
 use Rattle.lb_health_check.specs.declared.error.CheckError.TheVariants.{EndInMessage, BodyTooLarge, Write, Read, OutOfMemory}
@@ -13,10 +13,9 @@ use Rattle.lb_health_http.specs.declared.framing.Framing.TheVariants.{Nothing, S
 use Rattle.lb_health_http.specs.Body.{HasBody, IsLarge}
 use Rattle.lb_health_http.specs.Check.{HasAcceptedHead, HasRefusedHead, IsGood, CheckOutcome, IsOkOrFailed}
 use Rattle.lb_health_http.specs.Framing.{framing_of}
-use Rattle.lb_health_http.specs.Head.{HasBadHead, HasLargeHead}
 use Rattle.lb_health_http.specs.Parts.{parts_of}
 use Rattle.lb_health_http.proofs.ChunkLemmas.{large_size}
-use Rattle.lb_health_http.proofs.RoomLemmas.{shorter_front}
+use Rattle.lb_health_http.proofs.FaultLemmas.{bad_no_head, large_no_head}
 
 -- the check passed, a read failed, or memory was refused
 abbrev pub IsOkOrDevice : Result Unit CheckError → Type 0
@@ -46,34 +45,6 @@ module _ (is_head : Bool) (limit : ℕ) (accepts : Parts → Bool) where
       subst (λ (g : Framing). HasBody g a good.size other) (sym one)
       (subst (λ (l : List ℕ). HasBody good.framing l good.size other) (sym same.1) good.body)
 
-  not_bad : (s rest other : List ℕ) → HasBadHead s rest → IsGood is_head limit accepts s other → ⊥
-  not_bad s rest other bad good =
-      let begun = good.begins.begins in
-      let fits = begun.fit.fields in
-      let final = begun.fit.status in
-      let front = bad.line ++ 10 ∷ [] in
-      let reads : ReadsResponse (front ++ rest) good.head good.after = (begun.reads.0, sym bad.is ∙ begun.reads.1) in
-      elim bad.refused [
-        | inl never ↦ never rest good.head good.after reads
-        | inr some ↦ elim some [
-          | inl many ↦ let more = many.overflows rest good.head good.after reads in omega arith
-          | inr low ↦
-              let same = response_prefix_free front rest low.0 good.head [] good.after low.1 reads in
-              let code : status_code low.0 ≡ status_code good.head = ap status_code same.0 in
-              let below = low.2 in
-              omega arith
-        ]
-      ]
-
-  not_too_large : (s rest other : List ℕ) → HasLargeHead s rest → IsGood is_head limit accepts s other → ⊥
-  not_too_large s rest other large good =
-      let begun = good.begins.begins in
-      let head = print_response good.head in
-      let small = begun.fit.size in
-      let full = large.count in
-      let cut = shorter_front large.front head rest good.after (omega arith) (sym large.is ∙ begun.reads.1) in
-      large.none good.head cut.0 (begun.reads.0, cut.1)
-
   not_refused : (s rest other : List ℕ) (code : ℕ) → HasRefusedHead accepts code s rest → IsGood is_head limit accepts s other → ⊥
   not_refused s rest other code refused good =
       let same = response_unique s refused.head good.head rest good.after refused.begins.reads good.begins.begins.reads in
@@ -84,8 +55,9 @@ module _ (is_head : Bool) (limit : ℕ) (accepts : Parts → Bool) where
   pub only_good : (has_validator : Bool) (s rest other : List ℕ) (r : Result Unit CheckError)
       → CheckOutcome is_head limit has_validator accepts r s rest → IsGood is_head limit accepts s other → IsOkOrDevice r
   only_good has_validator s rest other (Ok _) o good = tt
-  only_good has_validator s rest other (Err BadHead) o good = not_bad s rest other o good
-  only_good has_validator s rest other (Err HeadTooLarge) o good = not_too_large s rest other o good
+  only_good has_validator s rest other (Err BadHead) o good = bad_no_head s rest good.after good.head o good.begins.begins
+  only_good has_validator s rest other (Err HeadTooLarge) o good =
+      large_no_head s rest good.after good.head o good.begins.begins
   only_good has_validator s rest other (Err Interim) o good =
       let same = response_unique s o.head good.head rest good.after o.begins.reads good.begins.begins.reads in
       let codes_same : status_code o.head ≡ status_code good.head = ap status_code same.0 in

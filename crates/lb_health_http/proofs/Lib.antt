@@ -4,6 +4,7 @@ pub mod ChunkLemmas
 pub mod ChunkLineLemmas
 pub mod ChunksLemmas
 pub mod ExactLemmas
+pub mod FaultLemmas
 pub mod FieldLemmas
 pub mod HeadLemmas
 pub mod LengthLemmas

@@ -6,5 +6,6 @@ pub mod Chunked
 pub mod ChunkLines
 pub mod Request
 pub mod Check
+pub mod FaultLaws
 pub mod Limits
 pub mod Internal

@@ -10,6 +10,7 @@ mod engine;
 mod framing;
 mod head;
 mod http_check;
+pub mod laws;
 mod line;
 mod observer;
 mod parts;
