@@ -7,4 +7,4 @@ pub mod board_rule;
 pub mod watched;
 
 pub use lb_rebuild_group::{group, laws as snapshot_laws};
-pub use lb_rebuild_slots::{answers, gate, identity, job, laws, membership, retired};
+pub use lb_rebuild_slots::{answers, end_source, gate, identity, job, laws, membership, retired};

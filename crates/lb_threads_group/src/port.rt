@@ -12,13 +12,14 @@ use lb_health_check::health_check::HealthCheck;
 use lb_health_registry::keys::KeyRule;
 use lb_health_view::view::Settings;
 use lb_rebuild_slots::answers::{Ask, Publication};
+use lb_rebuild_slots::endings::{end_built, end_job, end_permit, end_reader};
 use lb_rebuild_slots::job::Built;
 use lb_rebuild_slots::membership::Scheduled;
 use lb_rebuild_slots::retired::{OwedPermit, Reader, Retired};
 use lb_select_base::backend::Backend;
 use lb_select_base::refusal::Refusal;
 use lb_select_base::walk::BackendSelection;
-use lb_threads_registry::gate::SelectorRebuildGate;
+use lb_threads_registry::gate::{SelectorRebuildGate, put_gate, take_gate};
 use lb_threads_registry::registry::HealthRegistry;
 use rand_core::Rng;
 use std::alloc::Global;
@@ -58,15 +59,15 @@ impl<'g, 'r, S: BackendSelection, R: KeyRule + Drop, C: HealthCheck + Drop, W: W
         // `_gate` and `founded()` are for the prover alone: they show it the group's invariant, and do nothing at run time.
         held.value.founded();
         let mut cells = registries.take(self.rt);
-        let mut gate = gates.take(self.rt);
+        let mut gate = take_gate(gates, self.rt);
         let told = held.value.fail(job, &mut cells.value, &mut gate.value, now);
-        gates.put(gate);
+        put_gate(gates, gate);
         registries.put(cells);
         group.lock.put(held);
         gates.wakes().wake();
         match told {
             Ok(()) => {}
-            Err(job) => job.close(),
+            Err(job) => end_job(job),
         }
     }
 
@@ -81,7 +82,7 @@ impl<'g, 'r, S: BackendSelection, R: KeyRule + Drop, C: HealthCheck + Drop, W: W
         match told {
             Ok(told) => told,
             Err(built) => {
-                built.close();
+                end_built(built);
                 Publication::Abandoned(generation)
             }
         }
@@ -101,7 +102,7 @@ impl<'g, 'r, S: BackendSelection, R: KeyRule + Drop, C: HealthCheck + Drop, W: W
         group.wake_if(is_last);
         match told {
             Ok(()) => {}
-            Err(reader) => reader.close(),
+            Err(reader) => end_reader(reader),
         }
     }
 }
@@ -154,9 +155,9 @@ impl<'g, 'r, S: BackendSelection, R: KeyRule + Drop, C: HealthCheck + Drop, W: W
         let gates: &SelectorRebuildGate = &*group.gate;
         let mut held = group.lock.take(self.rt);
         held.value.founded();
-        let mut gate = gates.take(self.rt);
+        let mut gate = take_gate(gates, self.rt);
         let told = held.value.ask(slot, &mut gate.value, now);
-        gates.put(gate);
+        put_gate(gates, gate);
         group.lock.put(held);
         told
     }
@@ -217,17 +218,17 @@ impl<'g, 'r, S: BackendSelection, R: KeyRule + Drop, C: HealthCheck + Drop, W: W
         let mut held = group.lock.take(self.rt);
         held.value.founded();
         let mut cells = registries.take(self.rt);
-        let mut gate = gates.take(self.rt);
+        let mut gate = take_gate(gates, self.rt);
         let told = held
             .value
             .destroyed(slot, permit, &mut cells.value, &mut gate.value);
-        gates.put(gate);
+        put_gate(gates, gate);
         registries.put(cells);
         group.lock.put(held);
         gates.wakes().wake();
         match told {
             Ok(()) => {}
-            Err(permit) => permit.spend(),
+            Err(permit) => end_permit(permit),
         }
     }
 
