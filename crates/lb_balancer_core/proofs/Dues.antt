@@ -41,6 +41,14 @@ taken-none : {C : Type 0} (made : Made C) (slot : ℕ) (h : core.History) → sl
     → taken_refusal made slot h ≡ Some refusal.NothingRetired
 taken-none made slot h there bare = rw (lt-ltb slot (length made.configs) there, bare) refl
 
+-- at a free gate no slot has an extra
+bare-at-free : (x : Extra) (o : Bool) → (is_extra x ≡ true → o ≡ true) → o ≡ false → x ≡ nothing
+bare-at-free nothing o out free = refl
+bare-at-free (core.flight n) o out free = let no : true ≡ false = sym (out refl) ∙ free in absurd (cc)
+bare-at-free (core.lost n) o out free = let no : true ≡ false = sym (out refl) ∙ free in absurd (cc)
+bare-at-free (core.retired n) o out free = let no : true ≡ false = sym (out refl) ∙ free in absurd (cc)
+bare-at-free (core.taken_out n) o out free = let no : true ≡ false = sym (out refl) ∙ free in absurd (cc)
+
 cause-is : (a b : Refusal) → (let x : Option Refusal = Some a in let y : Option Refusal = Some b in x ≡ y) → a ≡ b
 cause-is a b e = cc
 
@@ -57,7 +65,7 @@ module _ {S I C W K P : Type 0} (refuses : List Member → C → Option Refusal)
     (failed_is : (p : P) (r : RefusedValue C) (now : ℕ) (q : P) → failed p r now q
     → Becomes (core_of p) (in_group (core.At r.task.slot (core.Failed now r.task.members) ∷ [])) (core_of q))
     (slot : ℕ) where
-  module _ (made : Made C) (e : History) (due : IsDue made e slot) where
+  module _ (made : Made C) (e : History) (due : IsDue made e slot) (bare : extra (past_of slot (slot_events e)) ≡ nothing) where
     abbrev Events : core.History
     Events = slot_events e
 
@@ -115,8 +123,8 @@ module _ {S I C W K P : Type 0} (refuses : List Member → C → Option Refusal)
     job-now now out free late =
         job-if (is_cancelled Before) (is_flight (extra Before)) (waits Before) (nat_lt now (due_moment Before))
         (out || is_extra (extra Before)) (due_moment Before)
-        (cancelled-past slot Events ∙ due.live) (ap is_flight due.bare) due.waits (lt-false now (due_moment Before) late)
-        (or-neither out (is_extra (extra Before)) free (ap is_extra due.bare))
+        (cancelled-past slot Events ∙ due.live) (ap is_flight bare) due.waits (lt-false now (due_moment Before) late)
+        (or-neither out (is_extra (extra Before)) free (ap is_extra bare))
 
     answered : (now : ℕ) (m n q : P) (k l : K) (a : Result (Ask S I C W) Refusal) (r : Result Turn Refusal) → Stands made e (core_of m)
         → ask_answer Before (gate_of m).out now ≡ job → IsAsked (core_of m) (gate_of m) slot now a (core_of n) (gate_of n)
@@ -143,10 +151,10 @@ module _ {S I C W K P : Type 0} (refuses : List Member → C → Option Refusal)
         → Clears refuses reads taken reported asked published failed slot a m k r q l → EndsTurn made e slot r (core_of q)
     cleared p m q k l (Ok v) r s free late given next =
         let none : taken_refusal made slot Events ≡ None = (given.0.0 made e s).0 in
-        let some = taken-none made slot Events due.there due.bare in absurd (cc)
+        let some = taken-none made slot Events due.there bare in absurd (cc)
     cleared p m q k l (Err x) r s free late given next =
         let cause : x ≡ refusal.NothingRetired =
-        cause-is x refusal.NothingRetired (sym (given.0.0 made e s) ∙ taken-none made slot Events due.there due.bare) in
+        cause-is x refusal.NothingRetired (sym (given.0.0 made e s) ∙ taken-none made slot Events due.there bare) in
         let asks_ : Clears refuses reads taken reported asked published failed slot (Err refusal.NothingRetired) m k r q l =
         subst (λ (y : Refusal). Clears refuses reads taken reported asked published failed slot (Err y) m k r q l) cause next in
         asks_then m q k l r (given.0.1 made e s) (ap (λ (g : GateValue). g.out) given.1 ∙ free) late asks_
@@ -157,6 +165,9 @@ module _ {S I C W K P : Type 0} (refuses : List Member → C → Option Refusal)
     turn_ends p q k l r s free late (a, m, out, next) = cleared p m q k l a r s free late (taken_is p slot a m out) next
 
   pub due_ends : (p q : P) (k l : K) (r : Result Turn Refusal) → After (core_of p) (λ made e. IsDue made e slot × IsLate reads k e slot)
+      → After (core_of p) (λ made e. slot < length made.configs → is_extra (extra (past_of slot (slot_events e))) ≡ true → (gate_of p).out ≡ true)
       → (gate_of p).out ≡ false → Turned refuses reads taken reported asked published failed slot p k r q l
       → After (core_of p) (λ made e. EndsTurn made e slot r (core_of q))
-  due_ends p q k l r due free turned = λ made e s. turn_ends made e (due made e s).0 p q k l r s free (due made e s).1 turned
+  due_ends p q k l r due out free turned = λ made e s.
+      let is = (due made e s).0 in
+      turn_ends made e is (bare-at-free (extra (past_of slot (slot_events e))) (gate_of p).out (out made e s is.there) free) p q k l r s free (due made e s).1 turned

@@ -9,11 +9,10 @@ use Rattle.lb_balancer_core.specs.declared.turn.Turn.{Turn}
 use Rattle.lb_balancer_core.specs.declared.turn.Turn.TheVariants as turn
 
 module _ {C : Type 0} where
-  -- a slot that waits and is due, of a group that is not cancelled, with nothing but what it serves
+  -- a slot that waits, of a group that is not cancelled, whatever else it has
   pub record IsDue (made : Made C) (e : History) (slot : ℕ) : Type 0 where
     pub there : slot < length made.configs
     pub live : core.is_cancelled (slot_events e) ≡ false
-    pub bare : core.extra (core.past_of slot (slot_events e)) ≡ core.nothing
     pub waits : core.waits (core.past_of slot (slot_events e)) ≡ true
 
   -- The slot serves the newest generation, which the turn answered, or one more of its builds has failed, that of the newest one.

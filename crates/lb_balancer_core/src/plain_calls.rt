@@ -1,12 +1,14 @@
 //! Implements `GroupPort` over a plain group: its calls are the group's own, on the registry and the gate that it borrows. And a worker's
 //! turn over it, at a slot that is due.
-ghost use Rattle.std.specs.Prelude.{◌≡◌, false};
+ghost use Rattle.std.specs.Prelude.{◌≡◌, ◌<◌, true, false, length};
 ghost use Rattle.lb_select_base.specs.Loads.{load_in};
 ghost use Rattle.lb_balancer_core.specs.Plain.{OwnsJob, OwnsReader, OwnsPermit, IsScheduled, IsAsked, IsEntered, IsReadyFor, IsDrawn};
 ghost use Rattle.lb_balancer_core.specs.Lent.{SameLent};
 ghost use Rattle.lb_balancer_core.specs.Plain.{IsTaken, IsReported, IsFailed, IsPublished, IsLeft};
 ghost use Rattle.std.proofs.Common.{subst, sym};
+ghost use Rattle.lb_rebuild_group.specs.GroupHistory.{slot_events};
 ghost use Rattle.lb_rebuild_group.specs.Stands.{After};
+ghost use Rattle.lb_rebuild_slots.specs.SlotsHistory.{extra, is_extra, past_of};
 ghost use Rattle.lb_balancer_core.specs.Due.{EndsTurn, IsDue, IsLate};
 ghost use Rattle.lb_balancer_core.specs.PlainLaws.{drawn_keeps};
 
@@ -51,7 +53,17 @@ impl<'c, 'x, 'g, 'w, 'l, S: BackendSelection, R: KeyRule + Drop, G: Rng> PlainPo
         requires due { After self.old.core.now (λ made e. IsDue made e slot × IsLate K.reads clock.old e slot) }
         ensures { After self.old.core.now (λ made e. EndsTurn made e slot result self.new.core.now) }
     {
+        self.extra_is_out(slot);
         worker_turn(alloc, self, slot, clock)
+    }
+
+    // Shows that the gate's permit is out where a slot has an extra. It changes nothing.
+    fn extra_is_out(&mut self, slot: usize)
+        ensures out { After self.old.core.now (λ made e. slot < length made.configs
+            → is_extra (extra (past_of slot (slot_events e))) ≡ true → self.old.gate.now.out ≡ true) }
+        ensures same { self.new ≡ self.old }
+    {
+        self.core.extra_is_out(slot, self.gate);
     }
 }
 

@@ -3,12 +3,11 @@ use Rattle.std.specs.Prelude.{Bool, true, false, Option, Some, None}
 use Rattle.std.specs.Coded.{Coded}
 use Rattle.atomic_table.specs.Seated.{TableId, table_id_coded}
 
--- which gate it is: no two gates have the same one. Clauses compare it and look at nothing inside
-abbrev pub GateId : Type 0
-GateId = TableId
-
-abbrev pub gate_id_coded : Coded GateId
-gate_id_coded = table_id_coded
+-- which gate it is, by the table of its word and that of the seat that a slot keeps of a permit: no two gates have the same one.
+-- Clauses compare it and look at nothing inside
+pub record GateId : Type 0 where
+  pub word : TableId
+  pub half : TableId
 
 -- which gate it is, and whether its permit is out
 pub record GateValue : Type 0 where

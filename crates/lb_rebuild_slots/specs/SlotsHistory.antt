@@ -158,6 +158,14 @@ is_taken_out (lost n) = false
 is_taken_out (retired n) = false
 is_taken_out (taken_out n) = true
 
+-- whether half of its permit is elsewhere: with a job, with what was built of it, or with what was taken out
+abbrev pub is_parted : Extra → Bool
+is_parted nothing = false
+is_parted (flight n) = true
+is_parted (lost n) = true
+is_parted (retired n) = false
+is_parted (taken_out n) = true
+
 -- the generation of what was taken out
 abbrev pub taken_out_number : Extra → Option ℕ
 taken_out_number nothing = None

@@ -28,7 +28,7 @@ impl Model for Identity {
 }
 
 /// The rule of a table that says nothing: it is there for its seat alone.
-struct Silent {}
+pub(crate) struct Silent {}
 
 impl TableRule<(), (), ()> for Silent {
     ghost holds = { λ _ _. Unit {0} };

@@ -5,7 +5,7 @@ ghost use Rattle.std.specs.Arc.{arc_value};
 ghost use Rattle.lb_rebuild_slots.specs.Values.{order_of};
 
 use crate::end_source::EndSource;
-use crate::gate::Permit;
+use crate::gate::JobPermit;
 use crate::place::SlotPlace;
 use lb_select_base::backend::Backend;
 use lb_select_base::refusal::Refusal;
@@ -39,7 +39,7 @@ impl<C: Drop> Model for Order<C> {
 pub struct Job<S: BackendSelection> {
     pub(crate) place: SlotPlace,
     pub(crate) order: Order<S::Config>,
-    pub(crate) permit: Permit,
+    pub(crate) permit: JobPermit,
 }
 
 impl<S: BackendSelection> Model for Job<S> {
@@ -54,7 +54,7 @@ impl<S: BackendSelection> Model for Job<S> {
 pub struct Built<S: BackendSelection> {
     pub(crate) place: SlotPlace,
     pub(crate) order: Order<S::Config>,
-    pub(crate) permit: Permit,
+    pub(crate) permit: JobPermit,
     pub(crate) selector: Arc<S>,
     pub(crate) ended: u128,
 }
@@ -145,7 +145,7 @@ impl<S: BackendSelection> Job<S> {
     }
 
     // Takes the job apart.
-    pub(crate) fn into_parts(self) -> (Order<S::Config>, Permit)
+    pub(crate) fn into_parts(self) -> (Order<S::Config>, JobPermit)
         ensures { (result.0 ≡ order_of self) × (result.1 ≡ self.permit) }
     {
         let Job {

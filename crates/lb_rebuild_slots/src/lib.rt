@@ -11,6 +11,7 @@ mod gate_rule;
 pub mod identity;
 pub mod job;
 pub mod laws;
+pub mod library_only;
 pub mod membership;
 mod place;
 pub mod retired;

@@ -6,7 +6,8 @@ ghost use Rattle.std.specs.Fn.{FnReturnsAt};
 ghost use Rattle.lb_select_base.specs.Backends.{same_member};
 ghost use Rattle.lb_select_base.specs.Selections.{Selects};
 
-use crate::gate::Permit;
+use crate::gate::JobPermit;
+use crate::library_only::LibraryOnly;
 use crate::place::SlotPlace;
 use lb_select_base::backend::Backend;
 use lb_select_base::refusal::Refusal;
@@ -56,7 +57,7 @@ impl<S: BackendSelection> ServedSelector<S> {
 pub struct Retired<S: BackendSelection> {
     pub(crate) place: SlotPlace,
     pub(crate) serving: ServedSelector<S>,
-    pub(crate) permit: Permit,
+    pub(crate) permit: JobPermit,
 }
 
 impl<S: BackendSelection> Model for Retired<S> {
@@ -81,13 +82,6 @@ impl<S: BackendSelection> Retired<S> {
         serving.generation
     }
 
-    // The next ticket of its counter, which contracts do not see.
-    pub(crate) fn draw(&mut self) -> u64
-        ensures { self.new ≡ self.old }
-    {
-        self.serving.draw()
-    }
-
     /// Drops the selector, outside all locks, and returns the permit that is to be reported.
     pub fn destroy(self) -> OwedPermit
         ensures { result ≡ record { group = self.group; slot = self.slot; gate = self.permit } }
@@ -106,7 +100,7 @@ impl<S: BackendSelection> Retired<S> {
 /// Contracts see the group and the slot that it is owed to, and of which gate it is.
 pub struct OwedPermit {
     pub(crate) place: SlotPlace,
-    pub(crate) permit: Permit,
+    pub(crate) permit: JobPermit,
 }
 
 impl Model for OwedPermit {

@@ -1,16 +1,18 @@
 //! A slot of a group: the selector that it serves to its readers, the order that waits, and at most one extra selector. Its calls say
 //! exactly what they do to the slot; the group above describes them by its history.
-ghost use Rattle.std.specs.Prelude.{◌≡◌, ◌&&◌, not, Bool, true, [], ◌<◌, ◌⊎◌, ℕ, Some, None, IfOk, IfErr, OnErr, nat_lt, if◌then◌else◌};
+ghost use Rattle.std.specs.Prelude.{◌≡◌, ◌&&◌, not, Bool, true, [], ◌<◌, ◌⊎◌, ℕ, Some, None, IfOk, IfErr, IfSome, OnErr, nat_lt};
+ghost use Rattle.std.specs.Prelude.{if◌then◌else◌};
 ghost use Rattle.std.specs.Fn.{FnReturnsAt};
 ghost use Rattle.lb_select_base.specs.Refusals.{Refuses};
 ghost use Rattle.lb_select_base.specs.Loads.{load_in};
-ghost use Rattle.lb_rebuild_slots.specs.SlotSeen.{permit_of};
-ghost use Rattle.lb_rebuild_slots.specs.SlotsHistory.{is_flight, is_under_way, is_retired_of, is_taken_out, taken_out_number};
+ghost use Rattle.lb_rebuild_slots.specs.SlotSeen.{extra_of, permit_of};
+ghost use Rattle.lb_rebuild_slots.specs.SlotsHistory.{is_flight, is_under_way, is_retired_of, is_extra, is_parted, taken_out_number};
 ghost use Rattle.lb_rebuild_slots.specs.SlotsHistory.{flight_number};
 
 use crate::answers::{Ask, Counts, Publication, Selection, Timing};
-use crate::gate::{GateCore, Permit};
+use crate::gate::{GateCore, Permit, SlotPermit};
 use crate::job::{Built, Job, Order};
+use crate::library_only::LibraryOnly;
 use crate::membership::SlotTurn;
 use crate::place::SlotPlace;
 use crate::retired::{Reader, Retired, ServedSelector};
@@ -26,14 +28,15 @@ use std::collections::BTreeSet;
 use std::mem;
 use std::sync::Arc;
 
-// What a slot has apart from what it serves, each with its generation. A flight goes from the slot's job to its failure or publication; it
-// is lost with its worker. What was taken out is on its way to the report of its destruction.
+// What a slot has apart from what it serves, each with its generation and with what the slot has of the gate's permit: half of it, or all
+// of it with a retired selector. A flight goes from the slot's job to its failure or publication; it is lost with its worker. What was
+// taken out is on its way to the report of its destruction.
 pub(crate) enum SlotStage<S: BackendSelection> {
     Free,
-    Flight(u64),
-    Lost(u64),
-    Retired(Retired<S>),
-    TakenOut(u64),
+    Flight(u64, SlotPermit),
+    Lost(u64, SlotPermit),
+    Retired(ServedSelector<S>, Permit),
+    TakenOut(u64, SlotPermit),
 }
 
 // A slot: what it is configured with, what it serves and to how many readers, the order that waits for a permit, and what else it has,
@@ -56,10 +59,10 @@ pub(crate) struct Slot<S: BackendSelection> {
 
 impl<S: BackendSelection> Slot<S> {
     ghost use Rattle.lb_rebuild_slots.specs.Fresh.{fresh_slot, turn_of};
-    ghost use Rattle.lb_rebuild_slots.specs.SlotSeen.{slot_value, extra_of};
+    ghost use Rattle.lb_rebuild_slots.specs.SlotSeen.{slot_value};
     ghost use Rattle.lb_rebuild_slots.specs.SlotCalls.{slot_waits, slot_answer, ask_told, asked_slot, asked_gate, IsJobOf, ordered_slot};
     ghost use Rattle.lb_rebuild_slots.specs.SlotCalls.{failed_slot, published_slot, abandoned_slot, lost_slot, entered_slot, reader_of};
-    ghost use Rattle.lb_rebuild_slots.specs.SlotCalls.{readers_at, left_slot, TakesAt, destroyed_slot, drawn_slot, superseded_more};
+    ghost use Rattle.lb_rebuild_slots.specs.SlotCalls.{readers_at, left_slot, TakesAt, ReportsAt, drawn_slot, superseded_more};
     ghost use Rattle.lb_rebuild_slots.specs.SlotCalls.{SelectsFrom};
     ghost use Rattle.lb_rebuild_slots.specs.SlotCalls.{TicketAt, FailsAt, PublishesAt, AbandonsAt, LosesAt, LeavesAt};
 
@@ -103,9 +106,11 @@ impl<S: BackendSelection> Slot<S> {
         ensures { result ≡ slot_waits newest (slot_value self.now) }
     {
         let flight = match &self.stage {
-            SlotStage::Flight(generation) => *generation,
-            SlotStage::Free | SlotStage::Lost(_) | SlotStage::Retired(_) | SlotStage::TakenOut(_) =>
-                0,
+            SlotStage::Flight(generation, _) => *generation,
+            SlotStage::Free
+            | SlotStage::Lost(..)
+            | SlotStage::Retired(..)
+            | SlotStage::TakenOut(..) => 0,
         };
         let serving = &self.serving;
         serving.generation.max(flight) < newest
@@ -115,9 +120,11 @@ impl<S: BackendSelection> Slot<S> {
         ensures { result ≡ is_flight (extra_of self.now.stage) }
     {
         match &self.stage {
-            SlotStage::Flight(_) => true,
-            SlotStage::Free | SlotStage::Lost(_) | SlotStage::Retired(_) | SlotStage::TakenOut(_) =>
-                false,
+            SlotStage::Flight(..) => true,
+            SlotStage::Free
+            | SlotStage::Lost(..)
+            | SlotStage::Retired(..)
+            | SlotStage::TakenOut(..) => false,
         }
     }
 
@@ -126,8 +133,8 @@ impl<S: BackendSelection> Slot<S> {
         ensures { result ≡ is_under_way generation (extra_of self.now.stage) }
     {
         match &self.stage {
-            SlotStage::Flight(flight) | SlotStage::Lost(flight) => *flight == generation,
-            SlotStage::Free | SlotStage::Retired(_) | SlotStage::TakenOut(_) => false,
+            SlotStage::Flight(flight, _) | SlotStage::Lost(flight, _) => *flight == generation,
+            SlotStage::Free | SlotStage::Retired(..) | SlotStage::TakenOut(..) => false,
         }
     }
 
@@ -165,7 +172,7 @@ impl<S: BackendSelection> Slot<S> {
         now: u128,
     ) -> Ask<S>
         ensures told { ask_told result ≡ slot_answer newest cancelled gate.old.out now (slot_value self.old) }
-        ensures slot { slot_value self.new ≡ asked_slot (ask_told result) newest scheduled now (slot_value self.old) }
+        ensures slot { slot_value self.new ≡ asked_slot (ask_told result) gate.old.id newest scheduled now (slot_value self.old) }
         ensures gate { gate.new ≡ asked_gate (ask_told result) gate.old }
         ensures job { IsJobOf place gate.old.id (slot_value self.old) result }
     {
@@ -194,7 +201,8 @@ impl<S: BackendSelection> Slot<S> {
         let Some(order) = self.waiting.take() else {
             unreachable!();
         };
-        fill(&mut self.stage, SlotStage::Flight(newest));
+        let (permit, kept) = permit.into_halves();
+        fill(&mut self.stage, SlotStage::Flight(newest, kept));
         self.asked = now;
         self.scheduled = scheduled;
         Ask::Job(Job {
@@ -210,7 +218,7 @@ impl<S: BackendSelection> Slot<S> {
           counts = record self.old.counts { superseded = superseded_more newest (slot_value self.old) };
         } }
     {
-        if let SlotStage::Flight(flight) = &self.stage {
+        if let SlotStage::Flight(flight, _) = &self.stage {
             if *flight < newest {
                 self.counts.superseded = self.counts.superseded.saturating_add(1);
             }
@@ -219,29 +227,33 @@ impl<S: BackendSelection> Slot<S> {
 
     // Ends the flight or the lost flight of a job that failed, and gives its permit; a job that is not awaited is returned.
     pub(crate) fn fail(&mut self, newest: u64, job: Job<S>, now: u128) -> Result<Permit, Job<S>>
+        requires { IfSome (permit_of self.old.stage) (λ p. p ≡ job.permit) }
         ensures { FailsAt newest now job (slot_value self.old) result (slot_value self.new) }
     {
         if !self.awaits(job.generation()) {
             return Err(job);
         }
         let (order, permit) = job.into_parts();
-        self.take_back(newest, order, now);
-        Ok(permit)
+        let kept = self.take_back(newest, order, now);
+        Ok(Permit::of_halves(permit, kept))
     }
 
-    // Ends the flight or the lost flight of an order that failed; it waits again where it is of the newest generation.
-    fn take_back(&mut self, newest: u64, order: Order<S::Config>, now: u128)
+    // Ends the flight or the lost flight of an order that failed, and gives the slot's half of its permit; the order waits again
+    // where it is of the newest generation.
+    fn take_back(&mut self, newest: u64, order: Order<S::Config>, now: u128) -> SlotPermit
         requires { is_under_way order.generation (extra_of self.old.stage) ≡ true }
-        ensures { slot_value self.new ≡ failed_slot newest now order (slot_value self.old) }
+        ensures half { permit_of self.old.stage ≡ Some result }
+        ensures slot { slot_value self.new ≡ failed_slot newest now order (slot_value self.old) }
     {
         self.count_superseded(newest);
         self.counts.failed = self.counts.failed.saturating_add(1);
-        clear(&mut self.stage);
+        let kept = release(&mut self.stage);
         if order.generation == newest {
             self.failures = self.failures.saturating_add(1);
             self.failed_at = now;
             self.waiting = Some(order);
         }
+        kept
     }
 
     // Serves the selector of its flight, and retires that of a lost flight or of a cancelled group unserved. A selector that is not
@@ -252,6 +264,7 @@ impl<S: BackendSelection> Slot<S> {
         cancelled: bool,
         built: Built<S>,
     ) -> Result<Publication, Built<S>>
+        requires { IfSome (permit_of self.old.stage) (λ p. p ≡ built.task.permit) }
         ensures { PublishesAt newest cancelled built (slot_value self.old) result (slot_value self.new) }
     {
         if !self.awaits(built.generation()) {
@@ -265,6 +278,7 @@ impl<S: BackendSelection> Slot<S> {
 
     // Retires the selector of its flight or lost flight unserved; one that is not awaited is returned.
     pub(crate) fn abandon(&mut self, newest: u64, built: Built<S>) -> Result<(), Built<S>>
+        requires { IfSome (permit_of self.old.stage) (λ p. p ≡ built.task.permit) }
         ensures { AbandonsAt newest built (slot_value self.old) result (slot_value self.new) }
     {
         if !self.awaits(built.generation()) {
@@ -276,12 +290,13 @@ impl<S: BackendSelection> Slot<S> {
 
     // Serves the selector of its flight, and retires what it served before with its readers.
     fn serve(&mut self, built: Built<S>) -> u64
-        requires { is_under_way built.task.generation (extra_of self.old.stage) ≡ true }
+        requires awaited { is_under_way built.task.generation (extra_of self.old.stage) ≡ true }
+        requires permit { IfSome (permit_of self.old.stage) (λ p. p ≡ built.task.permit) }
         ensures generation { result ≡ built.task.generation }
         ensures slot { slot_value self.new ≡ published_slot built (slot_value self.old) }
     {
         let Built {
-            place,
+            place: _,
             order,
             permit,
             selector,
@@ -295,14 +310,10 @@ impl<S: BackendSelection> Slot<S> {
         };
         let before = mem::replace(&mut self.serving, serving);
         self.left_in = mem::replace(&mut self.readers, 0);
-        clear(&mut self.stage);
+        let kept = release(&mut self.stage);
         fill(
             &mut self.stage,
-            SlotStage::Retired(Retired {
-                place,
-                serving: before,
-                permit,
-            }),
+            SlotStage::Retired(before, Permit::of_halves(permit, kept)),
         );
         self.counts.published = self.counts.published.saturating_add(1);
         self.timing = Some(Timing {
@@ -315,13 +326,14 @@ impl<S: BackendSelection> Slot<S> {
 
     // Retires the selector of its flight or lost flight unserved; its order waits again where it is of the newest generation.
     fn retire(&mut self, newest: u64, built: Built<S>) -> u64
-        requires { is_under_way built.task.generation (extra_of self.old.stage) ≡ true }
+        requires awaited { is_under_way built.task.generation (extra_of self.old.stage) ≡ true }
+        requires permit { IfSome (permit_of self.old.stage) (λ p. p ≡ built.task.permit) }
         ensures generation { result ≡ built.task.generation }
         ensures slot { slot_value self.new ≡ abandoned_slot newest built (slot_value self.old) }
     {
         self.count_superseded(newest);
         let Built {
-            place,
+            place: _,
             order,
             permit,
             selector,
@@ -334,14 +346,10 @@ impl<S: BackendSelection> Slot<S> {
             tickets: 0,
         };
         self.left_in = 0;
-        clear(&mut self.stage);
+        let kept = release(&mut self.stage);
         fill(
             &mut self.stage,
-            SlotStage::Retired(Retired {
-                place,
-                serving,
-                permit,
-            }),
+            SlotStage::Retired(serving, Permit::of_halves(permit, kept)),
         );
         if generation == newest {
             self.waiting = Some(order);
@@ -353,13 +361,13 @@ impl<S: BackendSelection> Slot<S> {
     pub(crate) fn lose(&mut self, newest: u64) -> Result<(), Refusal>
         ensures { LosesAt newest (slot_value self.old) result (slot_value self.new) }
     {
-        let SlotStage::Flight(flight) = &self.stage else {
+        let SlotStage::Flight(flight, _) = &self.stage else {
             return Err(Refusal::NothingInFlight);
         };
         let flight = *flight;
         self.count_superseded(newest);
-        clear(&mut self.stage);
-        fill(&mut self.stage, SlotStage::Lost(flight));
+        let kept = release(&mut self.stage);
+        fill(&mut self.stage, SlotStage::Lost(flight, kept));
         Ok(())
     }
 
@@ -414,9 +422,11 @@ impl<S: BackendSelection> Slot<S> {
         ensures { result ≡ is_retired_of generation (extra_of self.now.stage) }
     {
         match &self.stage {
-            SlotStage::Retired(retired) => retired.generation() == generation,
-            SlotStage::Free | SlotStage::Flight(_) | SlotStage::Lost(_) | SlotStage::TakenOut(_) =>
-                false,
+            SlotStage::Retired(serving, _) => serving.generation == generation,
+            SlotStage::Free
+            | SlotStage::Flight(..)
+            | SlotStage::Lost(..)
+            | SlotStage::TakenOut(..) => false,
         }
     }
 
@@ -442,12 +452,12 @@ impl<S: BackendSelection> Slot<S> {
             return serving.draw();
         }
         match &mut self.stage {
-            SlotStage::Retired(retired) if retired.generation() == generation => retired.draw(),
+            SlotStage::Retired(serving, _) if serving.generation == generation => serving.draw(),
             SlotStage::Free
-            | SlotStage::Flight(_)
-            | SlotStage::Lost(_)
-            | SlotStage::Retired(_)
-            | SlotStage::TakenOut(_) => 0,
+            | SlotStage::Flight(..)
+            | SlotStage::Lost(..)
+            | SlotStage::Retired(..)
+            | SlotStage::TakenOut(..) => 0,
         }
     }
 
@@ -455,20 +465,29 @@ impl<S: BackendSelection> Slot<S> {
     pub(crate) fn take_retired(&mut self, place: SlotPlace) -> Result<Retired<S>, Refusal>
         ensures { TakesAt place (slot_value self.old) result (slot_value self.new) }
     {
-        let SlotStage::Retired(retired) = &self.stage else {
+        let SlotStage::Retired(..) = &self.stage else {
             return Err(Refusal::NothingRetired);
         };
         if self.left_in > 0 {
             return Err(Refusal::StillRead(self.left_in));
         }
-        let generation = retired.generation();
-        match mem::replace(&mut self.stage, SlotStage::TakenOut(generation)) {
-            SlotStage::Retired(mut retired) => {
-                retired.place = place;
-                Ok(retired)
+        match mem::replace(&mut self.stage, SlotStage::Free) {
+            SlotStage::Retired(serving, permit) => {
+                let (permit, kept) = permit.into_halves();
+                fill(
+                    &mut self.stage,
+                    SlotStage::TakenOut(serving.generation, kept),
+                );
+                Ok(Retired {
+                    place,
+                    serving,
+                    permit,
+                })
             }
-            SlotStage::Free | SlotStage::Flight(_) | SlotStage::Lost(_) | SlotStage::TakenOut(_) =>
-                unreachable!(),
+            SlotStage::Free
+            | SlotStage::Flight(..)
+            | SlotStage::Lost(..)
+            | SlotStage::TakenOut(..) => unreachable!(),
         }
     }
 
@@ -477,9 +496,11 @@ impl<S: BackendSelection> Slot<S> {
         ensures { result ≡ (if is_flight (extra_of self.now.stage) then Some (flight_number (extra_of self.now.stage)) else None) }
     {
         match &self.stage {
-            SlotStage::Flight(generation) => Some(*generation),
-            SlotStage::Free | SlotStage::Lost(_) | SlotStage::Retired(_) | SlotStage::TakenOut(_) =>
-                None,
+            SlotStage::Flight(generation, _) => Some(*generation),
+            SlotStage::Free
+            | SlotStage::Lost(..)
+            | SlotStage::Retired(..)
+            | SlotStage::TakenOut(..) => None,
         }
     }
 
@@ -488,22 +509,38 @@ impl<S: BackendSelection> Slot<S> {
         ensures { result ≡ taken_out_number (extra_of self.now.stage) }
     {
         match &self.stage {
-            SlotStage::TakenOut(generation) => Some(*generation),
-            SlotStage::Free | SlotStage::Flight(_) | SlotStage::Lost(_) | SlotStage::Retired(_) =>
-                None,
+            SlotStage::TakenOut(generation, _) => Some(*generation),
+            SlotStage::Free
+            | SlotStage::Flight(..)
+            | SlotStage::Lost(..)
+            | SlotStage::Retired(..) => None,
         }
     }
 
-    // The selector that was taken out is destroyed, where one was.
-    pub(crate) fn report(&mut self) -> bool
-        ensures out { result ≡ is_taken_out (extra_of self.old.stage) }
-        ensures slot { slot_value self.new ≡ (if result then destroyed_slot (slot_value self.old) else slot_value self.old) }
+    // The selector that was taken out is destroyed, where one was: gives the slot's half of its permit.
+    pub(crate) fn report(&mut self) -> Option<SlotPermit>
+        ensures { ReportsAt (slot_value self.old) result (slot_value self.new) }
     {
-        let SlotStage::TakenOut(_) = &self.stage else {
-            return false;
+        let SlotStage::TakenOut(..) = &self.stage else {
+            return None;
         };
-        clear(&mut self.stage);
-        true
+        Some(release(&mut self.stage))
+    }
+
+    // Shows that the gate's permit is out where anything stands in the slot. It changes nothing.
+    pub(crate) fn extra_is_out(&mut self, gate: &mut GateCore)
+        requires { IfSome (permit_of self.old.stage) (λ p. p ≡ gate.old.id) }
+        ensures out { is_extra (extra_of self.old.stage) ≡ true → gate.old.out ≡ true }
+        ensures slot { slot_value self.new ≡ slot_value self.old }
+        ensures gate { gate.new ≡ gate.old }
+    {
+        match &mut self.stage {
+            SlotStage::Free => {}
+            SlotStage::Flight(_, permit) => gate.is_out_by(permit),
+            SlotStage::Lost(_, permit) => gate.is_out_by(permit),
+            SlotStage::Retired(_, permit) => gate.is_out(permit),
+            SlotStage::TakenOut(_, permit) => gate.is_out_by(permit),
+        }
     }
 
     // Selects from what is served the first that `accept` accepts.
@@ -559,9 +596,11 @@ impl<S: BackendSelection> Drop for Slot<S> {
             timing: _,
         } = self;
         match stage {
-            SlotStage::Retired(retired) => retired.destroy().end(),
-            SlotStage::Free | SlotStage::Flight(_) | SlotStage::Lost(_) | SlotStage::TakenOut(_) =>
-                {}
+            SlotStage::Retired(_serving, permit) => permit.end(),
+            SlotStage::Flight(_, permit)
+            | SlotStage::Lost(_, permit)
+            | SlotStage::TakenOut(_, permit) => drop(permit),
+            SlotStage::Free => {}
         }
     }
 }
@@ -577,13 +616,17 @@ fn fill<S: BackendSelection>(stage: &mut SlotStage<S>, next: SlotStage<S>)
     };
 }
 
-// Ends what holds no permit.
-fn clear<S: BackendSelection>(stage: &mut SlotStage<S>)
-    requires { permit_of stage.old ≡ None }
-    ensures { stage.new ≡ SlotStage.Free }
+// Ends what has half of a permit, and gives this half.
+fn release<S: BackendSelection>(stage: &mut SlotStage<S>) -> SlotPermit
+    requires { is_parted (extra_of stage.old) ≡ true }
+    ensures stage { stage.new ≡ SlotStage.Free }
+    ensures half { permit_of stage.old ≡ Some result }
 {
     match mem::replace(stage, SlotStage::Free) {
-        SlotStage::Retired(_retired) => unreachable!(),
-        SlotStage::Free | SlotStage::Flight(_) | SlotStage::Lost(_) | SlotStage::TakenOut(_) => {}
+        SlotStage::Flight(_, permit)
+        | SlotStage::Lost(_, permit)
+        | SlotStage::TakenOut(_, permit) => permit,
+        SlotStage::Free => unreachable!(),
+        SlotStage::Retired(_serving, _permit) => unreachable!(),
     }
 }

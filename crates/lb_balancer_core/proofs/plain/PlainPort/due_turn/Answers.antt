@@ -20,4 +20,4 @@ returns g c =
     × (q.generator.now ≡ p.generator.now) × SameLent p q)
     (λ p x a q is. (is.0, is.2)) (λ p x now a q is. is.0) (λ p b u q is. is.0) (λ p r now q is. is.0.0)
     c.args.slot c.args.self.now c.worker_turn.new.port c.args.clock.now c.worker_turn.new.clock c.worker_turn.result c.requires.due
-    c.requires.free c.worker_turn.ensures
+    c.extra_is_out.ensures.out c.requires.free (rw c.extra_is_out.ensures.same at c.worker_turn.ensures)

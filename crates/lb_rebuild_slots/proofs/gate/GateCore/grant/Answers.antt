@@ -6,6 +6,6 @@ use Rattle.lb_rebuild_slots.proofs.gate.GateCore.grant.Goals as goal
 pub store-requires : goal.store-requires
 store-requires c =
     let g = c.self.invariant in
-    let there : c.self.inside.home ≡ Some c.in_ok-seat.seat = sym c.take.ensures.value ∙ c.in_ok-seat.was in
+    let there : c.self.inside.home ≡ Some c.in_ok-writer.field-0 = sym c.take.ensures.value ∙ c.in_ok-writer.was in
     let s = rw there at g.1 in
     (s.0, omega (arith, g.0), stores_as _ 0 1 _ _ s.1 s.2)
