@@ -461,7 +461,7 @@ module _ {S I C W : Type 0} {made : Made C} {h : History} {own : GroupId} {id : 
   reports (Some p) is =
       let have : IfSome (Some p) (λ q. q ≡ made.gate)
       = subst (λ (o : Option GateId). IfSome o (λ q. q ≡ made.gate)) is.1 (permits made.gate refl) in
-      (reported-stands is.0 is.2, (owed-at true is.0, have))
+      (reported-stands is.0 is.2, owed-at true is.0, have)
 
   pub selects : (random : List Member → C → Bool) (walks : List Member → C → List ℕ → List Draw → List Member → Bool → Type 0)
       (accepts : Member → Bool → Type 0) (load_by : Member → ℕ)

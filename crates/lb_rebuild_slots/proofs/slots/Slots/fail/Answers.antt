@@ -1,7 +1,7 @@
 -- The slot of the job is put back in its place.
-use Rattle.std.proofs.Common.{false, true}
-use Rattle.lb_rebuild_slots.proofs.SlotsSteps.{coming, stays, site-of}
-use Rattle.lb_rebuild_slots.proofs.CallSteps.{failed-stands, awaited-at}
+use Rattle.std.proofs.Common.{◌∙◌, false, true}
+use Rattle.lb_rebuild_slots.proofs.SlotsSteps.{coming, stays, site-of, known, gate-made}
+use Rattle.lb_rebuild_slots.proofs.CallSteps.{failed-stands, awaited-at, permits}
 use Rattle.lb_rebuild_slots.proofs.slots.Slots.fail.Goals as goal
 
 pub invariant_of-self : goal.invariant_of-self
@@ -47,3 +47,10 @@ returns-clause-site g c = site-of c.self.invariant c.self.view_is (returns-claus
 
 pub returns-in-Err-clause-site : goal.returns-in-Err-clause-site
 returns-in-Err-clause-site g c = site-of c.self.invariant c.self.view_is (returns-in-Err-clause-stands g c)
+
+-- what the slot has of a permit is of the group's gate
+pub fail-requires : goal.fail-requires
+fail-requires g c =
+    known c.self.invariant c.self.view_is (λ made h s.
+    let w = coming c.slot-slot.result c.index_mut.result.now c.index_mut.result.now c.self.view_is c.slot-slot.ensures c.requires.config c.index_mut.ensures.value s in
+    permits w.faces c.args.job.permit (c.requires.permit ∙ gate-made s))

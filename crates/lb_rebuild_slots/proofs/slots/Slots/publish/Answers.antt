@@ -1,7 +1,7 @@
 -- The selector's slot is put back in its place.
 use Rattle.std.proofs.Common.{◌∙◌}
-use Rattle.lb_rebuild_slots.proofs.SlotsSteps.{coming, stays, gate-made, site-of}
-use Rattle.lb_rebuild_slots.proofs.CallSteps.{publishes}
+use Rattle.lb_rebuild_slots.proofs.SlotsSteps.{coming, stays, gate-made, site-of, known}
+use Rattle.lb_rebuild_slots.proofs.CallSteps.{publishes, permits}
 use Rattle.lb_rebuild_slots.proofs.slots.Slots.publish.Goals as goal
 
 pub invariant_of-self : goal.invariant_of-self
@@ -25,3 +25,10 @@ returns-clause-stands g c made h s =
 
 pub returns-clause-site : goal.returns-clause-site
 returns-clause-site g c = site-of c.self.invariant c.self.view_is (returns-clause-stands g c)
+
+-- what the slot has of a permit is of the group's gate
+pub publish-requires : goal.publish-requires
+publish-requires g c =
+    known c.self.invariant c.self.view_is (λ made h s.
+    let w = coming c.slot-slot.result c.index_mut.result.now c.index_mut.result.now c.self.view_is c.slot-slot.ensures c.requires.config c.index_mut.ensures.value s in
+    permits w.faces c.args.built.task.permit (c.requires.permit ∙ gate-made s))
