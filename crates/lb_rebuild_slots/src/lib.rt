@@ -11,7 +11,6 @@ mod gate_rule;
 pub mod identity;
 pub mod job;
 pub mod laws;
-pub mod library_only;
 pub mod membership;
 mod place;
 pub mod retired;

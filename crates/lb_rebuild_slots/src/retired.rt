@@ -7,7 +7,6 @@ ghost use Rattle.lb_select_base.specs.Backends.{same_member};
 ghost use Rattle.lb_select_base.specs.Selections.{Selects};
 
 use crate::gate::JobPermit;
-use crate::library_only::LibraryOnly;
 use crate::place::SlotPlace;
 use lb_select_base::backend::Backend;
 use lb_select_base::refusal::Refusal;

@@ -12,7 +12,6 @@ ghost use Rattle.lb_rebuild_slots.specs.SlotsHistory.{flight_number};
 use crate::answers::{Ask, Counts, Publication, Selection, Timing};
 use crate::gate::{GateCore, Permit, SlotPermit};
 use crate::job::{Built, Job, Order};
-use crate::library_only::LibraryOnly;
 use crate::membership::SlotTurn;
 use crate::place::SlotPlace;
 use crate::retired::{Reader, Retired, ServedSelector};
