@@ -165,9 +165,11 @@ module _ {S I C W K P : Type 0} (refuses : List Member → C → Option Refusal)
     turn_ends p q k l r s free late (a, m, out, next) = cleared p m q k l a r s free late (taken_is p slot a m out) next
 
   pub due_ends : (p q : P) (k l : K) (r : Result Turn Refusal) → After (core_of p) (λ made e. IsDue made e slot × IsLate reads k e slot)
-      → After (core_of p) (λ made e. slot < length made.configs → is_extra (extra (past_of slot (slot_events e))) ≡ true → (gate_of p).out ≡ true)
+      → After (core_of p) (λ made e. slot < length made.configs → is_extra (extra (past_of slot (slot_events e))) ≡ true
+      → (gate_of p).out ≡ true)
       → (gate_of p).out ≡ false → Turned refuses reads taken reported asked published failed slot p k r q l
       → After (core_of p) (λ made e. EndsTurn made e slot r (core_of q))
   due_ends p q k l r due out free turned = λ made e s.
       let is = (due made e s).0 in
-      turn_ends made e is (bare-at-free (extra (past_of slot (slot_events e))) (gate_of p).out (out made e s is.there) free) p q k l r s free (due made e s).1 turned
+      turn_ends made e is (bare-at-free (extra (past_of slot (slot_events e))) (gate_of p).out (out made e s is.there) free) p q k l r s
+      free (due made e s).1 turned

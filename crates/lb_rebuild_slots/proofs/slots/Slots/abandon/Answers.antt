@@ -30,5 +30,6 @@ returns-clause-site g c = site-of c.self.invariant c.self.view_is (returns-claus
 pub abandon-requires : goal.abandon-requires
 abandon-requires g c =
     known c.self.invariant c.self.view_is (λ made h s.
-    let w = coming c.slot-slot.result c.index_mut.result.now c.index_mut.result.now c.self.view_is c.slot-slot.ensures c.requires.config c.index_mut.ensures.value s in
+    let w = coming c.slot-slot.result c.index_mut.result.now c.index_mut.result.now c.self.view_is c.slot-slot.ensures c.requires.config
+    c.index_mut.ensures.value s in
     permits w.faces c.args.built.task.permit (c.requires.permit ∙ gate-made s))

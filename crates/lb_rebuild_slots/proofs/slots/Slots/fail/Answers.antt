@@ -52,5 +52,6 @@ returns-in-Err-clause-site g c = site-of c.self.invariant c.self.view_is (return
 pub fail-requires : goal.fail-requires
 fail-requires g c =
     known c.self.invariant c.self.view_is (λ made h s.
-    let w = coming c.slot-slot.result c.index_mut.result.now c.index_mut.result.now c.self.view_is c.slot-slot.ensures c.requires.config c.index_mut.ensures.value s in
+    let w = coming c.slot-slot.result c.index_mut.result.now c.index_mut.result.now c.self.view_is c.slot-slot.ensures c.requires.config
+    c.index_mut.ensures.value s in
     permits w.faces c.args.job.permit (c.requires.permit ∙ gate-made s))
