@@ -5,6 +5,7 @@
 
 mod board;
 mod group;
+mod groups;
 mod health;
 mod members;
 mod process;
@@ -46,6 +47,7 @@ fn measure<
     match word {
         "board" => board::run(rt, alloc, numbers),
         "group" => group::run(rt, alloc, numbers),
+        "groups" => groups::run(rt, alloc, numbers),
         "health" => health::run(rt, alloc, numbers),
         "refused" => refused::run(rt, alloc),
         "selects" => selects::run(rt, alloc),
@@ -77,6 +79,7 @@ fn measure_all<
     refused::run(rt, alloc)?;
     selects::few(rt, alloc)?;
     shared::run(rt, alloc, &[])?;
+    groups::run(rt, alloc, &[])?;
     soak::run(rt, alloc, &[])
 }
 

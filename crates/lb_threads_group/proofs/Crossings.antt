@@ -13,14 +13,54 @@ use Rattle.lb_rebuild.specs.contracts.watched.Watched as watched
 use Rattle.lb_rebuild.proofs.Crossings.{watched_send}
 use Rattle.lb_threads_registry.proofs.registry.HealthRegistry.TheSendSync as registry
 use Rattle.lb_threads_registry.proofs.gate.SelectorRebuildGate.TheSendSync as gate
+use Rattle.std.proofs.MapsCrossing as maps
+use Rattle.std.proofs.MapsCrossingOver as sets
+use Rattle.lb_select_base.proofs.backend.Backend.TheSendSync as backend
+use Rattle.lb_lanes.proofs.lanes.Lanes.TheSendSync as lanes
+use Rattle.lb_rebuild_slots.specs.contracts.place.SlotPlace as place
+use Rattle.lb_rebuild_slots.specs.contracts.retired.Reader as reader
 use Rattle.lb_threads_group.proofs.group.SlotCounters.TheSendSync as line
+use Rattle.lb_threads_group.proofs.found.Version.TheSendSync as version
+use Rattle.lb_threads_group.specs.contracts.found.Found as found
+use Rattle.lb_threads_group.specs.contracts.kept.Entry as entry
+use Rattle.lb_threads_group.specs.contracts.kept.Site as site
 use Rattle.lb_threads_group.specs.contracts.group.SharedGroup as shared
 use Rattle.lb_threads_group.specs.contracts.group.SharedGroup.TheInside as inside
+
+place_send : IsSend place.the_row
+place_send = search (sendable, crosses) depth 20
+
+place_sync : IsSync place.the_row
+place_sync = search (sendable, crosses) depth 20
+
+found_send : IsSend found.the_row
+found_send = search (sendable, crosses, sets.crosses, maps.crosses, backend.the_send, backend.the_sync, version.the_send) depth 30
+
+found_sync : IsSync found.the_row
+found_sync = search (sendable, crosses, sets.crosses, maps.crosses, backend.the_send, backend.the_sync, version.the_sync) depth 30
 
 module _ (T R H I C W : RattleType) (g : Selection T.Denot I.Denot C.Denot W.Denot) (h : Iter I.Denot) (k : Keys R.Denot) (s : IsSend T)
     (sc : IsSend C) (y : IsSync T) (yc : IsSync C) (sr : IsSend R) (yr : IsSync R) (sh : IsSend H) (yh : IsSync H) where
   core_send : IsSend (watched.the_row T I C W g h)
   core_send = watched_send T I C W g h s sc y yc
+
+  reader_send : IsSend (reader.the_row T I C W g h)
+  reader_send = search (sendable, crosses, place_send) depth 20
+
+  reader_sync : IsSync (reader.the_row T I C W g h)
+  reader_sync = search (sendable, crosses, place_sync) depth 20
+
+  entry_send : IsSend (entry.the_row T R H I C W g h)
+  entry_send = search (sendable, crosses, found_send, found_sync, reader_send) depth 30
+
+  entry_sync : IsSync (entry.the_row T R H I C W g h)
+  entry_sync = search (sendable, crosses, found_send, found_sync, reader_sync) depth 30
+
+  site_send : IsSend (site.the_row T R H I C W g h k)
+  site_send = search (sendable, crosses) depth 20
+
+  site_sync : IsSync (site.the_row T R H I C W g h k)
+  site_sync = search (sendable, crosses) depth 20
 
   inside_send : IsSend (inside.the_row T R H I C W g h k)
   inside_send = recorded_send (inside.the_field T R H I C W g h k).row _ _ (inside.the_type T R H I C W g h k).to_one
@@ -38,7 +78,22 @@ module _ (T R H I C W : RattleType) (g : Selection T.Denot I.Denot C.Denot W.Den
                   search (sendable, crosses, loads.the_send) depth 20,
                   (
                     search (sendable, crosses) depth 20,
-                    (search (sendable, crosses, line.the_send) depth 20, (search (sendable, crosses) depth 20, tt)),
+                    (
+                      search (sendable, crosses, line.the_send) depth 20,
+                      (
+                        search (sendable, crosses) depth 20,
+                        (
+                          search (sendable, site_send) depth 20,
+                          (
+                            search (sendable, crosses, lanes.the_send, lanes.the_sync, entry_send, entry_sync) depth 20,
+                            (
+                              search (sendable, crosses, lock.the_send, lock.the_field_send, found_send, found_sync) depth 20,
+                              (search (sendable, crosses) depth 20, (search (sendable, crosses) depth 20, tt)),
+                            ),
+                          ),
+                        ),
+                      ),
+                    ),
                   ),
                 ),
               ),
@@ -63,7 +118,22 @@ module _ (T R H I C W : RattleType) (g : Selection T.Denot I.Denot C.Denot W.Den
                   search (sendable, crosses, loads.the_send) depth 20,
                   (
                     search (sendable, crosses) depth 20,
-                    (search (sendable, crosses, line.the_sync) depth 20, (search (sendable, crosses) depth 20, tt)),
+                    (
+                      search (sendable, crosses, line.the_sync) depth 20,
+                      (
+                        search (sendable, crosses) depth 20,
+                        (
+                          search (sendable, site_sync) depth 20,
+                          (
+                            search (sendable, crosses, lanes.the_send, lanes.the_sync, entry_send, entry_sync) depth 20,
+                            (
+                              search (sendable, crosses, lock.the_sync, lock.the_field_sync, found_send, found_sync) depth 20,
+                              (search (sendable, crosses) depth 20, (search (sendable, crosses) depth 20, tt)),
+                            ),
+                          ),
+                        ),
+                      ),
+                    ),
                   ),
                 ),
               ),

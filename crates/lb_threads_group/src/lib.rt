@@ -3,7 +3,9 @@
 #![tactic(auto)]
 
 mod backends;
+pub mod found;
 pub mod group;
+pub mod kept;
 pub mod passes;
 pub mod port;
 mod reading;
