@@ -1,31 +1,18 @@
--- Readiness goes by identity, and what is judged at one state stays so of a set.
-use Rattle.std.proofs.Common.{◌≡◌, ◌∙◌, ℕ, Bool, true, false, List, [], ◌∷◌, Option, Some, None, Result, Ok, Err, refl, sym, subst}
-use Rattle.std.specs.Prelude.{◌&&◌, if◌then◌else◌, IfOk, IfSome, MatchBool, OnErr}
-use Rattle.std.specs.Arc.{arc_value}
-use Rattle.std.specs.declared.sync.Arc.{Arc}
-use Rattle.std.specs.List.{list_any, AllByRecursion as Each}
-use Rattle.std.specs.List.Sorted.{IsPermutation}
+-- Readiness goes by identity, and so does what a word says of it.
+use Rattle.std.proofs.Common.{◌≡◌, ◌∙◌, ℕ, Bool, true, false, List, [], ◌∷◌, Option, Some, None, replicate, zero, suc, refl, sym, subst, arith}
+use Rattle.std.specs.Prelude.{IfSome, slice_get, slice_index}
 use Rattle.std.specs.Option.{IsSomeAnd}
 use Rattle.std.specs.HashMap.Eq.{lookup_congr}
-use Rattle.std.proofs.lemmas.Bool.{false≢true}
-use Rattle.std.proofs.lemmas.List.Elements.{All-from_recursion, recursion_from_All}
-use Rattle.std.proofs.lemmas.List.Sorted.{All-permutation}
 use Rattle.std.proofs.lemmas.Map.Steps.{list_any_congr}
 use Rattle.lb_select_base.specs.Backends.{Member, same_member}
 use Rattle.lb_select_base.proofs.Turns.{same_equiv}
-use Rattle.lb_health_registry.specs.Registry.{RegistryValue}
 use Rattle.lb_health_registry.specs.RegistryEvents.{Event, IsCellKept, cell_health}
-use Rattle.lb_health_view.specs.RegistrySide.{IsReady, IsReadyIn, IsHealthyIn}
-use Rattle.lb_health_view.specs.Snapshots.{SnapshotValue, snapshot_at, value_at}
-use Rattle.lb_health_view.specs.ViewEvents.{ViewEvent, Shown, Released, Set, Held, flag_after, listed, snapshots_after}
+use Rattle.lb_health_view.specs.RegistrySide.{IsReady, IsReadyIn}
+use Rattle.lb_health_view.specs.Snapshots.{SnapshotValue, snapshot_at}
+use Rattle.lb_health_view.specs.ViewEvents.{ViewEvent, Shown, Released, Set, Held, flag_after, snapshots_after}
 use Rattle.lb_health_view.proofs.ViewLemmas.{lists-same}
-use Rattle.lb_rebuild_slots.specs.Values.{ReaderValue}
-use Rattle.lb_rebuild_group.specs.Stands.{GroupValue, views_of}
-use Rattle.lb_balancer_core.specs.Plain.{IsReadyFor}
-use Rattle.lb_threads_registry.specs.Registry.{IsRegistryOf}
-use Rattle.lb_threads_group.specs.Group.{IsState, ReadyUnder}
-use Rattle.lb_threads_group.specs.Found.{IsFoundAt, IsFoundHere}
-use Rattle.lb_threads_group.specs.declared.found.Found.{Found}
+use Rattle.lb_rebuild_group.specs.Stands.{views_of}
+use Rattle.lb_threads_group.specs.Found.{ReadyAt, Says, SaysAt}
 use Rattle.lb_threads_group.specs.Shared.{SharedValue}
 
 some-more : {A : Type 0} (o : Option A) (P Q : A → Type 0) → ((x : A) → P x → Q x) → IsSomeAnd o P → IsSomeAnd o Q
@@ -57,58 +44,83 @@ module _ (b m : Member) (same : same_member b m ≡ true) where
     ready-same g is =
         some-more (snapshot_at g (snapshots_after views)) (IsReadyIn key_of views events m) (IsReadyIn key_of views events b) ready-in is
 
-module _ (b m : Member) (same : same_member b m ≡ true) {C R : Type 0} (gives : R → Member → Member → Type 0) (a : Bool) where
-  judged-for : (v : GroupValue C) (x : RegistryValue R) (r : ReaderValue C) → IsReadyFor gives v x r m a → IsReadyFor gives v x r b a
-  judged-for v x r is key_of events after made e stands =
-      let told = is key_of events after made e stands in
-      let views = views_of made e in (
-        (λ t. ready-same b m same key_of views events r.generation (told.0 t)),
-        (λ ready. told.1 (ready-same m b (same_equiv.symm m b ∙ same) key_of views events r.generation ready)),
-      )
+-- a backend's place has one of its identity
+abbrev pub HasPlace : List (Option Member) → ℕ → Member → Type 0
+HasPlace marks i b = (m : Member) × (slice_get marks i ≡ Some (Some m)) × (same_member b m ≡ true)
 
+module _ {C R : Type 0} (gives : R → Member → Member → Type 0) (site : SharedValue C R) (g : ℕ) where
   -- as a member is judged, so is a backend of its identity
-  pub judged-under : (site : SharedValue C R) (r : ReaderValue C) → ReadyUnder gives site r m a → ReadyUnder gives site r b a
-  judged-under site r (v, (x, (state, (of, is)))) = (v, (x, (state, (of, judged-for v x r is))))
+  ready-at : (b m : Member) (a : Bool) → same_member b m ≡ true → ReadyAt gives site g m a → ReadyAt gives site g b a
+  ready-at b m a same (v, (x, (state, (of, is)))) = (
+    v,
+    (
+      x,
+      (
+        state,
+        (
+          of,
+          λ key_of events after made e stands.
+              let told = is key_of events after made e stands in
+              let views = views_of made e in (
+                (λ t. ready-same b m same key_of views events g (told.0 t)),
+                (λ ready. told.1 (ready-same m b (same_equiv.symm m b ∙ same) key_of views events g ready)),
+              ),
+        ),
+      ),
+    ),
+  )
 
-module _ {C R : Type 0} (gives : R → Member → Member → Type 0) (site : SharedValue C R) (r : ReaderValue C) (b : Member) (a : Bool) where
-  here : (m : Member) (ms : List Member) (t : Bool) → same_member b m ≡ t → ReadyUnder gives site r m a
-      → (list_any (same_member b) ms ≡ true → ReadyUnder gives site r b a) → list_any (same_member b) (m ∷ ms) ≡ true
-      → ReadyUnder gives site r b a
-  here m ms true same is rest any = judged-under b m same gives a site r is
-  here m ms false same is rest any = rest (rw same at any)
+  says-same : (b m : Member) (w : ℕ) → same_member b m ≡ true → Says (ReadyAt gives site g m) w → Says (ReadyAt gives site g b) w
+  says-same b m w same says = ((λ e. ready-at b m true same (says.0 e)), (λ e. ready-at b m false same (says.1 e)))
 
-  -- a backend among those that are judged alike is judged so
-  pub kept-judged : (ms : List Member) → Each (λ m. ReadyUnder gives site r m a) ms → list_any (same_member b) ms ≡ true
-      → ReadyUnder gives site r b a
-  kept-judged [] all any = absurd (false≢true any)
-  kept-judged (m ∷ ms) all any = here m ms (same_member b m) refl all.0 (kept-judged ms all.1) any
+  -- what the word at a backend's place says is said of the backend
+  pub says-of : (marks : List (Option Member)) (i w : ℕ) (b : Member) → HasPlace marks i b → SaysAt (ReadyAt gives site g) marks i w
+      → Says (ReadyAt gives site g b) w
+  says-of marks i w b (m, (at, same)) says =
+      says-same b m w same (subst (λ o. IfSome o (λ p. IfSome p (λ q. Says (ReadyAt gives site g q) w))) at says)
 
--- what holds of each key and of the one that is put into a set holds of each key then
-pub each_put : (P : Member → Type 0) (k : Member) (ks ns : List Member) (added : Bool) → P k → Each P ks
-    → MatchBool added (IsPermutation (k ∷ ks) ns) (ns ≡ ks) → Each P ns
-each_put P k ks ns true is all puts =
-    recursion_from_All P ns (All-permutation P (k ∷ ks) ns puts (All-from_recursion P (k ∷ ks) (is, all)))
-each_put P k ks ns false is all puts = subst (λ (xs : List Member). Each P xs) (sym puts) all
+  -- and what is said of the backend may be the word at its place
+  pub says-at : (marks : List (Option Member)) (i w : ℕ) (b : Member) → HasPlace marks i b → Says (ReadyAt gives site g b) w
+      → SaysAt (ReadyAt gives site g) marks i w
+  says-at marks i w b (m, (at, same)) says =
+      subst (λ o. IfSome o (λ p. IfSome p (λ q. Says (ReadyAt gives site g q) w))) (sym at)
+      (says-same m b w (same_equiv.symm m b ∙ same) says)
 
--- the same whether the key is put in or refused
-pub each_after : {E : Type 0} (P : Member → Type 0) (k : Member) (ks ns : List Member) (r : Result Bool E) → P k → Each P ks
-    → IfOk r (λ added. MatchBool added (IsPermutation (k ∷ ks) ns) (ns ≡ ks)) → OnErr r (ns ≡ ks) → Each P ns
-each_after P k ks ns (Ok added) is all puts same = each_put P k ks ns added is all puts
-each_after P k ks ns (Err e) is all puts same = subst (λ (xs : List Member). Each P xs) (sym same) all
+-- the same of a key that has equal parts
+module _ {C R : Type 0} (gives : R → Member → Member → Type 0) (site : SharedValue C R) (g : ℕ) (marks : List (Option Member))
+    (own : SharedValue C R) (made : ℕ) (given : List (Option Member)) (same_site : own ≡ site) (same_generation : made ≡ g)
+    (same_marks : given ≡ marks) (i w : ℕ) (b : Member) (has : HasPlace marks i b) where
+  pub said-by : SaysAt (ReadyAt gives own made) given i w → Says (ReadyAt gives site g b) w
+  said-by says =
+      says-of gives site g marks i w b has
+      (subst (λ l. SaysAt (ReadyAt gives site g) l i w) same_marks
+      (subst (λ n. SaysAt (ReadyAt gives site n) given i w) same_generation
+      (subst (λ s. SaysAt (ReadyAt gives s made) given i w) same_site says)))
 
--- what was judged at a state of group and registry was judged so at some state of this group
-pub each-under : {C R : Type 0} (gives : R → Member → Member → Type 0) (site : SharedValue C R) (r : ReaderValue C) (a : Bool)
-    (v : GroupValue C) (x : RegistryValue R) → IsState site.core v → IsRegistryOf gives site.registry x → (bs : List Member)
-    → Each (λ b. IsReadyFor gives v x r b a) bs → Each (λ b. ReadyUnder gives site r b a) bs
-each-under gives site r a v x state of [] all = tt
-each-under gives site r a v x state of (b ∷ bs) all = ((v, (x, (state, (of, all.0)))), each-under gives site r a v x state of bs all.1)
+  pub said-to : Says (ReadyAt gives site g b) w → SaysAt (ReadyAt gives own made) given i w
+  said-to says =
+      subst (λ s. SaysAt (ReadyAt gives s made) given i w) (sym same_site)
+      (subst (λ n. SaysAt (ReadyAt gives site n) given i w) (sym same_generation)
+      (subst (λ l. SaysAt (ReadyAt gives site g) l i w) (sym same_marks)
+      (says-at gives site g marks i w b has says)))
 
--- what was found of a generation is so at its own where it is kept once more
-pub kept-again : {C R Z : Type 0} (gives : R → Member → Member → Type 0) (site : SharedValue C R) (g : ℕ) (o p : Option (Arc Found Z))
-    → IfSome o (λ f. ((arc_value f).generation ≡ g) × IsFoundAt gives site g (arc_value f))
-    → IfSome p (λ f. IsSomeAnd o (λ h. arc_value f ≡ arc_value h)) → IsFoundHere gives site p
-kept-again gives site g o None found same = tt
-kept-again gives site g None (Some f) found same = absurd same
-kept-again gives site g (Some h) (Some f) found same =
-    subst (λ (x : Found). IsFoundAt gives site x.generation x) (sym same)
-    (subst (λ (n : ℕ). IsFoundAt gives site n (arc_value h)) (sym found.0) found.1)
+-- a word of 0 says nothing, and so do words that aren't there
+pub nothing-said : (Told : Member → Bool → Type 0) (marks : List (Option Member)) (i w : ℕ) → w ≡ 0 → SaysAt Told marks i w
+nothing-said Told marks i w none = said (slice_get marks i)
+  where
+    said : (o : Option (Option Member)) → IfSome o (λ o. IfSome o (λ b. Says (Told b) w))
+    said None = tt
+    said (Some None) = tt
+    said (Some (Some b)) = ((λ e. absurd (omega (arith, e, none))), (λ e. absurd (omega (arith, e, none))))
+
+-- each of so many numbers 0 is 0
+pub zero-at : (n i : ℕ) → slice_index (replicate n 0) i ≡ 0
+zero-at zero i = refl
+zero-at (suc n) zero = refl
+zero-at (suc n) (suc i) = zero-at n i
+
+-- words of 0 say nothing
+pub nothing-kept : (Told : Member → Bool → Type 0) (marks : List (Option Member)) (n : ℕ) (words : List ℕ) → words ≡ replicate n 0
+    → (i : ℕ) → SaysAt Told marks i (slice_index words i)
+nothing-kept Told marks n words are i =
+    nothing-said Told marks i (slice_index words i) (subst (λ (l : List ℕ). slice_index l i ≡ 0) (sym are) (zero-at n i))

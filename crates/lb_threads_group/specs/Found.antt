@@ -1,9 +1,8 @@
--- What was found ready or unready for the readers of a generation, each at some state of group and registry. Readiness is the same for all readers of
--- a generation.
-use Rattle.std.specs.Prelude.{◌≡◌, ◌↔◌, ℕ, Bool, true, false, List, Option, IsTrue, IfSome}
+-- What is known of which backends are ready for the readers of a generation, each at some state of group and registry. Readiness is the same
+-- for all readers of a generation.
+use Rattle.std.specs.Prelude.{◌≡◌, ◌↔◌, ◌%◌, ℕ, Bool, true, false, List, Option, IsTrue, IfSome, slice_get}
 use Rattle.std.specs.Arc.{arc_value}
 use Rattle.std.specs.declared.sync.Arc.{Arc}
-use Rattle.std.specs.List.{AllByRecursion as Each}
 use Rattle.lb_select_base.specs.Backends.{Member}
 use Rattle.lb_health_registry.specs.Registry.{IsRegistryAfter}
 use Rattle.lb_health_registry.specs.RegistryEvents.{Event}
@@ -11,7 +10,11 @@ use Rattle.lb_health_view.specs.RegistrySide.{IsReady}
 use Rattle.lb_rebuild_group.specs.Stands.{After, views_of}
 use Rattle.lb_threads_group.specs.Group.{SeenBeside}
 use Rattle.lb_threads_group.specs.Shared.{SharedValue}
-use Rattle.lb_threads_group.specs.declared.found.Found.{Found}
+
+-- of which group and registry, and of which generation the words are
+pub record FoundValue (C R : Type 0) : Type 0 where
+  pub site : SharedValue C R
+  pub generation : ℕ
 
 module _ {C R : Type 0} (gives : R → Member → Member → Type 0) where
   -- whether a backend is ready in the snapshot of a generation
@@ -21,10 +24,10 @@ module _ {C R : Type 0} (gives : R → Member → Member → Type 0) where
       → IsRegistryAfter gives key_of events x
       → After v (λ made e. IsTrue a ↔ IsReady key_of (views_of made e) events g b))
 
-  -- what was found is so at that generation
-  abbrev pub IsFoundAt : SharedValue C R → ℕ → Found → Type 0
-  IsFoundAt site g f = Each (λ b. ReadyAt site g b true) f.judged.ready.keys × Each (λ b. ReadyAt site g b false) f.judged.unready.keys
+-- what a word says: of the remainders by 4, 3 that it is so and 2 that it isn't; 0 and 1 say nothing
+abbrev pub Says : (Bool → Type 0) → ℕ → Type 0
+Says Told w = (w % 4 ≡ 3 → Told true) × (w % 4 ≡ 2 → Told false)
 
-  -- what was found, if anything, is so at its own generation
-  abbrev pub IsFoundHere : {Z : Type 0} → SharedValue C R → Option (Arc Found Z) → Type 0
-  IsFoundHere site o = IfSome o (λ f. IsFoundAt site (arc_value f).generation (arc_value f))
+-- the word at a place says whether the backend that has the place is ready, and nothing where none has it
+abbrev pub SaysAt : (Member → Bool → Type 0) → List (Option Member) → ℕ → ℕ → Type 0
+SaysAt Told marks i w = IfSome (slice_get marks i) (λ o. IfSome o (λ b. Says (Told b) w))

@@ -8,18 +8,26 @@ use Rattle.lb_select_base.specs.Draws.{Draw}
 use Rattle.lb_select_base.specs.declared.refusal.Refusal.{Refusal}
 use Rattle.lb_rebuild_slots.specs.Values.{ReaderValue}
 use Rattle.lb_balancer_core.specs.Looks.{is_no_such}
-use Rattle.lb_threads_group.specs.declared.found.Found.{Found}
-use Rattle.lb_threads_group.specs.Found.{IsFoundAt}
+use Rattle.lb_threads_group.specs.Found.{FoundValue}
 use Rattle.lb_threads_group.specs.Group.{EnteredUnder, ReadyUnder}
 use Rattle.lb_threads_group.specs.Shared.{SharedValue, SelectsByAny}
 
-module _ {C R : Type 0} (gives : R → Member → Member → Type 0) where
-  -- a reader of this group that entered the slot, and what was found, if anything, of its generation
-  abbrev pub IsKeptFor : {Z : Type 0} → SharedValue C R → ℕ → ReaderValue C → Option (Arc Found Z) → Type 0
+module _ {C R : Type 0} where
+  -- the words of this group, for readers of this generation
+  abbrev pub IsFoundFor : SharedValue C R → ℕ → FoundValue C R → Type 0
+  IsFoundFor site g f = (f.site ≡ site) × (f.generation ≡ g)
+
+  -- the words, if there are any, are of this group
+  abbrev pub IsFoundOf : {Z : Type 0} → SharedValue C R → Option (Arc (FoundValue C R) Z) → Type 0
+  IsFoundOf site found = IfSome found (λ f. (arc_value f).site ≡ site)
+
+  -- a reader of this group that entered the slot, and the words, if there are any, for readers of its generation
+  abbrev pub IsKeptFor : {Z : Type 0} → SharedValue C R → ℕ → ReaderValue C → Option (Arc (FoundValue C R) Z) → Type 0
   IsKeptFor site slot r found =
       (r.group ≡ site.core.group.id) × EnteredUnder site.core slot (Ok r)
-      × IfSome found (λ f. IsFoundAt gives site r.generation (arc_value f))
+      × IfSome found (λ f. IsFoundFor site r.generation (arc_value f))
 
+module _ {C R : Type 0} (gives : R → Member → Member → Type 0) where
   module _ (accepts : Member → Bool → Bool → Type 0) where
     -- asked with a readiness of the backend that was read for the reader, this was answered
     abbrev pub AnswersUnder : SharedValue C R → ReaderValue C → Member → Bool → Type 0

@@ -1,77 +1,216 @@
-//! What the lanes of a slot share: which backends are ready for the readers of a generation. It is found once for each generation and
-//! change, behind a lock of its own, which is taken before the group's.
-ghost use Rattle.std.specs.Prelude.{◌≡◌, IfSome, false, true};
+//! Which backends of a generation are ready, as words that the lanes of a slot share: one for each backend, which says whether it is ready
+//! and as of which change that was found. A selection loads the word of its candidate, and asks group and registry where something changed
+//! since; so a flip or a flag costs each backend one question, and no request copies a membership.
+ghost use Rattle.std.specs.Prelude.{◌≡◌, Bool, IfOk, IfSome};
 ghost use Rattle.std.specs.Arc.{arc_value};
-ghost use Rattle.std.specs.List.{AllByRecursion as Each};
-ghost use Rattle.std.specs.Option.{IsSomeAnd};
-ghost use Rattle.lb_balancer_core.specs.Plain.{IsReadyFor};
-ghost use Rattle.lb_threads_group.specs.Group.{ReadyUnder};
-ghost use Rattle.lb_threads_group.specs.Found.{IsFoundAt, IsFoundHere};
+ghost use Rattle.lb_threads_group.specs.Found.{ReadyAt, Says};
+ghost use Rattle.lb_threads_group.specs.Kept.{IsFoundFor, IsFoundOf};
+ghost use Rattle.lb_threads_group.specs.Shared.{SharedValue};
 
 use crate::group::SharedGroup;
 use crate::kept::Site;
+use crate::marks::{Marks, marks_of, place_of};
 use lb_health_check::health_check::HealthCheck;
 use lb_health_registry::keys::KeyRule;
-use lb_health_registry::registry::Registry;
-use lb_rebuild_group::group::GroupCore;
 use lb_rebuild_slots::retired::Reader;
 use lb_select_base::backend::Backend;
 use lb_select_base::walk::BackendSelection;
 use lb_threads_registry::lock::KeyedLock;
-use lb_threads_registry::registry::HealthRegistry;
 use lb_threads_registry::rule::LockRule;
-use std::alloc::Global;
-use std::collections::HashSet;
+use lb_words::keyed::KeyedWords;
+use lb_words::rule::WordRule;
+use std::alloc::{AllocError, Global};
+use std::collections::BTreeSet;
+use std::marker::Model;
 use std::mem::replace;
+use std::snapshot::Snapshot;
 use std::sync::atomic::Ordering::SeqCst;
 use std::sync::{Arc, Wait};
 
-// How many members there are at most where it is found of all of them at once whether they are ready. Of more, each candidate is asked for under
-// the locks, since a request that looks at so many would hold up updates and checks.
-const MOST_FOUND: usize = 512;
+// What a word says.
+const IS_UNREADY: u64 = 2;
 
-/// How often what is ready may have changed.
-#[derive(Clone, Copy, PartialEq, Eq)]
-pub struct Version {
-    group: u64,
-    registry: u64,
-}
+const IS_READY: u64 = 3;
 
-/// Backends by whether they are ready.
+// Numbers of changes are kept modulo this, so that a word has place for one.
+const CHANGES: u64 = 0x2000_0000_0000_0000;
+
+/// Of what words are: the group and the registry, the generation, and the backend of each place.
 #[derive(Drop)]
-pub struct Judged {
-    pub(crate) ready: HashSet<Backend>,
-    pub(crate) unready: HashSet<Backend>,
+pub struct Subject<S: BackendSelection, R: KeyRule + Drop, C> {
+    site: Snapshot<Site<S, R, C>>,
+    generation: u64,
+    marks: Snapshot<Vec<Option<Backend>>>,
 }
 
-/// Which of the newest backends are ready for the readers of a generation, and which are not, as it was found at one moment.
-#[derive(Drop)]
-pub struct Found {
-    pub(crate) generation: u64,
-    pub(crate) version: Version,
-    pub(crate) judged: Judged,
-}
-
-/// What was found is so for each reader of its generation, at some state of group and registry.
+/// Each word says of the backend that has its place whether it is ready for the readers of the generation, at some state of group and
+/// registry.
 pub struct OfFound {}
 
-impl<S: BackendSelection, R: KeyRule + Drop, C> LockRule<Option<Arc<Found>>, Site<S, R, C>>
-    for OfFound {
-    ghost use Rattle.lb_threads_group.specs.Found.{IsFoundHere};
+impl<S: BackendSelection, R: KeyRule + Drop, C> WordRule<Subject<S, R, C>> for OfFound {
+    ghost use Rattle.lb_threads_group.specs.Found.{ReadyAt, SaysAt};
 
-    ghost holds = { λ site found. IsFoundHere R.gives site found };
+    ghost holds = { λ of i w. SaysAt (ReadyAt R.gives of.site.value of.generation) of.marks.value.items i w };
 }
 
-/// What was found last for a slot.
-pub type FoundLock<S, R, C> = KeyedLock<Option<Arc<Found>>, Site<S, R, C>, OfFound>;
+/// Which backends are ready for the readers of a generation. Contracts see of which group, registry and generation.
+#[derive(Drop)]
+pub struct Found<S: BackendSelection, R: KeyRule + Drop, C> {
+    generation: u64,
+    marks: Marks,
+    words: KeyedWords<Subject<S, R, C>, OfFound>,
+}
+
+impl<S: BackendSelection, R: KeyRule + Drop, C> Model for Found<S, R, C> {
+    ghost use Rattle.std.specs.Prelude.{◌≡◌};
+    ghost use Rattle.lb_threads_group.specs.Found.{FoundValue};
+
+    ghost Value = { FoundValue S.Config R };
+
+    ghost view = { λ f. record { site = f.words.table.shared.key.site.value; generation = f.generation } };
+
+    ghost invariant = { λ f. (f.words.table.shared.key.generation ≡ f.generation)
+        × (f.words.table.shared.key.marks.value.items ≡ f.marks.items) };
+}
+
+/// The words of a slot: of the generation that it serves, and of the one that is built for it.
+#[derive(Drop)]
+pub struct SlotWords<S: BackendSelection, R: KeyRule + Drop, C> {
+    served: Option<Arc<Found<S, R, C>>>,
+    next: Option<Arc<Found<S, R, C>>>,
+}
+
+/// The words are of the lock's group.
+pub struct OfSlot {}
+
+impl<S: BackendSelection, R: KeyRule + Drop, C> LockRule<SlotWords<S, R, C>, Site<S, R, C>>
+    for OfSlot {
+    ghost use Rattle.lb_threads_group.specs.Kept.{IsFoundOf};
+
+    ghost holds = { λ site words. IsFoundOf site words.served × IsFoundOf site words.next };
+}
+
+/// The lock of a slot's words.
+pub type WordsLock<S, R, C> = KeyedLock<SlotWords<S, R, C>, Site<S, R, C>, OfSlot>;
+
+impl<S: BackendSelection, R: KeyRule + Drop, C> SlotWords<S, R, C> {
+    // No words.
+    pub(crate) fn none() -> SlotWords<S, R, C>
+        ensures { (site : SharedValue S.Config R) → IsFoundOf site result.served × IsFoundOf site result.next }
+    {
+        SlotWords {
+            served: None,
+            next: None,
+        }
+    }
+
+    // The words of a generation.
+    fn of(&self, generation: u64) -> Option<Arc<Found<S, R, C>>>
+        ensures { (site : SharedValue S.Config R) → IsFoundOf site self.now.served → IsFoundOf site self.now.next
+            → IfSome result (λ f. IsFoundFor site generation (arc_value f)) }
+    {
+        match found_of(&self.next, generation) {
+            Some(found) => Some(found),
+            None => found_of(&self.served, generation),
+        }
+    }
+
+    // Takes words of the generation that is built now, and returns what isn't needed then.
+    fn expect(
+        &mut self,
+        found: Arc<Found<S, R, C>>,
+        served: Option<u64>,
+    ) -> Option<Arc<Found<S, R, C>>>
+        ensures { (site : SharedValue S.Config R) → IsFoundOf site self.old.served → IsFoundOf site self.old.next
+            → (arc_value found).site ≡ site → IsFoundOf site self.new.served × IsFoundOf site self.new.next }
+    {
+        let before = replace(&mut self.next, Some(found));
+        match before {
+            Some(before) if Some(before.generation) == served => {
+                replace(&mut self.served, Some(before))
+            }
+            before => before,
+        }
+    }
+}
+
+impl<S: BackendSelection, R: KeyRule + Drop, C> Found<S, R, C> {
+    // Words for readers of a generation with these backends, which say nothing yet.
+    fn new(
+        alloc: Global,
+        site: &Site<S, R, C>,
+        generation: u64,
+        backends: &BTreeSet<Backend>,
+    ) -> Result<Found<S, R, C>, AllocError>
+        ensures { IfOk result (IsFoundFor site.now generation) }
+    {
+        let marks = marks_of(alloc, backends)?;
+        let none: Vec<u64> = vec![in alloc; 0; marks.len()]?;
+        let of = Subject {
+            site: Snapshot::of(site),
+            generation,
+            marks: Snapshot::of(&marks),
+        };
+        let words = KeyedWords::new(alloc, &none, &of)?;
+        Ok(Found {
+            generation,
+            marks,
+            words,
+        })
+    }
+
+    // Whether a backend is ready, where its word says so as of this change.
+    #[inline]
+    fn known(&self, changes: u64, backend: &Backend) -> Option<bool>
+        ensures { IfSome result (ReadyAt R.gives self.now.site self.now.generation backend.now) }
+    {
+        let place = place_of(self.marks.as_slice(), backend)?;
+        let word = self.words.load(place)?;
+        if word / 4 != changes {
+            return None;
+        }
+        told_by(word)
+    }
+
+    // Notes whether a backend is ready, as of this change.
+    fn note(&self, changes: u64, backend: &Backend, ready: bool)
+        requires { ReadyAt R.gives self.now.site self.now.generation backend.now ready }
+    {
+        if let Some(place) = place_of(self.marks.as_slice(), backend) {
+            self.words.store(place, word_of(changes, ready));
+        }
+    }
+}
+
+// What a word says.
+#[inline]
+fn told_by(word: u64) -> Option<bool>
+    ensures { (Told : Bool → Type 0) → Says Told word → IfSome result Told }
+{
+    match word % 4 {
+        IS_READY => Some(true),
+        IS_UNREADY => Some(false),
+        _ => None,
+    }
+}
+
+// The word that says so as of this change.
+fn word_of(changes: u64, ready: bool) -> u64
+    ensures { (Told : Bool → Type 0) → Told ready → Says Told result }
+{
+    let turn = changes % CHANGES * 4;
+    if ready {
+        turn + IS_READY
+    } else {
+        turn + IS_UNREADY
+    }
+}
 
 impl<S: BackendSelection, R: KeyRule + Drop, C: HealthCheck + Drop> SharedGroup<S, R, C> {
     // How often what is ready may have changed.
-    pub(crate) fn version(&self) -> Version {
-        Version {
-            group: self.changes.load(SeqCst),
-            registry: self.registry.changes(),
-        }
+    pub(crate) fn changes_so_far(&self) -> u64 {
+        let registry = self.registry.changes();
+        self.changes.load(SeqCst).wrapping_add(registry) % CHANGES
     }
 
     // Notes that what is ready may have changed, but for the registry.
@@ -79,184 +218,131 @@ impl<S: BackendSelection, R: KeyRule + Drop, C: HealthCheck + Drop> SharedGroup<
         self.changes.fetch_add(1, SeqCst);
     }
 
-    // The lock of what was found last for a slot.
-    fn found_lock(&self, slot: usize) -> Option<&FoundLock<S, R, C>>
+    // The lock of a slot's words.
+    fn words_lock(&self, slot: usize) -> Option<&WordsLock<S, R, C>>
         ensures { IfSome result (λ l. l.now.table.shared.key ≡ self.now) }
     {
         let _site = &self.site;
-        self.founds.get(slot)
+        self.words.get(slot)
     }
 
-    // What is ready for a reader: what was found before for its generation, where nothing changed since, and else what is found now.
-    // `None` where memory is refused.
+    // The words for readers of a generation of a slot.
     pub(crate) fn found_for<W: Wait>(
         &self,
         rt: &W,
-        alloc: Global,
-        reader: &Reader<S>,
-    ) -> Option<Arc<Found>>
-        requires { reader.now.group ≡ self.now.core.group.id }
-        ensures { IfSome result (λ f. IsFoundAt R.gives self.now reader.now.generation (arc_value f)) }
+        slot: usize,
+        generation: u64,
+    ) -> Option<Arc<Found<S, R, C>>>
+        ensures { IfSome result (λ f. IsFoundFor self.now generation (arc_value f)) }
     {
-        let lock = self.found_lock(reader.slot())?;
-        let mut held = lock.take(rt);
-        let version = self.version();
-        let known = self.found_before(&held.value, reader.generation(), version);
-        if known.is_some() {
-            lock.put(held);
-            return known;
-        }
-        let found = self.find(rt, alloc, version, reader);
-        let before = replace(&mut held.value, shared(&found));
+        let lock = self.words_lock(slot)?;
+        let held = lock.take(rt);
+        let found = held.value.of(generation);
         lock.put(held);
-        drop(before);
         found
     }
 
-    // What was found before, where it is of this generation and version.
-    fn found_before(
-        &self,
-        before: &Option<Arc<Found>>,
-        generation: u64,
-        version: Version,
-    ) -> Option<Arc<Found>>
-        requires { IsFoundHere R.gives self.now before.now }
-        ensures { IfSome result (λ f. IsFoundAt R.gives self.now generation (arc_value f)) }
-    {
-        match before {
-            Some(found) => {
-                if found.generation == generation && found.version == version {
-                    Arc::try_clone(found).ok()
-                } else {
-                    None
+    // Has words for the readers of a generation that is built for a slot, if it is the newest one. It is for the thread that builds:
+    // requests take what is there. Where memory is refused, they ask for each candidate.
+    pub(crate) fn expect<W: Wait>(&self, rt: &W, slot: usize, generation: u64) {
+        let Some(backends) = self.backends_of(rt, generation) else {
+            return;
+        };
+        let Some(lock) = self.words_lock(slot) else {
+            return;
+        };
+        let Some(found) = self.new_found(generation, &backends) else {
+            return;
+        };
+        let _board = &self.board;
+        let mut pass = self.board.pass();
+        let served = self.board.selector_generation_as(slot, &mut pass);
+        let mut held = lock.take(rt);
+        let unneeded = held.value.expect(found, served);
+        lock.put(held);
+        drop((backends, unneeded));
+    }
+
+    // Judges each backend that a slot serves, where its word isn't of now. It is for the thread that publishes or checks, so that
+    // requests seldom have to ask.
+    pub(crate) fn judge_all<W: Wait>(&self, rt: &W, slot: usize) {
+        let Ok(entry) = self.enter_lane(rt, slot) else {
+            return;
+        };
+        if let Some(found) = &entry.found {
+            for mark in found.marks.as_slice() {
+                if let Some(backend) = mark {
+                    self.judge(rt, &entry, backend);
                 }
             }
-            None => None,
         }
+        self.leave_entry(rt, entry);
     }
 
-    // What is ready for a reader now. `None` where memory is refused.
-    fn find<W: Wait>(
+    // Words for readers of a generation.
+    fn new_found(
         &self,
-        rt: &W,
-        alloc: Global,
-        version: Version,
-        reader: &Reader<S>,
-    ) -> Option<Arc<Found>>
-        requires { reader.now.group ≡ self.now.core.group.id }
-        ensures { IfSome result (λ f. ((arc_value f).generation ≡ reader.now.generation)
-            × IsFoundAt R.gives self.now reader.now.generation (arc_value f)) }
+        generation: u64,
+        backends: &BTreeSet<Backend>,
+    ) -> Option<Arc<Found<S, R, C>>>
+        ensures { IfSome result (λ f. IsFoundFor self.now generation (arc_value f)) }
     {
-        let generation = reader.generation();
-        let judged = self.judged_for(rt, alloc, reader);
-        Arc::new(
-            alloc,
-            Found {
-                generation,
-                version,
-                judged,
-            },
-        )
-        .ok()
+        let _site = &self.site;
+        let found = Found::new(self.alloc, &self.site, generation, backends).ok()?;
+        Arc::new(self.alloc, found).ok()
     }
 
-    // Which of the newest backends are ready for a reader, as `judged_among` finds them.
-    fn judged_for<W: Wait>(&self, rt: &W, alloc: Global, reader: &Reader<S>) -> Judged
-        requires { reader.now.group ≡ self.now.core.group.id }
-        ensures ready { Each (λ b. ReadyUnder R.gives self.now reader.now b true) result.ready.keys }
-        ensures unready { Each (λ b. ReadyUnder R.gives self.now reader.now b false) result.unready.keys }
-    {
-        let registries: &HealthRegistry<R, C> = &*self.registry;
+    // The newest backends, where they are those of this generation.
+    fn backends_of<W: Wait>(&self, rt: &W, generation: u64) -> Option<Arc<BTreeSet<Backend>>> {
         let _gate = &self.gate;
         let held = self.lock.take(rt);
-        held.value.founded();
-        let cells = registries.take(rt);
-        let judged = judged_among(alloc, held.value.core(), &cells.value, reader);
-        registries.put(cells);
+        let group = held.value.core();
+        let backends = if group.newest() == generation {
+            group.get_backend().ok()
+        } else {
+            None
+        };
         self.lock.put(held);
-        judged
+        backends
     }
 
-    // Whether a backend is ready for a reader, where that was found.
-    pub(crate) fn known(
+    // Whether a backend is ready for a reader: as its word says, and where that isn't of now, as group and registry say.
+    pub(crate) fn judge_by<W: Wait>(
         &self,
-        found: &Option<Arc<Found>>,
+        rt: &W,
+        found: &Found<S, R, C>,
         reader: &Reader<S>,
         backend: &Backend,
-    ) -> Option<bool>
-        requires { IfSome found.now (λ f. IsFoundAt R.gives self.now reader.now.generation (arc_value f)) }
-        ensures { IfSome result (λ a. ReadyUnder R.gives self.now reader.now backend.now a) }
+    ) -> bool
+        requires found { IsFoundFor self.now reader.now.generation found.now }
+        requires own { reader.now.group ≡ self.now.core.group.id }
+        ensures { ReadyAt R.gives self.now reader.now.generation backend.now result }
     {
-        match found {
-            Some(found) => {
-                if found.judged.ready.contains(backend) {
-                    Some(true)
-                } else if found.judged.unready.contains(backend) {
-                    Some(false)
-                } else {
-                    None
-                }
-            }
-            None => None,
+        let changes = self.changes_so_far();
+        if let Some(ready) = found.known(changes, backend) {
+            return ready;
         }
+        let ready = self.ask_ready(rt, reader, backend);
+        found.note(changes, backend, ready);
+        ready
     }
 }
 
-// The same once more.
-fn shared(found: &Option<Arc<Found>>) -> Option<Arc<Found>>
-    ensures { IfSome result (λ f. IsSomeAnd found.now (λ g. arc_value f ≡ arc_value g)) }
+// The words, where they are of this generation.
+fn found_of<S: BackendSelection, R: KeyRule + Drop, C>(
+    found: &Option<Arc<Found<S, R, C>>>,
+    generation: u64,
+) -> Option<Arc<Found<S, R, C>>>
+    ensures { (site : SharedValue S.Config R) → IsFoundOf site found.now → IfSome result (λ f. IsFoundFor site generation (arc_value f)) }
 {
     match found {
-        Some(found) => Arc::try_clone(found).ok(),
+        Some(found) => {
+            if found.generation == generation {
+                Arc::try_clone(found).ok()
+            } else {
+                None
+            }
+        }
         None => None,
     }
-}
-
-// Which of the newest backends are ready for a reader; none is judged where there are too many.
-fn judged_among<S: BackendSelection, R: KeyRule + Drop>(
-    alloc: Global,
-    core: &GroupCore<S>,
-    registry: &Registry<R>,
-    reader: &Reader<S>,
-) -> Judged
-    requires { reader.now.group ≡ core.now.group.id }
-    ensures ready { Each (λ b. IsReadyFor R.gives core.now registry.now reader.now b true) result.ready.keys }
-    ensures unready { Each (λ b. IsReadyFor R.gives core.now registry.now reader.now b false) result.unready.keys }
-{
-    if core.members().len() > MOST_FOUND {
-        return Judged {
-            ready: HashSet::new(alloc),
-            unready: HashSet::new(alloc),
-        };
-    }
-    Judged {
-        ready: members_judged(alloc, core, registry, reader, true),
-        unready: members_judged(alloc, core, registry, reader, false),
-    }
-}
-
-// The newest backends of which readiness for a reader is this. Where memory is refused some are left out.
-fn members_judged<S: BackendSelection, R: KeyRule + Drop>(
-    alloc: Global,
-    core: &GroupCore<S>,
-    registry: &Registry<R>,
-    reader: &Reader<S>,
-    wanted: bool,
-) -> HashSet<Backend>
-    requires { reader.now.group ≡ core.now.group.id }
-    ensures { Each (λ b. IsReadyFor R.gives core.now registry.now reader.now b wanted) result.keys }
-{
-    let mut judged = HashSet::new(alloc);
-    for backend in core.members() {
-        if core.ready(reader, registry, backend) != wanted {
-            continue;
-        }
-        let Ok(copy) = backend.copied(alloc) else {
-            return judged;
-        };
-        if judged.insert(copy).is_err() {
-            return judged;
-        }
-    }
-    judged
 }

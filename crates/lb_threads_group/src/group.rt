@@ -1,11 +1,11 @@
 //! A group that threads share, behind a lock of its own.
-//! Locks are taken in the order update, found, group, registry, gate, and but for that of an update none is held between two calls.
+//! Locks are taken in the order update, group, registry, gate, and but for that of an update none is held between two calls.
 ghost use Rattle.std.specs.Prelude.{◌≡◌, ◌+◌, All, IfErr, IfOk, length};
 ghost use Rattle.std.specs.Arc.{arc_value};
 ghost use Rattle.lb_threads_group.specs.Group.{UpdatedUnder};
 ghost use Rattle.lb_threads_group.specs.Shared.{IsSame};
 
-use crate::found::FoundLock;
+use crate::found::{SlotWords, WordsLock};
 use crate::kept::{Site, SlotLanes};
 use crate::port::LockedPort;
 use lb_balancer_core::source::BackendSource;
@@ -74,8 +74,10 @@ pub struct SharedGroup<S: BackendSelection, R: KeyRule + Drop, C> {
     // Whose readers the lanes have, and the lanes of each slot.
     pub(crate) site: Site<S, R, C>,
     pub(crate) lanes: Vec<SlotLanes<S, R, C>>,
-    // What was found last for each slot.
-    pub(crate) founds: Vec<FoundLock<S, R, C>>,
+    // For the words of a generation.
+    pub(crate) alloc: Global,
+    // The words of each slot.
+    pub(crate) words: Vec<WordsLock<S, R, C>>,
     // Counts what may have changed what is ready, but for the registry's own changes.
     pub(crate) changes: AtomicU64,
     // Whether the lanes are used no more.
@@ -104,7 +106,7 @@ impl<S: BackendSelection, R: KeyRule + Drop, C> Model for SharedGroup<S, R, C> {
           registry = (arc_value g.registry).start;
         })
         × All (λ l. All (λ lane. lane.slot ≡ g.site) l.lanes.items) g.lanes.items
-        × All (λ f. f.table.shared.key ≡ g.site) g.founds.items };
+        × All (λ f. f.table.shared.key ≡ g.site) g.words.items };
 }
 
 impl<S: BackendSelection, R: KeyRule + Drop, C: HealthCheck + Drop> SharedGroup<S, R, C> {
@@ -132,7 +134,7 @@ impl<S: BackendSelection, R: KeyRule + Drop, C: HealthCheck + Drop> SharedGroup<
         let key = Snapshot::of(&watched);
         let site = Site::of(&watched, &*registry);
         let lanes = lanes_of(alloc, board.word_count() - 1, &site)?;
-        let founds = founds_of(alloc, board.word_count() - 1, &site)?;
+        let words = words_of(alloc, board.word_count() - 1, &site)?;
         let lock = KeyedLock::new(alloc, watched, &key)?;
         Ok(SharedGroup {
             lock,
@@ -146,7 +148,8 @@ impl<S: BackendSelection, R: KeyRule + Drop, C: HealthCheck + Drop> SharedGroup<
             let_go: AtomicBool::new(false),
             site,
             lanes,
-            founds,
+            alloc,
+            words,
             changes: AtomicU64::new(0),
             is_closed: AtomicBool::new(false),
         })
@@ -342,20 +345,20 @@ fn lanes_of<S: BackendSelection, R: KeyRule + Drop, C>(
     Ok(lanes)
 }
 
-// What is found for so many slots, before anything was.
-fn founds_of<S: BackendSelection, R: KeyRule + Drop, C>(
+// The locks of the words of so many slots, which have none yet.
+fn words_of<S: BackendSelection, R: KeyRule + Drop, C>(
     alloc: Global,
     slots: usize,
     site: &Site<S, R, C>,
-) -> Result<Vec<FoundLock<S, R, C>>, Refusal>
+) -> Result<Vec<WordsLock<S, R, C>>, Refusal>
     ensures keyed { IfOk result (λ l. All (λ f. f.table.shared.key ≡ site.now) l.items) }
     ensures refused { IfErr result (λ e. e ≡ Refusal.OutOfMemory) }
 {
-    let mut founds = Vec::new(alloc);
+    let mut words = Vec::new(alloc);
     for _ in 0..slots {
-        founds.push(KeyedLock::new(alloc, None, site)?)?;
+        words.push(KeyedLock::new(alloc, SlotWords::none(), site)?)?;
     }
-    Ok(founds)
+    Ok(words)
 }
 
 fn update_on<

@@ -1,11 +1,11 @@
-//! What a slot's lanes have: a reader that entered by the group's lock, and which backends were ready then. Selections go on in it without
-//! a lock.
-ghost use Rattle.std.specs.Prelude.{◌≡◌, All, Ok, Err, IfOk, IfErr, IfSome, true};
+//! What a slot's lanes have: a reader that entered by the group's lock, and the words that say which backends are ready for it. Selections go
+//! on in it without a lock.
+ghost use Rattle.std.specs.Prelude.{◌≡◌, All, Ok, Err, IfOk, IfErr, IfSome};
 ghost use Rattle.std.specs.Arc.{arc_value};
 ghost use Rattle.lb_threads_group.specs.Group.{EnteredUnder, ReadyUnder};
 ghost use Rattle.lb_threads_group.specs.Kept.{IsKeptFor};
 
-use crate::found::{Found, Version};
+use crate::found::Found;
 use crate::group::SharedGroup;
 use crate::port::LockedPort;
 use counted_slot::Fits;
@@ -21,7 +21,7 @@ use lb_select_base::refusal::Refusal;
 use lb_select_base::walk::BackendSelection;
 use lb_threads_registry::registry::HealthRegistry;
 use std::alloc::Global;
-use std::marker::{Model, PhantomData};
+use std::marker::Model;
 use std::snapshot::Snapshot;
 use std::sync::atomic::Ordering::SeqCst;
 use std::sync::{Arc, Wait};
@@ -58,12 +58,11 @@ impl<S: BackendSelection, R: KeyRule + Drop, C> Site<S, R, C> {
 /// The lanes of a slot.
 pub type SlotLanes<S, R, C> = Lanes<Entry<S, R, C>>;
 
-/// A reader that entered a slot, with what was found of its generation, where memory was there.
+/// A reader that entered a slot, with the words of its generation, where they are there.
 pub struct Entry<S: BackendSelection, R: KeyRule + Drop, C> {
     pub(crate) slot: usize,
     pub(crate) reader: Reader<S>,
-    pub(crate) found: Option<Arc<Found>>,
-    of: PhantomData<(R, C)>,
+    pub(crate) found: Option<Arc<Found<S, R, C>>>,
 }
 
 impl<S: BackendSelection, R: KeyRule + Drop, C> Fits for Entry<S, R, C> {
@@ -71,18 +70,10 @@ impl<S: BackendSelection, R: KeyRule + Drop, C> Fits for Entry<S, R, C> {
 
     type Tag = Site<S, R, C>;
 
-    ghost fits = { λ site e. IsKeptFor R.gives site e.slot e.reader e.found };
+    ghost fits = { λ site e. IsKeptFor site e.slot e.reader e.found };
 }
 
 impl<S: BackendSelection, R: KeyRule + Drop, C> Entry<S, R, C> {
-    // Whether what was found is of this version.
-    fn is_of(&self, version: Version) -> bool {
-        match &self.found {
-            Some(found) => found.version == version,
-            None => false,
-        }
-    }
-
     // Its reader.
     fn into_reader(self) -> Reader<S>
         ensures { result ≡ self.reader }
@@ -91,7 +82,6 @@ impl<S: BackendSelection, R: KeyRule + Drop, C> Entry<S, R, C> {
             slot: _,
             reader,
             found: _,
-            of: _,
         } = self;
         reader
     }
@@ -104,7 +94,6 @@ impl<S: BackendSelection, R: KeyRule + Drop, C> Drop for Entry<S, R, C> {
             slot: _,
             reader,
             found: _,
-            of: _,
         } = self;
         reader.close();
     }
@@ -112,11 +101,17 @@ impl<S: BackendSelection, R: KeyRule + Drop, C> Drop for Entry<S, R, C> {
 
 // The lane that a key's selections go to: keys spread over the lanes, so that threads seldom meet in one.
 pub(crate) fn hint_of(key: &[u8]) -> u64 {
-    let mut hash: u64 = 0xcbf2_9ce4_8422_2325;
-    for byte in key {
-        hash = (hash ^ u64::from(*byte)).wrapping_mul(0x100_0000_01b3);
-    }
-    hash ^ (hash >> 32)
+    let word = match key.last_chunk::<8>() {
+        Some(bytes) => u64::from_le_bytes(*bytes),
+        None => {
+            let mut word = 0u64;
+            for byte in key {
+                word = word << 8 | u64::from(*byte);
+            }
+            word
+        }
+    };
+    word.wrapping_mul(0x9E37_79B9_7F4A_7C15) >> 32
 }
 
 impl<S: BackendSelection, R: KeyRule + Drop, C: HealthCheck + Drop> SharedGroup<S, R, C> {
@@ -128,12 +123,11 @@ impl<S: BackendSelection, R: KeyRule + Drop, C: HealthCheck + Drop> SharedGroup<
         self.lanes.get(slot)
     }
 
-    // Whether an entry is of what the slot serves now, and nothing changed since what is ready was read.
+    // Whether an entry is of what the slot serves now.
     fn is_present(&self, entry: &Entry<S, R, C>, slot: usize) -> bool {
         let _board = &self.board;
         let mut pass = self.board.pass();
         self.board.selector_generation_as(slot, &mut pass) == Some(entry.reader.generation())
-            && entry.is_of(self.version())
             && !self.is_closed.load(SeqCst)
     }
 
@@ -169,21 +163,16 @@ impl<S: BackendSelection, R: KeyRule + Drop, C: HealthCheck + Drop> SharedGroup<
     }
 
     // Leaves the selector that was entered.
-    fn leave_entry<W: Wait>(&self, rt: &W, entry: Entry<S, R, C>)
+    pub(crate) fn leave_entry<W: Wait>(&self, rt: &W, entry: Entry<S, R, C>)
         requires { entry.reader.group ≡ self.now.core.group.id }
     {
         let mut port = LockedPort { group: self, rt };
         port.leave(entry.into_reader());
     }
 
-    // Enters a slot, with what is found of the reader's generation.
-    pub(crate) fn enter_lane<W: Wait>(
-        &self,
-        rt: &W,
-        alloc: Global,
-        slot: usize,
-    ) -> Result<Entry<S, R, C>, Refusal>
-        ensures kept { IfOk result (λ e. (e.slot ≡ slot) × IsKeptFor R.gives self.now e.slot e.reader e.found) }
+    // Enters a slot, and takes the words of the reader's generation.
+    pub(crate) fn enter_lane<W: Wait>(&self, rt: &W, slot: usize) -> Result<Entry<S, R, C>, Refusal>
+        ensures kept { IfOk result (λ e. (e.slot ≡ slot) × IsKeptFor self.now e.slot e.reader e.found) }
         ensures refused { IfErr result (λ e. EnteredUnder self.now.core slot (Err e)) }
     {
         let mut port = LockedPort { group: self, rt };
@@ -191,33 +180,38 @@ impl<S: BackendSelection, R: KeyRule + Drop, C: HealthCheck + Drop> SharedGroup<
             Ok(reader) => reader,
             Err(refusal) => return Err(refusal),
         };
-        let found = self.found_for(rt, alloc, &reader);
+        let found = self.found_for(rt, slot, reader.generation());
         Ok(Entry {
             slot,
             reader,
             found,
-            of: PhantomData,
         })
     }
 
-    // Whether a backend is ready for an entry: as it was found, and where it wasn't the group and the registry are asked.
+    // Whether a backend is ready for an entry.
     pub(crate) fn judge<W: Wait>(&self, rt: &W, entry: &Entry<S, R, C>, backend: &Backend) -> bool
-        requires { IsKeptFor R.gives self.now entry.now.slot entry.now.reader entry.now.found }
+        requires { IsKeptFor self.now entry.now.slot entry.now.reader entry.now.found }
         ensures { ReadyUnder R.gives self.now entry.now.reader backend.now result }
     {
-        match self.known(&entry.found, &entry.reader, backend) {
-            Some(ready) => ready,
-            None => {
-                let mut port = LockedPort { group: self, rt };
-                port.ready(&entry.reader, backend)
-            }
+        match &entry.found {
+            Some(found) => self.judge_by(rt, &**found, &entry.reader, backend),
+            None => self.ask_ready(rt, &entry.reader, backend),
         }
     }
 
-    // Puts an entry into the hint's lane of its slot. Where something changed meanwhile, the lane is emptied, so that none has for long
-    // what isn't served.
+    // Whether group and registry say that a backend is ready for a reader.
+    pub(crate) fn ask_ready<W: Wait>(&self, rt: &W, reader: &Reader<S>, backend: &Backend) -> bool
+        requires { reader.now.group ≡ self.now.core.group.id }
+        ensures { ReadyUnder R.gives self.now reader.now backend.now result }
+    {
+        let mut port = LockedPort { group: self, rt };
+        port.ready(reader, backend)
+    }
+
+    // Puts an entry into the hint's lane of its slot, if it has words: they come with the publication. Where something changed meanwhile, the
+    // lane is emptied, so that none has for long what isn't served.
     pub(crate) fn keep<W: Wait>(&self, rt: &W, hint: u64, entry: Entry<S, R, C>)
-        requires { IsKeptFor R.gives self.now entry.slot entry.reader entry.found }
+        requires { IsKeptFor self.now entry.slot entry.reader entry.found }
     {
         let slot = entry.slot;
         let generation = entry.reader.generation();
@@ -225,6 +219,10 @@ impl<S: BackendSelection, R: KeyRule + Drop, C: HealthCheck + Drop> SharedGroup<
             self.leave_entry(rt, entry);
             return;
         };
+        if entry.found.is_none() {
+            self.leave_entry(rt, entry);
+            return;
+        }
         if let Some(unneeded) = lanes.renew(hint, entry, &self.site) {
             self.leave_entry(rt, unneeded);
         }

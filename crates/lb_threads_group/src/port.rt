@@ -80,6 +80,7 @@ impl<'g, 'r, S: BackendSelection, R: KeyRule + Drop, C: HealthCheck + Drop, W: W
         let told = held.value.publish(built);
         group.lock.put(held);
         group.clear_lanes(self.rt, slot);
+        group.judge_all(self.rt, slot);
         match told {
             Ok(told) => told,
             Err(built) => {
@@ -164,6 +165,9 @@ impl<'g, 'r, S: BackendSelection, R: KeyRule + Drop, C: HealthCheck + Drop, W: W
         let told = held.value.ask(slot, &mut gate.value, now);
         gates.put(gate);
         group.lock.put(held);
+        if let Ok(Ask::Job(job)) = &told {
+            group.expect(self.rt, slot, job.generation());
+        }
         told
     }
 

@@ -39,11 +39,57 @@ impl<S: BackendSelection, R: KeyRule + Drop, C: HealthCheck + Drop> SharedGroup<
             result }
     {
         let hint = hint_of(key);
-        let found = self.select_in_lane(rt, alloc, slot, hint, key, max_iterations, accept);
-        if let Some(answer) = found {
-            return answer;
+        let Some(seen) = self.seen_in_lane(rt, slot, hint) else {
+            return self.select_entering(rt, alloc, slot, hint, key, max_iterations, accept);
+        };
+        let answer = self.select_seen(rt, alloc, slot, hint, &seen, key, max_iterations, accept);
+        self.end_reading(rt, seen);
+        answer
+    }
+
+    // Selects in what a lane has, where it is of this slot.
+    fn select_seen<W: Wait, F: Fn(&Backend, bool) -> bool>(
+        &self,
+        rt: &W,
+        alloc: Global,
+        slot: usize,
+        hint: u64,
+        seen: &Seen<'_, Entry<S, R, C>>,
+        key: &[u8],
+        max_iterations: usize,
+        accept: &F,
+    ) -> Result<Option<Backend>, Refusal>
+        requires accept { F.IsAlwaysCallable accept.now }
+        requires here { seen.now.hand.tag ≡ self.now }
+        ensures { SelectedFrom R.gives (λ b ready a. Answers F.Fn accept.now b ready a) max_iterations S.walks key.now self.now slot
+            result }
+    {
+        match self.entry_in(seen) {
+            Some(entry) if entry.slot == slot => {
+                self.select_for(rt, alloc, entry, key, max_iterations, accept)
+            }
+            _ => self.select_entering(rt, alloc, slot, hint, key, max_iterations, accept),
         }
-        match self.enter_lane(rt, alloc, slot) {
+    }
+
+    // Enters the slot, selects, and puts what was entered into the hint's lane.
+    #[cold]
+    #[inline(never)]
+    fn select_entering<W: Wait, F: Fn(&Backend, bool) -> bool>(
+        &self,
+        rt: &W,
+        alloc: Global,
+        slot: usize,
+        hint: u64,
+        key: &[u8],
+        max_iterations: usize,
+        accept: &F,
+    ) -> Result<Option<Backend>, Refusal>
+        requires { F.IsAlwaysCallable accept.now }
+        ensures { SelectedFrom R.gives (λ b ready a. Answers F.Fn accept.now b ready a) max_iterations S.walks key.now self.now slot
+            result }
+    {
+        match self.enter_lane(rt, slot) {
             Ok(entry) => {
                 let answer = self.select_for(rt, alloc, &entry, key, max_iterations, accept);
                 self.keep(rt, hint, entry);
@@ -53,58 +99,12 @@ impl<S: BackendSelection, R: KeyRule + Drop, C: HealthCheck + Drop> SharedGroup<
         }
     }
 
-    // Selects in what the hint's lane has, where that is what the slot serves now.
-    fn select_in_lane<W: Wait, F: Fn(&Backend, bool) -> bool>(
-        &self,
-        rt: &W,
-        alloc: Global,
-        slot: usize,
-        hint: u64,
-        key: &[u8],
-        max_iterations: usize,
-        accept: &F,
-    ) -> Option<Result<Option<Backend>, Refusal>>
-        requires { F.IsAlwaysCallable accept.now }
-        ensures { IfSome result (SelectedFrom R.gives (λ b ready a. Answers F.Fn accept.now b ready a) max_iterations S.walks key.now
-            self.now slot) }
-    {
-        let seen = self.seen_in_lane(rt, slot, hint)?;
-        let answer = match self.entry_in(&seen) {
-            Some(entry) => self.select_kept(rt, alloc, slot, entry, key, max_iterations, accept),
-            None => None,
-        };
-        self.end_reading(rt, seen);
-        answer
-    }
-
     // What a lane has.
     fn entry_in<'s>(&self, seen: &'s Seen<'_, Entry<S, R, C>>) -> Option<&'s Entry<S, R, C>>
         requires { seen.now.hand.tag ≡ self.now }
-        ensures { IfSome result (λ e. IsKeptFor R.gives self.now e.now.slot e.now.reader e.now.found) }
+        ensures { IfSome result (λ e. IsKeptFor self.now e.now.slot e.now.reader e.now.found) }
     {
         seen.value()
-    }
-
-    // Selects in what was entered, where it is of this slot.
-    fn select_kept<W: Wait, F: Fn(&Backend, bool) -> bool>(
-        &self,
-        rt: &W,
-        alloc: Global,
-        slot: usize,
-        entry: &Entry<S, R, C>,
-        key: &[u8],
-        max_iterations: usize,
-        accept: &F,
-    ) -> Option<Result<Option<Backend>, Refusal>>
-        requires accept { F.IsAlwaysCallable accept.now }
-        requires kept { IsKeptFor R.gives self.now entry.now.slot entry.now.reader entry.now.found }
-        ensures { IfSome result (SelectedFrom R.gives (λ b ready a. Answers F.Fn accept.now b ready a) max_iterations S.walks key.now
-            self.now slot) }
-    {
-        if entry.slot != slot {
-            return None;
-        }
-        Some(self.select_for(rt, alloc, entry, key, max_iterations, accept))
     }
 
     // Selects in what was entered.
@@ -118,13 +118,13 @@ impl<S: BackendSelection, R: KeyRule + Drop, C: HealthCheck + Drop> SharedGroup<
         accept: &F,
     ) -> Result<Option<Backend>, Refusal>
         requires accept { F.IsAlwaysCallable accept.now }
-        requires kept { IsKeptFor R.gives self.now entry.now.slot entry.now.reader entry.now.found }
+        requires kept { IsKeptFor self.now entry.now.slot entry.now.reader entry.now.found }
         ensures { SelectsByAny (AnswersUnder R.gives (λ b ready a. Answers F.Fn accept.now b ready a) self.now entry.now.reader)
             max_iterations (S.walks entry.now.reader.members entry.now.reader.config key.now) result }
     {
         let judged = |backend: &Backend| -> bool
             requires accept { F.IsAlwaysCallable accept.now }
-            requires kept { IsKeptFor R.gives self.now entry.now.slot entry.now.reader entry.now.found }
+            requires kept { IsKeptFor self.now entry.now.slot entry.now.reader entry.now.found }
             ensures { AnswersUnder R.gives (λ b ready a. Answers F.Fn accept.entry.now b ready a) self.entry.now entry.entry.now.reader
                 backend.entry.now result }
         { accept(backend, self.judge(rt, entry, backend)) };

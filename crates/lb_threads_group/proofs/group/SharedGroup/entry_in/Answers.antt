@@ -5,4 +5,4 @@ use Rattle.lb_threads_group.proofs.group.SharedGroup.entry_in.Goals as goal
 
 pub returns : goal.returns
 returns g c =
-    subst (λ v. IfSome c.value.result (λ e. IsKeptFor g.R.KeyRule.gives v e.now.slot e.now.reader e.now.found)) c.requires c.value.ensures
+    subst (λ v. IfSome c.value.result (λ e. IsKeptFor v e.now.slot e.now.reader e.now.found)) c.requires c.value.ensures

@@ -1,7 +1,7 @@
 -- A reader entered and selects, or none entered.
 use Rattle.std.proofs.Common.{Ok, Err, subst}
 use Rattle.lb_threads_group.specs.Group.{EnteredUnder}
-use Rattle.lb_threads_group.proofs.group.SharedGroup.select_with.Goals as goal
+use Rattle.lb_threads_group.proofs.group.SharedGroup.select_entering.Goals as goal
 
 pub returns-in-Ok : goal.returns-in-Ok
 returns-in-Ok g c =
