@@ -4,6 +4,7 @@ import contextlib
 import json
 import os
 import re
+import resource
 import socket
 import subprocess
 import sys
@@ -16,6 +17,10 @@ PROGRAM = sys.argv[1:]
 LBSIM = os.environ.get("LBSIM") or os.path.join(os.path.dirname(os.path.realpath(__file__)), "..", "lbsim")
 ROOM = tempfile.mkdtemp()
 COUNTS = collections.Counter()
+
+# 1,000 connections at once have two ends here each, and two in the proxy.
+MOST_FILES = resource.getrlimit(resource.RLIMIT_NOFILE)[1]
+resource.setrlimit(resource.RLIMIT_NOFILE, (MOST_FILES, MOST_FILES))
 
 
 def case(work):
@@ -79,6 +84,17 @@ class Backend:
     @property
     def address(self):
         return f"127.0.0.1:{self.port}"
+
+
+# A program that gives each connection the head of an answer of a million bytes, and the first of them.
+HALF = r"""
+import socket, sys
+server = socket.create_server(("127.0.0.1", int(sys.argv[1])))
+peers = []
+while True:
+    peers.append(server.accept()[0])
+    peers[-1].sendall(b"HTTP/1.1 200 OK\r\nContent-Length: 1000000\r\n\r\n" + b"x" * 100000)
+"""
 
 
 class Proxy:
@@ -280,8 +296,8 @@ pool = "empty"
 
 
 def weights_in_turn():
-    counts = collections.Counter(named(RR) for _ in range(500))
-    expect(counts == {"a": 100, "b": 300, "c": 100}, counts)
+    counts = collections.Counter(named(RR) for _ in range(600))
+    expect(counts == {"a": 120, "b": 360, "c": 120}, counts)
 
 
 def one_client_stays_at_one_backend():
@@ -349,14 +365,52 @@ def a_slow_reader_holds_the_sender():
 
 
 def many_at_once():
-    peers = [connect(RR) for _ in range(400)]
+    peers = [connect(RR) for _ in range(1000)]
     names = collections.Counter(peer.makefile("rb").readline().decode().strip() for peer in peers)
     for peer in peers:
         peer.sendall(b"hello\n")
     answered = sum(peer.makefile("rb").readline() == b"hello\n" for peer in peers)
+    memory = resident(PROXY)
     for peer in peers:
         peer.close()
-    expect(answered == 400 and sum(names.values()) == 400 and set(names) == {"a", "b", "c"}, (answered, names))
+    expect(answered == 1000 and names == {"a": 200, "b": 600, "c": 200}, (answered, names))
+    expect(memory < 100_000, f"{memory} KiB of memory for 1,000 connections")
+
+
+def resident(proxy):
+    """The memory of the proxy in KiB."""
+    with open(f"/proc/{proxy.process.pid}/status", encoding="utf-8") as file:
+        return int(re.search(r"VmRSS:\s*(\d+)", file.read()).group(1))
+
+
+def a_backend_stops_under_load():
+    failed, names, ends = [], [], threading.Event()
+
+    def work():
+        while not ends.is_set():
+            name = named(RR)
+            names.append(name)
+            if not name:
+                failed.append(time.monotonic())
+
+    workers = [threading.Thread(target=work) for _ in range(4)]
+    for worker in workers:
+        worker.start()
+    time.sleep(0.3)
+    stopped = time.monotonic()
+    C.stop()
+    # The check fails once within its time from one pass to the next, and a connection that is refused takes no time.
+    wait_until(lambda: not ready(C), "it stays ready", 0.2 + 0.5 + 1.0)
+    time.sleep(0.3)
+    C.start()
+    wait_until(lambda: ready(C), "it isn't ready again", 0.2 + 0.5 + 1.0)
+    wait_until(lambda: "c" in names[-20:], "nothing goes to it again", 5)
+    ends.set()
+    for worker in workers:
+        worker.join()
+    # Only those that were under way to it when it stopped may have failed: its queue is cut with it.
+    late = [at - stopped for at in failed if at - stopped > 0.5]
+    expect(not late and len(failed) <= len(workers), f"{len(failed)} failed, after {late} seconds")
 
 
 def a_stopped_backend_is_passed_over():
@@ -386,6 +440,35 @@ def a_cut_backend_cuts_the_client():
             pass
 
 
+def a_killed_backend_gives_no_whole_answer():
+    port, backend = free_port(), free_port()
+    proxy = Proxy(pools([("p", f"127.0.0.1:{backend}", "", port)]))
+    with subprocess.Popen([sys.executable, "-c", HALF, str(backend)]) as server:
+        try:
+            wait_until(lambda: not refused(port) and not refused(backend), "it doesn't run")
+            with connect(port) as peer:
+                got = 0
+                while got < 100_000:
+                    got += len(peer.recv(65536))
+                server.kill()
+                with contextlib.suppress(ConnectionResetError):
+                    while more := len(peer.recv(65536)):
+                        got += more
+        finally:
+            server.kill()
+    proxy.end()
+    expect(100_000 <= got < 200_000, f"{got} bytes came")
+
+
+def pools(entries):
+    """A configuration of pools: a name, a backend, other lines of the pool, and the port of its listener."""
+    return "".join(
+        f'[[pool]]\nname = "{name}"\nbackends = ["{backend}"]\n{lines}\n'
+        f'[[listen]]\naddress = "127.0.0.1:{port}"\npool = "{name}"\n'
+        for name, backend, lines, port in entries
+    )
+
+
 def no_backend_closes_the_connection():
     expect(named(EMPTY) == "", "somebody answered")
     wait_until(lambda: "pool empty: no ready backend" in PROXY.log(), "it isn't logged")
@@ -395,8 +478,14 @@ def no_backend_closes_the_connection():
 
 def a_file_is_read_again():
     expect(named(FILED) == "a", "the first file isn't used")
+    kept = connect(FILED)
+    reader = kept.makefile("rb")
+    reader.readline()
     write_pool(f"# two\n!{A.address}\n{C.address}/2\n")
     wait_until(lambda: named(FILED) == "c", "the second file isn't used")
+    with kept:
+        kept.sendall(b"still\n")
+        expect(reader.readline() == b"still\n", "a connection to a disabled backend was cut")
     write_pool("nonsense\n")
     wait_until(lambda: "line 1: no address" in PROXY.log(), "the fault isn't logged")
     expect(named(FILED) == "c", "the wrong file changed the pool")
@@ -409,6 +498,13 @@ def a_file_is_read_again():
     expect(named(FILED) == "c", "the missing file changed the pool")
     write_pool(f"{B.address}\n")
     wait_until(lambda: named(FILED) == "b", "the third file isn't used")
+    with connect(FILED) as kept:
+        reader = kept.makefile("rb")
+        reader.readline()
+        write_pool(f"{C.address}\n")
+        wait_until(lambda: named(FILED) == "c", "the fourth file isn't used")
+        kept.sendall(b"still\n")
+        expect(reader.readline() == b"still\n", "a connection to a backend that left was cut")
 
 
 def the_page_shows_the_pools():
@@ -524,7 +620,9 @@ try:
         a_slow_reader_holds_the_sender,
         many_at_once,
         a_stopped_backend_is_passed_over,
+        a_backend_stops_under_load,
         a_cut_backend_cuts_the_client,
+        a_killed_backend_gives_no_whole_answer,
         no_backend_closes_the_connection,
         a_file_is_read_again,
         the_page_shows_the_pools,
