@@ -86,6 +86,19 @@ class Backend:
         return f"127.0.0.1:{self.port}"
 
 
+class Answering(Backend):
+    """Answers each request with its status."""
+
+    def __init__(self, name, status):
+        self.status = status
+        super().__init__(name)
+
+    def echo(self, peer):
+        with contextlib.suppress(OSError), peer:
+            while peer.recv(65536):
+                peer.sendall(f"HTTP/1.1 {self.status} Said\r\nContent-Length: 0\r\n\r\n".encode())
+
+
 # A program that gives each connection the head of an answer of a million bytes, and the first of them.
 HALF = r"""
 import socket, sys
@@ -216,6 +229,17 @@ FAULTS = [
     ("no page", GOOD + '[status]\n', "line 7, column 1: [status]: listen is missing"),
     ("check is no table", "check = 1\n" + GOOD, "line 1, column 1: top: check is to be a table"),
     ("pool is no list", 'pool = "p"\n', "line 1, column 1: top: pool is to be a list"),
+    (
+        "a pool's check",
+        GOOD.replace('name = "p"', 'name = "p"\ncheck = { kind = "http", rise = -1 }'),
+        "line 3, column 1: [[pool]] number 1, check: rise is to be a number from 0 on",
+    ),
+    (
+        "a pool's check has a name that isn't known",
+        GOOD.replace("[[listen]]", '[pool.check]\nkind = "tcp"\n  rises = 1\n[[listen]]'),
+        "line 6, column 3: [[pool]] number 1, check: rises isn't known",
+    ),
+    ("a pool's check is no table", GOOD.replace('name = "p"', 'name = "p"\ncheck = "tcp"'), "line 3, column 1: [[pool]] number 1: check is to be a table"),
     ("pool is no table", "pool = [1]\n", "line 1, column 1: top: pool is to be a list of tables"),
 ]
 
@@ -469,6 +493,43 @@ def pools(entries):
     )
 
 
+def a_pool_has_a_check_of_its_own():
+    said = Answering("said", 500)
+    page, *ports = (free_port() for _ in range(4))
+    every = 'every = "100ms", timeout = "500ms"'
+    proxy = Proxy(
+        f'[status]\nlisten = "127.0.0.1:{page}"\n[check]\nkind = "http"\nevery = "100ms"\n'
+        + pools([
+            ("connected", said.address, f"check = {{ {every} }}", ports[0]),
+            ("asked", said.address, f'[pool.check]\nkind = "http"\npath = "/health"\nevery = "100ms"', ports[1]),
+            ("as-all", said.address, "", ports[2]),
+        ])
+    )
+
+    def states():
+        return {p["name"]: p["backends"][0]["ready"] for p in json.loads(fetch(page, "/status.json")[1])["pools"]}
+
+    wait_until(lambda: states() == {"connected": True, "asked": False, "as-all": False}, "another state than by the checks")
+    time.sleep(0.5)
+    expect(states() == {"connected": True, "asked": False, "as-all": False}, states())
+    expect(served(ports[0]) and not served(ports[1]) and not served(ports[2]), "another pool serves")
+    said.status = 200
+    wait_until(lambda: all(states().values()), "not ready once it answers 200")
+    expect(served(ports[1]) and served(ports[2]), "a ready pool doesn't serve")
+    said.stop()
+    wait_until(lambda: not any(states().values()), "ready once it is gone")
+    proxy.end()
+
+
+def served(port):
+    """Whether a request gets an answer."""
+    with connect(port) as peer:
+        with contextlib.suppress(OSError):
+            peer.sendall(b"GET / HTTP/1.1\r\n\r\n")
+            return peer.recv(100).startswith(b"HTTP/1.1")
+    return False
+
+
 def no_backend_closes_the_connection():
     expect(named(EMPTY) == "", "somebody answered")
     wait_until(lambda: "pool empty: no ready backend" in PROXY.log(), "it isn't logged")
@@ -623,6 +684,7 @@ try:
         a_backend_stops_under_load,
         a_cut_backend_cuts_the_client,
         a_killed_backend_gives_no_whole_answer,
+        a_pool_has_a_check_of_its_own,
         no_backend_closes_the_connection,
         a_file_is_read_again,
         the_page_shows_the_pools,

@@ -1,5 +1,6 @@
 pub mod AttemptsLemmas
 pub mod ConfigLemmas
+pub mod FieldLemmas
 pub mod FlowLemmas
 pub mod MetricsLemmas
 pub mod PoolFileLemmas
