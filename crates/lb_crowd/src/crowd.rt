@@ -159,11 +159,11 @@ impl<W: Wait + Clock + Copy + Drop> Crowd<W> {
 }
 
 // What groups leave whose handles are gone.
-fn left<W: Wait + Clock + Copy + Drop>(
+fn left<S: BackendSelection, R: KeyRule + Drop, C: HealthCheck + Drop, W: Wait + Clock>(
     rt: &W,
     alloc: Global,
     site: &Site<W>,
-    shared: [Arc<Group<W>>; 2],
+    shared: [Arc<SharedGroup<S, R, C>>; 2],
     turns: u64,
 ) -> [bool; 6] {
     let [one, other] = shared;
