@@ -29,12 +29,22 @@ use std::marker::Model;
 /// A registry whose backends share cells by a rule: its views with their memberships, and the cells of their targets.
 ///
 /// Contracts see plain lists: the views, and what is stored of the cells. They are stated by the history of the registry's calls.
-#[derive(Drop)]
 pub struct Registry<R> {
     rule: R,
     views: Vec<View>,
     registered: u64,
     table: CellTable<Backend>,
+}
+
+impl<R: Drop> Drop for Registry<R> {
+    fn drop(self) {
+        let Registry {
+            rule: _,
+            views: _,
+            registered: _,
+            table: _,
+        } = self;
+    }
 }
 
 impl<R> Model for Registry<R> {

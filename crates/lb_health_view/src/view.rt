@@ -37,7 +37,6 @@ pub type Settings = BTreeMap<(SocketAddr, usize), bool>;
 
 /// A view: its membership in numbered generations from 0, which is empty. A snapshot of a generation lives while it is the
 /// current one or held, and a backend has a flag while a living snapshot lists it.
-#[derive(Drop)]
 pub struct ViewCore {
     id: u64,
     current: ViewSnapshot,
@@ -46,6 +45,18 @@ pub struct ViewCore {
     flags: BTreeMap<Backend, bool>,
     // Whether a flag may be disabled: while none was, no flag is looked up.
     disabled: bool,
+}
+
+impl Drop for ViewCore {
+    fn drop(self) {
+        let ViewCore {
+            id: _,
+            current: _,
+            earlier: _,
+            flags: _,
+            disabled: _,
+        } = self;
+    }
 }
 
 impl Model for ViewCore {

@@ -35,10 +35,15 @@ impl Model for Permit {
 /// A gate. It is free, or its permit is out.
 ///
 /// Contracts see which gate it is, by a number that no other gate has, and whether its permit is out.
-#[derive(Drop)]
 pub struct GateCore {
     table: Table<(), GateMark, (), OneWriter, Global>,
     home: Option<Seat<(), GateMark>>,
+}
+
+impl Drop for GateCore {
+    fn drop(self) {
+        let GateCore { table: _, home: _ } = self;
+    }
 }
 
 impl Model for GateCore {

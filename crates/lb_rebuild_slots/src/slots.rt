@@ -46,7 +46,6 @@ use std::sync::Arc;
 ///
 /// Contracts see a record that is a function of the group's history; some history explains every group. A group that is dropped with a
 /// retired selector in it keeps the permit of that selector for good.
-#[derive(Drop)]
 pub struct Slots<S: BackendSelection> {
     identity: Identity,
     gate: Snapshot<GateCore>,
@@ -55,6 +54,20 @@ pub struct Slots<S: BackendSelection> {
     scheduled: u128,
     cancelled: bool,
     slots: Vec<Slot<S>>,
+}
+
+impl<S: BackendSelection> Drop for Slots<S> {
+    fn drop(self) {
+        let Slots {
+            identity: _,
+            gate: _,
+            newest: _,
+            current: _,
+            scheduled: _,
+            cancelled: _,
+            slots: _,
+        } = self;
+    }
 }
 
 impl<S: BackendSelection> Model for Slots<S> {
