@@ -168,7 +168,6 @@ impl<
     {
         let shared = Arc::new(alloc, HealthRegistry::over(alloc, registry)?)?;
         let owner = owned(rt, alloc, &*shared, serving.view_id())?;
-        owner.keep(serving.generation());
         let places = places_over(rt, alloc, &*shared, serving, &None)?;
         Ok(Balancing::behind(discovery, None, shared, owner, places, Some(timing)))
     }
@@ -340,10 +339,7 @@ impl<
             .value
             .renew(alloc, &mut cells.value, members, settings, built);
         let unshown = match answer {
-            Ok(()) => {
-                self.view.keep(held.value.generation());
-                self.exchange(rt, alloc, &held.value, &cells.value)
-            }
+            Ok(()) => self.exchange(rt, alloc, &held.value, &cells.value),
             Err(_) => None,
         };
         registries.put(cells);

@@ -39,7 +39,8 @@ use std::sync::{Arc, Mutex, Wait};
 /// A group of slots, each of which serves a selector of its own. Its frequencies are set before threads share it.
 ///
 /// Its drop takes no lock and no memory: its workers cancel it at their next turn, let a build that runs end, destroy what their slots
-/// retired and end; the next call of the registry removes its view, so that its backends are checked no longer.
+/// retired and end; the next call of the registry removes its view, so that its backends are checked no longer, and the cells that the view
+/// alone keeps.
 pub struct LoadBalancerGroup<
     S: BackendSelection,
     D: Drop = BoxedDiscovery,
@@ -265,7 +266,7 @@ impl<
 
     /// Returns the group itself, for threads that hold it beyond a borrow or take its workers' turns.
     ///
-    /// It is cancelled with this handle.
+    /// It is cancelled with this handle, and a backend whose cell no other view keeps isn't ready in it from then on.
     pub fn shared(&self) -> &Arc<SharedGroup<Configured<S>, R, C>>
         ensures { result.now ≡ self.now.shared }
     {

@@ -1,7 +1,8 @@
 //! A soak: `soak [SECONDS]`, ten seconds without the number. Round after round four groups on two gates and over two registries are made,
 //! updated, checked, flagged and selected from by threads, and then cancelled or dropped. It ends well where no answer was wrong, every
 //! permit came back and no thread stays; where groups in which nothing happens take less than a hundredth of a processor for ten seconds;
-//! and, after two minutes or more, where little more is resident than was after one minute. A line each minute shows that it goes on.
+//! and, after two minutes or more, where at most a twentieth more is resident than was after one minute. A line each minute shows that it
+//! goes on.
 use crate::passes::pass;
 use crate::process::{Process, resident};
 use crate::soak_groups::{Flips, Groups, Registry, Site, settles, starts, stir};
@@ -33,10 +34,6 @@ const MINUTE: u64 = 60;
 const IDLE: u64 = 10;
 
 const IDLE_TICKS: u64 = 10;
-
-// How much more may be resident than after a minute, in KiB, or a twentieth where that is more: the C library's allocator comes to touch
-// what it has reserved only in the course of minutes.
-const SLACK: u64 = 1024;
 
 // What went wrong.
 #[derive(Clone, Copy, Debug, PartialEq, Eq, thiserror::Error)]
@@ -308,7 +305,7 @@ fn soaked<
         return Ok(());
     }
     let before = done.after_a_minute;
-    if at_the_end > before.saturating_add(SLACK.max(before / 20)) {
+    if at_the_end > before.saturating_add(before / 20) {
         Err(Fault::Grown(before, at_the_end))?;
     }
     println!(rt; "resident: {before} KiB after a minute, {at_the_end} at the end")?;

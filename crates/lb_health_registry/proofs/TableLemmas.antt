@@ -10,10 +10,10 @@ use Rattle.std.proofs.lemmas.Option.{same_Some}
 use Rattle.std.specs.declared.cmp.Ordering.{Ordering}
 use Rattle.std.specs.BTreeMap.{is_at}
 use Rattle.std.specs.Cmp.{IsTotalOrder, eq_by_cmp_equiv, nat_cmp_total, unsigned_tied}
-use Rattle.std.specs.List.{list_any, IsDistinct}
+use Rattle.std.specs.List.{find, list_any, IsDistinct}
 use Rattle.std.specs.List.Sorted.{IsStrictlySortedBy}
 use Rattle.std.specs.Map.{keys_of, lookup}
-use Rattle.std.specs.Option.{IsSomeAnd, is_some}
+use Rattle.std.specs.Option.{IsSomeAnd, is_some, option_map}
 use Rattle.std.specs.Ordering.{eq_by_cmp, nat_cmp}
 use Rattle.std.proofs.lemmas.Bool.{cases_lt}
 use borrow.Author.Tests.{eqb-true, eq-eqb, ne_eqb, lt-ltb, le-ltb}
@@ -106,6 +106,21 @@ pub any_holds :
     hs
 any_holds c [] = refl
 any_holds c (h ∷ hs) = ap (λ b. list_any (eq_by_cmp nat_cmp c) h.cells.keys || b) (any_holds c hs)
+
+pub oldest_holds :
+    (view : ℕ) (hs : List declared.Held)
+    → option_map (λ h. h.generation) (find (λ h. h.view == view) (map hold_of hs))
+    ≡ option_map (λ h. h.generation) (find (λ h. h.view == view) hs)
+oldest_holds view [] = refl
+oldest_holds view (h ∷ hs) = first_by (h.view == view) (oldest_holds view hs) where
+  first_by :
+      (b : Bool)
+      → option_map (λ s. s.generation) (find (λ s. s.view == view) (map hold_of hs))
+      ≡ option_map (λ s. s.generation) (find (λ s. s.view == view) hs)
+      → option_map (λ s. s.generation) (cond b (Some (hold_of h)) (find (λ s. s.view == view) (map hold_of hs)))
+      ≡ option_map (λ s. s.generation) (cond b (Some h) (find (λ s. s.view == view) hs))
+  first_by true ih = refl
+  first_by false ih = ih
 
 -- a clause of a refused call holds whatever it was refused for
 pub refused_for : {A E : Type 0} {P : Type 0} (r : Result A E) → P → OnErr r P

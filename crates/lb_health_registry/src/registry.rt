@@ -1,8 +1,9 @@
 //! The registry of health: its views, and the cells that their targets share by health key. Contracts describe it by the history of its
 //! calls, newest first; a refused call leaves each history as it was, and applies no mark.
 ghost use Rattle.std.specs.Prelude.{◌≡◌, ◌≢◌, ◌↔◌, ◌+◌, ◌<◌, ◌≤◌, ◌^◌, ℕ, List, [], ◌∷◌, length, true, false, IsTrue, IfOk};
-ghost use Rattle.std.specs.Prelude.{OnOk, OnErr, IsOk, IsErrOf, Err, ◌++◌, vec_len, vec_capacity};
-ghost use Rattle.std.specs.List.{filter_map};
+ghost use Rattle.std.specs.Prelude.{OnOk, OnErr, IsOk, IsErrOf, Err, ◌++◌, ◌==◌, vec_len, vec_capacity};
+ghost use Rattle.std.specs.List.{filter_map, find};
+ghost use Rattle.std.specs.Option.{option_map};
 ghost use Rattle.lb_select_base.specs.Backends.{Member, member_cmp, same_member};
 ghost use Rattle.lb_health_registry.specs.Fresh.{has_key};
 ghost use Rattle.lb_health_registry.specs.Keys.{by_identity, by_address, IsRuleOf};
@@ -309,6 +310,16 @@ impl<R: KeyRule + Drop> Registry<R> {
             → IsRegistryAfter R.gives key_of (Released id generation ∷ events) self.new }
     {
         self.table.release(id, generation);
+    }
+
+    /// Returns the generation of a view's oldest live snapshot, or `None` where it has none: once each is released, the view keeps no cell
+    /// but those of its targets.
+    ///
+    /// It takes no memory.
+    pub fn held_generation(&self, id: u64) -> Option<u64>
+        ensures { result ≡ option_map (λ h. h.generation) (find (λ h. h.view == id) self.now.table.held) }
+    {
+        self.table.held_generation(id)
     }
 
     /// Marks a view for removal: the next call that applies marks removes it.

@@ -1,9 +1,10 @@
 //! The table of cells: the health of each cell that is kept, the numbers of the targets' cells, and the live snapshots that
 //! keep cells of targets that are gone.
-ghost use Rattle.std.specs.Prelude.{◌≡◌, ◌≢◌, ◌↔◌, ◌<◌, ◌≤◌, ◌^◌, ℕ, List, [], ◌∷◌, Bool, true, IsTrue, IfOk, OnOk, OnErr, IsOk};
+ghost use Rattle.std.specs.Prelude.{◌≡◌, ◌≢◌, ◌↔◌, ◌<◌, ◌≤◌, ◌^◌, ◌==◌, ℕ, List, [], ◌∷◌, Bool, true, IsTrue, IfOk, OnOk, OnErr, IsOk};
 ghost use Rattle.std.specs.Prelude.{IsErrOf, IsSome, Err, MatchOption, map, vec_len, vec_capacity};
 ghost use Rattle.std.specs.Ordering.{eq_by_cmp, nat_cmp};
-ghost use Rattle.std.specs.List.{list_any};
+ghost use Rattle.std.specs.List.{find, list_any};
+ghost use Rattle.std.specs.Option.{option_map};
 ghost use Rattle.lb_health_registry.specs.CellEvents.{CellEvent, Changed, Observed, Held as HeldNow, Released, Configured, verdicts_of};
 ghost use Rattle.lb_health_registry.specs.CellEvents.{start_of, health_of, given_after, IsKept};
 ghost use Rattle.lb_health_registry.specs.Internal.Changing.{left_of, IsStarted, is_cell, keeps_cell};
@@ -49,6 +50,15 @@ fn has_cell(held: &[Held], cell: u64) -> bool
     ensures { result ≡ list_any (λ h. list_any (eq_by_cmp nat_cmp cell) h.cells.keys) held.now }
 {
     held.iter().any(|snapshot| snapshot.cells.contains(&cell))
+}
+
+// The generation of a view's oldest snapshot.
+#[tactic(auto, using(crate::proofs::TableLemmas::oldest_holds))]
+fn oldest_of(held: &[Held], view: u64) -> Option<u64>
+    ensures { result ≡ option_map (λ h. h.generation) (find (λ h. h.view == view) (map hold_of held.now)) }
+{
+    let oldest = held.iter().find(|snapshot| snapshot.view == view);
+    oldest.map(|snapshot| snapshot.generation)
 }
 
 // Whether it is this number.
@@ -242,6 +252,13 @@ impl<K: HealthKey> CellTable<K> {
     {
         self.held.retain(|held| !(held.view == view && held.generation == generation));
         self.prune();
+    }
+
+    // The generation of a view's oldest live snapshot, where it has one.
+    pub(crate) fn held_generation(&self, view: u64) -> Option<u64>
+        ensures { result ≡ option_map (λ h. h.generation) (find (λ h. h.view == view) (table_value self.now).held) }
+    {
+        oldest_of(&self.held, view)
     }
 
     // Forgets the cells that aren't kept. It takes no memory.

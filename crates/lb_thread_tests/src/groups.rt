@@ -21,6 +21,9 @@ use std::time::Clock;
 // How often the polls of these tests look, each ten milliseconds apart.
 const TURNS: u64 = 1000;
 
+// More cells than all cases together start: each update to another membership starts one.
+const CELLS: u64 = 1000;
+
 // The cases, each as the function of its name tells it.
 #[derive(Clone, Copy, Debug)]
 enum Row {
@@ -70,7 +73,18 @@ fn play<W: Abort + Log + Threads + Wait + Clock + Copy + Send + Sync + Drop + 's
     }
 }
 
-// Plays a case, drops both handles then, and looks at what the groups leave.
+// How many cells are kept and healthy, of those that there can be.
+fn kept<W: Wait>(rt: &W, registry: &Registry) -> u64 {
+    let mut kept: u64 = 0;
+    for cell in 0..CELLS {
+        if registry.cell_ready(rt, cell) {
+            kept = kept.saturating_add(1);
+        }
+    }
+    kept
+}
+
+// Plays a case, drops both handles then, and looks at what the groups leave: the registry keeps no cell for them.
 fn played<W: Abort + Log + Threads + Wait + Clock + Copy + Send + Sync + Drop + 'static>(
     rt: &W,
     alloc: Global,
@@ -80,7 +94,7 @@ fn played<W: Abort + Log + Threads + Wait + Clock + Copy + Send + Sync + Drop + 
     let crowd = Crowd::new(*rt, alloc, registry).expect(rt, "refused");
     play(rt, alloc, &crowd, row);
     let left = crowd.leave(rt, alloc, TURNS).expect(rt, "refused");
-    assert_eq!(rt; left, [true; 6], "{row:?}");
+    assert_eq!(rt; (left, kept(rt, &**registry)), ([true; 6], 0), "{row:?}");
 }
 
 #[test]

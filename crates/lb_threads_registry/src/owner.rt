@@ -2,16 +2,14 @@
 //! and the registry looks at these notes when it is taken next.
 
 use std::sync::Arc;
+use std::sync::atomic::AtomicBool;
 use std::sync::atomic::Ordering::SeqCst;
-use std::sync::atomic::{AtomicBool, AtomicU64};
 
 // What the owner of a view and its registry share.
 #[derive(Drop)]
 pub(crate) struct ViewNote {
     // The number of the view.
     pub(crate) id: u64,
-    // The generation whose cells the view keeps.
-    pub(crate) generation: AtomicU64,
     // Whether the view's owner is gone.
     pub(crate) is_gone: AtomicBool,
 }
@@ -35,11 +33,6 @@ impl ViewOwner {
     /// Returns the number of the view.
     pub fn id(&self) -> u64 {
         self.note.id
-    }
-
-    /// Notes the generation whose cells the view keeps from now on; 0 until then.
-    pub fn keep(&self, generation: u64) {
-        self.note.generation.store(generation, SeqCst);
     }
 }
 

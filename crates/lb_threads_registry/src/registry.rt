@@ -142,8 +142,7 @@ impl<R: KeyRule + Drop, C: HealthCheck + Drop> HealthRegistry<R, C> {
 
     /// Returns the owner of a view of this registry, whose drop is noted without a lock.
     ///
-    /// After that drop the next call of the registry marks the view for removal, and releases the cells of the generation that the owner
-    /// named last.
+    /// After that drop the next call of the registry marks the view for removal, and releases the cells of each of its snapshots.
     ///
     /// # Errors
     ///
@@ -155,7 +154,6 @@ impl<R: KeyRule + Drop, C: HealthCheck + Drop> HealthRegistry<R, C> {
             alloc,
             ViewNote {
                 id,
-                generation: AtomicU64::new(0),
                 is_gone: AtomicBool::new(false),
             },
         )?;
@@ -336,7 +334,19 @@ fn remove_gone<R: KeyRule + Drop>(registry: &mut Registry<R>, notes: &mut Vec<Ar
             return;
         };
         registry.remove_view(view.id);
-        registry.release(view.id, view.generation.load(SeqCst));
+        release_all(registry, view.id);
+    }
+}
+
+// Releases each live snapshot of a view, so that the view keeps no cell for itself any more.
+fn release_all<R: KeyRule + Drop>(registry: &mut Registry<R>, id: u64)
+    ensures { IsRegistryOf R.gives registry.old registry.new }
+{
+    for _ in 0..u64::MAX {
+        let Some(generation) = registry.held_generation(id) else {
+            return;
+        };
+        registry.release(id, generation);
     }
 }
 

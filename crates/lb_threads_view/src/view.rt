@@ -222,7 +222,6 @@ impl<D: ServiceDiscovery + Drop, R: KeyRule + Drop, C: HealthCheck + Drop> Backe
         let registries: &HealthRegistry<R, C> = &*self.registry;
         let mut cells = registries.take(rt);
         let told = view.update(alloc, &mut cells.value, members, settings, |_members| ());
-        self.owner.keep(view.generation());
         registries.put(cells);
         match told {
             Ok(changed) => Ok(changed.is_some()),
