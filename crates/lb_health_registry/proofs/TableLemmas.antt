@@ -122,6 +122,15 @@ oldest_holds view (h ∷ hs) = first_by (h.view == view) (oldest_holds view hs) 
   first_by true ih = refl
   first_by false ih = ih
 
+pub oldest_shown :
+    (view : ℕ) (o : Option ℕ) (held hs : List declared.Held)
+    → held ≡ hs
+    → o ≡ option_map (λ h. h.generation) (find (λ h. h.view == view) held)
+    → o ≡ option_map (λ h. h.generation) (find (λ h. h.view == view) (map hold_of hs))
+oldest_shown view o held hs same is =
+    let T : List declared.Held → Type 0 = λ xs. o ≡ option_map (λ h. h.generation) (find (λ h. h.view == view) xs) in
+    subst T same is ∙ sym (oldest_holds view hs)
+
 -- a clause of a refused call holds whatever it was refused for
 pub refused_for : {A E : Type 0} {P : Type 0} (r : Result A E) → P → OnErr r P
 refused_for (Ok x) p = tt

@@ -53,9 +53,8 @@ fn has_cell(held: &[Held], cell: u64) -> bool
 }
 
 // The generation of a view's oldest snapshot.
-#[tactic(auto, using(crate::proofs::TableLemmas::oldest_holds))]
 fn oldest_of(held: &[Held], view: u64) -> Option<u64>
-    ensures { result ≡ option_map (λ h. h.generation) (find (λ h. h.view == view) (map hold_of held.now)) }
+    ensures { result ≡ option_map (λ h. h.generation) (find (λ h. h.view == view) held.now) }
 {
     let oldest = held.iter().find(|snapshot| snapshot.view == view);
     oldest.map(|snapshot| snapshot.generation)
