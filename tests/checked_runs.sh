@@ -1,8 +1,8 @@
 #!/bin/bash
 # Runs each test, each row and each program once as `rt try` builds it, with checks at run time: it stops at an index out of bounds, an
-# overflow, a failed `unwrap`, and, by the address sanitizer, at memory that is not the program's. lbsim and lbcheck are given the rows'
-# scripts and streams in `crates/lb_rows/data`. Nothing is proved. It takes the crates that are named, else all. A line for each, with its
-# seconds; the last line is 'N passed, M failed'.
+# overflow, a failed `unwrap`, and, by the address sanitizer, at memory that is not the program's. lb_rows runs each of its rows in a run of
+# its own, and lbsim and lbcheck are given the rows' scripts and streams in `crates/lb_rows/data`. Nothing is proved. It takes the crates
+# that are named, else all. A line for each, with its seconds; the last line is 'N passed, M failed'.
 set -euo pipefail
 shopt -s nullglob
 unset CDPATH
@@ -44,10 +44,10 @@ program() {
     count "$1" "$status"
 }
 
-# CRATE: its program is run on each case in the folder $room/cases, and each run ends as the case wants.
+# CRATE FLAG..: its program is run on each case in the folder $room/cases, and each run ends as the case wants.
 cases_of() {
     local status=0 wanted held
-    (cd "crates/$1" && rt try --seconds 1800 --cases "$room/cases") >"$room/said" 2>&1 </dev/null || true
+    (cd "crates/$1" && rt try --seconds 1800 --cases "$room/cases" "${@:2}") >"$room/said" 2>&1 </dev/null || true
     wanted=$(find "$room/cases" -name '*.stdout' | wc -l)
     held=$(grep -c '^case=.* run=ended .*output=expected' "$room/said" || true)
     [ "$wanted" -gt 0 ] && [ "$held" -eq "$wanted" ] || status=1
@@ -90,6 +90,24 @@ replays() {
     cases_of lbcheck
 }
 
+# lb_rows on the name of each of its rows; those that are run a step at a time are one case.
+rows() {
+    local number=0 line files=() file
+    rm -rf "$room/cases"
+    mkdir "$room/cases"
+    : >"$room/cases/steps"
+    echo 0 >"$room/cases/steps.args"
+    grep ', a step at a time: ' crates/lb_rows/stdout >"$room/cases/steps.stdout"
+    while read -r line; do
+        number=$((number + 1))
+        : >"$room/cases/row-$number"
+        echo "${line%: as it should be}" >"$room/cases/row-$number.args"
+        echo "$line" >"$room/cases/row-$number.stdout"
+    done < <(grep -v ', a step at a time: ' crates/lb_rows/stdout)
+    for file in crates/lb_rows/data/*; do files+=(--data "$(basename "$file")=data/$(basename "$file")"); done
+    cases_of lb_rows "${files[@]}"
+}
+
 names=("$@")
 if [ "$#" -eq 0 ]; then
     names=(lb_tests lb_thread_tests lb_rows lb_example lb_example_threads lb_example_groups lbsim lbcheck lb_cost)
@@ -103,6 +121,7 @@ for name in "${names[@]}"; do
         cases_of lbsim
         ;;
     lbcheck) replays ;;
+    lb_rows) rows ;;
     *) program "$name" ;;
     esac
 done

@@ -1,7 +1,7 @@
 //! Runs every worked row and compares what comes with the answers that the rules give: a line for each, and status 1 where one
 //! differs. The rows lie in data/ and in the tables: scripts, answers to a check, servers on the own loopback, passes of checks.
 //! Given a number, it makes so many requests for memory and then runs the scripts that are run a step at a time, alone; who refuses the
-//! program's Nth request refuses each of theirs by other numbers.
+//! program's Nth request refuses each of theirs by other numbers. Given another word, it runs the other rows of that name alone.
 #![tactic(auto)]
 
 mod answers;
@@ -36,19 +36,42 @@ fn report(rt: &impl Print, name: &str, agreed: io::Result<bool>) -> io::Result<b
     Ok(agreed)
 }
 
+// The name of the rows that are run; `None` runs all.
+type Only<'a> = Option<&'a str>;
+
+// Whether a row of this name is run.
+fn is_wanted(only: Only<'_>, name: &str) -> bool {
+    match only {
+        Some(wanted) => wanted == name,
+        None => true,
+    }
+}
+
 // Each of the functions below reports the rows of its table; the answer is whether all of them agreed.
-fn filed_script_rows<R: Files + Print + AllocGlobal>(rt: &R, names: &[&str]) -> io::Result<bool> {
+fn filed_script_rows<R: Files + Print + AllocGlobal>(
+    rt: &R,
+    only: Only<'_>,
+    names: &[&str],
+) -> io::Result<bool> {
     let mut all = true;
     for name in names {
-        all &= report(rt, name, scripts::filed_agrees(rt, name))?;
+        if is_wanted(only, name) {
+            all &= report(rt, name, scripts::filed_agrees(rt, name))?;
+        }
     }
     Ok(all)
 }
 
-fn made_script_rows<R: Print + AllocGlobal>(rt: &R, rows: &[MadeScript]) -> io::Result<bool> {
+fn made_script_rows<R: Print + AllocGlobal>(
+    rt: &R,
+    only: Only<'_>,
+    rows: &[MadeScript],
+) -> io::Result<bool> {
     let mut all = true;
     for row in rows {
-        all &= report(rt, row.name, scripts::made_agrees(rt.alloc(), row))?;
+        if is_wanted(only, row.name) {
+            all &= report(rt, row.name, scripts::made_agrees(rt.alloc(), row))?;
+        }
     }
     Ok(all)
 }
@@ -101,93 +124,120 @@ fn retried_calls<R: Print + AllocGlobal>(rt: &R) -> io::Result<bool> {
     Ok(all)
 }
 
-fn check_rows<R: Files + Print + AllocGlobal>(rt: &R, checks: &[Check]) -> io::Result<bool> {
+fn check_rows<R: Files + Print + AllocGlobal>(
+    rt: &R,
+    only: Only<'_>,
+    checks: &[Check],
+) -> io::Result<bool> {
     let mut all = true;
     for check in checks {
-        all &= named_check_rows(rt, check)?;
+        all &= named_check_rows(rt, only, check)?;
     }
     Ok(all)
 }
 
-fn named_check_rows<R: Files + Print + AllocGlobal>(rt: &R, check: &Check) -> io::Result<bool> {
+fn named_check_rows<R: Files + Print + AllocGlobal>(
+    rt: &R,
+    only: Only<'_>,
+    check: &Check,
+) -> io::Result<bool> {
     let mut all = true;
     for name in check.names {
-        all &= report(rt, name, answers::filed_agrees(rt, name, check.asked))?;
+        if is_wanted(only, name) {
+            all &= report(rt, name, answers::filed_agrees(rt, name, check.asked))?;
+        }
     }
     Ok(all)
 }
 
-fn cut_rows<R: Files + Print + AllocGlobal>(rt: &R, rows: &[Cut]) -> io::Result<bool> {
+fn cut_rows<R: Files + Print + AllocGlobal>(
+    rt: &R,
+    only: Only<'_>,
+    rows: &[Cut],
+) -> io::Result<bool> {
     let mut all = true;
     for row in rows {
-        all &= report(rt, row.name, answers::cut_agrees(rt, row))?;
+        if is_wanted(only, row.name) {
+            all &= report(rt, row.name, answers::cut_agrees(rt, row))?;
+        }
     }
     Ok(all)
 }
 
-fn made_stream_rows<R: Print + AllocGlobal>(rt: &R, rows: &[MadeStream]) -> io::Result<bool> {
+fn made_stream_rows<R: Print + AllocGlobal>(
+    rt: &R,
+    only: Only<'_>,
+    rows: &[MadeStream],
+) -> io::Result<bool> {
     let mut all = true;
     for row in rows {
-        all &= report(rt, row.name, answers::made_agrees(rt.alloc(), row))?;
+        if is_wanted(only, row.name) {
+            all &= report(rt, row.name, answers::made_agrees(rt.alloc(), row))?;
+        }
     }
     Ok(all)
 }
 
-fn server_rows<R>(rt: &R, rows: &[Server]) -> io::Result<bool>
+fn server_rows<R>(rt: &R, only: Only<'_>, rows: &[Server]) -> io::Result<bool>
 where
     R: Net<Listener = TcpListener, Stream = TcpStream>,
     R: Threads + Clock + Files + Sync + Print + AllocGlobal,
 {
     let mut all = true;
     for row in rows {
-        all &= report(rt, row.name, servers::agrees(rt, row))?;
+        if is_wanted(only, row.name) {
+            all &= report(rt, row.name, servers::agrees(rt, row))?;
+        }
     }
     Ok(all)
 }
 
-fn pass_rows<R>(rt: &R, rows: &[Pass]) -> io::Result<bool>
+fn pass_rows<R>(rt: &R, only: Only<'_>, rows: &[Pass]) -> io::Result<bool>
 where
     R: Net<Listener = TcpListener, Stream = TcpStream>,
     R: Threads + Clock + Print + AllocGlobal,
 {
     let mut all = true;
     for row in rows {
-        all &= report(rt, row.name, passes::agrees(rt, row))?;
+        if is_wanted(only, row.name) {
+            all &= report(rt, row.name, passes::agrees(rt, row))?;
+        }
     }
     Ok(all)
 }
 
-// Reports the rows that need no network.
-fn memory_rows<R: Files + Print + AllocGlobal>(rt: &R) -> io::Result<bool> {
-    let mut all = filed_script_rows(rt, SCRIPTS)?;
-    all &= retried_rows(rt, &RETRIED)?;
-    all &= made_script_rows(rt, &MADE_SCRIPTS)?;
-    all &= check_rows(rt, &CHECKS)?;
-    all &= cut_rows(rt, &CUTS)?;
-    all &= made_stream_rows(rt, &MADE_STREAMS)?;
+// Reports the rows that need no network. Those that are run a step at a time are run with all rows alone, or with a number.
+fn memory_rows<R: Files + Print + AllocGlobal>(rt: &R, only: Only<'_>) -> io::Result<bool> {
+    let mut all = filed_script_rows(rt, only, SCRIPTS)?;
+    if only.is_none() {
+        all &= retried_rows(rt, &RETRIED)?;
+    }
+    all &= made_script_rows(rt, only, &MADE_SCRIPTS)?;
+    all &= check_rows(rt, only, &CHECKS)?;
+    all &= cut_rows(rt, only, &CUTS)?;
+    all &= made_stream_rows(rt, only, &MADE_STREAMS)?;
     Ok(all)
 }
 
-// Reports every row.
-fn rows<R>(rt: &R) -> io::Result<bool>
+// Reports the rows of a name, or every row.
+fn rows<R>(rt: &R, only: Only<'_>) -> io::Result<bool>
 where
     R: Net<Listener = TcpListener, Stream = TcpStream>,
     R: Threads + Clock + Files + Sync + Print + AllocGlobal,
 {
-    let mut all = memory_rows(rt)?;
-    all &= server_rows(rt, &SERVERS)?;
-    all &= pass_rows(rt, &PASSES)?;
+    let mut all = memory_rows(rt, only)?;
+    all &= server_rows(rt, only, &SERVERS)?;
+    all &= pass_rows(rt, only, &PASSES)?;
     Ok(all)
 }
 
-// The number that the program was given; that is asked again where it fails.
-fn number_given<R: Env + AllocGlobal>(rt: &R) -> Option<usize> {
+// The word that the program was given; that is asked again where it fails.
+fn word_given<R: Env + AllocGlobal>(rt: &R) -> Option<String> {
     let mut words = match env::args(rt) {
         Ok(words) => words,
         Err(_) => env::args(rt).ok()?,
     };
-    let word = words.nth(1)?;
-    word.parse().ok()
+    words.nth(1)
 }
 
 // Runs the scripts that are run a step at a time, after so many requests for memory.
@@ -199,10 +249,22 @@ fn rows_after<R: Files + Print + AllocGlobal>(rt: &R, requests: usize) -> io::Re
     retried_rows(rt, &RETRIED)
 }
 
+// Runs what the word asks for.
+fn rows_of<R>(rt: &R, word: &str) -> io::Result<bool>
+where
+    R: Net<Listener = TcpListener, Stream = TcpStream>,
+    R: Threads + Clock + Files + Sync + Print + AllocGlobal,
+{
+    match word.parse() {
+        Ok(requests) => rows_after(rt, requests),
+        Err(_) => rows(rt, Some(word)),
+    }
+}
+
 fn main(rt: HostRuntime) -> ExitCode {
-    let agreed = match number_given(&rt) {
-        Some(requests) => rows_after(&rt, requests),
-        None => rows(&rt),
+    let agreed = match word_given(&rt) {
+        Some(word) => rows_of(&rt, word.as_str()),
+        None => rows(&rt, None),
     };
     match agreed {
         Ok(true) => ExitCode::from(0),
