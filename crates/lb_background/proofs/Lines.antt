@@ -4,7 +4,7 @@ use Rattle.atomic_table.specs.Table.{Me, Allows, keeps}
 use Rattle.atomic_table.proofs.Lists.{at_set}
 use Rattle.std.specs.List.{slice_index}
 use Rattle.lb_background.specs.declared.line_rule.SignalMark.{SignalMark}
-use Rattle.lb_background.specs.Lines.{SaysWord, sender}
+use Rattle.lb_background.specs.Internal.Lines.{SaysWord, sender}
 use Rattle.lb_background.specs.Signals.{event_of, told}
 
 stored : (words : List ℕ) (views : List SignalMark) (old new : ℕ) → SaysWord words views → words ≡ old ∷ []

@@ -1,10 +1,10 @@
 pub mod Driven
 pub mod History
+pub mod Internal
 pub mod Laws
 pub mod Runs
 pub mod Schedule
-pub mod Services
-pub mod Turns
 pub mod ServiceDriven
-pub mod Lines
+pub mod Services
 pub mod Signals
+pub mod Turns

@@ -1,7 +1,7 @@
 //! What the word of a line and the views of its seats keep true between any two steps.
 //! One seat at most is the sender's, and the word says what the sender stored last.
 ghost use Rattle.std.specs.Prelude.{◌≡◌, []};
-ghost use Rattle.lb_background.specs.Lines.{SaysWord, sender};
+ghost use Rattle.lb_background.specs.Internal.Lines.{SaysWord, sender};
 
 use atomic_table::{Play, TableRule};
 

@@ -43,7 +43,7 @@ impl Model for ShutdownSignal {
 
     ghost Value = { SignalValue };
 
-    ghost use Rattle.lb_background.specs.Lines.{sender};
+    ghost use Rattle.lb_background.specs.Internal.Lines.{sender};
 
     ghost view = { λ s. record { pair = s.seat.table_id; latest = s.seat.me.0.says == 1 } };
 

@@ -8,9 +8,9 @@ use Rattle.lb_select_base.specs.Backends.{Member}
 use Rattle.lb_select_base.specs.Memberships.{same_members}
 use Rattle.lb_select_base.specs.declared.refusal.Refusal.{Refusal}
 use Rattle.lb_select_base.specs.declared.refusal.Refusal.TheVariants.{GenerationsExhausted, NoSuch, NumbersExhausted, OutOfMemory}
-use Rattle.lb_health_registry.specs.Keys.{by_identity}
-use Rattle.lb_health_registry.specs.Registry.{IsGrowthRefusal}
-use Rattle.lb_health_registry.specs.RegistryEvents.{Updated, Applied, cells_given, has_view, shown_cells, views_after}
+use Rattle.lb_health_core.specs.Keys.{by_identity}
+use Rattle.lb_health_core.specs.Registry.{IsGrowthRefusal}
+use Rattle.lb_health_core.specs.RegistryEvents.{Updated, Applied, cells_given, has_view, shown_cells, views_after}
 use Rattle.lb_health_view.specs.RegistrySide.{view_updated}
 use Rattle.lb_health_view.specs.ViewEvents.{Shown, generation_after, membership_after}
 use Rattle.lb_health_view.specs.Views.{IsViewRefusal}

@@ -11,7 +11,7 @@ use Rattle.lb_select_base.specs.Selections.{IsAnswer, Selects}
 use Rattle.lb_select_base.specs.Unique.{distinct}
 use Rattle.lb_select_base.specs.declared.refusal.Refusal.{Refusal}
 use Rattle.lb_select_base.proofs.SelectionsSeen.{selects-more}
-use Rattle.lb_rebuild_group.specs.GroupCalls.{AcceptsBy}
+use Rattle.lb_rebuild_core.specs.GroupCalls.{AcceptsBy}
 use Rattle.lb_balancer.specs.Shown.{SelectsOf, AreUnready}
 
 -- of the words that were drawn it is forgotten where they came from

@@ -8,7 +8,7 @@ use Rattle.lb_select_base.specs.Memberships.{same_members}
 use Rattle.lb_select_base.specs.Refusals.{memory_apart}
 use Rattle.lb_select_base.specs.declared.refusal.Refusal.{Refusal}
 use Rattle.lb_select_base.specs.declared.refusal.Refusal.TheVariants as refusal
-use Rattle.lb_health_registry.specs.Keys.{by_identity}
+use Rattle.lb_health_core.specs.Keys.{by_identity}
 use Rattle.lb_health_view.specs.Lookups.{IsMadeOf}
 use Rattle.lb_balancer_core.specs.Balancer.{Took, update_cause}
 use Rattle.lb_balancer_core.specs.Texts.{IsTextsRefusal, one_view}

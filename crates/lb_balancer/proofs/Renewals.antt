@@ -1,14 +1,14 @@
 -- What a balancer does to its registry lengthens that's history.
 use Rattle.std.specs.Prelude.{Result, Ok, Err, OnOk, OnErr, List, ◌∷◌}
 use Rattle.lb_select_base.specs.Backends.{Member}
-use Rattle.lb_health_registry.specs.Registry.{RegistryValue, IsRegistryAfter}
-use Rattle.lb_health_registry.specs.RegistryEvents.{Event, Marked, Released}
+use Rattle.lb_health_core.specs.Registry.{RegistryValue, IsRegistryAfter}
+use Rattle.lb_health_core.specs.RegistryEvents.{Event, Marked, Released}
 use Rattle.lb_health_view.specs.Views.{IsFounded, IsViewAfter}
 use Rattle.lb_health_view.specs.RegistrySide.{registry_updated}
 use Rattle.lb_health_view.specs.Snapshots.{ViewValue}
 use Rattle.lb_health_view.specs.ViewEvents.{ViewEvent, generation_after}
-use Rattle.lb_threads_registry.specs.Registry.{Becomes, IsRegistryOf}
-use Rattle.lb_threads_registry.proofs.Histories.{changed, lengthened, no_more, one_more, stays}
+use Rattle.lb_threads_core.specs.Registry.{Becomes, IsRegistryOf}
+use Rattle.lb_threads_core.proofs.Histories.{changed, lengthened, no_more, one_more, stays}
 
 module _ {R : Type 0} {gives : R → Member → Member → Type 0} where
   -- another membership is shown, or refused

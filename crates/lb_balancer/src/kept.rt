@@ -3,14 +3,14 @@
 ghost use Rattle.std.specs.Prelude.{◌≡◌, IfErr, IfSome, OnOk};
 ghost use Rattle.std.specs.Arc.{arc_value};
 ghost use Rattle.lb_select_base.specs.Backends.{same_member};
-ghost use Rattle.lb_rebuild_group.specs.GroupCalls.{AcceptsBy};
+ghost use Rattle.lb_rebuild_core.specs.GroupCalls.{AcceptsBy};
 ghost use Rattle.lb_balancer.specs.Shown.{SelectsOf, ShownValue, is_up};
 
 use crate::balancing::Balancing;
 use crate::shown::Shown;
 use counted_slot::Fits;
-use lb_health_check::health_check::HealthCheck;
-use lb_health_registry::keys::KeyRule;
+use lb_health_core::health_check::HealthCheck;
+use lb_health_core::keys::KeyRule;
 use lb_health_view::discovery::ServiceDiscovery;
 use lb_select_base::backend::Backend;
 use lb_select_base::refusal::Refusal;

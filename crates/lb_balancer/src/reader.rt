@@ -1,14 +1,14 @@
 //! A balancer for one thread that selects all the time: it keeps what was served at its last selection.
 ghost use Rattle.std.specs.Prelude.{◌≡◌, ◌≤◌, IfErr, IfOk, OnOk};
 ghost use Rattle.std.specs.Arc.{arc_value};
-ghost use Rattle.lb_rebuild_group.specs.GroupCalls.{AcceptsBy};
+ghost use Rattle.lb_rebuild_core.specs.GroupCalls.{AcceptsBy};
 ghost use Rattle.lb_balancer.specs.Selections.{SelectsFrom};
 
 use crate::balancing::Balancing;
 use crate::load_balancer::LoadBalancer;
 use crate::shown::Shown;
-use lb_health_check::health_check::HealthCheck;
-use lb_health_registry::keys::KeyRule;
+use lb_health_core::health_check::HealthCheck;
+use lb_health_core::keys::KeyRule;
 use lb_health_view::discovery::ServiceDiscovery;
 use lb_select_base::backend::Backend;
 use lb_select_base::refusal::Refusal;

@@ -3,7 +3,7 @@ ghost use Rattle.std.specs.Prelude.{◌≡◌, ℕ, Bool, List, IfOk, IfErr, OnE
 ghost use Rattle.std.specs.Arc.{arc_value};
 ghost use Rattle.std.specs.List.{list_any};
 ghost use Rattle.lb_select_base.specs.Backends.{Member, same_member};
-ghost use Rattle.lb_rebuild_group.specs.GroupCalls.{AcceptsBy};
+ghost use Rattle.lb_rebuild_core.specs.GroupCalls.{AcceptsBy};
 ghost use Rattle.lb_balancer.specs.Shown.{SelectsOf, is_ready, is_up};
 
 use crate::words::LoadedWords;

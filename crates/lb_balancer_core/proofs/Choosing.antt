@@ -9,9 +9,9 @@ use Rattle.lb_select_base.specs.declared.refusal.Refusal.{Refusal}
 use Rattle.lb_select_base.proofs.SelectionsSeen.{selects-more}
 use Rattle.lb_health_view.specs.Snapshots.{ViewValue}
 use Rattle.lb_health_view.specs.Views.{IsViewAfter}
-use Rattle.lb_rebuild_group.specs.GroupCalls.{AcceptsBy}
-use Rattle.lb_health_registry.specs.Registry.{RegistryValue, IsRegistryAfter}
-use Rattle.lb_health_registry.specs.RegistryEvents as registry
+use Rattle.lb_rebuild_core.specs.GroupCalls.{AcceptsBy}
+use Rattle.lb_health_core.specs.Registry.{RegistryValue, IsRegistryAfter}
+use Rattle.lb_health_core.specs.RegistryEvents as registry
 use Rattle.lb_balancer_core.specs.Balancer.{History, IsJudged, Judges, view_events}
 
 module _ {R : Type 0} {gives : R → Member → Member → Type 0} {v : ViewValue} {r : RegistryValue R} {F : Type 0}

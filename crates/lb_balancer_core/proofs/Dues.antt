@@ -7,21 +7,21 @@ use Rattle.std.proofs.lemmas.Bool.{lt-ltb}
 use Rattle.lb_select_base.specs.Backends.{Member}
 use Rattle.lb_select_base.specs.declared.refusal.Refusal.{Refusal}
 use Rattle.lb_select_base.specs.declared.refusal.Refusal.TheVariants as refusal
-use Rattle.lb_rebuild_slots.specs.Gate.{GateValue}
-use Rattle.lb_rebuild_slots.specs.SlotsCalls.{IsJob, taken_refusal, publish_answer, publish_events}
-use Rattle.lb_rebuild_slots.specs.SlotsHistory as core
-use Rattle.lb_rebuild_slots.specs.SlotsHistory.{Granted, past_of, newest, served, extra, waits, is_extra, is_cancelled, is_flight}
-use Rattle.lb_rebuild_slots.specs.SlotsHistory.{all_failures, due_moment, ask_answer, AskAnswer, cancelled, building, up_to_date, not_due}
-use Rattle.lb_rebuild_slots.specs.SlotsHistory.{busy, job, Extra, nothing}
-use Rattle.lb_rebuild_slots.specs.Stands.{Made}
-use Rattle.lb_rebuild_slots.specs.Values.{Task, BuiltValue, RetiredValue, PermitValue}
-use Rattle.lb_rebuild_slots.specs.declared.answers.Ask.{Ask}
-use Rattle.lb_rebuild_slots.specs.declared.answers.Ask.TheVariants as asks
-use Rattle.lb_rebuild_slots.specs.declared.answers.Publication.{Publication}
-use Rattle.lb_rebuild_slots.specs.declared.answers.Publication.TheVariants as told
-use Rattle.lb_rebuild_slots.proofs.Pasts.{past-same, newest-past, cancelled-past, lt-false}
-use Rattle.lb_rebuild_group.specs.GroupHistory.{History, At, slot_events, in_group}
-use Rattle.lb_rebuild_group.specs.Stands.{GroupValue, Stands, After, Becomes}
+use Rattle.lb_rebuild_core.specs.Gate.{GateValue}
+use Rattle.lb_rebuild_core.specs.SlotsCalls.{IsJob, taken_refusal, publish_answer, publish_events}
+use Rattle.lb_rebuild_core.specs.SlotsHistory as core
+use Rattle.lb_rebuild_core.specs.SlotsHistory.{Granted, past_of, newest, served, extra, waits, is_extra, is_cancelled, is_flight}
+use Rattle.lb_rebuild_core.specs.SlotsHistory.{all_failures, due_moment, ask_answer, AskAnswer, cancelled, building, up_to_date, not_due}
+use Rattle.lb_rebuild_core.specs.SlotsHistory.{busy, job, Extra, nothing}
+use Rattle.lb_rebuild_core.specs.Stands.{Made}
+use Rattle.lb_rebuild_core.specs.Values.{Task, BuiltValue, RetiredValue, PermitValue}
+use Rattle.lb_rebuild_core.specs.declared.answers.Ask.{Ask}
+use Rattle.lb_rebuild_core.specs.declared.answers.Ask.TheVariants as asks
+use Rattle.lb_rebuild_core.specs.declared.answers.Publication.{Publication}
+use Rattle.lb_rebuild_core.specs.declared.answers.Publication.TheVariants as told
+use Rattle.lb_rebuild_core.proofs.Pasts.{past-same, newest-past, cancelled-past, lt-false}
+use Rattle.lb_rebuild_core.specs.GroupHistory.{History, At, slot_events, in_group}
+use Rattle.lb_rebuild_core.specs.GroupStates.{GroupValue, Stands, After, Becomes}
 use Rattle.lb_balancer_core.specs.Builds.{RefusedValue}
 use Rattle.lb_balancer_core.specs.Due.{IsDue, IsLate, EndsTurn}
 use Rattle.lb_balancer_core.specs.Plain.{IsTaken, IsAsked, IsPublished}

@@ -3,16 +3,16 @@ use Rattle.std.specs.Prelude.{◌≡◌, ◌+◌, ℕ, Bool, true, false, nat_lt
 use Rattle.std.proofs.Common.{sym, subst, arith}
 use Rattle.std.proofs.lemmas.Bool.{lt-ltb, eq-eqb}
 use Rattle.lb_select_base.specs.declared.refusal.Refusal.{Refusal}
-use Rattle.lb_rebuild_slots.specs.SlotsCalls.{IsOwnJob, IsJob, Asks, ask_events, is_awaited, is_read, Enters, done_at}
-use Rattle.lb_rebuild_slots.specs.SlotsHistory as core
-use Rattle.lb_rebuild_slots.specs.SlotsHistory.{At, Granted, Entered, past_of, newest, served, readers}
-use Rattle.lb_rebuild_slots.specs.Stands.{Made}
-use Rattle.lb_rebuild_slots.specs.Values.{Task, ReaderValue}
-use Rattle.lb_rebuild_slots.specs.declared.answers.Ask.{Ask}
-use Rattle.lb_rebuild_slots.specs.declared.answers.Ask.TheVariants as asked
-use Rattle.lb_rebuild_slots.proofs.Pasts.{past-same, newest-past}
-use Rattle.lb_rebuild_group.specs.GroupHistory.{History, slot_events, in_group}
-use Rattle.lb_rebuild_group.specs.Stands.{GroupValue, Stands, After, Becomes}
+use Rattle.lb_rebuild_core.specs.SlotsCalls.{IsOwnJob, IsJob, Asks, ask_events, is_awaited, is_read, Enters, done_at}
+use Rattle.lb_rebuild_core.specs.SlotsHistory as core
+use Rattle.lb_rebuild_core.specs.SlotsHistory.{At, Granted, Entered, past_of, newest, served, readers}
+use Rattle.lb_rebuild_core.specs.Stands.{Made}
+use Rattle.lb_rebuild_core.specs.Values.{Task, ReaderValue}
+use Rattle.lb_rebuild_core.specs.declared.answers.Ask.{Ask}
+use Rattle.lb_rebuild_core.specs.declared.answers.Ask.TheVariants as asked
+use Rattle.lb_rebuild_core.proofs.Pasts.{past-same, newest-past}
+use Rattle.lb_rebuild_core.specs.GroupHistory.{History, slot_events, in_group}
+use Rattle.lb_rebuild_core.specs.GroupStates.{GroupValue, Stands, After, Becomes}
 use Rattle.lb_balancer_core.specs.Calls.{IfJob}
 use Rattle.lb_balancer_core.specs.Plain.{OwnsJob, OwnsReader}
 

@@ -3,8 +3,8 @@ use Rattle.std.proofs.Common.{◌≡◌, ◌<◌, ◌≤◌, ◌∙◌, ℕ, Boo
 use Rattle.std.proofs.Common.{◌+◌}
 use Rattle.std.proofs.lemmas.Bool.Decides.{nat_tests}
 use Rattle.std.proofs.lemmas.Option.{none-some, same_Some}
-use Rattle.lb_rebuild_slots.specs.SlotsCalls.{at_slot}
-use Rattle.lb_rebuild_slots.specs.Stands.{Made}
+use Rattle.lb_rebuild_core.specs.SlotsCalls.{at_slot}
+use Rattle.lb_rebuild_core.specs.Stands.{Made}
 
 below : (slot n : ℕ) → nat_lt slot n ≡ true → slot < n
 below slot n e = grind (arith, nat_tests)

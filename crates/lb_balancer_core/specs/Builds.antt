@@ -3,7 +3,7 @@ use Rattle.std.specs.Prelude.{◌≡◌, ◌⊎◌, List, Option, Some, None}
 use Rattle.lb_select_base.specs.Backends.{Member}
 use Rattle.lb_select_base.specs.declared.refusal.Refusal.{Refusal}
 use Rattle.lb_select_base.specs.declared.refusal.Refusal.TheVariants.{OutOfMemory}
-use Rattle.lb_rebuild_slots.specs.Values.{Task}
+use Rattle.lb_rebuild_core.specs.Values.{Task}
 
 pub record RefusedValue (C : Type 0) : Type 0 where
   pub task : Task C

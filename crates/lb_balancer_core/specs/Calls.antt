@@ -4,9 +4,9 @@ use Rattle.lb_select_base.specs.Backends.{Member}
 use Rattle.lb_select_base.specs.Draws as draws
 use Rattle.lb_select_base.specs.Draws.{Draw}
 use Rattle.lb_select_base.specs.declared.refusal.Refusal.{Refusal}
-use Rattle.lb_rebuild_slots.specs.Values.{Task, RetiredValue, PermitValue}
-use Rattle.lb_rebuild_slots.specs.declared.answers.Ask.{Ask}
-use Rattle.lb_rebuild_slots.specs.declared.answers.Ask.TheVariants as asked
+use Rattle.lb_rebuild_core.specs.Values.{Task, RetiredValue, PermitValue}
+use Rattle.lb_rebuild_core.specs.declared.answers.Ask.{Ask}
+use Rattle.lb_rebuild_core.specs.declared.answers.Ask.TheVariants as asked
 
 -- what holds of the job that was answered
 abbrev pub IfJob : {S I C W : Type 0} → Result (Ask S I C W) Refusal → (Task C → Type 0) → Type 0

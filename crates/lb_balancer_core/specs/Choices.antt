@@ -5,8 +5,8 @@ use Rattle.lb_select_base.specs.Draws.{Draw}
 use Rattle.lb_select_base.specs.Selections.{Selects}
 use Rattle.lb_select_base.specs.declared.refusal.Refusal.{Refusal}
 use Rattle.lb_select_base.specs.declared.words.CoreWords.{CoreWords}
-use Rattle.lb_health_registry.specs.Registry.{RegistryValue, IsRegistryAfter}
-use Rattle.lb_health_registry.specs.RegistryEvents.{Event}
+use Rattle.lb_health_core.specs.Registry.{RegistryValue, IsRegistryAfter}
+use Rattle.lb_health_core.specs.RegistryEvents.{Event}
 use Rattle.lb_balancer_core.specs.Balancer.{History, ServedValue, After, members_now}
 
 module _ {C G R : Type 0} (gives : R → Member → Member → Type 0) (draws : CoreWords G → Draw → CoreWords G → Type 0)

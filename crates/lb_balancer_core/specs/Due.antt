@@ -1,10 +1,10 @@
 -- When a worker's turn has a build to run, and what it then ends with.
 use Rattle.std.specs.Prelude.{◌≡◌, ◌⊎◌, ◌+◌, ◌<◌, ◌≤◌, ℕ, true, false, length, Result, Ok}
 use Rattle.lb_select_base.specs.declared.refusal.Refusal.{Refusal}
-use Rattle.lb_rebuild_slots.specs.SlotsHistory as core
-use Rattle.lb_rebuild_slots.specs.Stands.{Made}
-use Rattle.lb_rebuild_group.specs.GroupHistory.{History, slot_events}
-use Rattle.lb_rebuild_group.specs.Stands.{GroupValue, Stands}
+use Rattle.lb_rebuild_core.specs.SlotsHistory as core
+use Rattle.lb_rebuild_core.specs.Stands.{Made}
+use Rattle.lb_rebuild_core.specs.GroupHistory.{History, slot_events}
+use Rattle.lb_rebuild_core.specs.GroupStates.{GroupValue, Stands}
 use Rattle.lb_balancer_core.specs.declared.turn.Turn.{Turn}
 use Rattle.lb_balancer_core.specs.declared.turn.Turn.TheVariants as turn
 

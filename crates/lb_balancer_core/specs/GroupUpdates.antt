@@ -3,16 +3,16 @@ use Rattle.std.specs.Prelude.{◌≡◌, ◌⊎◌, ◌^◌, ◌≤◌, ℕ, Boo
 use Rattle.lb_select_base.specs.Backends.{Member}
 use Rattle.lb_select_base.specs.declared.refusal.Refusal.{Refusal}
 use Rattle.lb_select_base.specs.declared.refusal.Refusal.TheVariants.{Discovery, OutOfMemory, NoSuch, NumbersExhausted}
-use Rattle.lb_health_registry.specs.Registry.{RegistryValue, IsRegistryAfter}
-use Rattle.lb_health_registry.specs.RegistryEvents.{Event, Applied, Updated, cells_given, has_view, views_after}
-use Rattle.lb_rebuild_slots.specs.SlotsCalls.{is_change, schedule_refusal}
-use Rattle.lb_rebuild_slots.specs.declared.membership.Scheduled.{Scheduled}
+use Rattle.lb_health_core.specs.Registry.{RegistryValue, IsRegistryAfter}
+use Rattle.lb_health_core.specs.RegistryEvents.{Event, Applied, Updated, cells_given, has_view, views_after}
+use Rattle.lb_rebuild_core.specs.SlotsCalls.{is_change, schedule_refusal}
+use Rattle.lb_rebuild_core.specs.declared.membership.Scheduled.{Scheduled}
 use Rattle.lb_health_view.specs.Discoveries.{Discovers, MayFault}
 use Rattle.lb_health_view.specs.RegistrySide.{registry_updated}
 use Rattle.lb_health_view.specs.declared.discovery.DiscoverySource.{DiscoverySource}
-use Rattle.lb_rebuild_group.specs.GroupCalls.{IsRefusedFor, Schedules, after_schedule}
-use Rattle.lb_rebuild_group.specs.GroupHistory.{slot_events}
-use Rattle.lb_rebuild_group.specs.Stands.{GroupValue, Stands, After, views_of}
+use Rattle.lb_rebuild_core.specs.GroupCalls.{IsRefusedFor, Schedules, after_schedule}
+use Rattle.lb_rebuild_core.specs.GroupHistory.{slot_events}
+use Rattle.lb_rebuild_core.specs.GroupStates.{GroupValue, Stands, After, views_of}
 use Rattle.lb_balancer_core.specs.Timings.{Reads, update_timing}
 use Rattle.lb_balancer_core.specs.declared.timings.UpdateTimings.{UpdateTimings}
 

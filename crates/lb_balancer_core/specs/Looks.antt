@@ -9,7 +9,7 @@ use Rattle.lb_select_base.specs.Draws.{Draw}
 use Rattle.lb_select_base.specs.Unique.{distinct}
 use Rattle.lb_select_base.specs.declared.refusal.Refusal.{Refusal}
 use Rattle.lb_select_base.specs.declared.refusal.Refusal.TheVariants as refusal
-use Rattle.lb_rebuild_slots.specs.Values.{ReaderValue}
+use Rattle.lb_rebuild_core.specs.Values.{ReaderValue}
 
 -- a call for a reader: something was drawn, or the port said whether a backend is ready
 pub data Look : Type 0 where

@@ -8,22 +8,22 @@ use Rattle.lb_select_base.specs.Draws as draws
 use Rattle.lb_select_base.specs.Draws.{Draw}
 use Rattle.lb_select_base.specs.declared.refusal.Refusal.{Refusal}
 use Rattle.lb_select_base.specs.declared.refusal.Refusal.TheVariants as refusal
-use Rattle.lb_rebuild_slots.specs.Gate.{GateValue, gate}
-use Rattle.lb_health_registry.specs.Registry.{RegistryValue, IsRegistryAfter}
-use Rattle.lb_health_registry.specs.RegistryEvents.{Event, Applied, Updated, cells_given, has_view, views_after}
-use Rattle.lb_rebuild_slots.specs.SlotsCalls as slots
-use Rattle.lb_rebuild_slots.specs.SlotsCalls.{Asks, ask_events, gate_after, publish_events, done_at, ticket_events, is_awaited}
-use Rattle.lb_rebuild_slots.specs.SlotsCalls.{is_owed, is_read, is_change, schedule_refusal}
-use Rattle.lb_rebuild_slots.specs.SlotsHistory as core
-use Rattle.lb_rebuild_slots.specs.Stands.{Made}
-use Rattle.lb_rebuild_slots.specs.Values.{Task, BuiltValue, RetiredValue, PermitValue, ReaderValue, configs_of}
-use Rattle.lb_rebuild_slots.specs.declared.answers.Ask.{Ask}
-use Rattle.lb_rebuild_slots.specs.declared.answers.Publication.{Publication}
-use Rattle.lb_rebuild_slots.specs.declared.membership.Scheduled.{Scheduled}
+use Rattle.lb_rebuild_core.specs.Gate.{GateValue, gate}
+use Rattle.lb_health_core.specs.Registry.{RegistryValue, IsRegistryAfter}
+use Rattle.lb_health_core.specs.RegistryEvents.{Event, Applied, Updated, cells_given, has_view, views_after}
+use Rattle.lb_rebuild_core.specs.SlotsCalls as slots
+use Rattle.lb_rebuild_core.specs.SlotsCalls.{Asks, ask_events, gate_after, publish_events, done_at, ticket_events, is_awaited}
+use Rattle.lb_rebuild_core.specs.SlotsCalls.{is_owed, is_read, is_change, schedule_refusal}
+use Rattle.lb_rebuild_core.specs.SlotsHistory as core
+use Rattle.lb_rebuild_core.specs.Stands.{Made}
+use Rattle.lb_rebuild_core.specs.Values.{Task, BuiltValue, RetiredValue, PermitValue, ReaderValue, configs_of}
+use Rattle.lb_rebuild_core.specs.declared.answers.Ask.{Ask}
+use Rattle.lb_rebuild_core.specs.declared.answers.Publication.{Publication}
+use Rattle.lb_rebuild_core.specs.declared.membership.Scheduled.{Scheduled}
 use Rattle.lb_health_view.specs.RegistrySide.{registry_updated, registry_released, IsReady}
-use Rattle.lb_rebuild_group.specs.GroupCalls.{Schedules, after_schedule, generation_at}
-use Rattle.lb_rebuild_group.specs.GroupHistory.{History, slot_events, in_group}
-use Rattle.lb_rebuild_group.specs.Stands.{GroupValue, Stands, After, Becomes, SameSite, views_of}
+use Rattle.lb_rebuild_core.specs.GroupCalls.{Schedules, after_schedule, generation_at}
+use Rattle.lb_rebuild_core.specs.GroupHistory.{History, slot_events, in_group}
+use Rattle.lb_rebuild_core.specs.GroupStates.{GroupValue, Stands, After, Becomes, SameSite, views_of}
 
 module _ {C : Type 0} where
   -- after some history of the group

@@ -1,6 +1,6 @@
 -- Readings of a clock, and the spans between them.
 use Rattle.std.specs.Prelude.{◌≡◌, ◌-◌, ℕ, List, [], ◌∷◌, Option, Some, None}
-use Rattle.lb_rebuild_slots.specs.declared.answers.Timing.{Timing}
+use Rattle.lb_rebuild_core.specs.declared.answers.Timing.{Timing}
 use Rattle.lb_balancer_core.specs.declared.timings.SelectorUpdateTimings.{SelectorUpdateTimings}
 use Rattle.lb_balancer_core.specs.declared.timings.UpdateTimings.{UpdateTimings}
 

@@ -2,7 +2,7 @@
 ghost use Rattle.std.specs.Prelude.{◌≡◌, None, IfOk, IfErr};
 ghost use Rattle.lb_balancer_core.specs.Builds.{IsCauseOf};
 
-use lb_rebuild_slots::job::{Built, FailedBuild, Job};
+use lb_rebuild_core::job::{Built, FailedBuild, Job};
 use lb_select_base::refusal::Refusal;
 use lb_select_base::walk::BackendSelection;
 use std::alloc::Global;

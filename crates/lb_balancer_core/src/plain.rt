@@ -1,9 +1,9 @@
 //! The plain group with what its calls borrow: its registry, its gate, random words and loads.
 ghost use Rattle.std.specs.Prelude.{◌≡◌};
 
-use lb_health_registry::registry::Registry;
-use lb_rebuild_group::group::GroupCore;
-use lb_rebuild_slots::gate::GateCore;
+use lb_health_core::registry::Registry;
+use lb_rebuild_core::gate::GateCore;
+use lb_rebuild_core::group::GroupCore;
 use lb_select_base::loads::Loads;
 use lb_select_base::walk::BackendSelection;
 

@@ -6,20 +6,20 @@ ghost use Rattle.lb_balancer_core.specs.Plain.{OwnsJob, OwnsReader, OwnsPermit, 
 ghost use Rattle.lb_balancer_core.specs.Lent.{SameLent};
 ghost use Rattle.lb_balancer_core.specs.Plain.{IsTaken, IsReported, IsFailed, IsPublished, IsLeft};
 ghost use Rattle.std.proofs.Common.{subst, sym};
-ghost use Rattle.lb_rebuild_group.specs.Stands.{After};
+ghost use Rattle.lb_rebuild_core.specs.GroupStates.{After};
 ghost use Rattle.lb_balancer_core.specs.Due.{EndsTurn, IsDue, IsLate};
-ghost use Rattle.lb_balancer_core.specs.PlainLaws.{drawn_keeps};
+ghost use Rattle.lb_balancer_core.specs.Internal.PlainLaws.{drawn_keeps};
 
 use crate::build::RefusedJob;
 use crate::plain::PlainPort;
 use crate::port::{GroupPort, TakesBack};
 use crate::turn::{Turn, worker_turn};
-use lb_health_registry::keys::KeyRule;
+use lb_health_core::keys::KeyRule;
 use lb_health_view::view::Settings;
-use lb_rebuild_slots::answers::{Ask, Publication};
-use lb_rebuild_slots::job::Built;
-use lb_rebuild_slots::membership::Scheduled;
-use lb_rebuild_slots::retired::{OwedPermit, Reader, Retired};
+use lb_rebuild_core::answers::{Ask, Publication};
+use lb_rebuild_core::job::Built;
+use lb_rebuild_core::membership::Scheduled;
+use lb_rebuild_core::retired::{OwedPermit, Reader, Retired};
 use lb_select_base::backend::Backend;
 use lb_select_base::moments::MomentSource;
 use lb_select_base::refusal::Refusal;

@@ -5,7 +5,7 @@ ghost use Rattle.lb_balancer_core.specs.Looks.{Answers, SelectsBy, SelectedThrou
 
 use crate::port::GroupPort;
 use crate::words::ReaderWords;
-use lb_rebuild_slots::retired::Reader;
+use lb_rebuild_core::retired::Reader;
 use lb_select_base::backend::Backend;
 use lb_select_base::refusal::Refusal;
 use lb_select_base::seen::SeenBackends;

@@ -1,7 +1,7 @@
 //! How long an update and the rebuild of a slot took, in nanoseconds.
 ghost use Rattle.std.specs.Prelude.{◌≡◌, ◌-◌};
 
-use lb_rebuild_slots::answers::Timing;
+use lb_rebuild_core::answers::Timing;
 
 /// How long the last accepted update took.
 #[derive(Clone, Copy, Debug, PartialEq, Eq)]

@@ -3,7 +3,7 @@ ghost use Rattle.lb_balancer_core.specs.Through.{Turned};
 
 use crate::build::build;
 use crate::port::GroupPort;
-use lb_rebuild_slots::answers::{Ask, Publication};
+use lb_rebuild_core::answers::{Ask, Publication};
 use lb_select_base::moments::MomentSource;
 use lb_select_base::refusal::Refusal;
 use lb_select_base::walk::BackendSelection;

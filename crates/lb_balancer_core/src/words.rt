@@ -2,7 +2,7 @@
 ghost use Rattle.std.specs.Prelude.{◌≡◌};
 
 use crate::port::GroupPort;
-use lb_rebuild_slots::retired::Reader;
+use lb_rebuild_core::retired::Reader;
 use lb_select_base::backend::Backend;
 use lb_select_base::walk::BackendSelection;
 use lb_select_base::words::WordSource;

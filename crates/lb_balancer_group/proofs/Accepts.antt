@@ -5,7 +5,7 @@ use Rattle.std.specs.Fn.{Shared, FnReturns}
 use Rattle.lb_select_base.specs.Backends.{Member}
 use Rattle.lb_select_base.specs.Draws.{Draw}
 use Rattle.lb_select_base.specs.declared.refusal.Refusal.{Refusal}
-use Rattle.lb_rebuild_slots.specs.Values.{ReaderValue}
+use Rattle.lb_rebuild_core.specs.Values.{ReaderValue}
 use Rattle.lb_threads_group.specs.Group.{EnteredUnder, LeftUnder, ReadyUnder, SelectedUnder}
 use Rattle.lb_threads_group.specs.Shared.{SharedValue}
 use Rattle.lb_balancer_core.specs.Looks.{Answers, told_of, AreRefused, IsTold, SelectsBy, Inside}

@@ -1,10 +1,10 @@
 -- A new group has a slot for each configuration, and nothing has happened to it.
 use Rattle.std.proofs.Common.{◌≡◌, ◌∙◌, [], List, length, ap, subst, sym, Result, Ok, Err, IfOk}
 use Rattle.lb_select_base.specs.declared.refusal.Refusal.{Refusal}
-use Rattle.lb_rebuild_slots.specs.Gate.{GateId}
-use Rattle.lb_rebuild_slots.specs.Values.{SlotsValue}
-use Rattle.lb_rebuild_slots.proofs.SlotsSteps.{length-after}
-use Rattle.lb_rebuild_group.specs.Stands.{GroupValue, Stands}
+use Rattle.lb_rebuild_core.specs.Gate.{GateId}
+use Rattle.lb_rebuild_core.specs.Values.{SlotsValue}
+use Rattle.lb_rebuild_core.proofs.SlotsSteps.{length-after}
+use Rattle.lb_rebuild_core.specs.GroupStates.{GroupValue, Stands}
 use Rattle.lb_balancer_group.specs.Made.{IsNewGroup}
 
 pub slots_of_new : {C : Type 0} (gate : GateId) (configs : List C) (r : Result (GroupValue C) Refusal)

@@ -6,10 +6,10 @@ use denote.Param.Send.{IsSend, IsSync, sendable, struct_send, struct_sync, recor
 use Rattle.std.proofs.Crossing.{crosses, Arc-send, Arc-sync}
 use Rattle.lb_select_base.specs.declared.walk.BackendSelection.{Ghosts as Selection}
 use Rattle.lb_select_base.specs.declared.walk.BackendIter.{Ghosts as Iter}
-use Rattle.lb_health_registry.specs.declared.keys.KeyRule.{Ghosts as Keys}
+use Rattle.lb_health_core.specs.declared.keys.KeyRule.{Ghosts as Keys}
 use Rattle.lb_health_view.proofs.discovery.DiscoverySource.TheSendSync as discovery
 use Rattle.lb_balancer_core.proofs.timings.UpdateTimings.TheSendSync as timings
-use Rattle.lb_threads_registry.proofs.registry.HealthRegistry.TheSendSync as registry
+use Rattle.lb_threads_core.proofs.registry.HealthRegistry.TheSendSync as registry
 use Rattle.lb_threads_group.specs.contracts.group.SharedGroup as shared
 use Rattle.lb_threads_group.proofs.Crossings.{shared_send, shared_sync}
 use Rattle.lb_balancer_group.specs.contracts.configured.Configured as Configured

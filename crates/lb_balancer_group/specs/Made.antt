@@ -1,10 +1,10 @@
 -- What a group is that was just made.
 use Rattle.std.specs.Prelude.{◌≡◌, ◌<◌, List, [], Option, None, Result, Ok, Err, map, unwrap_or}
 use Rattle.lb_select_base.specs.declared.refusal.Refusal.{Refusal}
-use Rattle.lb_rebuild_slots.specs.SlotsHistory.{newest}
-use Rattle.lb_rebuild_group.specs.GroupCalls.{IsMakingRefusal}
-use Rattle.lb_rebuild_group.specs.GroupHistory.{slot_events}
-use Rattle.lb_rebuild_group.specs.Stands.{After, GroupValue, Stands}
+use Rattle.lb_rebuild_core.specs.SlotsHistory.{newest}
+use Rattle.lb_rebuild_core.specs.GroupCalls.{IsMakingRefusal}
+use Rattle.lb_rebuild_core.specs.GroupHistory.{slot_events}
+use Rattle.lb_rebuild_core.specs.GroupStates.{After, GroupValue, Stands}
 use Rattle.lb_threads_group.specs.Group.{Seen}
 use Rattle.lb_balancer_group.specs.declared.gate_refusal.GateRefusal.{GateRefusal}
 use Rattle.lb_balancer_group.specs.declared.gate_refusal.GateRefusal.TheVariants.{WasUpdated, NotMade}

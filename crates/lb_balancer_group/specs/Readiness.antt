@@ -1,12 +1,12 @@
 -- What reading the slots of a group one after another shows, while others may publish; and how the sleeps of a driven run end.
 use Rattle.std.specs.Prelude.{◌≡◌, ◌⊎◌, ◌<◌, ◌≤◌, ◌+◌, ◌^◌, ℕ, Option, Some, None}
-use Rattle.lb_rebuild_slots.specs.SlotsCalls.{at_slot}
-use Rattle.lb_rebuild_slots.specs.SlotsHistory.{past_of, served}
-use Rattle.lb_rebuild_slots.specs.declared.answers.Timing.{Timing}
+use Rattle.lb_rebuild_core.specs.SlotsCalls.{at_slot}
+use Rattle.lb_rebuild_core.specs.SlotsHistory.{past_of, served}
+use Rattle.lb_rebuild_core.specs.declared.answers.Timing.{Timing}
 use Rattle.lb_balancer_core.specs.Timings.{selector_timings}
 use Rattle.lb_balancer_core.specs.declared.timings.SelectorUpdateTimings.{SelectorUpdateTimings}
-use Rattle.lb_rebuild_group.specs.GroupHistory.{slot_events}
-use Rattle.lb_rebuild_group.specs.Stands.{GroupValue, After}
+use Rattle.lb_rebuild_core.specs.GroupHistory.{slot_events}
+use Rattle.lb_rebuild_core.specs.GroupStates.{GroupValue, After}
 use Rattle.lb_threads_group.specs.Group.{Seen}
 use Rattle.lb_background.specs.declared.event.Event.{Event}
 use Rattle.lb_background.specs.declared.event.Event.TheVariants as on

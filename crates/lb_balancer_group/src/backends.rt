@@ -1,16 +1,16 @@
 //! The backends of a group, borrowed: readings, flags and checks, but no call that updates them. Each call takes the group's lock once.
 ghost use Rattle.std.specs.Prelude.{◌≡◌, Err, IfOk, OnErr};
 ghost use Rattle.std.specs.Arc.{arc_value};
-ghost use Rattle.lb_health_registry.specs.Registry.{IsGrowthRefusal};
-ghost use Rattle.lb_rebuild_slots.specs.SlotsHistory.{newest};
-ghost use Rattle.lb_rebuild_group.specs.GroupHistory.{slot_events, members_now};
-ghost use Rattle.lb_rebuild_group.specs.Stands.{After};
+ghost use Rattle.lb_health_core.specs.Registry.{IsGrowthRefusal};
+ghost use Rattle.lb_rebuild_core.specs.SlotsHistory.{newest};
+ghost use Rattle.lb_rebuild_core.specs.GroupHistory.{slot_events, members_now};
+ghost use Rattle.lb_rebuild_core.specs.GroupStates.{After};
 ghost use Rattle.lb_threads_group.specs.Group.{NewestReadyUnder, Seen};
 
 use crate::configured::Configured;
 use crate::group::LoadBalancerGroup;
-use lb_health_check::health_check::HealthCheck;
-use lb_health_registry::keys::KeyRule;
+use lb_health_core::health_check::HealthCheck;
+use lb_health_core::keys::KeyRule;
 use lb_health_view::discovery::ServiceDiscovery;
 use lb_select_base::backend::Backend;
 use lb_select_base::refusal::Refusal;

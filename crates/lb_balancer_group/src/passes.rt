@@ -10,11 +10,11 @@ ghost use Rattle.lb_threads_group.specs.Shared.{IsEntryRefusal, SelectsByAny};
 
 use crate::configured::Configured;
 use crate::group::LoadBalancerGroup;
-use lb_health_check::health_check::HealthCheck;
-use lb_health_registry::keys::KeyRule;
+use lb_health_core::health_check::HealthCheck;
+use lb_health_core::keys::KeyRule;
 use lb_health_view::discovery::ServiceDiscovery;
 use lb_rebuild::board::GroupPass;
-use lb_rebuild_slots::retired::Reader;
+use lb_rebuild_core::retired::Reader;
 use lb_select_base::backend::Backend;
 use lb_select_base::moments::MomentSource;
 use lb_select_base::refusal::Refusal;

@@ -1,18 +1,18 @@
 //! Readings of a group that its users own. Each call takes the group's lock once for each slot that it reads.
 ghost use Rattle.std.specs.Prelude.{◌≡◌, ◌+◌, MatchBool};
 ghost use Rattle.std.specs.Arc.{arc_value};
-ghost use Rattle.lb_rebuild_slots.specs.SlotsCalls.{at_slot};
-ghost use Rattle.lb_rebuild_slots.specs.SlotsHistory.{past_of, newest, is_cancelled, coalesced, failed, timing as timing_after};
-ghost use Rattle.lb_rebuild_group.specs.GroupHistory.{slot_events};
-ghost use Rattle.lb_rebuild_group.specs.Stands.{After};
+ghost use Rattle.lb_rebuild_core.specs.SlotsCalls.{at_slot};
+ghost use Rattle.lb_rebuild_core.specs.SlotsHistory.{past_of, newest, is_cancelled, coalesced, failed, timing as timing_after};
+ghost use Rattle.lb_rebuild_core.specs.GroupHistory.{slot_events};
+ghost use Rattle.lb_rebuild_core.specs.GroupStates.{After};
 ghost use Rattle.lb_threads_group.specs.Group.{Seen};
 ghost use Rattle.lb_balancer_group.specs.Readiness.{AllServe, OneLags, SawServed, last_timing};
 
 use crate::configured::Configured;
 use crate::group::LoadBalancerGroup;
 use lb_balancer_core::timings::{SelectorUpdateTimings, UpdateTimings};
-use lb_health_check::health_check::HealthCheck;
-use lb_health_registry::keys::KeyRule;
+use lb_health_core::health_check::HealthCheck;
+use lb_health_core::keys::KeyRule;
 use lb_health_view::discovery::ServiceDiscovery;
 use lb_select_base::walk::BackendSelection;
 use lb_threads_group::group::SharedGroup;

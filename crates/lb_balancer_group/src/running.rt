@@ -1,6 +1,6 @@
 //! Runs a group in the background: its workers, its updates on their schedule, its checks where it owns them, and its notifier.
 ghost use Rattle.std.specs.Prelude.{[], OnErr};
-ghost use Rattle.lb_health_registry.specs.Registry.{IsGrowthRefusal};
+ghost use Rattle.lb_health_core.specs.Registry.{IsGrowthRefusal};
 ghost use Rattle.lb_background.specs.History.{IsAfter};
 
 use crate::drive::drive;
@@ -11,8 +11,8 @@ use lb_background::event::Event;
 use lb_background::group_run::GroupRun;
 use lb_background::ready::ServiceReadyNotifier;
 use lb_background::shutdown::ShutdownWatch;
-use lb_health_check::health_check::HealthCheck;
-use lb_health_registry::keys::KeyRule;
+use lb_health_core::health_check::HealthCheck;
+use lb_health_core::keys::KeyRule;
 use lb_health_view::discovery::ServiceDiscovery;
 use lb_select_base::moments::MomentSource;
 use lb_select_base::refusal::Refusal;

@@ -1,7 +1,7 @@
 //! Starts the workers of a group that threads share.
 
-use lb_health_check::health_check::HealthCheck;
-use lb_health_registry::keys::KeyRule;
+use lb_health_core::health_check::HealthCheck;
+use lb_health_core::keys::KeyRule;
 use lb_select_base::moments::MomentSource;
 use lb_select_base::walk::BackendSelection;
 use lb_threads_group::group::SharedGroup;

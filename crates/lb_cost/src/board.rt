@@ -6,7 +6,7 @@ use crate::words::{number_at, print_line};
 use anyhow::Error;
 use lb_rebuild::board::{Board, GroupPass, WritingPass};
 use lb_select_base::moments::MomentSource;
-use lb_threads_registry::clock::RuntimeClock;
+use lb_threads_core::clock::RuntimeClock;
 use std::alloc::{AllocError, Global};
 use std::sync::atomic::AtomicBool;
 use std::sync::atomic::Ordering::SeqCst;

@@ -2,21 +2,21 @@
 //! slot goes through a failed build, a published one, a reader, and the report that its old selector is destroyed. `bench/group` prints the
 //! times.
 ghost use Rattle.std.specs.Prelude.{◌≡◌, IfOk, Some, slice_get};
-ghost use Rattle.lb_rebuild_slots.specs.Stands.{SameSite};
-ghost use Rattle.lb_rebuild_slots.specs.Values.{configs_of};
+ghost use Rattle.lb_rebuild_core.specs.Stands.{SameSite};
+ghost use Rattle.lb_rebuild_core.specs.Values.{configs_of};
 
 use crate::members::members;
 use crate::words::{number_at, print_line};
 use anyhow::Error;
-use lb_rebuild_slots::answers::Ask;
-use lb_rebuild_slots::gate::GateCore;
-use lb_rebuild_slots::job::{FailedBuild, Job};
-use lb_rebuild_slots::slots::Slots;
+use lb_rebuild_core::answers::Ask;
+use lb_rebuild_core::gate::GateCore;
+use lb_rebuild_core::job::{FailedBuild, Job};
+use lb_rebuild_core::slots::Slots;
 use lb_select::least::LeastConnections;
 use lb_select_base::backend::Backend;
 use lb_select_base::moments::MomentSource;
 use lb_select_base::refusal::Refusal;
-use lb_threads_registry::clock::RuntimeClock;
+use lb_threads_core::clock::RuntimeClock;
 use std::alloc::Global;
 use std::collections::BTreeSet;
 use std::time::Clock;

@@ -3,7 +3,7 @@
 use crate::members::members;
 use crate::words::{number_at, print_line};
 use anyhow::Error;
-use lb_health_registry::registry::RegistryCore;
+use lb_health_core::registry::RegistryCore;
 use lb_health_view::view::{Settings, ViewCore};
 use lb_select_base::refusal::Refusal;
 use std::alloc::Global;

@@ -1,9 +1,9 @@
 //! Passes of checks over a shared registry.
-use lb_health_check::health_check::HealthCheck;
-use lb_health_registry::keys::Rule;
+use lb_health_core::health_check::HealthCheck;
+use lb_health_core::keys::Rule;
 use lb_select_base::refusal::Refusal;
-use lb_threads_registry::keyed::NoRule;
-use lb_threads_registry::registry::HealthRegistry;
+use lb_threads_core::keyed::NoRule;
+use lb_threads_core::registry::HealthRegistry;
 use log::sink::Locked;
 use log::{Level, Log, Logged};
 use std::alloc::Global;

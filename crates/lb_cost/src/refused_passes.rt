@@ -2,13 +2,13 @@
 //! as it was, and is made again; where a thread can't be started for a check, the check runs on the caller's.
 use crate::passes::pass;
 use crate::refused::{Course, OTHER, set_of};
-use lb_health_check::error::CheckError;
-use lb_health_check::health_check::HealthCheck;
-use lb_health_registry::keys::Rule;
+use lb_health_core::error::CheckError;
+use lb_health_core::health_check::HealthCheck;
+use lb_health_core::keys::Rule;
 use lb_select_base::backend::Backend;
 use lb_select_base::refusal::Refusal;
-use lb_threads_registry::keyed::NoRule;
-use lb_threads_registry::registry::HealthRegistry;
+use lb_threads_core::keyed::NoRule;
+use lb_threads_core::registry::HealthRegistry;
 use log::Log;
 use std::alloc::Global;
 use std::sync::atomic::Ordering::SeqCst;

@@ -4,8 +4,8 @@ ghost use Rattle.std.specs.Arc.{arc_value};
 
 use crate::soak_groups::MEMBERS;
 use lb_balancer_group::group::LoadBalancerGroup;
-use lb_health_check::health_check::HealthCheck;
-use lb_health_registry::keys::KeyRule;
+use lb_health_core::health_check::HealthCheck;
+use lb_health_core::keys::KeyRule;
 use lb_health_view::discovery::ServiceDiscovery;
 use lb_rebuild::board::GroupPass;
 use lb_select_base::backend::{Backend, InetAddr, SocketAddr};

@@ -1,21 +1,21 @@
 //! Health of backends: what a check is, the checks over TCP and HTTP, the registry of cells, views with their discovery, and passes. Each
-//! part is a crate of its own (`lb_health_check`, `lb_health_http`, `lb_health_registry`, `lb_health_view`); this one re-exports them.
+//! part is a crate of its own (`lb_health_core`, `lb_health_http`, `lb_health_view`); this one re-exports them.
 #![tactic(auto)]
 
-pub use lb_health_check::error::CheckError;
-pub use lb_health_check::health_check::{
+pub use lb_health_core::error::CheckError;
+pub use lb_health_core::health::Health;
+pub use lb_health_core::health_check::{
     BackendSummary, BoxedCheck, HealthCheck, HealthObserve, HealthObserveCallback, IdentitySummary,
     identity_summary,
 };
+pub use lb_health_core::keys::{ByNumber, KeyRule, Number, Rule};
+pub use lb_health_core::laws as registry_laws;
+pub use lb_health_core::registry::{Registry, RegistryCore};
+pub use lb_health_core::targets::Target;
 pub use lb_health_http::{
     AcceptStatus, BasicPeer, HttpHealthCheck, HttpPeer, MAX_BODY_BYTES, NoObserver, TcpHealthCheck,
     Validate, check_over, request_for,
 };
-pub use lb_health_registry::health::Health;
-pub use lb_health_registry::keys::{ByNumber, KeyRule, Number, Rule};
-pub use lb_health_registry::laws as registry_laws;
-pub use lb_health_registry::registry::{Registry, RegistryCore};
-pub use lb_health_registry::targets::Target;
 pub use lb_health_view::backends::{BackendView, Backends, BackendsParts};
 pub use lb_health_view::discovery::{
     BoxedDiscovery, Discovered, DiscoverySource, ServiceDiscovery, Static,

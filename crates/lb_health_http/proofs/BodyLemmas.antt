@@ -3,8 +3,8 @@ use Rattle.std.proofs.Common.{◌≡◌, inl, inr, ℕ, ◌-◌, ◌≤◌, List
 use Rattle.std.proofs.Common.{length-append, arith}
 use Rattle.httparse.specs.Ascii.{crlf_bytes}
 use Rattle.lb_stream.specs.Stream.{Takes}
-use Rattle.lb_health_check.specs.declared.error.CheckError.{CheckError}
-use Rattle.lb_health_check.specs.declared.error.CheckError.TheVariants.{BadFraming, EndInMessage, Read}
+use Rattle.lb_health_core.specs.declared.error.CheckError.{CheckError}
+use Rattle.lb_health_core.specs.declared.error.CheckError.TheVariants.{BadFraming, EndInMessage, Read}
 use Rattle.lb_health_http.specs.Internal.Steps.{Passed, SkipOutcome, ExpectOutcome, HasContent, ContentOutcome}
 
 -- after some bytes n more were passed over

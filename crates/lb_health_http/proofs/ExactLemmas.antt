@@ -5,9 +5,9 @@ use Rattle.std.specs.Bool.{⊤}
 use Rattle.http.specs.declared.response.Parts.{Parts}
 use Rattle.httparse.specs.Grammar.{ResponseHead, status_code}
 use Rattle.httparse.proofs.GrammarLemmas.{response_unique}
-use Rattle.lb_health_check.specs.declared.error.CheckError.{CheckError}
-use Rattle.lb_health_check.specs.declared.error.CheckError.TheVariants.{BadHead, HeadTooLarge, Interim, Status, Rejected, BadFraming}
-use Rattle.lb_health_check.specs.declared.error.CheckError.TheVariants.{EndInMessage, BodyTooLarge, Write, Read, OutOfMemory}
+use Rattle.lb_health_core.specs.declared.error.CheckError.{CheckError}
+use Rattle.lb_health_core.specs.declared.error.CheckError.TheVariants.{BadHead, HeadTooLarge, Interim, Status, Rejected, BadFraming}
+use Rattle.lb_health_core.specs.declared.error.CheckError.TheVariants.{EndInMessage, BodyTooLarge, Write, Read, OutOfMemory}
 use Rattle.lb_health_http.specs.declared.framing.Framing.{Framing}
 use Rattle.lb_health_http.specs.declared.framing.Framing.TheVariants.{Nothing, Sized, Chunked, ToEnd}
 use Rattle.lb_health_http.specs.Body.{HasBody, IsLarge}

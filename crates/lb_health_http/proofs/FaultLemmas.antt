@@ -4,9 +4,9 @@ use Rattle.std.proofs.Common.{ap, ◌∙◌, subst, arith, append_assoc, append-
 use Rattle.http.specs.declared.response.Parts.{Parts}
 use Rattle.httparse.specs.Grammar.{ResponseHead, ReadsResponse, print_response, status_code}
 use Rattle.httparse.proofs.GrammarLemmas.{response_prefix_free, ReadsResponse-append}
-use Rattle.lb_health_check.specs.declared.error.CheckError.{CheckError}
-use Rattle.lb_health_check.specs.declared.error.CheckError.TheVariants.{BadHead, HeadTooLarge, Interim, Status, Rejected, BadFraming}
-use Rattle.lb_health_check.specs.declared.error.CheckError.TheVariants.{EndInMessage, BodyTooLarge, Read, OutOfMemory}
+use Rattle.lb_health_core.specs.declared.error.CheckError.{CheckError}
+use Rattle.lb_health_core.specs.declared.error.CheckError.TheVariants.{BadHead, HeadTooLarge, Interim, Status, Rejected, BadFraming}
+use Rattle.lb_health_core.specs.declared.error.CheckError.TheVariants.{EndInMessage, BodyTooLarge, Read, OutOfMemory}
 use Rattle.lb_health_http.specs.Check.{CheckOutcome}
 use Rattle.lb_health_http.specs.FaultLaws.{IsFaultOrFailed, HasFaultAlone}
 use Rattle.lb_health_http.specs.Head.{BeginsWithHead, IsRefusedHead, MayBecomeHead, HasBadHead, HasLargeHead, EndsInHead}

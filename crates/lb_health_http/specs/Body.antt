@@ -1,8 +1,8 @@
 -- The body of an answer, by its framing, and what comes in the place of one.
 use Rattle.std.specs.Prelude.{◌≡◌, ℕ, ◌<◌, ◌≤◌, List, [], ◌++◌, length, ⊤, Result, Ok, Err}
 use Rattle.lb_stream.specs.Stream.{Takes}
-use Rattle.lb_health_check.specs.declared.error.CheckError.{CheckError}
-use Rattle.lb_health_check.specs.declared.error.CheckError.TheVariants.{BadFraming, EndInMessage, BodyTooLarge, Read, OutOfMemory}
+use Rattle.lb_health_core.specs.declared.error.CheckError.{CheckError}
+use Rattle.lb_health_core.specs.declared.error.CheckError.TheVariants.{BadFraming, EndInMessage, BodyTooLarge, Read, OutOfMemory}
 use Rattle.lb_health_http.specs.declared.framing.Framing.{Framing}
 use Rattle.lb_health_http.specs.declared.framing.Framing.TheVariants.{Nothing, Sized, Chunked, ToEnd}
 use Rattle.lb_health_http.specs.Chunked.{HasChunked, IsChunkedFault}

@@ -1,8 +1,8 @@
 -- What the faults of a head say of each other: of one stream there is one.
 use Rattle.std.specs.Prelude.{◌≡◌, ℕ, ◌⊎◌, Bool, List, Result, Err}
 use Rattle.http.specs.declared.response.Parts.{Parts}
-use Rattle.lb_health_check.specs.declared.error.CheckError.{CheckError}
-use Rattle.lb_health_check.specs.declared.error.CheckError.TheVariants.{Read, OutOfMemory}
+use Rattle.lb_health_core.specs.declared.error.CheckError.{CheckError}
+use Rattle.lb_health_core.specs.declared.error.CheckError.TheVariants.{Read, OutOfMemory}
 use Rattle.lb_health_http.specs.Check.{CheckOutcome}
 
 -- the answer is that fault, or a device failed, or memory was refused

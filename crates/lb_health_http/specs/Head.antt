@@ -4,8 +4,8 @@ use Rattle.std.specs.Prelude.{◌≡◌, ℕ, ◌<◌, ◌≤◌, ◌+◌, ◌�
 use Rattle.httparse.specs.Grammar.{LineEnd, print_blank, ResponseHead, ReadsResponse, HasNoResponse, NeverHasResponse, MayBecomeResponse}
 use Rattle.httparse.specs.Grammar.{print_response, status_code}
 use Rattle.httparse.specs.Spans.{IsResponseWithin, IsResponseAt, ResponseOverflows, ResponseExceeds}
-use Rattle.lb_health_check.specs.declared.error.CheckError.{CheckError}
-use Rattle.lb_health_check.specs.declared.error.CheckError.TheVariants.{BadHead, HeadTooLarge, EndInMessage, Read, OutOfMemory}
+use Rattle.lb_health_core.specs.declared.error.CheckError.{CheckError}
+use Rattle.lb_health_core.specs.declared.error.CheckError.TheVariants.{BadHead, HeadTooLarge, EndInMessage, Read, OutOfMemory}
 use Rattle.lb_health_http.specs.declared.head.HeadParts.{HeadParts}
 use Rattle.lb_health_http.specs.declared.head.Head.{Head}
 use Rattle.lb_health_http.specs.declared.head.Seen.{Seen}

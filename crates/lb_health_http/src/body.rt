@@ -7,7 +7,7 @@ ghost use Rattle.lb_health_http.specs.Internal.Steps.{SkipOutcome};
 
 use crate::chunk::read_chunked;
 use crate::framing::Framing;
-use lb_health_check::error::CheckError;
+use lb_health_core::error::CheckError;
 use lb_stream::counted::Counted;
 use std::alloc::Global;
 use std::io::Read;

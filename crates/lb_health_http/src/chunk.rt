@@ -10,7 +10,7 @@ use crate::chunk_line::size_of;
 use crate::framing::Framing;
 use crate::line::{expect, read_line};
 use crate::trailers::read_trailers;
-use lb_health_check::error::CheckError;
+use lb_health_core::error::CheckError;
 use lb_stream::counted::Counted;
 use std::alloc::Global;
 use std::io::Read;

@@ -4,7 +4,7 @@ ghost use Rattle.std.specs.Duration.{as_nanos};
 ghost use Rattle.lb_health_http.specs.Limits.{least_limit, left_at};
 
 use crate::peer::{HttpPeer, duration_of};
-use lb_health_check::error::CheckError;
+use lb_health_core::error::CheckError;
 use std::io::{self, Error, ErrorKind, Read, Write};
 use std::net::TcpStream;
 use std::os::unix::net::UnixStream;

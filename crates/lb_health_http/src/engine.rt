@@ -14,7 +14,7 @@ use crate::parts::to_parts;
 use crate::request::{is_head, request_bytes, send};
 use crate::validate::{Validate, judge};
 use http::Request;
-use lb_health_check::error::CheckError;
+use lb_health_core::error::CheckError;
 use lb_stream::counted::Counted;
 use std::alloc::Global;
 use std::io::{Read, Write};

@@ -7,7 +7,7 @@ ghost use Rattle.lb_health_http.specs.Head.{Sees, HoldsHead, HeadOutcome, IsBlan
 
 use httparse::Status;
 use httparse::spans::{EMPTY_HEADER_SPAN, HeaderSpan, ResponseSpans, parse_response};
-use lb_health_check::error::CheckError;
+use lb_health_core::error::CheckError;
 use lb_stream::counted::Counted;
 use std::alloc::Global;
 use std::io::Read;

@@ -1,7 +1,7 @@
 //! Laws of what a check may answer, for every stream: each is what its function ensures.
 //! There is no code here.
 ghost use Rattle.std.specs.Prelude.{◌≡◌, ℕ, List};
-ghost use Rattle.lb_health_check.specs.declared.error.CheckError.TheVariants.{BadHead, HeadTooLarge, EndInMessage};
+ghost use Rattle.lb_health_core.specs.declared.error.CheckError.TheVariants.{BadHead, HeadTooLarge, EndInMessage};
 ghost use Rattle.lb_health_http.specs.Head.{HasBadHead, HasLargeHead, EndsInHead};
 ghost use Rattle.lb_health_http.specs.FaultLaws.{HasFaultAlone};
 

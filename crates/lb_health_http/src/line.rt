@@ -6,7 +6,7 @@ ghost use Rattle.lb_stream.specs.Stream.{OnBytes};
 ghost use Rattle.lb_health_http.specs.Chunked.{IsLineText};
 ghost use Rattle.lb_health_http.specs.Internal.Steps.{LineOutcome, ExpectOutcome};
 
-use lb_health_check::error::CheckError;
+use lb_health_core::error::CheckError;
 use lb_stream::counted::Counted;
 use std::alloc::Global;
 use std::io::Read;

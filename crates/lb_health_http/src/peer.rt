@@ -4,7 +4,7 @@ ghost use Rattle.std.specs.Prelude.{◌≡◌, ◌↔◌, Some, None, ◌*◌, �
 ghost use Rattle.std.specs.Duration.{as_nanos};
 ghost use Rattle.lb_health_http.specs.Check.{at_port};
 
-use lb_health_check::error::CheckError;
+use lb_health_core::error::CheckError;
 use lb_select_base::backend::InetAddr;
 use std::net::{Net, SocketAddr, TcpStream};
 use std::os::unix::net::UnixStream;

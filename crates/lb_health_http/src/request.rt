@@ -11,7 +11,7 @@ use http::header::HOST;
 use http::request::Parts;
 use http::{HeaderValue, Method, Request};
 use http_header::HeaderValueError;
-use lb_health_check::error::CheckError;
+use lb_health_core::error::CheckError;
 use lb_select_base::refusal::Refusal;
 use lb_stream::counted::Counted;
 use std::alloc::{AllocError, Global};

@@ -1,11 +1,11 @@
 //! A check that connects and no more.
 ghost use Rattle.std.specs.Prelude.{◌≡◌, Some, None, Err, OnErr, if◌then◌else◌};
-ghost use Rattle.lb_health_check.specs.declared.error.CheckError.TheVariants.{Connect};
+ghost use Rattle.lb_health_core.specs.declared.error.CheckError.TheVariants.{Connect};
 
 use crate::observer::NoObserver;
 use crate::peer::{BasicPeer, connect, connect_unix};
-use lb_health_check::error::CheckError;
-use lb_health_check::health_check::{BackendSummary, HealthCheck, HealthObserve, IdentitySummary};
+use lb_health_core::error::CheckError;
+use lb_health_core::health_check::{BackendSummary, HealthCheck, HealthObserve, IdentitySummary};
 use lb_select_base::backend::{Backend, SocketAddr};
 use lb_select_base::refusal::Refusal;
 use std::alloc::Global;

@@ -6,7 +6,7 @@ ghost use Rattle.lb_health_http.specs.Chunked.{IsTrailerLine};
 ghost use Rattle.lb_health_http.specs.Internal.Steps.{TrailersOutcome};
 
 use crate::line::{is_end, read_line};
-use lb_health_check::error::CheckError;
+use lb_health_core::error::CheckError;
 use lb_stream::counted::Counted;
 use std::alloc::Global;
 use std::io::Read;

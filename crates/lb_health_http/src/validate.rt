@@ -6,7 +6,7 @@ ghost use Rattle.lb_health_http.specs.Check.{Judges};
 
 use http::StatusCode;
 use http::response::Parts;
-use lb_health_check::error::CheckError;
+use lb_health_core::error::CheckError;
 
 /// A rule by which a check accepts the head of an answer. Names of fields are in lower case, and values without the white
 /// space around them.

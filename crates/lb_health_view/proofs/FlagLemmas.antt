@@ -4,7 +4,7 @@ use Rattle.std.specs.Prelude.{IsSome, ◌&&◌, ◌||◌, if◌then◌else◌}
 use Rattle.std.specs.Option.{unwrap_or}
 use Rattle.std.proofs.lemmas.Bool.{false≢true}
 use Rattle.lb_select_base.specs.Backends.{Member, same_member}
-use Rattle.lb_health_view.specs.ViewInvariants.{AreFlagsOf}
+use Rattle.lb_health_view.specs.Internal.ViewInvariants.{AreFlagsOf}
 use Rattle.lb_health_view.specs.Snapshots.{ViewValue, lists_in, value_at}
 use Rattle.lb_health_view.specs.ViewEvents.{ViewEvent, Set, listed, flag_after}
 use Rattle.lb_health_view.specs.Views.{IsViewAfter, Flags}

@@ -6,7 +6,7 @@ use Rattle.std.proofs.lemmas.Option.{slice_get_within, get_or_from_slice_get}
 use Rattle.lb_select_base.specs.AddressText.{bare_member}
 use Rattle.lb_select_base.specs.Backends.{Address, Member, identity_of}
 use Rattle.lb_health_view.specs.declared.cells.Hint.{Hint}
-use Rattle.lb_health_view.specs.Hints.{IsHint, AreHints}
+use Rattle.lb_health_view.specs.Internal.Hints.{IsHint, AreHints}
 use Rattle.lb_health_view.specs.Snapshots.{value_at}
 
 -- the hint at a place

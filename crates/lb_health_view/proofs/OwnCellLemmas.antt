@@ -4,9 +4,9 @@ use Rattle.std.proofs.Common.{subst, arith}
 use Rattle.std.proofs.lemmas.List.Quantifiers.{position-Some}
 use Rattle.std.specs.List.{position}
 use Rattle.std.specs.Prelude.{◌==◌, if◌then◌else◌}
-use Rattle.lb_health_registry.specs.Registry.{HasOwnCells}
+use Rattle.lb_health_core.specs.Registry.{HasOwnCells}
 use Rattle.lb_health_view.specs.declared.snapshot.ViewSnapshot.{ViewSnapshot}
-use Rattle.lb_health_view.specs.ViewInvariants.{HaveOwnCells}
+use Rattle.lb_health_view.specs.Internal.ViewInvariants.{HaveOwnCells}
 use Rattle.lb_health_view.specs.Snapshots.{SnapshotValue, snapshot_of, at_generation}
 
 -- a count of holds changes no cells

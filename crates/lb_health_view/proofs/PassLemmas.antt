@@ -3,13 +3,13 @@ use Rattle.std.proofs.Common.{◌≡◌, inl, inr, ℕ, List, [], ◌∷◌, Opt
 use Rattle.std.specs.List.{filter_map, cons_option}
 use Rattle.std.specs.Option.{option_map}
 use Rattle.lb_select_base.specs.Backends.{Member, same_member}
-use Rattle.lb_health_registry.specs.declared.targets.TargetPlace.{TargetPlace}
-use Rattle.lb_health_registry.specs.declared.targets.Target.{Target}
-use Rattle.lb_health_registry.specs.Registry.{target_at, targets_after}
-use Rattle.lb_health_registry.specs.RegistryEvents.{Event, Observed, changes_after, views_after, cell_health}
-use Rattle.lb_health_registry.specs.Starts.{cell_now}
-use Rattle.lb_health_registry.specs.Targets.{targets_in}
-use Rattle.lb_health_registry.specs.Verdicts.{Verdict}
+use Rattle.lb_health_core.specs.declared.targets.TargetPlace.{TargetPlace}
+use Rattle.lb_health_core.specs.declared.targets.Target.{Target}
+use Rattle.lb_health_core.specs.Registry.{target_at, targets_after}
+use Rattle.lb_health_core.specs.RegistryEvents.{Event, Observed, changes_after, views_after, cell_health}
+use Rattle.lb_health_core.specs.Starts.{cell_now}
+use Rattle.lb_health_core.specs.Targets.{targets_in}
+use Rattle.lb_health_core.specs.Verdicts.{Verdict}
 use Rattle.lb_health_view.specs.Passes.{Reaches, AreKept}
 
 -- a verdict keeps and forgets no cell

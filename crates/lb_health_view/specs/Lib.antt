@@ -1,10 +1,9 @@
 pub mod Discoveries
-pub mod Hints
-pub mod RegistrySide
+pub mod Internal
 pub mod Lookups
 pub mod Passes
+pub mod RegistrySide
 pub mod Snapshots
 pub mod Updates
 pub mod ViewEvents
-pub mod ViewInvariants
 pub mod Views

@@ -1,12 +1,12 @@
 -- A pass of checks over the targets of a registry, and what contracts see of a registry with its check.
 use Rattle.std.specs.Prelude.{◌≡◌, ◌⊎◌, ℕ, Bool, List, [], ◌∷◌, Option, Some, None, Result, is_ok}
 use Rattle.std.specs.List.{AllByRecursion as Each}
-use Rattle.lb_health_check.specs.declared.error.CheckError.{CheckError}
+use Rattle.lb_health_core.specs.declared.error.CheckError.{CheckError}
 use Rattle.lb_select_base.specs.Backends.{Member}
-use Rattle.lb_health_registry.specs.declared.targets.Target.{Target}
-use Rattle.lb_health_registry.specs.Registry.{RegistryValue}
-use Rattle.lb_health_registry.specs.RegistryEvents.{Event, Observed, IsCellKept}
-use Rattle.lb_health_registry.specs.Verdicts.{Verdict}
+use Rattle.lb_health_core.specs.declared.targets.Target.{Target}
+use Rattle.lb_health_core.specs.Registry.{RegistryValue}
+use Rattle.lb_health_core.specs.RegistryEvents.{Event, Observed, IsCellKept}
+use Rattle.lb_health_core.specs.Verdicts.{Verdict}
 
 -- a registry, and the check that is set
 pub record HealthValue (R C : Type 0) : Type 0 where

@@ -7,7 +7,7 @@ use Rattle.lb_select_base.specs.Backends.{Member, same_member}
 use Rattle.lb_select_base.specs.Memberships.{same_members}
 use Rattle.lb_select_base.specs.Seen.{address_seen}
 use Rattle.lb_select_base.specs.declared.backend.SocketAddr.{SocketAddr}
-use Rattle.lb_health_registry.specs.RegistryEvents as registry
+use Rattle.lb_health_core.specs.RegistryEvents as registry
 use Rattle.lb_health_view.specs.Snapshots.{SnapshotValue, snapshot_at, value_at}
 use Rattle.lb_health_view.specs.ViewEvents.{ViewEvent, Shown, Released, Set, generation_after, membership_after, snapshots_after}
 use Rattle.lb_health_view.specs.ViewEvents.{flag_after}

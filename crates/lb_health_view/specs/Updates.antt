@@ -3,8 +3,8 @@ use Rattle.std.specs.Prelude.{◌≡◌, ◌⊎◌, ℕ, Bool, List, Result, Err
 use Rattle.lb_select_base.specs.Backends.{Member}
 use Rattle.lb_select_base.specs.declared.refusal.Refusal.{Refusal}
 use Rattle.lb_select_base.specs.declared.refusal.Refusal.TheVariants.{Discovery}
-use Rattle.lb_health_registry.specs.Registry.{IsRegistryAfter}
-use Rattle.lb_health_registry.specs.RegistryEvents.{Event}
+use Rattle.lb_health_core.specs.Registry.{IsRegistryAfter}
+use Rattle.lb_health_core.specs.RegistryEvents.{Event}
 use Rattle.lb_health_view.specs.declared.discovery.DiscoverySource.{DiscoverySource}
 use Rattle.lb_health_view.specs.Discoveries.{Discovers}
 use Rattle.lb_health_view.specs.RegistrySide.{view_updated, registry_updated}

@@ -2,7 +2,7 @@
 use Rattle.std.specs.Prelude.{◌≡◌, ◌⊎◌, Bool, true, List, IsSome, Some, None, Result, Err}
 use Rattle.lb_select_base.specs.declared.refusal.Refusal.{Refusal}
 use Rattle.lb_select_base.specs.declared.refusal.Refusal.TheVariants.{GenerationsExhausted}
-use Rattle.lb_health_registry.specs.Registry.{IsUpdateRefusal}
+use Rattle.lb_health_core.specs.Registry.{IsUpdateRefusal}
 use Rattle.lb_select_base.specs.Backends.{Member}
 use Rattle.lb_health_view.specs.Snapshots.{ViewValue, value_at}
 use Rattle.lb_health_view.specs.ViewEvents.{ViewEvent, generation_after, snapshots_after, listed, flag_after}

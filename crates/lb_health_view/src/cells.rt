@@ -3,7 +3,7 @@
 ghost use Rattle.std.specs.Prelude.{◌≡◌, ℕ, List, IfSome, Some};
 ghost use Rattle.lb_select_base.specs.AddressText.{bare_member};
 ghost use Rattle.lb_select_base.specs.Backends.{Member, ipv4};
-ghost use Rattle.lb_health_view.specs.Hints.{AreHints};
+ghost use Rattle.lb_health_view.specs.Internal.Hints.{AreHints};
 ghost use Rattle.lb_health_view.specs.Snapshots.{value_at};
 
 use lb_select_base::backend::{Backend, InetAddr, SocketAddr};
@@ -34,7 +34,7 @@ pub(crate) struct Cells {
 impl Model for Cells {
     ghost use Rattle.std.specs.Prelude.{List, ℕ};
     ghost use Rattle.lb_select_base.specs.Backends.{Member};
-    ghost use Rattle.lb_health_view.specs.Hints.{AreHints};
+    ghost use Rattle.lb_health_view.specs.Internal.Hints.{AreHints};
 
     ghost Value = { List (Member × ℕ) };
 

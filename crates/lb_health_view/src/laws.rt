@@ -1,16 +1,16 @@
 //! Laws of views, as functions whose contracts state them. They do nothing at run time; no program needs to call one.
 ghost use Rattle.std.specs.Prelude.{◌≡◌, ◌<◌, ◌↔◌, ◌∷◌, ℕ, Bool, List, true, IsTrue};
 ghost use Rattle.lb_select_base.specs.Backends.{Member};
-ghost use Rattle.lb_health_registry.specs.Registry.{IsRegistryAfter};
-ghost use Rattle.lb_health_registry.specs.RegistryEvents.{Event, holds_cell};
+ghost use Rattle.lb_health_core.specs.Registry.{IsRegistryAfter};
+ghost use Rattle.lb_health_core.specs.RegistryEvents.{Event, holds_cell};
 ghost use Rattle.lb_health_view.specs.RegistrySide.{IsReady, view_updated, registry_updated};
 ghost use Rattle.lb_health_view.specs.Snapshots.{SnapshotValue, IsAmong};
 ghost use Rattle.lb_health_view.specs.ViewEvents.{ViewEvent, Set, generation_after, snapshots_after};
 ghost use Rattle.lb_health_view.specs.Views.{IsViewAfter};
 
 use crate::view::ViewCore;
-use lb_health_registry::keys::KeyRule;
-use lb_health_registry::registry::Registry;
+use lb_health_core::keys::KeyRule;
+use lb_health_core::registry::Registry;
 use lb_select_base::backend::Backend;
 
 /// A snapshot that is held lives on through an update of its view, with its members and its cells, and the registry goes on keeping these

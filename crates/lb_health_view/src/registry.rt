@@ -2,19 +2,19 @@
 //! that flips, the check's observer is called, and then a line is logged.
 ghost use Rattle.std.specs.Prelude.{◌≡◌, ◌↔◌, ◌≤◌, ◌^◌, ◌∷◌, [], false, List, map, length, Result, Ok, Err, Some, None, IfOk, OnOk, OnErr};
 ghost use Rattle.std.specs.Prelude.{IsErrOf, IsSome};
-ghost use Rattle.lb_health_check.specs.declared.error.CheckError.{CheckError};
+ghost use Rattle.lb_health_core.specs.declared.error.CheckError.{CheckError};
 ghost use Rattle.lb_select_base.specs.Backends.{Member};
-ghost use Rattle.lb_health_registry.specs.Keys.{by_identity, by_address, rule_gives, IsRuleOf};
-ghost use Rattle.lb_health_registry.specs.Registry.{IsRegistryAfter, IsGrowthRefusal, targets_after};
-ghost use Rattle.lb_health_registry.specs.RegistryEvents.{Event, Applied, Configured, views_after, cells_given};
-ghost use Rattle.lb_health_registry.specs.Targets.{target_keys};
+ghost use Rattle.lb_health_core.specs.Keys.{by_identity, by_address, rule_gives, IsRuleOf};
+ghost use Rattle.lb_health_core.specs.Registry.{IsRegistryAfter, IsGrowthRefusal, targets_after};
+ghost use Rattle.lb_health_core.specs.RegistryEvents.{Event, Applied, Configured, views_after, cells_given};
+ghost use Rattle.lb_health_core.specs.Targets.{target_keys};
 ghost use Rattle.lb_health_view.specs.Passes.{Reaches, Passes, PassesWith, AreKept, verdict_of};
 
-use lb_health_check::error::CheckError;
-use lb_health_check::health_check::HealthCheck;
-use lb_health_registry::keys::{KeyRule, Rule};
-use lb_health_registry::registry::Registry;
-use lb_health_registry::targets::Target;
+use lb_health_core::error::CheckError;
+use lb_health_core::health_check::HealthCheck;
+use lb_health_core::keys::{KeyRule, Rule};
+use lb_health_core::registry::Registry;
+use lb_health_core::targets::Target;
 use lb_select_base::backend::Backend;
 use lb_select_base::refusal::Refusal;
 use log::{Log, info, warn};

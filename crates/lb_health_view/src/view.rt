@@ -16,14 +16,14 @@ ghost use Rattle.lb_health_view.specs.Views.{IsViewAfter, Flags, IsViewRefusal};
 ghost use Rattle.lb_health_view.specs.RegistrySide.{lives, registry_released, settings_of, after_settings, with_membership, view_changed};
 ghost use Rattle.lb_health_view.specs.RegistrySide.{registry_changed};
 ghost use Rattle.lb_health_view.specs.RegistrySide.{view_updated, registry_updated, IsHealthyIn, IsReadyIn, IsReady};
-ghost use Rattle.lb_health_registry.specs.Registry.{HasOwnCells, IsRegistryAfter, IsGrowthRefusal};
-ghost use Rattle.lb_health_registry.specs.RegistryEvents.{Event, Registered, Updated, Applied, registered_after, has_view, views_after};
-ghost use Rattle.lb_health_registry.specs.RegistryEvents.{cells_given};
+ghost use Rattle.lb_health_core.specs.Registry.{HasOwnCells, IsRegistryAfter, IsGrowthRefusal};
+ghost use Rattle.lb_health_core.specs.RegistryEvents.{Event, Registered, Updated, Applied, registered_after, has_view, views_after};
+ghost use Rattle.lb_health_core.specs.RegistryEvents.{cells_given};
 
 use crate::cells::Cells;
 use crate::snapshot::{ViewSnapshot, have_room, is_among, lists, place_of};
-use lb_health_registry::keys::KeyRule;
-use lb_health_registry::registry::Registry;
+use lb_health_core::keys::KeyRule;
+use lb_health_core::registry::Registry;
 use lb_select_base::backend::{Backend, Ext, SocketAddr};
 use lb_select_base::refusal::Refusal;
 use std::alloc::Global;
@@ -61,7 +61,7 @@ impl Model for ViewCore {
       flags = v.flags.entries;
     } };
 
-    ghost use Rattle.lb_health_view.specs.ViewInvariants.{AreFlagsOf, HaveOwnCells};
+    ghost use Rattle.lb_health_view.specs.Internal.ViewInvariants.{AreFlagsOf, HaveOwnCells};
 
     ghost invariant = { λ v. AreFlagsOf v.disabled v.flags.entries
         × HaveOwnCells (snapshot_of v.current ∷ map snapshot_of v.earlier.items) };

@@ -7,17 +7,17 @@ use Rattle.std.proofs.lemmas.Bool.{ltb-true}
 use Rattle.std.specs.List.{slice_index}
 use mathlib.Core.Logic.{dite}
 use native.Mathlib.Decide.{ℕ_discrete, dec_le}
-use Rattle.lb_rebuild_slots.specs.Gate.{GateId}
-use Rattle.lb_rebuild_slots.specs.SlotsHistory as slots
-use Rattle.lb_rebuild_slots.specs.SlotsHistory.{past_of, newest, served}
-use Rattle.lb_rebuild_slots.specs.SlotsCalls.{at_slot}
-use Rattle.lb_rebuild_slots.specs.Stands.{Made, slots_after}
-use Rattle.lb_rebuild_slots.specs.Values.{SlotValue, SlotsValue}
-use Rattle.lb_rebuild_slots.proofs.SlotsSteps.{length-after}
-use Rattle.lb_rebuild_slots.proofs.Pasts.{not-below, newest-past}
-use Rattle.lb_rebuild_slots.proofs.Telling.{bounded}
-use Rattle.lb_rebuild_group.specs.GroupHistory.{History, slot_events}
-use Rattle.lb_rebuild_group.specs.Stands.{GroupValue, Stands, IsFounded}
+use Rattle.lb_rebuild_core.specs.Gate.{GateId}
+use Rattle.lb_rebuild_core.specs.SlotsHistory as slots
+use Rattle.lb_rebuild_core.specs.SlotsHistory.{past_of, newest, served}
+use Rattle.lb_rebuild_core.specs.SlotsCalls.{at_slot}
+use Rattle.lb_rebuild_core.specs.Stands.{Made, slots_after}
+use Rattle.lb_rebuild_core.specs.Values.{SlotValue, SlotsValue}
+use Rattle.lb_rebuild_core.proofs.SlotsSteps.{length-after}
+use Rattle.lb_rebuild_core.proofs.Pasts.{not-below, newest-past}
+use Rattle.lb_rebuild_core.proofs.Telling.{bounded}
+use Rattle.lb_rebuild_core.specs.GroupHistory.{History, slot_events}
+use Rattle.lb_rebuild_core.specs.GroupStates.{GroupValue, Stands, IsFounded}
 use Rattle.lb_rebuild.specs.Watched.{words_of}
 use Rattle.lb_rebuild.proofs.Words.{generations, served_there}
 

@@ -7,27 +7,27 @@ use Rattle.std.proofs.lemmas.List.{map-set, length-map}
 use Rattle.std.proofs.lemmas.Bool.{eqb-true}
 use Rattle.std.proofs.lemmas.Option.{slice_get_within}
 use Rattle.std.specs.List.{slice_index}
-use Rattle.lb_rebuild_slots.specs.Gate.{GateId}
-use Rattle.lb_rebuild_slots.specs.SlotsHistory as slots
-use Rattle.lb_rebuild_slots.specs.SlotsHistory.{SlotEvent, SlotsEvent, past_of, newest, served, granted, extra, is_under_way, reaches}
-use Rattle.lb_rebuild_slots.specs.SlotsHistory.{Extra}
-use Rattle.lb_rebuild_slots.specs.SlotsCalls.{Schedules, schedule_events, is_change, ask_events, asked_events, fail_events, publish_events}
-use Rattle.lb_rebuild_slots.specs.SlotsCalls.{abandon_events, done_at, ticket_events, serves, is_awaited}
-use Rattle.lb_rebuild_slots.specs.SlotCalls.{ask_told}
-use Rattle.lb_rebuild_slots.specs.Stands as core
-use Rattle.lb_rebuild_slots.specs.Stands.{Made, StandsFor, slots_after, slot_after, group_after}
-use Rattle.lb_rebuild_slots.specs.Values.{SlotValue, SlotsValue, BuiltValue, Task, configs_of}
+use Rattle.lb_rebuild_core.specs.Gate.{GateId}
+use Rattle.lb_rebuild_core.specs.SlotsHistory as slots
+use Rattle.lb_rebuild_core.specs.SlotsHistory.{SlotEvent, SlotsEvent, past_of, newest, served, granted, extra, is_under_way, reaches}
+use Rattle.lb_rebuild_core.specs.SlotsHistory.{Extra}
+use Rattle.lb_rebuild_core.specs.SlotsCalls.{Schedules, schedule_events, is_change, ask_events, asked_events, fail_events, publish_events}
+use Rattle.lb_rebuild_core.specs.SlotsCalls.{abandon_events, done_at, ticket_events, serves, is_awaited}
+use Rattle.lb_rebuild_core.specs.SlotCalls.{ask_told}
+use Rattle.lb_rebuild_core.specs.Stands as core
+use Rattle.lb_rebuild_core.specs.Stands.{Made, StandsFor, slots_after, slot_after, group_after}
+use Rattle.lb_rebuild_core.specs.Values.{SlotValue, SlotsValue, BuiltValue, Task, configs_of}
 use Rattle.lb_select_base.specs.Backends.{Member}
-use Rattle.lb_rebuild_slots.specs.declared.answers.Ask.{Ask}
-use Rattle.lb_rebuild_slots.specs.declared.membership.Scheduled.{Scheduled}
-use Rattle.lb_rebuild_slots.specs.declared.answers.Publication.{Publication}
-use Rattle.lb_rebuild_slots.specs.declared.answers.Publication.TheVariants as told
-use Rattle.lb_rebuild_slots.proofs.SlotsSteps.{event-slots, length-after, get-after, configs-after}
-use Rattle.lb_rebuild_slots.proofs.Pasts.{UnderWayFits, under-way-fits, newest-past, granted-newest, served-granted}
+use Rattle.lb_rebuild_core.specs.declared.answers.Ask.{Ask}
+use Rattle.lb_rebuild_core.specs.declared.membership.Scheduled.{Scheduled}
+use Rattle.lb_rebuild_core.specs.declared.answers.Publication.{Publication}
+use Rattle.lb_rebuild_core.specs.declared.answers.Publication.TheVariants as told
+use Rattle.lb_rebuild_core.proofs.SlotsSteps.{event-slots, length-after, get-after, configs-after}
+use Rattle.lb_rebuild_core.proofs.Pasts.{UnderWayFits, under-way-fits, newest-past, granted-newest, served-granted}
 use Rattle.lb_select_base.specs.declared.refusal.Refusal.{Refusal}
-use Rattle.lb_rebuild_group.specs.GroupHistory.{History, slot_events, in_group, Set}
-use Rattle.lb_rebuild_group.specs.Stands.{GroupValue, Stands, IsFounded, Becomes}
-use Rattle.lb_rebuild_group.proofs.Histories.{group-joined}
+use Rattle.lb_rebuild_core.specs.GroupHistory.{History, slot_events, in_group, Set}
+use Rattle.lb_rebuild_core.specs.GroupStates.{GroupValue, Stands, IsFounded, Becomes}
+use Rattle.lb_rebuild_core.proofs.Histories.{group-joined}
 use Rattle.lb_rebuild.specs.Watched.{words_of}
 
 -- an event that leaves the newest generation and what is served

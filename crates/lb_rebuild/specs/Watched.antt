@@ -1,12 +1,12 @@
 -- What contracts see of a group whose generations are on a board.
 use Rattle.std.specs.Prelude.{ℕ, List, ◌∷◌, map, Result, Ok, Err, cond}
 use Rattle.lb_select_base.specs.declared.refusal.Refusal.{Refusal}
-use Rattle.lb_rebuild_slots.specs.declared.answers.Publication.{Publication}
-use Rattle.lb_rebuild_slots.specs.declared.answers.Publication.TheVariants as told
-use Rattle.lb_rebuild_slots.specs.declared.membership.Scheduled.{Scheduled}
+use Rattle.lb_rebuild_core.specs.declared.answers.Publication.{Publication}
+use Rattle.lb_rebuild_core.specs.declared.answers.Publication.TheVariants as told
+use Rattle.lb_rebuild_core.specs.declared.membership.Scheduled.{Scheduled}
 use Rattle.lb_rebuild.specs.Pass.{BoardId}
-use Rattle.lb_rebuild_slots.specs.Values.{SlotValue, SlotsValue}
-use Rattle.lb_rebuild_group.specs.Stands.{GroupValue}
+use Rattle.lb_rebuild_core.specs.Values.{SlotValue, SlotsValue}
+use Rattle.lb_rebuild_core.specs.GroupStates.{GroupValue}
 
 -- what the words of a group's board are: its newest generation, and what each slot serves
 abbrev pub words_of : {C : Type 0} → SlotsValue C → List ℕ

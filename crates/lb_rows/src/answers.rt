@@ -3,7 +3,7 @@ use crate::check_tables::{Asked, Asks, Cut, DEFAULT, MadeStream, Where};
 use crate::files::file;
 use crate::streams::{Sink, Source};
 use http::{Method, Request, StatusCode};
-use lb_health_check::error::CheckError;
+use lb_health_core::error::CheckError;
 use lb_health_http::{AcceptStatus, check_over, request_for};
 use lb_stream::counted::Counted;
 use std::alloc::Global;

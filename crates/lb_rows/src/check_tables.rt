@@ -1,6 +1,6 @@
 //! The rows of answers to a check: those in data/ by the names of their files, those that are cut, and those that are made.
 use crate::made::{Fill, Made};
-use lb_health_check::error::CheckError;
+use lb_health_core::error::CheckError;
 
 /// What a check asks for.
 #[derive(Clone, Copy)]

@@ -2,10 +2,10 @@
 //! What a pass does with a check's word is proved; here the checks meet real servers, and closed ports.
 use crate::server_tables::{ANSWER, By, Pass};
 use crate::servers::{backend_at, backend_at_closed_port};
-use lb_health_check::health_check::{HealthCheck, HealthObserve, IdentitySummary};
+use lb_health_core::health_check::{HealthCheck, HealthObserve, IdentitySummary};
+use lb_health_core::keys::{ByNumber, Rule};
+use lb_health_core::registry::RegistryCore;
 use lb_health_http::{AcceptStatus, HttpHealthCheck, TcpHealthCheck};
-use lb_health_registry::keys::{ByNumber, Rule};
-use lb_health_registry::registry::RegistryCore;
 use lb_health_view::backends::Backends;
 use lb_health_view::discovery::{DiscoverySource, Static};
 use lb_health_view::registry::HealthRegistry;

@@ -2,9 +2,9 @@
 //! failed for it is asked for as soon as it is due. Each answer has to be the script's, but for the failures and the timing of that build.
 use crate::files::file;
 use crate::script_tables::Retried;
-use lb_script_text::kinds::{Chosen, Kind};
-use lb_script_text::parse::parse;
-use lb_script_text::texts::{Scratch, push_line};
+use lb_script::kinds::{Chosen, Kind};
+use lb_script::parse::parse;
+use lb_script::texts::{Scratch, push_line};
 use lb_select_base::refusal::Refusal;
 use lb_world::answer::Answer;
 use lb_world::step::Step;

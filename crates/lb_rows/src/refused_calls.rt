@@ -1,18 +1,18 @@
 //! Calls of a plain balancer, a plain group and a registry that memory may be refused in: a call that was refused for it has to leave all
 //! that can be read as it was, and is made again. What is read after each call is that of the call's row, whether it was made again or not.
 ghost use Rattle.std.specs.Prelude.{◌≡◌, IfOk};
-ghost use Rattle.lb_rebuild_group.specs.Stands.{SameSite};
+ghost use Rattle.lb_rebuild_core.specs.GroupStates.{SameSite};
 
 use crate::refused::Again;
 use lb_balancer_core::balancer_core::LoadBalancerCore;
 use lb_balancer_core::group_core::LoadBalancerGroupCore;
 use lb_balancer_core::timings::UpdateTimings;
-use lb_health_registry::registry::RegistryCore;
+use lb_health_core::registry::RegistryCore;
 use lb_health_view::discovery::{Discovered, DiscoverySource, ServiceDiscovery};
 use lb_health_view::view::Settings;
-use lb_rebuild_slots::answers::{Ask, Publication};
-use lb_rebuild_slots::gate::GateCore;
-use lb_rebuild_slots::job::FailedBuild;
+use lb_rebuild_core::answers::{Ask, Publication};
+use lb_rebuild_core::gate::GateCore;
+use lb_rebuild_core::job::FailedBuild;
 use lb_select::selection::FNVHash;
 use lb_select_base::backend::Backend;
 use lb_select_base::loads::Loads;

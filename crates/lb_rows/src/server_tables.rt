@@ -1,5 +1,5 @@
 //! The rows of checks over sockets of the own loopback: servers that each serve one connection, and passes over one backend.
-use lb_health_check::error::CheckError;
+use lb_health_core::error::CheckError;
 
 /// Which check is run.
 #[derive(Clone, Copy)]

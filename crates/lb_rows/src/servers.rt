@@ -2,8 +2,8 @@
 use crate::server_tables::{By, Place, Server, Serves};
 use http::header::USER_AGENT;
 use http_header::{HeaderMap, HeaderValue};
-use lb_health_check::error::CheckError;
-use lb_health_check::health_check::HealthCheck;
+use lb_health_core::error::CheckError;
+use lb_health_core::health_check::HealthCheck;
 use lb_health_http::{HttpHealthCheck, HttpPeer, TcpHealthCheck};
 use lb_select_base::backend::Backend;
 use std::alloc::Global;

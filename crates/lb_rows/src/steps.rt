@@ -1,9 +1,9 @@
 //! Scripts as lists of steps: a world that takes them in one run answers them as the script is answered.
 //! Lines are read by the script's own parser; a line that ends its script is no step.
 use crate::scripts::step_answers;
-use lb_script_text::kinds::{Chosen, Kind};
-use lb_script_text::parse::parse;
-use lb_script_text::texts::{Scratch, push_line};
+use lb_script::kinds::{Chosen, Kind};
+use lb_script::parse::parse;
+use lb_script::texts::{Scratch, push_line};
 use lb_world::answer::Answer;
 use lb_world::headline::simulate;
 use lb_world::step::Step;

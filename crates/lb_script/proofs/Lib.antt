@@ -1,2 +1,9 @@
+pub mod BackendsLemmas
+pub mod FiguresLemmas
+pub mod Fitting
+pub mod NumbersLemmas
+pub mod ParseLemmas
 pub mod RunLemmas
+pub mod SelectionLemmas
 pub mod SessionLemmas
+pub mod WordsLemmas

@@ -8,16 +8,16 @@ use Rattle.lb_world.specs.History.{History}
 use Rattle.lb_world.specs.Meanings.{Meaning}
 use Rattle.lb_world.specs.Stands.{Stands}
 use Rattle.lb_world.specs.Views.{WorldValue}
-use Rattle.lb_script_text.specs.declared.error.ScriptError.{ScriptError}
-use Rattle.lb_script_text.specs.declared.error.ScriptError.TheVariants.{BadLine, LineTooLong, Read, OutOfMemory}
+use Rattle.lb_script.specs.declared.error.ScriptError.{ScriptError}
+use Rattle.lb_script.specs.declared.error.ScriptError.TheVariants.{BadLine, LineTooLong, Read, OutOfMemory}
 use Rattle.lb_script.specs.declared.session.LineTurn.{LineTurn}
 use Rattle.lb_script.specs.declared.session.LineTurn.TheVariants.{Answered, LastAnswered, Ended, Failed}
-use Rattle.lb_script_text.specs.declared.kinds.Kind.{Kind}
+use Rattle.lb_script.specs.declared.kinds.Kind.{Kind}
 use Rattle.lb_stream.specs.Lines.{lines_of, whole_lines, first_line, IsLine}
 use Rattle.lb_script.specs.Output.{IsOutput, ends, answered, bad_line, too_long, no_memory, read_fails, IsToAnswer, Wrote, WroteFront}
 use Rattle.lb_script.specs.Internal.Session.{AnsweredLine, AnsweredRest, FailsFor, TakesTurn, Joins}
 use Rattle.lb_stream.specs.Stream.{OnBytes, AppendsFront}
-use Rattle.lb_script_text.specs.Texts.{answer_text, error_text}
+use Rattle.lb_script.specs.Texts.{answer_text, error_text}
 use Rattle.lb_stream.proofs.LinesLemmas.{lines_first, lines_feed, lines_last, whole_feed, whole_none, first_of_none}
 use Rattle.lb_stream.proofs.StreamLemmas.{front_more, front_after}
 

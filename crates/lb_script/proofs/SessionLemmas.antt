@@ -6,15 +6,15 @@ use Rattle.std.proofs.KnownBytes.{Appends-nil, Appends-kept}
 use Rattle.lb_world.specs.History.{History}
 use Rattle.lb_world.specs.Meanings.{Meaning}
 use Rattle.lb_world.specs.Views.{WorldValue}
-use Rattle.lb_script_text.specs.declared.error.ScriptError.{ScriptError}
-use Rattle.lb_script_text.specs.declared.error.ScriptError.TheVariants.{BadLine, LineTooLong, Read, OutOfMemory}
+use Rattle.lb_script.specs.declared.error.ScriptError.{ScriptError}
+use Rattle.lb_script.specs.declared.error.ScriptError.TheVariants.{BadLine, LineTooLong, Read, OutOfMemory}
 use Rattle.lb_stream.specs.declared.lines.LineRead.TheVariants.{Line, LastLine}
 use Rattle.lb_script.specs.declared.session.LineTurn.{LineTurn}
 use Rattle.lb_script.specs.declared.session.LineTurn.TheVariants.{Answered, LastAnswered, Ended, Failed, WriteFailed}
-use Rattle.lb_script_text.specs.declared.kinds.Kind.{Kind}
+use Rattle.lb_script.specs.declared.kinds.Kind.{Kind}
 use Rattle.lb_stream.specs.Stream.{OnBytes}
 use Rattle.lb_stream.specs.Lines.{Finds, IsLine}
-use Rattle.lb_script_text.specs.StepLines.{step_of}
+use Rattle.lb_script.specs.StepLines.{step_of}
 use Rattle.lb_script.specs.Internal.Session.{AnsweredLine, AnsweredRest, AnswersLine, TakesTurn, Joins}
 use Rattle.lb_stream.proofs.LinesLemmas.{first_of_stream}
 

@@ -1,2 +1,10 @@
-pub mod Output
+pub mod Chosen
 pub mod Internal
+pub mod Kinds
+pub mod Lent
+pub mod LineSteps
+pub mod Numbers
+pub mod Output
+pub mod StepLines
+pub mod Texts
+pub mod Words

@@ -8,12 +8,12 @@ use Rattle.lb_world.specs.History.{History}
 use Rattle.lb_world.specs.Meanings.{Meaning}
 use Rattle.lb_world.specs.Steps.{Step}
 use Rattle.lb_world.specs.declared.answer.Answer.{Answer}
-use Rattle.lb_script_text.specs.declared.error.ScriptError.TheVariants as error
-use Rattle.lb_script_text.specs.declared.kinds.Kind.{Kind}
+use Rattle.lb_script.specs.declared.error.ScriptError.TheVariants as error
+use Rattle.lb_script.specs.declared.kinds.Kind.{Kind}
 use Rattle.lb_stream.specs.Lines.{lines_of, whole_lines}
-use Rattle.lb_script_text.specs.StepLines.{step_of}
+use Rattle.lb_script.specs.StepLines.{step_of}
 use Rattle.lb_stream.specs.Stream.{AppendsFront}
-use Rattle.lb_script_text.specs.Texts.{answer_text, error_text}
+use Rattle.lb_script.specs.Texts.{answer_text, error_text}
 
 -- a line is there, or its number is past the largest
 abbrev pub HasLine : ℕ → List (List ℕ) → Type 0

@@ -6,12 +6,12 @@ ghost use Rattle.lb_world.specs.Meanings.{meaning_of};
 ghost use Rattle.lb_stream.specs.Counted.{inner_of, has_failed, is_flushed};
 ghost use Rattle.lb_stream.specs.Stream.{AppendsFront};
 ghost use Rattle.lb_script.specs.Output.{Wrote, WroteFront};
-ghost use Rattle.lb_script_text.specs.Texts.{error_text};
+ghost use Rattle.lb_script.specs.Texts.{error_text};
 
+use crate::error::ScriptError;
+use crate::kinds::{Chosen, Kind};
 use crate::session::{LineTurn, Session};
 use itoa::Buffer;
-use lb_script_text::error::ScriptError;
-use lb_script_text::kinds::{Chosen, Kind};
 use lb_select_base::walk::BackendSelection;
 use lb_stream::counted::Counted;
 use std::alloc::Global;

@@ -1,11 +1,11 @@
 //! Passes of checks over a registry that threads share.
-use lb_health_check::error::CheckError;
-use lb_health_check::health_check::HealthCheck;
-use lb_health_registry::keys::Rule;
+use lb_health_core::error::CheckError;
+use lb_health_core::health_check::HealthCheck;
+use lb_health_core::keys::Rule;
 use lb_select_base::backend::Backend;
 use lb_select_base::refusal::Refusal;
-use lb_threads_registry::keyed::{KeyedRegistry, NoRule, keyed_by_identity};
-use lb_threads_registry::registry::HealthRegistry;
+use lb_threads_core::keyed::{KeyedRegistry, NoRule, keyed_by_identity};
+use lb_threads_core::registry::HealthRegistry;
 use log::Log;
 use std::alloc::Global;
 use std::collections::BTreeSet;

@@ -10,7 +10,7 @@ mod turns;
 mod waking;
 
 use lb_crowd::crowd::{Crowd, Registry};
-use lb_threads_registry::registry::HealthRegistry;
+use lb_threads_core::registry::HealthRegistry;
 use log::Log;
 use std::alloc::Global;
 use std::process::Abort;

@@ -1,7 +1,7 @@
 //! Locks and gates that several threads use at once.
-use lb_threads_registry::gate::SelectorRebuildGate;
-use lb_threads_registry::lock::KeyedLock;
-use lb_threads_registry::rule::LockRule;
+use lb_threads_core::gate::SelectorRebuildGate;
+use lb_threads_core::lock::KeyedLock;
+use lb_threads_core::rule::LockRule;
 use std::sync::Wait;
 use std::thread;
 use std::thread::{Threads, join};

@@ -1,15 +1,15 @@
 //! Views that share a registry: whose health they share, whose flags they don't, what an update passes to its caller, and how they leave.
-use lb_health_check::error::CheckError;
-use lb_health_check::health_check::HealthCheck;
-use lb_health_registry::keys::Rule;
+use lb_health_core::error::CheckError;
+use lb_health_core::health_check::HealthCheck;
+use lb_health_core::keys::Rule;
 use lb_health_view::discovery::{Discovered, DiscoverySource, ServiceDiscovery};
 use lb_health_view::view::Settings;
 use lb_select_base::backend::{Backend, InetAddr, SocketAddr};
 use lb_select_base::refusal::Refusal;
-use lb_threads_registry::backends::Backends;
-use lb_threads_registry::keyed::NoRule;
-use lb_threads_registry::registry::HealthRegistry;
-use lb_threads_view::view::BackendView;
+use lb_threads_core::backends::Backends;
+use lb_threads_core::keyed::NoRule;
+use lb_threads_core::registry::HealthRegistry;
+use lb_threads_core::view::BackendView;
 use log::Log;
 use std::alloc::Global;
 use std::collections::BTreeSet;

@@ -5,14 +5,14 @@ use denote.Param.Send.{IsSend, IsSync, sendable, view_send, view_sync, struct_se
 use Rattle.std.proofs.Crossing.{crosses}
 use Rattle.lb_select_base.specs.declared.walk.BackendSelection.{Ghosts as Selection}
 use Rattle.lb_select_base.specs.declared.walk.BackendIter.{Ghosts as Iter}
-use Rattle.lb_health_registry.specs.declared.keys.KeyRule.{Ghosts as Keys}
+use Rattle.lb_health_core.specs.declared.keys.KeyRule.{Ghosts as Keys}
 use Rattle.lb_select_base.proofs.loads.Loads.TheSendSync as loads
-use Rattle.lb_threads_registry.proofs.lock.KeyedLock.TheSendSync as lock
+use Rattle.lb_threads_core.proofs.lock.KeyedLock.TheSendSync as lock
 use Rattle.lb_rebuild.proofs.board.Board.TheSendSync as board
 use Rattle.lb_rebuild.specs.contracts.watched.Watched as watched
 use Rattle.lb_rebuild.proofs.Crossings.{watched_send}
-use Rattle.lb_threads_registry.proofs.registry.HealthRegistry.TheSendSync as registry
-use Rattle.lb_threads_registry.proofs.gate.SelectorRebuildGate.TheSendSync as gate
+use Rattle.lb_threads_core.proofs.registry.HealthRegistry.TheSendSync as registry
+use Rattle.lb_threads_core.proofs.gate.SelectorRebuildGate.TheSendSync as gate
 use Rattle.lb_threads_group.proofs.group.SlotCounters.TheSendSync as line
 use Rattle.lb_threads_group.specs.contracts.group.SharedGroup as shared
 use Rattle.lb_threads_group.specs.contracts.group.SharedGroup.TheInside as inside

@@ -6,12 +6,12 @@ use Rattle.lb_select_base.specs.declared.refusal.Refusal.TheVariants as refusal
 use Rattle.lb_select_base.specs.Backends.{Member, same_member}
 use Rattle.lb_select_base.specs.Draws.{Draw, Gives}
 use Rattle.lb_select_base.specs.Selections.{Selects}
-use Rattle.lb_rebuild_slots.specs.SlotsHistory.{past_of, served, readers}
-use Rattle.lb_rebuild_slots.specs.SlotsCalls.{at_slot, Enters}
-use Rattle.lb_rebuild_slots.specs.Stands.{Made}
-use Rattle.lb_rebuild_slots.specs.Values.{ReaderValue}
-use Rattle.lb_rebuild_group.specs.GroupHistory.{History, slot_events}
-use Rattle.lb_rebuild_group.specs.Stands.{GroupValue, IsFounded, After}
+use Rattle.lb_rebuild_core.specs.SlotsHistory.{past_of, served, readers}
+use Rattle.lb_rebuild_core.specs.SlotsCalls.{at_slot, Enters}
+use Rattle.lb_rebuild_core.specs.Stands.{Made}
+use Rattle.lb_rebuild_core.specs.Values.{ReaderValue}
+use Rattle.lb_rebuild_core.specs.GroupHistory.{History, slot_events}
+use Rattle.lb_rebuild_core.specs.GroupStates.{GroupValue, IsFounded, After}
 use Rattle.lb_threads_group.specs.Shared.{SelectsByAny}
 
 -- what is said of a slot is said of one that is there

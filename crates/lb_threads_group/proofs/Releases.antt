@@ -1,17 +1,17 @@
 -- Calls of a group lengthen the history of the registry that it is over.
 use Rattle.std.specs.Prelude.{ℕ, List, ◌∷◌, Result, Ok, Err, OnOk, OnErr}
 use Rattle.lb_select_base.specs.Backends.{Member}
-use Rattle.lb_health_registry.specs.Registry.{RegistryValue, IsRegistryAfter}
-use Rattle.lb_health_registry.specs.RegistryEvents.{Event}
+use Rattle.lb_health_core.specs.Registry.{RegistryValue, IsRegistryAfter}
+use Rattle.lb_health_core.specs.RegistryEvents.{Event}
 use Rattle.lb_health_view.specs.RegistrySide.{registry_updated}
 use Rattle.lb_health_view.specs.ViewEvents as view
 use Rattle.lb_health_view.specs.ViewEvents.{ViewEvent}
-use Rattle.lb_rebuild_slots.specs.Stands.{Made}
-use Rattle.lb_rebuild_group.specs.GroupCalls.{released_where}
-use Rattle.lb_rebuild_group.specs.GroupHistory.{History}
-use Rattle.lb_rebuild_group.specs.Stands.{GroupValue, IsFounded, After, views_of}
-use Rattle.lb_threads_registry.specs.Registry.{IsRegistryOf, Becomes}
-use Rattle.lb_threads_registry.proofs.Histories.{Longer, changed, lengthened, no_more, released, stays}
+use Rattle.lb_rebuild_core.specs.Stands.{Made}
+use Rattle.lb_rebuild_core.specs.GroupCalls.{released_where}
+use Rattle.lb_rebuild_core.specs.GroupHistory.{History}
+use Rattle.lb_rebuild_core.specs.GroupStates.{GroupValue, IsFounded, After, views_of}
+use Rattle.lb_threads_core.specs.Registry.{IsRegistryOf, Becomes}
+use Rattle.lb_threads_core.proofs.Histories.{Longer, changed, lengthened, no_more, released, stays}
 use Rattle.lb_threads_group.specs.Group.{IsReleasedWhere}
 
 let_go : {A B : Type 0} (a : Result A B) (id g : ℕ) (views : List ViewEvent) (events : List Event)

@@ -4,8 +4,8 @@ use Rattle.std.proofs.Common.{sym, ap, ◌∙◌, inl, inr}
 use Rattle.lb_select_base.specs.Backends.{Member}
 use Rattle.lb_select_base.specs.Draws.{Draw}
 use Rattle.lb_select_base.specs.declared.refusal.Refusal.{Refusal}
-use Rattle.lb_rebuild_slots.specs.Values.{ReaderValue}
-use Rattle.lb_rebuild_slots.specs.declared.membership.Scheduled.{Scheduled}
+use Rattle.lb_rebuild_core.specs.Values.{ReaderValue}
+use Rattle.lb_rebuild_core.specs.declared.membership.Scheduled.{Scheduled}
 use Rattle.lb_balancer_core.specs.Looks.{Look, drew, told, Looks, SelectsBy, Inside, SelectedThrough}
 use Rattle.lb_balancer_core.specs.Through.{UpdatedBy, UpdatedThrough}
 

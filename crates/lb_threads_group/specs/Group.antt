@@ -4,25 +4,25 @@ use Rattle.std.specs.Prelude.{◌≡◌, ◌↔◌, ℕ, Bool, List, Option, Som
 use Rattle.lb_select_base.specs.Backends.{Member}
 use Rattle.lb_select_base.specs.Draws.{Draw}
 use Rattle.lb_select_base.specs.declared.refusal.Refusal.{Refusal}
-use Rattle.lb_rebuild_slots.specs.Gate.{GateValue}
-use Rattle.lb_health_registry.specs.Registry.{RegistryValue, IsRegistryAfter}
-use Rattle.lb_health_registry.specs.RegistryEvents.{Event}
-use Rattle.lb_rebuild_slots.specs.SlotsCalls.{Fails, fail_events, Publishes, publish_events, Leaves, Reports, done_at, gate_back}
+use Rattle.lb_rebuild_core.specs.Gate.{GateValue}
+use Rattle.lb_health_core.specs.Registry.{RegistryValue, IsRegistryAfter}
+use Rattle.lb_health_core.specs.RegistryEvents.{Event}
+use Rattle.lb_rebuild_core.specs.SlotsCalls.{Fails, fail_events, Publishes, publish_events, Leaves, Reports, done_at, gate_back}
 use Rattle.lb_health_view.specs.RegistrySide.{IsReady}
-use Rattle.lb_rebuild_slots.specs.SlotsHistory.{Left, Destroyed, newest}
-use Rattle.lb_rebuild_slots.specs.Values.{Task, BuiltValue, RetiredValue, PermitValue, ReaderValue, configs_of}
-use Rattle.lb_rebuild_slots.specs.declared.answers.Ask.{Ask}
-use Rattle.lb_rebuild_slots.specs.declared.answers.Publication.{Publication}
-use Rattle.lb_rebuild_slots.specs.declared.answers.Publication.TheVariants as told
-use Rattle.lb_rebuild_slots.specs.declared.membership.Scheduled.{Scheduled}
-use Rattle.lb_rebuild_group.specs.GroupCalls.{released_where, generation_at}
-use Rattle.lb_rebuild_group.specs.GroupHistory.{History, slot_events, in_group}
-use Rattle.lb_rebuild_slots.specs.Stands.{Made}
-use Rattle.lb_rebuild_group.specs.Stands.{GroupValue, After, Becomes, IsFounded, SameSite, views_of}
+use Rattle.lb_rebuild_core.specs.SlotsHistory.{Left, Destroyed, newest}
+use Rattle.lb_rebuild_core.specs.Values.{Task, BuiltValue, RetiredValue, PermitValue, ReaderValue, configs_of}
+use Rattle.lb_rebuild_core.specs.declared.answers.Ask.{Ask}
+use Rattle.lb_rebuild_core.specs.declared.answers.Publication.{Publication}
+use Rattle.lb_rebuild_core.specs.declared.answers.Publication.TheVariants as told
+use Rattle.lb_rebuild_core.specs.declared.membership.Scheduled.{Scheduled}
+use Rattle.lb_rebuild_core.specs.GroupCalls.{released_where, generation_at}
+use Rattle.lb_rebuild_core.specs.GroupHistory.{History, slot_events, in_group}
+use Rattle.lb_rebuild_core.specs.Stands.{Made}
+use Rattle.lb_rebuild_core.specs.GroupStates.{GroupValue, After, Becomes, IsFounded, SameSite, views_of}
 use Rattle.lb_balancer_core.specs.Looks.{SelectedThrough}
 use Rattle.lb_balancer_core.specs.Through.{UpdatedThrough}
 use Rattle.lb_balancer_core.specs.Plain.{IsAsked, IsEntered, IsTaken, IsScheduled, IsReadyFor}
-use Rattle.lb_threads_registry.specs.Registry.{IsRegistryOf, UnderRegistry}
+use Rattle.lb_threads_core.specs.Registry.{IsRegistryOf, UnderRegistry}
 use Rattle.lb_threads_group.specs.Shared.{SharedValue}
 
 module _ {C : Type 0} where

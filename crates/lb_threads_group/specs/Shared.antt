@@ -1,8 +1,8 @@
 -- What contracts see of a group that threads share, whose generations are read on its board.
 use Rattle.std.specs.Prelude.{◌≡◌, ◌⊎◌, ◌≤◌, ◌<◌, ◌+◌, ℕ, Bool, List, Option, Result}
 use Rattle.lb_rebuild.specs.Pass.{BoardId}
-use Rattle.lb_rebuild_group.specs.Stands.{GroupValue, SameSite}
-use Rattle.lb_health_registry.specs.Registry.{RegistryValue}
+use Rattle.lb_rebuild_core.specs.GroupStates.{GroupValue, SameSite}
+use Rattle.lb_health_core.specs.Registry.{RegistryValue}
 use Rattle.lb_select_base.specs.Backends.{Member, same_member}
 use Rattle.lb_select_base.specs.Draws.{Draw}
 use Rattle.lb_select_base.specs.Selections.{Selects}

@@ -2,17 +2,17 @@
 //! call takes the group's lock once.
 ghost use Rattle.std.specs.Prelude.{◌≡◌, Err, IfOk, OnErr};
 ghost use Rattle.std.specs.Arc.{arc_value};
-ghost use Rattle.lb_rebuild_group.specs.GroupHistory.{members_now};
-ghost use Rattle.lb_rebuild_group.specs.Stands.{After};
+ghost use Rattle.lb_rebuild_core.specs.GroupHistory.{members_now};
+ghost use Rattle.lb_rebuild_core.specs.GroupStates.{After};
 ghost use Rattle.lb_threads_group.specs.Group.{NewestReadyUnder, Seen};
 
 use crate::group::SharedGroup;
-use lb_health_check::health_check::HealthCheck;
-use lb_health_registry::keys::KeyRule;
+use lb_health_core::health_check::HealthCheck;
+use lb_health_core::keys::KeyRule;
 use lb_select_base::backend::Backend;
 use lb_select_base::refusal::Refusal;
 use lb_select_base::walk::BackendSelection;
-use lb_threads_registry::registry::HealthRegistry;
+use lb_threads_core::registry::HealthRegistry;
 use std::collections::BTreeSet;
 use std::sync::{Arc, Wait};
 

@@ -1,16 +1,16 @@
 //! Readings of a group that threads share. Each call takes the group's lock once, and returns what was true then.
 ghost use Rattle.std.specs.Prelude.{◌≡◌};
-ghost use Rattle.lb_rebuild_slots.specs.SlotsCalls.{at_slot};
-ghost use Rattle.lb_rebuild_slots.specs.SlotsHistory.{past_of, newest, is_cancelled, served, timing as timing_after};
-ghost use Rattle.lb_rebuild_slots.specs.Stands.{counts_after};
-ghost use Rattle.lb_rebuild_group.specs.GroupHistory.{slot_events};
-ghost use Rattle.lb_rebuild_group.specs.Stands.{After};
+ghost use Rattle.lb_rebuild_core.specs.SlotsCalls.{at_slot};
+ghost use Rattle.lb_rebuild_core.specs.SlotsHistory.{past_of, newest, is_cancelled, served, timing as timing_after};
+ghost use Rattle.lb_rebuild_core.specs.Stands.{counts_after};
+ghost use Rattle.lb_rebuild_core.specs.GroupHistory.{slot_events};
+ghost use Rattle.lb_rebuild_core.specs.GroupStates.{After};
 ghost use Rattle.lb_threads_group.specs.Group.{Seen};
 
 use crate::group::SharedGroup;
-use lb_health_check::health_check::HealthCheck;
-use lb_health_registry::keys::KeyRule;
-use lb_rebuild_slots::answers::{Counts, Timing};
+use lb_health_core::health_check::HealthCheck;
+use lb_health_core::keys::KeyRule;
+use lb_rebuild_core::answers::{Counts, Timing};
 use lb_select_base::walk::BackendSelection;
 use std::sync::Wait;
 

@@ -6,11 +6,11 @@ use Rattle.std.proofs.lemmas.Bool.{eqb-true, eq-eqb}
 use Rattle.lb_select_base.specs.Refusals.{earlier, refusal_number}
 use Rattle.lb_select_base.specs.declared.refusal.Refusal.{Refusal}
 use Rattle.lb_select_base.specs.declared.refusal.Refusal.TheVariants as refusal
-use Rattle.lb_rebuild_slots.specs.SlotsHistory as slots
-use Rattle.lb_rebuild_slots.specs.SlotsCalls.{is_change, schedule_refusal, is_served}
-use Rattle.lb_rebuild_slots.specs.SlotCalls.{take_refusal}
-use Rattle.lb_rebuild_slots.specs.Stands.{left_readers}
-use Rattle.lb_rebuild_slots.proofs.Telling.{tells}
+use Rattle.lb_rebuild_core.specs.SlotsHistory as slots
+use Rattle.lb_rebuild_core.specs.SlotsCalls.{is_change, schedule_refusal, is_served}
+use Rattle.lb_rebuild_core.specs.SlotCalls.{take_refusal}
+use Rattle.lb_rebuild_core.specs.Stands.{left_readers}
+use Rattle.lb_rebuild_core.proofs.Telling.{tells}
 use Rattle.lb_world.specs.Steps.{Step}
 use Rattle.lb_world.specs.declared.step.Listing.{Listing}
 use Rattle.lb_world.specs.Steps as step

@@ -3,7 +3,7 @@
 use Rattle.std.proofs.Common.{◌≡◌, ◌⊎◌, ◌↔◌, ◌+◌, ◌<◌, ◌≤◌, ◌^◌, ◌&&◌, ◌||◌, ◌∙◌, ℕ, Bool, true, false, cond, nat_le, nat_lt, List, [], ◌∷◌}
 use Rattle.std.proofs.Common.{inl, inr, refl, sym, ap, arith}
 use Rattle.std.specs.Prelude.{Option, Some, None, Result, Ok, Err, IsErrOf}
-use Rattle.lb_rebuild_group.specs.GroupCalls.{IsMakingRefusal}
+use Rattle.lb_rebuild_core.specs.GroupCalls.{IsMakingRefusal}
 use Rattle.std.proofs.lemmas.Bool.{cond_both, le-leb, le-ltb, lt-leb, lt-ltb, ltb-false, ltb-true}
 use Rattle.lb_select_base.specs.Refusals.{earlier, least, memory_apart, refusal_number}
 use Rattle.lb_select_base.specs.declared.refusal.Refusal.{Refusal}

@@ -7,9 +7,9 @@ use Rattle.std.proofs.lemmas.Bool.{eq-eqb, eqb-true, false≢true, false_from_ne
 use Rattle.std.proofs.lemmas.Option.{none-some, same_Some, slice_get_within}
 use mathlib.Core.Logic.{dite}
 use native.Mathlib.Decide.{ℕ_discrete}
-use Rattle.lb_rebuild_slots.specs.SlotsHistory as slots
-use Rattle.lb_rebuild_slots.specs.SlotsHistory.{past_of, extra, is_extra}
-use Rattle.lb_rebuild_slots.specs.Laws.{number, extras_from}
+use Rattle.lb_rebuild_core.specs.SlotsHistory as slots
+use Rattle.lb_rebuild_core.specs.SlotsHistory.{past_of, extra, is_extra}
+use Rattle.lb_rebuild_core.specs.Laws.{number, extras_from}
 use Rattle.lb_world.specs.Meanings.{Meaning}
 use Rattle.lb_world.specs.History.{History, Made, made, made_at, gate_at, slot_gate, slot_events, extras, is_out}
 use Rattle.lb_world.specs.Answers.{IsRun}

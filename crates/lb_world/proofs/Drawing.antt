@@ -8,7 +8,7 @@ use Rattle.lb_select_base.specs.Draws.{Draw, ticket, random, load, Gives, Handed
 use Rattle.lb_select_base.specs.Selections.{Selects}
 use Rattle.lb_select_base.specs.declared.refusal.Refusal.{Refusal}
 use Rattle.lb_select_base.specs.declared.refusal.Refusal.TheVariants as refusal
-use Rattle.lb_rebuild_slots.specs.SlotsHistory as slots
+use Rattle.lb_rebuild_core.specs.SlotsHistory as slots
 use Rattle.lb_world.specs.Steps.{Step}
 use Rattle.lb_world.specs.Steps as step
 use Rattle.lb_world.specs.declared.answer.Answer.{Answer}

@@ -1,13 +1,13 @@
 -- A step at a group, by what it leaves of the group's entry, once for all kinds; then the steps of a slot's job: it is granted,
 -- built or fails, and comes back, and what is held of it is the last job.
-use Rattle.lb_rebuild_slots.proofs.Pasts.{lt-false}
-use Rattle.lb_rebuild_slots.specs.SlotsCalls.{Asks, IsJob, asked_events, is_awaited, is_owed, is_served, publish_answer, publish_events}
-use Rattle.lb_rebuild_slots.specs.SlotsCalls.{taken_refusal}
-use Rattle.lb_rebuild_slots.specs.SlotsHistory.{AskAnswer, ask_answer, extra, generation_of, is_under_way, job}
-use Rattle.lb_rebuild_slots.specs.SlotCalls.{asked_gate}
-use Rattle.lb_rebuild_slots.specs.Values.{BuiltValue}
-use Rattle.lb_rebuild_slots.specs.declared.answers.Ask.{Ask}
-use Rattle.lb_rebuild_slots.specs.declared.answers.Publication.{Publication}
+use Rattle.lb_rebuild_core.proofs.Pasts.{lt-false}
+use Rattle.lb_rebuild_core.specs.SlotsCalls.{Asks, IsJob, asked_events, is_awaited, is_owed, is_served, publish_answer, publish_events}
+use Rattle.lb_rebuild_core.specs.SlotsCalls.{taken_refusal}
+use Rattle.lb_rebuild_core.specs.SlotsHistory.{AskAnswer, ask_answer, extra, generation_of, is_under_way, job}
+use Rattle.lb_rebuild_core.specs.SlotCalls.{asked_gate}
+use Rattle.lb_rebuild_core.specs.Values.{BuiltValue}
+use Rattle.lb_rebuild_core.specs.declared.answers.Ask.{Ask}
+use Rattle.lb_rebuild_core.specs.declared.answers.Publication.{Publication}
 use Rattle.lb_health_view.specs.RegistrySide.{registry_released}
 use Rattle.lb_world.proofs.Accepted.{job-may}
 use Rattle.lb_world.proofs.Extras.{free-in}
@@ -23,11 +23,11 @@ use Rattle.lb_world.specs.Views.{NotBuilding, NotBuilt}
 use Rattle.lb_world.specs.Works.{last_job}
 use Rattle.std.proofs.lemmas.Bool.{eqb-true}
 use Rattle.std.proofs.lemmas.Grind.{common_steps}
-use Rattle.lb_rebuild_group.specs.Stands as stands
-use Rattle.lb_rebuild_slots.specs.SlotsHistory as slots
-use Rattle.lb_rebuild_group.specs.GroupHistory as group
-use Rattle.lb_health_registry.specs.RegistryEvents as registry
-use Rattle.lb_rebuild_slots.specs.Stands as group-made
+use Rattle.lb_rebuild_core.specs.GroupStates as stands
+use Rattle.lb_rebuild_core.specs.SlotsHistory as slots
+use Rattle.lb_rebuild_core.specs.GroupHistory as group
+use Rattle.lb_health_core.specs.RegistryEvents as registry
+use Rattle.lb_rebuild_core.specs.Stands as group-made
 use Rattle.lb_world.proofs.Words.{◌∙◌, ◌⊎◌, ◌++◌, ◌≡◌, ◌&&◌, ◌∷◌, ◌==◌, [], ◌<◌, ◌≤◌, and_parts, Answer, right_answer, Answers, ap, ap2}
 use Rattle.lb_world.proofs.Words.{arith, ask_told, At, at_one, at_slot, Before, Bool, changed, cond, config, config_in, configs_of, EntryIs}
 use Rattle.lb_world.proofs.Words.{EntryNext, EntryValue, eq-eqb, false, false≢true, gate, GateId, gates, GateValue, granted}

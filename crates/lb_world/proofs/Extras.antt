@@ -5,10 +5,10 @@ use Rattle.std.specs.Prelude.{Option, Some, None, not, slice_get}
 use Rattle.std.proofs.lemmas.Bool.{eqb-true, false≢true}
 use Rattle.std.specs.Option.{option_map}
 use Rattle.std.proofs.lemmas.Option.{none-some}
-use Rattle.lb_rebuild_slots.specs.Laws.{number}
-use Rattle.lb_rebuild_slots.specs.SlotsHistory as slots
-use Rattle.lb_rebuild_slots.specs.SlotsHistory.{At, past_of, extra, is_extra, is_flight, is_under_way, is_retired_of, generation_of}
-use Rattle.lb_rebuild_slots.specs.SlotsHistory.{granted}
+use Rattle.lb_rebuild_core.specs.Laws.{number}
+use Rattle.lb_rebuild_core.specs.SlotsHistory as slots
+use Rattle.lb_rebuild_core.specs.SlotsHistory.{At, past_of, extra, is_extra, is_flight, is_under_way, is_retired_of, generation_of}
+use Rattle.lb_rebuild_core.specs.SlotsHistory.{granted}
 use Rattle.lb_world.specs.Steps.{Step}
 use Rattle.lb_world.specs.Steps as step
 use Rattle.lb_world.specs.declared.answer.Answer.{Answer}

@@ -9,13 +9,13 @@ use Rattle.std.specs.List.{list_any}
 use Rattle.std.specs.Option.{IsSomeAnd}
 use Rattle.lb_select_base.specs.Backends.{Member, same_member}
 use Rattle.lb_select_base.specs.Memberships.{same_members}
-use Rattle.lb_health_registry.specs.RegistryEvents as registry
+use Rattle.lb_health_core.specs.RegistryEvents as registry
 use Rattle.lb_health_view.specs.Snapshots.{SnapshotValue, value_at}
 use Rattle.lb_health_view.specs.ViewEvents.{ViewEvent, membership_after, snapshots_after}
 use Rattle.lb_health_view.specs.RegistrySide.{IsReady, IsReadyIn}
-use Rattle.lb_rebuild_slots.specs.SlotsHistory as slots
-use Rattle.lb_rebuild_slots.specs.SlotsHistory.{At, newest, members_of}
-use Rattle.lb_rebuild_slots.specs.SlotsCalls.{is_change}
+use Rattle.lb_rebuild_core.specs.SlotsHistory as slots
+use Rattle.lb_rebuild_core.specs.SlotsHistory.{At, newest, members_of}
+use Rattle.lb_rebuild_core.specs.SlotsCalls.{is_change}
 use Rattle.lb_world.specs.Steps.{Step}
 use Rattle.lb_world.specs.declared.step.Listing.{Listing}
 use Rattle.lb_world.specs.Steps as step

@@ -1,14 +1,14 @@
 -- What the listings of an update list: the members that are there, and the settings that the marks set; and how many cells
 -- the update starts: the set of the listed backends starts one for each key that they have and no view has.
-use Rattle.lb_health_registry.proofs.ChangeLemmas.{any-map}
-use Rattle.lb_health_registry.proofs.FreshLemmas.{updated_given}
-use Rattle.lb_health_registry.proofs.PlaceLemmas.{any-distinct, each-filter, each-impl, key_laws}
-use Rattle.lb_health_registry.proofs.TargetLemmas.{member_laws, member_total}
-use Rattle.lb_health_registry.specs.Fresh.{fresh, has_key}
-use Rattle.lb_health_registry.specs.Keys.{IsRuleOf}
-use Rattle.lb_health_registry.specs.RegistryEvents.{Updated, has_view}
-use Rattle.lb_health_registry.specs.Targets.{Candidate, ViewValue, candidates, candidates_of, same_key}
-use Rattle.lb_health_registry.specs.declared.keys.Rule.TheVariants.{Address, Equivalence, Identity}
+use Rattle.lb_health_core.proofs.ChangeLemmas.{any-map}
+use Rattle.lb_health_core.proofs.FreshLemmas.{updated_given}
+use Rattle.lb_health_core.proofs.PlaceLemmas.{any-distinct, each-filter, each-impl, key_laws}
+use Rattle.lb_health_core.proofs.TargetLemmas.{member_laws, member_total}
+use Rattle.lb_health_core.specs.Fresh.{fresh, has_key}
+use Rattle.lb_health_core.specs.Keys.{IsRuleOf}
+use Rattle.lb_health_core.specs.RegistryEvents.{Updated, has_view}
+use Rattle.lb_health_core.specs.Targets.{Candidate, ViewValue, candidates, candidates_of, same_key}
+use Rattle.lb_health_core.specs.declared.keys.Rule.TheVariants.{Address, Equivalence, Identity}
 use Rattle.lb_select_base.specs.Seen.{address_seen}
 use Rattle.lb_select_base.specs.Unique.{distinct, firsts}
 use Rattle.lb_select_base.specs.declared.backend.SocketAddr.{SocketAddr}

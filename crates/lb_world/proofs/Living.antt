@@ -10,13 +10,13 @@ use Rattle.lb_health_view.specs.Snapshots.{SnapshotValue, held_more, held_less, 
 use Rattle.lb_health_view.specs.ViewEvents.{ViewEvent, Shown, Held, Released, Set, generation_after, membership_after, by_age}
 use Rattle.lb_health_view.specs.ViewEvents.{snapshots_after}
 use Rattle.lb_health_view.specs.RegistrySide.{after_settings, lives}
-use Rattle.lb_rebuild_slots.specs.SlotsHistory as slots
-use Rattle.lb_rebuild_slots.specs.SlotsHistory.{newest, IsSlotsHistory, IsPast, past_of}
-use Rattle.lb_rebuild_group.specs.GroupHistory as group
-use Rattle.lb_rebuild_group.specs.GroupHistory.{holders}
-use Rattle.lb_rebuild_group.proofs.Histories.{generation-is}
-use Rattle.lb_rebuild_group.proofs.Holds.{counted, newest-live}
-use Rattle.lb_rebuild_group.proofs.Totals.{total, holds, held-lives}
+use Rattle.lb_rebuild_core.specs.SlotsHistory as slots
+use Rattle.lb_rebuild_core.specs.SlotsHistory.{newest, IsSlotsHistory, IsPast, past_of}
+use Rattle.lb_rebuild_core.specs.GroupHistory as group
+use Rattle.lb_rebuild_core.specs.GroupHistory.{holders}
+use Rattle.lb_rebuild_core.proofs.Histories.{generation-is}
+use Rattle.lb_rebuild_core.proofs.Holds.{counted, newest-live}
+use Rattle.lb_rebuild_core.proofs.Totals.{total, holds, held-lives}
 use Rattle.lb_world.specs.Meanings.{Meaning}
 use Rattle.lb_world.specs.History.{History, Made, made_at, slot_events}
 use Rattle.lb_world.specs.Shared.{is_live, view_events}

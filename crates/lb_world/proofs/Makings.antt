@@ -10,7 +10,7 @@ use Rattle.lb_select_base.specs.Backends.{Member}
 use Rattle.lb_select_base.specs.Refusals.{earlier, least}
 use Rattle.lb_select_base.specs.declared.refusal.Refusal.{Refusal}
 use Rattle.lb_select_base.specs.declared.refusal.Refusal.TheVariants as refusal
-use Rattle.lb_health_registry.specs.RegistryEvents as registry
+use Rattle.lb_health_core.specs.RegistryEvents as registry
 use Rattle.lb_world.specs.Steps.{Step}
 use Rattle.lb_world.specs.Steps as step
 use Rattle.lb_world.specs.declared.answer.Answer.{Answer}

@@ -6,9 +6,9 @@ use Rattle.std.specs.List.{AllByRecursion as Each}
 use Rattle.std.proofs.lemmas.Bool.{eq-eqb, ne_eqb, ltb-true, and_parts}
 use mathlib.Core.Logic.{dite}
 use native.Mathlib.Decide.{ℕ_discrete}
-use Rattle.lb_health_registry.specs.RegistryEvents as registry
-use Rattle.lb_health_registry.specs.RegistryEvents.{registered_after}
-use Rattle.lb_rebuild_slots.specs.SlotsHistory.{newest}
+use Rattle.lb_health_core.specs.RegistryEvents as registry
+use Rattle.lb_health_core.specs.RegistryEvents.{registered_after}
+use Rattle.lb_rebuild_core.specs.SlotsHistory.{newest}
 use Rattle.lb_world.specs.Steps.{Step}
 use Rattle.lb_world.specs.Steps as step
 use Rattle.lb_world.specs.declared.answer.Answer.{Answer}

@@ -4,9 +4,9 @@ use Rattle.std.proofs.Common.{◌≡◌, ◌==◌, ◌&&◌, ◌∙◌, ℕ, Boo
 use Rattle.std.proofs.lemmas.Bool.{eq-eqb, ne_eqb}
 use mathlib.Core.Logic.{dite}
 use native.Mathlib.Decide.{ℕ_discrete}
-use Rattle.lb_rebuild_slots.specs.SlotsHistory.{SlotEvent, Entered, Left, SlotsEvent, Scheduled, Cancelled, At, History, past_of, granted}
-use Rattle.lb_rebuild_slots.specs.SlotsHistory.{readers, is_under_way, extra, MayHappen, IsPast}
-use Rattle.lb_rebuild_slots.proofs.Pasts.{past-same, past-other}
+use Rattle.lb_rebuild_core.specs.SlotsHistory.{SlotEvent, Entered, Left, SlotsEvent, Scheduled, Cancelled, At, History, past_of, granted}
+use Rattle.lb_rebuild_core.specs.SlotsHistory.{readers, is_under_way, extra, MayHappen, IsPast}
+use Rattle.lb_rebuild_core.proofs.Pasts.{past-same, past-other}
 use Rattle.lb_world.specs.History.{Work, is_held}
 
 -- a past that can be, whose flight or lost flight is there exactly where something is held of its job

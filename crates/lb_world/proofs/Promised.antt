@@ -6,13 +6,13 @@ use Rattle.std.specs.Option.{option_map}
 use Rattle.std.proofs.lemmas.Bool.{false_from_ne_true, false≢true}
 use mathlib.Core.Logic.{dite}
 use native.Mathlib.Decide.{ℕ_discrete}
-use Rattle.lb_rebuild_slots.specs.SlotsHistory as slots
-use Rattle.lb_rebuild_slots.specs.SlotsHistory.{SlotsEvent, SlotEvent, Scheduled, Cancelled, At, past_of, served, newest, extra, is_extra}
-use Rattle.lb_rebuild_slots.specs.SlotsHistory.{IsFaithful}
-use Rattle.lb_rebuild_slots.specs.Laws.{number}
-use Rattle.lb_rebuild_slots.proofs.Pasts.{newest-past, cancelled-past}
-use Rattle.lb_rebuild_slots.proofs.Ledger.{balanced}
-use Rattle.lb_rebuild_slots.proofs.Telling.{bounded, rises, serves-newest, gets-job, has-members}
+use Rattle.lb_rebuild_core.specs.SlotsHistory as slots
+use Rattle.lb_rebuild_core.specs.SlotsHistory.{SlotsEvent, SlotEvent, Scheduled, Cancelled, At, past_of, served, newest, extra, is_extra}
+use Rattle.lb_rebuild_core.specs.SlotsHistory.{IsFaithful}
+use Rattle.lb_rebuild_core.specs.Laws.{number}
+use Rattle.lb_rebuild_core.proofs.Pasts.{newest-past, cancelled-past}
+use Rattle.lb_rebuild_core.proofs.Ledger.{balanced}
+use Rattle.lb_rebuild_core.proofs.Telling.{bounded, rises, serves-newest, gets-job, has-members}
 use Rattle.lb_world.specs.Steps.{Step}
 use Rattle.lb_world.specs.Steps as step
 use Rattle.lb_world.specs.declared.answer.Answer.{Answer}

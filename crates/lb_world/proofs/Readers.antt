@@ -7,8 +7,8 @@ use Rattle.std.proofs.lemmas.List.Sums.{sum_by_push, sum_by-set}
 use Rattle.std.proofs.lemmas.Option.{slice_get_within, get_or_from_slice_get}
 use mathlib.Core.Logic.{dite}
 use native.Mathlib.Decide.{ℕ_discrete}
-use Rattle.lb_rebuild_slots.specs.SlotsHistory as slots
-use Rattle.lb_rebuild_slots.specs.SlotsHistory.{At, Entered as Enters, Left, past_of, served, readers}
+use Rattle.lb_rebuild_core.specs.SlotsHistory as slots
+use Rattle.lb_rebuild_core.specs.SlotsHistory.{At, Entered as Enters, Left, past_of, served, readers}
 use Rattle.lb_world.specs.Steps.{Step}
 use Rattle.lb_world.specs.Steps as step
 use Rattle.lb_world.specs.declared.answer.Answer.{Answer}

@@ -9,12 +9,12 @@ use Rattle.std.proofs.lemmas.Option.{none-some, same_Some}
 use mathlib.Core.Logic.{dite}
 use native.Mathlib.Decide.{ℕ_discrete}
 use Rattle.lb_select_base.specs.Backends.{Member}
-use Rattle.lb_health_registry.specs.RegistryEvents as registry
-use Rattle.lb_health_registry.specs.RegistryEvents.{registered_after, views_after, is_view, has_view, at_view, with_members, with_mark}
-use Rattle.lb_health_registry.specs.RegistryEvents.{new_view}
-use Rattle.lb_health_registry.specs.Targets.{ViewValue, live}
-use Rattle.lb_rebuild_slots.specs.SlotsHistory as slots
-use Rattle.lb_rebuild_slots.specs.SlotsHistory.{newest, is_cancelled}
+use Rattle.lb_health_core.specs.RegistryEvents as registry
+use Rattle.lb_health_core.specs.RegistryEvents.{registered_after, views_after, is_view, has_view, at_view, with_members, with_mark}
+use Rattle.lb_health_core.specs.RegistryEvents.{new_view}
+use Rattle.lb_health_core.specs.Targets.{ViewValue, live}
+use Rattle.lb_rebuild_core.specs.SlotsHistory as slots
+use Rattle.lb_rebuild_core.specs.SlotsHistory.{newest, is_cancelled}
 use Rattle.lb_world.specs.Steps.{Step}
 use Rattle.lb_world.specs.Steps as step
 use Rattle.lb_world.specs.declared.answer.Answer.{Answer}

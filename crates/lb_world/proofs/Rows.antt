@@ -10,8 +10,8 @@ use Rattle.lb_world.specs.declared.step.CellKey.TheVariants.{Identity}
 use Rattle.lb_world.specs.declared.step.Listing.{Listing}
 use Rattle.lb_world.specs.declared.answer.Answer.TheVariants as answer
 use Rattle.lb_world.specs.Meanings.{Meaning}
-use Rattle.lb_health_registry.specs.CellEvents.{is_held}
-use Rattle.lb_health_registry.specs.RegistryEvents.{cell_events, cell_health}
+use Rattle.lb_health_core.specs.CellEvents.{is_held}
+use Rattle.lb_health_core.specs.RegistryEvents.{cell_events, cell_health}
 use Rattle.lb_health_view.specs.RegistrySide.{IsReady}
 use Rattle.lb_health_view.specs.Snapshots.{snapshot_at}
 use Rattle.lb_health_view.specs.ViewEvents.{snapshots_after, flag_after}

@@ -3,9 +3,9 @@ use Rattle.std.proofs.Common.{◌≡◌, ◌<◌, ◌+◌, ◌==◌, ◌&&◌, �
 use Rattle.std.proofs.Common.{count_by}
 use Rattle.std.specs.Prelude.{Option, Some, None, not, slice_get, slice_set}
 use Rattle.std.proofs.lemmas.Bool.{eq-eqb, eqb-true, and_parts, not-true}
-use Rattle.lb_rebuild_slots.specs.SlotsHistory as slots
-use Rattle.lb_rebuild_slots.specs.SlotsHistory.{At, past_of, granted, extra, is_under_way, is_flight, is_retired_of, generation_of, readers}
-use Rattle.lb_rebuild_slots.proofs.Pasts.{UnderWayFits, under-way-fits, cancelled-past, past-same, past-other}
+use Rattle.lb_rebuild_core.specs.SlotsHistory as slots
+use Rattle.lb_rebuild_core.specs.SlotsHistory.{At, past_of, granted, extra, is_under_way, is_flight, is_retired_of, generation_of, readers}
+use Rattle.lb_rebuild_core.proofs.Pasts.{UnderWayFits, under-way-fits, cancelled-past, past-same, past-other}
 use Rattle.lb_world.specs.Steps.{Step}
 use Rattle.lb_world.specs.Steps as step
 use Rattle.lb_world.specs.declared.answer.Answer.{Answer}

@@ -11,19 +11,19 @@ use Rattle.lb_select_base.specs.Selections.{Selects}
 use Rattle.lb_select_base.specs.declared.refusal.Refusal.{Refusal}
 use Rattle.lb_select_base.specs.declared.refusal.Refusal.TheVariants as refusal
 use Rattle.lb_select_base.proofs.SelectionsSeen.{selects-more}
-use Rattle.lb_rebuild_slots.specs.Drawn.{DrawnGives, DrawnValue}
-use Rattle.lb_rebuild_slots.specs.SlotsCalls as calls
-use Rattle.lb_rebuild_slots.specs.SlotsHistory as slots
-use Rattle.lb_rebuild_slots.specs.SlotsHistory.{At, Drew, drawn, members_of, past_of, served, served_members}
-use Rattle.lb_rebuild_slots.specs.SlotCalls.{SelectsFrom}
-use Rattle.lb_rebuild_slots.specs.Stands as group-made
-use Rattle.lb_rebuild_slots.specs.declared.answers.Selection.{Selection}
-use Rattle.lb_rebuild_slots.proofs.Pasts.{members-past}
-use Rattle.lb_rebuild_slots.proofs.Selecting.{handed-selects}
-use Rattle.lb_rebuild_group.specs.GroupCalls as joined-calls
-use Rattle.lb_rebuild_group.specs.GroupCalls.{after_select, served_at}
-use Rattle.lb_rebuild_group.specs.GroupHistory as group
-use Rattle.lb_rebuild_group.specs.GroupHistory.{in_group}
+use Rattle.lb_rebuild_core.specs.Drawn.{DrawnGives, DrawnValue}
+use Rattle.lb_rebuild_core.specs.SlotsCalls as calls
+use Rattle.lb_rebuild_core.specs.SlotsHistory as slots
+use Rattle.lb_rebuild_core.specs.SlotsHistory.{At, Drew, drawn, members_of, past_of, served, served_members}
+use Rattle.lb_rebuild_core.specs.SlotCalls.{SelectsFrom}
+use Rattle.lb_rebuild_core.specs.Stands as group-made
+use Rattle.lb_rebuild_core.specs.declared.answers.Selection.{Selection}
+use Rattle.lb_rebuild_core.proofs.Pasts.{members-past}
+use Rattle.lb_rebuild_core.proofs.Selecting.{handed-selects}
+use Rattle.lb_rebuild_core.specs.GroupCalls as joined-calls
+use Rattle.lb_rebuild_core.specs.GroupCalls.{after_select, served_at}
+use Rattle.lb_rebuild_core.specs.GroupHistory as group
+use Rattle.lb_rebuild_core.specs.GroupHistory.{in_group}
 use Rattle.lb_world.specs.Steps.{Step}
 use Rattle.lb_world.specs.Steps as step
 use Rattle.lb_world.specs.declared.answer.Answer.{Answer}

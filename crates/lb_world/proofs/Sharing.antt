@@ -5,12 +5,12 @@ use Rattle.std.specs.Option.{option_map}
 use Rattle.std.proofs.lemmas.Bool.{eq-eqb, not-true}
 use Rattle.lb_select_base.specs.Backends.{Member}
 use Rattle.lb_select_base.specs.Memberships.{same_members}
-use Rattle.lb_health_registry.specs.RegistryEvents as registry
+use Rattle.lb_health_core.specs.RegistryEvents as registry
 use Rattle.lb_health_view.specs.Snapshots.{SnapshotValue}
 use Rattle.lb_health_view.specs.ViewEvents.{ViewEvent, Released, generation_after, membership_after, snapshots_after}
 use Rattle.lb_health_view.specs.RegistrySide.{lives, without_gone, view_changed}
-use Rattle.lb_rebuild_slots.specs.SlotsHistory as slots
-use Rattle.lb_rebuild_slots.specs.SlotsHistory.{newest, members_of}
+use Rattle.lb_rebuild_core.specs.SlotsHistory as slots
+use Rattle.lb_rebuild_core.specs.SlotsHistory.{newest, members_of}
 use Rattle.lb_world.specs.Steps.{Step}
 use Rattle.lb_world.specs.Steps as step
 use Rattle.lb_world.specs.declared.answer.Answer.{Answer}

@@ -6,11 +6,11 @@ use Rattle.std.proofs.lemmas.Bool.{ne_eqb, eqb-false}
 use Rattle.std.proofs.lemmas.Option.{slice_get_within}
 use Rattle.lb_select_base.specs.declared.refusal.Refusal.{Refusal}
 use Rattle.lb_select_base.specs.declared.refusal.Refusal.TheVariants as refusal
-use Rattle.lb_rebuild_slots.specs.SlotsHistory as slots
-use Rattle.lb_rebuild_slots.specs.SlotsHistory.{At, past_of, served, granted, extra, readers, generation_of}
-use Rattle.lb_rebuild_slots.specs.SlotCalls.{take_refusal}
-use Rattle.lb_rebuild_slots.specs.Stands.{left_readers}
-use Rattle.lb_rebuild_slots.proofs.Telling.{rises}
+use Rattle.lb_rebuild_core.specs.SlotsHistory as slots
+use Rattle.lb_rebuild_core.specs.SlotsHistory.{At, past_of, served, granted, extra, readers, generation_of}
+use Rattle.lb_rebuild_core.specs.SlotCalls.{take_refusal}
+use Rattle.lb_rebuild_core.specs.Stands.{left_readers}
+use Rattle.lb_rebuild_core.proofs.Telling.{rises}
 use Rattle.lb_world.specs.Steps.{Step}
 use Rattle.lb_world.specs.Steps as step
 use Rattle.lb_world.specs.declared.answer.Answer.{Answer}

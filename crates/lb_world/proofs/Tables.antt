@@ -1,7 +1,7 @@
 -- What a step leaves of a world, table by table; then the steps at a registry, those that make a registry or a gate, and those
 -- of readers. A world is in the state after each run that gives the same as its history.
-use Rattle.lb_rebuild_slots.specs.SlotsCalls.{Enters, enter_refusal}
-use Rattle.lb_rebuild_slots.specs.Values.{ReaderValue}
+use Rattle.lb_rebuild_core.specs.SlotsCalls.{Enters, enter_refusal}
+use Rattle.lb_rebuild_core.specs.Values.{ReaderValue}
 use Rattle.lb_world.proofs.Absent.{config-made}
 use Rattle.lb_world.proofs.Causes.{number-left}
 use Rattle.lb_world.proofs.Makings.{entered-there, gate-unmade, get_last, still-there}
@@ -13,19 +13,19 @@ use Rattle.lb_world.specs.History.{Made, gate_in, group_in}
 use Rattle.lb_world.specs.Refused.{TellsAlike}
 use Rattle.lb_world.specs.Shared.{started}
 use Rattle.lb_world.specs.declared.step.CellKey.{CellKey}
-use Rattle.lb_health_registry.specs.Registry.{IsGrowthRefusal, targets_after}
-use Rattle.lb_health_registry.specs.RegistryEvents.{IsCellKept, Observed, cell_health}
-use Rattle.lb_health_registry.specs.Verdicts.{agree}
-use Rattle.lb_health_registry.specs.declared.targets.Target.{Target}
+use Rattle.lb_health_core.specs.Registry.{IsGrowthRefusal, targets_after}
+use Rattle.lb_health_core.specs.RegistryEvents.{IsCellKept, Observed, cell_health}
+use Rattle.lb_health_core.specs.Verdicts.{agree}
+use Rattle.lb_health_core.specs.declared.targets.Target.{Target}
 use Rattle.lb_world.specs.Internal.Calls.{IsCounted}
 use Rattle.lb_world.specs.Stands.{OnSite}
 use Rattle.std.proofs.Common.{◌≢◌, get_or}
 use Rattle.std.proofs.lemmas.Grind.{common_steps}
 use Rattle.std.proofs.lemmas.List.{map-set}
 use Rattle.std.proofs.lemmas.Option.{slice_get-map}
-use Rattle.lb_rebuild_group.specs.Stands as stands
-use Rattle.lb_rebuild_group.specs.GroupHistory as group
-use Rattle.lb_rebuild_slots.specs.SlotsHistory as slots
+use Rattle.lb_rebuild_core.specs.GroupStates as stands
+use Rattle.lb_rebuild_core.specs.GroupHistory as group
+use Rattle.lb_rebuild_core.specs.SlotsHistory as slots
 use Rattle.lb_world.proofs.Words.{◌∙◌, ◌≡◌, ◌&&◌, ◌∷◌, ◌<◌, ◌==◌, ◌≤◌, [], ◌+◌, ◌↔◌, ◌^◌, ◌⊎◌, ◌++◌, after, Answer, right_answer, Answers}
 use Rattle.lb_world.proofs.Words.{ap, ap2, Applied, arith, at_one, at_slot, Before, Bool, cases_eq, cells_given, cond, cond_some, config}
 use Rattle.lb_world.proofs.Words.{configs_of, entered_of, entries, EntryIs, EntryNext, EntryValue, eq-eqb, Err, Event, false}

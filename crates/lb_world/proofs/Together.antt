@@ -8,14 +8,14 @@ use Rattle.lb_select_base.specs.Memberships.{same_members}
 use Rattle.lb_health_view.specs.ViewEvents as view
 use Rattle.lb_health_view.specs.ViewEvents.{ViewEvent, membership_after}
 use Rattle.lb_health_view.specs.RegistrySide as health
-use Rattle.lb_rebuild_slots.specs.SlotsHistory as slots
-use Rattle.lb_rebuild_slots.specs.SlotsHistory.{At, past_of, newest, members_of, granted, extra, is_under_way, generation_of}
-use Rattle.lb_rebuild_slots.specs.SlotsCalls.{is_change}
-use Rattle.lb_rebuild_slots.proofs.Pasts.{past-same}
-use Rattle.lb_rebuild_group.specs.GroupHistory as group
-use Rattle.lb_rebuild_group.specs.GroupHistory.{Shown, Set, in_group, after_settings}
-use Rattle.lb_rebuild_group.proofs.Histories.{group-joined, settings-group, settings-view}
-use Rattle.lb_rebuild_group.proofs.Joins.{granted-view, failed-view, destroyed-view}
+use Rattle.lb_rebuild_core.specs.SlotsHistory as slots
+use Rattle.lb_rebuild_core.specs.SlotsHistory.{At, past_of, newest, members_of, granted, extra, is_under_way, generation_of}
+use Rattle.lb_rebuild_core.specs.SlotsCalls.{is_change}
+use Rattle.lb_rebuild_core.proofs.Pasts.{past-same}
+use Rattle.lb_rebuild_core.specs.GroupHistory as group
+use Rattle.lb_rebuild_core.specs.GroupHistory.{Shown, Set, in_group, after_settings}
+use Rattle.lb_rebuild_core.proofs.Histories.{group-joined, settings-group, settings-view}
+use Rattle.lb_rebuild_core.proofs.Joins.{granted-view, failed-view, destroyed-view}
 use Rattle.lb_world.specs.Steps.{Step}
 use Rattle.lb_world.specs.Steps as step
 use Rattle.lb_world.specs.declared.answer.Answer.{Answer}

@@ -9,12 +9,12 @@ use Rattle.lb_select_base.specs.Refusals.{earlier, least}
 use Rattle.lb_select_base.specs.Selections.{Selects}
 use Rattle.lb_select_base.specs.declared.refusal.Refusal.{Refusal}
 use Rattle.lb_select_base.specs.declared.refusal.Refusal.TheVariants as refusal
-use Rattle.lb_health_registry.specs.Registry.{targets_after}
-use Rattle.lb_health_registry.specs.RegistryEvents as registry
+use Rattle.lb_health_core.specs.Registry.{targets_after}
+use Rattle.lb_health_core.specs.RegistryEvents as registry
 use Rattle.lb_health_view.specs.RegistrySide.{IsReady}
 use Rattle.lb_health_view.specs.ViewEvents.{ViewEvent}
-use Rattle.lb_rebuild_slots.specs.SlotsHistory as slots
-use Rattle.lb_rebuild_slots.specs.SlotsCalls.{is_change, schedule_refusal, is_served}
+use Rattle.lb_rebuild_core.specs.SlotsHistory as slots
+use Rattle.lb_rebuild_core.specs.SlotsCalls.{is_change, schedule_refusal, is_served}
 use Rattle.lb_world.specs.Steps.{Step}
 use Rattle.lb_world.specs.Steps as step
 use Rattle.lb_world.specs.declared.answer.Answer.{Answer}

@@ -9,16 +9,16 @@ use Rattle.lb_select_base.specs.Memberships.{same_members}
 use Rattle.lb_select_base.specs.Refusals.{earlier}
 use Rattle.lb_select_base.specs.declared.refusal.Refusal.{Refusal}
 use Rattle.lb_select_base.specs.declared.refusal.Refusal.TheVariants as refusal
-use Rattle.lb_health_registry.specs.RegistryEvents as registry
+use Rattle.lb_health_core.specs.RegistryEvents as registry
 use Rattle.lb_health_view.specs.RegistrySide.{registry_updated}
 use Rattle.lb_health_view.specs.ViewEvents.{ViewEvent}
-use Rattle.lb_rebuild_slots.specs.SlotsHistory as slots
-use Rattle.lb_rebuild_slots.specs.SlotsHistory.{is_cancelled, newest}
-use Rattle.lb_rebuild_slots.specs.SlotsCalls.{is_change, schedule_refusal}
-use Rattle.lb_rebuild_slots.specs.Stands as group-made
-use Rattle.lb_rebuild_slots.specs.declared.membership.Scheduled.{Scheduled}
-use Rattle.lb_rebuild_group.specs.GroupCalls.{IsRefusedFor, Schedules, after_schedule}
-use Rattle.lb_rebuild_group.specs.GroupHistory as group
+use Rattle.lb_rebuild_core.specs.SlotsHistory as slots
+use Rattle.lb_rebuild_core.specs.SlotsHistory.{is_cancelled, newest}
+use Rattle.lb_rebuild_core.specs.SlotsCalls.{is_change, schedule_refusal}
+use Rattle.lb_rebuild_core.specs.Stands as group-made
+use Rattle.lb_rebuild_core.specs.declared.membership.Scheduled.{Scheduled}
+use Rattle.lb_rebuild_core.specs.GroupCalls.{IsRefusedFor, Schedules, after_schedule}
+use Rattle.lb_rebuild_core.specs.GroupHistory as group
 use Rattle.lb_world.specs.Steps.{Step}
 use Rattle.lb_world.specs.Steps as step
 use Rattle.lb_world.specs.declared.answer.Answer.{Answer}

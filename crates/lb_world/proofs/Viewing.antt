@@ -5,8 +5,8 @@ use Rattle.std.specs.List.{AllByRecursion as Each, list_any, find}
 use Rattle.std.specs.Option.{IsSomeAnd}
 use Rattle.std.proofs.lemmas.Bool.{eq-eqb, ne_eqb}
 use Rattle.lb_select_base.specs.Backends.{Member, same_member}
-use Rattle.lb_rebuild_slots.specs.SlotsHistory as slots
-use Rattle.lb_rebuild_slots.specs.SlotsHistory.{SlotsEvent, Scheduled, Cancelled, At, newest, members_of}
+use Rattle.lb_rebuild_core.specs.SlotsHistory as slots
+use Rattle.lb_rebuild_core.specs.SlotsHistory.{SlotsEvent, Scheduled, Cancelled, At, newest, members_of}
 use Rattle.lb_health_view.specs.Snapshots.{SnapshotValue, held_more, held_less, at_generation}
 use Rattle.lb_health_view.specs.ViewEvents.{ViewEvent, Shown, Held, Released, Set, generation_after, membership_after, by_age}
 use Rattle.lb_health_view.specs.ViewEvents.{snapshots_after}

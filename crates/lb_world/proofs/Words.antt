@@ -1,11 +1,11 @@
 -- The names that the proofs of this crate share, passed on from one place; and lemmas on the elements of a list after one of them
 -- was written, and after one was added at the end.
-pub use Rattle.lb_rebuild_slots.proofs.Pasts.{members-past, newest-past, past-other, past-same}
-pub use Rattle.lb_rebuild_slots.specs.SlotsHistory.{flight_after}
-pub use Rattle.lb_rebuild_slots.specs.SlotsCalls.{at_slot}
-pub use Rattle.lb_rebuild_slots.specs.SlotsHistory.{At, granted, granted_members, members_of, newest, past_of, served}
-pub use Rattle.lb_rebuild_slots.specs.SlotCalls.{ask_told}
-pub use Rattle.lb_rebuild_slots.specs.Values.{Task, configs_of}
+pub use Rattle.lb_rebuild_core.proofs.Pasts.{members-past, newest-past, past-other, past-same}
+pub use Rattle.lb_rebuild_core.specs.SlotsHistory.{flight_after}
+pub use Rattle.lb_rebuild_core.specs.SlotsCalls.{at_slot}
+pub use Rattle.lb_rebuild_core.specs.SlotsHistory.{At, granted, granted_members, members_of, newest, past_of, served}
+pub use Rattle.lb_rebuild_core.specs.SlotCalls.{ask_told}
+pub use Rattle.lb_rebuild_core.specs.Values.{Task, configs_of}
 pub use Rattle.lb_health_view.specs.RegistrySide.{IsReady, settings_of}
 pub use Rattle.lb_world.proofs.Accepted.{right_answer}
 pub use Rattle.lb_world.proofs.Counting.{there-at}
@@ -29,15 +29,15 @@ pub use Rattle.lb_world.specs.Shared.{settings_in, view_events, view_in}
 pub use Rattle.lb_world.specs.Steps.{Step}
 pub use Rattle.lb_world.specs.declared.answer.Answer.{Answer}
 pub use Rattle.lb_world.specs.declared.step.Listing.{Listing}
-pub use Rattle.lb_rebuild_group.specs.Stands.{GroupValue, views_of}
-pub use Rattle.lb_rebuild_slots.specs.Gate.{GateId, GateValue, gate}
-pub use Rattle.lb_rebuild_slots.specs.Gate.{GroupId}
-pub use Rattle.lb_health_registry.proofs.FreshLemmas.{marks_start_none}
-pub use Rattle.lb_health_registry.proofs.StateLemmas.{set_found}
-pub use Rattle.lb_health_registry.specs.Keys.{by_address, by_identity}
-pub use Rattle.lb_health_registry.specs.Registry.{IsRegistryAfter, RegistryValue}
-pub use Rattle.lb_health_registry.specs.RegistryEvents.{Applied, Event, cells_given, views_after}
-pub use Rattle.lb_health_registry.specs.Targets.{live}
+pub use Rattle.lb_rebuild_core.specs.GroupStates.{GroupValue, views_of}
+pub use Rattle.lb_rebuild_core.specs.Gate.{GateId, GateValue, gate}
+pub use Rattle.lb_rebuild_core.specs.Gate.{GroupId}
+pub use Rattle.lb_health_core.proofs.FreshLemmas.{marks_start_none}
+pub use Rattle.lb_health_core.proofs.StateLemmas.{set_found}
+pub use Rattle.lb_health_core.specs.Keys.{by_address, by_identity}
+pub use Rattle.lb_health_core.specs.Registry.{IsRegistryAfter, RegistryValue}
+pub use Rattle.lb_health_core.specs.RegistryEvents.{Applied, Event, cells_given, views_after}
+pub use Rattle.lb_health_core.specs.Targets.{live}
 pub use Rattle.lb_select_base.specs.AddressText.{bare_member}
 pub use Rattle.lb_select_base.specs.Backends.{Member, member_cmp, same_member}
 pub use Rattle.lb_select_base.specs.Loads.{load_in}

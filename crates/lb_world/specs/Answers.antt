@@ -9,14 +9,14 @@ use Rattle.lb_select_base.specs.Refusals.{earlier, least}
 use Rattle.lb_select_base.specs.Selections.{Selects}
 use Rattle.lb_select_base.specs.declared.refusal.Refusal.{Refusal}
 use Rattle.lb_select_base.specs.declared.refusal.Refusal.TheVariants as refusal
-use Rattle.lb_health_registry.specs.Registry.{targets_after}
-use Rattle.lb_health_registry.specs.RegistryEvents as registry
-use Rattle.lb_health_registry.specs.Verdicts.{agree}
+use Rattle.lb_health_core.specs.Registry.{targets_after}
+use Rattle.lb_health_core.specs.RegistryEvents as registry
+use Rattle.lb_health_core.specs.Verdicts.{agree}
 use Rattle.lb_health_view.specs.RegistrySide.{IsReady}
-use Rattle.lb_rebuild_slots.specs.SlotsHistory as slots
-use Rattle.lb_rebuild_slots.specs.SlotsCalls.{is_change, schedule_refusal, is_served}
-use Rattle.lb_rebuild_slots.specs.SlotCalls.{take_refusal}
-use Rattle.lb_rebuild_slots.specs.Stands.{left_readers, counts_after}
+use Rattle.lb_rebuild_core.specs.SlotsHistory as slots
+use Rattle.lb_rebuild_core.specs.SlotsCalls.{is_change, schedule_refusal, is_served}
+use Rattle.lb_rebuild_core.specs.SlotCalls.{take_refusal}
+use Rattle.lb_rebuild_core.specs.Stands.{left_readers, counts_after}
 use Rattle.lb_world.specs.Steps.{Step}
 use Rattle.lb_world.specs.declared.step.Listing.{Listing}
 use Rattle.lb_world.specs.Steps as step

@@ -1,11 +1,11 @@
 -- What a history did to a group and to its view, in the words of a group that is joined with its view.
 use Rattle.std.specs.Prelude.{◌≡◌, ℕ, true, false, List, [], ◌∷◌, ◌++◌, length, Some, if◌then◌else◌}
 use Rattle.lb_select_base.specs.Backends.{Member}
-use Rattle.lb_health_registry.specs.RegistryEvents.{shown_cells}
-use Rattle.lb_rebuild_slots.specs.SlotsHistory as slots
-use Rattle.lb_rebuild_group.specs.GroupCalls.{after_schedule}
-use Rattle.lb_rebuild_group.specs.GroupHistory as group
-use Rattle.lb_rebuild_group.specs.GroupHistory.{Shown, Set, in_group, after_settings}
+use Rattle.lb_health_core.specs.RegistryEvents.{shown_cells}
+use Rattle.lb_rebuild_core.specs.SlotsHistory as slots
+use Rattle.lb_rebuild_core.specs.GroupCalls.{after_schedule}
+use Rattle.lb_rebuild_core.specs.GroupHistory as group
+use Rattle.lb_rebuild_core.specs.GroupHistory.{Shown, Set, in_group, after_settings}
 use Rattle.lb_world.specs.Steps.{Step}
 use Rattle.lb_world.specs.Steps as step
 use Rattle.lb_world.specs.declared.answer.Answer.{Answer}

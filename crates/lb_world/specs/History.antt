@@ -6,8 +6,8 @@ use Rattle.std.specs.List.{filter_map}
 use Rattle.std.specs.Option.{option_map}
 use Rattle.lb_select_base.specs.Backends.{Member, same_member}
 use Rattle.lb_select_base.specs.Memberships.{set_of}
-use Rattle.lb_rebuild_slots.specs.Laws.{number}
-use Rattle.lb_rebuild_slots.specs.SlotsHistory as slots
+use Rattle.lb_rebuild_core.specs.Laws.{number}
+use Rattle.lb_rebuild_core.specs.SlotsHistory as slots
 use Rattle.lb_world.specs.Steps.{Step}
 use Rattle.lb_world.specs.declared.step.Listing.{Listing}
 use Rattle.lb_world.specs.declared.step.CellKey.{CellKey}

@@ -6,12 +6,12 @@ use Rattle.std.specs.List.{AllByRecursion as Each, list_any}
 use Rattle.std.specs.Option.{IsSomeAnd}
 use Rattle.lb_select_base.specs.Backends.{Member, same_member}
 use Rattle.lb_select_base.specs.declared.refusal.Refusal.TheVariants as refusal
-use Rattle.lb_health_registry.specs.RegistryEvents.{IsCellKept, cell_health, views_after, has_view}
+use Rattle.lb_health_core.specs.RegistryEvents.{IsCellKept, cell_health, views_after, has_view}
 use Rattle.lb_health_view.specs.RegistrySide.{lives, registry_released, registry_updated}
 use Rattle.lb_health_view.specs.Snapshots.{SnapshotValue, value_at}
 use Rattle.lb_health_view.specs.ViewEvents.{generation_after, membership_after, snapshots_after, flag_after}
-use Rattle.lb_rebuild_slots.specs.SlotsHistory as slots
-use Rattle.lb_rebuild_slots.specs.Laws.{number, extras_from, Balanced, HasMembers}
+use Rattle.lb_rebuild_core.specs.SlotsHistory as slots
+use Rattle.lb_rebuild_core.specs.Laws.{number, extras_from, Balanced, HasMembers}
 use Rattle.lb_world.specs.Steps.{Step}
 use Rattle.lb_world.specs.Steps as step
 use Rattle.lb_world.specs.declared.answer.Answer.{Answer}

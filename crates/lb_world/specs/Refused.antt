@@ -2,7 +2,7 @@
 -- A selection that memory was refused to has drawn tickets, and left all else.
 use Rattle.std.specs.Prelude.{◌≡◌, ◌↔◌, ◌≤◌, ◌==◌, ◌+◌, ◌%◌, ◌^◌, ℕ, [], ◌∷◌, ◌++◌, if◌then◌else◌}
 use Rattle.lb_select_base.specs.Backends.{Member}
-use Rattle.lb_rebuild_slots.specs.SlotsHistory as slots
+use Rattle.lb_rebuild_core.specs.SlotsHistory as slots
 use Rattle.lb_world.specs.Steps.{Step}
 use Rattle.lb_world.specs.Steps as step
 use Rattle.lb_world.specs.declared.answer.Answer.{Answer}

@@ -6,13 +6,13 @@ use Rattle.std.specs.Prelude.{if◌then◌else◌, slice_get}
 use Rattle.std.specs.List.{filter_map}
 use Rattle.std.specs.BTreeMap.{insert_entry}
 use Rattle.lb_select_base.specs.Backends.{Member, member_cmp}
-use Rattle.lb_health_registry.specs.Keys.{by_identity, by_address}
-use Rattle.lb_health_registry.specs.RegistryEvents as registry
+use Rattle.lb_health_core.specs.Keys.{by_identity, by_address}
+use Rattle.lb_health_core.specs.RegistryEvents as registry
 use Rattle.lb_health_view.specs.ViewEvents.{ViewEvent}
 use Rattle.lb_health_view.specs.ViewEvents as view
 use Rattle.lb_health_view.specs.RegistrySide.{view_updated}
-use Rattle.lb_rebuild_slots.specs.SlotsHistory as slots
-use Rattle.lb_rebuild_group.specs.GroupHistory.{holders}
+use Rattle.lb_rebuild_core.specs.SlotsHistory as slots
+use Rattle.lb_rebuild_core.specs.GroupHistory.{holders}
 use Rattle.lb_world.specs.Steps.{Step}
 use Rattle.lb_world.specs.declared.step.Listing.{Listing}
 use Rattle.lb_world.specs.declared.step.CellKey.{CellKey}

@@ -3,10 +3,10 @@ use Rattle.std.specs.Prelude.{◌≡◌, ◌<◌, ℕ, Bool, true, false, ◌||�
 use Rattle.std.specs.Option.{option_map}
 use Rattle.lb_select_base.specs.Backends.{Member}
 use Rattle.lb_select_base.specs.Loads.{load_in}
-use Rattle.lb_rebuild_slots.specs.Gate.{GateValue, gate}
-use Rattle.lb_health_registry.specs.Registry.{RegistryValue, IsRegistryAfter}
-use Rattle.lb_rebuild_slots.specs.Values.{configs_of}
-use Rattle.lb_rebuild_group.specs.Stands as group
+use Rattle.lb_rebuild_core.specs.Gate.{GateValue, gate}
+use Rattle.lb_health_core.specs.Registry.{RegistryValue, IsRegistryAfter}
+use Rattle.lb_rebuild_core.specs.Values.{configs_of}
+use Rattle.lb_rebuild_core.specs.GroupStates as group
 use Rattle.lb_world.specs.Steps.{Step}
 use Rattle.lb_world.specs.declared.answer.Answer.{Answer}
 use Rattle.lb_world.specs.Meanings.{Meaning}

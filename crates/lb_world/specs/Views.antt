@@ -1,11 +1,11 @@
 -- A world as contracts see it: its tables as plain lists, with what is held for each slot and each reader.
 use Rattle.std.specs.Prelude.{◌≡◌, ℕ, List, Option}
 use Rattle.lb_select_base.specs.Backends.{Member}
-use Rattle.lb_rebuild_slots.specs.Gate.{GateId, GateValue, GroupId}
-use Rattle.lb_health_registry.specs.Registry.{RegistryValue}
-use Rattle.lb_rebuild_slots.specs.Values.{Task, BuiltValue, ReaderValue, configs_of}
-use Rattle.lb_rebuild_slots.specs.Stands as slots
-use Rattle.lb_rebuild_group.specs.Stands.{GroupValue}
+use Rattle.lb_rebuild_core.specs.Gate.{GateId, GateValue, GroupId}
+use Rattle.lb_health_core.specs.Registry.{RegistryValue}
+use Rattle.lb_rebuild_core.specs.Values.{Task, BuiltValue, ReaderValue, configs_of}
+use Rattle.lb_rebuild_core.specs.Stands as slots
+use Rattle.lb_rebuild_core.specs.GroupStates.{GroupValue}
 use Rattle.lb_world.specs.History.{Entered}
 use Rattle.lb_world.specs.Rules.{WorldRule}
 

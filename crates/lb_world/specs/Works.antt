@@ -1,7 +1,7 @@
 -- What is held for a slot, of the program and as a history has it, and the tables of a world.
 use Rattle.std.specs.Prelude.{ℕ}
-use Rattle.lb_rebuild_slots.specs.SlotsHistory.{History, granted, granted_members}
-use Rattle.lb_rebuild_slots.specs.Values.{Task}
+use Rattle.lb_rebuild_core.specs.SlotsHistory.{History, granted, granted_members}
+use Rattle.lb_rebuild_core.specs.Values.{Task}
 use Rattle.lb_world.specs.History.{Work, idle}
 use Rattle.lb_world.specs.History as work
 use Rattle.lb_world.specs.Views.{WorkValue, nothing, building, built, Origin, WorldValue}

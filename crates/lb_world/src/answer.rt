@@ -1,7 +1,7 @@
 //! The answers of a world to its steps. Some answers contain a number more than a script prints: a reader's generation, a selection's
 //! counter of tickets. A refused step has changed nothing; a selection that is refused for memory may have drawn tickets.
-use lb_health_registry::targets::Target;
-use lb_rebuild_slots::answers;
+use lb_health_core::targets::Target;
+use lb_rebuild_core::answers;
 use lb_select_base::backend::Backend;
 use lb_select_base::refusal::Refusal;
 use std::marker::Model;
@@ -30,7 +30,7 @@ pub struct TargetList {
 
 impl Model for TargetList {
     ghost use Rattle.std.specs.Prelude.{List};
-    ghost use Rattle.lb_health_registry.specs.declared.targets.Target.{Target};
+    ghost use Rattle.lb_health_core.specs.declared.targets.Target.{Target};
 
     ghost Value = { List Target };
 

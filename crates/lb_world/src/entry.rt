@@ -1,13 +1,13 @@
 //! A group of a world: its core with the numbers of its registry and its gate, what is held for its slots, and its loads. Each call here
 //! is a step at the group; its contract is stated by the world's history, with the group's number as a parameter.
 ghost use Rattle.std.specs.Prelude.{◌≡◌, ℕ, Some, if◌then◌else◌};
-ghost use Rattle.lb_rebuild_slots.specs.SlotsCalls.{at_slot};
-ghost use Rattle.lb_rebuild_slots.specs.SlotsHistory.{past_of};
+ghost use Rattle.lb_rebuild_core.specs.SlotsCalls.{at_slot};
+ghost use Rattle.lb_rebuild_core.specs.SlotsHistory.{past_of};
 ghost use Rattle.lb_world.specs.Answers.{numbers_of};
 ghost use Rattle.lb_world.specs.Meanings.{meaning_of};
 ghost use Rattle.lb_world.specs.Steps as seen;
-ghost use Rattle.lb_rebuild_group.specs.GroupHistory.{slot_events};
-ghost use Rattle.lb_rebuild_group.specs.Stands.{After};
+ghost use Rattle.lb_rebuild_core.specs.GroupHistory.{slot_events};
+ghost use Rattle.lb_rebuild_core.specs.GroupStates.{After};
 ghost use Rattle.lb_world.specs.Internal.GroupSteps.{group_step_seen, IsWhole};
 ghost use Rattle.lb_world.specs.Stands.{IsEntry, Performs, PerformsAtRegistry, PerformsAlone};
 
@@ -20,8 +20,8 @@ use crate::answer::{Answer, SlotCounts};
 use crate::group_step::GroupStep;
 use crate::held::InHand;
 use crate::rule::WorldRegistry;
-use lb_rebuild_group::group::GroupCore;
-use lb_rebuild_slots::gate::GateCore;
+use lb_rebuild_core::gate::GateCore;
+use lb_rebuild_core::group::GroupCore;
 use lb_select_base::backend::Backend;
 use lb_select_base::loads::Loads;
 use lb_select_base::refusal::Refusal;

@@ -4,8 +4,8 @@ ghost use Rattle.std.specs.Prelude.{◌≡◌, ◌≤◌, [], MatchOption, repli
 ghost use Rattle.lb_world.specs.Views.{nothing, building, built, NotBuilding, NotBuilt};
 ghost use Rattle.lb_world.specs.Works.{work_value};
 
-use lb_rebuild_slots::job::{Built, Job};
-use lb_rebuild_slots::retired::Reader;
+use lb_rebuild_core::job::{Built, Job};
+use lb_rebuild_core::retired::Reader;
 use lb_select_base::walk::BackendSelection;
 use std::marker::Model;
 use std::mem;

@@ -1,8 +1,8 @@
 //! Laws of every run of a world: each is what its function ensures, over histories alone.
 //! There is no code here and no world: whatever answers as a run does keeps them.
 ghost use Rattle.std.specs.Prelude.{◌≡◌, ◌<◌, ◌∷◌, ℕ, length, None};
-ghost use Rattle.lb_health_registry.specs.RegistryEvents.{registered_after};
-ghost use Rattle.lb_rebuild_slots.specs.SlotsHistory.{IsPast};
+ghost use Rattle.lb_health_core.specs.RegistryEvents.{registered_after};
+ghost use Rattle.lb_rebuild_core.specs.SlotsHistory.{IsPast};
 ghost use Rattle.lb_world.specs.Answers.{IsRun};
 ghost use Rattle.lb_world.specs.History.{History, registries, made, over, made_at, past};
 ghost use Rattle.lb_world.specs.GroupEvents.{JoinsAlike, SchedulesAlike};

@@ -1,8 +1,8 @@
 //! The key rules of a world's registries: by identity or by address. No registry of a world has a caller's rule.
 ghost use Rattle.std.specs.Prelude.{◌≡◌};
 
-use lb_health_registry::keys::{KeyRule, Rule};
-use lb_health_registry::registry::Registry;
+use lb_health_core::keys::{KeyRule, Rule};
+use lb_health_core::registry::Registry;
 use lb_select_base::backend::{Backend, Ext};
 use lb_select_base::refusal::Refusal;
 use std::alloc::Global;

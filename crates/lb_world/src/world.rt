@@ -23,7 +23,7 @@ use crate::group_step::{GroupStep, has_refused};
 use crate::held::OpenReader;
 use crate::rule::WorldRegistry;
 use crate::step::{Listing, Step};
-use lb_rebuild_slots::gate::GateCore;
+use lb_rebuild_core::gate::GateCore;
 use lb_select_base::backend::Backend;
 use lb_select_base::refusal::Refusal;
 use lb_select_base::walk::BackendSelection;

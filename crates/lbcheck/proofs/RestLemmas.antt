@@ -1,8 +1,8 @@
 -- Lemmas on bytes that are counted behind what a check read.
 use Rattle.std.proofs.Common.{ℕ, ◌+◌, Bool, true, List, [], ◌++◌, Result, Ok, Err, refl, ap, ◌∙◌, sym, append_assoc, length-append, arith}
 use Rattle.lb_stream.specs.Stream.{Takes}
-use Rattle.lb_health_check.specs.declared.error.CheckError.{CheckError}
-use Rattle.lb_health_check.specs.declared.error.CheckError.TheVariants.{Write, Read, OutOfMemory}
+use Rattle.lb_health_core.specs.declared.error.CheckError.{CheckError}
+use Rattle.lb_health_core.specs.declared.error.CheckError.TheVariants.{Write, Read, OutOfMemory}
 use Rattle.lb_health_http.specs.Check.{IsOkOrFailed}
 
 pub takes_none : (s : List ℕ) → Takes 0 s s

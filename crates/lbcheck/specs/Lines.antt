@@ -1,9 +1,9 @@
 -- The lines that say what a check came to.
 use Rattle.std.specs.Prelude.{ℕ, List, ◌++◌, Result, Ok, Err, codes, decimal}
-use Rattle.lb_health_check.specs.Faults.{fault_name}
-use Rattle.lb_health_check.specs.declared.error.CheckError.{CheckError}
-use Rattle.lb_health_check.specs.declared.error.CheckError.TheVariants.{Connect, Write, Read, BadHead, HeadTooLarge, Interim, Status}
-use Rattle.lb_health_check.specs.declared.error.CheckError.TheVariants.{Rejected, BadFraming, EndInMessage, BodyTooLarge, OutOfMemory}
+use Rattle.lb_health_core.specs.Faults.{fault_name}
+use Rattle.lb_health_core.specs.declared.error.CheckError.{CheckError}
+use Rattle.lb_health_core.specs.declared.error.CheckError.TheVariants.{Connect, Write, Read, BadHead, HeadTooLarge, Interim, Status}
+use Rattle.lb_health_core.specs.declared.error.CheckError.TheVariants.{Rejected, BadFraming, EndInMessage, BodyTooLarge, OutOfMemory}
 
 -- the name of a fault, with the status that it carries
 abbrev pub fault_text : CheckError → List ℕ

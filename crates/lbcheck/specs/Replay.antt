@@ -2,7 +2,7 @@
 use Rattle.std.specs.Prelude.{ℕ, Bool, true, List, Result}
 use Rattle.http.specs.declared.response.Parts.{Parts}
 use Rattle.lb_stream.specs.Stream.{Takes}
-use Rattle.lb_health_check.specs.declared.error.CheckError.{CheckError}
+use Rattle.lb_health_core.specs.declared.error.CheckError.{CheckError}
 use Rattle.lb_health_http.specs.Check.{IsGood, CheckOutcome, IsOkOrFailed}
 
 -- the check had that outcome and left a rest; so many bytes of that were counted, up to `end`

@@ -2,7 +2,7 @@
 ghost use Rattle.std.specs.Prelude.{◌≡◌, Some};
 ghost use Rattle.lbcheck.specs.Lines.{fault_text, meaning_text, check_text, replay_text, outcome_status};
 
-use lb_health_check::error::CheckError;
+use lb_health_core::error::CheckError;
 use std::fmt;
 
 /// A fault by its name, with the status that `Status` carries.

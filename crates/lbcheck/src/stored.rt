@@ -8,7 +8,7 @@ ghost use Rattle.lb_health_http.specs.Request.{asks_for_head};
 ghost use Rattle.lbcheck.specs.Replay.{ReplayOutcome, GoodPasses};
 
 use http::Request;
-use lb_health_check::error::CheckError;
+use lb_health_core::error::CheckError;
 use lb_health_http::{Validate, check_over};
 use lb_stream::counted::Counted;
 use std::alloc::Global;

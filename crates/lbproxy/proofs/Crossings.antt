@@ -4,19 +4,19 @@ use denote.Struct.Declared.{shape}
 use denote.Param.Send.{IsSend, IsSync, sendable, struct_send, struct_sync, recorded_send, recorded_sync}
 use Rattle.std.proofs.Crossing.{crosses, Arc-send, Arc-sync}
 use Rattle.std.proofs.MapsCrossing as maps
-use Rattle.lb_script_text.specs.contracts.kinds.Chosen as chosen
-use Rattle.lb_script_text.specs.contracts.kinds.ChosenIterator as iterator
-use Rattle.lb_script_text.specs.contracts.kinds.ChosenWalk as walk
-use Rattle.lb_script_text.specs.contracts.kinds.Kind as kind
-use Rattle.lb_script_text.specs.contracts.kinds.ChosenBackendSelection.TheImpl as selection
-use Rattle.lb_script_text.specs.contracts.kinds.ChosenIteratorBackendIter.TheImpl as iteration
-use Rattle.lb_script_text.proofs.kinds.Chosen.TheSendSync as chosen_crossing
-use Rattle.lb_script_text.proofs.kinds.Kind.TheSendSync as kind_crossing
-use Rattle.lb_health_registry.specs.contracts.keys.Rule as rule
-use Rattle.lb_health_registry.specs.contracts.keys.RuleKeyRule.TheImpl as rule_keys
-use Rattle.lb_health_registry.proofs.keys.Rule.TheSendSync as rule_crossing
-use Rattle.lb_threads_registry.specs.contracts.keyed.NoRule as no_rule
-use Rattle.lb_threads_registry.specs.contracts.keyed.NoRuleKeyRule.TheImpl as no_rule_keys
+use Rattle.lb_script.specs.contracts.kinds.Chosen as chosen
+use Rattle.lb_script.specs.contracts.kinds.ChosenIterator as iterator
+use Rattle.lb_script.specs.contracts.kinds.ChosenWalk as walk
+use Rattle.lb_script.specs.contracts.kinds.Kind as kind
+use Rattle.lb_script.specs.contracts.kinds.ChosenBackendSelection.TheImpl as selection
+use Rattle.lb_script.specs.contracts.kinds.ChosenIteratorBackendIter.TheImpl as iteration
+use Rattle.lb_script.proofs.kinds.Chosen.TheSendSync as chosen_crossing
+use Rattle.lb_script.proofs.kinds.Kind.TheSendSync as kind_crossing
+use Rattle.lb_health_core.specs.contracts.keys.Rule as rule
+use Rattle.lb_health_core.specs.contracts.keys.RuleKeyRule.TheImpl as rule_keys
+use Rattle.lb_health_core.proofs.keys.Rule.TheSendSync as rule_crossing
+use Rattle.lb_threads_core.specs.contracts.keyed.NoRule as no_rule
+use Rattle.lb_threads_core.specs.contracts.keyed.NoRuleKeyRule.TheImpl as no_rule_keys
 use Rattle.lb_balancer_group.specs.contracts.group.LoadBalancerGroup as handle
 use Rattle.lb_balancer_group.proofs.Handles.{handle_send, handle_sync}
 use Rattle.lb_select_base.proofs.backend.Backend.TheSendSync as backend_crossing

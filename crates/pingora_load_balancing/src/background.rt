@@ -7,6 +7,6 @@ pub use lb_background::shutdown::{ShutdownSignal, ShutdownWatch, shutdown_pair};
 pub use lb_balancer::drive::drive as drive_balancer;
 pub use lb_balancer_group::drive::drive as drive_group;
 pub use lb_balancer_group::start::{start_workers, start_workers_by};
+pub use lb_threads_core::clock::RuntimeClock;
+pub use lb_threads_core::wakes::Wakes;
 pub use lb_threads_group::workers::work;
-pub use lb_threads_registry::clock::RuntimeClock;
-pub use lb_threads_registry::wakes::Wakes;

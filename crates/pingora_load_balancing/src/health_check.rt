@@ -7,4 +7,4 @@ pub use lb_health::{
     MAX_BODY_BYTES, NoObserver, Number, Rule, TcpHealthCheck, Validate, check_over,
     identity_summary, request_for,
 };
-pub use lb_threads_registry::keyed::{KeyedRegistry, NoRule, keyed_by_address, keyed_by_identity};
+pub use lb_threads_core::keyed::{KeyedRegistry, NoRule, keyed_by_address, keyed_by_identity};

@@ -3,7 +3,7 @@
 pub mod consistent;
 pub mod laws;
 
-pub use lb_script_text::kinds::{Chosen, Kind};
+pub use lb_script::kinds::{Chosen, Kind};
 pub use lb_select::ketama::Consistent;
 pub use lb_select::least::{LeastConnections, LeastIterator, LeastWalk};
 pub use lb_select::select::select;

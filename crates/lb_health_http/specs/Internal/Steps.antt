@@ -3,8 +3,8 @@ use Rattle.std.specs.Prelude.{◌≡◌, ◌≢◌, ℕ, zero, suc, ◌+◌, ◌
 use Rattle.httparse.specs.Ascii.{crlf_bytes}
 use Rattle.httparse.specs.Grammar.{ChunkLine, IsChunkLine, print_chunk_line, chunk_size}
 use Rattle.lb_stream.specs.Stream.{Takes}
-use Rattle.lb_health_check.specs.declared.error.CheckError.{CheckError}
-use Rattle.lb_health_check.specs.declared.error.CheckError.TheVariants.{BadFraming, EndInMessage, Read, OutOfMemory}
+use Rattle.lb_health_core.specs.declared.error.CheckError.{CheckError}
+use Rattle.lb_health_core.specs.declared.error.CheckError.TheVariants.{BadFraming, EndInMessage, Read, OutOfMemory}
 use Rattle.lb_health_http.specs.declared.framing.Framing.TheVariants.{Chunked}
 use Rattle.lb_health_http.specs.Chunked.{HasTrailers, HasChunked, IsChunkedFault, HasLineBefore, AreTrailersAtFault, ContentFault}
 use Rattle.lb_health_http.specs.Chunked.{HasLongLine, EndsInLine}

@@ -8,14 +8,14 @@ use Rattle.lb_world.specs.Steps.{Step}
 use Rattle.lb_world.specs.declared.answer.Answer.{Answer}
 use Rattle.lb_world.specs.Stands.{Stands}
 use Rattle.lb_world.specs.Views.{WorldValue}
-use Rattle.lb_script_text.specs.declared.error.ScriptError.{ScriptError}
-use Rattle.lb_script_text.specs.declared.error.ScriptError.TheVariants.{BadLine, LineTooLong, Read, OutOfMemory}
+use Rattle.lb_script.specs.declared.error.ScriptError.{ScriptError}
+use Rattle.lb_script.specs.declared.error.ScriptError.TheVariants.{BadLine, LineTooLong, Read, OutOfMemory}
 use Rattle.lb_script.specs.declared.session.LineTurn.{LineTurn}
 use Rattle.lb_script.specs.declared.session.LineTurn.TheVariants.{Answered, LastAnswered, Ended, Failed, WriteFailed}
-use Rattle.lb_script_text.specs.declared.kinds.Kind.{Kind}
+use Rattle.lb_script.specs.declared.kinds.Kind.{Kind}
 use Rattle.lb_stream.specs.Lines.{first_line, HasNoFeed, IsLine}
-use Rattle.lb_script_text.specs.StepLines.{step_of}
-use Rattle.lb_script_text.specs.Texts.{answer_text}
+use Rattle.lb_script.specs.StepLines.{step_of}
+use Rattle.lb_script.specs.Texts.{answer_text}
 
 -- a text joined what waited to be written: the front of both went to the writer, and the rest waits now
 abbrev pub Joins : (old new : Option (List ℕ)) (before after text : List ℕ) → Type 0

@@ -3,8 +3,8 @@ ghost use Rattle.std.specs.Prelude.{◌≡◌, ◌∷◌, false};
 ghost use Rattle.lb_balancer_core.specs.Balancer.{After, Set, Stands};
 
 use lb_balancer_core::load_balancer::LoadBalancer;
-use lb_health_check::health_check::HealthCheck;
-use lb_health_registry::keys::KeyRule;
+use lb_health_core::health_check::HealthCheck;
+use lb_health_core::keys::KeyRule;
 use lb_health_view::discovery::ServiceDiscovery;
 use lb_select_base::backend::Backend;
 use lb_select_base::walk::BackendSelection;

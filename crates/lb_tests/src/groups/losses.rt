@@ -1,14 +1,14 @@
 //! A slot whose worker is lost while it builds, by the calls of a plain group: the lost job keeps the permit until it fails, and a job that
 //! fails in a group that was cancelled meanwhile is counted too.
 ghost use Rattle.std.specs.Prelude.{◌≡◌};
-ghost use Rattle.lb_rebuild_group.specs.Stands.{SameSite};
+ghost use Rattle.lb_rebuild_core.specs.GroupStates.{SameSite};
 
 use crate::selection::fixtures::set_of;
-use lb_health_registry::registry::RegistryCore;
+use lb_health_core::registry::RegistryCore;
 use lb_health_view::view::Settings;
-use lb_rebuild_group::group::GroupCore;
-use lb_rebuild_slots::answers::{Ask, Counts};
-use lb_rebuild_slots::gate::GateCore;
+use lb_rebuild_core::answers::{Ask, Counts};
+use lb_rebuild_core::gate::GateCore;
+use lb_rebuild_core::group::GroupCore;
 use lb_select::selection::RoundRobin;
 use lb_select_base::refusal::Refusal;
 use std::alloc::Global;

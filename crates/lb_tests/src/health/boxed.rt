@@ -1,7 +1,7 @@
 //! A check that `new` makes goes into a box, and the box into a registry.
-use lb_health_check::health_check::BoxedCheck;
+use lb_health_core::health_check::BoxedCheck;
+use lb_health_core::keys::{ByNumber, Rule};
 use lb_health_http::TcpHealthCheck;
-use lb_health_registry::keys::{ByNumber, Rule};
 use lb_health_view::registry::HealthRegistry;
 use std::test::Fail;
 

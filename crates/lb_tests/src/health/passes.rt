@@ -2,9 +2,9 @@
 //! No contract sees these. One row after another borrows the backends.
 use crate::asserted::{assert_row, assert_same};
 use crate::selection::fixtures::set_of;
-use lb_health_check::error::CheckError;
-use lb_health_check::health_check::{HealthCheck, identity_summary};
-use lb_health_registry::keys::{ByNumber, Rule};
+use lb_health_core::error::CheckError;
+use lb_health_core::health_check::{HealthCheck, identity_summary};
+use lb_health_core::keys::{ByNumber, Rule};
 use lb_health_view::backends::Backends;
 use lb_health_view::discovery::{Discovered, DiscoverySource, ServiceDiscovery};
 use lb_health_view::registry::HealthRegistry;

@@ -2,9 +2,9 @@
 use crate::asserted::assert_same;
 use crate::selection::fixtures::set_of;
 use crate::told::{Answer, DONE, Members, NO, Told, YES};
-use lb_health_registry::health::Health;
-use lb_health_registry::registry::RegistryCore;
-use lb_health_registry::targets::Target;
+use lb_health_core::health::Health;
+use lb_health_core::registry::RegistryCore;
+use lb_health_core::targets::Target;
 use lb_select_base::backend::Backend;
 use lb_select_base::refusal::Refusal;
 use std::alloc::Global;

@@ -3,7 +3,7 @@ use crate::asserted::assert_same;
 use crate::health::registries::{Call as RegistryCall, answer};
 use crate::selection::fixtures::set_of;
 use crate::told::{Answer, DONE, Members, NO, Told, YES};
-use lb_health_registry::registry::RegistryCore;
+use lb_health_core::registry::RegistryCore;
 use lb_health_view::view::{Settings, ViewCore};
 use lb_select_base::backend::Backend;
 use lb_select_base::refusal::Refusal;

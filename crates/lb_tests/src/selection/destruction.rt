@@ -1,14 +1,14 @@
 //! The order of a destruction: the selector is gone first, then that is reported, and only then does the gate grant again.
 //! Selectors count in `Noting` when they are gone.
 ghost use Rattle.std.specs.Prelude.{◌≡◌};
-ghost use Rattle.lb_rebuild_slots.specs.Stands.{SameSite};
+ghost use Rattle.lb_rebuild_core.specs.Stands.{SameSite};
 
 use crate::selection::fixtures::set_of;
 use crate::selection::noting::{Gone, Noting};
-use lb_rebuild_slots::answers::Ask;
-use lb_rebuild_slots::gate::GateCore;
-use lb_rebuild_slots::job::FailedBuild;
-use lb_rebuild_slots::slots::Slots;
+use lb_rebuild_core::answers::Ask;
+use lb_rebuild_core::gate::GateCore;
+use lb_rebuild_core::job::FailedBuild;
+use lb_rebuild_core::slots::Slots;
 use lb_select_base::refusal::Refusal;
 use std::alloc::Global;
 use std::sync::Arc;

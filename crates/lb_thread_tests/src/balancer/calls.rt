@@ -2,10 +2,10 @@
 use crate::balancer::fixtures::{Bench, FAULT, HEAVY, InTurn, ROWS, SecondDown, note};
 use crate::service_fixtures::Ticks;
 use lb_balancer::reader::BalancerReader;
-use lb_health_registry::keys::Rule;
+use lb_health_core::keys::Rule;
 use lb_select::selection::RoundRobin;
 use lb_select_base::backend::Backend;
-use lb_threads_registry::keyed::NoRule;
+use lb_threads_core::keyed::NoRule;
 use log::Log;
 use std::alloc::Global;
 use std::process::Abort;

@@ -2,13 +2,13 @@
 use crate::balancer::fixtures::{SecondDown, Tested, listed, note};
 use crate::service_fixtures::Ticks;
 use lb_balancer::load_balancer::LoadBalancer;
-use lb_health_registry::keys::Rule;
+use lb_health_core::keys::Rule;
 use lb_health_view::discovery::{DiscoverySource, Static};
 use lb_select::selection::RoundRobin;
 use lb_select_base::backend::Backend;
-use lb_threads_registry::backends::Backends;
-use lb_threads_registry::keyed::NoRule;
-use lb_threads_registry::registry::HealthRegistry;
+use lb_threads_core::backends::Backends;
+use lb_threads_core::keyed::NoRule;
+use lb_threads_core::registry::HealthRegistry;
 use std::alloc::Global;
 use std::process::Abort;
 use std::sync::{Arc, Wait};

@@ -3,7 +3,7 @@
 use super::TURNS;
 use lb_crowd::counted::Counts;
 use lb_crowd::crowd::{Crowd, Group, crowd_in, ends, is_free, select_one, serves};
-use lb_threads_registry::clock::RuntimeClock;
+use lb_threads_core::clock::RuntimeClock;
 use log::Log;
 use std::alloc::Global;
 use std::process::Abort;

@@ -3,7 +3,7 @@ use super::TURNS;
 use lb_balancer_group::start::start_workers_by;
 use lb_crowd::crowd::{Group, Handle};
 use lb_select_base::backend::Backend;
-use lb_threads_registry::clock::RuntimeClock;
+use lb_threads_core::clock::RuntimeClock;
 use log::Log;
 use std::alloc::Global;
 use std::process::Abort;

@@ -6,7 +6,7 @@ use super::TURNS;
 use lb_crowd::crowd::Handle;
 use lb_rebuild::board::GroupPass;
 use lb_select_base::backend::Backend;
-use lb_threads_registry::clock::RuntimeClock;
+use lb_threads_core::clock::RuntimeClock;
 use log::Log;
 use std::alloc::Global;
 use std::process::Abort;

@@ -1,8 +1,8 @@
 //! Turns that the caller's thread takes for slots of groups on one gate, and their workers' last ones.
 use lb_balancer_core::turn::{Turn, worker_turn};
 use lb_crowd::crowd::{one_backend, select_one};
-use lb_health_check::health_check::HealthCheck;
-use lb_health_registry::keys::KeyRule;
+use lb_health_core::health_check::HealthCheck;
+use lb_health_core::keys::KeyRule;
 use lb_health_view::discovery::{DiscoverySource, Static};
 use lb_select_base::backend::Backend;
 use lb_select_base::moments::MomentSource;

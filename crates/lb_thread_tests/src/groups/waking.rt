@@ -3,14 +3,14 @@ ghost use Rattle.std.specs.Prelude.{◌≡◌};
 
 use super::TURNS;
 use lb_crowd::crowd::{Crowd, is_free, one_backend, serves};
-use lb_health_check::health_check::HealthCheck;
-use lb_health_registry::keys::KeyRule;
+use lb_health_core::health_check::HealthCheck;
+use lb_health_core::keys::KeyRule;
 use lb_rebuild::board::GroupPass;
 use lb_select_base::moments::MomentSource;
 use lb_select_base::walk::BackendSelection;
+use lb_threads_core::clock::RuntimeClock;
+use lb_threads_core::gate::SelectorRebuildGate;
 use lb_threads_group::group::SharedGroup;
-use lb_threads_registry::clock::RuntimeClock;
-use lb_threads_registry::gate::SelectorRebuildGate;
 use log::Log;
 use std::alloc::Global;
 use std::process::Abort;

@@ -1,7 +1,7 @@
 -- Words for what small calls answer, and for what is asked of a listing's backend, which may be none.
 use Rattle.std.specs.Prelude.{◌≡◌, ◌&&◌, ◌+◌, ℕ, Bool, true, false, nat_lt, List, [], length, replicate, Option, Some, None, Result}
 use Rattle.std.specs.Prelude.{Ok, Err, if◌then◌else◌}
-use Rattle.lb_rebuild_slots.specs.Gate.{GateId}
+use Rattle.lb_rebuild_core.specs.Gate.{GateId}
 use Rattle.std.specs.BTreeMap.{insert_entry}
 use Rattle.std.specs.BTreeSet.{insert_key}
 use Rattle.lb_select_base.specs.Backends.{Member, member_cmp}
@@ -9,18 +9,18 @@ use Rattle.lb_select_base.specs.Loads.{load_in}
 use Rattle.lb_select_base.specs.Refusals.{earlier}
 use Rattle.lb_select_base.specs.declared.refusal.Refusal.{Refusal}
 use Rattle.lb_select_base.specs.declared.refusal.Refusal.TheVariants as refusal
-use Rattle.lb_rebuild_slots.specs.SlotsCalls.{is_read}
-use Rattle.lb_rebuild_slots.specs.SlotsHistory.{AskAnswer, job}
-use Rattle.lb_rebuild_slots.specs.Stands.{Made}
-use Rattle.lb_rebuild_slots.specs.declared.answers.Selection.{Selection}
-use Rattle.lb_rebuild_slots.specs.declared.answers.Publication.{Publication}
-use Rattle.lb_rebuild_slots.specs.declared.membership.Scheduled.{Scheduled}
-use Rattle.lb_rebuild_slots.specs.declared.answers.Publication.TheVariants as told
+use Rattle.lb_rebuild_core.specs.SlotsCalls.{is_read}
+use Rattle.lb_rebuild_core.specs.SlotsHistory.{AskAnswer, job}
+use Rattle.lb_rebuild_core.specs.Stands.{Made}
+use Rattle.lb_rebuild_core.specs.declared.answers.Selection.{Selection}
+use Rattle.lb_rebuild_core.specs.declared.answers.Publication.{Publication}
+use Rattle.lb_rebuild_core.specs.declared.membership.Scheduled.{Scheduled}
+use Rattle.lb_rebuild_core.specs.declared.answers.Publication.TheVariants as told
 use Rattle.lb_world.specs.Answers.{asked, no_number}
 use Rattle.lb_world.specs.declared.answer.Answer.{Answer}
 use Rattle.lb_world.specs.declared.answer.Answer.TheVariants as answer
-use Rattle.lb_rebuild_group.specs.GroupHistory.{History, slot_events}
-use Rattle.lb_rebuild_group.specs.Stands.{GroupValue, Stands}
+use Rattle.lb_rebuild_core.specs.GroupHistory.{History, slot_events}
+use Rattle.lb_rebuild_core.specs.GroupStates.{GroupValue, Stands}
 use Rattle.lb_world.specs.Views.{EntryValue, WorldValue, nothing}
 
 -- why no group is made over a registry and a gate that are there: the cause of its selectors, then that no number is left for its view

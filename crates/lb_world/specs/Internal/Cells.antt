@@ -4,8 +4,8 @@ use Rattle.std.specs.List.{filter_map, list_any}
 use Rattle.std.specs.Set.{distinct_count}
 use Rattle.lb_select_base.specs.Backends.{Member, same_member}
 use Rattle.lb_world.specs.Internal.Calls.{some_and}
-use Rattle.lb_health_registry.specs.Fresh.{has_key}
-use Rattle.lb_health_registry.specs.Targets.{ViewValue}
+use Rattle.lb_health_core.specs.Fresh.{has_key}
+use Rattle.lb_health_core.specs.Targets.{ViewValue}
 use Rattle.lb_world.specs.declared.step.Listing.{Listing}
 
 module _ (key_of : Member → Member) where

@@ -4,7 +4,7 @@ ghost use Rattle.std.specs.Prelude.{◌≡◌, ◌&&◌, not, IfOk, IfErr};
 ghost use Rattle.std.specs.List.{list_all, list_any};
 ghost use Rattle.std.specs.BTreeMap.{insert_entry};
 ghost use Rattle.lb_select_base.specs.Backends.{member_cmp, same_member};
-ghost use Rattle.lb_health_registry.specs.Keys.{by_identity};
+ghost use Rattle.lb_health_core.specs.Keys.{by_identity};
 ghost use Rattle.lb_select_base.specs.Memberships.{same_members};
 ghost use Rattle.lb_world.specs.Internal.Calls.{none_or, some_and, set_marked, with_key};
 ghost use Rattle.lb_health_view.specs.RegistrySide.{settings_of};

@@ -2,9 +2,9 @@
 //! refusal is tested before memory is taken.
 ghost use Rattle.std.specs.Prelude.{◌≡◌, ◌↔◌, ◌≤◌, ◌+◌, ◌^◌, ◌∷◌, ℕ, List, [], map, true, false, None, IfOk, IfErr, OnOk, OnErr, IsTrue};
 ghost use Rattle.std.specs.Prelude.{vec_len, vec_capacity};
-ghost use Rattle.lb_rebuild_slots.specs.SlotsCalls.{is_change, schedule_refusal as refusal_after};
-ghost use Rattle.lb_rebuild_group.specs.GroupHistory.{slot_events};
-ghost use Rattle.lb_rebuild_group.specs.Stands.{After};
+ghost use Rattle.lb_rebuild_core.specs.SlotsCalls.{is_change, schedule_refusal as refusal_after};
+ghost use Rattle.lb_rebuild_core.specs.GroupHistory.{slot_events};
+ghost use Rattle.lb_rebuild_core.specs.GroupStates.{After};
 ghost use Rattle.lb_world.specs.Answers.{has_refused};
 ghost use Rattle.lb_world.specs.History.{members_in};
 ghost use Rattle.lb_world.specs.Meanings.{meaning_of};
@@ -12,12 +12,12 @@ ghost use Rattle.lb_world.specs.Steps as seen;
 ghost use Rattle.lb_world.specs.Rules.{key_gives};
 ghost use Rattle.lb_world.specs.Stands.{IsEntry, Performs, PerformsAtRegistry};
 ghost use Rattle.lb_world.specs.Internal.Calls.{IsNewEntry, making_cause, or_memory, scheduled_as, selection_as};
-ghost use Rattle.lb_rebuild_slots.specs.Gate.{GateValue};
+ghost use Rattle.lb_rebuild_core.specs.Gate.{GateValue};
 ghost use Rattle.lb_select_base.specs.Backends.{Member};
 ghost use Rattle.lb_select_base.specs.Refusals.{least};
-ghost use Rattle.lb_health_registry.specs.Registry.{IsRegistryAfter};
-ghost use Rattle.lb_health_registry.specs.RegistryEvents.{Event, Registered, Applied, Updated, cells_given, has_view};
-ghost use Rattle.lb_health_registry.specs.RegistryEvents.{registered_after, views_after};
+ghost use Rattle.lb_health_core.specs.Registry.{IsRegistryAfter};
+ghost use Rattle.lb_health_core.specs.RegistryEvents.{Event, Registered, Applied, Updated, cells_given, has_view};
+ghost use Rattle.lb_health_core.specs.RegistryEvents.{registered_after, views_after};
 
 mod cells;
 
@@ -28,10 +28,10 @@ use crate::answer::Answer;
 use crate::held::{InHand, with_places};
 use crate::rule::WorldRegistry;
 use crate::step::Listing;
-use lb_rebuild_group::group::GroupCore;
-use lb_rebuild_slots::answers::Selection;
-use lb_rebuild_slots::gate::GateCore;
-use lb_rebuild_slots::membership::Scheduled;
+use lb_rebuild_core::answers::Selection;
+use lb_rebuild_core::gate::GateCore;
+use lb_rebuild_core::group::GroupCore;
+use lb_rebuild_core::membership::Scheduled;
 use lb_select_base::loads::Loads;
 use lb_select_base::refusal::Refusal;
 use lb_select_base::walk::BackendSelection;

@@ -1,20 +1,20 @@
 //! The steps of the readers of a group. A reader comes back to the group that it entered.
 ghost use Rattle.std.specs.Prelude.{◌≡◌, ◌↔◌, ◌∷◌, [], List, IsTrue, IfOk};
 ghost use Rattle.lb_select_base.specs.Backends.{Member};
-ghost use Rattle.lb_rebuild_slots.specs.SlotsCalls.{Enters, at_slot, done_at};
-ghost use Rattle.lb_rebuild_slots.specs.SlotsHistory.{Entered, Left, past_of, readers as readers_after, served};
+ghost use Rattle.lb_rebuild_core.specs.SlotsCalls.{Enters, at_slot, done_at};
+ghost use Rattle.lb_rebuild_core.specs.SlotsHistory.{Entered, Left, past_of, readers as readers_after, served};
 ghost use Rattle.lb_health_view.specs.RegistrySide.{IsReady};
-ghost use Rattle.lb_rebuild_group.specs.GroupHistory.{At, slot_events, in_group};
-ghost use Rattle.lb_rebuild_group.specs.Stands.{After, Becomes, SameSite, views_of};
-ghost use Rattle.lb_health_registry.specs.Registry.{IsRegistryAfter};
-ghost use Rattle.lb_health_registry.specs.RegistryEvents.{Event};
+ghost use Rattle.lb_rebuild_core.specs.GroupHistory.{At, slot_events, in_group};
+ghost use Rattle.lb_rebuild_core.specs.GroupStates.{After, Becomes, SameSite, views_of};
+ghost use Rattle.lb_health_core.specs.Registry.{IsRegistryAfter};
+ghost use Rattle.lb_health_core.specs.RegistryEvents.{Event};
 ghost use Rattle.lb_world.specs.Rules.{key_gives};
 ghost use Rattle.lb_world.specs.Views.{IsOwnReader};
 ghost use Rattle.lb_world.specs.Internal.Calls.{with_core, IsCounted};
 
 use super::Entry;
 use crate::rule::WorldRegistry;
-use lb_rebuild_slots::retired::Reader;
+use lb_rebuild_core::retired::Reader;
 use lb_select_base::backend::Backend;
 use lb_select_base::refusal::Refusal;
 use lb_select_base::walk::BackendSelection;

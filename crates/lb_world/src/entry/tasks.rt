@@ -1,7 +1,7 @@
 //! The steps of the jobs of a slot: what is granted, built, lost, published or abandoned, and what is retired. What a slot's job has
 //! become is in the slot's place from the ask on, so each of these finds there what the history says.
 ghost use Rattle.std.specs.Prelude.{◌≡◌, ℕ, MatchResult};
-ghost use Rattle.lb_rebuild_slots.specs.SlotCalls.{ask_told};
+ghost use Rattle.lb_rebuild_core.specs.SlotCalls.{ask_told};
 ghost use Rattle.lb_world.specs.Meanings.{meaning_of};
 ghost use Rattle.lb_world.specs.Steps as seen;
 ghost use Rattle.lb_world.specs.Internal.Calls.{IsUngranted, number_of, told_as};
@@ -11,9 +11,9 @@ use super::Entry;
 use crate::answer::Answer;
 use crate::held::Work;
 use crate::rule::WorldRegistry;
-use lb_rebuild_slots::answers::{Ask, Publication};
-use lb_rebuild_slots::gate::GateCore;
-use lb_rebuild_slots::job::{FailedBuild, Job};
+use lb_rebuild_core::answers::{Ask, Publication};
+use lb_rebuild_core::gate::GateCore;
+use lb_rebuild_core::job::{FailedBuild, Job};
 use lb_select_base::refusal::Refusal;
 use lb_select_base::walk::BackendSelection;
 use std::alloc::Global;

@@ -1,5 +1,5 @@
 -- The registry has a view more, or is as before.
-use Rattle.lb_threads_registry.proofs.Histories.{later, registered_later}
+use Rattle.lb_threads_core.proofs.Histories.{later, registered_later}
 use Rattle.lb_balancer.proofs.balancing.register.Goals as goal
 
 pub put-requires-clause-registry : goal.put-requires-clause-registry

@@ -1,9 +1,9 @@
 -- The view is the first of its registry, so its history is known.
 use Rattle.std.proofs.Common.{rules, ◌≡◌, ◌∙◌, ◌^◌, ◌≤◌, [], ◌∷◌, inl, Err, false, refl, sym, subst, arith}
 use Rattle.std.proofs.lemmas.Bool.{false≢true}
-use Rattle.lb_health_registry.specs.Keys.{by_identity}
-use Rattle.lb_health_registry.specs.Registry.{IsRegistryAfter}
-use Rattle.lb_health_registry.specs.RegistryEvents.{Updated, Applied, cells_given, has_view, views_after}
+use Rattle.lb_health_core.specs.Keys.{by_identity}
+use Rattle.lb_health_core.specs.Registry.{IsRegistryAfter}
+use Rattle.lb_health_core.specs.RegistryEvents.{Updated, Applied, cells_given, has_view, views_after}
 use Rattle.lb_health_view.specs.RegistrySide.{registry_updated, settings_of, view_updated}
 use Rattle.lb_health_view.specs.Views.{IsViewAfter}
 use Rattle.lb_balancer_core.specs.Texts.{one_view}

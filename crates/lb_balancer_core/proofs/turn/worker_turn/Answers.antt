@@ -1,7 +1,7 @@
 -- The job fails by what its refused build left.
 use Rattle.std.proofs.Common.{◌∙◌, ℕ, ap, ap₂, rules}
 use Rattle.lb_select_base.specs.declared.refusal.Refusal.{Refusal}
-use Rattle.lb_rebuild_slots.specs.Values.{Task}
+use Rattle.lb_rebuild_core.specs.Values.{Task}
 use Rattle.lb_balancer_core.specs.Through.{Fails}
 use Rattle.lb_balancer_core.specs.declared.turn.Turn.TheVariants as turn
 use Rattle.lb_balancer_core.proofs.turn.worker_turn.Goals as goal

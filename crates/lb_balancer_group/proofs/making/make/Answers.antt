@@ -1,5 +1,5 @@
 -- The registry has a view more, or is as before; a new group has a slot for each configuration.
-use Rattle.lb_threads_registry.proofs.Histories.{later, registered_later}
+use Rattle.lb_threads_core.proofs.Histories.{later, registered_later}
 use Rattle.lb_balancer_group.proofs.FirstSlots.{new_group, slots_of_new}
 use Rattle.lb_balancer_group.proofs.making.make.Goals as goal
 

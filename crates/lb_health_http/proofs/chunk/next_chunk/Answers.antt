@@ -1,5 +1,5 @@
 use Rattle.std.proofs.Common.{◌≡◌, ℕ, ◌<◌, ◌≤◌, List, ◌++◌, Ok, Err, length, subst, arith}
-use Rattle.lb_health_check.specs.declared.error.CheckError.TheVariants.{BadFraming, BodyTooLarge}
+use Rattle.lb_health_core.specs.declared.error.CheckError.TheVariants.{BadFraming, BodyTooLarge}
 use Rattle.lb_health_http.specs.declared.framing.Framing.TheVariants.{Chunked}
 use Rattle.lb_health_http.specs.Body.{BodyOutcome}
 use Rattle.lb_health_http.specs.Chunked.{IsNoChunkLine}

@@ -1,6 +1,6 @@
 use Rattle.std.proofs.Common.{◌≡◌, ℕ, ◌≤◌, Bool, List, Some, None, is_some, Err, sym, ap, ◌∙◌}
 use Rattle.http.specs.declared.response.Parts.{Parts}
-use Rattle.lb_health_check.specs.declared.error.CheckError.TheVariants.{BadFraming}
+use Rattle.lb_health_core.specs.declared.error.CheckError.TheVariants.{BadFraming}
 use Rattle.lb_health_http.specs.Body.{BodyOutcome}
 use Rattle.lb_health_http.specs.Check.{accepts_of, CheckOutcome}
 use Rattle.lb_health_http.specs.Framing.{framing_of}

@@ -1,6 +1,6 @@
 use Rattle.std.proofs.Common.{◌≡◌, ◌≢◌, ℕ, ◌-◌, ◌≤◌, max, List, ◌++◌, Err, length, subst, sym, arith, rules}
 use Rattle.httparse.specs.Ascii.{crlf_bytes}
-use Rattle.lb_health_check.specs.declared.error.CheckError.TheVariants.{BadFraming}
+use Rattle.lb_health_core.specs.declared.error.CheckError.TheVariants.{BadFraming}
 use Rattle.lb_health_http.specs.Chunked.{IsTrailerLine}
 use Rattle.lb_health_http.specs.Internal.Steps.{LineFault, TrailersOutcome}
 use Rattle.lb_health_http.proofs.TrailerLemmas.{PassesTrailers, trailers_more, trailer_fits, bad_trailer, trailer_fault}

@@ -3,7 +3,7 @@ use Rattle.std.proofs.Math.Seq.{take-nil}
 use Rattle.std.proofs.lemmas.List.Elements.{All-replicate}
 use Rattle.lb_select_base.specs.Backends.{Member}
 use Rattle.lb_health_view.specs.declared.cells.Hint.{Hint}
-use Rattle.lb_health_view.specs.Hints.{IsHint, AreHints}
+use Rattle.lb_health_view.specs.Internal.Hints.{IsHint, AreHints}
 use Rattle.lb_health_view.proofs.cells.empty_places.Goals as goal
 
 -- places that came after none

@@ -1,6 +1,6 @@
 use Rattle.std.proofs.Common.{◌≡◌, Some}
 use Rattle.std.specs.List.{All}
-use Rattle.lb_health_view.specs.Hints.{AreHints}
+use Rattle.lb_health_view.specs.Internal.Hints.{AreHints}
 use Rattle.lb_health_view.specs.Snapshots.{value_at}
 use Rattle.lb_health_view.proofs.cells.hints_of.Given as goal
 

@@ -2,7 +2,7 @@ use Rattle.std.proofs.Common.{◌≡◌, ◌∙◌, Some, IfSome, sym, ap, rules
 use Rattle.std.proofs.lemmas.List.Elements.{All-set}
 use Rattle.lb_select_base.specs.Backends.{Address, ipv4}
 use Rattle.lb_select_base.specs.Seen.{address_seen}
-use Rattle.lb_health_view.specs.Hints.{IsHint}
+use Rattle.lb_health_view.specs.Internal.Hints.{IsHint}
 use Rattle.lb_health_view.proofs.HintLemmas.{found_by_identity}
 use Rattle.lb_health_view.proofs.cells.note.Goals as goal
 

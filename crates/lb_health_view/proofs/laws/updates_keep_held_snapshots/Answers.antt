@@ -4,9 +4,9 @@ use Rattle.std.specs.List.{list_any}
 use borrow.Author.Tests.{lt-ltb}
 use Rattle.lb_select_base.specs.Backends.{Member, same_member}
 use Rattle.lb_select_base.specs.Memberships.{same_members}
-use Rattle.lb_health_registry.specs.RegistryEvents.{Event, Applied, Updated, Held, Released, holds_cell, after_show, shown_cells}
-use Rattle.lb_health_registry.proofs.CellLemmas.{either}
-use Rattle.lb_health_registry.proofs.KeptLemmas.{held_later}
+use Rattle.lb_health_core.specs.RegistryEvents.{Event, Applied, Updated, Held, Released, holds_cell, after_show, shown_cells}
+use Rattle.lb_health_core.proofs.CellLemmas.{either}
+use Rattle.lb_health_core.proofs.KeptLemmas.{held_later}
 use Rattle.lb_health_view.specs.RegistrySide.{lives, after_settings, view_changed}
 use Rattle.lb_health_view.specs.Snapshots.{SnapshotValue, IsAmong}
 use Rattle.lb_health_view.specs.ViewEvents.{ViewEvent, Shown, Set, by_age, generation_after, membership_after, snapshots_after}

@@ -1,5 +1,5 @@
 use Rattle.std.proofs.Common.{◌≡◌, ◌+◌, ◌<◌, sym, subst, List, ◌∷◌, drop, length, add-one, drop-cons, ap, ◌∙◌, suc}
-use Rattle.lb_health_registry.specs.declared.targets.Target.{Target}
+use Rattle.lb_health_core.specs.declared.targets.Target.{Target}
 use Rattle.lb_health_view.specs.Passes.{Passes, AreKept}
 use Rattle.lb_health_view.proofs.PassLemmas.{reached}
 use Rattle.lb_health_view.proofs.registry.check_all.Goals as goal

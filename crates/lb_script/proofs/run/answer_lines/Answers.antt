@@ -3,8 +3,8 @@ use Rattle.std.specs.Io.KnownBytes.{Appends, prepend_known}
 use Rattle.lb_world.specs.Meanings.{meaning_of}
 use Rattle.lb_stream.specs.Counted.{inner_of, has_failed}
 use Rattle.lb_stream.specs.Stream.{AppendsFront}
-use Rattle.lb_script_text.specs.declared.error.ScriptError.TheVariants.{OutOfMemory}
-use Rattle.lb_script_text.specs.Texts.{error_text}
+use Rattle.lb_script.specs.declared.error.ScriptError.TheVariants.{OutOfMemory}
+use Rattle.lb_script.specs.Texts.{error_text}
 use Rattle.lb_script.specs.declared.session.LineTurn.TheVariants.{Failed}
 use Rattle.lb_script.proofs.RunLemmas.{begins, goes_on, is_over, stops_at_end, ends_with_line, stops_in_last, ends_early, ends_in_part}
 use Rattle.lb_script.proofs.RunLemmas.{stops_waiting, runs_out, runs_out_in_part, where_some, where_none}

@@ -4,7 +4,7 @@ use Rattle.std.proofs.KnownBytes.{Appends-trans}
 use Rattle.std.proofs.lemmas.Result.{on_err_weaker}
 use Rattle.lb_stream.specs.Counted.{inner_of}
 use Rattle.lb_stream.specs.Stream.{AppendsFront}
-use Rattle.lb_script_text.specs.Texts.{script_error_name}
+use Rattle.lb_script.specs.Texts.{script_error_name}
 use Rattle.lb_stream.proofs.StreamLemmas.{on_err, front_more, front_after}
 use Rattle.lb_script.proofs.run.put_error.Goals as goal
 

@@ -1,7 +1,7 @@
 use Rattle.std.proofs.Common.{◌++◌, codes}
 use Rattle.std.proofs.lemmas.Result.{on_err_weaker}
 use Rattle.lb_stream.specs.Counted.{inner_of}
-use Rattle.lb_script_text.specs.Texts.{error_text}
+use Rattle.lb_script.specs.Texts.{error_text}
 use Rattle.lb_stream.proofs.StreamLemmas.{on_err, front_more, front_after}
 use Rattle.lb_script.proofs.run.put_last.Goals as goal
 

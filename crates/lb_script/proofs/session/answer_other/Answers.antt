@@ -1,5 +1,5 @@
 use Rattle.std.proofs.Common.{rules}
-use Rattle.lb_script_text.specs.LineSteps.{line_step_seen}
+use Rattle.lb_script.specs.LineSteps.{line_step_seen}
 use Rattle.lb_script.proofs.session.answer_other.Goals as goal
 
 pub returns-clause-line : goal.returns-clause-line

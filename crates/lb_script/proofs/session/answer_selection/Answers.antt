@@ -1,5 +1,5 @@
 use Rattle.std.proofs.Common.{rules}
-use Rattle.lb_script_text.specs.LineSteps.{selection_seen}
+use Rattle.lb_script.specs.LineSteps.{selection_seen}
 use Rattle.lb_script.proofs.session.answer_selection.Goals as goal
 
 pub returns-clause-line : goal.returns-clause-line

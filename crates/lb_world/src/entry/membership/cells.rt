@@ -5,9 +5,9 @@ ghost use Rattle.lb_world.specs.History.{members_in};
 ghost use Rattle.lb_world.specs.Internal.Cells.{lists_key, new_keys, starts_cell};
 ghost use Rattle.lb_world.specs.Rules.{key_gives};
 ghost use Rattle.lb_world.specs.Internal.Calls.{some_and};
-ghost use Rattle.lb_health_registry.specs.Registry.{IsRegistryAfter};
-ghost use Rattle.lb_health_registry.specs.RegistryEvents.{Event, Applied, Updated, cells_given, has_view, views_after};
-ghost use Rattle.lb_health_registry.specs.Targets.{live};
+ghost use Rattle.lb_health_core.specs.Registry.{IsRegistryAfter};
+ghost use Rattle.lb_health_core.specs.RegistryEvents.{Event, Applied, Updated, cells_given, has_view, views_after};
+ghost use Rattle.lb_health_core.specs.Targets.{live};
 ghost use Rattle.lb_select_base.specs.Backends.{Member, same_member};
 
 use crate::rule::WorldRegistry;

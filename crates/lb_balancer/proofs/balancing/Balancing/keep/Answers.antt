@@ -1,5 +1,5 @@
 -- Settings leave the registry as it was.
-use Rattle.lb_threads_registry.proofs.Histories.{later, stays}
+use Rattle.lb_threads_core.proofs.Histories.{later, stays}
 use Rattle.lb_balancer.proofs.balancing.Balancing.keep.Goals as goal
 
 pub put-requires-2-clause-registry : goal.put-requires-2-clause-registry

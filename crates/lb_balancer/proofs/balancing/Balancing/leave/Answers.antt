@@ -1,5 +1,5 @@
 -- The view is marked, and its newest generation released.
-use Rattle.lb_threads_registry.proofs.Histories.{later}
+use Rattle.lb_threads_core.proofs.Histories.{later}
 use Rattle.lb_balancer.proofs.Renewals.{left_later}
 use Rattle.lb_balancer.proofs.balancing.Balancing.leave.Goals as goal
 

@@ -1,5 +1,5 @@
 -- The registry has another membership of the view, or is as before.
-use Rattle.lb_threads_registry.proofs.Histories.{later}
+use Rattle.lb_threads_core.proofs.Histories.{later}
 use Rattle.lb_balancer.proofs.Renewals.{renewed_later}
 use Rattle.lb_balancer.proofs.balancing.Balancing.renew.Goals as goal
 use Rattle.lb_balancer.proofs.balancing.Balancing.renew.Goals.{in-Ok, in-Err}

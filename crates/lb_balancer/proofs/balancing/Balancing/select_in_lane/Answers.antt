@@ -2,7 +2,7 @@
 use Rattle.std.proofs.Common.{◌≡◌, ◌∙◌, Option, ap}
 use Rattle.std.specs.Prelude.{unwrap_or}
 use Rattle.lb_select_base.specs.Backends.{same_member}
-use Rattle.lb_rebuild_group.specs.GroupCalls.{AcceptsBy}
+use Rattle.lb_rebuild_core.specs.GroupCalls.{AcceptsBy}
 use Rattle.lb_balancer.specs.SharedUpdates.{BalancerValue}
 use Rattle.lb_balancer.specs.Shown.{SelectsOf, ShownValue, is_up}
 use Rattle.lb_balancer.proofs.Memberships.{if-answered}

@@ -1,7 +1,7 @@
 -- The selection is one in what was shown, where the lane had none.
 use Rattle.std.proofs.Common.{◌≡◌, ◌∙◌, ap}
 use Rattle.lb_select_base.specs.Backends.{same_member}
-use Rattle.lb_rebuild_group.specs.GroupCalls.{AcceptsBy}
+use Rattle.lb_rebuild_core.specs.GroupCalls.{AcceptsBy}
 use Rattle.lb_balancer.specs.Shown.{SelectsOf, ShownValue, is_up}
 use Rattle.lb_balancer.proofs.Memberships.{if-answered}
 use Rattle.lb_balancer.proofs.load_balancer.LoadBalancer.select_with.Goals as goal

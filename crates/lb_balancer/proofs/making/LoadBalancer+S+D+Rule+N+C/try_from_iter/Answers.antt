@@ -2,7 +2,7 @@
 use Rattle.std.proofs.Common.{◌≡◌, [], length, Err, rules, subst}
 use Rattle.std.specs.Prelude.{if◌then◌else◌}
 use Rattle.lb_select_base.specs.Memberships.{same_members}
-use Rattle.lb_health_registry.specs.Keys.{by_identity}
+use Rattle.lb_health_core.specs.Keys.{by_identity}
 use Rattle.lb_balancer.proofs.OfTexts.{build-refused, reads-around, view-refused}
 use Rattle.lb_balancer.proofs.making.LoadBalancer+S+D+Rule+N+C.try_from_iter.Goals as goal
 

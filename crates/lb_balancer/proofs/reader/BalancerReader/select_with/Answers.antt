@@ -1,6 +1,6 @@
 -- The selection is one in what was seen.
 use Rattle.std.proofs.Common.{subst}
-use Rattle.lb_rebuild_group.specs.GroupCalls.{AcceptsBy}
+use Rattle.lb_rebuild_core.specs.GroupCalls.{AcceptsBy}
 use Rattle.lb_balancer.specs.Selections.{SelectsFrom}
 use Rattle.lb_balancer.specs.Shown.{ShownValue}
 use Rattle.lb_balancer.proofs.Memberships.{if-answered}

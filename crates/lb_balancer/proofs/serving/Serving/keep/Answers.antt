@@ -1,7 +1,7 @@
 -- The membership stays, and with it the selector's.
 use Rattle.std.proofs.Common.{◌≡◌, ◌∙◌, true, refl, sym, ap, subst}
 use Rattle.lb_select_base.specs.Memberships.{same_members}
-use Rattle.lb_health_registry.specs.Registry.{IsRegistryAfter}
+use Rattle.lb_health_core.specs.Registry.{IsRegistryAfter}
 use Rattle.lb_health_view.specs.RegistrySide.{after_settings, registry_updated, settings_of, with_membership}
 use Rattle.lb_health_view.specs.ViewEvents.{membership_after}
 use Rattle.lb_balancer.specs.Shown.{ServingValue}

@@ -1,7 +1,7 @@
 -- The generation whose cells go is the view's newest.
 use Rattle.std.proofs.Common.{◌∷◌, ℕ, subst, sym}
-use Rattle.lb_health_registry.specs.Registry.{IsRegistryAfter}
-use Rattle.lb_health_registry.specs.RegistryEvents.{Marked, Released}
+use Rattle.lb_health_core.specs.Registry.{IsRegistryAfter}
+use Rattle.lb_health_core.specs.RegistryEvents.{Marked, Released}
 use Rattle.lb_health_view.specs.ViewEvents.{generation_after}
 use Rattle.lb_health_view.specs.Views.{IsViewAfter}
 use Rattle.lb_balancer.specs.Shown.{ServingValue}

@@ -1,7 +1,7 @@
 -- Another membership comes with the selector that is built of it.
 use Rattle.std.proofs.Common.{◌∙◌, sym, ap, subst}
 use Rattle.std.specs.Prelude.{is_ok}
-use Rattle.lb_health_registry.specs.Registry.{IsRegistryAfter}
+use Rattle.lb_health_core.specs.Registry.{IsRegistryAfter}
 use Rattle.lb_health_view.specs.RegistrySide.{after_settings, registry_updated, settings_of, view_updated, with_membership}
 use Rattle.lb_health_view.specs.Views.{IsViewAfter}
 use Rattle.lb_balancer.specs.Shown.{ServingValue}

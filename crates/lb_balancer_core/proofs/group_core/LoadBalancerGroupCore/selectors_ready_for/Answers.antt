@@ -1,6 +1,6 @@
 use Rattle.std.proofs.Common.{ℕ, ◌≤◌, arith, refl}
 use Rattle.std.proofs.lemmas.Bool.{false≢true}
-use Rattle.lb_rebuild_group.specs.GroupCalls.{served_at}
+use Rattle.lb_rebuild_core.specs.GroupCalls.{served_at}
 use Rattle.lb_balancer_core.proofs.SlotCounts.{gone, there, up_to}
 use Rattle.lb_balancer_core.proofs.group_core.LoadBalancerGroupCore.selectors_ready_for.Goals as goal
 

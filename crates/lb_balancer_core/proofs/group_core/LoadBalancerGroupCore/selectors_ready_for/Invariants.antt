@@ -1,6 +1,6 @@
 use Rattle.std.proofs.Common.{ℕ, ◌<◌, ◌≤◌}
-use Rattle.lb_rebuild_group.specs.GroupCalls.{served_at}
-use Rattle.lb_rebuild_group.specs.Stands.{After}
+use Rattle.lb_rebuild_core.specs.GroupCalls.{served_at}
+use Rattle.lb_rebuild_core.specs.GroupStates.{After}
 use Rattle.lb_balancer_core.proofs.group_core.LoadBalancerGroupCore.selectors_ready_for.Given as goal
 
 abbrev pub invariant-loop-slot : goal.invariant-loop-slot

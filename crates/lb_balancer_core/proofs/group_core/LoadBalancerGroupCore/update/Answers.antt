@@ -1,6 +1,6 @@
 use Rattle.std.proofs.Common.{◌≡◌, IfErr, ap, sym, subst, rules, inr, Err}
 use Rattle.lb_health_view.specs.RegistrySide.{settings_of}
-use Rattle.lb_rebuild_group.proofs.Joins.{error-is}
+use Rattle.lb_rebuild_core.proofs.Joins.{error-is}
 use Rattle.lb_balancer_core.specs.GroupUpdates.{IsGroupRefusal}
 use Rattle.lb_balancer_core.proofs.group_core.LoadBalancerGroupCore.update.Goals as goal
 

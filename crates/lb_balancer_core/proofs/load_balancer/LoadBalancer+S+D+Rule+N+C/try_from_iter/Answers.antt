@@ -1,8 +1,8 @@
 -- What was looked up is what the one update is to.
 use Rattle.std.proofs.Common.{◌≡◌, ◌∙◌, ap, sym, subst, rules, Err, []}
 use Rattle.std.proofs.lemmas.Result.{err_from_is_err_and}
-use Rattle.lb_health_registry.specs.Keys.{by_identity, rule_gives}
-use Rattle.lb_health_registry.specs.Registry.{IsRegistryAfter}
+use Rattle.lb_health_core.specs.Keys.{by_identity, rule_gives}
+use Rattle.lb_health_core.specs.Registry.{IsRegistryAfter}
 use Rattle.lb_balancer_core.specs.Texts.{one_view}
 use Rattle.lb_balancer_core.proofs.TextLemmas.{none-built, update-refused, updated-once}
 use Rattle.lb_balancer_core.proofs.load_balancer.LoadBalancer+S+D+Rule+N+C.try_from_iter.Goals as goal

@@ -6,7 +6,7 @@ use Rattle.lb_select_base.specs.Draws.{CoreGives}
 use Rattle.lb_select_base.specs.Loads.{load_in}
 use Rattle.lb_select_base.specs.Selections.{Selects}
 use Rattle.lb_select_base.specs.declared.words.CoreWords.{CoreWords}
-use Rattle.lb_rebuild_group.specs.GroupCalls.{AcceptsBy}
+use Rattle.lb_rebuild_core.specs.GroupCalls.{AcceptsBy}
 use Rattle.lb_balancer_core.specs.Balancer.{Drew, Judges, ServedValue, Stands, members_now}
 use Rattle.lb_balancer_core.proofs.Choosing.{accepts-newest, asked-more}
 use Rattle.lb_balancer_core.proofs.served.Served.select_with.Goals as goal

@@ -3,8 +3,8 @@ use Rattle.std.proofs.Common.{◌≡◌, ◌⊎◌, ◌∙◌, refl, ap, sym, su
 use Rattle.std.specs.Arc.{arc_value}
 use Rattle.lb_select_base.specs.Memberships.{same_members}
 use Rattle.lb_select_base.specs.declared.refusal.Refusal.TheVariants.{GenerationsExhausted, NoSuch, NumbersExhausted, OutOfMemory}
-use Rattle.lb_health_registry.specs.Registry.{IsRegistryAfter}
-use Rattle.lb_health_registry.specs.RegistryEvents.{shown_cells}
+use Rattle.lb_health_core.specs.Registry.{IsRegistryAfter}
+use Rattle.lb_health_core.specs.RegistryEvents.{shown_cells}
 use Rattle.lb_health_view.specs.RegistrySide.{registry_updated, settings_of}
 use Rattle.lb_balancer_core.specs.Balancer.{ServedValue, Stands, members_now, update_cause, updated, view_events}
 use Rattle.lb_balancer_core.proofs.Balancing.{stands-same, stands-other, refused-build, no-cause}

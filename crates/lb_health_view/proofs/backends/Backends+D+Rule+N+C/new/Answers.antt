@@ -1,8 +1,8 @@
 use Rattle.std.proofs.Common.{◌≡◌, inl, inr, [], Result, Ok, Err, IfOk, OnErr, IsErrOf, arith}
 use Rattle.lb_select_base.specs.declared.refusal.Refusal.{Refusal}
 use Rattle.lb_select_base.specs.declared.refusal.Refusal.TheVariants.{OutOfMemory, NumbersExhausted}
-use Rattle.lb_health_registry.specs.Keys.{by_identity}
-use Rattle.lb_health_registry.specs.Registry.{IsGrowthRefusal}
+use Rattle.lb_health_core.specs.Keys.{by_identity}
+use Rattle.lb_health_core.specs.Registry.{IsGrowthRefusal}
 use Rattle.lb_health_view.proofs.backends.Backends+D+Rule+N+C.new.Goals as goal
 
 if_ok : {A E : Type 0} {P Q : A → Type 0} (r : Result A E) → IfOk r P → ((x : A) → P x → Q x) → IfOk r Q

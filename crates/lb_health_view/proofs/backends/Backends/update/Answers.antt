@@ -1,5 +1,5 @@
 use Rattle.std.proofs.Common.{ℕ, sym, subst, ap, ◌∙◌}
-use Rattle.lb_health_registry.specs.Registry.{IsRegistryAfter}
+use Rattle.lb_health_core.specs.Registry.{IsRegistryAfter}
 use Rattle.lb_health_view.specs.RegistrySide.{settings_of, view_updated, registry_updated}
 use Rattle.lb_health_view.specs.Updates.{BackendsValue}
 use Rattle.lb_health_view.specs.Views.{IsViewAfter}

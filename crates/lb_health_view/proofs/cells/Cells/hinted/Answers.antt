@@ -2,7 +2,7 @@ use Rattle.std.proofs.Common.{◌≡◌, ◌∙◌, ℕ, List, Option, IfSome, N
 use Rattle.lb_select_base.specs.AddressText.{bare_member}
 use Rattle.lb_select_base.specs.Backends.{Address, Member, ipv4, identity_of}
 use Rattle.lb_select_base.specs.Seen.{address_seen}
-use Rattle.lb_health_view.specs.Hints.{AreHints}
+use Rattle.lb_health_view.specs.Internal.Hints.{AreHints}
 use Rattle.lb_health_view.specs.Snapshots.{value_at}
 use Rattle.lb_health_view.proofs.HintLemmas.{found_by_identity}
 use Rattle.lb_health_view.proofs.cells.Cells.hinted.Goals as goal

@@ -1,4 +1,4 @@
-use Rattle.lb_health_registry.specs.Keys.{by_address}
+use Rattle.lb_health_core.specs.Keys.{by_address}
 use Rattle.lb_health_view.proofs.registry.HealthRegistry+Rule+N+C.by_address.Goals as goal
 
 pub returns-clause-registry : goal.returns-clause-registry

@@ -1,7 +1,7 @@
 use Rattle.std.proofs.Common.{sym, subst, List, ◌∷◌, ap, ◌∙◌, refl, Option}
-use Rattle.lb_health_registry.specs.Registry.{IsRegistryAfter, targets_after}
-use Rattle.lb_health_registry.specs.RegistryEvents.{Applied}
-use Rattle.lb_health_registry.specs.declared.targets.Target.{Target}
+use Rattle.lb_health_core.specs.Registry.{IsRegistryAfter, targets_after}
+use Rattle.lb_health_core.specs.RegistryEvents.{Applied}
+use Rattle.lb_health_core.specs.declared.targets.Target.{Target}
 use Rattle.lb_health_view.specs.Passes.{Passes, PassesWith, AreKept, HealthValue}
 use Rattle.lb_health_view.proofs.PassLemmas.{targets_kept}
 use Rattle.lb_health_view.proofs.registry.HealthRegistry.run_health_check.Goals as goal

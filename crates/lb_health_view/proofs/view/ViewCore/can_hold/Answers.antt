@@ -3,7 +3,7 @@ use Rattle.std.proofs.lemmas.List.Sums.{AllPass-from_list_all, list_all-from_All
 use Rattle.std.specs.List.{list_all}
 use borrow.Author.Tests.{eqb-true, ltb-true, lt-ltb}
 use Rattle.std.proofs.lemmas.Bool.{eq-eqb}
-use Rattle.lb_health_registry.proofs.CellLemmas.{either}
+use Rattle.lb_health_core.proofs.CellLemmas.{either}
 use Rattle.lb_health_view.specs.Snapshots.{SnapshotValue, can_hold}
 use Rattle.lb_health_view.proofs.view.ViewCore.can_hold.Goals as goal
 

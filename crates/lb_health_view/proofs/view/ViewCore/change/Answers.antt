@@ -2,14 +2,14 @@ use Rattle.std.proofs.Common.{◌≡◌, ap, sym, ◌∙◌, refl, subst, map, L
 use Rattle.std.specs.Arc.{arc_value}
 use Rattle.std.specs.Prelude.{Bool, true, false, if◌then◌else◌}
 use Rattle.lb_select_base.specs.Backends.{Member}
-use Rattle.lb_health_registry.specs.Registry.{IsRegistryAfter, HasOwnCells}
-use Rattle.lb_health_registry.specs.RegistryEvents.{shown_cells, Event, Released, after_show}
+use Rattle.lb_health_core.specs.Registry.{IsRegistryAfter, HasOwnCells}
+use Rattle.lb_health_core.specs.RegistryEvents.{shown_cells, Event, Released, after_show}
 use Rattle.lb_health_view.specs.RegistrySide.{lives, view_changed}
 use Rattle.lb_health_view.specs.declared.snapshot.ViewSnapshot.{ViewSnapshot}
 use Rattle.lb_health_view.specs.Snapshots.{SnapshotValue, ViewValue, snapshot_of, living}
 use Rattle.lb_health_view.specs.ViewEvents.{ViewEvent, Shown, by_age, new_snapshot, snapshots_after, generation_after}
 use Rattle.lb_health_view.specs.Views.{IsViewAfter, Flags}
-use Rattle.lb_health_view.specs.ViewInvariants.{HaveOwnCells}
+use Rattle.lb_health_view.specs.Internal.ViewInvariants.{HaveOwnCells}
 use Rattle.lb_health_view.proofs.FlagLemmas.{flags-more}
 use Rattle.lb_health_view.proofs.OwnCellLemmas.{own-behind}
 use Rattle.lb_health_view.proofs.SnapshotLemmas.{shown_snapshots}

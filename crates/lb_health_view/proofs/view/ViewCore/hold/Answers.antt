@@ -2,7 +2,7 @@ use Rattle.std.proofs.Common.{◌≡◌, ◌<◌, ◌+◌, sym, ◌∙◌, refl,
 use Rattle.std.specs.Prelude.{All, ◌^◌}
 use Rattle.lb_health_view.specs.Snapshots.{SnapshotValue, ViewValue, snapshot_of, held_more}
 use Rattle.lb_health_view.specs.Views.{IsViewAfter}
-use Rattle.lb_health_view.specs.ViewInvariants.{HaveOwnCells}
+use Rattle.lb_health_view.specs.Internal.ViewInvariants.{HaveOwnCells}
 use Rattle.lb_health_view.proofs.OwnCellLemmas.{own-at}
 use Rattle.lb_health_view.proofs.SnapshotLemmas.{at_current, at_found, at_none, count_at}
 use Rattle.lb_health_view.proofs.ViewLemmas.{held}

@@ -1,6 +1,6 @@
 use Rattle.std.proofs.Common.{ap, sym, ◌∙◌, refl, subst, map, List, ◌∷◌}
 use Rattle.lb_health_view.specs.Snapshots.{SnapshotValue, ViewValue, snapshot_of, held_less}
-use Rattle.lb_health_view.specs.ViewInvariants.{HaveOwnCells}
+use Rattle.lb_health_view.specs.Internal.ViewInvariants.{HaveOwnCells}
 use Rattle.lb_health_view.proofs.OwnCellLemmas.{own-at}
 use Rattle.lb_health_view.proofs.SnapshotLemmas.{at_found, at_none}
 use Rattle.lb_health_view.proofs.view.ViewCore.hold_less.Goals as goal

@@ -1,6 +1,6 @@
 use Rattle.std.proofs.Common.{sym, subst}
 use Rattle.std.specs.Prelude.{Bool, if◌then◌else◌}
-use Rattle.lb_health_registry.specs.Registry.{IsRegistryAfter}
+use Rattle.lb_health_core.specs.Registry.{IsRegistryAfter}
 use Rattle.lb_health_view.specs.RegistrySide.{registry_changed}
 use Rattle.lb_health_view.proofs.view.ViewCore.update.Goals as goal
 

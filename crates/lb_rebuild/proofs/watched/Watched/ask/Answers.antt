@@ -1,6 +1,6 @@
 -- It leaves the newest generation and what is served.
 use Rattle.std.proofs.Common.{◌∙◌, sym, refl}
-use Rattle.lb_rebuild_slots.specs.SlotsCalls.{ask_events}
+use Rattle.lb_rebuild_core.specs.SlotsCalls.{ask_events}
 use Rattle.lb_rebuild.proofs.Words.{quiet_call, quiet_ask}
 use Rattle.lb_rebuild.proofs.watched.Watched.ask.Goals as goal
 

@@ -1,6 +1,6 @@
 -- It leaves the newest generation and what is served.
 use Rattle.std.proofs.Common.{◌∙◌, sym, refl, ◌∷◌, []}
-use Rattle.lb_rebuild_slots.specs.SlotsHistory.{Cancelled}
+use Rattle.lb_rebuild_core.specs.SlotsHistory.{Cancelled}
 use Rattle.lb_rebuild.proofs.Words.{quiet_call, quiet_cancel}
 use Rattle.lb_rebuild.proofs.watched.Watched.cancel.Goals as goal
 

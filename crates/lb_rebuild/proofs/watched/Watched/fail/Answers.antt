@@ -1,12 +1,12 @@
 -- It leaves the newest generation and what is served.
 use Rattle.std.proofs.Common.{◌∙◌, List, sym, ap, subst, refl}
 use Rattle.lb_select_base.specs.Backends.{Member}
-use Rattle.lb_health_registry.specs.Registry.{IsRegistryAfter}
-use Rattle.lb_health_registry.specs.RegistryEvents.{Event}
-use Rattle.lb_rebuild_group.specs.GroupCalls.{released_where}
-use Rattle.lb_rebuild_group.specs.Stands.{GroupValue, After, views_of}
+use Rattle.lb_health_core.specs.Registry.{IsRegistryAfter}
+use Rattle.lb_health_core.specs.RegistryEvents.{Event}
+use Rattle.lb_rebuild_core.specs.GroupCalls.{released_where}
+use Rattle.lb_rebuild_core.specs.GroupStates.{GroupValue, After, views_of}
 use Rattle.lb_rebuild.specs.Watched.{WatchedValue}
-use Rattle.lb_rebuild_slots.specs.SlotsCalls.{fail_events}
+use Rattle.lb_rebuild_core.specs.SlotsCalls.{fail_events}
 use Rattle.lb_rebuild.proofs.Words.{quiet_call, quiet_fail}
 use Rattle.lb_rebuild.proofs.watched.Watched.fail.Goals as goal
 

@@ -1,12 +1,12 @@
 -- A publication is above what its slot served, and not past the newest generation; what is handed back or retired changes no word.
 use Rattle.std.proofs.Common.{◌≡◌, ◌≢◌, ◌≤◌, ◌+◌, ◌∙◌, Ok, Some, [], length, length-set, slice_get, sym, ap, subst, refl, arith}
 use Rattle.std.specs.List.{slice_index}
-use Rattle.lb_rebuild_slots.specs.SlotsCalls.{publish_events}
-use Rattle.lb_rebuild_slots.specs.Values.{configs_of}
-use Rattle.lb_rebuild_slots.specs.declared.answers.Publication.{Publication}
-use Rattle.lb_rebuild_slots.specs.declared.answers.Publication.TheVariants as told
-use Rattle.lb_rebuild_group.specs.GroupHistory.{in_group}
-use Rattle.lb_rebuild_group.specs.Stands.{GroupValue, Becomes}
+use Rattle.lb_rebuild_core.specs.SlotsCalls.{publish_events}
+use Rattle.lb_rebuild_core.specs.Values.{configs_of}
+use Rattle.lb_rebuild_core.specs.declared.answers.Publication.{Publication}
+use Rattle.lb_rebuild_core.specs.declared.answers.Publication.TheVariants as told
+use Rattle.lb_rebuild_core.specs.GroupHistory.{in_group}
+use Rattle.lb_rebuild_core.specs.GroupStates.{GroupValue, Becomes}
 use Rattle.lb_rebuild.specs.Pass.{WriterValue, raised_words}
 use Rattle.lb_rebuild.specs.Watched.{WatchedValue}
 use Rattle.lb_rebuild.proofs.Words.{published_call, raised_slot, quiet_call, quiet_publish}

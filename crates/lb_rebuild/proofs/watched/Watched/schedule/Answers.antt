@@ -1,14 +1,14 @@
 -- Another membership is the next generation, and its word is raised to it; the same membership changes no word.
 use Rattle.std.proofs.Common.{◌≡◌, ◌≢◌, ◌∙◌, ◌++◌, List, Ok, [], length, length-set, sym, ap, subst, refl}
 use Rattle.lb_select_base.specs.Backends.{Member}
-use Rattle.lb_rebuild_slots.specs.SlotsCalls.{schedule_events}
-use Rattle.lb_rebuild_slots.specs.Stands.{StandsFor}
+use Rattle.lb_rebuild_core.specs.SlotsCalls.{schedule_events}
+use Rattle.lb_rebuild_core.specs.Stands.{StandsFor}
 use Rattle.lb_health_view.specs.RegistrySide.{settings_of}
-use Rattle.lb_health_registry.specs.Registry.{IsRegistryAfter}
-use Rattle.lb_health_registry.specs.RegistryEvents.{Event}
-use Rattle.lb_rebuild_group.specs.GroupCalls.{after_schedule}
-use Rattle.lb_rebuild_group.specs.GroupHistory.{slot_events}
-use Rattle.lb_rebuild_group.specs.Stands.{GroupValue, Stands, After}
+use Rattle.lb_health_core.specs.Registry.{IsRegistryAfter}
+use Rattle.lb_health_core.specs.RegistryEvents.{Event}
+use Rattle.lb_rebuild_core.specs.GroupCalls.{after_schedule}
+use Rattle.lb_rebuild_core.specs.GroupHistory.{slot_events}
+use Rattle.lb_rebuild_core.specs.GroupStates.{GroupValue, Stands, After}
 use Rattle.lb_rebuild.specs.Pass.{WriterValue}
 use Rattle.lb_rebuild.specs.Watched.{WatchedValue}
 use Rattle.lb_rebuild.proofs.Words.{unscheduled, scheduled, raised_newest, quiet_call}

@@ -1,7 +1,7 @@
 -- It leaves the newest generation and what is served.
 use Rattle.std.proofs.Common.{◌∙◌, sym, refl}
-use Rattle.lb_rebuild_slots.specs.SlotsCalls.{done_at}
-use Rattle.lb_rebuild_slots.specs.SlotsHistory.{TakenOut}
+use Rattle.lb_rebuild_core.specs.SlotsCalls.{done_at}
+use Rattle.lb_rebuild_core.specs.SlotsHistory.{TakenOut}
 use Rattle.lb_rebuild.proofs.Words.{quiet_call, quiet_done}
 use Rattle.lb_rebuild.proofs.watched.Watched.take_retired.Goals as goal
 

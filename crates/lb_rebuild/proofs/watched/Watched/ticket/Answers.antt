@@ -1,7 +1,7 @@
 -- It leaves the newest generation and what is served.
 use Rattle.std.proofs.Common.{◌∙◌, sym, refl}
-use Rattle.lb_rebuild_slots.specs.SlotsCalls.{ticket_events}
-use Rattle.lb_rebuild_group.specs.GroupHistory.{slot_events}
+use Rattle.lb_rebuild_core.specs.SlotsCalls.{ticket_events}
+use Rattle.lb_rebuild_core.specs.GroupHistory.{slot_events}
 use Rattle.lb_rebuild.proofs.Words.{quiet_call, quiet_ticket}
 use Rattle.lb_rebuild.proofs.watched.Watched.ticket.Goals as goal
 

@@ -1,6 +1,6 @@
 -- The mark of the group's view is one event more.
-use Rattle.lb_health_registry.specs.RegistryEvents.{Marked}
-use Rattle.lb_threads_registry.proofs.Histories.{later, marked_later}
+use Rattle.lb_health_core.specs.RegistryEvents.{Marked}
+use Rattle.lb_threads_core.proofs.Histories.{later, marked_later}
 use Rattle.lb_threads_group.proofs.group.SharedGroup.cancel.Goals as goal
 
 pub put-requires-clause-registry : goal.put-requires-clause-registry

@@ -1,6 +1,6 @@
 -- What the group under its lock tells of a backend, by the registry under its own.
 use Rattle.std.proofs.Common.{rules}
-use Rattle.lb_threads_registry.proofs.Histories.{at_site}
+use Rattle.lb_threads_core.proofs.Histories.{at_site}
 use Rattle.lb_threads_group.proofs.group.SharedGroup.ready.Goals as goal
 
 pub returns : goal.returns

@@ -1,9 +1,9 @@
 -- Where the report is taken, the registry releases the selector's snapshot; the group that its lock gave has a history.
 use Rattle.std.specs.Prelude.{Ok, Err, Result, refl}
 use Rattle.std.proofs.Common.{rules}
-use Rattle.lb_rebuild_slots.specs.Values.{PermitValue}
-use Rattle.lb_rebuild_group.specs.GroupCalls.{generation_at}
-use Rattle.lb_threads_registry.proofs.Histories.{at_site, later}
+use Rattle.lb_rebuild_core.specs.Values.{PermitValue}
+use Rattle.lb_rebuild_core.specs.GroupCalls.{generation_at}
+use Rattle.lb_threads_core.proofs.Histories.{at_site, later}
 use Rattle.lb_threads_group.proofs.Releases.{released_later}
 use Rattle.lb_threads_group.proofs.port.LockedPortGroupPort.destroyed.Goals as goal
 

@@ -1,7 +1,7 @@
 -- What the group under its lock tells of a backend, by the registry under its own.
 use Rattle.std.specs.Prelude.{refl}
 use Rattle.std.proofs.Common.{rules}
-use Rattle.lb_threads_registry.proofs.Histories.{at_site}
+use Rattle.lb_threads_core.proofs.Histories.{at_site}
 use Rattle.lb_threads_group.proofs.port.LockedPortGroupPort.ready.Goals as goal
 
 pub returns : goal.returns

@@ -1,7 +1,7 @@
 -- A membership that is scheduled is shown to the registry; the group that its lock gave has a history.
 use Rattle.std.specs.Prelude.{refl}
 use Rattle.std.proofs.Common.{rules}
-use Rattle.lb_threads_registry.proofs.Histories.{at_site, later}
+use Rattle.lb_threads_core.proofs.Histories.{at_site, later}
 use Rattle.lb_threads_group.proofs.Releases.{scheduled_later}
 use Rattle.lb_threads_group.proofs.port.LockedPortGroupPort.schedule.Goals as goal
 

@@ -1,8 +1,8 @@
 -- Where the job is taken back, the registry releases its snapshot; the group that its lock gave has a history.
 use Rattle.std.specs.Prelude.{Ok, Err, Result, refl}
 use Rattle.std.proofs.Common.{sym, rules}
-use Rattle.lb_rebuild_slots.specs.Values.{Task}
-use Rattle.lb_threads_registry.proofs.Histories.{at_site, later}
+use Rattle.lb_rebuild_core.specs.Values.{Task}
+use Rattle.lb_threads_core.proofs.Histories.{at_site, later}
 use Rattle.lb_threads_group.proofs.Releases.{released_later}
 use Rattle.lb_threads_group.proofs.port.LockedPortTakesBackRefusedJobBuiltReader.fail.Goals as goal
 

@@ -1,5 +1,5 @@
 -- The core's cancellation, and the mark of its view.
-use Rattle.lb_health_registry.specs.RegistryEvents as registry
+use Rattle.lb_health_core.specs.RegistryEvents as registry
 use Rattle.lb_world.proofs.Words.{◌∷◌, Answer, ap, inl, refl, registry_events, Step, sym, view_in}
 use Rattle.lb_world.proofs.Entries.{group-told, next-core, shared}
 use Rattle.lb_world.proofs.entry.Entry.cancel.Goals as goal

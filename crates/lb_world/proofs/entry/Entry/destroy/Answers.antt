@@ -1,5 +1,5 @@
 -- The core takes the selector out, and its report is owed then.
-use Rattle.lb_rebuild_group.specs.Stands.{SameSite}
+use Rattle.lb_rebuild_core.specs.GroupStates.{SameSite}
 use Rattle.lb_world.proofs.Words.{◌∙◌, false≢true, GroupValue, refl, site, sym}
 use Rattle.lb_world.proofs.Entries.{does-destroy, does-refuse-destruction, owed-now}
 use Rattle.lb_world.proofs.entry.Entry.destroy.Goals as goal

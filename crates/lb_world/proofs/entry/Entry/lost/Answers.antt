@@ -1,9 +1,9 @@
 -- The flight that the core lost is the one that was read.
-use Rattle.lb_rebuild_slots.specs.SlotsCalls.{lose_refusal}
+use Rattle.lb_rebuild_core.specs.SlotsCalls.{lose_refusal}
 use Rattle.lb_world.specs.Answers.{lost_answer}
 use Rattle.lb_world.specs.Internal.Calls.{number_of}
-use Rattle.lb_rebuild_slots.specs.SlotsHistory as slots
-use Rattle.lb_rebuild_group.specs.GroupHistory as group
+use Rattle.lb_rebuild_core.specs.SlotsHistory as slots
+use Rattle.lb_rebuild_core.specs.GroupHistory as group
 use Rattle.lb_world.proofs.Words.{◌∙◌, ◌≡◌, Answer, right_answer, ap, at_one, at_slot, Before, Bool, cond, config, configs_of, EntryValue}
 use Rattle.lb_world.proofs.Words.{flight_after, GateValue, History, inl, group_events, length, Meaning, nat_lt, None, Option, past, past_of}
 use Rattle.lb_world.proofs.Words.{refl, Refusal, RegistryValue, site, Some, Step, sym, true, unless_refused, WorldRule, ℕ}

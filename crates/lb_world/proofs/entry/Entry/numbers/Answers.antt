@@ -1,6 +1,6 @@
 -- A slot that is there for one number is there for all.
-use Rattle.lb_rebuild_slots.specs.SlotsHistory as slots
-use Rattle.lb_rebuild_group.specs.GroupHistory as group
+use Rattle.lb_rebuild_core.specs.SlotsHistory as slots
+use Rattle.lb_rebuild_core.specs.GroupHistory as group
 use Rattle.std.proofs.lemmas.Grind.{common_steps}
 use Rattle.lb_world.proofs.Words.{arith, newest-past, past_of}
 use Rattle.lb_world.proofs.Entries.{same-flight}

@@ -1,12 +1,12 @@
 -- What the core answered, as the history tells it.
-use Rattle.lb_rebuild_slots.specs.declared.answers.Selection.{Selection}
+use Rattle.lb_rebuild_core.specs.declared.answers.Selection.{Selection}
 use Rattle.lb_world.proofs.Selections.{Told, drew-so, selects}
 use Rattle.lb_world.specs.Answers.{selected}
-use Rattle.lb_rebuild_group.proofs.Undrawn.{undrawn}
-use Rattle.lb_rebuild_group.specs.GroupCalls.{after_select}
+use Rattle.lb_rebuild_core.proofs.Undrawn.{undrawn}
+use Rattle.lb_rebuild_core.specs.GroupCalls.{after_select}
 use Rattle.lb_world.specs.Internal.Calls.{selected_as, selection_as}
-use Rattle.lb_rebuild_group.specs.GroupHistory as group
-use Rattle.lb_rebuild_group.specs.Stands as stands
+use Rattle.lb_rebuild_core.specs.GroupHistory as group
+use Rattle.lb_rebuild_core.specs.GroupStates as stands
 use Rattle.lb_world.proofs.Words.{◌≡◌, Before, EntryNext, EntryValue, Err, GateValue, History, inl, inr, group_events, GroupValue, List}
 use Rattle.lb_world.proofs.Words.{load_in, made_of, Meaning, Member, None, Ok, Option, refl, Refusal, RegistryValue, Result, site, Some}
 use Rattle.lb_world.proofs.Words.{Step, subst, sym, with_core, WorldRule, ℕ}

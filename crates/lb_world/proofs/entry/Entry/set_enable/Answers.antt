@@ -1,5 +1,5 @@
 -- The core's flag.
-use Rattle.lb_rebuild_group.specs.GroupHistory as group
+use Rattle.lb_rebuild_core.specs.GroupHistory as group
 use Rattle.lb_world.proofs.Words.{◌∷◌, Answer, Before, Bool, cond, EntryNext, EntryValue, false, GateValue, History, inl, group_events}
 use Rattle.lb_world.proofs.Words.{GroupValue, Meaning, Member, refl, RegistryValue, Some, Step, sym, true, with_core, WorldRule, ℕ}
 use Rattle.lb_world.proofs.Entries.{group-told, Moves, next-core, unshared}

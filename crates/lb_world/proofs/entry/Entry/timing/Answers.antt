@@ -1,5 +1,5 @@
 -- The timing that the core reads is the history's.
-use Rattle.lb_rebuild_slots.specs.SlotsHistory as slots
+use Rattle.lb_rebuild_core.specs.SlotsHistory as slots
 use Rattle.lb_world.proofs.Words.{Answer, inl, refl, Step, sym}
 use Rattle.lb_world.proofs.Entries.{next-core, next-refused, reading-told, stays, unshared}
 use Rattle.lb_world.proofs.entry.Entry.timing.Goals as goal

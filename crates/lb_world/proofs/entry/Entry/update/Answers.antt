@@ -1,13 +1,13 @@
 -- Why it is refused, and what the core's call does, as the history tells it.
-use Rattle.lb_rebuild_slots.specs.SlotsCalls.{is_change, schedule_refusal}
-use Rattle.lb_rebuild_slots.specs.declared.membership.Scheduled.{Scheduled}
+use Rattle.lb_rebuild_core.specs.SlotsCalls.{is_change, schedule_refusal}
+use Rattle.lb_rebuild_core.specs.declared.membership.Scheduled.{Scheduled}
 use Rattle.lb_health_view.specs.RegistrySide.{registry_updated}
 use Rattle.lb_world.proofs.Updates.{Lacks, lacking, owned, refused, starved, updates, view-there}
-use Rattle.lb_rebuild_group.specs.GroupCalls.{IsRefusedFor, Schedules, after_schedule}
+use Rattle.lb_rebuild_core.specs.GroupCalls.{IsRefusedFor, Schedules, after_schedule}
 use Rattle.lb_world.specs.Internal.Calls.{scheduled_as}
-use Rattle.lb_rebuild_group.specs.GroupHistory as group
-use Rattle.lb_rebuild_group.specs.Stands as stands
-use Rattle.lb_health_registry.specs.RegistryEvents as registry
+use Rattle.lb_rebuild_core.specs.GroupHistory as group
+use Rattle.lb_rebuild_core.specs.GroupStates as stands
+use Rattle.lb_health_core.specs.RegistryEvents as registry
 use Rattle.lb_world.proofs.Words.{◌^◌, ◌↔◌, ◌∙◌, ◌∷◌, ◌≡◌, ◌≤◌, Answer, ap, Before, Bool, EntryNext, EntryValue, Err, false, GateValue}
 use Rattle.lb_world.proofs.Words.{has_refused, History, IsRegistryAfter, IsTrue, group_events, GroupValue, key_gives, key_of, List, Listing}
 use Rattle.lb_world.proofs.Words.{made_of, Meaning, meaning_of, members_in, None, Ok, refl, Refusal, registry_events, RegistryValue}

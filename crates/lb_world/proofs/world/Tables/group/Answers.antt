@@ -1,11 +1,11 @@
 -- The entry that is new joins the groups, over its registry and its gate; a refusal is for the least cause.
-use Rattle.lb_rebuild_slots.proofs.SlotsSteps.{configs-after}
+use Rattle.lb_rebuild_core.proofs.SlotsSteps.{configs-after}
 use Rattle.lb_world.proofs.Makings.{group-absent, group-made, group-refused, starts}
 use Rattle.lb_world.specs.Internal.Calls.{IsNewEntry, making_cause, or_memory}
 use Rattle.lb_world.specs.Views.{nothing}
 use Rattle.std.proofs.Common.{get_or}
 use Rattle.std.proofs.lemmas.List.{length-replicate}
-use Rattle.lb_health_registry.specs.RegistryEvents as registry
+use Rattle.lb_health_core.specs.RegistryEvents as registry
 use Rattle.lb_world.proofs.Words.{◌&&◌, ◌++◌, ◌+◌, ◌<◌, ◌∙◌, ◌∷◌, ◌≡◌, [], after, Answer, ap, arith, at-place, Bool}
 use Rattle.lb_world.proofs.Words.{configs_of, each-push, each-set, earlier, EntryIs, EntryValue, eq-eqb, false, GateId, gates}
 use Rattle.lb_world.proofs.Words.{GateValue, get-kept, get_replicate, held_of, History, in_tables, inl, inr, IsRegistryAfter, IsRun}

@@ -1,7 +1,7 @@
 use Rattle.std.proofs.Common.{◌≡◌, List, drop}
 use Rattle.lb_select_base.specs.Backends.{Member}
-use Rattle.lb_health_registry.specs.Registry.{IsRegistryAfter}
-use Rattle.lb_health_registry.specs.RegistryEvents.{Event}
+use Rattle.lb_health_core.specs.Registry.{IsRegistryAfter}
+use Rattle.lb_health_core.specs.RegistryEvents.{Event}
 use Rattle.lb_world.specs.Internal.Cells.{lists_key}
 use Rattle.lb_world.specs.Rules.{key_gives}
 use Rattle.lb_world.proofs.entry.membership.cells.shares_key.Given as goal

@@ -1,5 +1,5 @@
 -- One listing more is counted, or left out.
-use Rattle.lb_health_registry.specs.Targets.{ViewValue}
+use Rattle.lb_health_core.specs.Targets.{ViewValue}
 use Rattle.std.proofs.Common.{◌-◌, get_or}
 use Rattle.std.proofs.lemmas.List.{length-drop, take_all}
 use Rattle.lb_world.proofs.Words.{◌∷◌, ◌+◌, ◌∙◌, ◌≡◌, ◌<◌, ◌≤◌, ap, arith, at_drop_more, Bool, cond, drop, length, List, Listing, live}

@@ -1,8 +1,8 @@
 use Rattle.std.proofs.Common.{◌≡◌, ◌≤◌, ◌+◌, List, drop}
 use Rattle.lb_select_base.specs.Backends.{Member}
-use Rattle.lb_health_registry.specs.Registry.{IsRegistryAfter}
-use Rattle.lb_health_registry.specs.RegistryEvents.{Event, views_after}
-use Rattle.lb_health_registry.specs.Targets.{live}
+use Rattle.lb_health_core.specs.Registry.{IsRegistryAfter}
+use Rattle.lb_health_core.specs.RegistryEvents.{Event, views_after}
+use Rattle.lb_health_core.specs.Targets.{live}
 use Rattle.lb_world.specs.Internal.Cells.{new_keys}
 use Rattle.lb_world.specs.Rules.{key_gives}
 use Rattle.lb_world.proofs.entry.membership.cells.starting_count.Given as goal

@@ -1,0 +1,2 @@
+-- Definitions that only proofs and private functions need: what seats know of a line's word.
+pub mod Lines

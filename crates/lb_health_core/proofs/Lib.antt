@@ -1,0 +1,12 @@
+pub mod CellLemmas
+pub mod ChangeLemmas
+pub mod FreshLemmas
+pub mod KeptLemmas
+pub mod LawLemmas
+pub mod MarkLemmas
+pub mod NumberLemmas
+pub mod PlaceLemmas
+pub mod RowLemmas
+pub mod StateLemmas
+pub mod TableLemmas
+pub mod TargetLemmas

@@ -1,0 +1,64 @@
+use Rattle.std.proofs.Common.{◌≡◌, Err, List, map, ap, rules}
+use Rattle.lb_select_base.specs.Backends.{Member}
+use Rattle.lb_select_base.specs.declared.refusal.Refusal.TheVariants.{OutOfMemory, NumbersExhausted}
+use Rattle.lb_health_core.specs.Registry.{IsRegistryAfter}
+use Rattle.lb_health_core.specs.RegistryEvents.{Event}
+use Rattle.lb_health_core.specs.Table.{table_value}
+use Rattle.lb_health_core.specs.Targets.{view_value}
+use Rattle.lb_health_core.proofs.StateLemmas.{seen, not_refused, never_lacks}
+use Rattle.lb_health_core.proofs.TableLemmas.{refused_for}
+use Rattle.lb_health_core.proofs.registry.Registry.target_count.Goals as goal
+
+pub returns-clause-ok : goal.returns-clause-ok
+returns-clause-ok g c =
+    λ key_of events r.
+    let now = seen g.R.KeyRule.gives key_of events _ _ c.self.view_is r in
+    record {
+      rule = now.rule;
+      registered = now.registered;
+      state = c.in_ok-apply.ensures.ok key_of events now.rule now.state;
+    }
+
+pub returns-in_err-apply-clause-err : goal.returns-in_err-apply-clause-err
+returns-in_err-apply-clause-err g c =
+    let inside = c.self.inside in
+    let stays :
+    (key_of : Member → Member) (events : List Event) → IsRegistryAfter g.R.KeyRule.gives key_of events c.args.self.now
+    → IsRegistryAfter g.R.KeyRule.gives key_of events
+    (record {
+      rule = inside.rule;
+      views = map view_value c.apply.new.views.items;
+      registered = inside.registered;
+      table = table_value c.apply.new.table;
+    })
+    = λ key_of events r.
+    let now = seen g.R.KeyRule.gives key_of events _ _ c.self.view_is r in
+    record {
+      rule = now.rule;
+      registered = now.registered;
+      state = c.in_err-apply.ensures.err key_of events now.rule now.state;
+    } in
+    refused_for c.from_residual-in_err-apply.result stays
+
+pub returns-clause-exhausted : goal.returns-clause-exhausted
+returns-clause-exhausted g c =
+    λ key_of events r.
+    let now = seen g.R.KeyRule.gives key_of events _ _ c.self.view_is r in
+    (λ e. absurd (not_refused _ _ e), λ l. absurd (never_lacks key_of events _ _ now.state l))
+
+pub returns-in_err-apply-clause-exhausted : goal.returns-in_err-apply-clause-exhausted
+returns-in_err-apply-clause-exhausted g c =
+    λ key_of events r.
+    let now = seen g.R.KeyRule.gives key_of events _ _ c.self.view_is r in (
+      λ e. let is : c.in_err-apply.field-0.0 ≡ NumbersExhausted = search rules in
+          absurd (never_lacks key_of events _ _ now.state (c.in_err-apply.ensures.exhausted key_of events now.rule now.state (ap Err is))),
+      λ l. absurd (never_lacks key_of events _ _ now.state l),
+    )
+
+pub returns-in_err-live_order-clause-exhausted : goal.returns-in_err-live_order-clause-exhausted
+returns-in_err-live_order-clause-exhausted g c =
+    λ key_of events r.
+    let now = seen g.R.KeyRule.gives key_of events _ _ c.self.view_is r in (
+      λ e. let no : OutOfMemory ≡ NumbersExhausted = search rules in absurd (cc),
+      λ l. absurd (never_lacks key_of events _ _ now.state l),
+    )

@@ -1,0 +1,11 @@
+pub mod CellEvents
+pub mod Faults
+pub mod Fresh
+pub mod Internal
+pub mod Keys
+pub mod Registry
+pub mod RegistryEvents
+pub mod Starts
+pub mod Table
+pub mod Targets
+pub mod Verdicts

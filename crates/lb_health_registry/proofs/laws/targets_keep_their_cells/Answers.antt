@@ -1,5 +1,0 @@
-use Rattle.lb_health_registry.proofs.LawLemmas.{kept_cell}
-use Rattle.lb_health_registry.proofs.laws.targets_keep_their_cells.Goals as goal
-
-pub returns : goal.returns
-returns c = kept_cell

@@ -1,5 +1,0 @@
-use Rattle.lb_health_registry.specs.Row.{stored_health}
-use Rattle.lb_health_registry.proofs.stored.StoredCells.new.Goals as goal
-
-pub invariant_of-result : goal.invariant_of-result
-invariant_of-result g c = c.new-2.ensures (stored_health c.new.result.entries)

@@ -1,5 +1,0 @@
--- Definitions that only proofs and private functions need: what a table is while it changes, which keys start, what was gathered of the
--- targets so far, and what an update of a view prepares and gives.
-pub mod Changing
-pub mod Gathering
-pub mod Replacing

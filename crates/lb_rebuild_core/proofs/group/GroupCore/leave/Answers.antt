@@ -1,0 +1,25 @@
+-- The view does not see it.
+use Rattle.std.proofs.Common.{refl, length}
+use Rattle.lb_rebuild_core.specs.SlotsCalls.{done_at}
+use Rattle.lb_rebuild_core.specs.SlotsHistory.{Left}
+use Rattle.lb_rebuild_core.proofs.Joins.{joined-still, still-done}
+use Rattle.lb_rebuild_core.proofs.group.GroupCore.leave.Goals as goal
+
+pub invariant_of-self : goal.invariant_of-self
+invariant_of-self g c =
+    let p = c.self.invariant in (
+      p.0,
+      (
+        _,
+        joined-still p.0 p.1.0 (done_at c.args.reader.slot (Left c.args.reader.generation) c.leave.result) _ _ _ _ refl p.1.1
+            (c.leave.ensures.stands p.0) (still-done (length p.0.configs) c.args.reader.slot (Left c.args.reader.generation) c.leave.result
+            p.1.0
+            (λ b p. refl)),
+      ),
+    )
+
+pub returns-clause-stands : goal.returns-clause-stands
+returns-clause-stands g c made e s =
+    joined-still made e (done_at c.args.reader.slot (Left c.args.reader.generation) c.leave.result) _ _ _ _ c.self.view_is s
+    (c.leave.ensures.stands made) (still-done (length made.configs) c.args.reader.slot (Left c.args.reader.generation) c.leave.result e
+    (λ b p. refl))

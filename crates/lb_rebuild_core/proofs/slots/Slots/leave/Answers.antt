@@ -1,0 +1,28 @@
+-- The reader's slot is put back in its place.
+use Rattle.std.proofs.Common.{arith, refl}
+use Rattle.lb_rebuild_core.proofs.SlotsSteps.{facing, beyond, stays, site-of}
+use Rattle.lb_rebuild_core.proofs.CallSteps.{leaves}
+use Rattle.lb_rebuild_core.proofs.slots.Slots.leave.Goals as goal
+
+pub returns-then-slot-len-clause-answers : goal.returns-then-slot-len-clause-answers
+returns-then-slot-len-clause-answers g c made h s =
+    (rw (beyond _ c.args.reader.slot c.self.view_is (omega (arith, c.slot-slot.ensures)) s) refl, refl)
+
+pub invariant_of-self : goal.invariant_of-self
+invariant_of-self g c =
+    stays c.self.invariant c.self.view_is (λ made h s.
+    (leaves (facing c.slot-slot.result c.index_mut.result.now c.leave.new.self c.self.view_is (omega arith) c.index_mut.ensures.value s)
+    c.args.reader c.leave.result c.slot-slot.ensures c.leave.ensures).1)
+
+pub returns-clause-answers : goal.returns-clause-answers
+returns-clause-answers g c made h s =
+    (leaves (facing c.slot-slot.result c.index_mut.result.now c.leave.new.self c.self.view_is (omega arith) c.index_mut.ensures.value s)
+    c.args.reader c.leave.result c.slot-slot.ensures c.leave.ensures).0
+
+pub returns-clause-stands : goal.returns-clause-stands
+returns-clause-stands g c made h s =
+    (leaves (facing c.slot-slot.result c.index_mut.result.now c.leave.new.self c.self.view_is (omega arith) c.index_mut.ensures.value s)
+    c.args.reader c.leave.result c.slot-slot.ensures c.leave.ensures).1
+
+pub returns-clause-site : goal.returns-clause-site
+returns-clause-site g c = site-of c.self.invariant c.self.view_is (returns-clause-stands g c)

@@ -1,0 +1,16 @@
+pub mod Drawn
+pub mod Gate
+pub mod GroupCalls
+pub mod GroupHistory
+pub mod GroupLaws
+pub mod GroupStates
+pub mod Internal
+pub mod Laws
+pub mod Orders
+pub mod SlotCalls
+pub mod SlotSeen
+pub mod SlotsCalls
+pub mod SlotsHistory
+pub mod Stands
+pub mod Tasks
+pub mod Values

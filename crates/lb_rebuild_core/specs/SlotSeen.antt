@@ -1,0 +1,42 @@
+-- How a slot of the program is seen by contracts.
+use Rattle.std.specs.Prelude.{Option, Some, None}
+use Rattle.std.specs.Arc.{arc_value}
+use Rattle.lb_rebuild_core.specs.Gate.{GateId}
+use Rattle.lb_rebuild_core.specs.SlotsHistory.{Extra, nothing, flight, lost, retired, taken_out}
+use Rattle.lb_rebuild_core.specs.Values.{SlotValue}
+use Rattle.lb_rebuild_core.specs.declared.slot.Slot.{Slot}
+use Rattle.lb_rebuild_core.specs.declared.slot.SlotStage.{SlotStage}
+use Rattle.lb_rebuild_core.specs.declared.slot.SlotStage.TheVariants as stage
+
+abbrev pub extra_of : {S I C W : Type 0} → SlotStage S I C W → Extra
+extra_of stage.Free = nothing
+extra_of (stage.Flight n) = flight n
+extra_of (stage.Lost n) = lost n
+extra_of (stage.Retired r) = retired r.generation
+extra_of (stage.TakenOut n) = taken_out n
+
+-- the permit of a retired selector
+abbrev pub permit_of : {S I C W : Type 0} → SlotStage S I C W → Option GateId
+permit_of stage.Free = None
+permit_of (stage.Flight n) = None
+permit_of (stage.Lost n) = None
+permit_of (stage.Retired r) = Some r.permit
+permit_of (stage.TakenOut n) = None
+
+abbrev pub slot_value : {S I C W : Type 0} → Slot S I C W → SlotValue C
+slot_value x =
+    record {
+      serving = x.serving;
+      readers = x.readers;
+      config = arc_value x.config;
+      waiting = x.waiting;
+      extra = extra_of x.stage;
+      left_in = x.left_in;
+      permit = permit_of x.stage;
+      asked = x.asked;
+      scheduled = x.scheduled;
+      failures = x.failures;
+      failed_at = x.failed_at;
+      counts = x.counts;
+      timing = x.timing;
+    }

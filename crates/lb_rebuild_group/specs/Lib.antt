@@ -1,4 +1,0 @@
-pub mod GroupCalls
-pub mod GroupHistory
-pub mod GroupLaws
-pub mod Stands

@@ -1,9 +1,0 @@
--- By cases on the events and on the tests of the answer.
-use Rattle.lb_rebuild_slots.proofs.Telling.{tells, gets-job}
-use Rattle.lb_rebuild_slots.proofs.laws.answers_tell.Goals as goal
-
-pub returns-clause-tells : goal.returns-clause-tells
-returns-clause-tells c = tells
-
-pub returns-clause-grants : goal.returns-clause-grants
-returns-clause-grants c = gets-job

@@ -1,6 +1,0 @@
--- By induction over the events.
-use Rattle.lb_rebuild_slots.proofs.Ledger.{accounted}
-use Rattle.lb_rebuild_slots.proofs.laws.extras_are_accounted.Goals as goal
-
-pub returns : goal.returns
-returns c = accounted

@@ -1,6 +1,0 @@
--- By cases on the events.
-use Rattle.lb_rebuild_slots.proofs.Telling.{has-members}
-use Rattle.lb_rebuild_slots.proofs.laws.faithful_members.Goals as goal
-
-pub returns : goal.returns
-returns c = has-members

@@ -1,6 +1,0 @@
--- By cases on the events.
-use Rattle.lb_rebuild_slots.proofs.Telling.{serves-newest}
-use Rattle.lb_rebuild_slots.proofs.laws.idle_serves_newest.Goals as goal
-
-pub returns : goal.returns
-returns c = serves-newest

@@ -1,6 +1,0 @@
--- By induction over the events, slot by slot.
-use Rattle.lb_rebuild_slots.proofs.Sums.{slots-account}
-use Rattle.lb_rebuild_slots.proofs.laws.slots_account.Goals as goal
-
-pub returns : goal.returns
-returns c = slots-account

@@ -1,9 +1,0 @@
--- By cases on the events.
-use Rattle.lb_rebuild_slots.proofs.Tasks.{goes-out, stays}
-use Rattle.lb_rebuild_slots.proofs.laws.tasks_stay.Goals as goal
-
-pub returns-clause-goes : goal.returns-clause-goes
-returns-clause-goes g c = goes-out
-
-pub returns-clause-stays : goal.returns-clause-stays
-returns-clause-stays g c = stays

@@ -1,7 +1,0 @@
-use Rattle.std.proofs.Common.{◌≡◌, map, take}
-use Rattle.lb_rebuild_slots.specs.Fresh.{turn_of}
-use Rattle.lb_rebuild_slots.specs.SlotSeen.{slot_value}
-use Rattle.lb_rebuild_slots.proofs.membership.turns_of.Given as goal
-
-abbrev pub invariant-loop-slot : goal.invariant-loop-slot
-invariant-loop-slot g l = l.turns.items ≡ map (λ x. turn_of l.newest (slot_value x)) (take l.slot-index l.slots)

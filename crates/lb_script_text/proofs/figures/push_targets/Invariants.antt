@@ -1,7 +1,0 @@
-use Rattle.std.proofs.Common.{◌≡◌, ◌++◌, codes, decimal, length, take}
-use Rattle.lb_script_text.specs.Texts.{targets_text}
-use Rattle.lb_script_text.proofs.figures.push_targets.Given as goal
-
-abbrev pub invariant-loop-target : goal.invariant-loop-target
-invariant-loop-target l =
-    l.text.items ≡ l.fn.text.items ++ (codes "targets " ++ decimal (length l.targets) ++ targets_text (take l.target-index l.targets))

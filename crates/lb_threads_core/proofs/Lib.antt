@@ -1,0 +1,5 @@
+pub mod Exchanges
+pub mod Histories
+mod Memberships
+mod Registrations
+mod Updates

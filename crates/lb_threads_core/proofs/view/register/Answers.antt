@@ -1,0 +1,24 @@
+-- The registry has a view more, or is as before.
+use Rattle.lb_threads_core.proofs.Histories.{later, registered_later}
+use Rattle.lb_threads_core.proofs.view.register.Goals as goal
+
+pub put-requires-clause-registry : goal.put-requires-clause-registry
+put-requires-clause-registry g c =
+    let is = c.register-told.ensures in
+    later c.take-cells.ensures.registry (registered_later c.register-told.result is.registry is.err)
+
+pub returns-clause-registered : goal.returns-clause-registered
+returns-clause-registered g c =
+    let is = c.register-told.ensures in (
+      c.take-cells.result.value,
+      (
+        c.register-told.new.registry,
+        (
+          c.take-cells.ensures.registry,
+          (
+            registered_later c.register-told.result is.registry is.err,
+            record { ok = is.registry; number = is.id; exhausted = is.exhausted },
+          ),
+        ),
+      ),
+    )

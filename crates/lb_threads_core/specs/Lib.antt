@@ -1,0 +1,4 @@
+pub mod Gates
+pub mod Keyed
+pub mod Registry
+pub mod View

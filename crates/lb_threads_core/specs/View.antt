@@ -1,0 +1,124 @@
+-- What is known of a view that threads share: its number and its discovery stay; between two calls of a thread others may have changed the
+-- rest. So a call is one of the plain view at some state of this view, and at some state of its registry.
+use Rattle.std.specs.Prelude.{◌≡◌, ◌↔◌, ◌+◌, ◌≤◌, ◌^◌, ℕ, Bool, true, false, not, List, ◌∷◌, Option, MatchOption, Result}
+use Rattle.std.specs.Prelude.{IfOk, OnOk, OnErr, IsErrOf, IsTrue}
+use Rattle.atomic_table.specs.Seated.{TableId}
+use Rattle.lb_select_base.specs.Backends.{Member}
+use Rattle.lb_select_base.specs.Memberships.{same_members}
+use Rattle.lb_select_base.specs.declared.refusal.Refusal.{Refusal}
+use Rattle.lb_select_base.specs.declared.refusal.Refusal.TheVariants.{GenerationsExhausted, NoSuch, NumbersExhausted}
+use Rattle.lb_health_core.specs.Registry.{RegistryValue, IsRegistryAfter}
+use Rattle.lb_health_core.specs.RegistryEvents.{Event, Applied, Registered, Updated, cells_given, has_view}
+use Rattle.lb_health_core.specs.RegistryEvents.{registered_after, views_after}
+use Rattle.lb_health_view.specs.Discoveries.{Discovers}
+use Rattle.lb_health_view.specs.RegistrySide.{IsReady, registry_updated, view_updated}
+use Rattle.lb_health_view.specs.Snapshots.{ViewValue}
+use Rattle.lb_health_view.specs.ViewEvents.{ViewEvent, generation_after, membership_after}
+use Rattle.lb_health_view.specs.Views.{IsFounded, IsViewAfter}
+use Rattle.lb_health_view.specs.declared.discovery.DiscoverySource.{DiscoverySource}
+use Rattle.lb_threads_core.specs.Registry.{Becomes, IsRegistryOf, Told, UnderRegistry}
+
+-- the discovery, the number of the view, its registry as that was when it came under its lock, and which lock the view is behind
+pub record ViewHandle (D R : Type 0) : Type 0 where
+  pub discovery : DiscoverySource D
+  pub id : ℕ
+  pub registry : RegistryValue R
+  pub lock : TableId
+
+-- a state that the view of this number may have: some history explains it
+abbrev pub IsState : ℕ → ViewValue → Type 0
+IsState id v = IsFounded v × (v.id ≡ id)
+
+-- what holds after each history that explains a view
+abbrev pub After : ViewValue → (List ViewEvent → Type 0) → Type 0
+After v Holds = (views : List ViewEvent) → IsViewAfter views v → Holds views
+
+-- what was read at some state of the view
+abbrev pub Seen : ℕ → (ViewValue → Type 0) → Type 0
+Seen id Reads = (v : ViewValue) × (IsState id v × Reads v)
+
+-- a call that was made at some state of the view, and left one of its states
+abbrev pub Under : ℕ → (ViewValue → ViewValue → Type 0) → Type 0
+Under id Call = (v : ViewValue) × ((w : ViewValue) × (IsState id v × (IsState id w × Call v w)))
+
+-- The caller's function ran where the membership was another one, and answered this of it; for the same it didn't run.
+abbrev pub Calls : {T : Type 0} → List Member → (List Member → T → Type 0) → ViewValue → Option T → Type 0
+Calls members Answers v answer =
+    MatchOption answer (After v (λ views. same_members members (membership_after views) ≡ true))
+    (λ t. After v (λ views. same_members members (membership_after views) ≡ false) × Answers members t)
+
+-- why another membership is refused: the generations are exhausted
+abbrev pub HasLast : ViewValue → Type 0
+HasLast v = After v (λ views. generation_after views + 1 ≡ 2 ^ 64)
+
+module _ {R : Type 0} (gives : R → Member → Member → Type 0) where
+  -- A view was registered under the next number, and the marks that wait were applied. Where no number was left, that is the refusal,
+  -- and no other time.
+  pub record IsRegisteredAs {A : Type 0} (id_of : A → ℕ) (r : Result A Refusal) (x y : RegistryValue R) : Type 0 where
+    pub ok : OnOk r (Becomes gives x (λ events. Applied ∷ Registered ∷ events) y)
+    pub number : IfOk r (λ a. Told gives x (λ key_of events. id_of a ≡ registered_after events + 1))
+    pub exhausted : Told gives x (λ key_of events. IsErrOf r NumbersExhausted ↔ (2 ^ 64 ≤ registered_after events + 1))
+
+  -- what holds after each history that explains a view and each that explains its registry
+  abbrev pub AfterBoth : ViewValue → RegistryValue R → ((Member → Member) → List ViewEvent → List Event → Type 0) → Type 0
+  AfterBoth v x Holds =
+      (key_of : Member → Member) (views : List ViewEvent) (events : List Event) → IsViewAfter views v
+      → IsRegistryAfter gives key_of events x → Holds key_of views events
+
+  -- whether a backend is ready in the newest membership, by some state of the view and some state of its registry
+  abbrev pub JudgedUnder : {D : Type 0} → ViewHandle D R → Member → Bool → Type 0
+  JudgedUnder site b ready =
+      Seen site.id (λ v. (x : RegistryValue R) × (IsRegistryOf gives site.registry x
+      × AfterBoth v x (λ key_of views events. IsTrue ready ↔ IsReady key_of views events (generation_after views) b)))
+
+  -- a view and its registry after a membership and settings
+  pub record Takes (members : List Member) (settings : List (Member × Bool)) (v : ViewValue) (x : RegistryValue R) (w : ViewValue)
+      (y : RegistryValue R) : Type 0 where
+    pub view : AfterBoth v x (λ key_of views events. IsViewAfter (view_updated key_of v.id members settings events views) w)
+    pub registry : AfterBoth v x (λ key_of views events. IsRegistryAfter gives key_of (registry_updated key_of v.id members views events) y)
+
+  -- a view and its registry after a refused call: as before
+  pub record Keeps (v : ViewValue) (x : RegistryValue R) (w : ViewValue) (y : RegistryValue R) : Type 0 where
+    pub view : After v (λ views. IsViewAfter views w)
+    pub registry : Becomes gives x (λ events. events) y
+
+  -- Or the registry has no such view, or no number is left for a cell.
+  abbrev pub LacksView : ViewValue → RegistryValue R → Type 0
+  LacksView v x = Told gives x (λ key_of events. has_view v.id (views_after events) ≡ false)
+
+  abbrev pub LacksNumbers : List Member → ViewValue → RegistryValue R → Type 0
+  LacksNumbers members v x =
+      Told gives x (λ key_of events. 2 ^ 64 ≤ cells_given key_of (Updated v.id members ∷ Applied ∷ events))
+
+  -- A view and its registry took in what was discovered, and it was answered whether that is another membership; or it was refused.
+  pub record IsTakenIn (members : List Member) (settings : List (Member × Bool)) (v : ViewValue) (x : RegistryValue R)
+      (r : Result Bool Refusal) (w : ViewValue) (y : RegistryValue R) : Type 0 where
+    pub ok : OnOk r (Takes members settings v x w y)
+    pub changed : IfOk r (λ changed. After v (λ views. changed ≡ not (same_members members (membership_after views))))
+    pub err : OnErr r (Keeps v x w y)
+    pub last : IsErrOf r GenerationsExhausted → HasLast v
+    pub unknown : IsErrOf r NoSuch → LacksView v x
+    pub numbers : IsErrOf r NumbersExhausted → LacksNumbers members v x
+
+  module _ {D : Type 0} (site : ViewHandle D R) where
+    -- a call with what was discovered, made at some state of the view and of its registry
+    abbrev pub UnderBoth :
+        (List Member → List (Member × Bool) → ViewValue → RegistryValue R → ViewValue → RegistryValue R → Type 0) → Type 0
+    UnderBoth Call =
+        (members : List Member) × ((settings : List (Member × Bool)) × (Discovers site.discovery members settings
+        × UnderRegistry gives site.registry (λ x y. Under site.id (λ v w. Call members settings v x w y))))
+
+    -- an update, and what the caller's function answered of the new membership
+    abbrev pub UpdatedUnder : {T : Type 0} → (List Member → T → Type 0) → Option T → Type 0
+    UpdatedUnder Answers answer =
+        UnderBoth (λ members settings v x w y. Takes members settings v x w y × Calls members Answers v answer)
+
+    -- an update that was refused, for this cause
+    abbrev pub RefusedUnder : (List Member → ViewValue → RegistryValue R → Type 0) → Type 0
+    RefusedUnder Why = UnderBoth (λ members settings v x w y. Keeps v x w y × Why members v x)
+
+    -- the causes of an update's refusals
+    pub record RefusedFor (e : Refusal) : Type 0 where
+      pub last : e ≡ GenerationsExhausted → RefusedUnder (λ members v x. HasLast v)
+      pub unknown : e ≡ NoSuch → RefusedUnder (λ members v x. LacksView v x)
+      pub numbers : e ≡ NumbersExhausted → RefusedUnder LacksNumbers

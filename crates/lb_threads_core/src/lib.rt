@@ -1,0 +1,18 @@
+//! What threads share: a lock whose value keeps a fact about a key that is fixed when the lock is made, so that what a thread finds under
+//! the lock is known to be the lock's own; the gate, the registry and the view of backends behind such locks; and lanes, from which threads
+//! read a value all the time without a lock. Of the value of std's `Mutex` only the invariant of its type is known.
+#![tactic(auto)]
+
+pub mod backends;
+pub mod clock;
+pub mod gate;
+pub mod keyed;
+pub mod lane;
+pub mod lanes;
+pub mod lock;
+pub mod making;
+pub mod owner;
+pub mod registry;
+pub mod rule;
+pub mod view;
+pub mod wakes;

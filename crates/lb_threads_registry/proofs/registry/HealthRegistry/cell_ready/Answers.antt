@@ -1,4 +1,0 @@
-use Rattle.lb_threads_registry.proofs.registry.HealthRegistry.cell_ready.Goals as goal
-
-pub returns : goal.returns
-returns g c = (c.take-held.result.value, (c.take-held.ensures.registry, c.cell_ready-told.ensures))

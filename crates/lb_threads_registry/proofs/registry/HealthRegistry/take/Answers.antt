@@ -1,6 +1,0 @@
--- The views whose owners are gone are events more.
-use Rattle.lb_threads_registry.proofs.Histories.{later}
-use Rattle.lb_threads_registry.proofs.registry.HealthRegistry.take.Goals as goal
-
-pub returns-clause-registry : goal.returns-clause-registry
-returns-clause-registry g c = later c.taken-held.ensures.registry c.look_for_gone.ensures

@@ -1,5 +1,0 @@
-use Rattle.lb_threads_registry.specs.Registry.{IsRegistryOf}
-use Rattle.lb_threads_registry.proofs.registry.remove_gone.Given as goal
-
-abbrev pub invariant-loop : goal.invariant-loop
-invariant-loop g l = IsRegistryOf g.R.KeyRule.gives l.fn.registry l.registry

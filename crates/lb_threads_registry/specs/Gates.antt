@@ -1,8 +1,0 @@
--- What contracts see of a gate that threads share.
-use Rattle.atomic_table.specs.Seated.{TableId}
-use Rattle.lb_rebuild_slots.specs.Gate.{GateId}
-
--- which gate it is, and which lock it is behind
-pub record GateHandle : Type 0 where
-  pub id : GateId
-  pub lock : TableId

@@ -1,3 +1,0 @@
-pub mod Keyed
-pub mod Registry
-pub mod Gates

@@ -1,3 +1,0 @@
-mod Memberships
-mod Registrations
-mod Updates
