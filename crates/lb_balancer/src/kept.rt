@@ -87,7 +87,7 @@ impl<
         let unneeded = self.lanes.renew(hint, KeptShown { shown }, &self.config);
         drop(unneeded);
         if version != self.version() {
-            drop(self.lanes.clear(hint));
+            drop(self.lanes.clear(hint, &self.config));
         }
     }
 
@@ -97,7 +97,7 @@ impl<
             let hint = lane as u64;
             match self.latest(rt) {
                 Ok(shown) => self.refill(hint, shown),
-                Err(_) => drop(self.lanes.clear(hint)),
+                Err(_) => drop(self.lanes.clear(hint, &self.config)),
             }
         }
     }

@@ -20,7 +20,7 @@ pub struct Lane<X: Fits + Drop> {
 pub struct Seen<'a, X: Fits + Drop> {
     pub(crate) slot: &'a Counted<Option<X>>,
     pub hand: Claim<'a, Option<X>>,
-    ghost reads: { hand.right ≡ 1 },
+    ghost reads: { (hand.right ≡ 1) × (slot.now ≡ hand.tag) },
 }
 
 fn state_of(word: u64) -> u64
@@ -70,6 +70,7 @@ impl<X: Fits + Drop> Lane<X> {
     pub(crate) fn exchange(&self, value: Option<X>, next: u64) -> Option<X>
         requires fits { IfSome value (λ x. X.fits self.now.slot x) }
         requires state { next < 3 }
+        ensures { IfSome result (λ x. X.fits self.now.slot x) }
     {
         for _ in 0..u64::MAX {
             let word = self.slot.load();
@@ -100,16 +101,17 @@ fn mark<X: Fits + Drop>(slot: &Counted<Option<X>>, word: u64) -> bool {
     found == word
 }
 
-// Empties a value that no thread reads, if its word is still this one.
-fn empty<X: Fits + Drop>(slot: &Counted<Option<X>>, word: u64)
+// Empties a value that no thread reads, if its word is still this one, and returns what was there.
+fn empty<X: Fits + Drop>(slot: &Counted<Option<X>>, word: u64) -> Option<X>
     requires { (word % 4 < 3) × (readers word ≡ 0) }
+    ensures { IfSome result (X.fits slot.now) }
 {
     let (found, hand) = slot.turn(word, word - state_of(word) + TAKEN);
     if found == word {
-        drop(hand.put(None, FREE));
-    } else {
-        hand.done();
+        return hand.put(None, FREE);
     }
+    hand.done();
+    None
 }
 
 impl<'a, X: Fits + Drop> Seen<'a, X> {
@@ -122,14 +124,22 @@ impl<'a, X: Fits + Drop> Seen<'a, X> {
             None => None,
         }
     }
+
+    /// Ends the reading, and returns the value where this was the last reader of a marked lane, which is empty then.
+    pub fn leave(self) -> Option<X>
+        ensures { IfSome result (X.fits self.entry.hand.tag) }
+    {
+        let Self { slot, hand } = self;
+        let word = hand.leave();
+        if state_of(word) == MARKED && reader_count(word) == 1 {
+            return empty(slot, word - ONE_READER);
+        }
+        None
+    }
 }
 
 impl<'a, X: Fits + Drop> Drop for Seen<'a, X> {
     fn drop(self) {
-        let Self { slot, hand } = self;
-        let word = hand.leave();
-        if state_of(word) == MARKED && reader_count(word) == 1 {
-            empty(slot, word - ONE_READER);
-        }
+        drop(self.leave());
     }
 }

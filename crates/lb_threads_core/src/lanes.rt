@@ -67,6 +67,7 @@ impl<X: Fits + Drop> Lanes<X> {
     pub fn renew(&self, hint: u64, value: X, key: &X::Tag) -> Option<X>
         requires keyed { All (λ lane. lane.slot ≡ key.now) self.now.lanes.items }
         requires fits { X.fits key.now value }
+        ensures { IfSome result (X.fits key.now) }
     {
         match self.lane(hint, key) {
             Some(lane) => lane.exchange(Some(value), PRESENT),
@@ -77,8 +78,11 @@ impl<X: Fits + Drop> Lanes<X> {
     /// Empties the hint's lane, and returns what was there.
     ///
     /// Where the lane is read, its last reader empties it.
-    pub fn clear(&self, hint: u64) -> Option<X> {
-        match self.lanes.get(self.place(hint)) {
+    pub fn clear(&self, hint: u64, key: &X::Tag) -> Option<X>
+        requires { All (λ lane. lane.slot ≡ key.now) self.now.lanes.items }
+        ensures { IfSome result (X.fits key.now) }
+    {
+        match self.lane(hint, key) {
             Some(lane) => lane.exchange(None, FREE),
             None => None,
         }
