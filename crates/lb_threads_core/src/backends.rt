@@ -14,6 +14,7 @@ use std::alloc::Global;
 use std::sync::Arc;
 
 /// A discovery, and the registry of health in which a balancer or a group of these backends has its view.
+#[derive(Drop)]
 pub struct Backends<D, R: KeyRule + Drop, C> {
     /// Where the backends come from.
     pub discovery: DiscoverySource<D>,
@@ -21,16 +22,6 @@ pub struct Backends<D, R: KeyRule + Drop, C> {
     pub registry: Arc<HealthRegistry<R, C>>,
     /// Whether the balancer or group runs the checks of the registry.
     pub owns_checks: bool,
-}
-
-impl<D: Drop, R: KeyRule + Drop, C: Drop> Drop for Backends<D, R, C> {
-    fn drop(self) {
-        let Backends {
-            discovery: _,
-            registry: _,
-            owns_checks: _,
-        } = self;
-    }
 }
 
 impl<D: Drop, N: KeyRule + Drop, C: HealthCheck + Drop> Backends<D, Rule<N>, C> {
