@@ -1,9 +1,12 @@
 -- What was looked up is what the first view and its selector are of.
-use Rattle.std.proofs.Common.{◌≡◌, [], length, Err, rules, subst}
+use Rattle.std.proofs.Common.{◌≡◌, [], length, Err, refl, rules, subst}
 use Rattle.std.specs.Prelude.{if◌then◌else◌}
 use Rattle.lb_select_base.specs.Memberships.{same_members}
 use Rattle.lb_health_core.specs.Keys.{by_identity}
+use Rattle.lb_health_view.specs.RegistrySide.{view_updated}
+use Rattle.lb_balancer_core.specs.Texts.{one_view}
 use Rattle.lb_balancer.proofs.OfTexts.{build-refused, reads-around, view-refused}
+use Rattle.lb_balancer.proofs.Served.{first-discovered}
 use Rattle.lb_balancer.proofs.making.LoadBalancer+S+D+Rule+N+C.try_from_iter.Goals as goal
 
 pub returns-in_err-built-clause-refused : goal.returns-in_err-built-clause-refused
@@ -54,3 +57,15 @@ returns-clause-made g c =
         readings = subst (λ ms. length times.0 ≡ (if same_members ms [] then 2 else 4)) members times.2;
       },
     )
+
+pub begun-requires : goal.begun-requires
+begun-requires g c =
+    let members = c.in_ok-members.members.keys in
+    let served = c.in_ok-serving.ensures.served in
+    let config : c.in_ok-serving.serving.config ≡ g.S.BackendSelection.default_config = search rules in
+    record {
+      config = config;
+      views = view_updated by_identity 1 members [] one_view [];
+      view = served.0;
+      discovered = first-discovered _ members (same_members members []) refl (c.in_ok-members.ensures.ok, refl);
+    }
