@@ -1,5 +1,5 @@
 -- What updates, flags and refusals leave of what a balancer serves, and what is shown of it.
-use Rattle.std.proofs.Common.{◌≡◌, ◌∙◌, ◌<◌, ◌+◌, Bool, true, false, ℕ, List, [], ◌∷◌, Result, Ok, Err, OnOk, OnErr, refl}
+use Rattle.std.proofs.Common.{◌≡◌, ◌∙◌, ◌<◌, ◌≤◌, ◌+◌, Bool, true, false, ℕ, List, [], ◌∷◌, Result, Ok, Err, OnOk, OnErr, refl}
 use Rattle.std.proofs.Common.{sym, ap, subst, arith}
 use Rattle.std.specs.Prelude.{if◌then◌else◌}
 use Rattle.std.specs.List.{list_any}
@@ -43,6 +43,17 @@ module _ (settings : List (Member × Bool)) (members : List Member) (cells : Lis
       let shown : with_membership members cells views ≡ Shown members cells ∷ views = rw other refl in
       settings-generation settings (with_membership members cells views) ∙ ap generation_after shown
 
+-- no update makes the newest generation less
+grows : (settings : List (Member × Bool)) (members : List Member) (cells : List (Member × ℕ)) (views : List ViewEvent) (b : Bool)
+    → same_members members (membership_after views) ≡ b
+    → generation_after views ≤ generation_after (after_settings settings (with_membership members cells views))
+grows settings members cells views true same =
+    let kept = kept-generation settings members cells views same in
+    omega (arith, kept)
+grows settings members cells views false other =
+    let more = new-generation settings members cells views other in
+    omega (arith, more)
+
 -- generation and members that are those of another pair
 moved : {D : Type 0} (d : DiscoverySource D) {n m : ℕ} {ms ns : List Member} → n ≡ m → ms ≡ ns → AreDiscovered d n ms → AreDiscovered d m ns
 moved d {m = m} {ms = ms} number same is =
@@ -76,6 +87,10 @@ module _ {D C : Type 0} (b : BalancerValue D C) {s t : ServingValue C} where
     config = config ∙ was.config;
     views = after_settings settings (with_membership members takes.0 was.views);
     view = takes.1 was.views was.view;
+    first =
+        let before = was.first in
+        let more = grows settings members takes.0 was.views (same_members members (membership_after was.views)) refl in
+        omega (arith, before, more);
     discovered =
         taken b.discovery members settings takes.0 was.views (same_members members (membership_after was.views)) refl discovered
         was.discovered;
@@ -87,6 +102,7 @@ module _ {D C : Type 0} (b : BalancerValue D C) {s t : ServingValue C} where
     config = config ∙ was.config;
     views = Set backend enabled ∷ was.views;
     view = flags was.views was.view;
+    first = was.first;
     discovered = was.discovered;
   }
 
@@ -97,16 +113,33 @@ module _ {D C : Type 0} (b : BalancerValue D C) {s t : ServingValue C} where
       → IsServedBy b t
   renewed (Ok a) was config members settings discovered ok err = updated was config members settings discovered ok
   renewed (Err a) was config members settings discovered ok err =
-      record { config = config ∙ was.config; views = was.views; view = err was.views was.view; discovered = was.discovered }
+      record {
+        config = config ∙ was.config;
+        views = was.views;
+        view = err was.views was.view;
+        first = was.first;
+        discovered = was.discovered;
+      }
 
 -- a copy of what is served is shown
 pub shown-of : {D C : Type 0} (b : BalancerValue D C) {s : ServingValue C} {x : ShownValue C} → IsServedBy b s → x.config ≡ s.config
     → ShowsView s.view x → IsShownBy b x
 shown-of b was config shows = record {
   config = config ∙ was.config;
+  first = subst (λ n. b.first ≤ n) (sym (shows.generation was.views was.view)) was.first;
   discovered =
       moved b.discovery (sym (shows.generation was.views was.view)) (sym (shows.members was.views was.view)) was.discovered;
 }
+
+numbered : (b : Bool) (members : List Member) (cells : List (Member × ℕ))
+    → generation_after (if b then [] else Shown members cells ∷ []) ≡ (if b then 0 else 1)
+numbered true members cells = refl
+numbered false members cells = refl
+
+-- the generation of the first view of a registry
+pub first-generation : (members : List Member)
+    → generation_after (view_updated by_identity 1 members [] one_view []) ≡ (if same_members members [] then 0 else 1)
+first-generation members = numbered (same_members members []) members (shown_cells by_identity 1 members one_view)
 
 -- the first view of a registry, with members that were discovered
 pub first-discovered : {D : Type 0} (d : DiscoverySource D) (members : List Member) (b : Bool) → same_members members [] ≡ b

@@ -1,6 +1,6 @@
 -- What a balancer that threads share may serve and show: what some of its own updates left. Other threads go on changing it, so a call is
 -- made at some state of it.
-use Rattle.std.specs.Prelude.{◌≡◌, ◌<◌, ℕ, Bool, List, []}
+use Rattle.std.specs.Prelude.{◌≡◌, ◌<◌, ◌≤◌, ℕ, Bool, List, []}
 use Rattle.lb_select_base.specs.Backends.{Member}
 use Rattle.lb_health_view.specs.Discoveries.{Discovers}
 use Rattle.lb_health_view.specs.declared.discovery.DiscoverySource.{DiscoverySource}
@@ -9,10 +9,11 @@ use Rattle.lb_health_view.specs.ViewEvents.{ViewEvent, generation_after, members
 use Rattle.lb_health_view.specs.Views.{IsViewAfter}
 use Rattle.lb_balancer.specs.Shown.{ServingValue, ShownValue}
 
--- what a caller knows of a balancer: its discovery, and what its selectors are built with
+-- what a caller knows of a balancer: its discovery, what its selectors are built with, and the generation at which it was made
 pub record BalancerValue (D C : Type 0) : Type 0 where
   pub discovery : DiscoverySource D
   pub config : C
+  pub first : ℕ
 
 -- generation and members belong together: generation 0 has none, and those of another one are what the discovery may give
 pub record AreDiscovered {D : Type 0} (discovery : DiscoverySource D) (generation : ℕ) (members : List Member) : Type 0 where
@@ -25,11 +26,13 @@ module _ {D C : Type 0} (b : BalancerValue D C) where
     pub config : s.config ≡ b.config
     pub views : List ViewEvent
     pub view : IsViewAfter views s.view
+    pub first : b.first ≤ generation_after views
     pub discovered : AreDiscovered b.discovery (generation_after views) (membership_after views)
 
   -- what the balancer may show: members that were discovered, and a selector that is built with its configuration
   pub record IsShownBy (s : ShownValue C) : Type 0 where
     pub config : s.config ≡ b.config
+    pub first : b.first ≤ s.generation
     pub discovered : AreDiscovered b.discovery s.generation s.members
 
 -- a view took members and settings

@@ -23,7 +23,7 @@ use lb_balancer_core::timings::UpdateTimings;
 use lb_health_core::health_check::HealthCheck;
 use lb_health_core::keys::KeyRule;
 use lb_health_core::registry::Registry;
-use lb_health_view::discovery::{DiscoverySource, ServiceDiscovery};
+use lb_health_view::discovery::ServiceDiscovery;
 use lb_health_view::view::{Settings, ViewCore};
 use lb_select_base::backend::Backend;
 use lb_select_base::loads::Loads;
@@ -110,7 +110,8 @@ impl<
         backends: Backends<D, R, C>,
         config: Option<S::Config>,
     ) -> Result<Balancing<S, D, R, C>, Refusal>
-        ensures made { IfOk result (λ b. (b.discovery ≡ backends.discovery) × (b.config ≡ unwrap_or config S.default_config)) }
+        ensures made { IfOk result (λ b. (b.discovery ≡ backends.discovery) × (b.config ≡ unwrap_or config S.default_config)
+            × (b.first ≡ 0)) }
         ensures refused { IfErr result (λ r. (memory_apart (S.refusal [] (unwrap_or config S.default_config)) ≡ Some r)
             ⊎ ((r ≡ Refusal.NumbersExhausted) ⊎ (r ≡ Refusal.OutOfMemory))) }
     {
@@ -123,30 +124,30 @@ impl<
         let built = first_built(rt, alloc, shared, &config)?;
         let view = register(rt, alloc, shared)?;
         let owner = owned(rt, alloc, shared, view.id())?;
-        let origin = Origin { discovery, config };
+        let origin = Origin {
+            discovery,
+            config,
+            first: 0,
+        };
         let places = places_over(rt, alloc, shared, Serving::new(view, built), &origin)?;
         Ok(Balancing::behind(origin, registry, owner, places, None))
     }
 
-    // A balancer that serves this at first, over this registry, whose selectors are built with the default configuration.
+    // A balancer that serves this at first, over this registry.
     pub(crate) fn begun<W: Wait>(
         rt: &W,
         alloc: Global,
-        discovery: DiscoverySource<D>,
+        origin: Origin<S, D>,
         registry: Registry<R>,
         serving: Serving<S>,
         timing: UpdateTimings,
     ) -> Result<Balancing<S, D, R, C>, Refusal>
-        requires { IsServedBy (record { discovery = discovery; config = S.default_config }) serving }
-        ensures made { IfOk result (λ b. (b.discovery ≡ discovery) × (b.config ≡ S.default_config)) }
+        requires { IsServedBy origin serving }
+        ensures made { IfOk result (λ b. b ≡ origin) }
         ensures refused { IfErr result (λ e. e ≡ Refusal.OutOfMemory) }
     {
         let shared = Arc::new(alloc, HealthRegistry::over(alloc, registry)?)?;
         let owner = owned(rt, alloc, &*shared, serving.view_id())?;
-        let origin = Origin {
-            discovery,
-            config: None,
-        };
         let places = places_over(rt, alloc, &*shared, serving, &origin)?;
         Ok(Balancing::behind(origin, shared, owner, places, Some(timing)))
     }

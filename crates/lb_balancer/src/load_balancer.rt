@@ -66,7 +66,8 @@ impl<
         alloc: Global,
         backends: Backends<D, R, C>,
     ) -> Result<LoadBalancer<S, D, R, C>, Refusal>
-        ensures made { IfOk result (λ b. (b.shared.discovery ≡ backends.discovery) × (b.shared.config ≡ S.default_config)) }
+        ensures made { IfOk result (λ b. (b.shared.discovery ≡ backends.discovery) × (b.shared.config ≡ S.default_config)
+            × (b.shared.first ≡ 0)) }
         ensures parts { IfOk result (λ b. (b.owns_checks ≡ backends.owns_checks) × (b.health_check_frequency ≡ None)
             × (b.update_frequency ≡ None) × (b.parallel_health_check ≡ false)) }
         ensures refused { IfErr result (λ r. (memory_apart (S.refusal [] S.default_config) ≡ Some r)
@@ -90,7 +91,7 @@ impl<
         config: Option<S::Config>,
     ) -> Result<LoadBalancer<S, D, R, C>, Refusal>
         ensures made { IfOk result (λ b. (b.shared.discovery ≡ backends.discovery)
-            × (b.shared.config ≡ unwrap_or config S.default_config)) }
+            × (b.shared.config ≡ unwrap_or config S.default_config) × (b.shared.first ≡ 0)) }
         ensures parts { IfOk result (λ b. (b.owns_checks ≡ backends.owns_checks) × (b.health_check_frequency ≡ None)
             × (b.update_frequency ≡ None) × (b.parallel_health_check ≡ false)) }
         ensures refused { IfErr result (λ r. (memory_apart (S.refusal [] (unwrap_or config S.default_config)) ≡ Some r)

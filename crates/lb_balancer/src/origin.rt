@@ -12,11 +12,12 @@ use std::marker::{Model, PhantomData};
 use std::snapshot::Snapshot;
 use std::sync::Arc;
 
-/// The discovery, and the configuration of the selectors.
+/// The discovery, the configuration of the selectors, and the generation at which the balancer was made.
 #[derive(Drop)]
 pub struct Origin<S: BackendSelection, D> {
     pub(crate) discovery: DiscoverySource<D>,
     pub(crate) config: Option<S::Config>,
+    pub(crate) first: u64,
 }
 
 impl<S: BackendSelection, D> Model for Origin<S, D> {
@@ -25,7 +26,7 @@ impl<S: BackendSelection, D> Model for Origin<S, D> {
 
     ghost Value = { BalancerValue D S.Config };
 
-    ghost view = { λ o. record { discovery = o.discovery; config = unwrap_or o.config S.default_config } };
+    ghost view = { λ o. record { discovery = o.discovery; config = unwrap_or o.config S.default_config; first = o.first } };
 }
 
 impl<S: BackendSelection, D> Origin<S, D> {

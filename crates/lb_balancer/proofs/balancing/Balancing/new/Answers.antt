@@ -1,5 +1,5 @@
 -- What is served first is a view to which nothing has happened.
-use Rattle.std.proofs.Common.{[]}
+use Rattle.std.proofs.Common.{[], arith}
 use Rattle.lb_balancer.proofs.Served.{none-yet}
 use Rattle.lb_balancer.proofs.balancing.Balancing.new.Goals as goal
 
@@ -9,5 +9,6 @@ places_over-requires g c =
       config = c.in_ok-built.ensures.made.1;
       views = [];
       view = c.in_ok-view.ensures.made;
+      first = omega arith;
       discovered = none-yet _;
     })
