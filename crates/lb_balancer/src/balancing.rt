@@ -64,7 +64,6 @@ struct Places<S: BackendSelection, D> {
 /// A balancer with one selector. Contracts see what never changes: its discovery, and what its selectors are built with. Other threads may
 /// change what it serves at any time, so a call is made at some state of it, which some of its own updates left. Its drop takes no lock:
 /// the next call of the registry removes its view.
-#[derive(Drop)]
 pub struct Balancing<S: BackendSelection, D, R: KeyRule + Drop, C> {
     pub(crate) origin: Origin<S, D>,
     registry: Arc<HealthRegistry<R, C>>,
@@ -78,6 +77,24 @@ pub struct Balancing<S: BackendSelection, D, R: KeyRule + Drop, C> {
     // Counts what may have changed what is ready, but for the registry's own changes.
     changes: AtomicU64,
     seeds: AtomicU64,
+}
+
+impl<S: BackendSelection, D: Drop, R: KeyRule + Drop, C: Drop> Drop for Balancing<S, D, R, C> {
+    fn drop(self) {
+        let Balancing {
+            origin: _,
+            registry: _,
+            view: _,
+            updates: _,
+            serving: _,
+            shown: _,
+            lanes: _,
+            timing: _,
+            loads: _,
+            changes: _,
+            seeds: _,
+        } = self;
+    }
 }
 
 impl<S: BackendSelection, D, R: KeyRule + Drop, C> Model for Balancing<S, D, R, C> {
