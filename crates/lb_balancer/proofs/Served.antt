@@ -15,7 +15,6 @@ use Rattle.lb_health_view.specs.Views.{IsViewAfter}
 use Rattle.lb_balancer_core.specs.Texts.{one_view}
 use Rattle.lb_balancer.specs.History.{AreDiscovered, BalancerValue, IsServedBy, IsShownBy, Takes}
 use Rattle.lb_balancer.specs.Shown.{ServingValue, ShownValue, ShowsView}
-use Rattle.lb_balancer.proofs.FirstViews.{no-members}
 use Rattle.lb_balancer.proofs.Memberships.{kept-members, new-members}
 
 by-flag : (b : Bool) (m : Member) (on : Bool) (views : List ViewEvent)
@@ -74,7 +73,7 @@ taken d members settings cells views true same found before =
 taken d members settings cells views false other found before =
     let generation = new-generation settings members cells views other in
     moved d refl (sym (new-members settings members cells views other))
-    (record { none = (λ none. absurd (omega (arith, generation, none))); some = (λ some. (settings, found)) })
+    (record { none = (λ none. absurd (omega (arith, generation, none))); some = (λ some. ∣ (settings, found) ∣₁) })
 
 -- what holds by the key of a lock holds by the balancer whose key that is
 pub known : {D C : Type 0} {b c : BalancerValue D C} {s : ServingValue C} → b ≡ c → IsServedBy b s → IsServedBy c s
@@ -147,4 +146,4 @@ pub first-discovered : {D : Type 0} (d : DiscoverySource D) (members : List Memb
     AreDiscovered d (generation_after views) (membership_after views))
 first-discovered d members true same found = rw same (none-yet d)
 first-discovered d members false other found =
-    rw other (record { none = (λ none. absurd (omega (arith, none))); some = (λ some. ([], found)) })
+    rw other (record { none = (λ none. absurd (omega (arith, none))); some = (λ some. ∣ ([], found) ∣₁) })

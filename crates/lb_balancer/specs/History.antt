@@ -15,10 +15,11 @@ pub record BalancerValue (D C : Type 0) : Type 0 where
   pub config : C
   pub first : ℕ
 
--- generation and members belong together: generation 0 has none, and those of another one are what the discovery may give
+-- Generation and members belong together: generation 0 has none, and those of another one are what the discovery may give, with some
+-- settings (`∥ ∥₁`: which ones isn't said).
 pub record AreDiscovered {D : Type 0} (discovery : DiscoverySource D) (generation : ℕ) (members : List Member) : Type 0 where
   pub none : generation ≡ 0 → members ≡ []
-  pub some : 0 < generation → (settings : List (Member × Bool)) × Discovers discovery members settings
+  pub some : 0 < generation → ∥ ((settings : List (Member × Bool)) × Discovers discovery members settings) ∥₁
 
 module _ {D C : Type 0} (b : BalancerValue D C) where
   -- what the balancer may serve: a view whose newest membership was discovered, and a selector that is built with its configuration

@@ -16,8 +16,8 @@ put-requires-clause-registry g c =
     in
     elim c.match-answer.branch [ in-Ok w ↦ rw w.cells-is now | in-Err w ↦ rw w.cells-is now ]
 
-pub exchange-requires : goal.exchange-requires
-exchange-requires g c =
+pub exchange-unshown-requires : goal.exchange-unshown-requires
+exchange-unshown-requires g c =
     let is = c.renew-unserved.ensures in
     renewed c.args.self.now c.renew-unserved.result.1 (known (c.self.invariant.0 ∙ c.self.view_is) c.take-held.ensures.fact) is.config
     c.args.members.keys (settings_of c.args.settings.entries) c.requires.discovered is.took is.view_err

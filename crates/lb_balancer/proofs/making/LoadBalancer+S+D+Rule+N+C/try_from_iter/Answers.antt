@@ -47,7 +47,7 @@ returns-clause-made g c =
     let times = reads-around g.K.MomentSource.reads (same_members c.in_ok-members.members.keys []) _ _ c.args.clock.now _ _
     c.now-end.new.self
     c.now-start.ensures c.in_ok-built.ensures.reads c.now-end.ensures in
-    let first = c.generation-origin.ensures _ c.in_ok-serving.ensures.served.0 ∙ first-generation c.in_ok-members.members.keys in
+    let first = c.generation.ensures _ c.in_ok-serving.ensures.served.0 ∙ first-generation c.in_ok-members.members.keys in
     let began = ap (λ (b : BalancerValue g.row.D.Denot g.row.S-Config.Denot). b.first) c.in_ok-shared.ensures.made ∙ first in (
       looked.0,
       looked.1,
@@ -58,7 +58,7 @@ returns-clause-made g c =
         keeps = ap (λ (b : BalancerValue g.row.D.Denot g.row.S-Config.Denot). b.discovery) c.in_ok-shared.ensures.made;
         read = times.1;
         readings = subst (λ ms. length times.0 ≡ (if same_members ms [] then 2 else 4)) members times.2;
-        began = subst (λ ms. c.in_ok-shared.shared.now.first ≡ (if same_members ms [] then 0 else 1)) members began;
+        began = subst (λ ms. c.in_ok-shared.shared.first ≡ (if same_members ms [] then 0 else 1)) members began;
       },
     )
 
@@ -71,6 +71,6 @@ begun-requires g c =
       config = config;
       views = view_updated by_identity 1 members [] one_view [];
       view = served.0;
-      first = let is = c.generation-origin.ensures _ served.0 in omega (arith, is);
+      first = let is = c.generation.ensures _ served.0 in omega (arith, is);
       discovered = first-discovered _ members (same_members members []) refl (c.in_ok-members.ensures.ok, refl);
     }
