@@ -3,3 +3,4 @@ mod Judged
 mod Memberships
 mod OfTexts
 mod Renewals
+mod Served

@@ -1,3 +1,4 @@
+pub mod History
 pub mod Selections
 pub mod SharedUpdates
 pub mod Shown

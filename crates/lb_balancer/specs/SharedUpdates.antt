@@ -7,15 +7,10 @@ use Rattle.lb_select_base.specs.declared.refusal.Refusal.{Refusal}
 use Rattle.lb_select_base.specs.declared.refusal.Refusal.TheVariants.{Discovery, OutOfMemory, GenerationsExhausted, NoSuch}
 use Rattle.lb_select_base.specs.declared.refusal.Refusal.TheVariants.{NumbersExhausted}
 use Rattle.lb_health_view.specs.Discoveries.{Discovers, MayFault}
-use Rattle.lb_health_view.specs.declared.discovery.DiscoverySource.{DiscoverySource}
 use Rattle.lb_balancer_core.specs.Timings.{Reads}
+use Rattle.lb_balancer.specs.History.{BalancerValue}
 use Rattle.lb_background.specs.declared.event.Event.{Event}
 use Rattle.lb_background.specs.declared.event.Event.TheVariants as on
-
--- what a caller knows of a balancer: its discovery, and what its selectors are built with
-pub record BalancerValue (D C : Type 0) : Type 0 where
-  pub discovery : DiscoverySource D
-  pub config : C
 
 -- the clock was read at the start and at the end, and around the build where there was one
 abbrev pub ReadsUpdate : {K : Type 0} → (K → ℕ → K → Type 0) → K → K → Type 0

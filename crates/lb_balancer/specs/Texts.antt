@@ -9,12 +9,13 @@ use Rattle.lb_health_view.specs.declared.discovery.DiscoverySource.TheVariants.{
 use Rattle.lb_balancer_core.specs.Timings.{Reads}
 
 -- The discovery keeps the backends that some network answered for the texts. The clock was read at the start and at the end, and
--- around the build where there are backends.
+-- around the build where there are backends. The balancer was made at generation 1, and at 0 where there is none.
 pub record IsOfTexts {D K : Type 0} (reads : K → ℕ → K → Type 0) (texts : List (Bor (List ℕ))) (clock clock_after : K)
-    (discovery : DiscoverySource D) : Type 0 where
+    (discovery : DiscoverySource D) (first : ℕ) : Type 0 where
   pub members : List Member
   pub times : List ℕ
   pub looked_up : IsMadeOf texts (Ok members)
   pub keeps : discovery ≡ Static members
   pub read : Reads reads clock times clock_after
   pub readings : length times ≡ (if same_members members [] then 2 else 4)
+  pub began : first ≡ (if same_members members [] then 0 else 1)

@@ -8,20 +8,22 @@ ghost use Rattle.lb_select_base.specs.Backends.{Member, same_member};
 ghost use Rattle.lb_select_base.specs.Refusals.{Refuses, memory_apart};
 ghost use Rattle.lb_select_base.specs.Memberships.{same_members};
 ghost use Rattle.lb_rebuild_core.specs.GroupCalls.{AcceptsBy};
+ghost use Rattle.lb_health_view.specs.Discoveries.{Discovers};
+ghost use Rattle.lb_health_view.specs.RegistrySide.{settings_of};
 ghost use Rattle.lb_health_view.specs.Views.{IsViewAfter, IsViewRefusal};
 ghost use Rattle.lb_health_core.specs.Registry.{IsGrowthRefusal};
 ghost use Rattle.lb_balancer_core.specs.Timings.{Reads};
-ghost use Rattle.lb_balancer.specs.Shown.{SelectsOf, ShownValue, is_up};
+ghost use Rattle.lb_balancer.specs.History.{IsServedBy, IsShownBy};
 ghost use Rattle.lb_balancer.specs.SharedUpdates.{IsBuildRefusal, IsSharedRefusal, ReadsUpdate};
 
-use crate::kept::KeptShown;
+use crate::origin::{KeptShown, OfServing, OfShown, Origin};
 use crate::serving::{BuiltSelector, Serving, built_of};
 use crate::shown::{Shown, Version};
 use lb_balancer_core::timings::UpdateTimings;
 use lb_health_core::health_check::HealthCheck;
 use lb_health_core::keys::KeyRule;
 use lb_health_core::registry::Registry;
-use lb_health_view::discovery::{DiscoverySource, ServiceDiscovery};
+use lb_health_view::discovery::ServiceDiscovery;
 use lb_health_view::view::{Settings, ViewCore};
 use lb_select_base::backend::Backend;
 use lb_select_base::loads::Loads;
@@ -33,7 +35,6 @@ use lb_threads_core::lanes::Lanes;
 use lb_threads_core::lock::KeyedLock;
 use lb_threads_core::owner::ViewOwner;
 use lb_threads_core::registry::HealthRegistry;
-use lb_threads_core::rule::LockRule;
 use log::Log;
 use std::alloc::Global;
 use std::collections::BTreeSet;
@@ -45,59 +46,32 @@ use std::sync::atomic::Ordering::SeqCst;
 use std::sync::{Arc, Mutex, Wait};
 use std::thread::Threads;
 
-/// What is served is built with the balancer's configuration.
-pub struct OfServing {}
+type ServingLock<S, D> = KeyedLock<Serving<S>, Snapshot<Origin<S, D>>, OfServing>;
 
-impl<S: BackendSelection> LockRule<Serving<S>, Snapshot<Option<S::Config>>> for OfServing {
-    ghost use Rattle.std.specs.Prelude.{◌≡◌, unwrap_or};
-
-    ghost holds = { λ key s. s.config ≡ unwrap_or key.value S.default_config };
-}
-
-/// What is shown is built with the balancer's configuration.
-pub struct OfShown {}
-
-impl<S: BackendSelection> LockRule<Arc<Shown<S>>, Snapshot<Option<S::Config>>> for OfShown {
-    ghost use Rattle.std.specs.Prelude.{◌≡◌, unwrap_or};
-    ghost use Rattle.std.specs.Arc.{arc_value};
-
-    ghost holds = { λ key s. (arc_value s).config ≡ unwrap_or key.value S.default_config };
-}
-
-type ServingLock<S> = KeyedLock<
-    Serving<S>,
-    Snapshot<Option<<S as BackendSelection>::Config>>,
-    OfServing,
->;
-
-type ShownLock<S> = KeyedLock<
-    Arc<Shown<S>>,
-    Snapshot<Option<<S as BackendSelection>::Config>>,
-    OfShown,
->;
+type ShownLock<S, D> = KeyedLock<Arc<Shown<S>>, Snapshot<Origin<S, D>>, OfShown>;
 
 // The number of lanes: as many as threads that select at once may want, a power of two.
 const LANES: usize = 64;
 
 // What a balancer has for its threads: the locks of what is served and of what is shown of it, the lanes, and the loads.
-struct Places<S: BackendSelection> {
-    serving: ServingLock<S>,
-    shown: ShownLock<S>,
-    lanes: Lanes<KeptShown<S>>,
+struct Places<S: BackendSelection, D> {
+    serving: ServingLock<S, D>,
+    shown: ShownLock<S, D>,
+    lanes: Lanes<KeptShown<S, D>>,
     loads: Arc<Mutex<Loads>>,
 }
 
-/// A balancer with one selector. Contracts see its discovery, and what its selectors are built with; other threads may change what it
-/// serves at any time. Its drop takes no lock: the next call of the registry removes its view.
+/// A balancer with one selector. Contracts see what never changes: its discovery, and what its selectors are built with. Other threads may
+/// change what it serves at any time, so a call is made at some state of it, which some of its own updates left. Its drop takes no lock:
+/// the next call of the registry removes its view.
 pub struct Balancing<S: BackendSelection, D, R: KeyRule + Drop, C> {
-    discovery: DiscoverySource<D>,
-    pub(crate) config: Option<S::Config>,
+    pub(crate) origin: Origin<S, D>,
     registry: Arc<HealthRegistry<R, C>>,
     view: ViewOwner,
     updates: Mutex<()>,
-    serving: ServingLock<S>,
-    shown: ShownLock<S>,
-    pub(crate) lanes: Lanes<KeptShown<S>>,
+    serving: ServingLock<S, D>,
+    shown: ShownLock<S, D>,
+    pub(crate) lanes: Lanes<KeptShown<S, D>>,
     timing: Mutex<Option<UpdateTimings>>,
     loads: Arc<Mutex<Loads>>,
     // Counts what may have changed what is ready, but for the registry's own changes.
@@ -108,8 +82,7 @@ pub struct Balancing<S: BackendSelection, D, R: KeyRule + Drop, C> {
 impl<S: BackendSelection, D: Drop, R: KeyRule + Drop, C: Drop> Drop for Balancing<S, D, R, C> {
     fn drop(self) {
         let Balancing {
-            discovery: _,
-            config: _,
+            origin: _,
             registry: _,
             view: _,
             updates: _,
@@ -125,15 +98,15 @@ impl<S: BackendSelection, D: Drop, R: KeyRule + Drop, C: Drop> Drop for Balancin
 }
 
 impl<S: BackendSelection, D, R: KeyRule + Drop, C> Model for Balancing<S, D, R, C> {
-    ghost use Rattle.std.specs.Prelude.{◌≡◌, All, unwrap_or};
-    ghost use Rattle.lb_balancer.specs.SharedUpdates.{BalancerValue};
+    ghost use Rattle.std.specs.Prelude.{◌≡◌, All};
+    ghost use Rattle.lb_balancer.specs.History.{BalancerValue};
 
     ghost Value = { BalancerValue D S.Config };
 
-    ghost view = { λ b. record { discovery = b.discovery; config = unwrap_or b.config S.default_config } };
+    ghost view = { λ b. b.origin };
 
-    ghost invariant = { λ b. (b.serving.table.shared.key.value ≡ b.config) × (b.shown.table.shared.key.value ≡ b.config)
-        × All (λ lane. lane.slot ≡ b.config) b.lanes.lanes.items };
+    ghost invariant = { λ b. (b.serving.table.shared.key.value ≡ b.origin) × (b.shown.table.shared.key.value ≡ b.origin)
+        × All (λ lane. lane.slot ≡ b.origin) b.lanes.lanes.items };
 }
 
 impl<
@@ -154,7 +127,8 @@ impl<
         backends: Backends<D, R, C>,
         config: Option<S::Config>,
     ) -> Result<Balancing<S, D, R, C>, Refusal>
-        ensures made { IfOk result (λ b. (b.discovery ≡ backends.discovery) × (b.config ≡ unwrap_or config S.default_config)) }
+        ensures made { IfOk result (λ b. (b.discovery ≡ backends.discovery) × (b.config ≡ unwrap_or config S.default_config)
+            × (b.first ≡ 0)) }
         ensures refused { IfErr result (λ r. (memory_apart (S.refusal [] (unwrap_or config S.default_config)) ≡ Some r)
             ⊎ ((r ≡ Refusal.NumbersExhausted) ⊎ (r ≡ Refusal.OutOfMemory))) }
     {
@@ -167,41 +141,45 @@ impl<
         let built = first_built(rt, alloc, shared, &config)?;
         let view = register(rt, alloc, shared)?;
         let owner = owned(rt, alloc, shared, view.id())?;
-        let places = places_over(rt, alloc, shared, Serving::new(view, built), &config)?;
-        Ok(Balancing::behind(discovery, config, registry, owner, places, None))
+        let origin = Origin {
+            discovery,
+            config,
+            first: 0,
+        };
+        let places = places_over(rt, alloc, shared, Serving::new(view, built), &origin)?;
+        Ok(Balancing::behind(origin, registry, owner, places, None))
     }
 
-    // A balancer that serves this at first, over this registry, whose selectors are built with the default configuration.
+    // A balancer that serves this at first, over this registry.
     pub(crate) fn begun<W: Wait>(
         rt: &W,
         alloc: Global,
-        discovery: DiscoverySource<D>,
+        origin: Origin<S, D>,
         registry: Registry<R>,
         serving: Serving<S>,
         timing: UpdateTimings,
     ) -> Result<Balancing<S, D, R, C>, Refusal>
-        requires { serving.config ≡ S.default_config }
-        ensures made { IfOk result (λ b. (b.discovery ≡ discovery) × (b.config ≡ S.default_config)) }
+        requires { IsServedBy origin serving }
+        ensures made { IfOk result (λ b. b ≡ origin) }
         ensures refused { IfErr result (λ e. e ≡ Refusal.OutOfMemory) }
     {
         let shared = Arc::new(alloc, HealthRegistry::over(alloc, registry)?)?;
         let owner = owned(rt, alloc, &*shared, serving.view_id())?;
-        let places = places_over(rt, alloc, &*shared, serving, &None)?;
-        Ok(Balancing::behind(discovery, None, shared, owner, places, Some(timing)))
+        let places = places_over(rt, alloc, &*shared, serving, &origin)?;
+        Ok(Balancing::behind(origin, shared, owner, places, Some(timing)))
     }
 
     // The balancer over these places.
     fn behind(
-        discovery: DiscoverySource<D>,
-        config: Option<S::Config>,
+        origin: Origin<S, D>,
         registry: Arc<HealthRegistry<R, C>>,
         view: ViewOwner,
-        places: Places<S>,
+        places: Places<S, D>,
         timing: Option<UpdateTimings>,
     ) -> Balancing<S, D, R, C>
-        requires { (places.serving.table.shared.key.value ≡ config) × (places.shown.table.shared.key.value ≡ config)
-            × All (λ lane. lane.slot ≡ config) places.lanes.lanes.items }
-        ensures { (result.discovery ≡ discovery) × (result.config ≡ unwrap_or config S.default_config) }
+        requires { (places.serving.table.shared.key.value ≡ origin) × (places.shown.table.shared.key.value ≡ origin)
+            × All (λ lane. lane.slot ≡ origin) places.lanes.lanes.items }
+        ensures { result ≡ origin }
     {
         let Places {
             serving,
@@ -210,8 +188,7 @@ impl<
             loads,
         } = places;
         Balancing {
-            discovery,
-            config,
+            origin,
             registry,
             view,
             updates: Mutex::new(()),
@@ -246,7 +223,7 @@ impl<
     {
         let _turn = self.updates.lock(rt);
         let start = clock.now();
-        let (members, settings) = self.discovery.discover(alloc)?;
+        let (members, settings) = self.origin.discovery().discover(alloc)?;
         let build_duration = self.take_in(rt, alloc, members, settings, clock)?;
         let end = clock.now();
         let timing = UpdateTimings {
@@ -267,6 +244,7 @@ impl<
         settings: Settings,
         clock: &mut K,
     ) -> Result<u128, Refusal>
+        requires { Discovers self.now.discovery members.keys (settings_of settings.entries) }
         ensures reads { OnOk result ((clock.new ≡ clock.old)
             ⊎ ((before : ℕ) × (after : ℕ) × Reads K.reads clock.old (before ∷ after ∷ []) clock.new)) }
         ensures refused { IfErr result (IsBuildRefusal (S.refusal members.keys self.now.config)) }
@@ -289,10 +267,11 @@ impl<
         members: BTreeSet<Backend>,
         settings: Settings,
     ) -> Option<(BTreeSet<Backend>, Settings)>
+        requires { Discovers self.now.discovery members.keys (settings_of settings.entries) }
         ensures { IfSome result (λ found. found ≡ (members, settings)) }
     {
         // `_key` and `founded()` are for the prover alone: they show it the value's invariant, and do nothing at run time.
-        let _key = &self.config;
+        let _key = &self.origin;
         let mut held = self.serving.take(rt);
         if !held.value.is_membership(&members) {
             self.serving.put(held);
@@ -320,7 +299,7 @@ impl<
         ensures refused { IfErr result (IsBuildRefusal (S.refusal members.now.keys self.now.config)) }
     {
         let seed = self.seeds.fetch_add(1, SeqCst);
-        match built_of(alloc, members, &self.config, seed) {
+        match built_of(alloc, members, self.origin.config(), seed) {
             Ok(built) => Ok(built),
             Err(Refusal::OutOfMemory) => {
                 let registries: &HealthRegistry<R, C> = &*self.registry;
@@ -346,9 +325,10 @@ impl<
     ) -> Result<(), Refusal>
         requires members { S.members (arc_value built.selector) ≡ members.keys }
         requires config { S.built_with (arc_value built.selector) ≡ self.now.config }
+        requires discovered { Discovers self.now.discovery members.keys (settings_of settings.entries) }
         ensures { OnErr result (IsViewRefusal result) }
     {
-        let _key = &self.config;
+        let _key = &self.origin;
         let mut held = self.serving.take(rt);
         held.value.founded();
         let registries: &HealthRegistry<R, C> = &*self.registry;
@@ -375,17 +355,14 @@ impl<
         serving: &Serving<S>,
         registry: &Registry<R>,
     ) -> Option<Arc<Shown<S>>>
-        requires { serving.now.config ≡ self.now.config }
+        requires { IsServedBy self.now serving.now }
     {
         let version = Version {
             balancer: self.changes.load(SeqCst).wrapping_add(1),
             registry: self.registry.changes(),
         };
-        let gone = match serving.show(alloc, registry, &self.loads, version) {
-            Ok(shown) => match Arc::new(alloc, shown) {
-                Ok(shown) => Some(self.swap(rt, shown)),
-                Err(_) => None,
-            },
+        let gone = match shown_of(alloc, serving, registry, &self.loads, version, &self.origin) {
+            Ok(shown) => Some(self.swap(rt, shown)),
             Err(_) => None,
         };
         self.changes.fetch_add(1, SeqCst);
@@ -394,9 +371,9 @@ impl<
 
     // Shows this from now on. Returns what was shown before.
     fn swap<W: Wait>(&self, rt: &W, shown: Arc<Shown<S>>) -> Arc<Shown<S>>
-        requires { (arc_value shown).config ≡ self.now.config }
+        requires { IsShownBy self.now (arc_value shown) }
     {
-        let _key = &self.config;
+        let _key = &self.origin;
         let mut held = self.shown.take(rt);
         let gone = mem::replace(&mut held.value, shown);
         self.shown.put(held);
@@ -415,7 +392,7 @@ impl<
     ///
     /// Selections in it are all in one generation, with the readiness of one moment. Refused for memory alone.
     pub fn shown<W: Wait>(&self, rt: &W, alloc: Global) -> Result<Arc<Shown<S>>, Refusal>
-        ensures config { IfOk result (λ s. (arc_value s).config ≡ self.now.config) }
+        ensures shown { IfOk result (λ s. IsShownBy self.now (arc_value s)) }
         ensures refused { IfErr result (λ e. e ≡ Refusal.OutOfMemory) }
     {
         let latest = self.latest(rt)?;
@@ -423,7 +400,7 @@ impl<
             return Ok(latest);
         }
         drop(latest);
-        let _key = &self.config;
+        let _key = &self.origin;
         let held = self.serving.take(rt);
         let answer = self.show_again(rt, alloc, &held.value);
         self.serving.put(held);
@@ -434,7 +411,7 @@ impl<
 
     /// Returns the newest generation; 0 before the first membership.
     pub fn generation<W: Wait>(&self, rt: &W) -> u64 {
-        let _key = &self.config;
+        let _key = &self.origin;
         let held = self.serving.take(rt);
         let generation = held.value.generation();
         self.serving.put(held);
@@ -456,7 +433,7 @@ impl<
 
     /// Returns whether a backend is ready in the newest membership, without taking memory.
     pub fn ready<W: Wait>(&self, rt: &W, backend: &Backend) -> bool {
-        let _key = &self.config;
+        let _key = &self.origin;
         let registries: &HealthRegistry<R, C> = &*self.registry;
         let held = self.serving.take(rt);
         let cells = registries.take(rt);
@@ -470,7 +447,7 @@ impl<
     ///
     /// It needs no memory: where that is refused, the next selection shows it.
     pub fn set_enable<W: Wait>(&self, rt: &W, alloc: Global, backend: &Backend, enabled: bool) {
-        let _key = &self.config;
+        let _key = &self.origin;
         let mut held = self.serving.take(rt);
         held.value.set_enable(backend, enabled);
         let registries: &HealthRegistry<R, C> = &*self.registry;
@@ -494,7 +471,7 @@ impl<
     ) -> Result<(), Refusal>
         ensures { IfErr result (λ e. e ≡ Refusal.OutOfMemory) }
     {
-        let _key = &self.config;
+        let _key = &self.origin;
         self.loads.lock(rt).set(alloc, backend, load)
     }
 
@@ -503,7 +480,7 @@ impl<
     /// From the next call on that applies marks its backends are no targets, a backend whose cell no other view keeps isn't ready, and
     /// another membership is refused `NoSuch`. It takes no memory.
     pub fn leave<W: Wait>(&self, rt: &W) {
-        let _key = &self.config;
+        let _key = &self.origin;
         let registries: &HealthRegistry<R, C> = &*self.registry;
         let held = self.serving.take(rt);
         held.value.founded();
@@ -529,10 +506,10 @@ impl<
 
     // What was shown last.
     pub(crate) fn latest<W: Wait>(&self, rt: &W) -> Result<Arc<Shown<S>>, Refusal>
-        ensures config { IfOk result (λ s. (arc_value s).config ≡ self.now.config) }
+        ensures shown { IfOk result (λ s. IsShownBy self.now (arc_value s)) }
         ensures refused { IfErr result (λ e. e ≡ Refusal.OutOfMemory) }
     {
-        let _key = &self.config;
+        let _key = &self.origin;
         let held = self.shown.take(rt);
         let shown = Arc::try_clone(&held.value);
         self.shown.put(held);
@@ -547,8 +524,8 @@ impl<
         alloc: Global,
         serving: &Serving<S>,
     ) -> Result<(Arc<Shown<S>>, Arc<Shown<S>>), Refusal>
-        requires { serving.now.config ≡ self.now.config }
-        ensures config { IfOk result (λ s. (arc_value s.0).config ≡ self.now.config) }
+        requires { IsServedBy self.now serving.now }
+        ensures shown { IfOk result (λ s. IsShownBy self.now (arc_value s.0)) }
         ensures refused { IfErr result (λ e. e ≡ Refusal.OutOfMemory) }
     {
         let version = self.version();
@@ -559,9 +536,16 @@ impl<
         }
         let registries: &HealthRegistry<R, C> = &*self.registry;
         let cells = registries.take(rt);
-        let told = serving.show(alloc, &cells.value, &self.loads, version);
+        let told = shown_of(
+            alloc,
+            serving,
+            &cells.value,
+            &self.loads,
+            version,
+            &self.origin,
+        );
         registries.put(cells);
-        let shown = Arc::new(alloc, told?)?;
+        let shown = told?;
         let again = Arc::try_clone(&shown)?;
         Ok((again, self.swap(rt, shown)))
     }
@@ -651,17 +635,37 @@ fn owned<R: KeyRule + Drop, C: HealthCheck + Drop, W: Wait>(
     told
 }
 
+// What is served, with the readiness that the registry gives.
+fn shown_of<S: BackendSelection, D, R: KeyRule + Drop>(
+    alloc: Global,
+    serving: &Serving<S>,
+    registry: &Registry<R>,
+    loads: &Arc<Mutex<Loads>>,
+    version: Version,
+    origin: &Origin<S, D>,
+) -> Result<Arc<Shown<S>>, Refusal>
+    requires { IsServedBy origin.now serving.now }
+    ensures shown { IfOk result (λ s. IsShownBy origin.now (arc_value s)) }
+    ensures refused { IfErr result (λ e. e ≡ Refusal.OutOfMemory) }
+{
+    // For the prover alone: the caller's `requires` speaks of it.
+    let _ = origin;
+    let shown = serving.show(alloc, registry, loads, version)?;
+    let shared = Arc::new(alloc, shown)?;
+    Ok(shared)
+}
+
 // The locks of what is served first, and of what is shown of it, empty lanes, and the loads, which are all 0.
-fn places_over<S: BackendSelection, R: KeyRule + Drop, C: HealthCheck + Drop, W: Wait>(
+fn places_over<S: BackendSelection, D, R: KeyRule + Drop, C: HealthCheck + Drop, W: Wait>(
     rt: &W,
     alloc: Global,
     registry: &HealthRegistry<R, C>,
     serving: Serving<S>,
-    config: &Option<S::Config>,
-) -> Result<Places<S>, Refusal>
-    requires { serving.config ≡ unwrap_or config.now S.default_config }
-    ensures made { IfOk result (λ p. (p.serving.table.shared.key.value ≡ config.now) × (p.shown.table.shared.key.value ≡ config.now)
-        × All (λ lane. lane.slot ≡ config.now) p.lanes.lanes.items) }
+    origin: &Origin<S, D>,
+) -> Result<Places<S, D>, Refusal>
+    requires { IsServedBy origin.now serving }
+    ensures made { IfOk result (λ p. (p.serving.table.shared.key.value ≡ origin.now) × (p.shown.table.shared.key.value ≡ origin.now)
+        × All (λ lane. lane.slot ≡ origin.now) p.lanes.lanes.items) }
     ensures refused { IfErr result (λ e. e ≡ Refusal.OutOfMemory) }
 {
     let version = Version {
@@ -669,12 +673,12 @@ fn places_over<S: BackendSelection, R: KeyRule + Drop, C: HealthCheck + Drop, W:
         registry: registry.changes(),
     };
     let loads = Arc::new(alloc, Mutex::new(Loads::new()))?;
-    let lanes = Lanes::new(alloc, LANES, config)?;
+    let lanes = Lanes::new(alloc, LANES, origin)?;
     let cells = registry.take(rt);
-    let told = serving.show(alloc, &cells.value, &loads, version);
+    let told = shown_of(alloc, &serving, &cells.value, &loads, version, origin);
     registry.put(cells);
-    let shown = Arc::new(alloc, told?)?;
-    let key = Snapshot::of(config);
+    let shown = told?;
+    let key = Snapshot::of(origin);
     Ok(Places {
         serving: KeyedLock::new(alloc, serving, &key)?,
         shown: KeyedLock::new(alloc, shown, &key)?,

@@ -2,13 +2,14 @@
 //! is served now: one of the balancer's changes and one of the registry's.
 ghost use Rattle.std.specs.Prelude.{◌≡◌, IfErr, IfSome, OnOk};
 ghost use Rattle.std.specs.Arc.{arc_value};
-ghost use Rattle.lb_select_base.specs.Backends.{same_member};
 ghost use Rattle.lb_rebuild_core.specs.GroupCalls.{AcceptsBy};
-ghost use Rattle.lb_balancer.specs.Shown.{SelectsOf, ShownValue, is_up};
+ghost use Rattle.lb_balancer.specs.History.{IsShownBy};
+ghost use Rattle.lb_balancer.specs.Selections.{SelectsFrom};
+ghost use Rattle.lb_balancer.specs.Shown.{ShownValue};
 
 use crate::balancing::Balancing;
+use crate::origin::KeptShown;
 use crate::shown::Shown;
-use counted_slot::Fits;
 use lb_health_core::health_check::HealthCheck;
 use lb_health_core::keys::KeyRule;
 use lb_health_view::discovery::ServiceDiscovery;
@@ -22,21 +23,6 @@ use std::sync::{Arc, Wait};
 const BASIS: u64 = 0xcbf2_9ce4_8422_2325;
 
 const PRIME: u64 = 0x100_0000_01b3;
-
-/// What is shown, in a lane. It is built with the balancer's configuration.
-#[derive(Drop)]
-pub struct KeptShown<S: BackendSelection> {
-    shown: Arc<Shown<S>>,
-}
-
-impl<S: BackendSelection> Fits for KeptShown<S> {
-    ghost use Rattle.std.specs.Prelude.{◌≡◌, unwrap_or};
-    ghost use Rattle.std.specs.Arc.{arc_value};
-
-    type Tag = Option<S::Config>;
-
-    ghost fits = { λ config kept. (arc_value kept.shown).config ≡ unwrap_or config S.default_config };
-}
 
 // The lane that a key's selections go to: keys spread over the lanes, so that threads seldom meet in one.
 pub(crate) fn hint_of(key: &[u8]) -> u64 {
@@ -64,12 +50,11 @@ impl<
         accept: &F,
     ) -> Option<Result<Option<Backend>, Refusal>>
         requires { F.IsAlwaysCallable accept.now }
-        ensures answers { IfSome result (λ r. OnOk r ((s : ShownValue S.Config) × (s.config ≡ self.now.config)
-            × SelectsOf same_member (AcceptsBy F.Fn accept.now (λ b ready. ready ≡ is_up s.unready b)) max_iterations
-            (S.walks s.members s.config key.now) r)) }
+        ensures answers { IfSome result (λ r. OnOk r ((s : ShownValue S.Config) × IsShownBy self.now s
+            × SelectsFrom (AcceptsBy F.Fn accept.now) max_iterations S.walks key.now s r)) }
         ensures refused { IfSome result (λ r. IfErr r (λ e. e ≡ Refusal.OutOfMemory)) }
     {
-        let seen = self.lanes.read(hint, &self.config)?;
+        let seen = self.lanes.read(hint, &self.origin)?;
         let kept = seen.value()?;
         let shown: &Shown<S> = &*kept.shown;
         if shown.version() != self.version() {
@@ -81,13 +66,13 @@ impl<
     // Gives the hint's lane what is shown. Where something changed meanwhile, the lane is emptied, so that none has for long what isn't
     // served.
     pub(crate) fn refill(&self, hint: u64, shown: Arc<Shown<S>>)
-        requires { (arc_value shown).config ≡ self.now.config }
+        requires { IsShownBy self.now (arc_value shown) }
     {
         let version = shown.version();
-        let unneeded = self.lanes.renew(hint, KeptShown { shown }, &self.config);
+        let unneeded = self.lanes.renew(hint, KeptShown::new(shown), &self.origin);
         drop(unneeded);
         if version != self.version() {
-            drop(self.lanes.clear(hint, &self.config));
+            drop(self.lanes.clear(hint, &self.origin));
         }
     }
 
@@ -97,7 +82,7 @@ impl<
             let hint = lane as u64;
             match self.latest(rt) {
                 Ok(shown) => self.refill(hint, shown),
-                Err(_) => drop(self.lanes.clear(hint, &self.config)),
+                Err(_) => drop(self.lanes.clear(hint, &self.origin)),
             }
         }
     }

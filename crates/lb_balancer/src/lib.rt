@@ -7,6 +7,7 @@ pub mod drive;
 pub mod kept;
 pub mod load_balancer;
 pub mod making;
+pub mod origin;
 pub mod port;
 pub mod reader;
 pub mod run;

@@ -1,11 +1,12 @@
 //! `LoadBalancer`: a balancer that threads share. Selections, updates, checks and readings need a borrow only.
 ghost use Rattle.std.specs.Prelude.{◌≡◌, ◌⊎◌, [], IfOk, IfErr, OnOk, OnErr, Some, None, unwrap_or, false};
 ghost use Rattle.std.specs.Arc.{arc_value};
-ghost use Rattle.lb_select_base.specs.Backends.{same_member};
 ghost use Rattle.lb_select_base.specs.Refusals.{memory_apart};
 ghost use Rattle.lb_rebuild_core.specs.GroupCalls.{AcceptsBy};
 ghost use Rattle.lb_health_core.specs.Registry.{IsGrowthRefusal};
-ghost use Rattle.lb_balancer.specs.Shown.{SelectsOf, ShownValue, is_up};
+ghost use Rattle.lb_balancer.specs.History.{IsShownBy};
+ghost use Rattle.lb_balancer.specs.Selections.{SelectsFrom};
+ghost use Rattle.lb_balancer.specs.Shown.{ShownValue};
 ghost use Rattle.lb_balancer.specs.SharedUpdates.{IsSharedRefusal, ReadsUpdate};
 
 use crate::balancing::Balancing;
@@ -65,7 +66,8 @@ impl<
         alloc: Global,
         backends: Backends<D, R, C>,
     ) -> Result<LoadBalancer<S, D, R, C>, Refusal>
-        ensures made { IfOk result (λ b. (b.shared.discovery ≡ backends.discovery) × (b.shared.config ≡ S.default_config)) }
+        ensures made { IfOk result (λ b. (b.shared.discovery ≡ backends.discovery) × (b.shared.config ≡ S.default_config)
+            × (b.shared.first ≡ 0)) }
         ensures parts { IfOk result (λ b. (b.owns_checks ≡ backends.owns_checks) × (b.health_check_frequency ≡ None)
             × (b.update_frequency ≡ None) × (b.parallel_health_check ≡ false)) }
         ensures refused { IfErr result (λ r. (memory_apart (S.refusal [] S.default_config) ≡ Some r)
@@ -89,7 +91,7 @@ impl<
         config: Option<S::Config>,
     ) -> Result<LoadBalancer<S, D, R, C>, Refusal>
         ensures made { IfOk result (λ b. (b.shared.discovery ≡ backends.discovery)
-            × (b.shared.config ≡ unwrap_or config S.default_config)) }
+            × (b.shared.config ≡ unwrap_or config S.default_config) × (b.shared.first ≡ 0)) }
         ensures parts { IfOk result (λ b. (b.owns_checks ≡ backends.owns_checks) × (b.health_check_frequency ≡ None)
             × (b.update_frequency ≡ None) × (b.parallel_health_check ≡ false)) }
         ensures refused { IfErr result (λ r. (memory_apart (S.refusal [] (unwrap_or config S.default_config)) ≡ Some r)
@@ -132,7 +134,7 @@ impl<
     ///
     /// All selections in it are in one generation, with the readiness of one moment. Refused for memory alone.
     pub fn shown<W: Wait>(&self, rt: &W, alloc: Global) -> Result<Arc<Shown<S>>, Refusal>
-        ensures config { IfOk result (λ s. (arc_value s).config ≡ self.now.shared.config) }
+        ensures shown { IfOk result (λ s. IsShownBy self.now.shared (arc_value s)) }
         ensures refused { IfErr result (λ e. e ≡ Refusal.OutOfMemory) }
     {
         self.shared.shown(rt, alloc)
@@ -148,8 +150,8 @@ impl<
         key: &[u8],
         max_iterations: usize,
     ) -> Result<Option<Backend>, Refusal>
-        ensures answers { OnOk result ((s : ShownValue S.Config) × (s.config ≡ self.now.shared.config)
-            × SelectsOf same_member (λ b ready. ready ≡ is_up s.unready b) max_iterations (S.walks s.members s.config key.now) result) }
+        ensures answers { OnOk result ((s : ShownValue S.Config) × IsShownBy self.now.shared s
+            × SelectsFrom (λ was_ready. was_ready) max_iterations S.walks key.now s result) }
         ensures refused { IfErr result (λ e. e ≡ Refusal.OutOfMemory) }
     {
         self.select_with(rt, alloc, key, max_iterations, &ready_ones)
@@ -167,9 +169,8 @@ impl<
         accept: &F,
     ) -> Result<Option<Backend>, Refusal>
         requires { F.IsAlwaysCallable accept.now }
-        ensures answers { OnOk result ((s : ShownValue S.Config) × (s.config ≡ self.now.shared.config)
-            × SelectsOf same_member (AcceptsBy F.Fn accept.now (λ b ready. ready ≡ is_up s.unready b)) max_iterations
-            (S.walks s.members s.config key.now) result) }
+        ensures answers { OnOk result ((s : ShownValue S.Config) × IsShownBy self.now.shared s
+            × SelectsFrom (AcceptsBy F.Fn accept.now) max_iterations S.walks key.now s result) }
         ensures refused { IfErr result (λ e. e ≡ Refusal.OutOfMemory) }
     {
         let hint = hint_of(key);

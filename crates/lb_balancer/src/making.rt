@@ -16,6 +16,7 @@ ghost use Rattle.lb_balancer.specs.Texts.{IsOfTexts};
 
 use crate::balancing::Balancing;
 use crate::load_balancer::LoadBalancer;
+use crate::origin::Origin;
 use crate::serving::{BuiltSelector, Serving, built_of};
 use lb_balancer_core::timings::UpdateTimings;
 use lb_health_core::health_check::HealthCheck;
@@ -58,7 +59,7 @@ impl<
         requires can { I.can_next texts }
         requires ends { IsFinite (I.remaining texts) }
         ensures made { IfOk result (λ b. (read : List (Bor (List ℕ))) × Drains I.next_gives texts read
-            × IsOfTexts K.reads read clock.old clock.new b.shared.discovery) }
+            × IsOfTexts K.reads read clock.old clock.new b.shared.discovery b.shared.first) }
         ensures parts { IfOk result (λ b. (b.shared.config ≡ S.default_config) × (b.owns_checks ≡ true)
             × (b.health_check_frequency ≡ None) × (b.update_frequency ≡ None) × (b.parallel_health_check ≡ false)) }
         ensures refused { IfErr result (λ r. (read : List (Bor (List ℕ))) × Drains I.next_gives texts read
@@ -75,8 +76,12 @@ impl<
             discovery_duration: end.saturating_sub(start).saturating_sub(build_duration),
             build_duration,
         };
-        let discovery = DiscoverySource::Static(found);
-        let shared = Balancing::begun(rt, alloc, discovery, registry, serving, timing)?;
+        let origin = Origin {
+            discovery: DiscoverySource::Static(found),
+            config: None,
+            first: serving.generation(),
+        };
+        let shared = Balancing::begun(rt, alloc, origin, registry, serving, timing)?;
         Ok(LoadBalancer {
             shared,
             owns_checks: true,

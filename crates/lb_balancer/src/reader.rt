@@ -2,6 +2,7 @@
 ghost use Rattle.std.specs.Prelude.{◌≡◌, ◌≤◌, IfErr, IfOk, OnOk};
 ghost use Rattle.std.specs.Arc.{arc_value};
 ghost use Rattle.lb_rebuild_core.specs.GroupCalls.{AcceptsBy};
+ghost use Rattle.lb_balancer.specs.History.{IsShownBy};
 ghost use Rattle.lb_balancer.specs.Selections.{SelectsFrom};
 
 use crate::balancing::Balancing;
@@ -23,7 +24,7 @@ use std::sync::{Arc, Wait};
 pub struct BalancerReader<'b, S: BackendSelection, D, R: KeyRule + Drop, C> {
     balancing: &'b Balancing<S, D, R, C>,
     seen: Arc<Shown<S>>,
-    ghost own: { (arc_value seen).config ≡ balancing.now.config },
+    ghost own: { IsShownBy balancing.now (arc_value seen) },
 }
 
 impl<
@@ -92,7 +93,7 @@ impl<
         ensures answers { OnOk result
             (SelectsFrom (λ was_ready. was_ready) max_iterations S.walks key.now (arc_value self.new.seen) result) }
         ensures later { (arc_value self.old.seen).generation ≤ (arc_value self.new.seen).generation }
-        ensures config { (arc_value self.new.seen).config ≡ self.old.balancing.now.config }
+        ensures shown { IsShownBy self.old.balancing.now (arc_value self.new.seen) }
         ensures refused { IfErr result (λ e. e ≡ Refusal.OutOfMemory) }
         ensures same { self.new.balancing ≡ self.old.balancing }
     {
@@ -114,7 +115,7 @@ impl<
         ensures answers { OnOk result
             (SelectsFrom (AcceptsBy F.Fn accept.now) max_iterations S.walks key.now (arc_value self.new.seen) result) }
         ensures later { (arc_value self.old.seen).generation ≤ (arc_value self.new.seen).generation }
-        ensures config { (arc_value self.new.seen).config ≡ self.old.balancing.now.config }
+        ensures shown { IsShownBy self.old.balancing.now (arc_value self.new.seen) }
         ensures refused { IfErr result (λ e. e ≡ Refusal.OutOfMemory) }
         ensures same { self.new.balancing ≡ self.old.balancing }
     {

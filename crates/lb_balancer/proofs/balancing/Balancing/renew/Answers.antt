@@ -1,6 +1,9 @@
--- The registry has another membership of the view, or is as before.
+-- The registry has another membership of the view, or is as before, and what is served took it, or is as before.
+use Rattle.std.proofs.Common.{◌≡◌, ◌∙◌, sym}
+use Rattle.lb_health_view.specs.RegistrySide.{settings_of}
 use Rattle.lb_threads_core.proofs.Histories.{later}
 use Rattle.lb_balancer.proofs.Renewals.{renewed_later}
+use Rattle.lb_balancer.proofs.Served.{known, renewed}
 use Rattle.lb_balancer.proofs.balancing.Balancing.renew.Goals as goal
 use Rattle.lb_balancer.proofs.balancing.Balancing.renew.Goals.{in-Ok, in-Err}
 
@@ -12,3 +15,19 @@ put-requires-clause-registry g c =
     c.founded.ensures is.registry is.registry_err)
     in
     elim c.match-answer.branch [ in-Ok w ↦ rw w.cells-is now | in-Err w ↦ rw w.cells-is now ]
+
+pub exchange-unshown-requires : goal.exchange-unshown-requires
+exchange-unshown-requires g c =
+    let is = c.renew-unserved.ensures in
+    renewed c.args.self.now c.renew-unserved.result.1 (known (c.self.invariant.0 ∙ c.self.view_is) c.take-held.ensures.fact) is.config
+    c.args.members.keys (settings_of c.args.settings.entries) c.requires.discovered is.took is.view_err
+
+pub put-requires-2-clause-fact : goal.put-requires-2-clause-fact
+put-requires-2-clause-fact g c =
+    let is = c.renew-unserved.ensures in
+    let key = c.self.invariant.0 ∙ c.self.view_is in
+    let now =
+    known (sym key) (renewed c.args.self.now c.renew-unserved.result.1 (known key c.take-held.ensures.fact) is.config
+    c.args.members.keys (settings_of c.args.settings.entries) c.requires.discovered is.took is.view_err)
+    in
+    elim c.match-answer.branch [ in-Ok w ↦ rw w.held-is now | in-Err w ↦ rw w.held-is now ]

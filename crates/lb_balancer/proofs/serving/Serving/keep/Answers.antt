@@ -4,6 +4,7 @@ use Rattle.lb_select_base.specs.Memberships.{same_members}
 use Rattle.lb_health_core.specs.Registry.{IsRegistryAfter}
 use Rattle.lb_health_view.specs.RegistrySide.{after_settings, registry_updated, settings_of, with_membership}
 use Rattle.lb_health_view.specs.ViewEvents.{membership_after}
+use Rattle.lb_health_view.specs.Views.{IsViewAfter}
 use Rattle.lb_balancer.specs.Shown.{ServingValue}
 use Rattle.lb_balancer.proofs.Memberships.{kept-members, on-ok}
 use Rattle.lb_balancer.proofs.serving.Serving.keep.Goals as goal
@@ -30,3 +31,15 @@ returns-clause-registry g c key_of events r =
     let kept : registry_updated key_of c.self.inside.view.id members p.0 events ≡ events = rw same refl in
     subst (λ es. IsRegistryAfter g.R.KeyRule.gives key_of es c.update.new.registry) kept
     (on-ok c.update.result _ (c.update.ensures.same p.0 p.1 same) c.update.ensures.registry key_of p.0 events p.1 r)
+
+pub returns-clause-took : goal.returns-clause-took
+returns-clause-took g c =
+    let p = c.self.invariant in
+    let members = c.args.members.keys in
+    let here = sym (ap (λ (v : ServingValue g.row.S-Config.Denot). v.members) c.self.view_is) ∙ p.2 in
+    let same : same_members members (membership_after p.0) ≡ true = ap (same_members members) (sym here) ∙ c.requires in
+    let shown = on-ok c.update.result _ (c.update.ensures.same p.0 p.1 same) c.update.ensures.some in (
+      shown.0,
+      (λ views after.
+          shown.1 views (subst (λ (v : ServingValue g.row.S-Config.Denot). IsViewAfter views v.view) (sym c.self.view_is) after)),
+    )

@@ -47,3 +47,19 @@ returns-in-Ok-Some-clause-registry g c key_of views events after r =
     (registry_updated key_of v.view.id c.args.members.keys views events) c.update.new.registry)
     c.self.view_is
     (on-ok c.update.result _ (ap is_ok c.in-Ok-Some.is) c.update.ensures.registry key_of views events here r)
+
+pub returns-in-Ok-Some-clause-took : goal.returns-in-Ok-Some-clause-took
+returns-in-Ok-Some-clause-took g c =
+    let shown = on-ok c.update.result _ (ap is_ok c.in-Ok-Some.is) c.update.ensures.some in (
+      shown.0,
+      (λ views after.
+          shown.1 views (subst (λ (v : ServingValue g.row.S-Config.Denot). IsViewAfter views v.view) (sym c.self.view_is) after)),
+    )
+
+pub returns-in-Ok-None-clause-took : goal.returns-in-Ok-None-clause-took
+returns-in-Ok-None-clause-took g c =
+    let shown = on-ok c.update.result _ (ap is_ok c.in-Ok-None.is) c.update.ensures.some in (
+      shown.0,
+      (λ views after.
+          shown.1 views (subst (λ (v : ServingValue g.row.S-Config.Denot). IsViewAfter views v.view) (sym c.self.view_is) after)),
+    )

@@ -1,0 +1,14 @@
+-- What is served first is a view to which nothing has happened.
+use Rattle.std.proofs.Common.{[], arith}
+use Rattle.lb_balancer.proofs.Served.{none-yet}
+use Rattle.lb_balancer.proofs.balancing.Balancing.new.Goals as goal
+
+pub places_over-requires : goal.places_over-requires
+places_over-requires g c =
+    rw c.new.ensures (record {
+      config = c.in_ok-built.ensures.made.1;
+      views = [];
+      view = c.in_ok-view.ensures.made;
+      first = omega arith;
+      discovered = none-yet _;
+    })

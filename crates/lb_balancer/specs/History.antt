@@ -1,0 +1,43 @@
+-- What a balancer that threads share may serve and show: what some of its own updates left. Other threads go on changing it, so a call is
+-- made at some state of it.
+use Rattle.std.specs.Prelude.{◌≡◌, ◌<◌, ◌≤◌, ℕ, Bool, List, []}
+use Rattle.lb_select_base.specs.Backends.{Member}
+use Rattle.lb_health_view.specs.Discoveries.{Discovers}
+use Rattle.lb_health_view.specs.declared.discovery.DiscoverySource.{DiscoverySource}
+use Rattle.lb_health_view.specs.RegistrySide.{after_settings, with_membership}
+use Rattle.lb_health_view.specs.ViewEvents.{ViewEvent, generation_after, membership_after}
+use Rattle.lb_health_view.specs.Views.{IsViewAfter}
+use Rattle.lb_balancer.specs.Shown.{ServingValue, ShownValue}
+
+-- what a caller knows of a balancer: its discovery, what its selectors are built with, and the generation at which it was made
+pub record BalancerValue (D C : Type 0) : Type 0 where
+  pub discovery : DiscoverySource D
+  pub config : C
+  pub first : ℕ
+
+-- Generation and members belong together: generation 0 has none, and those of another one are what the discovery may give, with some
+-- settings (`∥ ∥₁`: which ones isn't said).
+pub record AreDiscovered {D : Type 0} (discovery : DiscoverySource D) (generation : ℕ) (members : List Member) : Type 0 where
+  pub none : generation ≡ 0 → members ≡ []
+  pub some : 0 < generation → ∥ ((settings : List (Member × Bool)) × Discovers discovery members settings) ∥₁
+
+module _ {D C : Type 0} (b : BalancerValue D C) where
+  -- what the balancer may serve: a view whose newest membership was discovered, and a selector that is built with its configuration
+  pub record IsServedBy (s : ServingValue C) : Type 0 where
+    pub config : s.config ≡ b.config
+    pub views : List ViewEvent
+    pub view : IsViewAfter views s.view
+    pub first : b.first ≤ generation_after views
+    pub discovered : AreDiscovered b.discovery (generation_after views) (membership_after views)
+
+  -- what the balancer may show: members that were discovered, and a selector that is built with its configuration
+  pub record IsShownBy (s : ShownValue C) : Type 0 where
+    pub config : s.config ≡ b.config
+    pub first : b.first ≤ s.generation
+    pub discovered : AreDiscovered b.discovery s.generation s.members
+
+-- a view took members and settings
+abbrev pub Takes : {C : Type 0} → List Member → List (Member × Bool) → ServingValue C → ServingValue C → Type 0
+Takes members settings s t =
+    (cells : List (Member × ℕ)) × ((views : List ViewEvent) → IsViewAfter views s.view
+    → IsViewAfter (after_settings settings (with_membership members cells views)) t.view)

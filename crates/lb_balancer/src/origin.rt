@@ -1,0 +1,93 @@
+//! What a balancer is made of, which never changes. Its locks and lanes keep facts by it about what they hold.
+ghost use Rattle.std.specs.Prelude.{◌≡◌, unwrap_or};
+ghost use Rattle.std.specs.Arc.{arc_value};
+
+use crate::serving::Serving;
+use crate::shown::Shown;
+use counted_slot::Fits;
+use lb_health_view::discovery::DiscoverySource;
+use lb_select_base::walk::BackendSelection;
+use lb_threads_core::rule::LockRule;
+use std::marker::{Model, PhantomData};
+use std::snapshot::Snapshot;
+use std::sync::Arc;
+
+/// The discovery, the configuration of the selectors, and the generation at which the balancer was made.
+#[derive(Drop)]
+pub struct Origin<S: BackendSelection, D> {
+    pub(crate) discovery: DiscoverySource<D>,
+    pub(crate) config: Option<S::Config>,
+    pub(crate) first: u64,
+}
+
+impl<S: BackendSelection, D> Model for Origin<S, D> {
+    ghost use Rattle.std.specs.Prelude.{unwrap_or};
+    ghost use Rattle.lb_balancer.specs.History.{BalancerValue};
+
+    ghost Value = { BalancerValue D S.Config };
+
+    ghost view = { λ o. record { discovery = o.discovery; config = unwrap_or o.config S.default_config; first = o.first } };
+}
+
+impl<S: BackendSelection, D> Origin<S, D> {
+    // The discovery.
+    pub(crate) fn discovery(&self) -> &DiscoverySource<D>
+        ensures { result.now ≡ self.now.discovery }
+    {
+        &self.discovery
+    }
+
+    // The configuration; `None` for the default one.
+    pub(crate) fn config(&self) -> &Option<S::Config>
+        ensures { unwrap_or result.now S.default_config ≡ self.now.config }
+    {
+        &self.config
+    }
+}
+
+/// What is served is what the balancer's own updates left.
+pub struct OfServing {}
+
+impl<S: BackendSelection, D> LockRule<Serving<S>, Snapshot<Origin<S, D>>> for OfServing {
+    ghost use Rattle.lb_balancer.specs.History.{IsServedBy};
+
+    ghost holds = { λ key s. IsServedBy key.value s };
+}
+
+/// What is shown is what the balancer's own updates left.
+pub struct OfShown {}
+
+impl<S: BackendSelection, D> LockRule<Arc<Shown<S>>, Snapshot<Origin<S, D>>> for OfShown {
+    ghost use Rattle.std.specs.Arc.{arc_value};
+    ghost use Rattle.lb_balancer.specs.History.{IsShownBy};
+
+    ghost holds = { λ key s. IsShownBy key.value (arc_value s) };
+}
+
+/// What is shown, in a lane of the balancer that showed it.
+#[derive(Drop)]
+pub struct KeptShown<S: BackendSelection, D> {
+    pub(crate) shown: Arc<Shown<S>>,
+    of: PhantomData<Origin<S, D>>,
+}
+
+impl<S: BackendSelection, D> KeptShown<S, D> {
+    // What is shown, for a lane.
+    pub(crate) fn new(shown: Arc<Shown<S>>) -> KeptShown<S, D>
+        ensures { result.shown ≡ shown }
+    {
+        KeptShown {
+            shown,
+            of: PhantomData,
+        }
+    }
+}
+
+impl<S: BackendSelection, D> Fits for KeptShown<S, D> {
+    ghost use Rattle.std.specs.Arc.{arc_value};
+    ghost use Rattle.lb_balancer.specs.History.{IsShownBy};
+
+    type Tag = Origin<S, D>;
+
+    ghost fits = { λ origin kept. IsShownBy origin (arc_value kept.shown) };
+}
