@@ -1,0 +1,6 @@
+pub mod FieldLemmas
+pub mod FrameLemmas
+pub mod LengthLemmas
+pub mod OptionLemmas
+pub mod RunLemmas
+pub mod StepLemmas
