@@ -1,6 +1,6 @@
 -- Lemmas on the frame of a body in chunks: what a byte at each place of it brings.
 use Rattle.std.proofs.Common.{◌≡◌, ◌≢◌, ◌⊎◌, inl, inr, ℕ, zero, suc, ◌+◌, ◌-◌, ◌*◌, ◌<◌, ◌≤◌, ◌^◌, Bool, true, false, List, [], ◌∷◌, ◌++◌}
-use Rattle.std.proofs.Common.{length, refl, sym, ap, ◌∙◌, subst, arith, IsTrue}
+use Rattle.std.proofs.Common.{length, refl, sym, ap, ◌∙◌, subst, arith, IsTrue, Option, None, Some, MatchOption}
 use Rattle.std.proofs.lemmas.List.Elements.{All-cons, All-nil, All-head, All-tail}
 use Rattle.std.specs.Char.{is_ascii_hexdigit, digit_value}
 use Rattle.std.specs.Str.Parse.{digits_value_after}
@@ -21,6 +21,21 @@ no_name_return = refl
 no_name_colon : is_token_byte 58 ≡ false
 unfolding is_token_byte
 no_name_colon = refl
+
+-- what follows a byte follows one that equals it
+pub at_byte : (frame : Frame) (n b : ℕ) (next : Place) → b ≡ n → Follows frame n next → Follows frame b next
+at_byte frame n b next is f = subst (λ (x : ℕ). Follows frame x next) (sym is) f
+
+-- what is so of a frame is so of one that equals it
+pub at_frame : (frame same : Frame) (b : ℕ) (r : Option Place) → frame ≡ same → MatchOption r (Blocks same b) (Follows same b)
+    → MatchOption r (Blocks frame b) (Follows frame b)
+at_frame frame same b r is answer = subst (λ (f : Frame). MatchOption r (Blocks f b) (Follows f b)) (sym is) answer
+
+-- a byte that has to be that one
+pub expected : (frame : Frame) (b n : ℕ) (next : Place) (r : Option Place) → (b ≢ n → Blocks frame b) → Follows frame n next
+    → MatchOption r (b ≡ n → ⊥) (λ place. (b ≡ n) × (place ≡ next)) → MatchOption r (Blocks frame b) (Follows frame b)
+expected frame b n next None bad f other = bad other
+expected frame b n next (Some place) bad f h = subst (λ (p : Place). Follows frame b p) (sym h.1) (at_byte frame n b next h.0 f)
 
 -- ---- a line feed
 
@@ -164,6 +179,15 @@ size_full count value b holds (inl many) text r =
 size_full count value b holds (inr large) text r =
     let back : value * 16 + digit_value b < 2 ^ 64 = (size_digit_back (λ s a. AfterLine r.0 s a) count value b text holds r.1).1 in omega arith
 
+-- what a digit brings
+pub size_digits : (count value b digit : ℕ) (r : Option Place) → is_ascii_hexdigit b ≡ true → digit ≡ digit_value b
+    → MatchOption r ((16 ≤ count) ⊎ (1152921504606846976 ≤ value))
+    (λ next. (count < 16) × (next ≡ P.Framed (F.Size (count + 1) (value * 16 + digit))))
+    → MatchOption r (Blocks (F.Size count value) b) (Follows (F.Size count value) b)
+size_digits count value b digit None holds is h = size_full count value b holds h
+size_digits count value b digit (Some next) holds is h =
+    subst (λ (p : Place). Follows (F.Size count value) b p) (sym h.1) (size_more count value b digit holds is h.0)
+
 pub size_none : (value b : ℕ) → is_ascii_hexdigit b ≡ false → Blocks (F.Size 0 value) b
 size_none value b fails text r = let back : 0 < 0 = (size_end_back (λ s a. AfterLine r.0 s a) 0 value b text fails r.1).0 in omega arith
 
@@ -177,10 +201,10 @@ size_bad count value b fails other also text r =
 
 ends_return_back : (Q : List ℕ → Type 0) (text : List ℕ) → Ends Q (13 ∷ text) → Feed Q text
 ends_return_back Q text (inl e) = let is = e.1 in let same : e.0 ≡ text = cc in subst (λ (l : List ℕ). Feed Q l) same e.2
-ends_return_back Q text (inr e) = let is = e.1 in let fails : 13 ≡ 59 = cc in absurd (omega arith)
+ends_return_back Q text (inr e) = let is : 13 ∷ text ≡ 59 ∷ e.0 = e.1 in absurd (cc)
 
 ends_semicolon_back : (Q : List ℕ → Type 0) (text : List ℕ) → Ends Q (59 ∷ text) → InExtension Q 4096 text
-ends_semicolon_back Q text (inl e) = let is = e.1 in let fails : 59 ≡ 13 = cc in absurd (omega arith)
+ends_semicolon_back Q text (inl e) = let is : 59 ∷ text ≡ 13 ∷ e.0 = e.1 in absurd (cc)
 ends_semicolon_back Q text (inr e) =
     let is = e.1 in let same : e.0 ≡ text = cc in subst (λ (l : List ℕ). InExtension Q 4096 l) same e.2
 

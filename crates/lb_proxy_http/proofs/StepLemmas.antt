@@ -1,5 +1,5 @@
 -- Lemmas on the pieces that the bytes of a body come in.
-use Rattle.std.proofs.Common.{◌≡◌, ◌≢◌, ◌↔◌, inl, inr, ℕ, zero, suc, ◌+◌, ◌-◌, ◌<◌, ◌≤◌, Bool, true, false, IsTrue, List, [], ◌∷◌, ◌++◌, length, take, drop, get_or}
+use Rattle.std.proofs.Common.{◌≡◌, ◌≢◌, ◌↔◌, ◌⊎◌, inl, inr, ℕ, zero, suc, ◌+◌, ◌-◌, ◌<◌, ◌≤◌, Bool, true, false, IsTrue, List, [], ◌∷◌, ◌++◌, length, take, drop, get_or}
 use Rattle.std.proofs.Common.{refl, sym, ap, ◌∙◌, subst, arith, append_assoc, length-append, length-take, length-drop, take-append-drop}
 use Rattle.std.proofs.lemmas.List.{nil_from_length, take-take, drop-take}
 use Rattle.lb_proxy_http.specs.declared.body.Body.{Body}
@@ -157,7 +157,7 @@ frame_passes frame (x ∷ bytes) b next some is f = record {
 
 pub frame_blocks : (frame : Frame) (bytes : List ℕ) (b : ℕ) → 0 < length bytes → b ≡ get_or bytes 0 0 → Blocks frame b
     → BlocksAll (P.Framed frame) bytes
-frame_blocks frame [] b some is f = absurd (omega arith)
+frame_blocks frame [] b some is f text r = absurd (omega arith)
 frame_blocks frame (x ∷ bytes) b some is f text r = f (bytes ++ text) (subst (λ (y : ℕ). FrameRemains frame (y ∷ (bytes ++ text))) (sym is) r)
 
 -- ---- many steps
@@ -248,8 +248,26 @@ sized_some left r = let some = r.0 in let none = r.1 in omega arith
 pub place_content_some : (left : ℕ) → ¬ (Remains (P.Content left) [])
 place_content_some left r = content_some (λ t. Chunks r.1.0 t) left r.1.1
 
-pub close_goes_on : ((text : List ℕ) → Remains P.UntilClose text → text ≡ []) → ⊥
-close_goes_on none = let some : 0 ∷ [] ≡ [] = none (0 ∷ []) tt in cc
+longer : (x : ℕ) (xs : List ℕ) → x ∷ xs ≡ [] → ⊥
+longer x xs e = cc
 
-pub close_open : (body : Body) → body.place ≡ P.UntilClose → ¬ (IsEnded body)
-close_open body is e = close_goes_on (λ text r. e.none text (subst (λ (p : Place). Remains p text) (sym is) r))
+pub close_goes_on : ((text : List ℕ) → Remains P.UntilClose text → text ≡ []) → ⊥
+close_goes_on none = longer 0 [] (none (0 ∷ []) tt)
+
+ended_place : (place : Place) → Remains place [] → ((text : List ℕ) → Remains place text → text ≡ []) → place ≡ P.Done
+ended_place P.Done whole none = refl
+ended_place (P.Sized left) whole none = absurd (sized_some left whole)
+ended_place P.UntilClose whole none = absurd (close_goes_on none)
+ended_place (P.Content left) whole none = absurd (place_content_some left whole)
+ended_place (P.Framed frame) whole none = absurd (frame_some frame whole)
+
+pub ended_done : (body : Body) → IsEnded body → body.place ≡ P.Done
+ended_done body ended = ended_place body.place ended.whole ended.none
+
+-- a stream may end at the end of a body, or where the body goes on to the end of the stream
+pub whole_place : (place : Place) → Remains place [] → (place ≡ P.Done) ⊎ (place ≡ P.UntilClose)
+whole_place P.Done whole = inl refl
+whole_place (P.Sized left) whole = absurd (sized_some left whole)
+whole_place P.UntilClose whole = inr refl
+whole_place (P.Content left) whole = absurd (place_content_some left whole)
+whole_place (P.Framed frame) whole = absurd (frame_some frame whole)

@@ -44,9 +44,16 @@ is_guarded name =
     same_name name (codes "content-length") || same_name name (codes "host") || same_name name (codes "transfer-encoding")
     || same_name name (codes "via") || same_name name (codes "x-forwarded-for")
 
--- the fields that are for one connection in any message
-unfoldable pub is_hop_by_hop : List ℕ → Bool
-is_hop_by_hop name =
+-- the fields that say what becomes of a connection
+unfoldable pub is_about_connection : List ℕ → Bool
+is_about_connection name =
     same_name name (codes "connection") || same_name name (codes "keep-alive") || same_name name (codes "proxy-connection")
-    || same_name name (codes "te") || same_name name (codes "trailer") || same_name name (codes "transfer-encoding")
     || same_name name (codes "upgrade")
+
+-- the fields that say how a body is coded on one connection
+unfoldable pub is_about_coding : List ℕ → Bool
+is_about_coding name = same_name name (codes "te") || same_name name (codes "trailer") || same_name name (codes "transfer-encoding")
+
+-- the fields that are for one connection in any message
+abbrev pub is_hop_by_hop : List ℕ → Bool
+is_hop_by_hop name = is_about_connection name || is_about_coding name

@@ -2,7 +2,7 @@
 ghost use Rattle.std.specs.Prelude.{◌≡◌, ◌≤◌, ◌++◌, length, map, slice_range, OnOk, IfOk};
 ghost use Rattle.std.specs.List.{list_any};
 ghost use Rattle.httparse.specs.Grammar.{trim_ows};
-ghost use Rattle.lb_proxy_http.specs.Fields.{same_name, has_name, options_in, options_of, values_of, Finds, is_option, is_guarded, is_hop_by_hop};
+ghost use Rattle.lb_proxy_http.specs.Fields.{same_name, has_name, options_in, options_of, values_of, Finds, is_option, is_guarded, is_about_connection, is_about_coding, is_hop_by_hop};
 ghost use Rattle.lb_proxy_http.specs.Write.{is_end_to_end};
 
 use httparse::is_space_or_tab;
@@ -127,18 +127,30 @@ fn is_guarded(name: &[u8]) -> bool
         || same_name(name, b"x-forwarded-for")
 }
 
-/// Returns whether a field of that name is for one connection in any message.
-#[tactic(auto, unfolding(crate::specs::Fields::is_hop_by_hop))]
-pub(crate) fn is_hop_by_hop(name: &[u8]) -> bool
-    ensures { result ≡ is_hop_by_hop name.now }
+// Whether a field of that name says what becomes of a connection.
+#[tactic(auto, unfolding(crate::specs::Fields::is_about_connection))]
+fn is_about_connection(name: &[u8]) -> bool
+    ensures { result ≡ is_about_connection name.now }
 {
     same_name(name, b"connection")
         || same_name(name, b"keep-alive")
         || same_name(name, b"proxy-connection")
-        || same_name(name, b"te")
-        || same_name(name, b"trailer")
-        || same_name(name, b"transfer-encoding")
         || same_name(name, b"upgrade")
+}
+
+// Whether a field of that name says how a body is coded on one connection.
+#[tactic(auto, unfolding(crate::specs::Fields::is_about_coding))]
+fn is_about_coding(name: &[u8]) -> bool
+    ensures { result ≡ is_about_coding name.now }
+{
+    same_name(name, b"te") || same_name(name, b"trailer") || same_name(name, b"transfer-encoding")
+}
+
+/// Returns whether a field of that name is for one connection in any message.
+pub(crate) fn is_hop_by_hop(name: &[u8]) -> bool
+    ensures { result ≡ is_hop_by_hop name.now }
+{
+    is_about_connection(name) || is_about_coding(name)
 }
 
 /// Returns whether the field goes on to the other side: it is for no single connection, and no option names it.

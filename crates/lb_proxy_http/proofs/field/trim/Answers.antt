@@ -3,7 +3,6 @@ use Rattle.std.proofs.lemmas.List.{reverse-reverse}
 use Rattle.httparse.specs.Grammar.{skip_ows, trim_ows}
 use Rattle.httparse.proofs.TrimLemmas.{skip_ows_yes, skip_ows_no, slice_first, slice_last, slice_empty}
 use Rattle.lb_proxy_http.proofs.field.trim.Goals.{then-loop-start-test+else-is_space_or_tab, else-loop-start-test}
-use Rattle.lb_proxy_http.proofs.field.trim.Goals.{then-loop-end-test+else-is_space_or_tab-2, else-loop-end-test}
 use Rattle.lb_proxy_http.proofs.field.trim.Goals as goal
 
 pub loop-start-preserved : goal.loop-start-preserved
@@ -37,3 +36,6 @@ loop-end-preserved c =
       omega arith,
       c.loop-end.invariant.2 ∙ ap reverse (skip_ows_yes last c.if-is_space_or_tab-2.ensures),
     )
+
+pub returns : goal.returns
+returns c = ?
