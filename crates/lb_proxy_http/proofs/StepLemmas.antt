@@ -1,7 +1,7 @@
 -- Lemmas on the pieces that the bytes of a body come in.
 use Rattle.std.proofs.Common.{◌≡◌, ◌≢◌, ◌↔◌, ◌⊎◌, inl, inr, ℕ, zero, suc, ◌+◌, ◌-◌, ◌<◌, ◌≤◌, Bool, true, false, IsTrue, List, [], ◌∷◌, ◌++◌, length, take, drop, get_or}
-use Rattle.std.proofs.Common.{refl, sym, ap, ◌∙◌, subst, arith, append_assoc, length-append, length-take, length-drop, take-append-drop}
-use Rattle.std.proofs.lemmas.List.{nil_from_length, take-take, drop-take}
+use Rattle.std.proofs.Common.{refl, sym, ap, ◌∙◌, subst, arith, append_assoc, length-append, length-take, length-drop, take-append-drop, Option, None, Some, MatchOption}
+use Rattle.std.proofs.lemmas.List.{nil_from_length, take-take, take_all, drop-take}
 use Rattle.lb_proxy_http.specs.declared.body.Body.{Body}
 use Rattle.lb_proxy_http.specs.declared.body.Frame.{Frame}
 use Rattle.lb_proxy_http.specs.declared.body.Frame.TheVariants as F
@@ -160,7 +160,17 @@ pub frame_blocks : (frame : Frame) (bytes : List ℕ) (b : ℕ) → 0 < length b
 frame_blocks frame [] b some is f text r = absurd (omega arith)
 frame_blocks frame (x ∷ bytes) b some is f text r = f (bytes ++ text) (subst (λ (y : ℕ). FrameRemains frame (y ∷ (bytes ++ text))) (sym is) r)
 
+-- what is so of a place is so of one that equals it
+pub at_place : (place same : Place) (bytes : List ℕ) (r : Option (ℕ × Place)) → place ≡ same
+    → MatchOption r (BlocksAll same bytes) (λ next. Passes same bytes next.0 next.1)
+    → MatchOption r (BlocksAll place bytes) (λ next. Passes place bytes next.0 next.1)
+at_place place same bytes r is answer =
+    subst (λ (p : Place). MatchOption r (BlocksAll p bytes) (λ next. Passes p bytes next.0 next.1)) (sym is) answer
+
 -- ---- many steps
+
+pub rest_is : (bytes : List ℕ) (passed : ℕ) → take (length bytes - passed) (drop passed bytes) ≡ drop passed bytes
+rest_is bytes passed = take_all (length bytes - passed) (drop passed bytes) (omega (arith, length-drop passed bytes))
 
 pub passes_on : (first place next : Place) (bytes : List ℕ) (passed count : ℕ)
     → ((text : List ℕ) → Remains place text ↔ Remains first (take passed bytes ++ text))
@@ -271,3 +281,29 @@ whole_place (P.Sized left) whole = absurd (sized_some left whole)
 whole_place P.UntilClose whole = inr refl
 whole_place (P.Content left) whole = absurd (place_content_some left whole)
 whole_place (P.Framed frame) whole = absurd (frame_some frame whole)
+
+abbrev pub IsOpen : Place → Type 0
+IsOpen p = ((x : ℕ) × (p ≡ P.Sized x)) ⊎ ((p ≡ P.UntilClose) ⊎ (((x : ℕ) × (p ≡ P.Content x)) ⊎ ((x : Frame) × (p ≡ P.Framed x))))
+
+not_done : (place : Place) → IsOpen place → place ≡ P.Done → ⊥
+not_done place (inl h) done = let is = h.1 in cc
+not_done place (inr (inl is)) done = cc
+not_done place (inr (inr (inl h))) done = let is = h.1 in cc
+not_done place (inr (inr (inr h))) done = let is = h.1 in cc
+
+pub never_ended : (body : Body) → IsOpen body.place → IsEnded body → ⊥
+never_ended body goes_on ended = not_done body.place goes_on (ended_done body ended)
+
+abbrev pub IsBefore : Place → Type 0
+IsBefore p = ((x : ℕ) × (p ≡ P.Sized x)) ⊎ (((x : ℕ) × (p ≡ P.Content x)) ⊎ ((x : Frame) × (p ≡ P.Framed x)))
+
+not_whole : (place : Place) → IsBefore place → (place ≡ P.Done) ⊎ (place ≡ P.UntilClose) → ⊥
+not_whole place (inl h) (inl done) = let is = h.1 in cc
+not_whole place (inl h) (inr close) = let is = h.1 in cc
+not_whole place (inr (inl h)) (inl done) = let is = h.1 in cc
+not_whole place (inr (inl h)) (inr close) = let is = h.1 in cc
+not_whole place (inr (inr h)) (inl done) = let is = h.1 in cc
+not_whole place (inr (inr h)) (inr close) = let is = h.1 in cc
+
+pub never_whole : (body : Body) → IsBefore body.place → Completes body [] → ⊥
+never_whole body before whole = not_whole body.place before (whole_place body.place whole)

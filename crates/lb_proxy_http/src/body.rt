@@ -173,6 +173,16 @@ fn after_value(room: u64, byte: u8) -> Option<Place>
     Some(Place::Framed(Frame::Value(room - 1)))
 }
 
+// What follows the line feed of a trailer.
+fn after_trailer(room: u64, byte: u8) -> Option<Place>
+    ensures { MatchOption result (Blocks (Frame.ValueFeed room) byte) (Follows (Frame.ValueFeed room) byte) }
+{
+    if room == 0 {
+        return None;
+    }
+    expect(byte, b'\n', Place::Framed(Frame::Trailer(room - 1)))
+}
+
 // What follows the byte where it has to be that one.
 fn expect(byte: u8, wanted: u8, next: Place) -> Option<Place>
     ensures { MatchOption result (byte ≡ wanted → ⊥) (λ place. (byte ≡ wanted) × (place ≡ next)) }
@@ -193,10 +203,37 @@ fn after_byte(frame: Frame, byte: u8) -> Option<Place>
         Frame::Trailer(room) => after_start(room, byte),
         Frame::Name(room) => after_name(room, byte),
         Frame::Value(room) => after_value(room, byte),
-        Frame::ValueFeed(0) => None,
-        Frame::ValueFeed(room) => expect(byte, b'\n', Place::Framed(Frame::Trailer(room - 1))),
+        Frame::ValueFeed(room) => after_trailer(room, byte),
         Frame::LastFeed => expect(byte, b'\n', Place::Done),
     }
+}
+
+// How many of the bytes come at once where so many are left of a body, and what follows them.
+fn pass_sized(left: u64, bytes: &[u8]) -> Option<(usize, Place)>
+    requires { 0 < length bytes.now }
+    ensures { MatchOption result (BlocksAll (Place.Sized left) bytes.now) (λ next. Passes (Place.Sized left) bytes.now next.0 next.1) }
+{
+    if left == 0 {
+        return None;
+    }
+    if left <= bytes.len() as u64 {
+        return Some((left as usize, Place::Done));
+    }
+    Some((bytes.len(), Place::Sized(left - bytes.len() as u64)))
+}
+
+// How many of the bytes come at once where so many are left of a chunk, and what follows them.
+fn pass_content(left: u64, bytes: &[u8]) -> Option<(usize, Place)>
+    requires { 0 < length bytes.now }
+    ensures { MatchOption result (BlocksAll (Place.Content left) bytes.now) (λ next. Passes (Place.Content left) bytes.now next.0 next.1) }
+{
+    if left == 0 {
+        return None;
+    }
+    if left <= bytes.len() as u64 {
+        return Some((left as usize, Place::Framed(Frame::ContentReturn)));
+    }
+    Some((bytes.len(), Place::Content(left - bytes.len() as u64)))
 }
 
 // How many of the bytes come at once, and what follows them.
@@ -206,14 +243,10 @@ fn step(place: Place, bytes: &[u8]) -> Option<(usize, Place)>
     ensures { MatchOption result (BlocksAll place bytes.now) (λ next. Passes place bytes.now next.0 next.1) }
 {
     match place {
-        Place::Done | Place::Sized(0) | Place::Content(0) => None,
-        Place::Sized(left) if left <= bytes.len() as u64 => Some((left as usize, Place::Done)),
-        Place::Sized(left) => Some((bytes.len(), Place::Sized(left - bytes.len() as u64))),
+        Place::Done => None,
+        Place::Sized(left) => pass_sized(left, bytes),
         Place::UntilClose => Some((bytes.len(), Place::UntilClose)),
-        Place::Content(left) if left <= bytes.len() as u64 => {
-            Some((left as usize, Place::Framed(Frame::ContentReturn)))
-        }
-        Place::Content(left) => Some((bytes.len(), Place::Content(left - bytes.len() as u64))),
+        Place::Content(left) => pass_content(left, bytes),
         Place::Framed(frame) => match after_byte(frame, bytes[0]) {
             Some(next) => Some((1, next)),
             None => None,

@@ -1,6 +1,6 @@
 //! The head of a request.
 ghost use Rattle.std.specs.Prelude.{true, false, ◌≡◌, ◌≢◌, ◌&&◌, ◌≤◌, ◌<◌, Ok, None, All, IfOk, IfSome, MatchBool, bytes_eq, codes, length, map, take, slice_range};
-ghost use Rattle.std.specs.List.{list_any};
+ghost use Rattle.std.specs.List.{list_all, list_any};
 ghost use Rattle.httparse.specs.Grammar.{HasNoRequest};
 ghost use Rattle.httparse.specs.Spans.{header_bytes, IsHeaderWithin, IsRequestWithin, span_bytes};
 ghost use Rattle.lb_proxy_http.specs.Fields.{values_of, options_of, is_guarded};
@@ -159,6 +159,13 @@ fn is_host_byte(byte: u8) -> bool
     byte.is_ascii_alphanumeric() || b"-._~%!$&'()*+;=:[]".contains(&byte)
 }
 
+// Whether the value names a host, perhaps with a port.
+fn is_host(value: &[u8]) -> bool
+    ensures { result ≡ list_all is_host_byte value.now }
+{
+    value.iter().all(|byte| is_host_byte(*byte))
+}
+
 // Whether the host is named as the version wants it: once, at most once in HTTP/1.0.
 fn has_right_host(version: Version, fields: &[Field<'_>]) -> bool
     ensures { result ≡ right_host version (values_of (codes "host") fields.now) }
@@ -168,7 +175,7 @@ fn has_right_host(version: Version, fields: &[Field<'_>]) -> bool
             Version::Http10 => true,
             Version::Http11 => false,
         },
-        Found::One(value) => value.iter().all(|byte| is_host_byte(*byte)),
+        Found::One(value) => is_host(value),
         Found::Many => false,
     }
 }

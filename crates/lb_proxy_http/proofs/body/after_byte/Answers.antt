@@ -17,4 +17,4 @@ pub returns-in-Value : goal.returns-in-Value
 returns-in-Value c = at_frame c.args.frame _ c.args.byte c.after_value.result c.in-Value.is c.after_value.ensures
 
 pub returns-in-ValueFeed : goal.returns-in-ValueFeed
-returns-in-ValueFeed c = let h = c.in-ValueFeed in ?
+returns-in-ValueFeed c = at_frame c.args.frame _ c.args.byte c.after_trailer.result c.in-ValueFeed.is c.after_trailer.ensures

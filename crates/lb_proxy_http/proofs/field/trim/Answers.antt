@@ -1,8 +1,9 @@
-use Rattle.std.proofs.Common.{◌≡◌, ℕ, List, reverse, slice_range, sym, ap, ◌∙◌, arith}
+use Rattle.std.proofs.Common.{◌≡◌, ◌≤◌, ℕ, List, length, reverse, slice_range, sym, ap, ◌∙◌, arith}
 use Rattle.std.proofs.lemmas.List.{reverse-reverse}
 use Rattle.httparse.specs.Grammar.{skip_ows, trim_ows}
 use Rattle.httparse.proofs.TrimLemmas.{skip_ows_yes, skip_ows_no, slice_first, slice_last, slice_empty}
 use Rattle.lb_proxy_http.proofs.field.trim.Goals.{then-loop-start-test+else-is_space_or_tab, else-loop-start-test}
+use Rattle.lb_proxy_http.proofs.field.trim.Goals.{then-loop-end-test+else-is_space_or_tab-2, else-loop-end-test}
 use Rattle.lb_proxy_http.proofs.field.trim.Goals as goal
 
 pub loop-start-preserved : goal.loop-start-preserved
@@ -38,4 +39,16 @@ loop-end-preserved c =
     )
 
 pub returns : goal.returns
-returns c = ?
+returns c =
+    let here = slice_range c.args.value.now c.loop-start.start c.loop-end.end in
+    let within : c.loop-end.end ≤ length c.args.value.now = omega arith in
+    let stays : reverse (skip_ows (reverse here)) ≡ here =
+    elim c.loop-end-test.branch [
+      | then-loop-end-test+else-is_space_or_tab-2 w ↦
+          let last = slice_last c.args.value.now _ _ w.loop-end-test.true within in
+          ap reverse (skip_ows_no last w.if-is_space_or_tab-2.ensures) ∙ reverse-reverse here
+      | else-loop-end-test w ↦
+          let empty = slice_empty c.args.value.now c.loop-start.start c.loop-end.end (omega arith) within in
+          ap (λ (t : List ℕ). reverse (skip_ows (reverse t))) empty ∙ sym empty
+    ] in
+    sym (c.loop-end.invariant.2 ∙ stays)
