@@ -1,6 +1,6 @@
 -- Lemmas on the frame of a body in chunks: what a byte at each place of it brings.
-use Rattle.std.proofs.Common.{◌≡◌, ◌≢◌, ◌⊎◌, inl, inr, ℕ, zero, suc, ◌+◌, ◌-◌, ◌*◌, ◌<◌, ◌≤◌, ◌^◌, Bool, true, false, List, [], ◌∷◌, ◌++◌}
-use Rattle.std.proofs.Common.{length, refl, sym, ap, ◌∙◌, subst, arith, IsTrue, Option, None, Some, MatchOption}
+use Rattle.std.proofs.Common.{◌≡◌, ◌≢◌, ◌⊎◌, inl, inr, ℕ, zero, suc, ◌+◌, ◌-◌, ◌*◌, ◌<◌, ◌≤◌, ◌^◌, true, false, List, [], ◌∷◌, ◌++◌}
+use Rattle.std.proofs.Common.{length, refl, sym, ap, ◌∙◌, subst, arith, Option, None, Some, MatchOption}
 use Rattle.std.proofs.lemmas.List.Elements.{All-cons, All-nil, All-head, All-tail}
 use Rattle.std.specs.Char.{is_ascii_hexdigit, digit_value}
 use Rattle.std.specs.Str.Parse.{digits_value_after}
@@ -9,9 +9,9 @@ use Rattle.lb_proxy_http.specs.declared.body.Frame.{Frame}
 use Rattle.lb_proxy_http.specs.declared.body.Frame.TheVariants as F
 use Rattle.lb_proxy_http.specs.declared.body.Place.{Place}
 use Rattle.lb_proxy_http.specs.declared.body.Place.TheVariants as P
-use Rattle.lb_proxy_http.specs.Chunked.{Run, Counted, Feed, Line, Trailers, InName, InValue, AfterValue, Ends, Size, Content, InExtension}
+use Rattle.lb_proxy_http.specs.Chunked.{Run, Counted, Feed, Trailers, InName, InValue, AfterValue, Ends, Size, Content, InExtension}
 use Rattle.lb_proxy_http.specs.Chunked.{AfterLine, Chunks}
-use Rattle.lb_proxy_http.specs.Body.{FrameRemains, Remains, Follows, Blocks}
+use Rattle.lb_proxy_http.specs.Body.{Remains, Follows, Blocks}
 use Rattle.lb_proxy_http.proofs.RunLemmas.{counted, counted_back, run_stop, run_stop_back, run_more, run_more_back, run_bad, run_full, run_none}
 
 no_name_return : is_token_byte 13 ≡ false

@@ -1,16 +1,14 @@
 -- Heads as they are passed on: the start line, the end-to-end fields in order, and the fields that the proxy adds.
 use Rattle.std.specs.Prelude.{ℕ, Bool, ◌&&◌, not, List, [], ◌∷◌, ◌++◌, codes, decimal, flat_map, nat_lt, if◌then◌else◌}
 use Rattle.lb_proxy_http.specs.declared.fault.Fault.{Fault}
-use Rattle.lb_proxy_http.specs.declared.fault.Fault.TheVariants as Fault
 use Rattle.lb_proxy_http.specs.declared.field.Field.{Field}
 use Rattle.lb_proxy_http.specs.declared.framing.Framing.{Framing}
 use Rattle.lb_proxy_http.specs.declared.framing.Framing.TheVariants.{Nothing, Sized, Chunked, UntilClose}
 use Rattle.lb_proxy_http.specs.declared.framing.Version.{Version}
 use Rattle.lb_proxy_http.specs.declared.framing.Version.TheVariants.{Http10, Http11}
-use Rattle.lb_proxy_http.specs.declared.request.Asked.{Asked}
 use Rattle.lb_proxy_http.specs.declared.request.RequestHead.{RequestHead}
 use Rattle.lb_proxy_http.specs.declared.response.ResponseHead.{ResponseHead}
-use Rattle.lb_proxy_http.specs.Fields.{same_name, has_name, is_option, is_hop_by_hop}
+use Rattle.lb_proxy_http.specs.Fields.{has_name, is_option, is_hop_by_hop}
 use denote.Ref.{Bor}
 
 abbrev pub crlf : List ℕ

@@ -1,4 +1,4 @@
-use Rattle.std.proofs.Common.{◌≡◌, ◌-◌, ◌<◌, true, arith}
+use Rattle.std.proofs.Common.{◌-◌, arith}
 use Rattle.lb_proxy_http.specs.declared.body.Frame.TheVariants as F
 use Rattle.lb_proxy_http.specs.declared.body.Place.TheVariants as P
 use Rattle.lb_proxy_http.proofs.FrameLemmas.{at_byte, name_end, name_more}

@@ -1,4 +1,4 @@
-use Rattle.std.proofs.Common.{◌≡◌, ◌<◌, arith}
+use Rattle.std.proofs.Common.{arith}
 use Rattle.lb_proxy_http.specs.declared.body.Frame.TheVariants as F
 use Rattle.lb_proxy_http.specs.declared.body.Place.TheVariants as P
 use Rattle.lb_proxy_http.proofs.FrameLemmas.{size_digits, size_semicolon, size_return, at_byte}

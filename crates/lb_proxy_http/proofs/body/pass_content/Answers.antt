@@ -1,4 +1,3 @@
-use Rattle.std.proofs.Common.{◌≡◌, ◌<◌, arith}
 use Rattle.lb_proxy_http.proofs.StepLemmas.{content_end, content_more}
 use Rattle.lb_proxy_http.proofs.body.pass_content.Goals as goal
 

@@ -1,4 +1,3 @@
-use Rattle.std.proofs.Common.{◌≡◌, ◌<◌, arith}
 use Rattle.lb_proxy_http.proofs.StepLemmas.{sized_end, sized_more}
 use Rattle.lb_proxy_http.proofs.body.pass_sized.Goals as goal
 

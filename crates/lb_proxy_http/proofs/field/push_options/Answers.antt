@@ -1,4 +1,4 @@
-use Rattle.std.proofs.Common.{◌≡◌, ◌≤◌, ℕ, ◌+◌, get_or, length, slice_range, sym, subst, arith}
+use Rattle.std.proofs.Common.{◌≡◌, ℕ, ◌+◌, get_or, length, slice_range, sym, subst, arith}
 use Rattle.lb_proxy_http.proofs.OptionLemmas.{IsClear, clear_more, clear_none, no_comma, comma_same, last_same}
 use Rattle.lb_proxy_http.proofs.field.push_options.Goals.{then-byte-eq44+in_ok-push, else-byte-eq44}
 use Rattle.lb_proxy_http.proofs.field.push_options.Goals as goal

@@ -1,4 +1,3 @@
-use Rattle.std.proofs.Common.{◌≡◌, true, false}
 use Rattle.std.proofs.lemmas.Bool.{false≢true}
 use Rattle.lb_proxy_http.proofs.StepLemmas.{never_ended}
 use Rattle.lb_proxy_http.proofs.body.Body.is_done.Goals as goal

@@ -1,4 +1,3 @@
-use Rattle.std.proofs.Common.{◌≡◌, true, false}
 use Rattle.std.proofs.lemmas.Bool.{false≢true}
 use Rattle.lb_proxy_http.proofs.StepLemmas.{never_whole}
 use Rattle.lb_proxy_http.proofs.body.Body.may_end.Goals as goal

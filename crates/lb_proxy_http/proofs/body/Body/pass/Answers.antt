@@ -1,4 +1,4 @@
-use Rattle.std.proofs.Common.{ℕ, ◌≤◌, List, length, drop, subst, arith, length-drop}
+use Rattle.std.proofs.Common.{ℕ, List, drop, subst, arith, length-drop}
 use Rattle.lb_proxy_http.specs.Body.{Passes, BlocksAll}
 use Rattle.lb_proxy_http.proofs.StepLemmas.{rest_is, passes_on, blocks_on}
 use Rattle.lb_proxy_http.proofs.body.Body.pass.Goals as goal
