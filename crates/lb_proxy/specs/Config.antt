@@ -1,6 +1,6 @@
 -- What a configuration spells, over the table that its text is: fields, words, pools and listeners.
 use Rattle.std.specs.Prelude.{◌≡◌, ◌≢◌, ℕ, ℤ, pos, negsuc, ◌*◌, ◌^◌, ◌<◌, List, [], ◌∷◌, codes, length, nat_lt, bytes_eq, Bool}
-use Rattle.std.specs.Prelude.{◌⊎◌, slice_get, Option, Some, None, IsSome, option_map, Result, Ok, Err, ⊤, string_bytes, if◌then◌else◌}
+use Rattle.std.specs.Prelude.{slice_get, Option, Some, None, IsSome, option_map, Result, Ok, Err, ⊤, string_bytes, if◌then◌else◌}
 use Rattle.std.specs.List.{AllByRecursion, AllZip}
 use Rattle.std.specs.Net.Grammar.{IsSocketText}
 use Rattle.std.specs.declared.net.socket_addr.SocketAddr.{SocketAddr}
