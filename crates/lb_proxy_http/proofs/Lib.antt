@@ -1,5 +1,6 @@
 pub mod FieldLemmas
 pub mod FrameLemmas
+pub mod HeadLemmas
 pub mod LengthLemmas
 pub mod OptionLemmas
 pub mod RunLemmas

@@ -47,7 +47,7 @@ is_right_target method [] = false
 is_right_target method (b ∷ bytes) =
     if b == 47 then true else bytes_eq (b ∷ bytes) (codes "*") && bytes_eq method (codes "OPTIONS")
 
--- the bytes begin with that request, which may be passed on
+-- the bytes begin with that request, which may be passed on; a tunnel never is
 pub record IsRequest (bytes : List ℕ) (head : RequestHead) : Type 0 where
   pub parsed : Grammar.RequestHead
   pub reads : ReadsRequest bytes parsed (drop head.length bytes)
@@ -63,6 +63,8 @@ pub record IsRequest (bytes : List ℕ) (head : RequestHead) : Type 0 where
   pub unguarded : list_any (λ o. is_guarded o.now) head.options.items ≡ false
   pub host : right_host head.version (values_of (codes "host") head.fields.items) ≡ true
   pub right : is_right_target head.method.now head.target.now ≡ true
+  pub few : length head.fields.items ≤ 100
+  pub no_tunnel : bytes_eq head.method.now (codes "CONNECT") ≡ false
 
 -- the bytes begin with that answer to a request, which may be passed on
 pub record IsResponse (bytes : List ℕ) (asked : Asked) (head : ResponseHead) : Type 0 where

@@ -1,8 +1,8 @@
 //! The head of a request.
-ghost use Rattle.std.specs.Prelude.{true, false, ◌≡◌, ◌≢◌, ◌&&◌, ◌≤◌, ◌<◌, Ok, None, All, IfOk, IfSome, MatchBool, bytes_eq, codes, length, map, take, slice_range};
+ghost use Rattle.std.specs.Prelude.{true, false, ◌≡◌, ◌≢◌, ◌&&◌, ◌≤◌, ◌<◌, Ok, None, All, IfOk, IfErr, IfSome, MatchBool, bytes_eq, codes, length, map, take, slice_range};
 ghost use Rattle.std.specs.List.{list_all, list_any};
 ghost use Rattle.httparse.specs.Grammar.{HasNoRequest};
-ghost use Rattle.httparse.specs.Spans.{header_bytes, IsHeaderWithin, IsRequestWithin, span_bytes};
+ghost use Rattle.httparse.specs.Spans.{header_bytes, IsHeaderWithin, IsRequestWithin, IsRequestOf, span_bytes};
 ghost use Rattle.lb_proxy_http.specs.Fields.{values_of, options_of, is_guarded};
 ghost use Rattle.lb_proxy_http.specs.Framing.{keeps_by, has_no_body, is_idempotent, request_framing, statement_of};
 ghost use Rattle.lb_proxy_http.specs.Heads.{HasStrictFeeds, plain, version_of, is_host_byte, right_host, is_right_target, IsRequest};
@@ -213,7 +213,9 @@ fn head_at<'a>(
     found: &RequestSpans,
     spans: &[HeaderSpan],
 ) -> Result<RequestHead<'a>, Fault>
-    requires { IsRequestWithin bytes.now spans.now found.now }
+    requires within { IsRequestWithin bytes.now spans.now found.now }
+    requires complete { IsRequestOf bytes.now spans.now found.now }
+    requires room { length spans.now ≤ 100 }
     ensures length { IfOk result (λ head. head.length ≡ found.now.len) }
     ensures short { IfOk result (λ head. head.length ≤ 65536) }
     ensures strict { IfOk result (λ head. HasStrictFeeds (take head.length bytes.now)) }
@@ -226,6 +228,9 @@ fn head_at<'a>(
     ensures unguarded { IfOk result (λ head. list_any (λ o. is_guarded o.now) head.options.items ≡ false) }
     ensures host { IfOk result (λ head. right_host head.version (values_of (codes "host") head.fields.items) ≡ true) }
     ensures right { IfOk result (λ head. is_right_target head.method.now head.target.now ≡ true) }
+    ensures few { IfOk result (λ head. length head.fields.items ≤ 100) }
+    ensures no_tunnel { IfOk result (λ head. bytes_eq head.method.now (codes "CONNECT") ≡ false) }
+    ensures refused { IfErr result (λ fault. fault ≢ Fault.Unavailable → (head : RequestHead) → ¬ (IsRequest bytes.now head)) }
 {
     if found.len > HEAD_LIMIT {
         return Err(Fault::HeadTooLarge);
@@ -285,6 +290,7 @@ fn names_protocol(bytes: &[u8]) -> bool {
 pub fn read_request(alloc: Global, bytes: &[u8]) -> Result<Option<RequestHead<'_>>, Fault>
     ensures whole { IfOk result (λ read. IfSome read (IsRequest bytes.now)) }
     ensures open { result ≡ Ok None → HasNoRequest bytes.now }
+    ensures refused { IfErr result (λ fault. fault ≢ Fault.Unavailable → (head : RequestHead) → ¬ (IsRequest bytes.now head)) }
     ensures short { result ≡ Ok None → length bytes.now < 65536 }
     ensures strict { result ≡ Ok None → HasStrictFeeds bytes.now }
 {

@@ -1,0 +1,145 @@
+-- Lemmas on heads that may be passed on: at the front of bytes there is at most one, so what is refused is none.
+use Rattle.std.proofs.Common.{◌≡◌, ◌≢◌, ℕ, ◌<◌, ◌≤◌, Bool, true, false, ◌||◌, cond, List, [], ◌∷◌, ◌++◌, length, map, take, flat_map, codes, bytes_eq}
+use Rattle.std.proofs.Common.{Result, Ok, Err, sym, ap, ◌∙◌, subst, refl, arith}
+use Rattle.std.specs.List.{list_any}
+use Rattle.std.proofs.lemmas.List.{length-map, length-take}
+use Rattle.httparse.specs.Grammar as Grammar
+use Rattle.httparse.specs.Grammar.{print_request}
+use Rattle.httparse.specs.Spans.{span_bytes, header_bytes, name_and_value, IsRequestOf}
+use Rattle.httparse.specs.declared.spans.HeaderSpan.{HeaderSpan}
+use Rattle.httparse.specs.declared.spans.RequestSpans.{RequestSpans}
+use Rattle.httparse.proofs.GrammarLemmas.{request_unique}
+use Rattle.lb_proxy_http.specs.declared.fault.Fault.{Fault}
+use Rattle.lb_proxy_http.specs.declared.field.Field.{Field}
+use Rattle.lb_proxy_http.specs.declared.framing.Version.{Version}
+use Rattle.lb_proxy_http.specs.declared.request.RequestHead.{RequestHead}
+use Rattle.lb_proxy_http.specs.Fields.{same_name, has_name, values_of, options_in, options_of, is_guarded}
+use Rattle.lb_proxy_http.specs.Framing.{statement_of, request_framing}
+use Rattle.lb_proxy_http.specs.Heads.{HasStrictFeeds, plain, version_of, right_host, is_right_target, IsRequest}
+use denote.Ref.{Bor}
+
+-- ---- what is said of fields rests on their names and values alone
+
+abbrev values_in : List ℕ → List (List ℕ × List ℕ) → List (List ℕ)
+values_in name [] = []
+values_in name (p ∷ ps) = cond (same_name p.0 name) (p.1 ∷ values_in name ps) (values_in name ps)
+
+values_seen : (name : List ℕ) (fields : List Field) → values_of name fields ≡ values_in name (map plain fields)
+values_seen name [] = refl
+values_seen name (f ∷ fields) =
+    ap (λ (vs : List (List ℕ)). cond (has_name name f) (f.value.now ∷ vs) vs) (values_seen name fields)
+
+pub values_same : (name : List ℕ) (fields others : List Field) → map plain fields ≡ map plain others → values_of name fields ≡ values_of name others
+values_same name fields others same = values_seen name fields ∙ ap (values_in name) same ∙ sym (values_seen name others)
+
+pub statement_same : (version other : Version) (fields others : List Field) → version ≡ other → map plain fields ≡ map plain others
+    → statement_of version fields ≡ statement_of other others
+unfolding statement_of
+statement_same version other fields others is same =
+    rw (is, values_same (codes "transfer-encoding") fields others same, values_same (codes "content-length") fields others same) refl
+
+abbrev options_at : List (List ℕ × List ℕ) → List (List ℕ)
+options_at [] = []
+options_at (p ∷ ps) = cond (same_name p.0 (codes "connection")) (options_in p.1) [] ++ options_at ps
+
+options_seen : (fields : List Field) → options_of fields ≡ options_at (map plain fields)
+options_seen [] = refl
+options_seen (f ∷ fields) =
+    ap (λ (os : List (List ℕ)). cond (has_name (codes "connection") f) (options_in f.value.now) [] ++ os) (options_seen fields)
+
+pub options_same : (fields others : List Field) → map plain fields ≡ map plain others → options_of fields ≡ options_of others
+options_same fields others same = options_seen fields ∙ ap options_at same ∙ sym (options_seen others)
+
+guarded_seen : (options : List (Bor (List ℕ))) → list_any (λ o. is_guarded o.now) options ≡ list_any is_guarded (map (λ o. o.now) options)
+guarded_seen [] = refl
+guarded_seen (o ∷ options) = ap (λ (b : Bool). is_guarded o.now || b) (guarded_seen options)
+
+guarded_same : (options others : List (Bor (List ℕ))) → map (λ o. o.now) options ≡ map (λ o. o.now) others
+    → list_any (λ o. is_guarded o.now) options ≡ list_any (λ o. is_guarded o.now) others
+guarded_same options others same = guarded_seen options ∙ ap (list_any is_guarded) same ∙ sym (guarded_seen others)
+
+pub few_fields : (bytes : List ℕ) (spans : List HeaderSpan) (count : ℕ) (fields : List Field) → length spans ≤ 100
+    → map plain fields ≡ map (header_bytes bytes) (take count spans) → length fields ≤ 100
+few_fields bytes spans count fields room same =
+    let len : length fields ≡ length (take count spans) =
+    sym (length-map fields plain) ∙ ap length same ∙ length-map (take count spans) (header_bytes bytes) in
+    omega (arith, len, length-take count spans)
+
+pub parsed_few : (fields : List Field) (parsed : List Grammar.Field) → map plain fields ≡ map name_and_value parsed → length fields ≤ 100
+    → length parsed ≤ 100
+parsed_few fields parsed same few =
+    let len : length fields ≡ length parsed = sym (length-map fields plain) ∙ ap length same ∙ length-map parsed name_and_value in
+    omega (arith, len)
+
+-- ---- requests
+
+pub record IsSame (bytes : List ℕ) (spans : List HeaderSpan) (found : RequestSpans) (head : RequestHead) : Type 0 where
+  pub len : found.len ≡ head.length
+  pub method : span_bytes bytes found.method ≡ head.method.now
+  pub target : span_bytes bytes found.path ≡ head.target.now
+  pub version : version_of found.version ≡ head.version
+  pub fields : map (header_bytes bytes) (take found.headers spans) ≡ map plain head.fields.items
+
+same_request : (bytes : List ℕ) (spans : List HeaderSpan) (found : RequestSpans) (head : RequestHead) → IsRequestOf bytes spans found
+    → IsRequest bytes head → IsSame bytes spans found head
+same_request bytes spans found head parsed is =
+    let at = parsed.1 in
+    let same : parsed.0 ≡ is.parsed = (request_unique bytes parsed.0 is.parsed _ _ at.reads is.reads).0 in
+    record {
+      len = at.len ∙ ap (λ (k : Grammar.RequestHead). length (print_request k)) same ∙ sym is.length_is;
+      method = at.method ∙ ap (λ (k : Grammar.RequestHead). k.method) same ∙ sym is.method;
+      target = at.path ∙ ap (λ (k : Grammar.RequestHead). k.target) same ∙ sym is.target;
+      version = ap version_of (at.version ∙ ap (λ (k : Grammar.RequestHead). k.minor) same) ∙ sym is.version;
+      fields = at.fields ∙ ap (λ (k : Grammar.RequestHead). map name_and_value k.fields) same ∙ sym is.fields;
+    }
+
+module _ (bytes : List ℕ) (spans : List HeaderSpan) (found : RequestSpans) (parsed : IsRequestOf bytes spans found) where
+  pub never_long : 65536 < found.len → (head : RequestHead) → ¬ (IsRequest bytes head)
+  never_long long head is =
+      let same = same_request bytes spans found head parsed is in let len = same.len in let short = is.short in omega arith
+
+  pub never_bare : ¬ (HasStrictFeeds (take found.len bytes)) → (head : RequestHead) → ¬ (IsRequest bytes head)
+  never_bare bare head is =
+      let same = same_request bytes spans found head parsed is in
+      bare (subst (λ (n : ℕ). HasStrictFeeds (take n bytes)) (sym same.len) is.strict)
+
+  pub never_framed : (fields : List Field) (fault : Fault) → map plain fields ≡ map (header_bytes bytes) (take found.headers spans)
+      → request_framing (statement_of (version_of found.version) fields) ≡ Err fault → (head : RequestHead) → ¬ (IsRequest bytes head)
+  never_framed fields fault at fails head is =
+      let same = same_request bytes spans found head parsed is in
+      let stated = statement_same (version_of found.version) head.version fields head.fields.items same.version (at ∙ same.fields) in
+      let framed = is.framed in
+      let both : Err fault ≡ Ok head.framing = sym fails ∙ ap request_framing stated ∙ framed in cc
+
+  pub never_tunnel : (method : List ℕ) → method ≡ span_bytes bytes found.method → bytes_eq method (codes "CONNECT") ≡ true
+      → (head : RequestHead) → ¬ (IsRequest bytes head)
+  never_tunnel method at holds head is =
+      let same = same_request bytes spans found head parsed is in
+      let fails : bytes_eq method (codes "CONNECT") ≡ false =
+      ap (λ (m : List ℕ). bytes_eq m (codes "CONNECT")) (at ∙ same.method) ∙ is.no_tunnel in cc
+
+  pub never_guarded : (fields : List Field) (options : List (Bor (List ℕ)))
+      → map plain fields ≡ map (header_bytes bytes) (take found.headers spans) → map (λ o. o.now) options ≡ options_of fields
+      → list_any (λ o. is_guarded o.now) options ≡ true → (head : RequestHead) → ¬ (IsRequest bytes head)
+  never_guarded fields options at listed holds head is =
+      let same = same_request bytes spans found head parsed is in
+      let listed_same : map (λ o. o.now) options ≡ map (λ o. o.now) head.options.items =
+      listed ∙ options_same fields head.fields.items (at ∙ same.fields) ∙ sym is.options in
+      let fails : list_any (λ o. is_guarded o.now) options ≡ false = guarded_same options head.options.items listed_same ∙ is.unguarded in cc
+
+  pub never_hosted : (fields : List Field) → map plain fields ≡ map (header_bytes bytes) (take found.headers spans)
+      → right_host (version_of found.version) (values_of (codes "host") fields) ≡ false → (head : RequestHead) → ¬ (IsRequest bytes head)
+  never_hosted fields at fails head is =
+      let same = same_request bytes spans found head parsed is in
+      let values = values_same (codes "host") fields head.fields.items (at ∙ same.fields) in
+      let holds : right_host (version_of found.version) (values_of (codes "host") fields) ≡ true =
+      ap (λ (v : Version). right_host v (values_of (codes "host") fields)) same.version
+      ∙ ap (right_host head.version) values ∙ is.host in cc
+
+  pub never_targeted : (method target : List ℕ) → method ≡ span_bytes bytes found.method → target ≡ span_bytes bytes found.path
+      → is_right_target method target ≡ false → (head : RequestHead) → ¬ (IsRequest bytes head)
+  never_targeted method target at behind fails head is =
+      let same = same_request bytes spans found head parsed is in
+      let holds : is_right_target method target ≡ true =
+      ap (λ (m : List ℕ). is_right_target m target) (at ∙ same.method)
+      ∙ ap (is_right_target head.method.now) (behind ∙ same.target) ∙ is.right in cc
