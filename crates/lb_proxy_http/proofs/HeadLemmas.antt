@@ -1,21 +1,24 @@
 -- Lemmas on heads that may be passed on: at the front of bytes there is at most one, so what is refused is none.
-use Rattle.std.proofs.Common.{◌≡◌, ◌≢◌, ℕ, ◌<◌, ◌≤◌, Bool, true, false, ◌||◌, cond, List, [], ◌∷◌, ◌++◌, length, map, take, flat_map, codes, bytes_eq}
-use Rattle.std.proofs.Common.{Result, Ok, Err, sym, ap, ◌∙◌, subst, refl, arith}
+use Rattle.std.proofs.Common.{◌≡◌, ℕ, ◌<◌, ◌≤◌, Bool, true, false, ◌||◌, cond, List, [], ◌∷◌, ◌++◌, length, map, take, codes, bytes_eq}
+use Rattle.std.proofs.Common.{Ok, Err, sym, ap, ◌∙◌, subst, refl, arith}
 use Rattle.std.specs.List.{list_any}
 use Rattle.std.proofs.lemmas.List.{length-map, length-take}
 use Rattle.httparse.specs.Grammar as Grammar
-use Rattle.httparse.specs.Grammar.{print_request}
-use Rattle.httparse.specs.Spans.{span_bytes, header_bytes, name_and_value, IsRequestOf}
+use Rattle.httparse.specs.Grammar.{print_request, print_response, status_code}
+use Rattle.httparse.specs.Spans.{span_bytes, header_bytes, name_and_value, IsRequestOf, IsResponseOf}
 use Rattle.httparse.specs.declared.spans.HeaderSpan.{HeaderSpan}
 use Rattle.httparse.specs.declared.spans.RequestSpans.{RequestSpans}
-use Rattle.httparse.proofs.GrammarLemmas.{request_unique}
+use Rattle.httparse.specs.declared.spans.ResponseSpans.{ResponseSpans}
+use Rattle.httparse.proofs.GrammarLemmas.{request_unique, response_unique}
 use Rattle.lb_proxy_http.specs.declared.fault.Fault.{Fault}
 use Rattle.lb_proxy_http.specs.declared.field.Field.{Field}
 use Rattle.lb_proxy_http.specs.declared.framing.Version.{Version}
+use Rattle.lb_proxy_http.specs.declared.request.Asked.{Asked}
 use Rattle.lb_proxy_http.specs.declared.request.RequestHead.{RequestHead}
+use Rattle.lb_proxy_http.specs.declared.response.ResponseHead.{ResponseHead}
 use Rattle.lb_proxy_http.specs.Fields.{same_name, has_name, values_of, options_in, options_of, is_guarded}
-use Rattle.lb_proxy_http.specs.Framing.{statement_of, request_framing}
-use Rattle.lb_proxy_http.specs.Heads.{HasStrictFeeds, plain, version_of, right_host, is_right_target, IsRequest}
+use Rattle.lb_proxy_http.specs.Framing.{statement_of, request_framing, response_framing}
+use Rattle.lb_proxy_http.specs.Heads.{HasStrictFeeds, plain, version_of, right_host, is_right_target, IsRequest, IsResponse}
 use denote.Ref.{Bor}
 
 -- ---- what is said of fields rests on their names and values alone
@@ -143,3 +146,62 @@ module _ (bytes : List ℕ) (spans : List HeaderSpan) (found : RequestSpans) (pa
       let holds : is_right_target method target ≡ true =
       ap (λ (m : List ℕ). is_right_target m target) (at ∙ same.method)
       ∙ ap (is_right_target head.method.now) (behind ∙ same.target) ∙ is.right in cc
+
+-- ---- answers
+
+pub record IsSameAnswer (bytes : List ℕ) (spans : List HeaderSpan) (found : ResponseSpans) (head : ResponseHead) : Type 0 where
+  pub len : found.len ≡ head.length
+  pub code : found.code ≡ head.status
+  pub version : version_of found.version ≡ head.version
+  pub fields : map (header_bytes bytes) (take found.headers spans) ≡ map plain head.fields.items
+
+same_answer : (bytes : List ℕ) (spans : List HeaderSpan) (found : ResponseSpans) (asked : Asked) (head : ResponseHead)
+    → IsResponseOf bytes spans found → IsResponse bytes asked head → IsSameAnswer bytes spans found head
+same_answer bytes spans found asked head parsed is =
+    let at = parsed.1 in
+    let same : parsed.0 ≡ is.parsed = (response_unique bytes parsed.0 is.parsed _ _ at.reads is.reads).0 in
+    record {
+      len = at.len ∙ ap (λ (k : Grammar.ResponseHead). length (print_response k)) same ∙ sym is.length_is;
+      code = at.code ∙ ap (λ (k : Grammar.ResponseHead). status_code k) same ∙ sym is.status;
+      version = ap version_of (at.version ∙ ap (λ (k : Grammar.ResponseHead). k.minor) same) ∙ sym is.version;
+      fields = at.fields ∙ ap (λ (k : Grammar.ResponseHead). map name_and_value k.fields) same ∙ sym is.fields;
+    }
+
+module _ (bytes : List ℕ) (spans : List HeaderSpan) (found : ResponseSpans) (asked : Asked) (parsed : IsResponseOf bytes spans found) where
+  pub answer_never_long : 65536 < found.len → (head : ResponseHead) → ¬ (IsResponse bytes asked head)
+  answer_never_long long head is =
+      let same = same_answer bytes spans found asked head parsed is in let len = same.len in let short = is.short in omega arith
+
+  pub answer_never_low : found.code < 100 → (head : ResponseHead) → ¬ (IsResponse bytes asked head)
+  answer_never_low low head is =
+      let same = same_answer bytes spans found asked head parsed is in let code = same.code in let least = is.least in omega arith
+
+  pub answer_never_switch : found.code ≡ 101 → (head : ResponseHead) → ¬ (IsResponse bytes asked head)
+  answer_never_switch switch head is =
+      let same = same_answer bytes spans found asked head parsed is in is.no_switch (sym same.code ∙ switch)
+
+  pub answer_never_bare : ¬ (HasStrictFeeds (take found.len bytes)) → (head : ResponseHead) → ¬ (IsResponse bytes asked head)
+  answer_never_bare bare head is =
+      let same = same_answer bytes spans found asked head parsed is in
+      bare (subst (λ (n : ℕ). HasStrictFeeds (take n bytes)) (sym same.len) is.strict)
+
+  pub answer_never_framed : (fields : List Field) (fault : Fault)
+      → map plain fields ≡ map (header_bytes bytes) (take found.headers spans)
+      → response_framing asked found.code (statement_of (version_of found.version) fields) ≡ Err fault
+      → (head : ResponseHead) → ¬ (IsResponse bytes asked head)
+  answer_never_framed fields fault at fails head is =
+      let same = same_answer bytes spans found asked head parsed is in
+      let stated = statement_same (version_of found.version) head.version fields head.fields.items same.version (at ∙ same.fields) in
+      let framed = is.framed in
+      let both : Err fault ≡ Ok head.framing =
+      sym fails ∙ ap (response_framing asked found.code) stated
+      ∙ ap (λ (code : ℕ). response_framing asked code (statement_of head.version head.fields.items)) same.code ∙ framed in cc
+
+  pub answer_never_guarded : (fields : List Field) (options : List (Bor (List ℕ)))
+      → map plain fields ≡ map (header_bytes bytes) (take found.headers spans) → map (λ o. o.now) options ≡ options_of fields
+      → list_any (λ o. is_guarded o.now) options ≡ true → (head : ResponseHead) → ¬ (IsResponse bytes asked head)
+  answer_never_guarded fields options at listed holds head is =
+      let same = same_answer bytes spans found asked head parsed is in
+      let listed_same : map (λ o. o.now) options ≡ map (λ o. o.now) head.options.items =
+      listed ∙ options_same fields head.fields.items (at ∙ same.fields) ∙ sym is.options in
+      let fails : list_any (λ o. is_guarded o.now) options ≡ false = guarded_same options head.options.items listed_same ∙ is.unguarded in cc

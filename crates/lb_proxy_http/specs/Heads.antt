@@ -1,5 +1,5 @@
 -- The heads of requests and answers that may be passed on: the grammar of `httparse`, within limits and with strict line ends.
-use Rattle.std.specs.Prelude.{◌≡◌, ℕ, ◌-◌, ◌<◌, ◌≤◌, Bool, true, false, ◌&&◌, ◌||◌, ◌==◌, List, [], ◌∷◌, length, take, drop, map, slice_index}
+use Rattle.std.specs.Prelude.{◌≡◌, ◌≢◌, ℕ, ◌-◌, ◌<◌, ◌≤◌, Bool, true, false, ◌&&◌, ◌||◌, ◌==◌, List, [], ◌∷◌, length, take, drop, map, slice_index}
 use Rattle.std.specs.Prelude.{Ok, bytes_eq, codes, if◌then◌else◌}
 use Rattle.std.specs.List.{list_any, list_all}
 use Rattle.std.specs.Char.{is_ascii_alphanumeric}
@@ -66,7 +66,12 @@ pub record IsRequest (bytes : List ℕ) (head : RequestHead) : Type 0 where
   pub few : length head.fields.items ≤ 100
   pub no_tunnel : bytes_eq head.method.now (codes "CONNECT") ≡ false
 
--- the bytes begin with that answer to a request, which may be passed on
+-- a line end comes first
+abbrev pub begins_blank : List ℕ → Bool
+begins_blank [] = false
+begins_blank (b ∷ bytes) = b == 13 || b == 10
+
+-- the bytes begin with that answer to a request, which may be passed on; one that switches protocols never is
 pub record IsResponse (bytes : List ℕ) (asked : Asked) (head : ResponseHead) : Type 0 where
   pub parsed : Grammar.ResponseHead
   pub reads : ReadsResponse bytes parsed (drop head.length bytes)
@@ -81,3 +86,6 @@ pub record IsResponse (bytes : List ℕ) (asked : Asked) (head : ResponseHead) :
   pub options : map (λ o. o.now) head.options.items ≡ options_of head.fields.items
   pub framed : response_framing asked head.status (statement_of head.version head.fields.items) ≡ Ok head.framing
   pub unguarded : list_any (λ o. is_guarded o.now) head.options.items ≡ false
+  pub few : length head.fields.items ≤ 100
+  pub no_switch : head.status ≢ 101
+  pub no_blank : begins_blank bytes ≡ false

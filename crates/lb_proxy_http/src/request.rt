@@ -286,7 +286,8 @@ fn names_protocol(bytes: &[u8]) -> bool {
 /// Reads the head of a request at the front of the bytes; `None` where it isn't whole yet.
 ///
 /// Refused `BadRequest` where the head is malformed or can be understood in two ways, `HeadTooLarge`, `NotImplemented` for a transfer coding
-/// other than chunked and for `CONNECT`, `VersionNotSupported`, and `Unavailable` where memory is short.
+/// other than chunked and for `CONNECT`, `VersionNotSupported`, and `Unavailable` where memory is short. But for memory, a head that may be
+/// passed on is never refused.
 pub fn read_request(alloc: Global, bytes: &[u8]) -> Result<Option<RequestHead<'_>>, Fault>
     ensures whole { IfOk result (λ read. IfSome read (IsRequest bytes.now)) }
     ensures open { result ≡ Ok None → HasNoRequest bytes.now }

@@ -1,11 +1,11 @@
 //! The head of an answer.
-ghost use Rattle.std.specs.Prelude.{false, ◌≡◌, ◌&&◌, ◌≤◌, ◌<◌, Ok, None, IfOk, IfSome, nat_lt, length, map, take};
+ghost use Rattle.std.specs.Prelude.{false, ◌≡◌, ◌≢◌, ◌&&◌, ◌≤◌, ◌<◌, Ok, None, IfOk, IfErr, IfSome, nat_lt, length, map, take};
 ghost use Rattle.std.specs.List.{list_any};
 ghost use Rattle.httparse.specs.Grammar.{HasNoResponse};
-ghost use Rattle.httparse.specs.Spans.{header_bytes, IsResponseWithin, span_bytes};
+ghost use Rattle.httparse.specs.Spans.{header_bytes, IsResponseWithin, IsResponseOf, span_bytes};
 ghost use Rattle.lb_proxy_http.specs.Fields.{options_of, is_guarded};
 ghost use Rattle.lb_proxy_http.specs.Framing.{bodiless_framing, head_framing, full_framing, response_framing, keeps_by, has_end, statement_of};
-ghost use Rattle.lb_proxy_http.specs.Heads.{HasStrictFeeds, plain, version_of, IsResponse};
+ghost use Rattle.lb_proxy_http.specs.Heads.{HasStrictFeeds, plain, version_of, begins_blank, IsResponse};
 
 use crate::fault::Fault;
 use crate::field::{Field, connection_options, names_guarded};
@@ -119,7 +119,9 @@ fn head_at<'a>(
     found: &ResponseSpans,
     spans: &[HeaderSpan],
 ) -> Result<ResponseHead<'a>, Fault>
-    requires { IsResponseWithin bytes.now spans.now found.now }
+    requires within { IsResponseWithin bytes.now spans.now found.now }
+    requires complete { IsResponseOf bytes.now spans.now found.now }
+    requires room { length spans.now ≤ 100 }
     ensures length { IfOk result (λ head. head.length ≡ found.now.len) }
     ensures short { IfOk result (λ head. head.length ≤ 65536) }
     ensures strict { IfOk result (λ head. HasStrictFeeds (take head.length bytes.now)) }
@@ -131,11 +133,17 @@ fn head_at<'a>(
     ensures options { IfOk result (λ head. map (λ o. o.now) head.options.items ≡ options_of head.fields.items) }
     ensures framed { IfOk result (λ head. response_framing asked head.status (statement_of head.version head.fields.items) ≡ Ok head.framing) }
     ensures unguarded { IfOk result (λ head. list_any (λ o. is_guarded o.now) head.options.items ≡ false) }
+    ensures few { IfOk result (λ head. length head.fields.items ≤ 100) }
+    ensures no_switch { IfOk result (λ head. head.status ≢ 101) }
+    ensures refused { IfErr result (λ fault. fault ≢ Fault.Unavailable → (head : ResponseHead) → ¬ (IsResponse bytes.now asked head)) }
 {
     if found.len > HEAD_LIMIT {
         return Err(Fault::BadGateway);
     }
-    if found.code < 100 || found.code == 101 {
+    if found.code < 100 {
+        return Err(Fault::BadGateway);
+    }
+    if found.code == 101 {
         return Err(Fault::BadGateway);
     }
     if has_bare_feed(&bytes[..found.len]) {
@@ -167,7 +175,9 @@ fn head_at<'a>(
 }
 
 // Whether a line end comes first.
-fn begins_blank(bytes: &[u8]) -> bool {
+fn begins_blank(bytes: &[u8]) -> bool
+    ensures { result ≡ begins_blank bytes.now }
+{
     match bytes.first() {
         Some(byte) => *byte == b'\r' || *byte == b'\n',
         None => false,
@@ -177,7 +187,7 @@ fn begins_blank(bytes: &[u8]) -> bool {
 /// Reads the head of an answer at the front of the bytes; `None` where it isn't whole yet.
 ///
 /// Refused `BadGateway` where the head is malformed, too long, can be understood in two ways, or switches protocols, and `Unavailable` where
-/// memory is short.
+/// memory is short. But for memory, a head that may be passed on is never refused.
 pub fn read_response(
     alloc: Global,
     bytes: &[u8],
@@ -185,6 +195,7 @@ pub fn read_response(
 ) -> Result<Option<ResponseHead<'_>>, Fault>
     ensures whole { IfOk result (λ read. IfSome read (IsResponse bytes.now asked)) }
     ensures open { result ≡ Ok None → HasNoResponse bytes.now }
+    ensures refused { IfErr result (λ fault. fault ≢ Fault.Unavailable → (head : ResponseHead) → ¬ (IsResponse bytes.now asked head)) }
     ensures short { result ≡ Ok None → length bytes.now < 65536 }
     ensures strict { result ≡ Ok None → HasStrictFeeds bytes.now }
 {
