@@ -1,5 +1,5 @@
 //! The head of a request.
-ghost use Rattle.std.specs.Prelude.{true, false, ◌≡◌, ◌≢◌, ◌&&◌, ◌≤◌, ◌<◌, Ok, None, All, IfOk, IfErr, IfSome, MatchBool, bytes_eq, codes, length, map, take, slice_range};
+ghost use Rattle.std.specs.Prelude.{true, false, ◌≡◌, ◌≢◌, ◌&&◌, ◌≤◌, ◌<◌, ℕ, List, ◌++◌, Ok, None, All, IfOk, IfErr, IfSome, MatchBool, bytes_eq, codes, length, map, take, slice_range};
 ghost use Rattle.std.specs.List.{list_all, list_any};
 ghost use Rattle.httparse.specs.Grammar.{HasNoRequest};
 ghost use Rattle.httparse.specs.Spans.{header_bytes, IsHeaderWithin, IsRequestWithin, IsRequestOf, span_bytes};
@@ -230,7 +230,8 @@ fn head_at<'a>(
     ensures right { IfOk result (λ head. is_right_target head.method.now head.target.now ≡ true) }
     ensures few { IfOk result (λ head. length head.fields.items ≤ 100) }
     ensures no_tunnel { IfOk result (λ head. bytes_eq head.method.now (codes "CONNECT") ≡ false) }
-    ensures refused { IfErr result (λ fault. fault ≢ Fault.Unavailable → (head : RequestHead) → ¬ (IsRequest bytes.now head)) }
+    ensures refused { IfErr result (λ fault. fault ≢ Fault.Unavailable
+        → (more : List ℕ) (head : RequestHead) → ¬ (IsRequest (bytes.now ++ more) head)) }
 {
     if found.len > HEAD_LIMIT {
         return Err(Fault::HeadTooLarge);
@@ -286,12 +287,13 @@ fn names_protocol(bytes: &[u8]) -> bool {
 /// Reads the head of a request at the front of the bytes; `None` where it isn't whole yet.
 ///
 /// Refused `BadRequest` where the head is malformed or can be understood in two ways, `HeadTooLarge`, `NotImplemented` for a transfer coding
-/// other than chunked and for `CONNECT`, `VersionNotSupported`, and `Unavailable` where memory is short. But for memory, a head that may be
-/// passed on is never refused.
+/// other than chunked and for `CONNECT`, `VersionNotSupported`, and `Unavailable` where memory is short. But for memory, bytes that may
+/// become a head that may be passed on are never refused.
 pub fn read_request(alloc: Global, bytes: &[u8]) -> Result<Option<RequestHead<'_>>, Fault>
     ensures whole { IfOk result (λ read. IfSome read (IsRequest bytes.now)) }
     ensures open { result ≡ Ok None → HasNoRequest bytes.now }
-    ensures refused { IfErr result (λ fault. fault ≢ Fault.Unavailable → (head : RequestHead) → ¬ (IsRequest bytes.now head)) }
+    ensures refused { IfErr result (λ fault. fault ≢ Fault.Unavailable
+        → (more : List ℕ) (head : RequestHead) → ¬ (IsRequest (bytes.now ++ more) head)) }
     ensures short { result ≡ Ok None → length bytes.now < 65536 }
     ensures strict { result ≡ Ok None → HasStrictFeeds bytes.now }
 {

@@ -1,5 +1,5 @@
 //! The head of an answer.
-ghost use Rattle.std.specs.Prelude.{false, ◌≡◌, ◌≢◌, ◌&&◌, ◌≤◌, ◌<◌, Ok, None, IfOk, IfErr, IfSome, nat_lt, length, map, take};
+ghost use Rattle.std.specs.Prelude.{false, ◌≡◌, ◌≢◌, ◌&&◌, ◌≤◌, ◌<◌, ℕ, List, ◌++◌, Ok, None, IfOk, IfErr, IfSome, nat_lt, length, map, take};
 ghost use Rattle.std.specs.List.{list_any};
 ghost use Rattle.httparse.specs.Grammar.{HasNoResponse};
 ghost use Rattle.httparse.specs.Spans.{header_bytes, IsResponseWithin, IsResponseOf, span_bytes};
@@ -135,7 +135,8 @@ fn head_at<'a>(
     ensures unguarded { IfOk result (λ head. list_any (λ o. is_guarded o.now) head.options.items ≡ false) }
     ensures few { IfOk result (λ head. length head.fields.items ≤ 100) }
     ensures no_switch { IfOk result (λ head. head.status ≢ 101) }
-    ensures refused { IfErr result (λ fault. fault ≢ Fault.Unavailable → (head : ResponseHead) → ¬ (IsResponse bytes.now asked head)) }
+    ensures refused { IfErr result (λ fault. fault ≢ Fault.Unavailable
+        → (more : List ℕ) (head : ResponseHead) → ¬ (IsResponse (bytes.now ++ more) asked head)) }
 {
     if found.len > HEAD_LIMIT {
         return Err(Fault::BadGateway);
@@ -187,7 +188,7 @@ fn begins_blank(bytes: &[u8]) -> bool
 /// Reads the head of an answer at the front of the bytes; `None` where it isn't whole yet.
 ///
 /// Refused `BadGateway` where the head is malformed, too long, can be understood in two ways, or switches protocols, and `Unavailable` where
-/// memory is short. But for memory, a head that may be passed on is never refused.
+/// memory is short. But for memory, bytes that may become a head that may be passed on are never refused.
 pub fn read_response(
     alloc: Global,
     bytes: &[u8],
@@ -195,7 +196,8 @@ pub fn read_response(
 ) -> Result<Option<ResponseHead<'_>>, Fault>
     ensures whole { IfOk result (λ read. IfSome read (IsResponse bytes.now asked)) }
     ensures open { result ≡ Ok None → HasNoResponse bytes.now }
-    ensures refused { IfErr result (λ fault. fault ≢ Fault.Unavailable → (head : ResponseHead) → ¬ (IsResponse bytes.now asked head)) }
+    ensures refused { IfErr result (λ fault. fault ≢ Fault.Unavailable
+        → (more : List ℕ) (head : ResponseHead) → ¬ (IsResponse (bytes.now ++ more) asked head)) }
     ensures short { result ≡ Ok None → length bytes.now < 65536 }
     ensures strict { result ≡ Ok None → HasStrictFeeds bytes.now }
 {
@@ -209,7 +211,10 @@ pub fn read_response(
             Err(fault) => Err(fault),
         },
         Ok(Status::Partial) => {
-            if bytes.len() >= HEAD_LIMIT || has_bare_feed(bytes) {
+            if bytes.len() >= HEAD_LIMIT {
+                return Err(Fault::BadGateway);
+            }
+            if has_bare_feed(bytes) {
                 return Err(Fault::BadGateway);
             }
             Ok(None)
