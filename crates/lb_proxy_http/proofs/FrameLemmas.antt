@@ -12,7 +12,8 @@ use Rattle.lb_proxy_http.specs.declared.body.Place.TheVariants as P
 use Rattle.lb_proxy_http.specs.Chunked.{Run, Counted, Feed, Trailers, InName, InValue, AfterValue, Ends, Size, Content, InExtension}
 use Rattle.lb_proxy_http.specs.Chunked.{AfterLine, Chunks}
 use Rattle.lb_proxy_http.specs.Body.{Remains, Follows, Blocks}
-use Rattle.lb_proxy_http.proofs.RunLemmas.{counted, counted_back, run_stop, run_stop_back, run_more, run_more_back, run_bad, run_full, run_none}
+use Rattle.lb_proxy_http.proofs.RunLemmas.{counted, counted_back, run_stop, run_stop_back, run_more, run_more_back, run_bad, run_full}
+use Rattle.lb_proxy_http.proofs.RunLemmas.{run_none}
 
 no_name_return : is_token_byte 13 ≡ false
 unfolding is_token_byte
@@ -173,11 +174,13 @@ size_more count value b digit holds is few =
     subst (λ (d : ℕ). Follows (F.Size count value) b (P.Framed (F.Size (count + 1) (value * 16 + d)))) (sym is)
     (size_more_at count value b holds few)
 
-pub size_full : (count value b : ℕ) → is_ascii_hexdigit b ≡ true → (16 ≤ count) ⊎ (1152921504606846976 ≤ value) → Blocks (F.Size count value) b
+pub size_full : (count value b : ℕ) → is_ascii_hexdigit b ≡ true → (16 ≤ count) ⊎ (1152921504606846976 ≤ value)
+    → Blocks (F.Size count value) b
 size_full count value b holds (inl many) text r =
     let back : count < 16 = (size_digit_back (λ s a. AfterLine r.0 s a) count value b text holds r.1).0 in omega arith
 size_full count value b holds (inr large) text r =
-    let back : value * 16 + digit_value b < 2 ^ 64 = (size_digit_back (λ s a. AfterLine r.0 s a) count value b text holds r.1).1 in omega arith
+    let back : value * 16 + digit_value b < 2 ^ 64 = (size_digit_back (λ s a. AfterLine r.0 s a) count value b text holds r.1).1
+    in omega arith
 
 -- what a digit brings
 pub size_digits : (count value b digit : ℕ) (r : Option Place) → is_ascii_hexdigit b ≡ true → digit ≡ digit_value b
@@ -193,7 +196,8 @@ size_none value b fails text r = let back : 0 < 0 = (size_end_back (λ s a. Afte
 
 pub size_bad : (count value b : ℕ) → is_ascii_hexdigit b ≡ false → b ≢ 13 → b ≢ 59 → Blocks (F.Size count value) b
 size_bad count value b fails other also text r =
-    by (ends_first (λ s a. AfterLine r.0 s a) (λ a. AfterLine r.0 value a) b text (size_end_back (λ s a. AfterLine r.0 s a) count value b text fails r.1).1)
+    by (ends_first (λ s a. AfterLine r.0 s a) (λ a. AfterLine r.0 value a) b text
+    (size_end_back (λ s a. AfterLine r.0 s a) count value b text fails r.1).1)
   where
     by : (b ≡ 13) ⊎ (b ≡ 59) → ⊥
     by (inl e) = other e
@@ -218,13 +222,18 @@ pub size_semicolon : (count value : ℕ) → 0 < count → value < 2 ^ 64
     → Follows (F.Size count value) 59 (P.Framed (F.Extension value 4096))
 size_semicolon count value some small text = (
   λ r. (r.0, size_end (λ s a. AfterLine r.0 s a) count value 59 text some small (inr (text, refl, r.1))),
-  λ r. (r.0, ends_semicolon_back (λ a. AfterLine r.0 value a) text (size_end_back (λ s a. AfterLine r.0 s a) count value 59 text refl r.1).1),
+  λ r. (
+    r.0,
+    ends_semicolon_back (λ a. AfterLine r.0 value a) text
+        (size_end_back (λ s a. AfterLine r.0 s a) count value 59 text refl r.1).1,
+  ),
 )
 
 -- ---- what follows the line of a chunk
 
 pub line_last : (size : ℕ) (text : List ℕ) → size ≡ 0
-    → (((n : ℕ) × Trailers n 65536 text) → (n : ℕ) × AfterLine n size text) × (((n : ℕ) × AfterLine n size text) → (n : ℕ) × Trailers n 65536 text)
+    → (((n : ℕ) × Trailers n 65536 text) → (n : ℕ) × AfterLine n size text)
+    × (((n : ℕ) × AfterLine n size text) → (n : ℕ) × Trailers n 65536 text)
 line_last size text none = (λ r. (0, (none, r)), λ r. back r.0 r.1)
   where
     back : (n : ℕ) → AfterLine n size text → (k : ℕ) × Trailers k 65536 text
@@ -388,7 +397,8 @@ value_feed_full b text r = r.1
 
 pub value_feed_bad : (room b : ℕ) → b ≢ 10 → Blocks (F.ValueFeed room) b
 value_feed_bad room b other text r =
-    feed_other (λ a. Trailers r.0 (room - 1) a) b text other (counted_back (λ left t. Feed (λ a. Trailers r.0 left a) t) room (b ∷ text) r.1)
+    feed_other (λ a. Trailers r.0 (room - 1) a) b text other
+    (counted_back (λ left t. Feed (λ a. Trailers r.0 left a) t) room (b ∷ text) r.1)
 
 pub last_feed : Follows F.LastFeed 10 P.Done
 last_feed text = (λ e. ap (λ (l : List ℕ). 10 ∷ l) e, λ e. cc)

@@ -35,7 +35,8 @@ values_seen name [] = refl
 values_seen name (f ∷ fields) =
     ap (λ (vs : List (List ℕ)). cond (has_name name f) (f.value.now ∷ vs) vs) (values_seen name fields)
 
-pub values_same : (name : List ℕ) (fields others : List Field) → map plain fields ≡ map plain others → values_of name fields ≡ values_of name others
+pub values_same : (name : List ℕ) (fields others : List Field) → map plain fields ≡ map plain others
+    → values_of name fields ≡ values_of name others
 values_same name fields others same = values_seen name fields ∙ ap (values_in name) same ∙ sym (values_seen name others)
 
 pub statement_same : (version other : Version) (fields others : List Field) → version ≡ other → map plain fields ≡ map plain others
@@ -135,7 +136,8 @@ module _ (bytes more : List ℕ) (spans : List HeaderSpan) (found : RequestSpans
   never_long long head is =
       let same = same_request bytes more spans found head parsed is in let len = same.len in let short = is.short in omega arith
 
-  pub never_bare : found.len ≤ length bytes → ¬ (HasStrictFeeds (take found.len bytes)) → (head : RequestHead) → ¬ (IsRequest (bytes ++ more) head)
+  pub never_bare : found.len ≤ length bytes → ¬ (HasStrictFeeds (take found.len bytes))
+      → (head : RequestHead) → ¬ (IsRequest (bytes ++ more) head)
   never_bare within bare head is =
       let same = same_request bytes more spans found head parsed is in
       let here : HasStrictFeeds (take found.len (bytes ++ more)) =
@@ -143,7 +145,8 @@ module _ (bytes more : List ℕ) (spans : List HeaderSpan) (found : RequestSpans
       bare (subst (λ (l : List ℕ). HasStrictFeeds l) (take_front bytes more found.len within) here)
 
   pub never_framed : (fields : List Field) (fault : Fault) → map plain fields ≡ map (header_bytes bytes) (take found.headers spans)
-      → request_framing (statement_of (version_of found.version) fields) ≡ Err fault → (head : RequestHead) → ¬ (IsRequest (bytes ++ more) head)
+      → request_framing (statement_of (version_of found.version) fields) ≡ Err fault
+      → (head : RequestHead) → ¬ (IsRequest (bytes ++ more) head)
   never_framed fields fault at fails head is =
       let same = same_request bytes more spans found head parsed is in
       let stated = statement_same (version_of found.version) head.version fields head.fields.items same.version (at ∙ same.fields) in
@@ -164,10 +167,12 @@ module _ (bytes more : List ℕ) (spans : List HeaderSpan) (found : RequestSpans
       let same = same_request bytes more spans found head parsed is in
       let listed_same : map (λ o. o.now) options ≡ map (λ o. o.now) head.options.items =
       listed ∙ options_same fields head.fields.items (at ∙ same.fields) ∙ sym is.options in
-      let fails : list_any (λ o. is_guarded o.now) options ≡ false = guarded_same options head.options.items listed_same ∙ is.unguarded in cc
+      let fails : list_any (λ o. is_guarded o.now) options ≡ false =
+      guarded_same options head.options.items listed_same ∙ is.unguarded in cc
 
   pub never_hosted : (fields : List Field) → map plain fields ≡ map (header_bytes bytes) (take found.headers spans)
-      → right_host (version_of found.version) (values_of (codes "host") fields) ≡ false → (head : RequestHead) → ¬ (IsRequest (bytes ++ more) head)
+      → right_host (version_of found.version) (values_of (codes "host") fields) ≡ false
+      → (head : RequestHead) → ¬ (IsRequest (bytes ++ more) head)
   never_hosted fields at fails head is =
       let same = same_request bytes more spans found head parsed is in
       let values = values_same (codes "host") fields head.fields.items (at ∙ same.fields) in
@@ -183,13 +188,15 @@ module _ (bytes more : List ℕ) (spans : List HeaderSpan) (found : RequestSpans
       ap (λ (m : List ℕ). is_right_target m target) (at ∙ same.method)
       ∙ ap (is_right_target head.method.now) (behind ∙ same.target) ∙ is.right in cc
 
-never_inside : (bytes more : List ℕ) (head : RequestHead) → HasNoRequest bytes → IsRequest (bytes ++ more) head → head.length ≤ length bytes → ⊥
+never_inside : (bytes more : List ℕ) (head : RequestHead) → HasNoRequest bytes → IsRequest (bytes ++ more) head
+    → head.length ≤ length bytes → ⊥
 never_inside bytes more head none is inside =
     let len = is.length_is in
     none is.parsed (drop (length (print_request is.parsed)) bytes)
     (is.reads.0, prefix_is (print_request is.parsed) bytes more _ is.reads.1 (omega arith))
 
-pub never_unfinished : (bytes more : List ℕ) → HasNoRequest bytes → 65536 ≤ length bytes → (head : RequestHead) → ¬ (IsRequest (bytes ++ more) head)
+pub never_unfinished : (bytes more : List ℕ) → HasNoRequest bytes → 65536 ≤ length bytes
+    → (head : RequestHead) → ¬ (IsRequest (bytes ++ more) head)
 never_unfinished bytes more none long head is = let short = is.short in never_inside bytes more head none is (omega arith)
 
 pub never_started : (bytes more : List ℕ) → HasNoRequest bytes → ¬ (HasStrictFeeds bytes) → (head : RequestHead)
@@ -228,7 +235,8 @@ same_answer bytes more spans found asked head parsed is =
       fields = at.fields ∙ ap (λ (k : Grammar.ResponseHead). map name_and_value k.fields) same ∙ sym is.fields;
     }
 
-module _ (bytes more : List ℕ) (spans : List HeaderSpan) (found : ResponseSpans) (asked : Asked) (parsed : IsResponseOf bytes spans found) where
+module _ (bytes more : List ℕ) (spans : List HeaderSpan) (found : ResponseSpans) (asked : Asked)
+    (parsed : IsResponseOf bytes spans found) where
   pub answer_never_long : 65536 < found.len → (head : ResponseHead) → ¬ (IsResponse (bytes ++ more) asked head)
   answer_never_long long head is =
       let same = same_answer bytes more spans found asked head parsed is in let len = same.len in let short = is.short in omega arith
@@ -241,7 +249,8 @@ module _ (bytes more : List ℕ) (spans : List HeaderSpan) (found : ResponseSpan
   answer_never_switch switch head is =
       let same = same_answer bytes more spans found asked head parsed is in is.no_switch (sym same.code ∙ switch)
 
-  pub answer_never_bare : found.len ≤ length bytes → ¬ (HasStrictFeeds (take found.len bytes)) → (head : ResponseHead) → ¬ (IsResponse (bytes ++ more) asked head)
+  pub answer_never_bare : found.len ≤ length bytes → ¬ (HasStrictFeeds (take found.len bytes))
+      → (head : ResponseHead) → ¬ (IsResponse (bytes ++ more) asked head)
   answer_never_bare within bare head is =
       let same = same_answer bytes more spans found asked head parsed is in
       let here : HasStrictFeeds (take found.len (bytes ++ more)) =
@@ -267,16 +276,20 @@ module _ (bytes more : List ℕ) (spans : List HeaderSpan) (found : ResponseSpan
       let same = same_answer bytes more spans found asked head parsed is in
       let listed_same : map (λ o. o.now) options ≡ map (λ o. o.now) head.options.items =
       listed ∙ options_same fields head.fields.items (at ∙ same.fields) ∙ sym is.options in
-      let fails : list_any (λ o. is_guarded o.now) options ≡ false = guarded_same options head.options.items listed_same ∙ is.unguarded in cc
+      let fails : list_any (λ o. is_guarded o.now) options ≡ false =
+      guarded_same options head.options.items listed_same ∙ is.unguarded in cc
 
-answer_never_inside : (bytes more : List ℕ) (asked : Asked) (head : ResponseHead) → HasNoResponse bytes → IsResponse (bytes ++ more) asked head → head.length ≤ length bytes → ⊥
+answer_never_inside : (bytes more : List ℕ) (asked : Asked) (head : ResponseHead) → HasNoResponse bytes
+    → IsResponse (bytes ++ more) asked head → head.length ≤ length bytes → ⊥
 answer_never_inside bytes more asked head none is inside =
     let len = is.length_is in
     none is.parsed (drop (length (print_response is.parsed)) bytes)
     (is.reads.0, prefix_is (print_response is.parsed) bytes more _ is.reads.1 (omega arith))
 
-pub answer_never_unfinished : (bytes more : List ℕ) (asked : Asked) → HasNoResponse bytes → 65536 ≤ length bytes → (head : ResponseHead) → ¬ (IsResponse (bytes ++ more) asked head)
-answer_never_unfinished bytes more asked none long head is = let short = is.short in answer_never_inside bytes more asked head none is (omega arith)
+pub answer_never_unfinished : (bytes more : List ℕ) (asked : Asked) → HasNoResponse bytes → 65536 ≤ length bytes
+    → (head : ResponseHead) → ¬ (IsResponse (bytes ++ more) asked head)
+answer_never_unfinished bytes more asked none long head is =
+    let short = is.short in answer_never_inside bytes more asked head none is (omega arith)
 
 pub answer_never_started : (bytes more : List ℕ) (asked : Asked) → HasNoResponse bytes → ¬ (HasStrictFeeds bytes) → (head : ResponseHead)
     → ¬ (IsResponse (bytes ++ more) asked head)
@@ -288,7 +301,8 @@ answer_never_started bytes more asked none bare head is =
     by (inl inside) = answer_never_inside bytes more asked head none is inside.1
     by (inr beyond) = let far = beyond.1 in bare (strict_bytes bytes more head.length (omega arith) is.strict)
 
-pub answer_never_room : (bytes more : List ℕ) (asked : Asked) → ResponseOverflows 100 bytes → (head : ResponseHead) → ¬ (IsResponse (bytes ++ more) asked head)
+pub answer_never_room : (bytes more : List ℕ) (asked : Asked) → ResponseOverflows 100 bytes
+    → (head : ResponseHead) → ¬ (IsResponse (bytes ++ more) asked head)
 answer_never_room bytes more asked over head is =
     let many = over more is.parsed _ is.reads in
     let few = parsed_few head.fields.items is.parsed.fields is.fields is.few in omega arith

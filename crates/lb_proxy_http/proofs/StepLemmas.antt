@@ -1,6 +1,8 @@
 -- Lemmas on the pieces that the bytes of a body come in.
-use Rattle.std.proofs.Common.{◌≡◌, ◌≢◌, ◌↔◌, ◌⊎◌, inl, inr, ℕ, zero, suc, ◌+◌, ◌-◌, ◌<◌, ◌≤◌, Bool, List, [], ◌∷◌, ◌++◌, length, take, drop, get_or}
-use Rattle.std.proofs.Common.{refl, sym, ap, ◌∙◌, subst, arith, append_assoc, length-append, length-take, length-drop, take-append-drop, Option, MatchOption}
+use Rattle.std.proofs.Common.{◌≡◌, ◌≢◌, ◌↔◌, ◌⊎◌, inl, inr, ℕ, zero, suc, ◌+◌, ◌-◌, ◌<◌, ◌≤◌, Bool, List, [], ◌∷◌, ◌++◌, length, take, drop}
+use Rattle.std.proofs.Common.{get_or}
+use Rattle.std.proofs.Common.{refl, sym, ap, ◌∙◌, subst, arith, append_assoc, length-append, length-take, length-drop, take-append-drop}
+use Rattle.std.proofs.Common.{Option, MatchOption}
 use Rattle.std.proofs.lemmas.List.{nil_from_length, take-take, take_all, drop-take}
 use Rattle.lb_proxy_http.specs.declared.body.Body.{Body}
 use Rattle.lb_proxy_http.specs.declared.body.Frame.{Frame}
@@ -158,7 +160,8 @@ frame_passes frame (x ∷ bytes) b next some is f = record {
 pub frame_blocks : (frame : Frame) (bytes : List ℕ) (b : ℕ) → 0 < length bytes → b ≡ get_or bytes 0 0 → Blocks frame b
     → BlocksAll (P.Framed frame) bytes
 frame_blocks frame [] b some is f text r = absurd (omega arith)
-frame_blocks frame (x ∷ bytes) b some is f text r = f (bytes ++ text) (subst (λ (y : ℕ). FrameRemains frame (y ∷ (bytes ++ text))) (sym is) r)
+frame_blocks frame (x ∷ bytes) b some is f text r =
+    f (bytes ++ text) (subst (λ (y : ℕ). FrameRemains frame (y ∷ (bytes ++ text))) (sym is) r)
 
 -- what is so of a place is so of one that equals it
 pub at_place : (place same : Place) (bytes : List ℕ) (r : Option (ℕ × Place)) → place ≡ same

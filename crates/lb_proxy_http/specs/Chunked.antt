@@ -64,7 +64,8 @@ Ends P text =
     ((after : List ℕ) × (text ≡ 13 ∷ after) × Feed P after)
     ⊎ ((after : List ℕ) × (text ≡ 59 ∷ after) × InExtension P 4096 after)
 
--- the digits of a size below 2 ^ 64 behind so many that write that value, and the end of the line; what follows has the property, by the size
+-- the digits of a size below 2 ^ 64 behind so many that write that value, and the end of the line;
+-- what follows has the property, by the size
 pub record Size (P : ℕ → List ℕ → Type 0) (count value : ℕ) (text : List ℕ) : Type 0 where
   pub digits : List ℕ
   pub pass : AllPass is_ascii_hexdigit digits

@@ -1,5 +1,6 @@
 //! Where a body ends, over whatever pieces its bytes come in. They are passed on as they came.
-ghost use Rattle.std.specs.Prelude.{true, false, ◌≡◌, ◌≢◌, ◌↔◌, ◌⊎◌, ◌+◌, ◌*◌, ℕ, ◌<◌, ◌≤◌, List, [], ◌++◌, length, take, IsTrue, IfOk, OnErr, MatchOption};
+ghost use Rattle.std.specs.Prelude.{true, false, ◌≡◌, ◌≢◌, ◌↔◌, ◌⊎◌, ◌+◌, ◌*◌, ℕ, ◌<◌, ◌≤◌, List, [], ◌++◌, length, take, IsTrue, IfOk};
+ghost use Rattle.std.specs.Prelude.{OnErr, MatchOption};
 ghost use Rattle.std.specs.Char.{is_ascii_hexdigit, digit_value};
 ghost use Rattle.lb_proxy_http.specs.Chunked.{IsBody, AfterLine};
 ghost use Rattle.lb_proxy_http.specs.Body.{Remains, Follows, Blocks, Passes, BlocksAll, Completes, IsEnded};
@@ -65,7 +66,8 @@ pub(crate) enum Place {
 
 // The number that a hexadecimal digit writes.
 fn digit_of(byte: u8) -> Option<u8>
-    ensures { MatchOption result (is_ascii_hexdigit byte ≡ false) (λ digit. (is_ascii_hexdigit byte ≡ true) × (digit ≡ digit_value byte) × (digit < 16)) }
+    ensures { MatchOption result (is_ascii_hexdigit byte ≡ false)
+        (λ digit. (is_ascii_hexdigit byte ≡ true) × (digit ≡ digit_value byte) × (digit < 16)) }
 {
     match byte {
         b'0'..=b'9' => Some(byte - b'0'),
@@ -279,7 +281,8 @@ impl Body {
     /// Refused where what comes can't be the body; nothing more of it is to be passed on then.
     pub fn pass(&mut self, bytes: &[u8]) -> Result<usize, BadBody>
         ensures within { IfOk result (λ count. count ≤ length bytes.now) }
-        ensures passed { IfOk result (λ count. (text : List ℕ) → Completes self.new text ↔ Completes self.old (take count bytes.now ++ text)) }
+        ensures passed { IfOk result (λ count. (text : List ℕ) → Completes self.new text
+            ↔ Completes self.old (take count bytes.now ++ text)) }
         ensures all { IfOk result (λ count. count < length bytes.now → IsEnded self.new) }
         ensures refused { OnErr result ((text : List ℕ) → ¬ (Completes self.old (bytes.now ++ text))) }
     {

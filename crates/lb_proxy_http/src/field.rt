@@ -2,7 +2,8 @@
 ghost use Rattle.std.specs.Prelude.{◌≡◌, ◌≤◌, ◌++◌, length, map, slice_range, OnOk, IfOk};
 ghost use Rattle.std.specs.List.{list_any};
 ghost use Rattle.httparse.specs.Grammar.{trim_ows};
-ghost use Rattle.lb_proxy_http.specs.Fields.{same_name, has_name, options_in, options_of, values_of, Finds, is_option, is_guarded, is_about_connection, is_about_coding, is_hop_by_hop};
+ghost use Rattle.lb_proxy_http.specs.Fields.{same_name, has_name, options_in, options_of, values_of, Finds, is_option, is_guarded};
+ghost use Rattle.lb_proxy_http.specs.Fields.{is_about_connection, is_about_coding, is_hop_by_hop};
 ghost use Rattle.lb_proxy_http.specs.Write.{is_end_to_end};
 
 use httparse::is_space_or_tab;

@@ -1,5 +1,6 @@
 //! The head of a request.
-ghost use Rattle.std.specs.Prelude.{true, false, ◌≡◌, ◌≢◌, ◌&&◌, ◌≤◌, ◌<◌, ℕ, List, ◌++◌, Ok, None, All, IfOk, IfErr, IfSome, MatchBool, bytes_eq, codes, length, map, take, slice_range};
+ghost use Rattle.std.specs.Prelude.{true, false, ◌≡◌, ◌≢◌, ◌&&◌, ◌≤◌, ◌<◌, ℕ, List, ◌++◌, Ok, None, All, IfOk, IfErr, IfSome, MatchBool};
+ghost use Rattle.std.specs.Prelude.{bytes_eq, codes, length, map, take, slice_range};
 ghost use Rattle.std.specs.List.{list_all, list_any};
 ghost use Rattle.httparse.specs.Grammar.{HasNoRequest};
 ghost use Rattle.httparse.specs.Spans.{header_bytes, IsHeaderWithin, IsRequestWithin, IsRequestOf, span_bytes};
@@ -286,9 +287,9 @@ fn names_protocol(bytes: &[u8]) -> bool {
 
 /// Reads the head of a request at the front of the bytes; `None` where it isn't whole yet.
 ///
-/// Refused `BadRequest` where the head is malformed or can be understood in two ways, `HeadTooLarge`, `NotImplemented` for a transfer coding
-/// other than chunked and for `CONNECT`, `VersionNotSupported`, and `Unavailable` where memory is short. But for memory, bytes that may
-/// become a head that may be passed on are never refused.
+/// Refused `BadRequest` where the head is malformed or can be understood in two ways, `HeadTooLarge`, `NotImplemented` for a transfer
+/// coding other than chunked and for `CONNECT`, `VersionNotSupported`, and `Unavailable` where memory is short. But for memory, bytes that
+/// may become a head that may be passed on are never refused.
 pub fn read_request(alloc: Global, bytes: &[u8]) -> Result<Option<RequestHead<'_>>, Fault>
     ensures whole { IfOk result (λ read. IfSome read (IsRequest bytes.now)) }
     ensures open { result ≡ Ok None → HasNoRequest bytes.now }

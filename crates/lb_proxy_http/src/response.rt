@@ -1,10 +1,12 @@
 //! The head of an answer.
-ghost use Rattle.std.specs.Prelude.{false, ◌≡◌, ◌≢◌, ◌&&◌, ◌≤◌, ◌<◌, ℕ, List, ◌++◌, Ok, None, IfOk, IfErr, IfSome, nat_lt, length, map, take};
+ghost use Rattle.std.specs.Prelude.{false, ◌≡◌, ◌≢◌, ◌&&◌, ◌≤◌, ◌<◌, ℕ, List, ◌++◌, Ok, None, IfOk, IfErr, IfSome, nat_lt, length, map};
+ghost use Rattle.std.specs.Prelude.{take};
 ghost use Rattle.std.specs.List.{list_any};
 ghost use Rattle.httparse.specs.Grammar.{HasNoResponse};
 ghost use Rattle.httparse.specs.Spans.{header_bytes, IsResponseWithin, IsResponseOf, span_bytes};
 ghost use Rattle.lb_proxy_http.specs.Fields.{options_of, is_guarded};
-ghost use Rattle.lb_proxy_http.specs.Framing.{bodiless_framing, head_framing, full_framing, response_framing, keeps_by, has_end, statement_of};
+ghost use Rattle.lb_proxy_http.specs.Framing.{bodiless_framing, head_framing, full_framing, response_framing, keeps_by, has_end};
+ghost use Rattle.lb_proxy_http.specs.Framing.{statement_of};
 ghost use Rattle.lb_proxy_http.specs.Heads.{HasStrictFeeds, plain, version_of, begins_blank, IsResponse};
 
 use crate::fault::Fault;
@@ -131,7 +133,8 @@ fn head_at<'a>(
     ensures version { IfOk result (λ head. head.version ≡ version_of found.now.version) }
     ensures fields { IfOk result (λ head. map plain head.fields.items ≡ map (header_bytes bytes.now) (take found.now.headers spans.now)) }
     ensures options { IfOk result (λ head. map (λ o. o.now) head.options.items ≡ options_of head.fields.items) }
-    ensures framed { IfOk result (λ head. response_framing asked head.status (statement_of head.version head.fields.items) ≡ Ok head.framing) }
+    ensures framed { IfOk result (λ head. response_framing asked head.status (statement_of head.version head.fields.items)
+        ≡ Ok head.framing) }
     ensures unguarded { IfOk result (λ head. list_any (λ o. is_guarded o.now) head.options.items ≡ false) }
     ensures few { IfOk result (λ head. length head.fields.items ≤ 100) }
     ensures no_switch { IfOk result (λ head. head.status ≢ 101) }
@@ -187,8 +190,8 @@ fn begins_blank(bytes: &[u8]) -> bool
 
 /// Reads the head of an answer at the front of the bytes; `None` where it isn't whole yet.
 ///
-/// Refused `BadGateway` where the head is malformed, too long, can be understood in two ways, or switches protocols, and `Unavailable` where
-/// memory is short. But for memory, bytes that may become a head that may be passed on are never refused.
+/// Refused `BadGateway` where the head is malformed, too long, can be understood in two ways, or switches protocols, and `Unavailable`
+/// where memory is short. But for memory, bytes that may become a head that may be passed on are never refused.
 pub fn read_response(
     alloc: Global,
     bytes: &[u8],

@@ -147,8 +147,8 @@ fn push_request_added(
 
 /// Appends the head of the request as a backend gets it; `client` is the text of the client's address.
 ///
-/// It has the version of the request, so a backend sends no chunks for a client that doesn't know them. After an `Err` a part of it may have
-/// been appended.
+/// It has the version of the request, so a backend sends no chunks for a client that doesn't know them. After an `Err` a part of it may
+/// have been appended.
 pub fn write_request(
     head: &RequestHead<'_>,
     client: &[u8],

@@ -25,7 +25,8 @@ loop-index-preserved c =
             ordered = omega (arith, w.start-is);
             within = omega arith;
             clear = subst (λ (s : ℕ). IsClear (slice_range value s (index + 1))) (sym w.start-is)
-                (clear_more value start index ordered inside c.loop-index.invariant.clear (no_comma (get_or value index 0) w.if-byte-eq44.false));
+                (clear_more value start index ordered inside c.loop-index.invariant.clear
+                (no_comma (get_or value index 0) w.if-byte-eq44.false));
             same = rw (w.options-is, w.start-is) c.loop-index.invariant.same;
           }
     ]

@@ -3,7 +3,8 @@ use Rattle.std.specs.List.{list_any}
 use Rattle.lb_proxy_http.specs.Fields.{values_of, options_of, is_guarded}
 use Rattle.lb_proxy_http.specs.Framing.{request_framing, statement_of}
 use Rattle.lb_proxy_http.specs.Heads.{version_of, right_host, is_right_target}
-use Rattle.lb_proxy_http.proofs.HeadLemmas.{few_fields, never_long, never_bare, never_framed, never_tunnel, never_guarded, never_hosted, never_targeted}
+use Rattle.lb_proxy_http.proofs.HeadLemmas.{few_fields, never_long, never_bare, never_framed, never_tunnel, never_guarded, never_hosted}
+use Rattle.lb_proxy_http.proofs.HeadLemmas.{never_targeted}
 use Rattle.lb_proxy_http.proofs.request.head_at.Goals as goal
 
 pub returns-then-found-gt-HEAD_LIMIT-clause-refused : goal.returns-then-found-gt-HEAD_LIMIT-clause-refused
@@ -12,7 +13,8 @@ returns-then-found-gt-HEAD_LIMIT-clause-refused c other more =
 
 pub returns-then-has_bare_feed-clause-refused : goal.returns-then-has_bare_feed-clause-refused
 returns-then-has_bare_feed-clause-refused c other more =
-    never_bare c.args.bytes.now more c.args.spans.now c.args.found.now c.requires.complete c.requires.within.section.len_fits c.if-has_bare_feed.ensures
+    never_bare c.args.bytes.now more c.args.spans.now c.args.found.now c.requires.complete c.requires.within.section.len_fits
+    c.if-has_bare_feed.ensures
 
 pub returns-in-Err-clause-refused : goal.returns-in-Err-clause-refused
 returns-in-Err-clause-refused c other more =
@@ -48,7 +50,8 @@ returns-then-not-is_right_target-clause-refused c other more =
     let method = c.of-method.result.now in
     let target = c.of-target.result.now in
     let fails : is_right_target method target ≡ false = cc (c.is_right_target.ensures, c.if-not-is_right_target.true) in
-    never_targeted c.args.bytes.now more c.args.spans.now c.args.found.now c.requires.complete method target c.of-method.ensures c.of-target.ensures fails
+    never_targeted c.args.bytes.now more c.args.spans.now c.args.found.now c.requires.complete method target
+    c.of-method.ensures c.of-target.ensures fails
 
 pub returns-clause-few : goal.returns-clause-few
 returns-clause-few c =

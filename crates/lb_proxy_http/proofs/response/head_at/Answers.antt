@@ -21,7 +21,8 @@ returns-then-found-eq101-clause-refused c other more =
 
 pub returns-then-has_bare_feed-clause-refused : goal.returns-then-has_bare_feed-clause-refused
 returns-then-has_bare_feed-clause-refused c other more =
-    answer_never_bare c.args.bytes.now more c.args.spans.now c.args.found.now c.args.asked c.requires.complete c.requires.within.section.len_fits c.if-has_bare_feed.ensures
+    answer_never_bare c.args.bytes.now more c.args.spans.now c.args.found.now c.args.asked c.requires.complete
+    c.requires.within.section.len_fits c.if-has_bare_feed.ensures
 
 pub returns-in-Err-clause-refused : goal.returns-in-Err-clause-refused
 returns-in-Err-clause-refused c other more =
@@ -29,7 +30,8 @@ returns-in-Err-clause-refused c other more =
     let found = c.args.found.now in
     let fails : response_framing c.args.asked found.code (statement_of (version_of found.version) fields) ≡ Err c.in-Err.fault =
     cc (c.response_framing.ensures, c.statement_of.ensures, c.version_of-version.ensures, c.deref-3.ensures.value, c.in-Err.is) in
-    answer_never_framed c.args.bytes.now more c.args.spans.now found c.args.asked c.requires.complete fields c.in-Err.fault c.in-Ok.ensures fails
+    answer_never_framed c.args.bytes.now more c.args.spans.now found c.args.asked c.requires.complete fields c.in-Err.fault
+    c.in-Ok.ensures fails
 
 pub returns-then-names_guarded-clause-refused : goal.returns-then-names_guarded-clause-refused
 returns-then-names_guarded-clause-refused c other more =
@@ -38,7 +40,8 @@ returns-then-names_guarded-clause-refused c other more =
     let listed : map (λ o. o.now) options ≡ options_of fields = cc (c.in-Ok-connection_options.ensures, c.deref.ensures.value) in
     let holds : list_any (λ o. is_guarded o.now) options ≡ true =
     cc (c.names_guarded.ensures, c.deref-2.ensures.value, c.if-names_guarded.true) in
-    answer_never_guarded c.args.bytes.now more c.args.spans.now c.args.found.now c.args.asked c.requires.complete fields options c.in-Ok.ensures listed
+    answer_never_guarded c.args.bytes.now more c.args.spans.now c.args.found.now c.args.asked c.requires.complete fields options
+    c.in-Ok.ensures listed
     holds
 
 pub returns-clause-few : goal.returns-clause-few
