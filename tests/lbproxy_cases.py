@@ -1,4 +1,4 @@
-"""Cases of lbproxy over servers of its own on the loopback. The first argument is the program, with the words before the configuration."""
+"""Cases of lbproxy in tcp mode over servers of its own on the loopback, and of its configuration."""
 import collections
 import contextlib
 import json
@@ -6,34 +6,13 @@ import os
 import re
 import socket
 import subprocess
-import sys
-import tempfile
 import threading
 import time
 import urllib.request
 
-PROGRAM = sys.argv[1:]
+from lbproxy_help import COUNTS, PROGRAM, ROOM, Proxy, case, end_cases, expect, fetch, free_port, wait_until
+
 LBSIM = os.environ.get("LBSIM") or os.path.join(os.path.dirname(os.path.realpath(__file__)), "..", "lbsim")
-ROOM = tempfile.mkdtemp()
-COUNTS = collections.Counter()
-
-
-def case(work):
-    """Runs a case, and prints what came of it."""
-    name = work.__name__.replace("_", "-")
-    try:
-        work()
-        COUNTS["passed"] += 1
-        print(f"{name}: as it should be", flush=True)
-    except Exception as error:  # pylint: disable=broad-except
-        COUNTS["failed"] += 1
-        print(f"{name}: {type(error).__name__} {error}", flush=True)
-
-
-def free_port():
-    with socket.socket() as probe:
-        probe.bind(("127.0.0.1", 0))
-        return probe.getsockname()[1]
 
 
 class Backend:
@@ -81,28 +60,6 @@ class Backend:
         return f"127.0.0.1:{self.port}"
 
 
-class Proxy:
-    """A proxy that runs by a configuration until it is ended."""
-
-    def __init__(self, text):
-        self.log_path = os.path.join(ROOM, f"log{time.monotonic_ns()}")
-        path = os.path.join(ROOM, f"config{time.monotonic_ns()}.toml")
-        with open(path, "w", encoding="utf-8") as file:
-            file.write(text)
-        with open(self.log_path, "w", encoding="utf-8") as log:
-            self.process = subprocess.Popen(
-                PROGRAM + [path, "--until-eof"], stdin=subprocess.PIPE, stdout=log, stderr=log
-            )
-
-    def end(self):
-        self.process.stdin.close()
-        return self.process.wait(30)
-
-    def log(self):
-        with open(self.log_path, encoding="utf-8") as file:
-            return file.read()
-
-
 def connect(port, source="127.0.0.1"):
     peer = socket.create_connection(("127.0.0.1", port), 10, (source, 0))
     peer.settimeout(10)
@@ -116,29 +73,6 @@ def named(port, source="127.0.0.1"):
             return peer.makefile("rb").readline().decode().strip()
         except OSError:
             return ""
-
-
-def wait_until(holds, what, seconds=10.0):
-    ends = time.monotonic() + seconds
-    while time.monotonic() < ends:
-        with contextlib.suppress(OSError):
-            if holds():
-                return
-        time.sleep(0.05)
-    raise AssertionError(what)
-
-
-def expect(holds, what):
-    if not holds:
-        raise AssertionError(what)
-
-
-def fetch(port, path):
-    try:
-        with urllib.request.urlopen(f"http://127.0.0.1:{port}{path}", timeout=5) as answer:
-            return answer.status, answer.read().decode()
-    except urllib.error.HTTPError as error:
-        return error.code, error.read().decode()
 
 
 # ---- configurations
@@ -187,9 +121,12 @@ FAULTS = [
     ("no address", GOOD.replace("127.0.0.1:2", "somewhere"), "line 5, column 1: [[listen]] number 1: address is to be an address"),
     ("no such pool", GOOD.replace('pool = "p"', 'pool = "q"'), "line 6, column 1: [[listen]] number 1: pool names no pool"),
     ("no selection", GOOD + 'select = "best"\n', "line 7, column 1: [[listen]] number 1: select is to be rr, fnv, ketama, least or random"),
-    ("http mode", GOOD + 'mode = "http"\n', "line 7, column 1: [[listen]] number 1: mode can't be that yet"),
-    ("no mode", GOOD + 'mode = "udp"\n', "line 7, column 1: [[listen]] number 1: mode is to be tcp"),
-    ("no key", GOOD + 'key = "uri"\n', "line 7, column 1: [[listen]] number 1: key is to be source"),
+    ("no mode", GOOD + 'mode = "udp"\n', "line 7, column 1: [[listen]] number 1: mode is to be tcp or http"),
+    ("uri of tcp", GOOD + 'key = "uri"\n', "line 7, column 1: [[listen]] number 1: key is to be source, and in http mode"),
+    ("field of tcp", GOOD + 'mode = "tcp"\nkey = "header:A"\n', "line 8, column 1: [[listen]] number 1: key is to be source"),
+    ("no key", GOOD + 'mode = "http"\nkey = "url"\n', "line 8, column 1: [[listen]] number 1: key is to be source"),
+    ("no field", GOOD + 'mode = "http"\nkey = "header:"\n', "line 8, column 1: [[listen]] number 1: key is to be source"),
+    ("bad field", GOOD + 'mode = "http"\nkey = "header:a b"\n', "line 8, column 1: [[listen]] number 1: key is to be source"),
     ("no time", GOOD + '[check]\nevery = "soon"\n', "line 8, column 1: [check]: every is to be a time"),
     ("time too long", GOOD + '[check]\nevery = "99999999999h"\n', "line 8, column 1: [check]: every is to be a time"),
     ("no check", GOOD + '[check]\nkind = "ping"\n', "line 8, column 1: [check]: kind is to be tcp or http"),
@@ -206,6 +143,12 @@ FAULTS = [
 def a_right_configuration_is_ok():
     status, said, _ = checked(GOOD)
     expect(status == 0 and said.strip().endswith("ok"), (status, said))
+
+
+def http_listeners_are_ok():
+    for key in ("source", "uri", "header:X-User", "header:!#$%&'*+-.^_`|~9"):
+        status, said, _ = checked(GOOD + f'mode = "http"\nselect = "ketama"\nkey = "{key}"\n')
+        expect(status == 0 and said.strip().endswith("ok"), (key, status, said))
 
 
 def each_fault_is_named():
@@ -520,7 +463,7 @@ def an_idle_connection_is_closed():
     proxy.end()
 
 
-for work in (a_right_configuration_is_ok, each_fault_is_named, no_file_and_no_words):
+for work in (a_right_configuration_is_ok, http_listeners_are_ok, each_fault_is_named, no_file_and_no_words):
     case(work)
 
 write_pool(f"{A.address}\n")
@@ -555,5 +498,4 @@ except AssertionError as error:
 finally:
     PROXY.process.kill()
 
-print(f"{COUNTS['passed']} passed, {COUNTS['failed']} failed")
-sys.exit(COUNTS["failed"] > 0)
+end_cases()

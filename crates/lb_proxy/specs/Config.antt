@@ -1,6 +1,6 @@
 -- What a configuration spells, over the table that its text is: fields, words, pools and listeners.
 use Rattle.std.specs.Prelude.{◌≡◌, ◌≢◌, ℕ, ℤ, pos, negsuc, ◌*◌, ◌^◌, ◌<◌, List, [], ◌∷◌, codes, length, nat_lt, bytes_eq, Bool}
-use Rattle.std.specs.Prelude.{◌⊎◌, slice_get, Option, Some, None, IsSome, option_map, Result, Ok, Err, ⊤, string_bytes, if◌then◌else◌}
+use Rattle.std.specs.Prelude.{slice_get, Option, Some, None, IsSome, option_map, Result, Ok, Err, ⊤, string_bytes, if◌then◌else◌}
 use Rattle.std.specs.List.{AllByRecursion, AllZip}
 use Rattle.std.specs.Net.Grammar.{IsSocketText}
 use Rattle.std.specs.declared.net.socket_addr.SocketAddr.{SocketAddr}
@@ -8,11 +8,14 @@ use Rattle.toml.specs.Data.{Data, Items, no_items, item, Members, get_member, as
 use Rattle.toml.specs.View.{table_view}
 use Rattle.lb_select_base.specs.AddressText.{address_of_text, bare_member}
 use Rattle.lb_select_base.specs.Backends.{Member}
+use Rattle.lb_proxy.specs.Key.{Kind, source, uri, header, key_of_text, owned_seen}
 use Rattle.lb_proxy.specs.PoolFile.{weight_of}
 use Rattle.lb_proxy.specs.declared.config.PoolConfig.{PoolConfig}
 use Rattle.lb_proxy.specs.declared.config.ListenConfig.{ListenConfig}
 use Rattle.lb_proxy.specs.declared.config.Selection.{Selection}
 use Rattle.lb_proxy.specs.declared.config.Selection.TheVariants.{RoundRobin, Fnv, Ketama, Least, Random}
+use Rattle.lb_proxy.specs.declared.mode.Mode.{Mode}
+use Rattle.lb_proxy.specs.declared.mode.Mode.TheVariants.{Tcp, Http}
 use Rattle.lb_proxy.specs.declared.config_fault.Place.{Place}
 use Rattle.lb_proxy.specs.declared.config.PoolSource.{PoolSource}
 use Rattle.lb_proxy.specs.declared.config.PoolSource.TheVariants.{Fixed, File}
@@ -158,9 +161,30 @@ units_by (Some number) unit = if nat_lt (number * unit) (2 ^ 64) then Some (numb
 abbrev pub units_of : List ℕ → ℕ → Option ℕ
 units_of digits unit = units_by (weight_of digits) unit
 
--- the field is not there, or its text is the word
-abbrev pub IsWord : Part → List ℕ → List ℕ → Type 0
-IsWord part field word = (text_of part field ≡ Ok None) ⊎ (text_of part field ≡ Ok (Some word))
+-- bytes are relayed, unless a word says otherwise
+abbrev pub mode_by : Option (List ℕ) → Result Mode Cause
+mode_by None = Ok Tcp
+mode_by (Some word) =
+    if bytes_eq word (codes "tcp") then Ok Tcp else if bytes_eq word (codes "http") then Ok Http else Err cause.NotMode
+
+abbrev pub mode_in : Part → Result Mode Said
+mode_in part = and_then (text_of part (codes "mode")) (λ word. blamed part (codes "mode") (mode_by word))
+
+-- a key of the mode: the target and the fields of requests are there in http mode alone
+abbrev pub key_or : Mode → Option Kind → Result Kind Cause
+key_or mode None = Err cause.NotKey
+key_or mode (Some source) = Ok source
+key_or Tcp (Some uri) = Err cause.NotKey
+key_or Tcp (Some (header name)) = Err cause.NotKey
+key_or Http (Some uri) = Ok uri
+key_or Http (Some (header name)) = Ok (header name)
+
+abbrev pub key_by : Mode → Option (List ℕ) → Result Kind Cause
+key_by mode None = Ok source
+key_by mode (Some word) = key_or mode (key_of_text word)
+
+abbrev pub key_in : Part → Mode → Result Kind Said
+key_in part mode = and_then (text_of part (codes "key")) (λ word. blamed part (codes "key") (key_by mode word))
 
 -- the pool of this number has this name
 pub record IsPoolNamed (pools : List PoolConfig) (name : List ℕ) (number : ℕ) : Type 0 where
@@ -170,8 +194,8 @@ pub record IsPoolNamed (pools : List PoolConfig) (name : List ℕ) (number : ℕ
 -- the listener is the one that the part spells
 pub record IsListen (pools : List PoolConfig) (part : Part) (listen : ListenConfig) : Type 0 where
   pub address : IsAddressOf part (codes "address") listen.address
-  pub mode : IsWord part (codes "mode") (codes "tcp")
-  pub key : IsWord part (codes "key") (codes "source")
+  pub mode : mode_in part ≡ Ok listen.mode
+  pub key : key_in part listen.mode ≡ Ok (owned_seen listen.key)
   pub pool : (name : List ℕ) × (required_of part (codes "pool") ≡ Ok name) × IsPoolNamed pools name listen.pool
   pub selection : selection_in part ≡ Ok listen.selection
 

@@ -1,14 +1,16 @@
 //! What a configuration says: the pools, the listeners, the check of backends and the limits, or the first fault with its place.
-ghost use Rattle.std.specs.Prelude.{◌≡◌, ◌≢◌, ◌<◌, codes, length, string_bytes, IfOk, IfSome, IfNone, OnOk};
+ghost use Rattle.std.specs.Prelude.{◌≡◌, ◌≢◌, ◌<◌, length, string_bytes, IfOk, IfSome, IfNone};
 ghost use Rattle.std.specs.List.{AllByRecursion};
 ghost use Rattle.std.specs.Result.{result_map_both};
-ghost use Rattle.lb_proxy.specs.Config.{part_of, said, selection_of, selection_in, IsWord, IsPoolNamed, IsListen, IsBackend, AreBackends};
+ghost use Rattle.lb_proxy.specs.Config.{part_of, said, selection_of, selection_in, IsPoolNamed, IsListen, IsBackend, AreBackends};
 ghost use Rattle.lb_proxy.specs.Config.{IsWeighed, IsSource, IsPool, ArePools, HaveOwnNames, AreListens, IsStatus, IsConfig};
 ghost use Rattle.lb_proxy.specs.declared.config_fault.Place.TheVariants.{Top};
 ghost use Rattle.toml.specs.Data.{as_str, as_table};
 ghost use Rattle.toml.specs.View.{table_view, view};
 
 use crate::config_fault::{Cause, Fault, Place};
+use crate::key::OwnedKey;
+use crate::mode::{Mode, read_key, read_mode};
 use crate::section::Section;
 use lb_select_base::backend::Backend;
 use lb_select_base::refusal::Refusal;
@@ -66,11 +68,13 @@ pub struct PoolConfig {
 }
 
 /// A listener, and the pool by its number.
-#[derive(Clone, Copy)]
+#[derive(Drop)]
 pub struct ListenConfig {
     pub address: SocketAddr,
+    pub mode: Mode,
     pub pool: usize,
     pub selection: Selection,
+    pub key: OwnedKey,
 }
 
 /// What all listeners share. Times are in nanoseconds.
@@ -80,6 +84,7 @@ pub struct Limits {
     pub threads: u64,
     pub connect: u64,
     pub idle: u64,
+    pub answer: u64,
     pub drain: u64,
 }
 
@@ -175,20 +180,30 @@ fn read_limits<'t>(top: &Section<'t>) -> Result<Limits, Fault<'t>> {
             threads: 0,
             connect: 1_000_000_000,
             idle: 300_000_000_000,
+            answer: 60_000_000_000,
             drain: 10_000_000_000,
         });
     };
-    section.only(&["max_connections", "threads", "connect", "idle", "drain"])?;
+    section.only(&[
+        "max_connections",
+        "threads",
+        "connect",
+        "idle",
+        "answer",
+        "drain",
+    ])?;
     let max_connections = section.number("max_connections", 10_000)?;
     let threads = section.number("threads", 0)?;
     let connect = section.duration("connect", 1_000_000_000)?;
     let idle = section.duration("idle", 300_000_000_000)?;
+    let answer = section.duration("answer", 60_000_000_000)?;
     let drain = section.duration("drain", 10_000_000_000)?;
     Ok(Limits {
         max_connections,
         threads,
         connect,
         idle,
+        answer,
         drain,
     })
 }
@@ -322,7 +337,7 @@ fn read_listens<'t>(
     let tables = top.list("listen")?;
     for number in 0..tables.len() {
         let section = top.entry("listen", &tables[number], Place::Listen(number))?;
-        let listen = read_listen(&section, pools)?;
+        let listen = read_listen(alloc, &section, pools)?;
         match listens.push(listen) {
             Ok(()) => {}
             Err(_) => return Err(section.fault("address", Cause::OutOfMemory)),
@@ -335,12 +350,17 @@ fn read_listens<'t>(
 }
 
 // One listener.
-fn read_listen<'t>(section: &Section<'t>, pools: &[PoolConfig]) -> Result<ListenConfig, Fault<'t>>
+fn read_listen<'t>(
+    alloc: Global,
+    section: &Section<'t>,
+    pools: &[PoolConfig],
+) -> Result<ListenConfig, Fault<'t>>
     ensures { IfOk result (IsListen pools.now (part_of section.now)) }
 {
     section.only(&["address", "mode", "pool", "select", "key"])?;
     let address = section.address("address")?;
-    read_mode(section)?;
+    let mode = read_mode(section)?;
+    let key = read_key(alloc, section, mode)?;
     let name = section.required("pool")?;
     let Some(pool) = pool_number(pools, name) else {
         return Err(section.fault("pool", Cause::NoSuchPool));
@@ -348,25 +368,11 @@ fn read_listen<'t>(section: &Section<'t>, pools: &[PoolConfig]) -> Result<Listen
     let selection = read_selection(section)?;
     Ok(ListenConfig {
         address,
+        mode,
         pool,
         selection,
+        key,
     })
-}
-
-// The mode and the key, of which there is one each so far.
-fn read_mode<'t>(section: &Section<'t>) -> Result<(), Fault<'t>>
-    ensures mode { OnOk result (IsWord (part_of section.now) (codes "mode") (codes "tcp")) }
-    ensures key { OnOk result (IsWord (part_of section.now) (codes "key") (codes "source")) }
-{
-    match section.text("mode")? {
-        None | Some("tcp") => {}
-        Some("http") => return Err(section.fault("mode", Cause::NotYet)),
-        Some(_) => return Err(section.fault("mode", Cause::NotMode)),
-    }
-    match section.text("key")? {
-        None | Some("source") => Ok(()),
-        Some(_) => Err(section.fault("key", Cause::NotKey)),
-    }
 }
 
 // How it selects: in turn, unless the section says otherwise.

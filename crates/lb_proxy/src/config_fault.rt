@@ -78,14 +78,12 @@ pub enum Cause {
     NotPath,
     #[error("is to be tcp or http")]
     NotCheck,
-    #[error("is to be tcp")]
+    #[error("is to be tcp or http")]
     NotMode,
-    #[error("is to be source")]
+    #[error("is to be source, and in http mode it can be uri or header:NAME too")]
     NotKey,
     #[error("is to be rr, fnv, ketama, least or random")]
     NotSelection,
-    #[error("can't be that yet")]
-    NotYet,
     #[error("is the name of an earlier pool too")]
     SameName,
     #[error("names no pool")]

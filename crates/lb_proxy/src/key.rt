@@ -1,6 +1,7 @@
 //! What a listener selects by: the address of the client, the target of a request, or one of its fields.
 ghost use Rattle.std.specs.Prelude.{◌≡◌, option_map};
-ghost use Rattle.lb_proxy.specs.Key.{key_seen, key_of_text, key_bytes};
+ghost use Rattle.std.specs.List.{list_all};
+ghost use Rattle.lb_proxy.specs.Key.{key_seen, owned_seen, key_of_text, key_bytes, is_field_name, is_field_byte};
 
 /// What a selection takes as its key.
 #[derive(Clone, Copy)]
@@ -25,7 +26,7 @@ impl<'a> Key<'a> {
             return Some(Key::Uri);
         }
         match text.strip_prefix("header:") {
-            Some(name) if !name.is_empty() => Some(Key::Header(name)),
+            Some(name) if is_field_name(name) => Some(Key::Header(name)),
             _ => None,
         }
     }
@@ -42,4 +43,46 @@ impl<'a> Key<'a> {
             Key::Header(_) => header.unwrap_or(source),
         }
     }
+}
+
+/// What the selections of a listener take as their key: a `Key` with a name of its own.
+#[derive(Drop)]
+pub enum OwnedKey {
+    Source,
+    Uri,
+    Header(String),
+}
+
+impl OwnedKey {
+    /// Returns the key.
+    pub fn as_key(&self) -> Key<'_>
+        ensures { key_seen result ≡ owned_seen self.now }
+    {
+        match self {
+            OwnedKey::Source => Key::Source,
+            OwnedKey::Uri => Key::Uri,
+            OwnedKey::Header(name) => Key::Header(name.as_str()),
+        }
+    }
+}
+
+// Whether a text can be the name of a field.
+fn is_field_name(name: &str) -> bool
+    ensures { result ≡ is_field_name name.now }
+{
+    !name.is_empty() && are_field_bytes(name.as_bytes())
+}
+
+// Whether all bytes can be in the name of a field.
+fn are_field_bytes(bytes: &[u8]) -> bool
+    ensures { result ≡ list_all is_field_byte bytes.now }
+{
+    bytes.iter().all(|byte| is_field_byte(*byte))
+}
+
+// Whether a byte can be in the name of a field.
+fn is_field_byte(byte: u8) -> bool
+    ensures { result ≡ is_field_byte byte }
+{
+    byte.is_ascii_alphanumeric() || b"!#$%&'*+-.^_`|~".contains(&byte)
 }

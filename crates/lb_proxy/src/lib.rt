@@ -8,6 +8,7 @@ pub mod config;
 pub mod config_fault;
 pub mod key;
 pub mod metrics;
+pub mod mode;
 pub mod pool_file;
 pub mod position;
 pub mod relay;

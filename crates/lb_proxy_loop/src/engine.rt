@@ -1,12 +1,16 @@
 //! An event loop: it takes connections, reaches a backend for each, and relays bytes, without a call that waits save for events.
 
 use crate::connection::Connection;
+use crate::heads::Client;
 use crate::peer::Peer;
 use crate::pump::Turn;
+use crate::scene::Scene;
 use crate::stream::Stream;
 use crate::tokens::{Origin, backend_token, client_token, listener_token, named};
 use crate::upstream::{Happened, Upstream};
+use crate::web::Web;
 use lb_proxy::attempts::{AttemptEvent, Attempts, Next};
+use lb_proxy::mode::Mode;
 use lb_proxy::relay::Relay;
 use log::{Log, warn};
 use mio::event::Event;
@@ -35,6 +39,19 @@ const STEPS: usize = 8;
 // How long a wait takes at most, in milliseconds.
 const TICK: u64 = 250;
 
+// What the steps of HTTP connections are given.
+macro_rules! scene {
+    ($engine:expr) => {
+        Scene {
+            rt: &$engine.rt,
+            alloc: $engine.alloc,
+            proxy: &*$engine.proxy,
+            poll: &$engine.poll,
+            now: $engine.now,
+        }
+    };
+}
+
 /// A loop over the connections that it took.
 #[derive(Drop)]
 pub struct Engine<R, U> {
@@ -44,6 +61,7 @@ pub struct Engine<R, U> {
     poll: Poll,
     listeners: Vec<TcpListener>,
     connections: Slab<Connection>,
+    web: Web,
     // Those that can go on without an event.
     ready: Vec<usize>,
     // Whether a listener may have connections that were not taken, and whether they can be taken at once.
@@ -73,6 +91,7 @@ impl<R: Log + Net + Wait + Clock + Copy + Drop, U: Upstream + Drop> Engine<R, U>
             poll,
             listeners,
             connections: Slab::new(alloc),
+            web: Web::new(alloc),
             ready: Vec::new(alloc),
             accepting: true,
             hurries: false,
@@ -107,7 +126,7 @@ impl<R: Log + Net + Wait + Clock + Copy + Drop, U: Upstream + Drop> Engine<R, U>
             if self.proxy.ends() {
                 self.close();
                 left = left.saturating_sub(self.now.saturating_sub(before));
-                if self.connections.is_empty() || left == 0 {
+                if (self.connections.is_empty() && self.web.is_empty()) || left == 0 {
                     return Ok(());
                 }
             }
@@ -125,7 +144,7 @@ impl<R: Log + Net + Wait + Clock + Copy + Drop, U: Upstream + Drop> Engine<R, U>
 
     // Waits for events, and does what they allow.
     fn round(&mut self, events: &mut Events) -> io::Result<()> {
-        let waits = self.ready.is_empty() && !self.hurries;
+        let waits = self.ready.is_empty() && !self.web.is_ready() && !self.hurries;
         let limit = if waits { TICK } else { 0 };
         match self.poll.poll(events, Some(Duration::from_millis(limit))) {
             Err(error) if error.kind() == ErrorKind::Interrupted => return Ok(()),
@@ -172,6 +191,8 @@ impl<R: Log + Net + Wait + Clock + Copy + Drop, U: Upstream + Drop> Engine<R, U>
                 }
                 self.advance(key);
             }
+            Origin::Session(key) => self.web.session_woke(&scene!(self), key, event),
+            Origin::Link(number) => self.web.link_woke(&scene!(self), number, event),
         }
     }
 
@@ -216,9 +237,20 @@ impl<R: Log + Net + Wait + Clock + Copy + Drop, U: Upstream + Drop> Engine<R, U>
         }
     }
 
-    // Begins a connection, and its first attempt. Returns whether there was memory for it.
+    // Begins a connection in the mode of its listener. Returns whether there was memory for it.
     fn begin(&mut self, number: usize, stream: TcpStream, address: SocketAddr) -> bool {
         let _ = stream.set_nodelay(true);
+        match self.proxy.mode(number) {
+            Mode::Tcp => self.begin_relay(number, stream, address),
+            Mode::Http => match client_of(self.alloc, address) {
+                Ok(known) => self.web.begin(&scene!(self), number, stream, known),
+                Err(_) => false,
+            },
+        }
+    }
+
+    // Begins a connection whose bytes are relayed, and its first attempt. Returns whether there was memory for it.
+    fn begin_relay(&mut self, number: usize, stream: TcpStream, address: SocketAddr) -> bool {
         let Some(relay) = self.relay() else {
             return false;
         };
@@ -324,10 +356,12 @@ impl<R: Log + Net + Wait + Clock + Copy + Drop, U: Upstream + Drop> Engine<R, U>
             }
             self.go_on(key);
         }
+        self.web.take_turns(&scene!(self));
     }
 
     // Ends what took too long: attempts to connect, and connections on which nothing happens.
     fn look(&mut self) {
+        self.web.look(&scene!(self));
         let mut late = Vec::new(self.alloc);
         let limits = self.proxy.limits();
         for (key, connection) in self.connections.iter() {
@@ -387,6 +421,15 @@ fn new_connection(
         relay,
         queued: false,
         active: now,
+    })
+}
+
+// What a client with this address is known by.
+fn client_of(alloc: Global, address: SocketAddr) -> io::Result<Client> {
+    let ip = address.ip();
+    Ok(Client {
+        octets: source_of(alloc, address)?,
+        text: format!(in alloc; "{ip}")?,
     })
 }
 

@@ -8,6 +8,10 @@ pub enum Origin {
     Listener(usize),
     Client(usize),
     Backend(usize),
+    /// The client's end of a connection in http mode.
+    Session(usize),
+    /// A connection to a backend in http mode.
+    Link(usize),
 }
 
 /// Returns the token of a listener.
@@ -17,12 +21,22 @@ pub fn listener_token(number: usize) -> Token {
 
 /// Returns the token of the client's end of a connection.
 pub fn client_token(key: usize) -> Token {
-    Token(key.wrapping_mul(2))
+    Token(key.wrapping_mul(4))
 }
 
 /// Returns the token of the backend's end of a connection.
 pub fn backend_token(key: usize) -> Token {
-    Token(key.wrapping_mul(2).wrapping_add(1))
+    Token(key.wrapping_mul(4).wrapping_add(1))
+}
+
+/// Returns the token of the client's end of a connection in http mode.
+pub fn session_token(key: usize) -> Token {
+    Token(key.wrapping_mul(4).wrapping_add(2))
+}
+
+/// Returns the token of a connection to a backend in http mode.
+pub fn link_token(number: usize) -> Token {
+    Token(number.wrapping_mul(4).wrapping_add(3))
 }
 
 /// Returns what a token names, where there are so many listeners.
@@ -31,10 +45,11 @@ pub fn named(token: Token, listeners: usize) -> Origin {
     if number < listeners {
         return Origin::Listener(number);
     }
-    let key = token.0 >> 1;
-    if token.0 & 1 == 0 {
-        Origin::Client(key)
-    } else {
-        Origin::Backend(key)
+    let key = token.0 >> 2;
+    match token.0 & 3 {
+        0 => Origin::Client(key),
+        1 => Origin::Backend(key),
+        2 => Origin::Session(key),
+        _ => Origin::Link(key),
     }
 }

@@ -20,7 +20,9 @@ pub fn command<'a>(alloc: Global) -> Result<Command<'a>, AllocError> {
         )
         .action(ArgAction::SetTrue);
     Command::new(alloc, "lbproxy")
-        .about("A TCP proxy that balances connections over pools of checked backends")
+        .about(
+            "A proxy that balances connections, or requests of HTTP, over pools of checked backends",
+        )
         .arg(config)?
         .arg(check)?
         .arg(until_eof)

@@ -66,21 +66,20 @@ fn kinds_of(
     Ok(kinds)
 }
 
-// How many of the listeners before this place are on the pool.
-fn count_before(listens: &[ListenConfig], place: usize, pool: usize) -> usize {
-    let earlier = listens.iter().take(place);
-    earlier.filter(|listen| listen.pool == pool).count()
+// How many of the listeners are on the pool.
+fn count_on(listens: &[Listen], pool: usize) -> usize {
+    listens
+        .iter()
+        .filter(|listen| listen.config.pool == pool)
+        .count()
 }
 
 // The listeners with their slots: those on one pool are numbered in order.
-fn slots_of(alloc: Global, listens: &[ListenConfig]) -> Result<Vec<Listen>, AllocError> {
-    let mut numbered = Vec::new(alloc);
-    for (place, listen) in listens.iter().enumerate() {
-        let slot = count_before(listens, place, listen.pool);
-        numbered.push(Listen {
-            config: *listen,
-            slot,
-        })?;
+fn slots_of(alloc: Global, listens: Vec<ListenConfig>) -> Result<Vec<Listen>, AllocError> {
+    let mut numbered: Vec<Listen> = Vec::new(alloc);
+    for config in listens {
+        let slot = count_on(numbered.as_slice(), config.pool);
+        numbered.push(Listen { config, slot })?;
     }
     Ok(numbered)
 }
@@ -134,11 +133,12 @@ pub fn build<R: Log + Wait + Copy + Drop, C: HealthCheck + Drop>(
     } = config;
     Ok(Proxy {
         pools: pools_of(rt, alloc, pools, listens.as_slice(), common)?,
-        listens: slots_of(alloc, listens.as_slice())?,
+        listens: slots_of(alloc, listens)?,
         limits,
         counts: Counts {
             live: AtomicU64::new(0),
             total: AtomicU64::new(0),
+            requests: AtomicU64::new(0),
             unserved: AtomicU64::new(0),
         },
         ends: AtomicU64::new(0),

@@ -1,4 +1,4 @@
-//! A TCP proxy: it balances connections over pools of checked backends, by event loops, and shows its state on a page.
+//! A proxy: it balances connections, or requests of HTTP, over pools of checked backends, by event loops, and shows its state on a page.
 #![tactic(auto)]
 
 mod arguments;

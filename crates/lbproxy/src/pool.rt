@@ -26,11 +26,12 @@ pub type Registry<C> = HealthRegistry<Rule<NoRule>, C>;
 /// The group of a pool.
 pub type Group<R, C> = LoadBalancerGroup<Chosen, PoolDiscovery<R>, Rule<NoRule>, C>;
 
-/// What a backend has carried.
+/// What a backend has carried. In http mode `live` counts the requests that are in progress, and `total` the connections.
 #[derive(Clone, Copy)]
 pub struct Traffic {
     pub live: u64,
     pub total: u64,
+    pub requests: u64,
     pub refused: u64,
     pub sent: u64,
     pub received: u64,
@@ -104,6 +105,14 @@ impl<R: Log + Wait + Copy + Drop, C: HealthCheck + Drop> Pool<R, C> {
         }
     }
 
+    /// Returns whether the backend is in the pool.
+    pub fn has<W: Wait>(&self, rt: &W, backend: &Backend) -> bool {
+        match self.group.backends().get_backend(rt) {
+            Ok(members) => members.contains(backend),
+            Err(_) => true,
+        }
+    }
+
     /// Returns what a backend has carried.
     pub fn traffic_of<W: Wait>(&self, rt: &W, backend: &Backend) -> Traffic {
         match self.traffic.lock(rt).get(backend) {
@@ -112,7 +121,7 @@ impl<R: Log + Wait + Copy + Drop, C: HealthCheck + Drop> Pool<R, C> {
         }
     }
 
-    /// Takes note of what happened to a connection to the backend. A slot that goes by loads learns how many are live.
+    /// Takes note of what happened to a connection or a request at the backend. A slot that goes by loads learns how many are live.
     ///
     /// Where memory is refused, it isn't counted.
     pub fn note<W: Wait>(&self, rt: &W, alloc: Global, backend: &Backend, happened: Happened) {
@@ -131,6 +140,7 @@ impl Traffic {
         Traffic {
             live: 0,
             total: 0,
+            requests: 0,
             refused: 0,
             sent: 0,
             received: 0,
@@ -144,6 +154,8 @@ impl Traffic {
                 self.live = self.live.saturating_add(1);
                 self.total = self.total.saturating_add(1);
             }
+            Happened::Resumed => self.live = self.live.saturating_add(1),
+            Happened::Asked => self.requests = self.requests.saturating_add(1),
             Happened::Refused => {
                 self.live = self.live.saturating_sub(1);
                 self.refused = self.refused.saturating_add(1);

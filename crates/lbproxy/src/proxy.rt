@@ -4,6 +4,8 @@ use crate::pool::Pool;
 use lb_proxy::attempts::Attempts;
 use lb_proxy::config;
 use lb_proxy::config::ListenConfig;
+use lb_proxy::key::Key;
+use lb_proxy::mode::Mode;
 use lb_proxy_loop::upstream::{Happened, Limits, Upstream};
 use log::{Log, warn};
 use pingora_load_balancing::Backend;
@@ -12,8 +14,8 @@ use std::alloc::Global;
 use std::sync::Wait;
 use std::sync::atomic::{AtomicU64, Ordering};
 
-/// A listener: its address, the number of its pool, and its slot in the pool's group.
-#[derive(Clone, Copy)]
+/// A listener, and its slot in the group of its pool.
+#[derive(Drop)]
 pub struct Listen {
     pub config: ListenConfig,
     pub slot: usize,
@@ -24,7 +26,9 @@ pub struct Listen {
 pub struct Counts {
     pub live: AtomicU64,
     pub total: AtomicU64,
-    /// Those that no backend took.
+    /// Requests of HTTP.
+    pub requests: AtomicU64,
+    /// Connections and requests that no backend took.
     pub unserved: AtomicU64,
 }
 
@@ -74,11 +78,36 @@ impl<R: Log + Wait + Copy + Drop, C: HealthCheck + Drop> Upstream for Proxy<R, C
         }
     }
 
+    fn mode(&self, listener: usize) -> Mode {
+        match self.listens.get(listener) {
+            Some(listen) => listen.config.mode,
+            None => Mode::Tcp,
+        }
+    }
+
+    fn key(&self, listener: usize) -> Key<'_> {
+        match self.listens.get(listener) {
+            Some(listen) => listen.config.key.as_key(),
+            None => Key::Source,
+        }
+    }
+
+    fn has<W: Log + Wait>(&self, rt: &W, listener: usize, backend: &Backend) -> bool {
+        match self.slot_of(listener) {
+            Some((pool, _)) => pool.has(rt, backend),
+            None => false,
+        }
+    }
+
+    fn asked(&self) {
+        self.counts.requests.fetch_add(1, Ordering::SeqCst);
+    }
+
     fn gave_up<W: Log>(&self, rt: &W, listener: usize) {
         self.counts.unserved.fetch_add(1, Ordering::SeqCst);
         if let Some((pool, _)) = self.slot_of(listener) {
             let name = pool.name.as_str();
-            warn!(rt; "pool {name}: no ready backend for a connection");
+            warn!(rt; "pool {name}: no ready backend");
         }
     }
 
@@ -107,6 +136,7 @@ impl<R: Log + Wait + Copy + Drop, C: HealthCheck + Drop> Upstream for Proxy<R, C
         Limits {
             connect: self.limits.connect,
             idle: self.limits.idle,
+            answer: self.limits.answer,
             drain: self.limits.drain,
         }
     }

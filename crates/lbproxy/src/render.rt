@@ -22,11 +22,12 @@ pub fn page_text(alloc: Global, shown: &Shown) -> Result<Vec<u8>, AllocError> {
     let Shown {
         live,
         total,
+        requests,
         unserved,
         pools,
     } = shown;
     let line = format!(in alloc;
-        "<p>{live} connections now, {total} so far, {unserved} without a backend\n"
+        "<p>{live} connections now, {total} so far, {requests} requests, {unserved} without a backend\n"
     )?;
     body.extend_from_slice(line.as_bytes())?;
     for pool in pools.iter() {
@@ -59,7 +60,7 @@ fn push_pool(alloc: Global, body: &mut Vec<u8>, pool: &ShownPool) -> Result<(), 
 // The rows of a pool's table.
 fn push_rows(alloc: Global, body: &mut Vec<u8>, pool: &ShownPool) -> Result<(), AllocError> {
     body.extend_from_slice(
-        b"\n<table><tr><th>backend/weight<th>state<th>now<th>so far<th>refused<th>bytes to it<th>bytes from it\n",
+        b"\n<table><tr><th>backend/weight<th>state<th>now<th>so far<th>requests<th>refused<th>bytes to it<th>bytes from it\n",
     )?;
     for backend in pool.backends.iter() {
         body.extend_from_slice(b"<tr><td>")?;
@@ -74,11 +75,12 @@ fn push_cells(alloc: Global, body: &mut Vec<u8>, backend: &ShownBackend) -> Resu
     let state = state_of(backend);
     let live = backend.live;
     let total = backend.total;
+    let requests = backend.requests;
     let refused = backend.refused;
     let sent = backend.sent;
     let received = backend.received;
     let line = format!(in alloc;
-        "<td>{state}<td>{live}<td>{total}<td>{refused}<td>{sent}<td>{received}\n"
+        "<td>{state}<td>{live}<td>{total}<td>{requests}<td>{refused}<td>{sent}<td>{received}\n"
     )?;
     body.extend_from_slice(line.as_bytes())
 }
@@ -125,6 +127,12 @@ pub fn metrics_text(alloc: Global, shown: &Shown) -> Result<Vec<u8>, AllocError>
     )?;
     push_one(
         &mut body,
+        "lbproxy_requests_total",
+        MetricKind::Counter,
+        shown.requests,
+    )?;
+    push_one(
+        &mut body,
         "lbproxy_unserved_total",
         MetricKind::Counter,
         shown.unserved,
@@ -149,6 +157,13 @@ pub fn metrics_text(alloc: Global, shown: &Shown) -> Result<Vec<u8>, AllocError>
         "lbproxy_backend_connections_total",
         MetricKind::Counter,
         &|b: &ShownBackend| b.total,
+    )?;
+    push_each(
+        &mut body,
+        shown,
+        "lbproxy_backend_requests_total",
+        MetricKind::Counter,
+        &|b: &ShownBackend| b.requests,
     )?;
     push_each(
         &mut body,

@@ -17,6 +17,7 @@ pub struct ShownBackend {
     pub ready: bool,
     pub live: u64,
     pub total: u64,
+    pub requests: u64,
     pub refused: u64,
     pub sent: u64,
     pub received: u64,
@@ -44,6 +45,7 @@ pub struct ShownPool {
 pub struct Shown {
     pub live: u64,
     pub total: u64,
+    pub requests: u64,
     pub unserved: u64,
     pub pools: Vec<ShownPool>,
 }
@@ -70,6 +72,7 @@ pub fn shown_of<R: Log + Wait + Copy + Drop, C: HealthCheck + Drop>(
     Ok(Shown {
         live: proxy.counts.live.load(Ordering::SeqCst),
         total: proxy.counts.total.load(Ordering::SeqCst),
+        requests: proxy.counts.requests.load(Ordering::SeqCst),
         unserved: proxy.counts.unserved.load(Ordering::SeqCst),
         pools,
     })
@@ -134,6 +137,7 @@ fn shown_backend(
         ready,
         live: traffic.live,
         total: traffic.total,
+        requests: traffic.requests,
         refused: traffic.refused,
         sent: traffic.sent,
         received: traffic.received,

@@ -1,0 +1,10 @@
+use Rattle.std.proofs.Common.{rules, tests}
+use Rattle.std.proofs.lemmas.Iterator.{YieldsList-from_slice}
+use Rattle.std.proofs.lemmas.Iterator.Search.{all_from_yields_List}
+use Rattle.lb_proxy.specs.Key.{is_field_byte}
+use Rattle.lb_proxy.proofs.key.are_field_bytes.Goals as goal
+
+pub returns : goal.returns
+returns c =
+    all_from_yields_List is_field_byte _ _ c.all.result c.all.ensures.ran (YieldsList-from_slice c.args.bytes.now cc)
+    (λ x b q k. search (rules, tests))

@@ -1,0 +1,7 @@
+pub mod FieldLemmas
+pub mod FrameLemmas
+pub mod HeadLemmas
+pub mod LengthLemmas
+pub mod OptionLemmas
+pub mod RunLemmas
+pub mod StepLemmas

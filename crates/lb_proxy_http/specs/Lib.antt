@@ -1,0 +1,6 @@
+pub mod Fields
+pub mod Framing
+pub mod Write
+pub mod Chunked
+pub mod Body
+pub mod Heads
