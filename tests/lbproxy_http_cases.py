@@ -15,7 +15,7 @@ from ambiguous_requests import BODIES, REQUESTS
 from lbproxy_help import COUNTS, ROOM, Proxy, case, end_cases, expect, fetch, free_port, wait_until
 from lbproxy_http_server import HttpBackend, fields_of, read_chunks
 
-A, B, C = HttpBackend("a"), HttpBackend("b"), HttpBackend("c")
+A, B, C, LEAVING, IDLE = (HttpBackend(name) for name in ("a", "b", "c", "leaving", "idle"))
 ONE, RR, URI, FIELD, LEAST, EMPTY, DOWN, BOTH, FILED, PAGE = (free_port() for _ in range(10))
 FILE = os.path.join(ROOM, "http.backends")
 REFUSED = free_port()
@@ -360,23 +360,24 @@ def a_slow_answer_is_504():
         proxy.process.kill()
 
 
-def a_slow_head_is_408():
+def idle_connections_are_closed_and_a_slow_head_is_408():
     port = free_port()
     proxy = Proxy(
-        f'[limits]\nidle = "500ms"\nmax_connections = 2\n[[pool]]\nname = "p"\nbackends = ["{A.address}"]\n'
+        f'[limits]\nidle = "500ms"\nmax_connections = 2\n[[pool]]\nname = "p"\nbackends = ["{IDLE.address}"]\n'
         f'[[listen]]\naddress = "127.0.0.1:{port}"\nmode = "http"\npool = "p"\n'
     )
     try:
-        wait_until(lambda: ask(port, b"/")[2] == b"a", "it doesn't run")
+        wait_until(lambda: ask(port, b"/")[2] == b"idle", "it doesn't run")
         begun = time.monotonic()
         with Client(port) as slow, Client(port) as kept, Client(port) as third:
-            expect(kept.ask(b"/")[2] == b"a", "no answer")
+            expect(kept.ask(b"/")[2] == b"idle" and IDLE.live, "no answer")
             slow.send(b"GET / HTTP/1.1\r\nHost: h")
             third.send(b"GET / HTTP/1.1\r\nHost: h\r\n\r\n")
             expect(slow.answer()[0] == 408 and slow.has_ended() and kept.has_ended(), "a connection goes on")
             took = time.monotonic() - begun
             expect(0.4 < took < 2.5, took)
-            expect(third.answer()[2] == b"a" and time.monotonic() - begun > 0.4, "more connections than the limit were taken")
+            expect(third.answer()[2] == b"idle" and time.monotonic() - begun > 0.4, "more connections than the limit were taken")
+        wait_until(lambda: not IDLE.live, "the backend's connections are kept for long")
     finally:
         proxy.process.kill()
 
@@ -554,7 +555,7 @@ def a_thousand_connections():
 
 def kept_connections_leave_with_their_backend():
     with Client(FILED) as client:
-        expect(client.ask(b"/")[2] == b"c", "another backend")
+        expect(client.ask(b"/")[2] == b"leaving" and LEAVING.live, "another backend")
         slow = Client(FILED)
         slow.send(b"GET /slow?0.9 HTTP/1.1\r\nHost: h\r\n\r\n")
         time.sleep(0.1)
@@ -562,6 +563,7 @@ def kept_connections_leave_with_their_backend():
         wait_until(lambda: client.ask(b"/")[2] == b"b", "the new file isn't used")
         expect(slow.answer()[2] == b"slow", "a request in progress was cut")
         slow.__exit__()
+        wait_until(lambda: not LEAVING.live, "its connections stay")
 
 
 def a_disabled_backend_gets_no_request():
@@ -618,7 +620,7 @@ def write_pool(text):
 
 soft, hard = resource.getrlimit(resource.RLIMIT_NOFILE)
 resource.setrlimit(resource.RLIMIT_NOFILE, (min(hard, 16384), hard))
-write_pool(f"{C.address}\n")
+write_pool(f"{LEAVING.address}\n")
 PROXY = Proxy(CONFIG)
 try:
     wait_until(lambda: fetch(PAGE, "/health")[0] == 200 and ask(ONE, b"/"), "the proxy doesn't start", 20)
@@ -643,7 +645,7 @@ try:
         no_backend_is_503,
         a_backend_that_refuses_is_passed_over,
         a_slow_answer_is_504,
-        a_slow_head_is_408,
+        idle_connections_are_closed_and_a_slow_head_is_408,
         a_dead_connection_is_tried_again,
         a_post_is_sent_once,
         bytes_that_nobody_asked_for_are_dropped,

@@ -63,12 +63,13 @@ ANSWERS = {
 
 
 class HttpBackend:
-    """Serves each connection by a thread. `asked` has the number of the connection, the head and the body of each request."""
+    """Serves each connection by a thread. `asked` has the number of the connection, the head and the body of each request, `live` the
+    numbers of the connections that haven't ended."""
 
     def __init__(self, name, path=None):
         self.name, self.asked, self.count = name.encode(), [], 0
         self.lock = threading.Lock()
-        self.path, self.port, self.open = path, 0, []
+        self.path, self.port, self.open, self.live = path, 0, [], set()
         self.start()
         self.address = f"127.0.0.1:{self.port}"
 
@@ -89,6 +90,7 @@ class HttpBackend:
             except OSError:
                 return
             self.count += 1
+            self.live.add(self.count)
             self.open.append(peer)
             threading.Thread(target=self.talk, args=(peer, self.count), daemon=True).start()
 
@@ -108,6 +110,7 @@ class HttpBackend:
             turn = 0
             while self.answer_one(peer, reader, number, turn):
                 turn += 1
+        self.live.discard(number)
 
     def answer_one(self, peer, reader, number, turn):
         """Answers one request. Returns whether the connection goes on."""
