@@ -387,8 +387,9 @@ def idle_connections_are_closed_and_a_slow_head_is_408():
 def a_dead_connection_is_tried_again():
     with Client(ONE) as client:
         expect(client.ask(b"/once")[2] == b"a", "no answer")
-        for _ in range(5):
-            expect(client.ask(b"/once")[2] == b"a", "the request isn't sent once more")
+        for method in (b"GET", b"HEAD", b"OPTIONS", b"TRACE", b"PUT", b"DELETE"):
+            status, _, body = client.ask(b"/once", method=method)
+            expect(status == 200 and body == (b"" if method == b"HEAD" else b"a"), f"{method} isn't sent once more")
 
 
 def a_post_is_sent_once():
