@@ -82,7 +82,11 @@ REQUESTS = [
     ("Connection names the coding", post(b"Connection: close, Transfer-Encoding\r\nTransfer-Encoding: chunked\r\n", CHUNK), 400),
     ("Connection names the Host", b"GET / HTTP/1.1\r\nHost: a\r\nConnection: Host\r\n\r\n", 400),
     ("Connection names the clients", b"GET / HTTP/1.1\r\nHost: a\r\nConnection: X-Forwarded-For\r\n\r\n", 400),
-    ("a second Connection names the length", post(b"Connection: close\r\nConnection: x,\tContent-Length\r\nContent-Length: 5\r\n", b"hello"), 400),
+    (
+        "a second Connection names the length",
+        post(b"Connection: close\r\nConnection: x,\tContent-Length\r\nContent-Length: 5\r\n", b"hello"),
+        400,
+    ),
     # versions and sizes
     ("HTTP/2.0", b"PRI * HTTP/2.0\r\n\r\nSM\r\n\r\n", 505),
     ("HTTP/1.2", b"GET / HTTP/1.2\r\nHost: a\r\n\r\n", 505),

@@ -9,12 +9,13 @@ import subprocess
 import sys
 import threading
 import time
+import urllib.request
 
 from ambiguous_requests import BODIES, REQUESTS
 from lbproxy_help import COUNTS, ROOM, Proxy, case, end_cases, expect, fetch, free_port, wait_until
 from lbproxy_http_server import HttpBackend, fields_of, read_chunks
 
-A, B, C = HttpBackend("a"), HttpBackend("b"), HttpBackend("c")
+A, B, C, LEAVING, IDLE = (HttpBackend(name) for name in ("a", "b", "c", "leaving", "idle"))
 ONE, RR, URI, FIELD, LEAST, EMPTY, DOWN, BOTH, FILED, PAGE = (free_port() for _ in range(10))
 FILE = os.path.join(ROOM, "http.backends")
 REFUSED = free_port()
@@ -261,14 +262,20 @@ def least_goes_by_requests_in_progress():
 
 # ---- what is refused
 
+SMUGGLED = b"GET /smuggled HTTP/1.1\r\nHost: h\r\n\r\n"
+
+
 def ambiguous_requests_are_refused():
     since = len(A.asked)
     expect(len(REQUESTS) >= 50, len(REQUESTS))
     for name, request, wanted in REQUESTS:
-        with Client(ONE) as client:
-            client.send(request)
-            status, fields, _ = client.answer() or (0, {}, b"")
-            expect(status == wanted and fields[b"connection"] == b"close" and client.has_ended(), (name, status, fields))
+        for pieces in ((request,), (request[:7], request[7:] + SMUGGLED)):
+            with Client(ONE) as client:
+                for piece in pieces:
+                    client.send(piece)
+                    time.sleep(0.002)
+                status, fields, _ = client.answer() or (0, {}, b"")
+                expect(status == wanted and fields[b"connection"] == b"close" and client.has_ended(), (name, status, fields))
     expect(len(A.asked) == since, f"a backend got {A.asked[since:]}")
 
 
@@ -353,13 +360,36 @@ def a_slow_answer_is_504():
         proxy.process.kill()
 
 
+def idle_connections_are_closed_and_a_slow_head_is_408():
+    port = free_port()
+    proxy = Proxy(
+        f'[limits]\nidle = "500ms"\nmax_connections = 2\n[[pool]]\nname = "p"\nbackends = ["{IDLE.address}"]\n'
+        f'[[listen]]\naddress = "127.0.0.1:{port}"\nmode = "http"\npool = "p"\n'
+    )
+    try:
+        wait_until(lambda: ask(port, b"/")[2] == b"idle", "it doesn't run")
+        begun = time.monotonic()
+        with Client(port) as slow, Client(port) as kept, Client(port) as third:
+            expect(kept.ask(b"/")[2] == b"idle" and IDLE.live, "no answer")
+            slow.send(b"GET / HTTP/1.1\r\nHost: h")
+            third.send(b"GET / HTTP/1.1\r\nHost: h\r\n\r\n")
+            expect(slow.answer()[0] == 408 and slow.has_ended() and kept.has_ended(), "a connection goes on")
+            took = time.monotonic() - begun
+            expect(0.4 < took < 2.5, took)
+            expect(third.answer()[2] == b"idle" and time.monotonic() - begun > 0.4, "more connections than the limit were taken")
+        wait_until(lambda: not IDLE.live, "the backend's connections are kept for long")
+    finally:
+        proxy.process.kill()
+
+
 # ---- connections to backends that die
 
 def a_dead_connection_is_tried_again():
     with Client(ONE) as client:
         expect(client.ask(b"/once")[2] == b"a", "no answer")
-        for _ in range(5):
-            expect(client.ask(b"/once")[2] == b"a", "the request isn't sent once more")
+        for method in (b"GET", b"HEAD", b"OPTIONS", b"TRACE", b"PUT", b"DELETE"):
+            status, _, body = client.ask(b"/once", method=method)
+            expect(status == 200 and body == (b"" if method == b"HEAD" else b"a"), f"{method} isn't sent once more")
 
 
 def a_post_is_sent_once():
@@ -428,6 +458,69 @@ def kill_in_the_middle(target, port, listener):
             expect(part.startswith(b"HTTP/1.1 200") and part.endswith(b"xxx") and len(part) < 11000, part[:200])
 
 
+def a_stopped_backend_fails_what_is_in_progress():
+    stopped = HttpBackend("stopped")
+    port, page, ends = free_port(), free_port(), threading.Event()
+    proxy = Proxy(
+        f'[check]\nevery = "200ms"\ntimeout = "500ms"\n[status]\nlisten = "127.0.0.1:{page}"\n'
+        f'[[pool]]\nname = "p"\nbackends = ["{A.address}", "{stopped.address}"]\n'
+        f'[[listen]]\naddress = "127.0.0.1:{port}"\nmode = "http"\npool = "p"\n'
+    )
+    answers = collections.Counter()
+
+    def load():
+        while not ends.is_set():
+            with Client(port) as client:
+                while not ends.is_set():
+                    answer = client.ask(b"/")
+                    answers[answer and answer[::2]] += 1
+                    if not answer:
+                        break
+
+    def is_ready():
+        backends = json.loads(fetch(page, "/status.json")[1])["pools"][0]["backends"]
+        return [b["ready"] for b in backends if b["address"].startswith(stopped.address + "/")][0]
+
+    loads = [threading.Thread(target=load) for _ in range(8)]
+    try:
+        wait_until(lambda: ask(port, b"/")[2] == b"stopped", "it doesn't run")
+        for each in loads:
+            each.start()
+        wait_until(lambda: answers[200, b"stopped"] > 50, "no load")
+        stopped.stop()
+        begun = time.monotonic()
+        wait_until(lambda: not is_ready(), "it stays ready")
+        took = time.monotonic() - begun
+        before = answers[200, b"a"]
+        wait_until(lambda: answers[200, b"a"] > before + 50, "no answers any more")
+        stopped.start()
+        wait_until(is_ready, "it isn't ready again")
+        before = answers[200, b"stopped"]
+        wait_until(lambda: answers[200, b"stopped"] > before + 50, "nothing goes to it again")
+    finally:
+        ends.set()
+        for each in loads:
+            each.join()
+        proxy.process.kill()
+    failed = answers.total() - answers[200, b"a"] - answers[200, b"stopped"]
+    expect(failed <= len(loads) and took < 2.5, (answers, took))
+
+
+def a_backend_has_a_unix_socket():
+    path, port = os.path.join(ROOM, "http.socket"), free_port()
+    backend = HttpBackend("unix", path)
+    proxy = Proxy(
+        f'[[pool]]\nname = "p"\nbackends = ["unix:{path}"]\n[[listen]]\naddress = "127.0.0.1:{port}"\nmode = "http"\npool = "p"\n'
+    )
+    try:
+        wait_until(lambda: ask(port, b"/")[2] == b"unix", "it doesn't run")
+        with Client(port) as client:
+            expect([client.ask(b"/")[2] for _ in range(20)] == [b"unix"] * 20, "an answer differs")
+        expect(len(connections_of(backend, 0)) <= 3, "its connections aren't kept")
+    finally:
+        proxy.process.kill()
+
+
 # ---- many, slow, and while things change
 
 def resident(proxy):
@@ -463,7 +556,7 @@ def a_thousand_connections():
 
 def kept_connections_leave_with_their_backend():
     with Client(FILED) as client:
-        expect(client.ask(b"/")[2] == b"c", "another backend")
+        expect(client.ask(b"/")[2] == b"leaving" and LEAVING.live, "another backend")
         slow = Client(FILED)
         slow.send(b"GET /slow?0.9 HTTP/1.1\r\nHost: h\r\n\r\n")
         time.sleep(0.1)
@@ -471,6 +564,22 @@ def kept_connections_leave_with_their_backend():
         wait_until(lambda: client.ask(b"/")[2] == b"b", "the new file isn't used")
         expect(slow.answer()[2] == b"slow", "a request in progress was cut")
         slow.__exit__()
+        wait_until(lambda: not LEAVING.live, "its connections stay")
+
+
+def a_disabled_backend_gets_no_request():
+    def put(word):
+        path = f"/pools/three/backends/{B.address}/{word}"
+        request = urllib.request.Request(f"http://127.0.0.1:{PAGE}{path}", method="PUT")
+        with urllib.request.urlopen(request, timeout=5) as answer:
+            expect(answer.status == 200, word)
+
+    with Client(RR) as client:
+        expect(b"b" in {client.ask(b"/")[2] for _ in range(10)}, "it gets none")
+        put("disable")
+        wait_until(lambda: b"b" not in {client.ask(b"/")[2] for _ in range(10)}, "it still gets some")
+        put("enable")
+        wait_until(lambda: b"b" in {client.ask(b"/")[2] for _ in range(10)}, "it gets none again")
 
 
 def counts_are_shown():
@@ -512,7 +621,7 @@ def write_pool(text):
 
 soft, hard = resource.getrlimit(resource.RLIMIT_NOFILE)
 resource.setrlimit(resource.RLIMIT_NOFILE, (min(hard, 16384), hard))
-write_pool(f"{C.address}\n")
+write_pool(f"{LEAVING.address}\n")
 PROXY = Proxy(CONFIG)
 try:
     wait_until(lambda: fetch(PAGE, "/health")[0] == 200 and ask(ONE, b"/"), "the proxy doesn't start", 20)
@@ -537,15 +646,19 @@ try:
         no_backend_is_503,
         a_backend_that_refuses_is_passed_over,
         a_slow_answer_is_504,
+        idle_connections_are_closed_and_a_slow_head_is_408,
         a_dead_connection_is_tried_again,
         a_post_is_sent_once,
         bytes_that_nobody_asked_for_are_dropped,
         an_early_answer_passes,
         a_cut_answer_is_never_whole,
         a_killed_backend_cuts_the_client,
+        a_stopped_backend_fails_what_is_in_progress,
+        a_backend_has_a_unix_socket,
         a_slow_reader_takes_little_memory,
         a_thousand_connections,
         kept_connections_leave_with_their_backend,
+        a_disabled_backend_gets_no_request,
         counts_are_shown,
         the_end_lets_requests_finish,
     ):

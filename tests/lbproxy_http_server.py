@@ -63,37 +63,54 @@ ANSWERS = {
 
 
 class HttpBackend:
-    """Serves each connection by a thread. `asked` has the number of the connection, the head and the body of each request."""
+    """Serves each connection by a thread. `asked` has the number of the connection, the head and the body of each request, `live` the
+    numbers of the connections that haven't ended."""
 
-    def __init__(self, name):
+    def __init__(self, name, path=None):
         self.name, self.asked, self.count = name.encode(), [], 0
         self.lock = threading.Lock()
-        self.server = socket.create_server(("127.0.0.1", 0), backlog=1024)
-        self.port = self.server.getsockname()[1]
+        self.path, self.port, self.open, self.live = path, 0, [], set()
+        self.start()
         self.address = f"127.0.0.1:{self.port}"
-        threading.Thread(target=self.serve, daemon=True).start()
 
-    def serve(self):
+    def start(self):
+        if self.path:
+            self.server = socket.socket(socket.AF_UNIX)
+            self.server.bind(self.path)
+            self.server.listen(1024)
+        else:
+            self.server = socket.create_server(("127.0.0.1", self.port), backlog=1024)
+            self.port = self.server.getsockname()[1]
+        threading.Thread(target=self.serve, args=(self.server,), daemon=True).start()
+
+    def serve(self, server):
         while True:
             try:
-                peer, _ = self.server.accept()
+                peer, _ = server.accept()
             except OSError:
                 return
             self.count += 1
+            self.live.add(self.count)
+            self.open.append(peer)
             threading.Thread(target=self.talk, args=(peer, self.count), daemon=True).start()
 
     def stop(self):
-        """Takes no connections any more."""
+        """Takes no connections any more, and ends those that it has."""
         with contextlib.suppress(OSError):
             self.server.shutdown(socket.SHUT_RDWR)
         self.server.close()
+        for peer in self.open:
+            with contextlib.suppress(OSError):
+                peer.shutdown(socket.SHUT_RDWR)
 
     def talk(self, peer, number):
         with contextlib.suppress(OSError, ValueError), peer, peer.makefile("rb") as reader:
-            peer.setsockopt(socket.IPPROTO_TCP, socket.TCP_NODELAY, 1)
+            if not self.path:
+                peer.setsockopt(socket.IPPROTO_TCP, socket.TCP_NODELAY, 1)
             turn = 0
             while self.answer_one(peer, reader, number, turn):
                 turn += 1
+        self.live.discard(number)
 
     def answer_one(self, peer, reader, number, turn):
         """Answers one request. Returns whether the connection goes on."""

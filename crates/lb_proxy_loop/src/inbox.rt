@@ -70,8 +70,12 @@ impl Inbox {
         }
         match spares.take(alloc) {
             Some(buffer) => {
-                self.reset();
-                self.buffer = buffer;
+                *self = Inbox {
+                    buffer,
+                    start: 0,
+                    passed: 0,
+                    end: 0,
+                };
                 true
             }
             None => false,
@@ -81,8 +85,8 @@ impl Inbox {
     /// Gives the buffer back where no byte is left.
     pub fn release(&mut self, alloc: Global, spares: &mut Spares) {
         if self.is_empty() && !self.buffer.is_empty() {
-            self.reset();
-            spares.give(mem::replace(&mut self.buffer, Vec::new(alloc)));
+            let Inbox { buffer, .. } = mem::replace(self, Inbox::new(alloc));
+            spares.give(buffer);
         }
     }
 
