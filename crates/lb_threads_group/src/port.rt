@@ -73,11 +73,14 @@ impl<'g, 'r, S: BackendSelection, R: KeyRule + Drop, C: HealthCheck + Drop, W: W
     fn publish(&mut self, built: Built<S>) -> Publication {
         let group = self.group;
         let _gate = &group.gate;
+        let slot = built.slot();
         let generation = built.generation();
         let mut held = group.lock.take(self.rt);
         held.value.founded();
         let told = held.value.publish(built);
         group.lock.put(held);
+        group.clear_lanes(self.rt, slot);
+        group.judge_all(self.rt, slot);
         match told {
             Ok(told) => told,
             Err(built) => {
@@ -137,6 +140,7 @@ impl<'g, 'r, S: BackendSelection, R: KeyRule + Drop, C: HealthCheck + Drop, W: W
         let group = self.group;
         let registries: &HealthRegistry<R, C> = &*group.registry;
         let _gate = &group.gate;
+        let has_settings = !settings.is_empty();
         let mut held = group.lock.take(self.rt);
         held.value.founded();
         let mut cells = registries.take(self.rt);
@@ -145,6 +149,9 @@ impl<'g, 'r, S: BackendSelection, R: KeyRule + Drop, C: HealthCheck + Drop, W: W
             .schedule(alloc, &mut cells.value, discovered, settings, now);
         registries.put(cells);
         group.lock.put(held);
+        if has_settings {
+            group.note_change();
+        }
         group.wake_if(brings_orders(&told));
         told
     }
@@ -158,6 +165,9 @@ impl<'g, 'r, S: BackendSelection, R: KeyRule + Drop, C: HealthCheck + Drop, W: W
         let told = held.value.ask(slot, &mut gate.value, now);
         gates.put(gate);
         group.lock.put(held);
+        if let Ok(Ask::Job(job)) = &told {
+            group.expect(self.rt, slot, job.generation());
+        }
         told
     }
 

@@ -1,13 +1,14 @@
 //! Selections of threads from a group that they share.
-ghost use Rattle.std.specs.Prelude.{◌≡◌};
-ghost use Rattle.lb_balancer_core.specs.Looks.{Answers};
-ghost use Rattle.lb_threads_group.specs.Group.{SelectedUnder};
+ghost use Rattle.std.specs.Prelude.{◌≡◌, Err, IfSome, MatchBool, None, Ok};
+ghost use Rattle.lb_balancer_core.specs.Looks.{Answers, is_no_such};
+ghost use Rattle.lb_threads_group.specs.Kept.{AnswersUnder, IsKeptFor, SelectedFrom};
+ghost use Rattle.lb_threads_group.specs.Shared.{SelectsByAny};
 
 use crate::group::SharedGroup;
-use crate::port::LockedPort;
-use lb_balancer_core::select::select_through;
+use crate::kept::{Entry, hint_of};
 use lb_health_core::health_check::HealthCheck;
 use lb_health_core::keys::KeyRule;
+use lb_threads_core::lane::Seen;
 use lb_select_base::backend::Backend;
 use lb_select_base::refusal::Refusal;
 use lb_select_base::walk::BackendSelection;
@@ -18,7 +19,8 @@ impl<S: BackendSelection, R: KeyRule + Drop, C: HealthCheck + Drop> SharedGroup<
     /// Returns the first backend that `accept` takes among the distinct candidates of what the slot serves, or `None`.
     ///
     /// `accept` is asked with a backend and whether it is ready, while no lock is held. Only the first `max_iterations` candidates are
-    /// looked at. It is `None` too where no such slot is there.
+    /// looked at. It is `None` too where no such slot is there. It takes no lock where the key's lane has what the slot serves, but for a
+    /// candidate that isn't ready, and for random words and loads.
     ///
     /// # Errors
     ///
@@ -33,33 +35,109 @@ impl<S: BackendSelection, R: KeyRule + Drop, C: HealthCheck + Drop> SharedGroup<
         accept: &F,
     ) -> Result<Option<Backend>, Refusal>
         requires { F.IsAlwaysCallable accept.now }
-        ensures { SelectedUnder R.gives (λ b ready a. Answers F.Fn accept.now b ready a) max_iterations S.walks key.now self.now slot
+        ensures { SelectedFrom R.gives (λ b ready a. Answers F.Fn accept.now b ready a) max_iterations S.walks key.now self.now slot
             result }
     {
-        let mut port = LockedPort { group: self, rt };
-        select_on(alloc, &mut port, slot, key, max_iterations, accept)
+        let hint = hint_of(key);
+        let Some(seen) = self.seen_in_lane(rt, slot, hint) else {
+            return self.select_entering(rt, alloc, slot, hint, key, max_iterations, accept);
+        };
+        let answer = self.select_seen(rt, alloc, slot, hint, &seen, key, max_iterations, accept);
+        self.end_reading(rt, seen);
+        answer
+    }
+
+    // Selects in what a lane has, where it is of this slot.
+    fn select_seen<W: Wait, F: Fn(&Backend, bool) -> bool>(
+        &self,
+        rt: &W,
+        alloc: Global,
+        slot: usize,
+        hint: u64,
+        seen: &Seen<'_, Entry<S, R, C>>,
+        key: &[u8],
+        max_iterations: usize,
+        accept: &F,
+    ) -> Result<Option<Backend>, Refusal>
+        requires accept { F.IsAlwaysCallable accept.now }
+        requires here { seen.now.hand.tag ≡ self.now }
+        ensures { SelectedFrom R.gives (λ b ready a. Answers F.Fn accept.now b ready a) max_iterations S.walks key.now self.now slot
+            result }
+    {
+        match self.entry_in(seen) {
+            Some(entry) if entry.slot == slot => {
+                self.select_for(rt, alloc, entry, key, max_iterations, accept)
+            }
+            _ => self.select_entering(rt, alloc, slot, hint, key, max_iterations, accept),
+        }
+    }
+
+    // Enters the slot, selects, and puts what was entered into the hint's lane.
+    #[cold]
+    #[inline(never)]
+    fn select_entering<W: Wait, F: Fn(&Backend, bool) -> bool>(
+        &self,
+        rt: &W,
+        alloc: Global,
+        slot: usize,
+        hint: u64,
+        key: &[u8],
+        max_iterations: usize,
+        accept: &F,
+    ) -> Result<Option<Backend>, Refusal>
+        requires { F.IsAlwaysCallable accept.now }
+        ensures { SelectedFrom R.gives (λ b ready a. Answers F.Fn accept.now b ready a) max_iterations S.walks key.now self.now slot
+            result }
+    {
+        match self.enter_lane(rt, slot) {
+            Ok(entry) => {
+                let answer = self.select_for(rt, alloc, &entry, key, max_iterations, accept);
+                self.keep(rt, hint, entry);
+                answer
+            }
+            Err(refusal) => unentered(refusal),
+        }
+    }
+
+    // What a lane has.
+    fn entry_in<'s>(&self, seen: &'s Seen<'_, Entry<S, R, C>>) -> Option<&'s Entry<S, R, C>>
+        requires { seen.now.hand.tag ≡ self.now }
+        ensures { IfSome result (λ e. IsKeptFor self.now e.now.slot e.now.reader e.now.found) }
+    {
+        seen.value()
+    }
+
+    // Selects in what was entered.
+    fn select_for<W: Wait, F: Fn(&Backend, bool) -> bool>(
+        &self,
+        rt: &W,
+        alloc: Global,
+        entry: &Entry<S, R, C>,
+        key: &[u8],
+        max_iterations: usize,
+        accept: &F,
+    ) -> Result<Option<Backend>, Refusal>
+        requires accept { F.IsAlwaysCallable accept.now }
+        requires kept { IsKeptFor self.now entry.now.slot entry.now.reader entry.now.found }
+        ensures { SelectsByAny (AnswersUnder R.gives (λ b ready a. Answers F.Fn accept.now b ready a) self.now entry.now.reader)
+            max_iterations (S.walks entry.now.reader.members entry.now.reader.config key.now) result }
+    {
+        let judged = |backend: &Backend| -> bool
+            requires accept { F.IsAlwaysCallable accept.now }
+            requires kept { IsKeptFor self.now entry.now.slot entry.now.reader entry.now.found }
+            ensures { AnswersUnder R.gives (λ b ready a. Answers F.Fn accept.entry.now b ready a) self.entry.now entry.entry.now.reader
+                backend.entry.now result }
+        { accept(backend, self.judge(rt, entry, backend)) };
+        self.select_in(rt, alloc, &entry.reader, key, max_iterations, &judged)
     }
 }
 
-fn select_on<
-    'g,
-    'r,
-    S: BackendSelection,
-    R: KeyRule + Drop,
-    C: HealthCheck + Drop,
-    W: Wait,
-    F: Fn(&Backend, bool) -> bool,
->(
-    alloc: Global,
-    port: &mut LockedPort<'g, 'r, S, R, C, W>,
-    slot: usize,
-    key: &[u8],
-    max_iterations: usize,
-    accept: &F,
-) -> Result<Option<Backend>, Refusal>
-    requires { F.IsAlwaysCallable accept.now }
-    ensures { SelectedUnder R.gives (λ b ready a. Answers F.Fn accept.now b ready a) max_iterations S.walks key.now port.old.group.now
-        slot result }
+// What is selected where no reader entered.
+fn unentered(refusal: Refusal) -> Result<Option<Backend>, Refusal>
+    ensures { MatchBool (is_no_such refusal) (result ≡ Ok None) (result ≡ Err refusal) }
 {
-    select_through(alloc, port, slot, key, max_iterations, accept)
+    match refusal {
+        Refusal::NoSuch => Ok(None),
+        refusal => Err(refusal),
+    }
 }
