@@ -43,8 +43,14 @@ pub fn select_through<S: BackendSelection, P: GroupPort<S>, F: Fn(&Backend, bool
     }
 }
 
-// A selection for a reader that has entered.
-fn select_for<S: BackendSelection, P: GroupPort<S>, F: Fn(&Backend, bool) -> bool>(
+/// Returns the first backend that `accept` takes among the distinct candidates of a reader's selector, or `None`.
+///
+/// It is the part of `select_through` between the entry and the leaving, for a reader that stays in.
+///
+/// # Errors
+///
+/// `OutOfMemory` where memory is refused.
+pub fn select_for<S: BackendSelection, P: GroupPort<S>, F: Fn(&Backend, bool) -> bool>(
     alloc: Global,
     port: &mut P,
     reader: &Reader<S>,

@@ -1,14 +1,11 @@
 -- An entry into a slot that was just asked what it serves, and a selection by whichever words were drawn.
 use Rattle.std.proofs.Common.{◌≡◌, ◌⊎◌, ◌∙◌, ◌==◌, ℕ, List, [], ◌∷◌, Bool, true, false, cond, nat_lt, length, refl, sym, subst, inl, inr}
 use Rattle.std.proofs.Common.{Option, Some, None, Result, Ok, Err}
-use Rattle.std.specs.Borrow.{Bor}
-use Rattle.std.specs.Fn.{Shared, FnReturnsAt}
 use Rattle.lb_select_base.specs.declared.refusal.Refusal.{Refusal}
 use Rattle.lb_select_base.specs.declared.refusal.Refusal.TheVariants as refusal
 use Rattle.lb_select_base.specs.Backends.{Member, same_member}
 use Rattle.lb_select_base.specs.Draws.{Draw, Gives}
 use Rattle.lb_select_base.specs.Selections.{Selects}
-use Rattle.lb_select_base.proofs.SelectionsSeen.{selects-more}
 use Rattle.lb_rebuild_core.specs.SlotsHistory.{past_of, served, readers}
 use Rattle.lb_rebuild_core.specs.SlotsCalls.{at_slot, Enters}
 use Rattle.lb_rebuild_core.specs.Stands.{Made}
@@ -76,11 +73,3 @@ pub selects_by_any : {S : Type 0} (accepts : Member → Bool → Type 0) (limit 
 selects_by_any accepts limit gives walks s t (Ok o) (cs, ended, w, is) =
     (cs, ended, record { draws = w.draws; drawn = any_words w.draws; walked = w.walked }, is)
 selects_by_any accepts limit gives walks s t (Err e) (memory, either) = (memory, inl refl)
-
--- what was asked is told by what follows from it
-pub asked-more : {F : Type 0} {g : Shared F (Bor Member × Unit {0}) Bool} {f : F} (Q : Member → Bool → Type 0) (limit : ℕ)
-    (walks : List Draw → List Member → Bool → Type 0) (r : Result (Option Member) Refusal)
-    → SelectsByAny (λ b a. FnReturnsAt g f b a) limit walks r → ((b : Member) (a : Bool) → FnReturnsAt g f b a → Q b a)
-    → SelectsByAny Q limit walks r
-asked-more {g = g} {f = f} Q limit walks r is more =
-    selects-more same_member (λ b a. FnReturnsAt g f b a) Q more limit (λ s d t. Unit {0}) walks tt tt r is

@@ -1,5 +1,5 @@
 -- Readiness goes by identity, and so does what a word says of it.
-use Rattle.std.proofs.Common.{◌≡◌, ◌∙◌, ℕ, Bool, true, false, List, [], ◌∷◌, Option, Some, None, replicate, zero, suc, refl, sym, subst, arith}
+use Rattle.std.proofs.Common.{◌≡◌, ◌∙◌, ℕ, Bool, true, false, List, [], ◌∷◌, Option, Some, None, replicate, zero, suc, ⊥, ◌%◌, refl, sym, subst}
 use Rattle.std.specs.Prelude.{IfSome, slice_get, slice_index}
 use Rattle.std.specs.Option.{IsSomeAnd}
 use Rattle.std.specs.HashMap.Eq.{lookup_congr}
@@ -12,7 +12,7 @@ use Rattle.lb_health_view.specs.Snapshots.{SnapshotValue, snapshot_at}
 use Rattle.lb_health_view.specs.ViewEvents.{ViewEvent, Shown, Released, Set, Held, flag_after, snapshots_after}
 use Rattle.lb_health_view.proofs.ViewLemmas.{lists-same}
 use Rattle.lb_rebuild_core.specs.GroupStates.{views_of}
-use Rattle.lb_threads_group.specs.Found.{ReadyAt, Says, SaysAt}
+use Rattle.lb_threads_group.specs.Found.{ReadyAt, Says, SaysAt, said_as}
 use Rattle.lb_threads_group.specs.Shared.{SharedValue}
 
 some-more : {A : Type 0} (o : Option A) (P Q : A → Type 0) → ((x : A) → P x → Q x) → IsSomeAnd o P → IsSomeAnd o Q
@@ -71,7 +71,7 @@ module _ {C R : Type 0} (gives : R → Member → Member → Type 0) (site : Sha
   )
 
   says-same : (b m : Member) (w : ℕ) → same_member b m ≡ true → Says (ReadyAt gives site g m) w → Says (ReadyAt gives site g b) w
-  says-same b m w same says = ((λ e. ready-at b m true same (says.0 e)), (λ e. ready-at b m false same (says.1 e)))
+  says-same b m w same says = λ a is. ready-at b m a same (says a is)
 
   -- what the word at a backend's place says is said of the backend
   pub says-of : (marks : List (Option Member)) (i w : ℕ) (b : Member) → HasPlace marks i b → SaysAt (ReadyAt gives site g) marks i w
@@ -104,6 +104,25 @@ module _ {C R : Type 0} (gives : R → Member → Member → Type 0) (site : Sha
       (subst (λ l. SaysAt (ReadyAt gives site g) l i w) (sym same_marks)
       (says-at gives site g marks i w b has says)))
 
+zero-says : (a : Bool) (w : ℕ) → w ≡ 0 → w % 4 ≡ said_as a → ⊥
+zero-says true w none is = absurd (cc)
+zero-says false w none is = absurd (cc)
+
+said-once : (a b : Bool) → said_as a ≡ said_as b → b ≡ a
+said-once true true is = refl
+said-once false false is = refl
+said-once true false is = absurd (cc)
+said-once false true is = absurd (cc)
+
+-- the word that says so of this alone
+pub says-word : (Told : Bool → Type 0) (w : ℕ) (a : Bool) → w % 4 ≡ said_as a → Told a → Says Told w
+says-word Told w a is told = λ b other. subst Told (said-once b a (sym other ∙ is)) told
+
+-- what a word was found to say
+pub said-of : (Told : Bool → Type 0) (w : ℕ) (o : Option Bool) → IfSome o (λ a. w % 4 ≡ said_as a) → Says Told w → IfSome o Told
+said-of Told w (Some a) is says = says a is
+said-of Told w None is says = tt
+
 -- a word of 0 says nothing, and so do words that aren't there
 pub nothing-said : (Told : Member → Bool → Type 0) (marks : List (Option Member)) (i w : ℕ) → w ≡ 0 → SaysAt Told marks i w
 nothing-said Told marks i w none = said (slice_get marks i)
@@ -111,7 +130,7 @@ nothing-said Told marks i w none = said (slice_get marks i)
     said : (o : Option (Option Member)) → IfSome o (λ o. IfSome o (λ b. Says (Told b) w))
     said None = tt
     said (Some None) = tt
-    said (Some (Some b)) = ((λ e. absurd (omega (arith, e, none))), (λ e. absurd (omega (arith, e, none))))
+    said (Some (Some b)) = λ a is. absurd (zero-says a w none is)
 
 -- each of so many numbers 0 is 0
 pub zero-at : (n i : ℕ) → slice_index (replicate n 0) i ≡ 0

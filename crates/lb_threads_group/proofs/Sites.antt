@@ -1,6 +1,6 @@
 -- What runs over a port whose calls leave one part of it tells the same of what they tell of in that part.
 use Rattle.std.specs.Prelude.{◌≡◌, ℕ, Bool, List, [], ◌∷◌, Option, Result, Ok, Err, refl}
-use Rattle.std.proofs.Common.{sym, ap, ◌∙◌, inl, inr}
+use Rattle.std.proofs.Common.{sym, ap, subst, ◌∙◌, inl, inr}
 use Rattle.lb_select_base.specs.Backends.{Member}
 use Rattle.lb_select_base.specs.Draws.{Draw}
 use Rattle.lb_select_base.specs.declared.refusal.Refusal.{Refusal}
@@ -63,6 +63,15 @@ module _ {C P X V : Type 0} (whole : P → X) (core : X → V) (Ready : V → Re
     selects_stay walks p r (Ok o) q (ls, looks, cs, ended, walked, is) = looks_stay r p ls q looks
     selects_stay walks p r (Err e) q (memory, inl same) = ap whole same
     selects_stay walks p r (Err e) q (memory, inr (ls, looks, cs, walked, fits, is)) = looks_stay r p ls q looks
+
+    -- a selection for a reader, by a port that tells of its group alone
+    pub selects_here : (walks : List Draw → List Member → Bool → Type 0) (p : P) (r : ReaderValue C) (o : Result (Option Member) Refusal)
+        (q : P)
+        → SelectsBy accepts limit Drawing Asking walks p r o q
+        → SelectsBy accepts limit (λ v r d w. w ≡ v) (λ v r b a w. Ready v r b a × (w ≡ v)) walks (of_port p) r o (of_port p)
+    selects_here walks p r o q is =
+        subst (λ v. SelectsBy accepts limit (λ v r d w. w ≡ v) (λ v r b a w. Ready v r b a × (w ≡ v)) walks (of_port p) r o v)
+        (ap core (selects_stay walks p r o q is)) (selects_at walks p r o q is)
 
     module _ (Enter : V → ℕ → Result (ReaderValue C) Refusal → Type 0) (Leave : V → ReaderValue C → Type 0)
         (walks : List Member → C → List ℕ → List Draw → List Member → Bool → Type 0) (key : List ℕ) where

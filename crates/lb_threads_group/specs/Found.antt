@@ -24,9 +24,14 @@ module _ {C R : Type 0} (gives : R → Member → Member → Type 0) where
       → IsRegistryAfter gives key_of events x
       → After v (λ made e. IsTrue a ↔ IsReady key_of (views_of made e) events g b))
 
--- what a word says: of the remainders by 4, 3 that it is so and 2 that it isn't; 0 and 1 say nothing
+-- what a word says by its remainder by 4: 3 that it is so, and 2 that it isn't; 0 and 1 say nothing
+abbrev pub said_as : Bool → ℕ
+said_as true = 3
+said_as false = 2
+
+-- what a word says is so
 abbrev pub Says : (Bool → Type 0) → ℕ → Type 0
-Says Told w = (w % 4 ≡ 3 → Told true) × (w % 4 ≡ 2 → Told false)
+Says Told w = (a : Bool) → w % 4 ≡ said_as a → Told a
 
 -- the word at a place says whether the backend that has the place is ready, and nothing where none has it
 abbrev pub SaysAt : (Member → Bool → Type 0) → List (Option Member) → ℕ → ℕ → Type 0

@@ -1,10 +1,11 @@
 //! Which backends of a generation are ready, as words that the lanes of a slot share: one for each backend, which says whether it is ready
 //! and as of which change that was found. A selection loads the word of its candidate, and asks group and registry where something changed
 //! since; so a flip or a flag costs each backend one question, and no request copies a membership.
-ghost use Rattle.std.specs.Prelude.{◌≡◌, Bool, IfOk, IfSome};
+ghost use Rattle.std.specs.Prelude.{◌≡◌, ◌%◌, IfOk, IfSome};
 ghost use Rattle.std.specs.Arc.{arc_value};
-ghost use Rattle.lb_threads_group.specs.Found.{ReadyAt, Says};
-ghost use Rattle.lb_threads_group.specs.Kept.{IsFoundFor, IsFoundOf};
+ghost use Rattle.lb_threads_group.specs.Found.{ReadyAt, said_as};
+ghost use Rattle.lb_threads_group.specs.Group.{ReadyUnder};
+ghost use Rattle.lb_threads_group.specs.Kept.{IsFoundOf};
 ghost use Rattle.lb_threads_group.specs.Shared.{SharedValue};
 
 use crate::group::SharedGroup;
@@ -16,6 +17,7 @@ use lb_rebuild_core::retired::Reader;
 use lb_select_base::backend::Backend;
 use lb_select_base::walk::BackendSelection;
 use lb_threads_core::lock::KeyedLock;
+use lb_threads_core::registry::HealthRegistry;
 use lb_threads_core::rule::LockRule;
 use lb_words::keyed::KeyedWords;
 use lb_words::rule::WordRule;
@@ -107,7 +109,7 @@ impl<S: BackendSelection, R: KeyRule + Drop, C> SlotWords<S, R, C> {
     // The words of a generation.
     fn of(&self, generation: u64) -> Option<Arc<Found<S, R, C>>>
         ensures { (site : SharedValue S.Config R) → IsFoundOf site self.now.served → IsFoundOf site self.now.next
-            → IfSome result (λ f. IsFoundFor site generation (arc_value f)) }
+            → IsFoundOf site result }
     {
         match found_of(&self.next, generation) {
             Some(found) => Some(found),
@@ -142,7 +144,7 @@ impl<S: BackendSelection, R: KeyRule + Drop, C> Found<S, R, C> {
         generation: u64,
         backends: &BTreeSet<Backend>,
     ) -> Result<Found<S, R, C>, AllocError>
-        ensures { IfOk result (IsFoundFor site.now generation) }
+        ensures { IfOk result (λ f. f.site ≡ site.now) }
     {
         let marks = marks_of(alloc, backends)?;
         let none: Vec<u64> = vec![in alloc; 0; marks.len()]?;
@@ -157,6 +159,13 @@ impl<S: BackendSelection, R: KeyRule + Drop, C> Found<S, R, C> {
             marks,
             words,
         })
+    }
+
+    // The generation of its readers.
+    pub(crate) fn generation(&self) -> u64
+        ensures { result ≡ self.now.generation }
+    {
+        self.generation
     }
 
     // Whether a backend is ready, where its word says so as of this change.
@@ -185,7 +194,7 @@ impl<S: BackendSelection, R: KeyRule + Drop, C> Found<S, R, C> {
 // What a word says.
 #[inline]
 fn told_by(word: u64) -> Option<bool>
-    ensures { (Told : Bool → Type 0) → Says Told word → IfSome result Told }
+    ensures { IfSome result (λ a. word % 4 ≡ said_as a) }
 {
     match word % 4 {
         IS_READY => Some(true),
@@ -196,7 +205,7 @@ fn told_by(word: u64) -> Option<bool>
 
 // The word that says so as of this change.
 fn word_of(changes: u64, ready: bool) -> u64
-    ensures { (Told : Bool → Type 0) → Told ready → Says Told result }
+    ensures { result % 4 ≡ said_as ready }
 {
     let turn = changes % CHANGES * 4;
     if ready {
@@ -233,7 +242,7 @@ impl<S: BackendSelection, R: KeyRule + Drop, C: HealthCheck + Drop> SharedGroup<
         slot: usize,
         generation: u64,
     ) -> Option<Arc<Found<S, R, C>>>
-        ensures { IfSome result (λ f. IsFoundFor self.now generation (arc_value f)) }
+        ensures { IsFoundOf self.now result }
     {
         let lock = self.words_lock(slot)?;
         let held = lock.take(rt);
@@ -270,13 +279,24 @@ impl<S: BackendSelection, R: KeyRule + Drop, C: HealthCheck + Drop> SharedGroup<
             return;
         };
         if let Some(found) = &entry.found {
-            for mark in found.marks.as_slice() {
-                if let Some(backend) = mark {
-                    self.judge(rt, &entry, backend);
-                }
-            }
+            self.judge_each(rt, &**found, &entry.reader);
         }
         self.leave_entry(rt, entry);
+    }
+
+    // Judges each backend that has a word.
+    fn judge_each<W: Wait>(&self, rt: &W, found: &Found<S, R, C>, reader: &Reader<S>)
+        requires found { found.now.site ≡ self.now }
+        requires own { reader.now.group ≡ self.now.core.group.id }
+    {
+        if found.generation() != reader.generation() {
+            return;
+        }
+        for mark in found.marks.as_slice() {
+            if let Some(backend) = mark {
+                self.judge(rt, found, reader, backend);
+            }
+        }
     }
 
     // Words for readers of a generation.
@@ -285,7 +305,7 @@ impl<S: BackendSelection, R: KeyRule + Drop, C: HealthCheck + Drop> SharedGroup<
         generation: u64,
         backends: &BTreeSet<Backend>,
     ) -> Option<Arc<Found<S, R, C>>>
-        ensures { IfSome result (λ f. IsFoundFor self.now generation (arc_value f)) }
+        ensures { IsFoundOf self.now result }
     {
         let _site = &self.site;
         let found = Found::new(self.alloc, &self.site, generation, backends).ok()?;
@@ -306,15 +326,16 @@ impl<S: BackendSelection, R: KeyRule + Drop, C: HealthCheck + Drop> SharedGroup<
         backends
     }
 
-    // Whether a backend is ready for a reader: as its word says, and where that isn't of now, as group and registry say.
-    pub(crate) fn judge_by<W: Wait>(
+    // Whether a backend is ready for a reader of the words' generation: as its word says, and where that isn't of now, as group and
+    // registry say.
+    pub(crate) fn judge<W: Wait>(
         &self,
         rt: &W,
         found: &Found<S, R, C>,
         reader: &Reader<S>,
         backend: &Backend,
     ) -> bool
-        requires found { IsFoundFor self.now reader.now.generation found.now }
+        requires found { (found.now.site ≡ self.now) × (found.now.generation ≡ reader.now.generation) }
         requires own { reader.now.group ≡ self.now.core.group.id }
         ensures { ReadyAt R.gives self.now reader.now.generation backend.now result }
     {
@@ -326,6 +347,22 @@ impl<S: BackendSelection, R: KeyRule + Drop, C: HealthCheck + Drop> SharedGroup<
         found.note(changes, backend, ready);
         ready
     }
+
+    // Whether group and registry say that a backend is ready for a reader.
+    pub(crate) fn ask_ready<W: Wait>(&self, rt: &W, reader: &Reader<S>, backend: &Backend) -> bool
+        requires { reader.now.group ≡ self.now.core.group.id }
+        ensures { ReadyUnder R.gives self.now reader.now backend.now result }
+    {
+        let registries: &HealthRegistry<R, C> = &*self.registry;
+        let _gate = &self.gate;
+        let held = self.lock.take(rt);
+        held.value.founded();
+        let cells = registries.take(rt);
+        let told = held.value.core().ready(reader, &cells.value, backend);
+        registries.put(cells);
+        self.lock.put(held);
+        told
+    }
 }
 
 // The words, where they are of this generation.
@@ -333,7 +370,7 @@ fn found_of<S: BackendSelection, R: KeyRule + Drop, C>(
     found: &Option<Arc<Found<S, R, C>>>,
     generation: u64,
 ) -> Option<Arc<Found<S, R, C>>>
-    ensures { (site : SharedValue S.Config R) → IsFoundOf site found.now → IfSome result (λ f. IsFoundFor site generation (arc_value f)) }
+    ensures { (site : SharedValue S.Config R) → IsFoundOf site found.now → IsFoundOf site result }
 {
     match found {
         Some(found) => {

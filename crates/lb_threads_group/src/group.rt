@@ -290,7 +290,11 @@ impl<S: BackendSelection, R: KeyRule + Drop, C: HealthCheck + Drop> SharedGroup<
         ensures { UpdatedUnder R.gives K.reads D.finds discovery.now clock.old self.now result clock.new }
     {
         let turn = self.updates.lock(rt);
-        let mut port = LockedPort { group: self, rt };
+        let mut port = LockedPort {
+            group: self,
+            rt,
+            found: None,
+        };
         let told = update_on(alloc, &mut port, discovery, clock);
         drop(turn);
         told

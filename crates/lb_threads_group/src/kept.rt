@@ -1,26 +1,24 @@
 //! What a slot's lanes have: a reader that entered by the group's lock, and the words that say which backends are ready for it. Selections go
 //! on in it without a lock.
-ghost use Rattle.std.specs.Prelude.{◌≡◌, All, Ok, Err, IfOk, IfErr, IfSome};
-ghost use Rattle.std.specs.Arc.{arc_value};
-ghost use Rattle.lb_threads_group.specs.Group.{EnteredUnder, ReadyUnder};
-ghost use Rattle.lb_threads_group.specs.Kept.{IsKeptFor};
+ghost use Rattle.std.specs.Prelude.{◌≡◌, All, Err, IfErr, IfOk, IfSome};
+ghost use Rattle.lb_threads_group.specs.Group.{EnteredUnder, LeftUnder};
+ghost use Rattle.lb_threads_group.specs.Kept.{IsEntry, IsFoundOf, IsLeftOrKept};
+ghost use Rattle.lb_threads_group.specs.Shared.{SharedValue};
 
 use crate::found::Found;
 use crate::group::SharedGroup;
 use crate::port::LockedPort;
 use counted_slot::Fits;
-use lb_balancer_core::port::{GroupPort, TakesBack};
+use lb_balancer_core::port::GroupPort;
 use lb_health_core::health_check::HealthCheck;
 use lb_health_core::keys::KeyRule;
-use lb_threads_core::lane::Seen;
-use lb_threads_core::lanes::Lanes;
 use lb_rebuild::watched::Watched;
 use lb_rebuild_core::retired::Reader;
-use lb_select_base::backend::Backend;
 use lb_select_base::refusal::Refusal;
 use lb_select_base::walk::BackendSelection;
+use lb_threads_core::lane::Seen;
+use lb_threads_core::lanes::Lanes;
 use lb_threads_core::registry::HealthRegistry;
-use std::alloc::Global;
 use std::marker::Model;
 use std::snapshot::Snapshot;
 use std::sync::atomic::Ordering::SeqCst;
@@ -66,11 +64,11 @@ pub struct Entry<S: BackendSelection, R: KeyRule + Drop, C> {
 }
 
 impl<S: BackendSelection, R: KeyRule + Drop, C> Fits for Entry<S, R, C> {
-    ghost use Rattle.lb_threads_group.specs.Kept.{IsKeptFor};
+    ghost use Rattle.lb_threads_group.specs.Kept.{IsEntry};
 
     type Tag = Site<S, R, C>;
 
-    ghost fits = { λ site e. IsKeptFor site e.slot e.reader e.found };
+    ghost fits = { λ site e. IsEntry site e.slot e.reader e.found };
 }
 
 impl<S: BackendSelection, R: KeyRule + Drop, C> Entry<S, R, C> {
@@ -84,6 +82,16 @@ impl<S: BackendSelection, R: KeyRule + Drop, C> Entry<S, R, C> {
             found: _,
         } = self;
         reader
+    }
+
+    // Its words.
+    pub(crate) fn words(&self) -> Option<&Found<S, R, C>>
+        ensures { (site : SharedValue S.Config R) → IsFoundOf site self.now.found → IfSome result (λ f. f.now.site ≡ site) }
+    {
+        match &self.found {
+            Some(found) => Some(&**found),
+            None => None,
+        }
     }
 }
 
@@ -165,17 +173,21 @@ impl<S: BackendSelection, R: KeyRule + Drop, C: HealthCheck + Drop> SharedGroup<
     // Leaves the selector that was entered.
     pub(crate) fn leave_entry<W: Wait>(&self, rt: &W, entry: Entry<S, R, C>)
         requires { entry.reader.group ≡ self.now.core.group.id }
+        ensures { LeftUnder self.now.core entry.reader }
     {
-        let mut port = LockedPort { group: self, rt };
-        port.leave(entry.into_reader());
+        self.leave(rt, entry.into_reader());
     }
 
     // Enters a slot, and takes the words of the reader's generation.
     pub(crate) fn enter_lane<W: Wait>(&self, rt: &W, slot: usize) -> Result<Entry<S, R, C>, Refusal>
-        ensures kept { IfOk result (λ e. (e.slot ≡ slot) × IsKeptFor self.now e.slot e.reader e.found) }
+        ensures entry { IfOk result (λ e. (e.slot ≡ slot) × IsEntry self.now e.slot e.reader e.found) }
         ensures refused { IfErr result (λ e. EnteredUnder self.now.core slot (Err e)) }
     {
-        let mut port = LockedPort { group: self, rt };
+        let mut port = LockedPort {
+            group: self,
+            rt,
+            found: None,
+        };
         let reader = match port.enter(slot) {
             Ok(reader) => reader,
             Err(refusal) => return Err(refusal),
@@ -188,30 +200,11 @@ impl<S: BackendSelection, R: KeyRule + Drop, C: HealthCheck + Drop> SharedGroup<
         })
     }
 
-    // Whether a backend is ready for an entry.
-    pub(crate) fn judge<W: Wait>(&self, rt: &W, entry: &Entry<S, R, C>, backend: &Backend) -> bool
-        requires { IsKeptFor self.now entry.now.slot entry.now.reader entry.now.found }
-        ensures { ReadyUnder R.gives self.now entry.now.reader backend.now result }
-    {
-        match &entry.found {
-            Some(found) => self.judge_by(rt, &**found, &entry.reader, backend),
-            None => self.ask_ready(rt, &entry.reader, backend),
-        }
-    }
-
-    // Whether group and registry say that a backend is ready for a reader.
-    pub(crate) fn ask_ready<W: Wait>(&self, rt: &W, reader: &Reader<S>, backend: &Backend) -> bool
-        requires { reader.now.group ≡ self.now.core.group.id }
-        ensures { ReadyUnder R.gives self.now reader.now backend.now result }
-    {
-        let mut port = LockedPort { group: self, rt };
-        port.ready(reader, backend)
-    }
-
     // Puts an entry into the hint's lane of its slot, if it has words: they come with the publication. Where something changed meanwhile, the
     // lane is emptied, so that none has for long what isn't served.
     pub(crate) fn keep<W: Wait>(&self, rt: &W, hint: u64, entry: Entry<S, R, C>)
-        requires { IsKeptFor self.now entry.slot entry.reader entry.found }
+        requires { IsEntry self.now entry.slot entry.reader entry.found }
+        ensures { IsLeftOrKept self.now entry.slot entry.reader }
     {
         let slot = entry.slot;
         let generation = entry.reader.generation();

@@ -1,6 +1,7 @@
 //! Places of backends, so that each is found by few looks: which place a backend has is tried by a number of its identity.
 ghost use Rattle.std.specs.Prelude.{◌≡◌, IfSome, IsTrue, Some, slice_get, true};
-ghost use Rattle.lb_select_base.specs.Backends.{Member, same_member};
+ghost use Rattle.lb_select_base.specs.Backends.{Member, ipv4, same_member};
+ghost use Rattle.lb_select_base.specs.Seen.{address_seen};
 
 use lb_select_base::backend::{Backend, Ext, InetAddr, SocketAddr};
 use std::alloc::{AllocError, Global};
@@ -43,18 +44,32 @@ fn first_place(backend: &Backend, count: usize) -> usize {
     ((spread >> 32).wrapping_mul(count as u64) >> 32) as usize
 }
 
+// The octets and the port of an IPv4 address.
+#[inline]
+fn ipv4_of(address: &SocketAddr) -> Option<(&[u8; 4], u16)>
+    ensures { IfSome result (λ p. address_seen address.now ≡ ipv4 p.0.now p.1) }
+{
+    match address {
+        SocketAddr::Inet(InetAddr::V4(octets, port)) => Some((octets, *port)),
+        _ => None,
+    }
+}
+
 // Whether two backends have one identity; of IPv4 addresses it takes three comparisons.
 #[inline]
 fn is_same(backend: &Backend, mark: &Backend) -> bool
     ensures { IsTrue result → same_member backend.now mark.now ≡ true }
 {
-    match (&backend.addr, &mark.addr) {
-        (
-            SocketAddr::Inet(InetAddr::V4(octets, port)),
-            SocketAddr::Inet(InetAddr::V4(others, other_port)),
-        ) => octets == others && port == other_port && backend.weight == mark.weight,
-        _ => backend == mark,
+    let Some((octets, port)) = ipv4_of(&backend.addr) else {
+        return backend == mark;
+    };
+    let Some((others, other_port)) = ipv4_of(&mark.addr) else {
+        return false;
+    };
+    if octets != others || port != other_port {
+        return false;
     }
+    backend.weight == mark.weight
 }
 
 // The place that a backend of this identity has.

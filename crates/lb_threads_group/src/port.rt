@@ -1,10 +1,11 @@
 //! Implements `GroupPort` over a group that threads share: each call takes the group's lock, and the registry's and the gate's where it
 //! needs them. No build and no destruction runs under a lock.
-ghost use Rattle.std.specs.Prelude.{◌≡◌};
+ghost use Rattle.std.specs.Prelude.{◌≡◌, IfSome};
 ghost use Rattle.std.proofs.Common.{subst, sym};
 ghost use Rattle.lb_threads_group.specs.Group.{OwnsJob, OwnsPermit, AskedUnder, EnteredUnder, TakenUnder, LeftUnder, PublishedUnder};
 ghost use Rattle.lb_threads_group.specs.Group.{FailedUnder, ReportedUnder, ReadyUnder, ScheduledUnder};
 
+use crate::found::Found;
 use crate::group::SharedGroup;
 use lb_balancer_core::build::RefusedJob;
 use lb_balancer_core::port::{GroupPort, TakesBack};
@@ -30,6 +31,22 @@ use std::sync::Wait;
 pub struct LockedPort<'g, 'r, S: BackendSelection, R: KeyRule + Drop, C, W> {
     pub group: &'g SharedGroup<S, R, C>,
     pub rt: &'r W,
+    // Words of the group, which are loaded before a lock is taken.
+    pub(crate) found: Option<&'r Found<S, R, C>>,
+    ghost own: { IfSome found (λ f. f.now.site ≡ group.now) },
+}
+
+impl<'g, 'r, S: BackendSelection, R: KeyRule + Drop, C, W> LockedPort<'g, 'r, S, R, C, W> {
+    /// Returns a port of this group, for the thread that `rt` is of.
+    pub fn new(group: &'g SharedGroup<S, R, C>, rt: &'r W) -> LockedPort<'g, 'r, S, R, C, W>
+        ensures { result.group.now ≡ group.now }
+    {
+        LockedPort {
+            group,
+            rt,
+            found: None,
+        }
+    }
 }
 
 impl<'g, 'r, S: BackendSelection, R: KeyRule + Drop, C: HealthCheck + Drop, W: Wait> TakesBack<
@@ -183,15 +200,12 @@ impl<'g, 'r, S: BackendSelection, R: KeyRule + Drop, C: HealthCheck + Drop, W: W
 
     fn ready(&mut self, reader: &Reader<S>, backend: &Backend) -> bool {
         let group = self.group;
-        let registries: &HealthRegistry<R, C> = &*group.registry;
-        let _gate = &group.gate;
-        let held = group.lock.take(self.rt);
-        held.value.founded();
-        let cells = registries.take(self.rt);
-        let told = held.value.core().ready(reader, &cells.value, backend);
-        registries.put(cells);
-        group.lock.put(held);
-        told
+        match self.found {
+            Some(found) if found.generation() == reader.generation() => {
+                group.judge(self.rt, found, reader, backend)
+            }
+            _ => group.ask_ready(self.rt, reader, backend),
+        }
     }
 
     fn ticket(&mut self, reader: &Reader<S>) -> u64 {

@@ -1,17 +1,19 @@
-//! Selections of threads from a group that they share.
+//! Selections of threads from a group that they share: in what a lane of the slot has, or else by the group's lock.
 ghost use Rattle.std.specs.Prelude.{◌≡◌, Err, IfSome, MatchBool, None, Ok};
 ghost use Rattle.lb_balancer_core.specs.Looks.{Answers, is_no_such};
-ghost use Rattle.lb_threads_group.specs.Kept.{AnswersUnder, IsKeptFor, SelectedFrom};
-ghost use Rattle.lb_threads_group.specs.Shared.{SelectsByAny};
+ghost use Rattle.lb_threads_group.specs.Kept.{IsEntry, SelectedFrom, SelectsUnder};
 
 use crate::group::SharedGroup;
 use crate::kept::{Entry, hint_of};
+use crate::port::LockedPort;
+use lb_balancer_core::select::select_for;
 use lb_health_core::health_check::HealthCheck;
 use lb_health_core::keys::KeyRule;
-use lb_threads_core::lane::Seen;
+use lb_rebuild_core::retired::Reader;
 use lb_select_base::backend::Backend;
 use lb_select_base::refusal::Refusal;
 use lb_select_base::walk::BackendSelection;
+use lb_threads_core::lane::Seen;
 use std::alloc::Global;
 use std::sync::Wait;
 
@@ -19,8 +21,11 @@ impl<S: BackendSelection, R: KeyRule + Drop, C: HealthCheck + Drop> SharedGroup<
     /// Returns the first backend that `accept` takes among the distinct candidates of what the slot serves, or `None`.
     ///
     /// `accept` is asked with a backend and whether it is ready, while no lock is held. Only the first `max_iterations` candidates are
-    /// looked at. It is `None` too where no such slot is there. It takes no lock where the key's lane has what the slot serves, but for a
-    /// candidate that isn't ready, and for random words and loads.
+    /// looked at. It is `None` too where no such slot is there.
+    ///
+    /// A reader enters the slot for it. Then it leaves, or a lane of the slot keeps it for the selections that follow, which take no lock:
+    /// but for a candidate whose readiness may have changed since it was last asked for, and for random words and loads. The worker that
+    /// publishes empties the slot's lanes, so that no lane keeps a retired selector once the selections in it have ended.
     ///
     /// # Errors
     ///
@@ -66,7 +71,7 @@ impl<S: BackendSelection, R: KeyRule + Drop, C: HealthCheck + Drop> SharedGroup<
     {
         match self.entry_in(seen) {
             Some(entry) if entry.slot == slot => {
-                self.select_for(rt, alloc, entry, key, max_iterations, accept)
+                self.select_as(rt, alloc, entry, key, max_iterations, accept)
             }
             _ => self.select_entering(rt, alloc, slot, hint, key, max_iterations, accept),
         }
@@ -91,7 +96,7 @@ impl<S: BackendSelection, R: KeyRule + Drop, C: HealthCheck + Drop> SharedGroup<
     {
         match self.enter_lane(rt, slot) {
             Ok(entry) => {
-                let answer = self.select_for(rt, alloc, &entry, key, max_iterations, accept);
+                let answer = self.select_as(rt, alloc, &entry, key, max_iterations, accept);
                 self.keep(rt, hint, entry);
                 answer
             }
@@ -102,13 +107,13 @@ impl<S: BackendSelection, R: KeyRule + Drop, C: HealthCheck + Drop> SharedGroup<
     // What a lane has.
     fn entry_in<'s>(&self, seen: &'s Seen<'_, Entry<S, R, C>>) -> Option<&'s Entry<S, R, C>>
         requires { seen.now.hand.tag ≡ self.now }
-        ensures { IfSome result (λ e. IsKeptFor self.now e.now.slot e.now.reader e.now.found) }
+        ensures { IfSome result (λ e. IsEntry self.now e.now.slot e.now.reader e.now.found) }
     {
         seen.value()
     }
 
     // Selects in what was entered.
-    fn select_for<W: Wait, F: Fn(&Backend, bool) -> bool>(
+    fn select_as<W: Wait, F: Fn(&Backend, bool) -> bool>(
         &self,
         rt: &W,
         alloc: Global,
@@ -118,18 +123,41 @@ impl<S: BackendSelection, R: KeyRule + Drop, C: HealthCheck + Drop> SharedGroup<
         accept: &F,
     ) -> Result<Option<Backend>, Refusal>
         requires accept { F.IsAlwaysCallable accept.now }
-        requires kept { IsKeptFor self.now entry.now.slot entry.now.reader entry.now.found }
-        ensures { SelectsByAny (AnswersUnder R.gives (λ b ready a. Answers F.Fn accept.now b ready a) self.now entry.now.reader)
-            max_iterations (S.walks entry.now.reader.members entry.now.reader.config key.now) result }
+        requires kept { IsEntry self.now entry.now.slot entry.now.reader entry.now.found }
+        ensures { SelectsUnder R.gives (λ b ready a. Answers F.Fn accept.now b ready a) max_iterations S.walks key.now self.now
+            entry.now.reader result }
     {
-        let judged = |backend: &Backend| -> bool
-            requires accept { F.IsAlwaysCallable accept.now }
-            requires kept { IsKeptFor self.now entry.now.slot entry.now.reader entry.now.found }
-            ensures { AnswersUnder R.gives (λ b ready a. Answers F.Fn accept.entry.now b ready a) self.entry.now entry.entry.now.reader
-                backend.entry.now result }
-        { accept(backend, self.judge(rt, entry, backend)) };
-        self.select_in(rt, alloc, &entry.reader, key, max_iterations, &judged)
+        let mut port = LockedPort {
+            group: self,
+            rt,
+            found: entry.words(),
+        };
+        select_on(alloc, &mut port, &entry.reader, key, max_iterations, accept)
     }
+}
+
+fn select_on<
+    'g,
+    'r,
+    S: BackendSelection,
+    R: KeyRule + Drop,
+    C: HealthCheck + Drop,
+    W: Wait,
+    F: Fn(&Backend, bool) -> bool,
+>(
+    alloc: Global,
+    port: &mut LockedPort<'g, 'r, S, R, C, W>,
+    reader: &Reader<S>,
+    key: &[u8],
+    max_iterations: usize,
+    accept: &F,
+) -> Result<Option<Backend>, Refusal>
+    requires accept { F.IsAlwaysCallable accept.now }
+    requires own { reader.now.group ≡ port.old.group.now.core.group.id }
+    ensures { SelectsUnder R.gives (λ b ready a. Answers F.Fn accept.now b ready a) max_iterations S.walks key.now port.old.group.now
+        reader.now result }
+{
+    select_for(alloc, port, reader, key, max_iterations, accept)
 }
 
 // What is selected where no reader entered.

@@ -73,7 +73,11 @@ fn turn_of<
     W: Log + Wait,
     K: MomentSource,
 >(rt: &W, alloc: Global, group: &SharedGroup<S, R, C>, slot: usize, clock: &mut K) -> Next {
-    let mut port = LockedPort { group, rt };
+    let mut port = LockedPort {
+        group,
+        rt,
+        found: None,
+    };
     turn_on(alloc, &mut port, slot, clock)
 }
 

@@ -1,7 +1,7 @@
 -- What is noted of a backend is said at its place.
 use Rattle.std.proofs.Common.{◌∙◌, ap}
 use Rattle.lb_threads_group.specs.Found.{ReadyAt}
-use Rattle.lb_threads_group.proofs.Readiness.{said-to}
+use Rattle.lb_threads_group.proofs.Readiness.{said-to, says-word}
 use Rattle.lb_threads_group.proofs.found.Found.note.Goals as goal
 
 pub store-requires : goal.store-requires
@@ -12,4 +12,4 @@ store-requires g c =
     said-to gives own.site own.generation c.self.inside.marks.items key.site.value key.generation key.marks.value.items
     (ap (λ v. v.site) c.self.view_is) (c.self.invariant.0 ∙ ap (λ v. v.generation) c.self.view_is) c.self.invariant.1
     c.in-Some.place c.word_of.result c.args.backend.now c.place_of.ensures
-    (c.word_of.ensures (ReadyAt gives own.site own.generation c.args.backend.now) c.requires)
+    (says-word (ReadyAt gives own.site own.generation c.args.backend.now) c.word_of.result c.args.ready c.word_of.ensures c.requires)
