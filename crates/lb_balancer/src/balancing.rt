@@ -89,7 +89,6 @@ struct Places<S: BackendSelection> {
 
 /// A balancer with one selector. Contracts see its discovery, and what its selectors are built with; other threads may change what it
 /// serves at any time. Its drop takes no lock: the next call of the registry removes its view.
-#[derive(Drop)]
 pub struct Balancing<S: BackendSelection, D, R: KeyRule + Drop, C> {
     discovery: DiscoverySource<D>,
     pub(crate) config: Option<S::Config>,
@@ -104,6 +103,25 @@ pub struct Balancing<S: BackendSelection, D, R: KeyRule + Drop, C> {
     // Counts what may have changed what is ready, but for the registry's own changes.
     changes: AtomicU64,
     seeds: AtomicU64,
+}
+
+impl<S: BackendSelection, D: Drop, R: KeyRule + Drop, C: Drop> Drop for Balancing<S, D, R, C> {
+    fn drop(self) {
+        let Balancing {
+            discovery: _,
+            config: _,
+            registry: _,
+            view: _,
+            updates: _,
+            serving: _,
+            shown: _,
+            lanes: _,
+            timing: _,
+            loads: _,
+            changes: _,
+            seeds: _,
+        } = self;
+    }
 }
 
 impl<S: BackendSelection, D, R: KeyRule + Drop, C> Model for Balancing<S, D, R, C> {

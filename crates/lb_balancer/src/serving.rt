@@ -38,10 +38,15 @@ pub struct BuiltSelector<S: BackendSelection> {
 }
 
 /// A view, and the selector of its newest membership. Contracts see the view by the history of its events; each view has some history.
-#[derive(Drop)]
 pub struct Serving<S: BackendSelection> {
     view: ViewCore,
     built: BuiltSelector<S>,
+}
+
+impl<S: BackendSelection> Drop for Serving<S> {
+    fn drop(self) {
+        let Serving { view: _, built: _ } = self;
+    }
 }
 
 impl<S: BackendSelection> Model for Serving<S> {

@@ -28,7 +28,6 @@ pub struct Version {
 /// A generation with its members, the selector that is built of them, and which of them were not ready then.
 ///
 /// Contracts see all but the selector's words, which other threads draw too, and the loads of the balancer, which they set.
-#[derive(Drop)]
 pub struct Shown<S: BackendSelection> {
     pub(crate) generation: u64,
     pub(crate) members: Arc<BTreeSet<Backend>>,
@@ -37,6 +36,20 @@ pub struct Shown<S: BackendSelection> {
     pub(crate) loads: Arc<Mutex<Loads>>,
     pub(crate) unready: BTreeSet<Backend>,
     pub(crate) version: Version,
+}
+
+impl<S: BackendSelection> Drop for Shown<S> {
+    fn drop(self) {
+        let Shown {
+            generation: _,
+            members: _,
+            selector: _,
+            words: _,
+            loads: _,
+            unready: _,
+            version: _,
+        } = self;
+    }
 }
 
 impl<S: BackendSelection> Model for Shown<S> {

@@ -37,13 +37,23 @@ use std::sync::Arc;
 /// counter of tickets began at 0 when it was built.
 ///
 /// Contracts describe it by the history of its events; some history explains each.
-#[derive(Drop)]
 pub struct Served<S: BackendSelection, G: Drop> {
     view: ViewCore,
     // None: that of `S::build`.
     config: Option<S::Config>,
     selector: Arc<S>,
     words: CoreWords<G>,
+}
+
+impl<S: BackendSelection, G: Drop> Drop for Served<S, G> {
+    fn drop(self) {
+        let Served {
+            view: _,
+            config: _,
+            selector: _,
+            words: _,
+        } = self;
+    }
 }
 
 impl<S: BackendSelection, G: Drop> Model for Served<S, G> {

@@ -23,6 +23,7 @@ use anyhow::Error;
 use log::Log;
 use std::alloc::Global;
 use std::env;
+use std::net::Net;
 use std::rt::Files;
 use std::sync::Wait;
 use std::thread::Threads;
@@ -32,6 +33,7 @@ use words::Usage;
 // Measures what a word says, by these numbers.
 fn measure<
     R: Log
+        + Net
         + Threads
         + Wait
         + Clock
@@ -60,6 +62,7 @@ fn measure<
 // Measures each once, in its small form.
 fn measure_all<
     R: Log
+        + Net
         + Threads
         + Wait
         + Clock

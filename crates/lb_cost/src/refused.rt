@@ -6,6 +6,8 @@ use anyhow::Error;
 use lb_balancer_core::timings::UpdateTimings;
 use lb_health_view::discovery::{Discovered, ServiceDiscovery};
 use lb_health_view::view::Settings;
+use lb_select::ketama::KetamaHashing;
+use lb_select::selection::{FNVHash, RoundRobin};
 use lb_select_base::backend::Backend;
 use lb_select_base::moments::MomentSource;
 use lb_select_base::refusal::Refusal;
@@ -13,6 +15,7 @@ use log::Log;
 use std::alloc::Global;
 use std::collections::BTreeSet;
 use std::io;
+use std::net::Net;
 use std::sync::atomic::AtomicBool;
 use std::sync::atomic::Ordering::SeqCst;
 use std::sync::{Arc, Wait};
@@ -185,6 +188,14 @@ const BALANCER: &[Row] = &[
     (Call::Update(false), 3),
 ];
 
+/// The calls of a balancer that is made of the first list's addresses: it was updated once, and always finds these.
+const TEXTS: &[Row] = &[
+    (Call::Update(false), 1),
+    (Call::Load, 0),
+    (Call::Disable, 1),
+    (Call::Update(true), 1),
+];
+
 const GROUP: &[Row] = &[
     (Call::Update(false), 1),
     (Call::Turn, 1),
@@ -273,7 +284,7 @@ impl Course {
 }
 
 // Makes the calls of a subject, and reports what came of them.
-fn agree<W: Wait + Print + Copy + Drop, T: Made + Drop>(
+fn agree<W: Net + Wait + Print + Copy + Drop, T: Made + Drop>(
     rt: &W,
     alloc: Global,
     name: &str,
@@ -304,14 +315,17 @@ fn passes_agree<W: Log + Threads + Wait + Print + Copy + Sync + Drop>(
     course.report(rt, "the passes of a shared registry")
 }
 
-// Reports the calls of each subject, and passes of checks. Returns whether all agree.
-fn all_agree<W: Log + Threads + Wait + Print + Copy + Sync + Drop>(
+// Reports the calls of each subject, each over what its maker makes, and passes of checks. Returns whether all agree.
+fn all_agree<W: Log + Net + Threads + Wait + Print + Copy + Sync + Drop>(
     rt: &W,
     alloc: Global,
 ) -> io::Result<bool> {
-    let mut all = agree::<W, Alone>(rt, alloc, "the calls of a shared registry", REGISTRY)?;
+    let mut all = agree::<W, Alone<false>>(rt, alloc, "the calls of a shared registry", REGISTRY)?;
+    all &= agree::<W, Alone<true>>(rt, alloc, "those of a registry by address", REGISTRY)?;
     all &= agree::<W, View>(rt, alloc, "the calls of a shared view", VIEW)?;
-    all &= agree::<W, Balancer>(rt, alloc, "the calls of a shared balancer", BALANCER)?;
+    all &= agree::<W, Balancer<FNVHash>>(rt, alloc, "the calls of a shared balancer", BALANCER)?;
+    all &= agree::<W, Balancer<KetamaHashing>>(rt, alloc, "those of a configured one", BALANCER)?;
+    all &= agree::<W, Balancer<RoundRobin>>(rt, alloc, "those of one made of texts", TEXTS)?;
     all &= agree::<W, Group>(rt, alloc, "the calls of a shared group", GROUP)?;
     all &= passes_agree(rt, alloc)?;
     Ok(all)
@@ -322,7 +336,7 @@ fn all_agree<W: Log + Threads + Wait + Print + Copy + Sync + Drop>(
 /// # Errors
 ///
 /// `Differs` where one isn't as it should be.
-pub fn run<W: Log + Threads + Wait + Print + Copy + Sync + Drop>(
+pub fn run<W: Log + Net + Threads + Wait + Print + Copy + Sync + Drop>(
     rt: &W,
     alloc: Global,
 ) -> Result<(), Error> {

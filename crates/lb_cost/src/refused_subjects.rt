@@ -7,9 +7,11 @@ use lb_balancer_group::group::LoadBalancerGroup;
 use lb_crowd::crowd::NoCheck;
 use lb_health_core::keys::Rule;
 use lb_health_view::discovery::DiscoverySource;
-use lb_select::selection::FNVHash;
+use lb_select::ketama::{KetamaConfig, KetamaHashing};
+use lb_select::selection::{FNVHash, RoundRobin};
 use lb_select_base::backend::Backend;
 use lb_select_base::refusal::Refusal;
+use lb_select_base::walk::BackendSelection;
 use lb_threads_core::backends::Backends;
 use lb_threads_core::gate::SelectorRebuildGate;
 use lb_threads_core::keyed::NoRule;
@@ -18,6 +20,7 @@ use lb_threads_core::view::BackendView;
 use lb_threads_group::group::SharedGroup;
 use lb_threads_group::port::LockedPort;
 use std::alloc::Global;
+use std::net::Net;
 use std::sync::atomic::Ordering::SeqCst;
 use std::sync::atomic::{AtomicBool, AtomicU64};
 use std::sync::{Arc, Wait};
@@ -35,15 +38,18 @@ type Found = Backends<Lists, Rule<NoRule>, NoCheck>;
 /// A view over a shared registry.
 pub type View = BackendView<Lists, Rule<NoRule>, NoCheck>;
 
-/// A balancer that threads may share.
-pub type Balancer = LoadBalancer<FNVHash, Lists, Rule<NoRule>, NoCheck>;
+/// A balancer that threads may share: by `FNVHash` it has the default configuration, by `KetamaHashing` a given one, and by `RoundRobin` it
+/// is made of texts, over a registry of its own.
+pub type Balancer<S> = LoadBalancer<S, Lists, Rule<NoRule>, NoCheck>;
 
 /// A group of one slot that threads may share, without workers.
 pub type Group = LoadBalancerGroup<FNVHash, Lists, Rule<NoRule>, NoCheck>;
 
-/// The registry alone.
+/// A registry alone, by identity or by address.
 #[derive(Drop)]
-pub struct Alone;
+pub struct Alone<const BY_ADDRESS: bool> {
+    registry: Registry,
+}
 
 /// A registry, and what says which list a discovery over it finds.
 #[derive(Drop)]
@@ -81,41 +87,68 @@ impl<W: Wait> Site<W> {
         ))
     }
 
-    // How many targets the registry has; counted again where that is refused.
+    // How many targets the registry has.
     fn targets(&self) -> Option<usize> {
-        match self.registry.target_count(&self.rt, self.alloc) {
-            Ok(count) => Some(count),
-            Err(_) => self.registry.target_count(&self.rt, self.alloc).ok(),
-        }
+        target_count(&self.rt, self.alloc, &self.registry)
+    }
+}
+
+// How many targets a registry has; counted again where that is refused.
+fn target_count<W: Wait>(rt: &W, alloc: Global, registry: &Registry) -> Option<usize> {
+    match registry.target_count(rt, alloc) {
+        Ok(count) => Some(count),
+        Err(_) => registry.target_count(rt, alloc).ok(),
     }
 }
 
 /// What can be made over a site.
 pub trait Made: Sized {
     /// Makes it.
-    fn make<W: Wait>(site: &Site<W>) -> Result<Self, Refusal>;
+    fn make<W: Net + Wait>(site: &Site<W>) -> Result<Self, Refusal>;
 }
 
-impl Made for Alone {
-    fn make<W: Wait>(_site: &Site<W>) -> Result<Alone, Refusal> {
-        Ok(Alone)
+impl<const BY_ADDRESS: bool> Made for Alone<BY_ADDRESS> {
+    fn make<W: Net + Wait>(site: &Site<W>) -> Result<Alone<BY_ADDRESS>, Refusal> {
+        let registry = if BY_ADDRESS {
+            HealthRegistry::by_address(site.alloc)?
+        } else {
+            HealthRegistry::new(site.alloc)?
+        };
+        Ok(Alone { registry })
     }
 }
 
 impl Made for View {
-    fn make<W: Wait>(site: &Site<W>) -> Result<View, Refusal> {
+    fn make<W: Net + Wait>(site: &Site<W>) -> Result<View, Refusal> {
         BackendView::new(&site.rt, site.alloc, site.found()?)
     }
 }
 
-impl Made for Balancer {
-    fn make<W: Wait>(site: &Site<W>) -> Result<Balancer, Refusal> {
+impl Made for Balancer<FNVHash> {
+    fn make<W: Net + Wait>(site: &Site<W>) -> Result<Balancer<FNVHash>, Refusal> {
         LoadBalancer::from_backends(&site.rt, site.alloc, site.found()?)
     }
 }
 
+impl Made for Balancer<KetamaHashing> {
+    fn make<W: Net + Wait>(site: &Site<W>) -> Result<Balancer<KetamaHashing>, Refusal> {
+        let config = KetamaConfig {
+            point_multiple: None,
+        };
+        LoadBalancer::from_backends_with_config(&site.rt, site.alloc, site.found()?, Some(config))
+    }
+}
+
+impl Made for Balancer<RoundRobin> {
+    fn make<W: Net + Wait>(site: &Site<W>) -> Result<Balancer<RoundRobin>, Refusal> {
+        let (rt, alloc) = (&site.rt, site.alloc);
+        let texts = FIRST.iter().map(|(address, _)| *address);
+        LoadBalancer::try_from_iter(rt, alloc, rt, texts, &mut Ticks { next: 10 })
+    }
+}
+
 impl Made for Group {
-    fn make<W: Wait>(site: &Site<W>) -> Result<Group, Refusal> {
+    fn make<W: Net + Wait>(site: &Site<W>) -> Result<Group, Refusal> {
         let (rt, alloc) = (&site.rt, site.alloc);
         let mut configs = Vec::new(alloc);
         configs.push(None)?;
@@ -140,7 +173,7 @@ pub struct Calls<W, T> {
     subject: T,
 }
 
-impl<W: Wait + Copy + Drop, T: Made + Drop> Calls<W, T> {
+impl<W: Net + Wait + Copy + Drop, T: Made + Drop> Calls<W, T> {
     /// Makes the subject, again where memory was refused for it, and returns what came of that.
     pub fn new(rt: W, alloc: Global) -> (Option<Calls<W, T>>, Course) {
         let made = match Site::new(rt, alloc) {
@@ -159,7 +192,7 @@ impl<W: Wait + Copy + Drop, T: Made + Drop> Calls<W, T> {
 }
 
 // Makes a subject, again where that was refused: then the registry has no targets.
-fn made_in<W: Wait, T: Made>(site: &Site<W>) -> (Option<T>, Course) {
+fn made_in<W: Net + Wait, T: Made>(site: &Site<W>) -> (Option<T>, Course) {
     match T::make(site) {
         Ok(subject) => (Some(subject), Course::new(true)),
         Err(_) => {
@@ -169,18 +202,19 @@ fn made_in<W: Wait, T: Made>(site: &Site<W>) -> (Option<T>, Course) {
     }
 }
 
-impl<W: Wait> Subject for Calls<W, Alone> {
+impl<W: Wait, const BY_ADDRESS: bool> Subject for Calls<W, Alone<BY_ADDRESS>> {
     fn seen(&self) -> Option<Seen> {
+        let (rt, alloc, registry) = (&self.site.rt, self.site.alloc, &self.subject.registry);
         let mut ready: u64 = 0;
         for cell in 0..CELLS {
-            if self.site.registry.cell_ready(&self.site.rt, cell) {
+            if registry.cell_ready(rt, cell) {
                 ready = ready.saturating_add(1);
             }
         }
         Some(Seen {
             newest: ready,
             served: 0,
-            targets: self.site.targets()?,
+            targets: target_count(rt, alloc, registry)?,
             selected: None,
             timing: None,
         })
@@ -194,7 +228,7 @@ impl<W: Wait> Subject for Calls<W, Alone> {
 
     fn make(&self, call: Call) -> Result<u64, Refusal> {
         let (rt, alloc) = (&self.site.rt, self.site.alloc);
-        let registry: &Registry = &*self.site.registry;
+        let registry = &self.subject.registry;
         match call {
             Call::Register => registry.register_view(rt, alloc),
             Call::Members(id, members) => {
@@ -246,7 +280,7 @@ impl<W: Wait> Subject for Calls<W, View> {
     }
 }
 
-impl<W: Wait> Subject for Calls<W, Balancer> {
+impl<W: Wait, S: BackendSelection> Subject for Calls<W, Balancer<S>> {
     fn seen(&self) -> Option<Seen> {
         let (rt, alloc) = (&self.site.rt, self.site.alloc);
         let selected = match self.subject.select(rt, alloc, b"k", 1) {

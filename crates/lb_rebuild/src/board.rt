@@ -13,10 +13,15 @@ use std::sync::Wait;
 /// The generations of a group as words: the newest one, and the one that each slot serves. Only the group's own pass raises them.
 ///
 /// Contracts see which board it is, and how many words it has.
-#[derive(Drop)]
 pub struct Board {
     table: Table<(), Record, usize, Rises, Global>,
     slots: usize,
+}
+
+impl Drop for Board {
+    fn drop(self) {
+        let Board { table: _, slots: _ } = self;
+    }
 }
 
 impl Model for Board {

@@ -43,11 +43,20 @@ use std::sync::Arc;
 /// what each slot serves, after every call.
 ///
 /// Contracts see the board, the group, and what was written on the board.
-#[derive(Drop)]
 pub struct Watched<S: BackendSelection> {
     core: GroupCore<S>,
     writer: WritingPass,
     board: Arc<Board>,
+}
+
+impl<S: BackendSelection> Drop for Watched<S> {
+    fn drop(self) {
+        let Watched {
+            core: _,
+            writer: _,
+            board: _,
+        } = self;
+    }
 }
 
 impl<S: BackendSelection> Model for Watched<S> {

@@ -20,10 +20,15 @@ impl LockRule<GateCore, Snapshot<GateCore>> for OfGate {
 }
 
 /// A gate behind a lock. Contracts see which gate it is and which lock.
-#[derive(Drop)]
 pub struct SelectorRebuildGate {
     lock: KeyedLock<GateCore, Snapshot<GateCore>, OfGate>,
     wakes: Wakes,
+}
+
+impl Drop for SelectorRebuildGate {
+    fn drop(self) {
+        let SelectorRebuildGate { lock: _, wakes: _ } = self;
+    }
 }
 
 impl Model for SelectorRebuildGate {

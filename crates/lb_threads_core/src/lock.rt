@@ -21,10 +21,15 @@ const LOOKS: u32 = 100;
 
 /// A value that one thread at a time has, and a key that stays. Contracts name the key as `table.shared.key`, and the lock as
 /// `table.shared.table_id`, which no other lock has.
-#[derive(Drop)]
 pub struct KeyedLock<T: Drop, K, I: LockRule<T, K>> {
     pub table: Table<Option<T>, K, K, Locked<I>, Global>,
     ghost one: { (table.shared.table_id.words ≡ 1) × (table.shared.table_id.slots ≡ 1) },
+}
+
+impl<T: Drop, K: Drop, I: LockRule<T, K>> Drop for KeyedLock<T, K, I> {
+    fn drop(self) {
+        let KeyedLock { table: _ } = self;
+    }
 }
 
 /// The value of a lock, taken out. Only `KeyedLock::put` ends it, so that a path which forgets the value does not compile.

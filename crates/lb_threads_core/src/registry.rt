@@ -50,7 +50,6 @@ pub type HeldRegistry<R> = TakenValue<Registry<R>, Snapshot<Registry<R>>>;
 /// came under the lock, and which lock.
 ///
 /// `new` and `by_address` make one by its rule of keys; `over` makes one of a plain registry.
-#[derive(Drop)]
 pub struct HealthRegistry<R: KeyRule + Drop = Rule<NoRule>, C = BoxedCheck> {
     lock: KeyedLock<Registry<R>, Snapshot<Registry<R>>, OfRegistry>,
     check: OnceLock<C>,
@@ -60,6 +59,18 @@ pub struct HealthRegistry<R: KeyRule + Drop = Rule<NoRule>, C = BoxedCheck> {
     notes: Mutex<Vec<Arc<ViewNote>>>,
     // Whether an owner was dropped since the notes were looked through.
     some_gone: Arc<AtomicBool>,
+}
+
+impl<R: KeyRule + Drop, C: Drop> Drop for HealthRegistry<R, C> {
+    fn drop(self) {
+        let HealthRegistry {
+            lock: _,
+            check: _,
+            changes: _,
+            notes: _,
+            some_gone: _,
+        } = self;
+    }
 }
 
 impl<R: KeyRule + Drop, C> Model for HealthRegistry<R, C> {

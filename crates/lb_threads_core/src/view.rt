@@ -45,7 +45,6 @@ impl LockRule<ViewCore, u64> for OfView {
 /// it was when it came under its lock.
 ///
 /// Its drop takes no lock and no memory: the next call of the registry removes the view.
-#[derive(Drop)]
 pub struct BackendView<D = BoxedDiscovery, R: KeyRule + Drop = Rule<NoRule>, C = BoxedCheck> {
     discovery: DiscoverySource<D>,
     registry: Arc<HealthRegistry<R, C>>,
@@ -53,6 +52,18 @@ pub struct BackendView<D = BoxedDiscovery, R: KeyRule + Drop = Rule<NoRule>, C =
     // Held by an update from its discovery to the end of the caller's function.
     updates: Mutex<()>,
     view: KeyedLock<ViewCore, u64, OfView>,
+}
+
+impl<D: Drop, R: KeyRule + Drop, C: Drop> Drop for BackendView<D, R, C> {
+    fn drop(self) {
+        let BackendView {
+            discovery: _,
+            registry: _,
+            owner: _,
+            updates: _,
+            view: _,
+        } = self;
+    }
 }
 
 impl<D, R: KeyRule + Drop, C> Model for BackendView<D, R, C> {

@@ -58,7 +58,6 @@ struct SlotCounters {
 
 /// A group behind a lock, with its registry and its gate, which other groups may share, and its board outside the lock. Contracts see the
 /// board, the group as it was made (which one it is, its gate and its configurations), and the registry as it was made.
-#[derive(Drop)]
 pub struct SharedGroup<S: BackendSelection, R: KeyRule + Drop, C> {
     pub(crate) lock: KeyedLock<Watched<S>, Snapshot<Watched<S>>, OfGroup>,
     pub(crate) board: Arc<Board>,
@@ -82,6 +81,22 @@ pub struct SharedGroup<S: BackendSelection, R: KeyRule + Drop, C> {
     pub(crate) changes: AtomicU64,
     // Whether the lanes are used no more.
     pub(crate) is_closed: AtomicBool,
+}
+
+impl<S: BackendSelection, R: KeyRule + Drop, C: Drop> Drop for SharedGroup<S, R, C> {
+    fn drop(self) {
+        let SharedGroup {
+            lock: _,
+            board: _,
+            registry: _,
+            gate: _,
+            generator: _,
+            loads: _,
+            updates: _,
+            lines: _,
+            let_go: _,
+        } = self;
+    }
 }
 
 impl<S: BackendSelection, R: KeyRule + Drop, C> Model for SharedGroup<S, R, C> {
