@@ -95,6 +95,12 @@ impl<S: BackendSelection, R: KeyRule + Drop, C: Drop> Drop for SharedGroup<S, R,
             updates: _,
             lines: _,
             let_go: _,
+            site: _,
+            lanes: _,
+            alloc: _,
+            words: _,
+            changes: _,
+            is_closed: _,
         } = self;
     }
 }
