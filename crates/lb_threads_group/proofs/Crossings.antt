@@ -21,6 +21,8 @@ use Rattle.lb_rebuild_core.specs.contracts.retired.Reader as reader
 use Rattle.lb_threads_group.proofs.group.SlotCounters.TheSendSync as line
 use Rattle.lb_words.proofs.keyed.KeyedWords.TheSendSync as keyed
 use Rattle.lb_threads_group.specs.contracts.found.Found as found
+use Rattle.lb_threads_group.specs.contracts.found.Found.TheInside as found_inside
+use Rattle.lb_threads_group.specs.contracts.found.Subject as subject
 use Rattle.lb_threads_group.specs.contracts.found.SlotWords as slot_words
 use Rattle.lb_threads_group.specs.contracts.kept.Entry as entry
 use Rattle.lb_threads_group.specs.contracts.kept.Site as site
@@ -44,11 +46,43 @@ module _ (T R H I C W : RattleType) (g : Selection T.Denot I.Denot C.Denot W.Den
   reader_sync : IsSync (reader.the_row T I C W g h)
   reader_sync = search (sendable, crosses, place_sync) depth 20
 
+  site_send : IsSend (site.the_row T R H I C W g h k)
+  site_send = search (sendable, crosses) depth 20
+
+  site_sync : IsSync (site.the_row T R H I C W g h k)
+  site_sync = search (sendable, crosses) depth 20
+
+  subject_send : IsSend (subject.the_row T R H I C W g h k)
+  subject_send = search (sendable, crosses) depth 20
+
+  subject_sync : IsSync (subject.the_row T R H I C W g h k)
+  subject_sync = search (sendable, crosses) depth 20
+
+  found_inside_send : IsSend (found_inside.the_row T R H I C W g h k)
+  found_inside_send = recorded_send (found_inside.the_field T R H I C W g h k).row _ _ (found_inside.the_type T R H I C W g h k).to_one
+      (struct_send (shape (found_inside.the_type T R H I C W g h k)) (
+        search (sendable, crosses) depth 20,
+        (
+          search (sendable, crosses, maps.crosses, backend.the_send, backend.the_sync) depth 30,
+          (search (sendable, crosses, keyed.the_field_send, keyed.the_send, subject_send, subject_sync) depth 30, tt),
+        ),
+      ))
+
+  found_inside_sync : IsSync (found_inside.the_row T R H I C W g h k)
+  found_inside_sync = recorded_sync (found_inside.the_field T R H I C W g h k).row _ _ (found_inside.the_type T R H I C W g h k).to_one
+      (struct_sync (shape (found_inside.the_type T R H I C W g h k)) (
+        search (sendable, crosses) depth 20,
+        (
+          search (sendable, crosses, maps.crosses, backend.the_send, backend.the_sync) depth 30,
+          (search (sendable, crosses, keyed.the_field_sync, keyed.the_sync, subject_send, subject_sync) depth 30, tt),
+        ),
+      ))
+
   found_send : IsSend (found.the_row T R H I C W g h k)
-  found_send = search (sendable, crosses, keyed.the_send, maps.crosses, backend.the_send, backend.the_sync) depth 30
+  found_send = view_send _ _ _ _ _ found_inside_send
 
   found_sync : IsSync (found.the_row T R H I C W g h k)
-  found_sync = search (sendable, crosses, keyed.the_sync, maps.crosses, backend.the_send, backend.the_sync) depth 30
+  found_sync = view_sync _ _ _ _ _ found_inside_sync
 
   slot_words_send : IsSend (slot_words.the_row T R H I C W g h k)
   slot_words_send = search (sendable, crosses, found_send, found_sync) depth 30
@@ -61,12 +95,6 @@ module _ (T R H I C W : RattleType) (g : Selection T.Denot I.Denot C.Denot W.Den
 
   entry_sync : IsSync (entry.the_row T R H I C W g h k)
   entry_sync = search (sendable, crosses, found_send, found_sync, reader_sync) depth 30
-
-  site_send : IsSend (site.the_row T R H I C W g h k)
-  site_send = search (sendable, crosses) depth 20
-
-  site_sync : IsSync (site.the_row T R H I C W g h k)
-  site_sync = search (sendable, crosses) depth 20
 
   inside_send : IsSend (inside.the_row T R H I C W g h k)
   inside_send = recorded_send (inside.the_field T R H I C W g h k).row _ _ (inside.the_type T R H I C W g h k).to_one

@@ -1,5 +1,5 @@
 -- Readiness goes by identity, and so does what a word says of it.
-use Rattle.std.proofs.Common.{◌≡◌, ◌∙◌, ℕ, Bool, true, false, List, [], ◌∷◌, Option, Some, None, replicate, zero, suc, ⊥, ◌%◌, refl, sym, subst}
+use Rattle.std.proofs.Common.{◌≡◌, ◌∙◌, ℕ, Bool, true, false, List, [], ◌∷◌, Option, Some, None, replicate, zero, suc, ◌%◌, refl, sym, subst}
 use Rattle.std.specs.Prelude.{IfSome, slice_get, slice_index}
 use Rattle.std.specs.Option.{IsSomeAnd}
 use Rattle.std.specs.HashMap.Eq.{lookup_congr}
@@ -76,13 +76,13 @@ module _ {C R : Type 0} (gives : R → Member → Member → Type 0) (site : Sha
   -- what the word at a backend's place says is said of the backend
   pub says-of : (marks : List (Option Member)) (i w : ℕ) (b : Member) → HasPlace marks i b → SaysAt (ReadyAt gives site g) marks i w
       → Says (ReadyAt gives site g b) w
-  says-of marks i w b (m, (at, same)) says =
+  says-of marks i w b (m, at, same) says =
       says-same b m w same (subst (λ o. IfSome o (λ p. IfSome p (λ q. Says (ReadyAt gives site g q) w))) at says)
 
   -- and what is said of the backend may be the word at its place
   pub says-at : (marks : List (Option Member)) (i w : ℕ) (b : Member) → HasPlace marks i b → Says (ReadyAt gives site g b) w
       → SaysAt (ReadyAt gives site g) marks i w
-  says-at marks i w b (m, (at, same)) says =
+  says-at marks i w b (m, at, same) says =
       subst (λ o. IfSome o (λ p. IfSome p (λ q. Says (ReadyAt gives site g q) w))) (sym at)
       (says-same m b w (same_equiv.symm m b ∙ same) says)
 

@@ -389,6 +389,7 @@ fn words_of<S: BackendSelection, R: KeyRule + Drop, C>(
 fn update_on<
     'g,
     'r,
+    'f,
     S: BackendSelection,
     R: KeyRule + Drop,
     C: HealthCheck + Drop,
@@ -397,7 +398,7 @@ fn update_on<
     K: MomentSource,
 >(
     alloc: Global,
-    port: &mut LockedPort<'g, 'r, S, R, C, W>,
+    port: &mut LockedPort<'g, 'r, 'f, S, R, C, W>,
     discovery: &D,
     clock: &mut K,
 ) -> Result<u64, Refusal>

@@ -1,6 +1,6 @@
 //! Implements `GroupPort` over a group that threads share: each call takes the group's lock, and the registry's and the gate's where it
 //! needs them. No build and no destruction runs under a lock.
-ghost use Rattle.std.specs.Prelude.{◌≡◌, IfSome};
+ghost use Rattle.std.specs.Prelude.{◌≡◌, ForSome};
 ghost use Rattle.std.proofs.Common.{subst, sym};
 ghost use Rattle.lb_threads_group.specs.Group.{OwnsJob, OwnsPermit, AskedUnder, EnteredUnder, TakenUnder, LeftUnder, PublishedUnder};
 ghost use Rattle.lb_threads_group.specs.Group.{FailedUnder, ReportedUnder, ReadyUnder, ScheduledUnder};
@@ -28,17 +28,17 @@ use std::sync::Wait;
 
 /// One thread's port of a group that threads share.
 #[derive(Drop)]
-pub struct LockedPort<'g, 'r, S: BackendSelection, R: KeyRule + Drop, C, W> {
+pub struct LockedPort<'g, 'r, 'f, S: BackendSelection, R: KeyRule + Drop, C, W> {
     pub group: &'g SharedGroup<S, R, C>,
     pub rt: &'r W,
     // Words of the group, which are loaded before a lock is taken.
-    pub(crate) found: Option<&'r Found<S, R, C>>,
-    ghost own: { IfSome found (λ f. f.now.site ≡ group.now) },
+    pub(crate) found: Option<&'f Found<S, R, C>>,
+    ghost own: { ForSome found (λ f. f.now.site ≡ group.now) },
 }
 
-impl<'g, 'r, S: BackendSelection, R: KeyRule + Drop, C, W> LockedPort<'g, 'r, S, R, C, W> {
+impl<'g, 'r, 'f, S: BackendSelection, R: KeyRule + Drop, C, W> LockedPort<'g, 'r, 'f, S, R, C, W> {
     /// Returns a port of this group, for the thread that `rt` is of.
-    pub fn new(group: &'g SharedGroup<S, R, C>, rt: &'r W) -> LockedPort<'g, 'r, S, R, C, W>
+    pub fn new(group: &'g SharedGroup<S, R, C>, rt: &'r W) -> LockedPort<'g, 'r, 'f, S, R, C, W>
         ensures { result.group.now ≡ group.now }
     {
         LockedPort {
@@ -49,11 +49,11 @@ impl<'g, 'r, S: BackendSelection, R: KeyRule + Drop, C, W> LockedPort<'g, 'r, S,
     }
 }
 
-impl<'g, 'r, S: BackendSelection, R: KeyRule + Drop, C: HealthCheck + Drop, W: Wait> TakesBack<
+impl<'g, 'r, 'f, S: BackendSelection, R: KeyRule + Drop, C: HealthCheck + Drop, W: Wait> TakesBack<
     RefusedJob<S>,
     Built<S>,
     Reader<S>,
-> for LockedPort<'g, 'r, S, R, C, W> {
+> for LockedPort<'g, 'r, 'f, S, R, C, W> {
     ghost owns_refused = { λ p r. OwnsJob p.group.now.core r.task };
 
     ghost owns_built = { λ p b. OwnsJob p.group.now.core b.task };
@@ -126,8 +126,8 @@ impl<'g, 'r, S: BackendSelection, R: KeyRule + Drop, C: HealthCheck + Drop, W: W
     }
 }
 
-impl<'g, 'r, S: BackendSelection, R: KeyRule + Drop, C: HealthCheck + Drop, W: Wait> GroupPort<S>
-    for LockedPort<'g, 'r, S, R, C, W> {
+impl<'g, 'r, 'f, S: BackendSelection, R: KeyRule + Drop, C: HealthCheck + Drop, W: Wait> GroupPort<S>
+    for LockedPort<'g, 'r, 'f, S, R, C, W> {
     ghost owns_job = { λ p t. OwnsJob p.group.now.core t };
 
     ghost scheduled = { λ p ms settings now r q. ScheduledUnder R.gives p.group.now ms settings now r × (q.group.now ≡ p.group.now) };

@@ -139,6 +139,7 @@ impl<S: BackendSelection, R: KeyRule + Drop, C: HealthCheck + Drop> SharedGroup<
 fn select_on<
     'g,
     'r,
+    'f,
     S: BackendSelection,
     R: KeyRule + Drop,
     C: HealthCheck + Drop,
@@ -146,7 +147,7 @@ fn select_on<
     F: Fn(&Backend, bool) -> bool,
 >(
     alloc: Global,
-    port: &mut LockedPort<'g, 'r, S, R, C, W>,
+    port: &mut LockedPort<'g, 'r, 'f, S, R, C, W>,
     reader: &Reader<S>,
     key: &[u8],
     max_iterations: usize,
