@@ -1,7 +1,7 @@
 //! Which backends of a generation are ready, as words that the lanes of a slot share: one for each backend, which says whether it is ready
 //! and as of which change that was found. A selection loads the word of its candidate, and asks group and registry where something changed
 //! since; so a flip or a flag costs each backend one question, and no request copies a membership.
-ghost use Rattle.std.specs.Prelude.{◌≡◌, ◌%◌, IfOk, IfSome};
+ghost use Rattle.std.specs.Prelude.{◌≡◌, ◌%◌, IfOk, IfSome, None};
 ghost use Rattle.std.specs.Arc.{arc_value};
 ghost use Rattle.lb_threads_group.specs.Found.{ReadyAt, said_as};
 ghost use Rattle.lb_threads_group.specs.Group.{ReadyUnder};
@@ -212,6 +212,15 @@ fn word_of(changes: u64, ready: bool) -> u64
         turn + IS_READY
     } else {
         turn + IS_UNREADY
+    }
+}
+
+impl<S: BackendSelection, R: KeyRule + Drop, C> SharedGroup<S, R, C> {
+    // No words, for a port that asks of each backend. It borrows the group, so that the port's lifetimes are known.
+    pub(crate) fn no_words(&self) -> Option<&Found<S, R, C>>
+        ensures { result ≡ None }
+    {
+        None
     }
 }
 

@@ -314,7 +314,7 @@ impl<S: BackendSelection, R: KeyRule + Drop, C: HealthCheck + Drop> SharedGroup<
         let mut port = LockedPort {
             group: self,
             rt,
-            found: None,
+            found: self.no_words(),
         };
         let told = update_on(alloc, &mut port, discovery, clock);
         drop(turn);

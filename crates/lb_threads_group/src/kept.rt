@@ -186,7 +186,7 @@ impl<S: BackendSelection, R: KeyRule + Drop, C: HealthCheck + Drop> SharedGroup<
         let mut port = LockedPort {
             group: self,
             rt,
-            found: None,
+            found: self.no_words(),
         };
         let reader = match port.enter(slot) {
             Ok(reader) => reader,

@@ -1,6 +1,7 @@
 //! Implements `GroupPort` over a group that threads share: each call takes the group's lock, and the registry's and the gate's where it
 //! needs them. No build and no destruction runs under a lock.
-ghost use Rattle.std.specs.Prelude.{◌≡◌, ForSome};
+ghost use Rattle.std.specs.Prelude.{◌≡◌};
+ghost use Rattle.std.specs.Option.{ForSome};
 ghost use Rattle.std.proofs.Common.{subst, sym};
 ghost use Rattle.lb_threads_group.specs.Group.{OwnsJob, OwnsPermit, AskedUnder, EnteredUnder, TakenUnder, LeftUnder, PublishedUnder};
 ghost use Rattle.lb_threads_group.specs.Group.{FailedUnder, ReportedUnder, ReadyUnder, ScheduledUnder};
@@ -36,15 +37,15 @@ pub struct LockedPort<'g, 'r, 'f, S: BackendSelection, R: KeyRule + Drop, C, W> 
     ghost own: { ForSome found (λ f. f.now.site ≡ group.now) },
 }
 
-impl<'g, 'r, 'f, S: BackendSelection, R: KeyRule + Drop, C, W> LockedPort<'g, 'r, 'f, S, R, C, W> {
+impl<'g, 'r, S: BackendSelection, R: KeyRule + Drop, C, W> LockedPort<'g, 'r, 'g, S, R, C, W> {
     /// Returns a port of this group, for the thread that `rt` is of.
-    pub fn new(group: &'g SharedGroup<S, R, C>, rt: &'r W) -> LockedPort<'g, 'r, 'f, S, R, C, W>
+    pub fn new(group: &'g SharedGroup<S, R, C>, rt: &'r W) -> LockedPort<'g, 'r, 'g, S, R, C, W>
         ensures { result.group.now ≡ group.now }
     {
         LockedPort {
             group,
             rt,
-            found: None,
+            found: group.no_words(),
         }
     }
 }

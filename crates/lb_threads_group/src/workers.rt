@@ -76,7 +76,7 @@ fn turn_of<
     let mut port = LockedPort {
         group,
         rt,
-        found: None,
+        found: group.no_words(),
     };
     turn_on(alloc, &mut port, slot, clock)
 }

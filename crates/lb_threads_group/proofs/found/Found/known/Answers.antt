@@ -12,4 +12,4 @@ returns g c =
     said-of (ReadyAt gives own.site own.generation c.args.backend.now) c.in_ok-word.word c.told_by.result c.told_by.ensures
     (said-by gives own.site own.generation c.self.inside.marks.items key.site.value key.generation key.marks.value.items
     (ap (λ v. v.site) c.self.view_is) (c.self.invariant.0 ∙ ap (λ v. v.generation) c.self.view_is) c.self.invariant.1
-    c.in_ok-place.place c.in_ok-word.word c.args.backend.now (rw c.as_slice.ensures at c.in_ok-place.ensures) c.in_ok-word.ensures)
+    c.in_ok-place.place c.in_ok-word.word c.args.backend.now (rw c.as_slice.ensures.value at c.in_ok-place.ensures) c.in_ok-word.ensures)

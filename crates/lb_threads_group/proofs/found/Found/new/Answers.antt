@@ -4,4 +4,4 @@ use Rattle.lb_threads_group.proofs.Readiness.{nothing-kept}
 use Rattle.lb_threads_group.proofs.found.Found.new.Goals as goal
 
 pub new-requires : goal.new-requires
-new-requires g c = nothing-kept _ _ _ _ (search rules)
+new-requires g c = nothing-kept _ _ c.len.result _ (search rules)

@@ -11,5 +11,5 @@ store-requires g c =
     let own = c.args.self.now in
     said-to gives own.site own.generation c.self.inside.marks.items key.site.value key.generation key.marks.value.items
     (ap (λ v. v.site) c.self.view_is) (c.self.invariant.0 ∙ ap (λ v. v.generation) c.self.view_is) c.self.invariant.1
-    c.in-Some.place c.word_of.result c.args.backend.now (rw c.as_slice.ensures at c.in-Some.ensures)
+    c.in-Some.place c.word_of.result c.args.backend.now (rw c.as_slice.ensures.value at c.in-Some.ensures)
     (says-word (ReadyAt gives own.site own.generation c.args.backend.now) c.word_of.result c.args.ready c.word_of.ensures c.requires)
