@@ -6,7 +6,8 @@ use Rattle.lb_select_base.specs.Backends.{Member}
 use Rattle.lb_select_base.specs.Draws.{Draw}
 use Rattle.lb_select_base.specs.declared.refusal.Refusal.{Refusal}
 use Rattle.lb_rebuild_core.specs.Values.{ReaderValue}
-use Rattle.lb_threads_group.specs.Group.{EnteredUnder, LeftUnder, ReadyUnder, SelectedUnder}
+use Rattle.lb_threads_group.specs.Group.{EnteredUnder, ReadyUnder}
+use Rattle.lb_threads_group.specs.Kept.{IsLeftOrKept, SelectedFrom}
 use Rattle.lb_threads_group.specs.Shared.{SharedValue}
 use Rattle.lb_balancer_core.specs.Looks.{Answers, told_of, AreRefused, IsTold, SelectsBy, Inside}
 
@@ -43,13 +44,13 @@ selected : {C R : Type 0} (gives : R → Member → Member → Type 0) (accepts 
     → ((b : Member) (ready a : Bool) → accepts b ready a → other b ready a) → (limit : ℕ)
     (walks : List Member → C → List ℕ → List Draw → List Member → Bool → Type 0) (key : List ℕ) (site : SharedValue C R) (slot : ℕ)
     (r : Result (Option Member) Refusal)
-    → SelectedUnder gives accepts limit walks key site slot r → SelectedUnder gives other limit walks key site slot r
+    → SelectedFrom gives accepts limit walks key site slot r → SelectedFrom gives other limit walks key site slot r
 selected gives accepts other more limit walks key site slot r (a, m, enters, is) = (
   a,
   m,
   enters,
   inside accepts other more limit (λ v r d w. w ≡ v) (λ v r b a w. ReadyUnder gives v r b a × (w ≡ v))
-      (λ v slot a w. EnteredUnder v.core slot a × (w ≡ v)) (λ v r w. LeftUnder v.core r × (w ≡ v)) walks key a m r site is,
+      (λ v slot a w. EnteredUnder v.core slot a × (w ≡ v)) (λ v r w. IsLeftOrKept v slot r × (w ≡ v)) walks key a m r site is,
 )
 
 -- where the test answers what its contract says, the ready ones are selected
@@ -57,9 +58,9 @@ pub selected-ready : {C R F : Type 0} {g : Shared F (Bor Member × (Bool × Unit
     (limit : ℕ) (walks : List Member → C → List ℕ → List Draw → List Member → Bool → Type 0) (key : List ℕ) (site : SharedValue C R)
     (slot : ℕ)
     (r : Result (Option Member) Refusal)
-    → SelectedUnder gives (λ b ready a. Answers g f b ready a) limit walks key site slot r
+    → SelectedFrom gives (λ b ready a. Answers g f b ready a) limit walks key site slot r
     → ((p : Bor Member) (ready a : Bool) → FnReturns g f (p, (ready, tt)) a → a ≡ ready)
-    → SelectedUnder gives (λ b ready a. a ≡ ready) limit walks key site slot r
+    → SelectedFrom gives (λ b ready a. a ≡ ready) limit walks key site slot r
 selected-ready {g = g} {f = f} gives limit walks key site slot r is same =
     selected gives (λ b ready a. Answers g f b ready a) (λ b ready a. a ≡ ready) (λ b ready a by. same by.shown ready a by.says) limit walks
     key site slot r is

@@ -11,7 +11,8 @@ ghost use Rattle.lb_rebuild_core.specs.GroupStates.{After, Stands};
 ghost use Rattle.lb_balancer_core.specs.Timings.{selector_timings};
 ghost use Rattle.lb_balancer_core.specs.Found.{FoundBy};
 ghost use Rattle.lb_balancer_core.specs.Looks.{Answers};
-ghost use Rattle.lb_threads_group.specs.Group.{Seen, SelectedUnder, UpdatedUnder};
+ghost use Rattle.lb_threads_group.specs.Group.{Seen, UpdatedUnder};
+ghost use Rattle.lb_threads_group.specs.Kept.{SelectedFrom};
 ghost use Rattle.lb_balancer_group.specs.Made.{IsGateRefusal, IsNewGroup, slot_configs};
 
 use crate::configured::{Configured, SlotConfig};
@@ -233,7 +234,7 @@ impl<
         key: &[u8],
         max_iterations: usize,
     ) -> Result<Option<Backend>, Refusal>
-        ensures { SelectedUnder R.gives (λ b ready a. a ≡ ready) max_iterations S.walks key.now (arc_value self.now.shared) slot
+        ensures { SelectedFrom R.gives (λ b ready a. a ≡ ready) max_iterations S.walks key.now (arc_value self.now.shared) slot
             result }
     {
         self.select_with(rt, alloc, slot, key, max_iterations, &ready_ones)
@@ -243,6 +244,10 @@ impl<
     ///
     /// `accept` is asked with a backend and whether it is ready, while no lock is held. Only the first `max_iterations` candidates are
     /// looked at. It is `None` too where no such slot is there.
+    ///
+    /// A reader enters the slot for it. Then it leaves, or a lane of the slot keeps it for the selections that follow, which take no lock:
+    /// but for a candidate whose readiness may have changed since it was last asked for, and for random words and loads. The worker that
+    /// publishes empties the slot's lanes, so that no lane keeps a retired selector once the selections in it have ended.
     ///
     /// # Errors
     ///
@@ -257,7 +262,7 @@ impl<
         accept: &F,
     ) -> Result<Option<Backend>, Refusal>
         requires { F.IsAlwaysCallable accept.now }
-        ensures { SelectedUnder R.gives (λ b ready a. Answers F.Fn accept.now b ready a) max_iterations S.walks key.now
+        ensures { SelectedFrom R.gives (λ b ready a. Answers F.Fn accept.now b ready a) max_iterations S.walks key.now
             (arc_value self.now.shared) slot result }
     {
         let shared: &SharedGroup<Configured<S>, R, C> = &*self.shared;

@@ -331,10 +331,7 @@ impl<W: Wait, S: BackendSelection> Subject for Calls<W, Balancer<S>> {
 fn turn<W: Wait>(site: &Site<W>, group: &Group) -> Result<u64, Refusal> {
     let now = site.moment.fetch_add(SECOND, SeqCst);
     let group: &SharedGroup<Configured<FNVHash>, Rule<NoRule>, NoCheck> = &**group.shared();
-    let mut port = LockedPort {
-        group,
-        rt: &site.rt,
-    };
+    let mut port = LockedPort::new(group, &site.rt);
     let mut clock = Ticks {
         next: u128::from(now),
     };

@@ -13,14 +13,88 @@ use Rattle.lb_rebuild.specs.contracts.watched.Watched as watched
 use Rattle.lb_rebuild.proofs.Crossings.{watched_send}
 use Rattle.lb_threads_core.proofs.registry.HealthRegistry.TheSendSync as registry
 use Rattle.lb_threads_core.proofs.gate.SelectorRebuildGate.TheSendSync as gate
+use Rattle.std.proofs.MapsCrossing as maps
+use Rattle.lb_select_base.proofs.backend.Backend.TheSendSync as backend
+use Rattle.lb_threads_core.proofs.lanes.Lanes.TheSendSync as lanes
+use Rattle.lb_rebuild_core.specs.contracts.place.SlotPlace as place
+use Rattle.lb_rebuild_core.specs.contracts.retired.Reader as reader
 use Rattle.lb_threads_group.proofs.group.SlotCounters.TheSendSync as line
+use Rattle.lb_words.proofs.keyed.KeyedWords.TheSendSync as keyed
+use Rattle.lb_threads_group.specs.contracts.found.Found as found
+use Rattle.lb_threads_group.specs.contracts.found.Found.TheInside as found_inside
+use Rattle.lb_threads_group.specs.contracts.found.Subject as subject
+use Rattle.lb_threads_group.specs.contracts.found.SlotWords as slot_words
+use Rattle.lb_threads_group.specs.contracts.kept.Entry as entry
+use Rattle.lb_threads_group.specs.contracts.kept.Site as site
 use Rattle.lb_threads_group.specs.contracts.group.SharedGroup as shared
 use Rattle.lb_threads_group.specs.contracts.group.SharedGroup.TheInside as inside
+
+place_send : IsSend place.the_row
+place_send = search (sendable, crosses) depth 20
+
+place_sync : IsSync place.the_row
+place_sync = search (sendable, crosses) depth 20
 
 module _ (T R H I C W : RattleType) (g : Selection T.Denot I.Denot C.Denot W.Denot) (h : Iter I.Denot) (k : Keys R.Denot) (s : IsSend T)
     (sc : IsSend C) (y : IsSync T) (yc : IsSync C) (sr : IsSend R) (yr : IsSync R) (sh : IsSend H) (yh : IsSync H) where
   core_send : IsSend (watched.the_row T I C W g h)
   core_send = watched_send T I C W g h s sc y yc
+
+  reader_send : IsSend (reader.the_row T I C W g h)
+  reader_send = search (sendable, crosses, place_send) depth 20
+
+  reader_sync : IsSync (reader.the_row T I C W g h)
+  reader_sync = search (sendable, crosses, place_sync) depth 20
+
+  site_send : IsSend (site.the_row T R H I C W g h k)
+  site_send = search (sendable, crosses) depth 20
+
+  site_sync : IsSync (site.the_row T R H I C W g h k)
+  site_sync = search (sendable, crosses) depth 20
+
+  subject_send : IsSend (subject.the_row T R H I C W g h k)
+  subject_send = search (sendable, crosses) depth 20
+
+  subject_sync : IsSync (subject.the_row T R H I C W g h k)
+  subject_sync = search (sendable, crosses) depth 20
+
+  found_inside_send : IsSend (found_inside.the_row T R H I C W g h k)
+  found_inside_send = recorded_send (found_inside.the_field T R H I C W g h k).row _ _ (found_inside.the_type T R H I C W g h k).to_one
+      (struct_send (shape (found_inside.the_type T R H I C W g h k)) (
+        search (sendable, crosses) depth 20,
+        (
+          search (sendable, crosses, maps.crosses, backend.the_send, backend.the_sync) depth 30,
+          (search (sendable, crosses, keyed.the_field_send, keyed.the_send, subject_send, subject_sync) depth 30, tt),
+        ),
+      ))
+
+  found_inside_sync : IsSync (found_inside.the_row T R H I C W g h k)
+  found_inside_sync = recorded_sync (found_inside.the_field T R H I C W g h k).row _ _ (found_inside.the_type T R H I C W g h k).to_one
+      (struct_sync (shape (found_inside.the_type T R H I C W g h k)) (
+        search (sendable, crosses) depth 20,
+        (
+          search (sendable, crosses, maps.crosses, backend.the_send, backend.the_sync) depth 30,
+          (search (sendable, crosses, keyed.the_field_sync, keyed.the_sync, subject_send, subject_sync) depth 30, tt),
+        ),
+      ))
+
+  found_send : IsSend (found.the_row T R H I C W g h k)
+  found_send = view_send _ _ _ _ _ found_inside_send
+
+  found_sync : IsSync (found.the_row T R H I C W g h k)
+  found_sync = view_sync _ _ _ _ _ found_inside_sync
+
+  slot_words_send : IsSend (slot_words.the_row T R H I C W g h k)
+  slot_words_send = search (sendable, crosses, found_send, found_sync) depth 30
+
+  slot_words_sync : IsSync (slot_words.the_row T R H I C W g h k)
+  slot_words_sync = search (sendable, crosses, found_send, found_sync) depth 30
+
+  entry_send : IsSend (entry.the_row T R H I C W g h k)
+  entry_send = search (sendable, crosses, found_send, found_sync, reader_send) depth 30
+
+  entry_sync : IsSync (entry.the_row T R H I C W g h k)
+  entry_sync = search (sendable, crosses, found_send, found_sync, reader_sync) depth 30
 
   inside_send : IsSend (inside.the_row T R H I C W g h k)
   inside_send = recorded_send (inside.the_field T R H I C W g h k).row _ _ (inside.the_type T R H I C W g h k).to_one
@@ -38,7 +112,25 @@ module _ (T R H I C W : RattleType) (g : Selection T.Denot I.Denot C.Denot W.Den
                   search (sendable, crosses, loads.the_send) depth 20,
                   (
                     search (sendable, crosses) depth 20,
-                    (search (sendable, crosses, line.the_send) depth 20, (search (sendable, crosses) depth 20, tt)),
+                    (
+                      search (sendable, crosses, line.the_send) depth 20,
+                      (
+                        search (sendable, crosses) depth 20,
+                        (
+                          search (sendable, site_send) depth 20,
+                          (
+                            search (sendable, crosses, lanes.the_send, lanes.the_sync, entry_send, entry_sync) depth 20,
+                            (
+                              search (sendable, crosses) depth 20,
+                              (
+                                search (sendable, crosses, lock.the_send, lock.the_field_send, slot_words_send, slot_words_sync) depth 20,
+                                (search (sendable, crosses) depth 20, (search (sendable, crosses) depth 20, tt)),
+                              ),
+                            ),
+                          ),
+                        ),
+                      ),
+                    ),
                   ),
                 ),
               ),
@@ -63,7 +155,25 @@ module _ (T R H I C W : RattleType) (g : Selection T.Denot I.Denot C.Denot W.Den
                   search (sendable, crosses, loads.the_send) depth 20,
                   (
                     search (sendable, crosses) depth 20,
-                    (search (sendable, crosses, line.the_sync) depth 20, (search (sendable, crosses) depth 20, tt)),
+                    (
+                      search (sendable, crosses, line.the_sync) depth 20,
+                      (
+                        search (sendable, crosses) depth 20,
+                        (
+                          search (sendable, site_sync) depth 20,
+                          (
+                            search (sendable, crosses, lanes.the_send, lanes.the_sync, entry_send, entry_sync) depth 20,
+                            (
+                              search (sendable, crosses) depth 20,
+                              (
+                                search (sendable, crosses, lock.the_sync, lock.the_field_sync, slot_words_send, slot_words_sync) depth 20,
+                                (search (sendable, crosses) depth 20, (search (sendable, crosses) depth 20, tt)),
+                              ),
+                            ),
+                          ),
+                        ),
+                      ),
+                    ),
                   ),
                 ),
               ),

@@ -1,12 +1,12 @@
 -- What runs over a port whose calls leave one part of it tells the same of what they tell of in that part.
 use Rattle.std.specs.Prelude.{◌≡◌, ℕ, Bool, List, [], ◌∷◌, Option, Result, Ok, Err, refl}
-use Rattle.std.proofs.Common.{sym, ap, ◌∙◌, inl, inr}
+use Rattle.std.proofs.Common.{sym, ap, subst, ◌∙◌, inl, inr}
 use Rattle.lb_select_base.specs.Backends.{Member}
 use Rattle.lb_select_base.specs.Draws.{Draw}
 use Rattle.lb_select_base.specs.declared.refusal.Refusal.{Refusal}
 use Rattle.lb_rebuild_core.specs.Values.{ReaderValue}
 use Rattle.lb_rebuild_core.specs.declared.membership.Scheduled.{Scheduled}
-use Rattle.lb_balancer_core.specs.Looks.{Look, drew, told, Looks, SelectsBy, Inside, SelectedThrough}
+use Rattle.lb_balancer_core.specs.Looks.{Look, drew, told, Looks, SelectsBy}
 use Rattle.lb_balancer_core.specs.Through.{UpdatedBy, UpdatedThrough}
 
 module _ {K D P X V : Type 0} (whole : P → X) (core : X → V) (reads : K → ℕ → K → Type 0)
@@ -64,31 +64,11 @@ module _ {C P X V : Type 0} (whole : P → X) (core : X → V) (Ready : V → Re
     selects_stay walks p r (Err e) q (memory, inl same) = ap whole same
     selects_stay walks p r (Err e) q (memory, inr (ls, looks, cs, walked, fits, is)) = looks_stay r p ls q looks
 
-    module _ (Enter : V → ℕ → Result (ReaderValue C) Refusal → Type 0) (Leave : V → ReaderValue C → Type 0)
-        (walks : List Member → C → List ℕ → List Draw → List Member → Bool → Type 0) (key : List ℕ) where
-      abbrev pub Entering : P → ℕ → Result (ReaderValue C) Refusal → P → Type 0
-      Entering p slot a q = Enter (of_port p) slot a × (whole q ≡ whole p)
-
-      abbrev pub Leaving : P → ReaderValue C → P → Type 0
-      Leaving p r q = Leave (of_port p) r × (whole q ≡ whole p)
-
-      inside_at : (v : V) (a : Result (ReaderValue C) Refusal) (p : P) (o : Result (Option Member) Refusal) (q : P) → of_port p ≡ v
-          → Inside accepts limit Drawing Asking Entering Leaving walks key a p o q
-          → Inside accepts limit (λ v r d w. w ≡ v) (λ v r b a w. Ready v r b a × (w ≡ v)) (λ v slot a w. Enter v slot a × (w ≡ v))
-          (λ v r w. Leave v r × (w ≡ v)) walks key a (of_port p) o v
-      inside_at v (Ok r) p o q at (m, selects, left) =
-          let stay = selects_stay (walks r.members r.config key) p r o m selects in
-          (of_port m, selects_at (walks r.members r.config key) p r o m selects, (left.0, sym (ap core stay ∙ at)))
-      inside_at v (Err e) p o q at (is, same) = (is, sym at)
-
-      -- a selection by a port that tells of its group alone
-      pub selected_at : (p : P) (slot : ℕ) (o : Result (Option Member) Refusal) (q : P)
-          → SelectedThrough accepts limit Drawing Asking Entering Leaving walks key p slot o q
-          → SelectedThrough accepts limit (λ v r d w. w ≡ v) (λ v r b a w. Ready v r b a × (w ≡ v))
-          (λ v slot a w. Enter v slot a × (w ≡ v)) (λ v r w. Leave v r × (w ≡ v)) walks key (of_port p) slot o (of_port p)
-      selected_at p slot o q (a, m, entered, inside) = (
-        a,
-        of_port m,
-        (entered.0, ap core entered.1),
-        inside_at (of_port p) a m o q (ap core entered.1) inside,
-      )
+    -- a selection for a reader, by a port that tells of its group alone
+    pub selects_here : (walks : List Draw → List Member → Bool → Type 0) (p : P) (r : ReaderValue C) (o : Result (Option Member) Refusal)
+        (q : P)
+        → SelectsBy accepts limit Drawing Asking walks p r o q
+        → SelectsBy accepts limit (λ v r d w. w ≡ v) (λ v r b a w. Ready v r b a × (w ≡ v)) walks (of_port p) r o (of_port p)
+    selects_here walks p r o q is =
+        subst (λ v. SelectsBy accepts limit (λ v r d w. w ≡ v) (λ v r b a w. Ready v r b a × (w ≡ v)) walks (of_port p) r o v)
+        (ap core (selects_stay walks p r o q is)) (selects_at walks p r o q is)

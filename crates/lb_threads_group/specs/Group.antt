@@ -19,7 +19,6 @@ use Rattle.lb_rebuild_core.specs.GroupCalls.{released_where, generation_at}
 use Rattle.lb_rebuild_core.specs.GroupHistory.{History, slot_events, in_group}
 use Rattle.lb_rebuild_core.specs.Stands.{Made}
 use Rattle.lb_rebuild_core.specs.GroupStates.{GroupValue, After, Becomes, IsFounded, SameSite, views_of}
-use Rattle.lb_balancer_core.specs.Looks.{SelectedThrough}
 use Rattle.lb_balancer_core.specs.Through.{UpdatedThrough}
 use Rattle.lb_balancer_core.specs.Plain.{IsAsked, IsEntered, IsTaken, IsScheduled, IsReadyFor}
 use Rattle.lb_threads_core.specs.Registry.{IsRegistryOf, UnderRegistry}
@@ -129,11 +128,3 @@ module _ {C R : Type 0} (gives : R → Member → Member → Type 0) where
       → D → K → SharedValue C R → Result ℕ Refusal → K → Type 0
   UpdatedUnder reads finds d k site r l =
       UpdatedThrough reads finds (λ v members settings now a w. ScheduledUnder v members settings now a × (w ≡ v)) d k site r l site
-
-  -- a selection: the reader entered, the readiness that was read, and the reader left, each at some state of the group
-  abbrev pub SelectedUnder :
-      (Member → Bool → Bool → Type 0) → ℕ → (List Member → C → List ℕ → List Draw → List Member → Bool → Type 0)
-      → List ℕ → SharedValue C R → ℕ → Result (Option Member) Refusal → Type 0
-  SelectedUnder accepts limit walks key site slot r =
-      SelectedThrough accepts limit (λ v r d w. w ≡ v) (λ v r b a w. ReadyUnder v r b a × (w ≡ v))
-      (λ v slot a w. EnteredUnder v.core slot a × (w ≡ v)) (λ v r w. LeftUnder v.core r × (w ≡ v)) walks key site slot r site

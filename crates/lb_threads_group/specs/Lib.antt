@@ -1,2 +1,4 @@
+pub mod Found
 pub mod Group
+pub mod Kept
 pub mod Shared

@@ -59,5 +59,6 @@ impl<S: BackendSelection, R: KeyRule + Drop, C: HealthCheck + Drop> SharedGroup<
         let mut held = self.lock.take(rt);
         held.value.set_enable(backend, enabled);
         self.lock.put(held);
+        self.note_change();
     }
 }

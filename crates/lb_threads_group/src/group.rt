@@ -1,10 +1,12 @@
 //! A group that threads share, behind a lock of its own.
 //! Locks are taken in the order update, group, registry, gate, and but for that of an update none is held between two calls.
-ghost use Rattle.std.specs.Prelude.{◌≡◌, ◌+◌, IfErr, IfOk, length};
+ghost use Rattle.std.specs.Prelude.{◌≡◌, ◌+◌, All, IfErr, IfOk, length};
 ghost use Rattle.std.specs.Arc.{arc_value};
 ghost use Rattle.lb_threads_group.specs.Group.{UpdatedUnder};
 ghost use Rattle.lb_threads_group.specs.Shared.{IsSame};
 
+use crate::found::{SlotWords, WordsLock};
+use crate::kept::{Site, SlotLanes};
 use crate::port::LockedPort;
 use lb_balancer_core::source::BackendSource;
 use lb_balancer_core::update::update_through;
@@ -19,6 +21,7 @@ use lb_select_base::moments::MomentSource;
 use lb_select_base::refusal::Refusal;
 use lb_select_base::walk::BackendSelection;
 use lb_threads_core::gate::SelectorRebuildGate;
+use lb_threads_core::lanes::Lanes;
 use lb_threads_core::lock::KeyedLock;
 use lb_threads_core::registry::HealthRegistry;
 use lb_threads_core::rule::LockRule;
@@ -30,6 +33,9 @@ use std::snapshot::Snapshot;
 use std::sync::atomic::Ordering::SeqCst;
 use std::sync::atomic::{AtomicBool, AtomicU64};
 use std::sync::{Arc, Mutex, Wait};
+
+// The number of lanes of a slot, a power of two: some more than the threads that select at once.
+const LANES: usize = 16;
 
 /// The group under the lock is the one that the lock was made with, on the same board: its identity, its gate and its configurations
 /// stay.
@@ -64,6 +70,17 @@ pub struct SharedGroup<S: BackendSelection, R: KeyRule + Drop, C> {
     lines: Vec<SlotCounters>,
     // Whether only workers use the group now.
     let_go: AtomicBool,
+    // Whose readers the lanes have, and the lanes of each slot.
+    pub(crate) site: Site<S, R, C>,
+    pub(crate) lanes: Vec<SlotLanes<S, R, C>>,
+    // For the words of a generation.
+    pub(crate) alloc: Global,
+    // The words of each slot.
+    pub(crate) words: Vec<WordsLock<S, R, C>>,
+    // Counts what may have changed what is ready, but for the registry's own changes.
+    pub(crate) changes: AtomicU64,
+    // Whether the lanes are used no more.
+    pub(crate) is_closed: AtomicBool,
 }
 
 impl<S: BackendSelection, R: KeyRule + Drop, C: Drop> Drop for SharedGroup<S, R, C> {
@@ -78,12 +95,18 @@ impl<S: BackendSelection, R: KeyRule + Drop, C: Drop> Drop for SharedGroup<S, R,
             updates: _,
             lines: _,
             let_go: _,
+            site: _,
+            lanes: _,
+            alloc: _,
+            words: _,
+            changes: _,
+            is_closed: _,
         } = self;
     }
 }
 
 impl<S: BackendSelection, R: KeyRule + Drop, C> Model for SharedGroup<S, R, C> {
-    ghost use Rattle.std.specs.Prelude.{◌≡◌, ◌+◌, length};
+    ghost use Rattle.std.specs.Prelude.{◌≡◌, ◌+◌, All, length};
     ghost use Rattle.std.specs.Arc.{arc_value};
     ghost use Rattle.lb_threads_group.specs.Shared.{SharedValue};
 
@@ -97,7 +120,14 @@ impl<S: BackendSelection, R: KeyRule + Drop, C> Model for SharedGroup<S, R, C> {
 
     ghost invariant = { λ g. ((arc_value g.gate).id ≡ g.lock.table.shared.key.value.core.group.gate)
         × (g.lock.table.shared.key.value.board ≡ arc_value g.board)
-        × ((arc_value g.board).words ≡ length g.lines.items + 1) };
+        × ((arc_value g.board).words ≡ length g.lines.items + 1)
+        × (g.site ≡ record {
+          board = arc_value g.board;
+          core = g.lock.table.shared.key.value.core;
+          registry = (arc_value g.registry).start;
+        })
+        × All (λ l. All (λ lane. lane.slot ≡ g.site) l.lanes.items) g.lanes.items
+        × All (λ f. f.table.shared.key ≡ g.site) g.words.items };
 }
 
 impl<S: BackendSelection, R: KeyRule + Drop, C: HealthCheck + Drop> SharedGroup<S, R, C> {
@@ -123,6 +153,9 @@ impl<S: BackendSelection, R: KeyRule + Drop, C: HealthCheck + Drop> SharedGroup<
         let (watched, board) = Watched::new(alloc, core)?;
         let lines = lines_of(alloc, board.word_count() - 1)?;
         let key = Snapshot::of(&watched);
+        let site = Site::of(&watched, &*registry);
+        let lanes = lanes_of(alloc, board.word_count() - 1, &site)?;
+        let words = words_of(alloc, board.word_count() - 1, &site)?;
         let lock = KeyedLock::new(alloc, watched, &key)?;
         Ok(SharedGroup {
             lock,
@@ -134,6 +167,12 @@ impl<S: BackendSelection, R: KeyRule + Drop, C: HealthCheck + Drop> SharedGroup<
             updates: Mutex::new(()),
             lines,
             let_go: AtomicBool::new(false),
+            site,
+            lanes,
+            alloc,
+            words,
+            changes: AtomicU64::new(0),
+            is_closed: AtomicBool::new(false),
         })
     }
 
@@ -147,12 +186,17 @@ impl<S: BackendSelection, R: KeyRule + Drop, C: HealthCheck + Drop> SharedGroup<
         held.value.cancel(&mut registry.value);
         registries.put(registry);
         self.lock.put(held);
+        self.is_closed.store(true, SeqCst);
+        for slot in 0..self.slot_count() {
+            self.clear_lanes(rt, slot);
+        }
         self.gate.wakes().wake();
     }
 
     /// Has workers cancel the group at their next turn. It takes no lock and no memory.
     pub fn let_go(&self) {
         self.let_go.store(true, SeqCst);
+        self.is_closed.store(true, SeqCst);
         self.gate.wakes().wake();
     }
 
@@ -267,7 +311,11 @@ impl<S: BackendSelection, R: KeyRule + Drop, C: HealthCheck + Drop> SharedGroup<
         ensures { UpdatedUnder R.gives K.reads D.finds discovery.now clock.old self.now result clock.new }
     {
         let turn = self.updates.lock(rt);
-        let mut port = LockedPort { group: self, rt };
+        let mut port = LockedPort {
+            group: self,
+            rt,
+            found: self.no_words(),
+        };
         let told = update_on(alloc, &mut port, discovery, clock);
         drop(turn);
         told
@@ -306,9 +354,42 @@ fn lines_of(alloc: Global, slots: usize) -> Result<Vec<SlotCounters>, Refusal>
     Ok(lines)
 }
 
+// Empty lanes for so many slots.
+fn lanes_of<S: BackendSelection, R: KeyRule + Drop, C>(
+    alloc: Global,
+    slots: usize,
+    site: &Site<S, R, C>,
+) -> Result<Vec<SlotLanes<S, R, C>>, Refusal>
+    ensures keyed { IfOk result (λ l. All (λ s. All (λ lane. lane.slot ≡ site.now) s.lanes.items) l.items) }
+    ensures refused { IfErr result (λ e. e ≡ Refusal.OutOfMemory) }
+{
+    let mut lanes = Vec::new(alloc);
+    for _ in 0..slots {
+        lanes.push(Lanes::new(alloc, LANES, site)?)?;
+    }
+    Ok(lanes)
+}
+
+// The locks of the words of so many slots, which have none yet.
+fn words_of<S: BackendSelection, R: KeyRule + Drop, C>(
+    alloc: Global,
+    slots: usize,
+    site: &Site<S, R, C>,
+) -> Result<Vec<WordsLock<S, R, C>>, Refusal>
+    ensures keyed { IfOk result (λ l. All (λ f. f.table.shared.key ≡ site.now) l.items) }
+    ensures refused { IfErr result (λ e. e ≡ Refusal.OutOfMemory) }
+{
+    let mut words = Vec::new(alloc);
+    for _ in 0..slots {
+        words.push(KeyedLock::new(alloc, SlotWords::none(), site)?)?;
+    }
+    Ok(words)
+}
+
 fn update_on<
     'g,
     'r,
+    'f,
     S: BackendSelection,
     R: KeyRule + Drop,
     C: HealthCheck + Drop,
@@ -317,7 +398,7 @@ fn update_on<
     K: MomentSource,
 >(
     alloc: Global,
-    port: &mut LockedPort<'g, 'r, S, R, C, W>,
+    port: &mut LockedPort<'g, 'r, 'f, S, R, C, W>,
     discovery: &D,
     clock: &mut K,
 ) -> Result<u64, Refusal>

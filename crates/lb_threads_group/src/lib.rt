@@ -3,7 +3,10 @@
 #![tactic(auto)]
 
 mod backends;
+pub mod found;
 pub mod group;
+pub mod kept;
+mod marks;
 pub mod passes;
 pub mod port;
 mod reading;

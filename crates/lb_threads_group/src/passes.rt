@@ -195,7 +195,11 @@ impl<S: BackendSelection, R: KeyRule + Drop, C: HealthCheck + Drop> SharedGroup<
         requires { reader.group ≡ self.now.core.group.id }
         ensures { LeftUnder self.now.core reader }
     {
-        let mut port = LockedPort { group: self, rt };
+        let mut port = LockedPort {
+            group: self,
+            rt,
+            found: self.no_words(),
+        };
         port.leave(reader);
     }
 }

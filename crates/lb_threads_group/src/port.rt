@@ -1,10 +1,12 @@
 //! Implements `GroupPort` over a group that threads share: each call takes the group's lock, and the registry's and the gate's where it
 //! needs them. No build and no destruction runs under a lock.
 ghost use Rattle.std.specs.Prelude.{◌≡◌};
+ghost use Rattle.std.specs.Option.{ForSome};
 ghost use Rattle.std.proofs.Common.{subst, sym};
 ghost use Rattle.lb_threads_group.specs.Group.{OwnsJob, OwnsPermit, AskedUnder, EnteredUnder, TakenUnder, LeftUnder, PublishedUnder};
 ghost use Rattle.lb_threads_group.specs.Group.{FailedUnder, ReportedUnder, ReadyUnder, ScheduledUnder};
 
+use crate::found::Found;
 use crate::group::SharedGroup;
 use lb_balancer_core::build::RefusedJob;
 use lb_balancer_core::port::{GroupPort, TakesBack};
@@ -27,16 +29,32 @@ use std::sync::Wait;
 
 /// One thread's port of a group that threads share.
 #[derive(Drop)]
-pub struct LockedPort<'g, 'r, S: BackendSelection, R: KeyRule + Drop, C, W> {
+pub struct LockedPort<'g, 'r, 'f, S: BackendSelection, R: KeyRule + Drop, C, W> {
     pub group: &'g SharedGroup<S, R, C>,
     pub rt: &'r W,
+    // Words of the group, which are loaded before a lock is taken.
+    pub(crate) found: Option<&'f Found<S, R, C>>,
+    ghost own: { ForSome found (λ f. f.now.site ≡ group.now) },
 }
 
-impl<'g, 'r, S: BackendSelection, R: KeyRule + Drop, C: HealthCheck + Drop, W: Wait> TakesBack<
+impl<'g, 'r, S: BackendSelection, R: KeyRule + Drop, C, W> LockedPort<'g, 'r, 'g, S, R, C, W> {
+    /// Returns a port of this group, for the thread that `rt` is of.
+    pub fn new(group: &'g SharedGroup<S, R, C>, rt: &'r W) -> LockedPort<'g, 'r, 'g, S, R, C, W>
+        ensures { result.group.now ≡ group.now }
+    {
+        LockedPort {
+            group,
+            rt,
+            found: group.no_words(),
+        }
+    }
+}
+
+impl<'g, 'r, 'f, S: BackendSelection, R: KeyRule + Drop, C: HealthCheck + Drop, W: Wait> TakesBack<
     RefusedJob<S>,
     Built<S>,
     Reader<S>,
-> for LockedPort<'g, 'r, S, R, C, W> {
+> for LockedPort<'g, 'r, 'f, S, R, C, W> {
     ghost owns_refused = { λ p r. OwnsJob p.group.now.core r.task };
 
     ghost owns_built = { λ p b. OwnsJob p.group.now.core b.task };
@@ -73,11 +91,14 @@ impl<'g, 'r, S: BackendSelection, R: KeyRule + Drop, C: HealthCheck + Drop, W: W
     fn publish(&mut self, built: Built<S>) -> Publication {
         let group = self.group;
         let _gate = &group.gate;
+        let slot = built.slot();
         let generation = built.generation();
         let mut held = group.lock.take(self.rt);
         held.value.founded();
         let told = held.value.publish(built);
         group.lock.put(held);
+        group.clear_lanes(self.rt, slot);
+        group.judge_all(self.rt, slot);
         match told {
             Ok(told) => told,
             Err(built) => {
@@ -106,8 +127,8 @@ impl<'g, 'r, S: BackendSelection, R: KeyRule + Drop, C: HealthCheck + Drop, W: W
     }
 }
 
-impl<'g, 'r, S: BackendSelection, R: KeyRule + Drop, C: HealthCheck + Drop, W: Wait> GroupPort<S>
-    for LockedPort<'g, 'r, S, R, C, W> {
+impl<'g, 'r, 'f, S: BackendSelection, R: KeyRule + Drop, C: HealthCheck + Drop, W: Wait> GroupPort<S>
+    for LockedPort<'g, 'r, 'f, S, R, C, W> {
     ghost owns_job = { λ p t. OwnsJob p.group.now.core t };
 
     ghost scheduled = { λ p ms settings now r q. ScheduledUnder R.gives p.group.now ms settings now r × (q.group.now ≡ p.group.now) };
@@ -137,6 +158,7 @@ impl<'g, 'r, S: BackendSelection, R: KeyRule + Drop, C: HealthCheck + Drop, W: W
         let group = self.group;
         let registries: &HealthRegistry<R, C> = &*group.registry;
         let _gate = &group.gate;
+        let has_settings = !settings.is_empty();
         let mut held = group.lock.take(self.rt);
         held.value.founded();
         let mut cells = registries.take(self.rt);
@@ -145,6 +167,9 @@ impl<'g, 'r, S: BackendSelection, R: KeyRule + Drop, C: HealthCheck + Drop, W: W
             .schedule(alloc, &mut cells.value, discovered, settings, now);
         registries.put(cells);
         group.lock.put(held);
+        if has_settings {
+            group.note_change();
+        }
         group.wake_if(brings_orders(&told));
         told
     }
@@ -158,6 +183,9 @@ impl<'g, 'r, S: BackendSelection, R: KeyRule + Drop, C: HealthCheck + Drop, W: W
         let told = held.value.ask(slot, &mut gate.value, now);
         gates.put(gate);
         group.lock.put(held);
+        if let Ok(Ask::Job(job)) = &told {
+            group.expect(self.rt, slot, job.generation());
+        }
         told
     }
 
@@ -173,15 +201,12 @@ impl<'g, 'r, S: BackendSelection, R: KeyRule + Drop, C: HealthCheck + Drop, W: W
 
     fn ready(&mut self, reader: &Reader<S>, backend: &Backend) -> bool {
         let group = self.group;
-        let registries: &HealthRegistry<R, C> = &*group.registry;
-        let _gate = &group.gate;
-        let held = group.lock.take(self.rt);
-        held.value.founded();
-        let cells = registries.take(self.rt);
-        let told = held.value.core().ready(reader, &cells.value, backend);
-        registries.put(cells);
-        group.lock.put(held);
-        told
+        match self.found {
+            Some(found) if found.generation() == reader.generation() => {
+                group.judge(self.rt, found, reader, backend)
+            }
+            _ => group.ask_ready(self.rt, reader, backend),
+        }
     }
 
     fn ticket(&mut self, reader: &Reader<S>) -> u64 {

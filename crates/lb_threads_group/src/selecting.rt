@@ -1,16 +1,19 @@
-//! Selections of threads from a group that they share.
-ghost use Rattle.std.specs.Prelude.{◌≡◌};
-ghost use Rattle.lb_balancer_core.specs.Looks.{Answers};
-ghost use Rattle.lb_threads_group.specs.Group.{SelectedUnder};
+//! Selections of threads from a group that they share: in what a lane of the slot has, or else by the group's lock.
+ghost use Rattle.std.specs.Prelude.{◌≡◌, Err, IfSome, MatchBool, None, Ok};
+ghost use Rattle.lb_balancer_core.specs.Looks.{Answers, is_no_such};
+ghost use Rattle.lb_threads_group.specs.Kept.{IsEntry, SelectedFrom, SelectsUnder};
 
 use crate::group::SharedGroup;
+use crate::kept::{Entry, hint_of};
 use crate::port::LockedPort;
-use lb_balancer_core::select::select_through;
+use lb_balancer_core::select::select_for;
 use lb_health_core::health_check::HealthCheck;
 use lb_health_core::keys::KeyRule;
+use lb_rebuild_core::retired::Reader;
 use lb_select_base::backend::Backend;
 use lb_select_base::refusal::Refusal;
 use lb_select_base::walk::BackendSelection;
+use lb_threads_core::lane::Seen;
 use std::alloc::Global;
 use std::sync::Wait;
 
@@ -19,6 +22,10 @@ impl<S: BackendSelection, R: KeyRule + Drop, C: HealthCheck + Drop> SharedGroup<
     ///
     /// `accept` is asked with a backend and whether it is ready, while no lock is held. Only the first `max_iterations` candidates are
     /// looked at. It is `None` too where no such slot is there.
+    ///
+    /// A reader enters the slot for it. Then it leaves, or a lane of the slot keeps it for the selections that follow, which take no lock:
+    /// but for a candidate whose readiness may have changed since it was last asked for, and for random words and loads. The worker that
+    /// publishes empties the slot's lanes, so that no lane keeps a retired selector once the selections in it have ended.
     ///
     /// # Errors
     ///
@@ -33,17 +40,106 @@ impl<S: BackendSelection, R: KeyRule + Drop, C: HealthCheck + Drop> SharedGroup<
         accept: &F,
     ) -> Result<Option<Backend>, Refusal>
         requires { F.IsAlwaysCallable accept.now }
-        ensures { SelectedUnder R.gives (λ b ready a. Answers F.Fn accept.now b ready a) max_iterations S.walks key.now self.now slot
+        ensures { SelectedFrom R.gives (λ b ready a. Answers F.Fn accept.now b ready a) max_iterations S.walks key.now self.now slot
             result }
     {
-        let mut port = LockedPort { group: self, rt };
-        select_on(alloc, &mut port, slot, key, max_iterations, accept)
+        let hint = hint_of(key);
+        let Some(seen) = self.seen_in_lane(rt, slot, hint) else {
+            return self.select_entering(rt, alloc, slot, hint, key, max_iterations, accept);
+        };
+        let answer = self.select_seen(rt, alloc, slot, hint, &seen, key, max_iterations, accept);
+        self.end_reading(rt, seen);
+        answer
+    }
+
+    // Selects in what a lane has, where it is of this slot.
+    fn select_seen<W: Wait, F: Fn(&Backend, bool) -> bool>(
+        &self,
+        rt: &W,
+        alloc: Global,
+        slot: usize,
+        hint: u64,
+        seen: &Seen<'_, Entry<S, R, C>>,
+        key: &[u8],
+        max_iterations: usize,
+        accept: &F,
+    ) -> Result<Option<Backend>, Refusal>
+        requires accept { F.IsAlwaysCallable accept.now }
+        requires here { seen.now.hand.tag ≡ self.now }
+        ensures { SelectedFrom R.gives (λ b ready a. Answers F.Fn accept.now b ready a) max_iterations S.walks key.now self.now slot
+            result }
+    {
+        match self.entry_in(seen) {
+            Some(entry) if entry.slot == slot => {
+                self.select_as(rt, alloc, entry, key, max_iterations, accept)
+            }
+            _ => self.select_entering(rt, alloc, slot, hint, key, max_iterations, accept),
+        }
+    }
+
+    // Enters the slot, selects, and puts what was entered into the hint's lane.
+    #[cold]
+    #[inline(never)]
+    fn select_entering<W: Wait, F: Fn(&Backend, bool) -> bool>(
+        &self,
+        rt: &W,
+        alloc: Global,
+        slot: usize,
+        hint: u64,
+        key: &[u8],
+        max_iterations: usize,
+        accept: &F,
+    ) -> Result<Option<Backend>, Refusal>
+        requires { F.IsAlwaysCallable accept.now }
+        ensures { SelectedFrom R.gives (λ b ready a. Answers F.Fn accept.now b ready a) max_iterations S.walks key.now self.now slot
+            result }
+    {
+        match self.enter_lane(rt, slot) {
+            Ok(entry) => {
+                let answer = self.select_as(rt, alloc, &entry, key, max_iterations, accept);
+                self.keep(rt, hint, entry);
+                answer
+            }
+            Err(refusal) => unentered(refusal),
+        }
+    }
+
+    // What a lane has.
+    fn entry_in<'s>(&self, seen: &'s Seen<'_, Entry<S, R, C>>) -> Option<&'s Entry<S, R, C>>
+        requires { seen.now.hand.tag ≡ self.now }
+        ensures { IfSome result (λ e. IsEntry self.now e.now.slot e.now.reader e.now.found) }
+    {
+        seen.value()
+    }
+
+    // Selects in what was entered.
+    fn select_as<W: Wait, F: Fn(&Backend, bool) -> bool>(
+        &self,
+        rt: &W,
+        alloc: Global,
+        entry: &Entry<S, R, C>,
+        key: &[u8],
+        max_iterations: usize,
+        accept: &F,
+    ) -> Result<Option<Backend>, Refusal>
+        requires accept { F.IsAlwaysCallable accept.now }
+        requires kept { IsEntry self.now entry.now.slot entry.now.reader entry.now.found }
+        ensures { SelectsUnder R.gives (λ b ready a. Answers F.Fn accept.now b ready a) max_iterations S.walks key.now self.now
+            entry.now.reader result }
+    {
+        let mut port = LockedPort {
+            group: self,
+            rt,
+            found: entry.words(),
+        };
+        select_on(alloc, &mut port, &entry.reader, key, max_iterations, accept)
     }
 }
 
 fn select_on<
     'g,
     'r,
+    'f,
     S: BackendSelection,
     R: KeyRule + Drop,
     C: HealthCheck + Drop,
@@ -51,15 +147,26 @@ fn select_on<
     F: Fn(&Backend, bool) -> bool,
 >(
     alloc: Global,
-    port: &mut LockedPort<'g, 'r, S, R, C, W>,
-    slot: usize,
+    port: &mut LockedPort<'g, 'r, 'f, S, R, C, W>,
+    reader: &Reader<S>,
     key: &[u8],
     max_iterations: usize,
     accept: &F,
 ) -> Result<Option<Backend>, Refusal>
-    requires { F.IsAlwaysCallable accept.now }
-    ensures { SelectedUnder R.gives (λ b ready a. Answers F.Fn accept.now b ready a) max_iterations S.walks key.now port.old.group.now
-        slot result }
+    requires accept { F.IsAlwaysCallable accept.now }
+    requires own { reader.now.group ≡ port.old.group.now.core.group.id }
+    ensures { SelectsUnder R.gives (λ b ready a. Answers F.Fn accept.now b ready a) max_iterations S.walks key.now port.old.group.now
+        reader.now result }
 {
-    select_through(alloc, port, slot, key, max_iterations, accept)
+    select_for(alloc, port, reader, key, max_iterations, accept)
+}
+
+// What is selected where no reader entered.
+fn unentered(refusal: Refusal) -> Result<Option<Backend>, Refusal>
+    ensures { MatchBool (is_no_such refusal) (result ≡ Ok None) (result ≡ Err refusal) }
+{
+    match refusal {
+        Refusal::NoSuch => Ok(None),
+        refusal => Err(refusal),
+    }
 }

@@ -73,7 +73,11 @@ fn turn_of<
     W: Log + Wait,
     K: MomentSource,
 >(rt: &W, alloc: Global, group: &SharedGroup<S, R, C>, slot: usize, clock: &mut K) -> Next {
-    let mut port = LockedPort { group, rt };
+    let mut port = LockedPort {
+        group,
+        rt,
+        found: group.no_words(),
+    };
     turn_on(alloc, &mut port, slot, clock)
 }
 
@@ -81,12 +85,13 @@ fn turn_of<
 fn turn_on<
     'g,
     'r,
+    'f,
     S: BackendSelection,
     R: KeyRule + Drop,
     C: HealthCheck + Drop,
     W: Log + Wait,
     K: MomentSource,
->(alloc: Global, port: &mut LockedPort<'g, 'r, S, R, C, W>, slot: usize, clock: &mut K) -> Next {
+>(alloc: Global, port: &mut LockedPort<'g, 'r, 'f, S, R, C, W>, slot: usize, clock: &mut K) -> Next {
     match worker_turn(alloc, port, slot, clock) {
         Ok(Turn::Published(_) | Turn::Abandoned(_)) => Next::Turn,
         Ok(Turn::Failed(generation, refusal)) => {
@@ -103,8 +108,8 @@ fn turn_on<
 
 // In a cancelled group: what the slot retired is destroyed and reported once it is no longer read, and then the worker ends, unless
 // a build of the slot is still under way.
-fn last_turn<'g, 'r, S: BackendSelection, R: KeyRule + Drop, C: HealthCheck + Drop, W: Wait>(
-    port: &mut LockedPort<'g, 'r, S, R, C, W>,
+fn last_turn<'g, 'r, 'f, S: BackendSelection, R: KeyRule + Drop, C: HealthCheck + Drop, W: Wait>(
+    port: &mut LockedPort<'g, 'r, 'f, S, R, C, W>,
     slot: usize,
 ) -> Next {
     // In this order: a build that ends after the look leaves its selector to the thread that built it, and none begins any more.

@@ -83,7 +83,7 @@ fn comes_of<S: BackendSelection, R: KeyRule + Drop, C: HealthCheck + Drop, W: Wa
             Ok(Done::Heavy(newest))
         }
         Done::Took(_) => {
-            let mut port = LockedPort { group, rt };
+            let mut port = LockedPort::new(group, rt);
             let turn = worker_turn(alloc, &mut port, 0, &mut clock)?;
             Ok(Done::Took(turn))
         }

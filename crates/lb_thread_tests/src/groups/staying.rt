@@ -21,7 +21,7 @@ fn destroyed<S: BackendSelection, R: KeyRule + Drop, C: HealthCheck + Drop, W: W
     group: &SharedGroup<S, R, C>,
     slot: usize,
 ) -> Result<(), Refusal> {
-    let mut port = LockedPort { group, rt };
+    let mut port = LockedPort::new(group, rt);
     let retired = port.take_retired(slot)?;
     let permit = retired.destroy();
     port.destroyed(slot, permit);

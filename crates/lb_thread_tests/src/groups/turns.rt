@@ -52,7 +52,7 @@ pub(super) fn turn<S: BackendSelection, R: KeyRule + Drop, C: HealthCheck + Drop
     group: &SharedGroup<S, R, C>,
     slot: usize,
 ) -> Turn {
-    let mut port = LockedPort { group, rt };
+    let mut port = LockedPort::new(group, rt);
     worker_turn(alloc, &mut port, slot, &mut Still {}).expect(rt, "refused")
 }
 

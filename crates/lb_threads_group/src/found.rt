@@ -1,0 +1,394 @@
+//! Which backends of a generation are ready, as words that the lanes of a slot share: one for each backend, which says whether it is ready
+//! and as of which change that was found. A selection loads the word of its candidate, and asks group and registry where something changed
+//! since; so a flip or a flag costs each backend one question, and no request copies a membership.
+ghost use Rattle.std.specs.Prelude.{◌≡◌, ◌%◌, IfOk, IfSome, None};
+ghost use Rattle.std.specs.Arc.{arc_value};
+ghost use Rattle.lb_threads_group.specs.Found.{ReadyAt, said_as};
+ghost use Rattle.lb_threads_group.specs.Group.{ReadyUnder};
+ghost use Rattle.lb_threads_group.specs.Kept.{IsFoundOf};
+ghost use Rattle.lb_threads_group.specs.Shared.{SharedValue};
+
+use crate::group::SharedGroup;
+use crate::kept::Site;
+use crate::marks::{Marks, marks_of, place_of};
+use lb_health_core::health_check::HealthCheck;
+use lb_health_core::keys::KeyRule;
+use lb_rebuild_core::retired::Reader;
+use lb_select_base::backend::Backend;
+use lb_select_base::walk::BackendSelection;
+use lb_threads_core::lock::KeyedLock;
+use lb_threads_core::registry::HealthRegistry;
+use lb_threads_core::rule::LockRule;
+use lb_words::keyed::KeyedWords;
+use lb_words::rule::WordRule;
+use std::alloc::{AllocError, Global};
+use std::collections::BTreeSet;
+use std::marker::Model;
+use std::mem::replace;
+use std::snapshot::Snapshot;
+use std::sync::atomic::Ordering::SeqCst;
+use std::sync::{Arc, Wait};
+
+// What a word says.
+const IS_UNREADY: u64 = 2;
+
+const IS_READY: u64 = 3;
+
+// Numbers of changes are kept modulo this, so that a word has place for one.
+const CHANGES: u64 = 0x2000_0000_0000_0000;
+
+/// Of what words are: the group and the registry, the generation, and the backend of each place.
+#[derive(Drop)]
+pub struct Subject<S: BackendSelection, R: KeyRule + Drop, C> {
+    site: Snapshot<Site<S, R, C>>,
+    generation: u64,
+    marks: Snapshot<Vec<Option<Backend>>>,
+}
+
+/// Each word says of the backend that has its place whether it is ready for the readers of the generation, at some state of group and
+/// registry.
+pub struct OfFound {}
+
+impl<S: BackendSelection, R: KeyRule + Drop, C> WordRule<Subject<S, R, C>> for OfFound {
+    ghost use Rattle.lb_threads_group.specs.Found.{ReadyAt, SaysAt};
+
+    ghost holds = { λ of i w. SaysAt (ReadyAt R.gives of.site.value of.generation) of.marks.value.items i w };
+}
+
+/// Which backends are ready for the readers of a generation. Contracts see of which group, registry and generation.
+#[derive(Drop)]
+pub struct Found<S: BackendSelection, R: KeyRule + Drop, C> {
+    generation: u64,
+    marks: Marks,
+    words: KeyedWords<Subject<S, R, C>, OfFound>,
+}
+
+impl<S: BackendSelection, R: KeyRule + Drop, C> Model for Found<S, R, C> {
+    ghost use Rattle.std.specs.Prelude.{◌≡◌};
+    ghost use Rattle.lb_threads_group.specs.Found.{FoundValue};
+
+    ghost Value = { FoundValue S.Config R };
+
+    ghost view = { λ f. record { site = f.words.table.shared.key.site.value; generation = f.generation } };
+
+    ghost invariant = { λ f. (f.words.table.shared.key.generation ≡ f.generation)
+        × (f.words.table.shared.key.marks.value.items ≡ f.marks.items) };
+}
+
+/// The words of a slot: of the generation that it serves, and of the one that is built for it.
+#[derive(Drop)]
+pub struct SlotWords<S: BackendSelection, R: KeyRule + Drop, C> {
+    served: Option<Arc<Found<S, R, C>>>,
+    next: Option<Arc<Found<S, R, C>>>,
+}
+
+/// The words are of the lock's group.
+pub struct OfSlot {}
+
+impl<S: BackendSelection, R: KeyRule + Drop, C> LockRule<SlotWords<S, R, C>, Site<S, R, C>>
+    for OfSlot {
+    ghost use Rattle.lb_threads_group.specs.Kept.{IsFoundOf};
+
+    ghost holds = { λ site words. IsFoundOf site words.served × IsFoundOf site words.next };
+}
+
+/// The lock of a slot's words.
+pub type WordsLock<S, R, C> = KeyedLock<SlotWords<S, R, C>, Site<S, R, C>, OfSlot>;
+
+impl<S: BackendSelection, R: KeyRule + Drop, C> SlotWords<S, R, C> {
+    // No words.
+    pub(crate) fn none() -> SlotWords<S, R, C>
+        ensures { (site : SharedValue S.Config R) → IsFoundOf site result.served × IsFoundOf site result.next }
+    {
+        SlotWords {
+            served: None,
+            next: None,
+        }
+    }
+
+    // The words of a generation.
+    fn of(&self, generation: u64) -> Option<Arc<Found<S, R, C>>>
+        ensures { (site : SharedValue S.Config R) → IsFoundOf site self.now.served → IsFoundOf site self.now.next
+            → IsFoundOf site result }
+    {
+        match found_of(&self.next, generation) {
+            Some(found) => Some(found),
+            None => found_of(&self.served, generation),
+        }
+    }
+
+    // Takes words of the generation that is built now, and returns what isn't needed then.
+    fn expect(
+        &mut self,
+        found: Arc<Found<S, R, C>>,
+        served: Option<u64>,
+    ) -> Option<Arc<Found<S, R, C>>>
+        ensures { (site : SharedValue S.Config R) → IsFoundOf site self.old.served → IsFoundOf site self.old.next
+            → (arc_value found).site ≡ site → IsFoundOf site self.new.served × IsFoundOf site self.new.next }
+    {
+        let before = replace(&mut self.next, Some(found));
+        match before {
+            Some(before) if Some(before.generation) == served => {
+                replace(&mut self.served, Some(before))
+            }
+            before => before,
+        }
+    }
+}
+
+impl<S: BackendSelection, R: KeyRule + Drop, C> Found<S, R, C> {
+    // Words for readers of a generation with these backends, which say nothing yet.
+    fn new(
+        alloc: Global,
+        site: &Site<S, R, C>,
+        generation: u64,
+        backends: &BTreeSet<Backend>,
+    ) -> Result<Found<S, R, C>, AllocError>
+        ensures { IfOk result (λ f. f.site ≡ site.now) }
+    {
+        let marks = marks_of(alloc, backends)?;
+        let none: Vec<u64> = vec![in alloc; 0; marks.len()]?;
+        let of = Subject {
+            site: Snapshot::of(site),
+            generation,
+            marks: Snapshot::of(&marks),
+        };
+        let words = KeyedWords::new(alloc, &none, &of)?;
+        Ok(Found {
+            generation,
+            marks,
+            words,
+        })
+    }
+
+    // The generation of its readers.
+    pub(crate) fn generation(&self) -> u64
+        ensures { result ≡ self.now.generation }
+    {
+        self.generation
+    }
+
+    // Whether a backend is ready, where its word says so as of this change.
+    #[inline]
+    fn known(&self, changes: u64, backend: &Backend) -> Option<bool>
+        ensures { IfSome result (ReadyAt R.gives self.now.site self.now.generation backend.now) }
+    {
+        let place = place_of(self.marks.as_slice(), backend)?;
+        let word = self.words.load(place)?;
+        if word / 4 != changes {
+            return None;
+        }
+        told_by(word)
+    }
+
+    // Notes whether a backend is ready, as of this change.
+    fn note(&self, changes: u64, backend: &Backend, ready: bool)
+        requires { ReadyAt R.gives self.now.site self.now.generation backend.now ready }
+    {
+        if let Some(place) = place_of(self.marks.as_slice(), backend) {
+            self.words.store(place, word_of(changes, ready));
+        }
+    }
+}
+
+// What a word says.
+#[inline]
+fn told_by(word: u64) -> Option<bool>
+    ensures { IfSome result (λ a. word % 4 ≡ said_as a) }
+{
+    match word % 4 {
+        IS_READY => Some(true),
+        IS_UNREADY => Some(false),
+        _ => None,
+    }
+}
+
+// The word that says so as of this change.
+fn word_of(changes: u64, ready: bool) -> u64
+    ensures { result % 4 ≡ said_as ready }
+{
+    let turn = changes % CHANGES * 4;
+    if ready {
+        turn + IS_READY
+    } else {
+        turn + IS_UNREADY
+    }
+}
+
+impl<S: BackendSelection, R: KeyRule + Drop, C> SharedGroup<S, R, C> {
+    // No words, for a port that asks of each backend. It borrows the group, so that the port's lifetimes are known.
+    pub(crate) fn no_words(&self) -> Option<&Found<S, R, C>>
+        ensures { result ≡ None }
+    {
+        None
+    }
+}
+
+impl<S: BackendSelection, R: KeyRule + Drop, C: HealthCheck + Drop> SharedGroup<S, R, C> {
+    // How often what is ready may have changed.
+    pub(crate) fn changes_so_far(&self) -> u64 {
+        let registry = self.registry.changes();
+        self.changes.load(SeqCst).wrapping_add(registry) % CHANGES
+    }
+
+    // Notes that what is ready may have changed, but for the registry.
+    pub(crate) fn note_change(&self) {
+        self.changes.fetch_add(1, SeqCst);
+    }
+
+    // The lock of a slot's words.
+    fn words_lock(&self, slot: usize) -> Option<&WordsLock<S, R, C>>
+        ensures { IfSome result (λ l. l.now.table.shared.key ≡ self.now) }
+    {
+        let _site = &self.site;
+        self.words.get(slot)
+    }
+
+    // The words for readers of a generation of a slot.
+    pub(crate) fn found_for<W: Wait>(
+        &self,
+        rt: &W,
+        slot: usize,
+        generation: u64,
+    ) -> Option<Arc<Found<S, R, C>>>
+        ensures { IsFoundOf self.now result }
+    {
+        let lock = self.words_lock(slot)?;
+        let held = lock.take(rt);
+        let found = held.value.of(generation);
+        lock.put(held);
+        found
+    }
+
+    // Has words for the readers of a generation that is built for a slot, if it is the newest one. It is for the thread that builds:
+    // requests take what is there. Where memory is refused, they ask for each candidate.
+    pub(crate) fn expect<W: Wait>(&self, rt: &W, slot: usize, generation: u64) {
+        let Some(backends) = self.backends_of(rt, generation) else {
+            return;
+        };
+        let Some(lock) = self.words_lock(slot) else {
+            return;
+        };
+        let Some(found) = self.new_found(generation, &backends) else {
+            return;
+        };
+        let _board = &self.board;
+        let mut pass = self.board.pass();
+        let served = self.board.selector_generation_as(slot, &mut pass);
+        let mut held = lock.take(rt);
+        let unneeded = held.value.expect(found, served);
+        lock.put(held);
+        drop((backends, unneeded));
+    }
+
+    // Judges each backend that a slot serves, where its word isn't of now. It is for the thread that publishes or checks, so that
+    // requests seldom have to ask.
+    pub(crate) fn judge_all<W: Wait>(&self, rt: &W, slot: usize) {
+        let Ok(entry) = self.enter_lane(rt, slot) else {
+            return;
+        };
+        if let Some(found) = &entry.found {
+            self.judge_each(rt, &**found, &entry.reader);
+        }
+        self.leave_entry(rt, entry);
+    }
+
+    // Judges each backend that has a word.
+    fn judge_each<W: Wait>(&self, rt: &W, found: &Found<S, R, C>, reader: &Reader<S>)
+        requires found { found.now.site ≡ self.now }
+        requires own { reader.now.group ≡ self.now.core.group.id }
+    {
+        if found.generation() != reader.generation() {
+            return;
+        }
+        for mark in found.marks.as_slice() {
+            if let Some(backend) = mark {
+                self.judge(rt, found, reader, backend);
+            }
+        }
+    }
+
+    // Words for readers of a generation.
+    fn new_found(
+        &self,
+        generation: u64,
+        backends: &BTreeSet<Backend>,
+    ) -> Option<Arc<Found<S, R, C>>>
+        ensures { IsFoundOf self.now result }
+    {
+        let _site = &self.site;
+        let found = Found::new(self.alloc, &self.site, generation, backends).ok()?;
+        Arc::new(self.alloc, found).ok()
+    }
+
+    // The newest backends, where they are those of this generation.
+    fn backends_of<W: Wait>(&self, rt: &W, generation: u64) -> Option<Arc<BTreeSet<Backend>>> {
+        let _gate = &self.gate;
+        let held = self.lock.take(rt);
+        let group = held.value.core();
+        let backends = if group.newest() == generation {
+            group.get_backend().ok()
+        } else {
+            None
+        };
+        self.lock.put(held);
+        backends
+    }
+
+    // Whether a backend is ready for a reader of the words' generation: as its word says, and where that isn't of now, as group and
+    // registry say.
+    pub(crate) fn judge<W: Wait>(
+        &self,
+        rt: &W,
+        found: &Found<S, R, C>,
+        reader: &Reader<S>,
+        backend: &Backend,
+    ) -> bool
+        requires found { (found.now.site ≡ self.now) × (found.now.generation ≡ reader.now.generation) }
+        requires own { reader.now.group ≡ self.now.core.group.id }
+        ensures { ReadyAt R.gives self.now reader.now.generation backend.now result }
+    {
+        let changes = self.changes_so_far();
+        if let Some(ready) = found.known(changes, backend) {
+            return ready;
+        }
+        let ready = self.ask_ready(rt, reader, backend);
+        found.note(changes, backend, ready);
+        ready
+    }
+
+    // Whether group and registry say that a backend is ready for a reader.
+    pub(crate) fn ask_ready<W: Wait>(&self, rt: &W, reader: &Reader<S>, backend: &Backend) -> bool
+        requires { reader.now.group ≡ self.now.core.group.id }
+        ensures { ReadyUnder R.gives self.now reader.now backend.now result }
+    {
+        let registries: &HealthRegistry<R, C> = &*self.registry;
+        let _gate = &self.gate;
+        let held = self.lock.take(rt);
+        held.value.founded();
+        let cells = registries.take(rt);
+        let told = held.value.core().ready(reader, &cells.value, backend);
+        registries.put(cells);
+        self.lock.put(held);
+        told
+    }
+}
+
+// The words, where they are of this generation.
+fn found_of<S: BackendSelection, R: KeyRule + Drop, C>(
+    found: &Option<Arc<Found<S, R, C>>>,
+    generation: u64,
+) -> Option<Arc<Found<S, R, C>>>
+    ensures { (site : SharedValue S.Config R) → IsFoundOf site found.now → IsFoundOf site result }
+{
+    match found {
+        Some(found) => {
+            if found.generation == generation {
+                Arc::try_clone(found).ok()
+            } else {
+                None
+            }
+        }
+        None => None,
+    }
+}
