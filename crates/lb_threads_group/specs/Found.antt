@@ -1,5 +1,5 @@
--- What is known of which backends are ready for the readers of a generation, each at some state of group and registry. Readiness is the same
--- for all readers of a generation.
+-- What is known of which backends are ready for the readers of a generation, each at some state of group and registry. Readiness is the
+-- same for all readers of a generation.
 use Rattle.std.specs.Prelude.{◌≡◌, ◌↔◌, ◌%◌, ℕ, Bool, true, false, List, Option, IsTrue, IfSome, slice_get}
 use Rattle.std.specs.Arc.{arc_value}
 use Rattle.std.specs.declared.sync.Arc.{Arc}

@@ -1,5 +1,5 @@
-//! What a slot's lanes have: a reader that entered by the group's lock, and the words that say which backends are ready for it. Selections go
-//! on in it without a lock.
+//! What a slot's lanes have: a reader that entered by the group's lock, and the words that say which backends are ready for it.
+//! Selections go on in it without a lock.
 ghost use Rattle.std.specs.Prelude.{◌≡◌, All, Err, IfErr, IfOk, IfSome};
 ghost use Rattle.lb_threads_group.specs.Group.{EnteredUnder, LeftUnder};
 ghost use Rattle.lb_threads_group.specs.Kept.{IsEntry, IsFoundOf, IsLeftOrKept};
@@ -200,8 +200,8 @@ impl<S: BackendSelection, R: KeyRule + Drop, C: HealthCheck + Drop> SharedGroup<
         })
     }
 
-    // Puts an entry into the hint's lane of its slot, if it has words: they come with the publication. Where something changed meanwhile, the
-    // lane is emptied, so that none has for long what isn't served.
+    // Puts an entry into the hint's lane of its slot, if it has words: they come with the publication. Where something changed meanwhile,
+    // the lane is emptied, so that none has for long what isn't served.
     pub(crate) fn keep<W: Wait>(&self, rt: &W, hint: u64, entry: Entry<S, R, C>)
         requires { IsEntry self.now entry.slot entry.reader entry.found }
         ensures { IsLeftOrKept self.now entry.slot entry.reader }

@@ -127,8 +127,9 @@ impl<'g, 'r, 'f, S: BackendSelection, R: KeyRule + Drop, C: HealthCheck + Drop, 
     }
 }
 
-impl<'g, 'r, 'f, S: BackendSelection, R: KeyRule + Drop, C: HealthCheck + Drop, W: Wait> GroupPort<S>
-    for LockedPort<'g, 'r, 'f, S, R, C, W> {
+impl<'g, 'r, 'f, S: BackendSelection, R: KeyRule + Drop, C: HealthCheck + Drop, W: Wait> GroupPort<
+    S,
+> for LockedPort<'g, 'r, 'f, S, R, C, W> {
     ghost owns_job = { λ p t. OwnsJob p.group.now.core t };
 
     ghost scheduled = { λ p ms settings now r q. ScheduledUnder R.gives p.group.now ms settings now r × (q.group.now ≡ p.group.now) };

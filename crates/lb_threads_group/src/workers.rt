@@ -91,7 +91,12 @@ fn turn_on<
     C: HealthCheck + Drop,
     W: Log + Wait,
     K: MomentSource,
->(alloc: Global, port: &mut LockedPort<'g, 'r, 'f, S, R, C, W>, slot: usize, clock: &mut K) -> Next {
+>(
+    alloc: Global,
+    port: &mut LockedPort<'g, 'r, 'f, S, R, C, W>,
+    slot: usize,
+    clock: &mut K,
+) -> Next {
     match worker_turn(alloc, port, slot, clock) {
         Ok(Turn::Published(_) | Turn::Abandoned(_)) => Next::Turn,
         Ok(Turn::Failed(generation, refusal)) => {

@@ -1,5 +1,6 @@
 -- A write of a word that has its fact keeps what words keep.
-use Rattle.std.proofs.Common.{◌≡◌, ◌≤◌, ◌∙◌, ℕ, suc, List, [], ◌∷◌, ◌++◌, length, refl, sym, subst, set, get_or, get_or-set_same, get_or-set_other, arith}
+use Rattle.std.proofs.Common.{◌≡◌, ◌≤◌, ◌∙◌, ℕ, suc, List, [], ◌∷◌, ◌++◌}
+use Rattle.std.proofs.Common.{length, refl, sym, subst, set, get_or, get_or-set_same, get_or-set_other, arith}
 use Rattle.std.proofs.lemmas.List.{set_past}
 use Rattle.std.specs.List.{slice_index}
 use mathlib.Core.Logic.{dite}
