@@ -17,9 +17,8 @@ IsNewGroup configs v = Stands (record { id = v.group.id; gate = v.group.gate; co
 abbrev pub slot_configs : {C : Type 0} → C → List (Option C) → List C
 slot_configs default configs = map (λ c. unwrap_or c default) configs
 
--- A group takes another gate only where it was seen at generation 0 and can be made with that gate.
+-- A group takes another gate unless it was seen past generation 0, or can't be made with that gate.
 abbrev pub IsGateRefusal : {C : Type 0} → GroupValue C → Option Refusal → Result (Unit {0}) GateRefusal → Type 0
-IsGateRefusal site cause (Ok a) =
-    (cause ≡ None) × Seen site (λ v. After v (λ made e. newest (slot_events e) ≡ 0))
+IsGateRefusal site cause (Ok a) = cause ≡ None
 IsGateRefusal site cause (Err WasUpdated) = Seen site (λ v. After v (λ made e. 0 < newest (slot_events e)))
 IsGateRefusal site cause (Err (NotMade e)) = IsMakingRefusal {A = Unit {0}} cause (Err e)
