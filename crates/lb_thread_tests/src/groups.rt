@@ -42,6 +42,7 @@ enum Row {
     AtTheLastMoment,
     ReaderStays,
     CancelledWhileRead,
+    SelectsWhileTheRegistryIsHeld,
 }
 
 // Plays a case. No worker of the groups was started before.
@@ -69,6 +70,9 @@ fn play<W: Abort + Log + Threads + Wait + Clock + Copy + Send + Sync + Drop + 's
         Row::ReaderStays => staying::reader_stays(rt, alloc, first),
         Row::CancelledWhileRead => {
             staying::cancelled_while_read(rt, alloc, first, &*crowd.site.registry)
+        }
+        Row::SelectsWhileTheRegistryIsHeld => {
+            staying::selects_while_the_registry_is_held(rt, alloc, first, &*crowd.site.registry)
         }
     }
 }
@@ -118,6 +122,7 @@ fn rows_of_groups(rt: HostRuntime) {
         Row::AtTheLastMoment,
         Row::ReaderStays,
         Row::CancelledWhileRead,
+        Row::SelectsWhileTheRegistryIsHeld,
     ] {
         played(&rt, alloc, &registry, row);
     }

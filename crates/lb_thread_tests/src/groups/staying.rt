@@ -1,5 +1,5 @@
 //! Readers that stay in what their slot retired, by calls: they hold up each rebuild on their gate, also in a cancelled group, and what
-//! they are in is destroyed once they have left.
+//! they are in is destroyed once they have left. A selection in a lane goes on while the registry's lock is held.
 use crate::groups::turns::{turn, update};
 use lb_balancer_core::port::{GroupPort, TakesBack};
 use lb_balancer_core::turn::Turn;
@@ -118,4 +118,32 @@ pub fn cancelled_while_read<
         turn(rt, alloc, group, 0) == Turn::Cancelled,
     ];
     assert_eq!(rt; told, [true; 9]);
+}
+
+/// A selection takes no lock where nothing changed since the last one: it goes on while this very thread holds the registry. A flip is seen
+/// by the next one.
+pub fn selects_while_the_registry_is_held<
+    S: BackendSelection,
+    R: KeyRule + Drop,
+    C: HealthCheck + Drop,
+    W: Wait + Abort,
+>(rt: &W, alloc: Global, group: &SharedGroup<S, R, C>, registry: &Registry) {
+    update(rt, alloc, group, 1);
+    let published = turn(rt, alloc, group, 0);
+    let first = select_one(rt, alloc, group, 0).expect(rt, "refused");
+    let held = registry.take(rt);
+    let second = select_one(rt, alloc, group, 0);
+    registry.put(held);
+    let targets = registry.targets(rt, alloc).expect(rt, "refused");
+    let cell = targets.get(0).map(|target| target.cell).unwrap_or(0);
+    let flipped = registry.observe(rt, cell, false, 1);
+    let third = select_one(rt, alloc, group, 0).expect(rt, "refused");
+    let told = [
+        published == Turn::Published(1),
+        first.is_some(),
+        second == Ok(first),
+        flipped == Ok(true),
+        third.is_none(),
+    ];
+    assert_eq!(rt; told, [true; 5]);
 }
