@@ -144,6 +144,7 @@ pub fn selects_while_the_registry_is_held<
         second == Ok(first),
         flipped == Ok(true),
         third.is_none(),
+        destroyed(rt, group, 0) == Ok(()),
     ];
-    assert_eq!(rt; told, [true; 5]);
+    assert_eq!(rt; told, [true; 6]);
 }
