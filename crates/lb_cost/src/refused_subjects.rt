@@ -2,10 +2,10 @@
 use crate::refused::{Call, Course, FIRST, Lists, Seen, Subject, Ticks, set_of};
 use lb_balancer::load_balancer::LoadBalancer;
 use lb_balancer_core::turn::{Turn, worker_turn};
-use lb_balancer_group::configured::Configured;
 use lb_balancer_group::group::LoadBalancerGroup;
 use lb_crowd::crowd::NoCheck;
-use lb_health_core::keys::Rule;
+use lb_health_core::health_check::HealthCheck;
+use lb_health_core::keys::{KeyRule, Rule};
 use lb_health_view::discovery::DiscoverySource;
 use lb_select::ketama::{KetamaConfig, KetamaHashing};
 use lb_select::selection::{FNVHash, RoundRobin};
@@ -327,15 +327,24 @@ impl<W: Wait, S: BackendSelection> Subject for Calls<W, Balancer<S>> {
     }
 }
 
-// Takes a turn for the slot of a group, a second after the last one. Returns the generation that is published.
-fn turn<W: Wait>(site: &Site<W>, group: &Group) -> Result<u64, Refusal> {
-    let now = site.moment.fetch_add(SECOND, SeqCst);
-    let group: &SharedGroup<Configured<FNVHash>, Rule<NoRule>, NoCheck> = &**group.shared();
-    let mut port = LockedPort::new(group, &site.rt);
+// Takes a turn for slot 0 of a group at this moment.
+fn taken<S: BackendSelection, R: KeyRule + Drop, C: HealthCheck + Drop, W: Wait>(
+    rt: &W,
+    alloc: Global,
+    group: &SharedGroup<S, R, C>,
+    now: u64,
+) -> Result<Turn, Refusal> {
+    let mut port = LockedPort::new(group, rt);
     let mut clock = Ticks {
         next: u128::from(now),
     };
-    match worker_turn(site.alloc, &mut port, 0, &mut clock)? {
+    worker_turn(alloc, &mut port, 0, &mut clock)
+}
+
+// Takes a turn for the slot of a group, a second after the last one. Returns the generation that is published.
+fn turn<W: Wait>(site: &Site<W>, group: &Group) -> Result<u64, Refusal> {
+    let now = site.moment.fetch_add(SECOND, SeqCst);
+    match taken(&site.rt, site.alloc, &**group.shared(), now)? {
         Turn::Published(generation) => Ok(generation),
         Turn::Failed(_, refusal) => Err(refusal),
         _ => Err(Refusal::NothingBuilt),
