@@ -1,6 +1,7 @@
 //! A plain balancer over `arc-swap` that threads select from while another one updates it each 10 milliseconds:
-//! plainswap KIND BACKENDS THREADS SECONDS prints how many selections a second all threads made together.
-//! KIND is fnv (by a hash of the key) or rr (in turn); all weights are 1, and every other update leaves one backend out.
+//! plainswap KIND BACKENDS THREADS SECONDS [flips] prints how many selections a second all threads made together.
+//! KIND is fnv (by a hash of the key) or rr (in turn); all weights are 1, and every other update leaves one backend out. With `flips` the
+//! first backend becomes unhealthy or healthy with each tenth update.
 
 use arc_swap::ArcSwap;
 use std::collections::hash_map::DefaultHasher;
@@ -106,6 +107,12 @@ impl Balancer {
         self.selector.store(Arc::new(Selector::build(self.kind, set)));
     }
 
+    fn flip(&self, backend: &Backend) {
+        if let Some(ready) = self.health.load().get(&backend.hash_key()) {
+            ready.fetch_xor(true, Ordering::Relaxed);
+        }
+    }
+
     fn select(&self, key: &[u8], limit: usize) -> Option<Backend> {
         let health = self.health.load();
         let selector = self.selector.load();
@@ -122,13 +129,14 @@ fn members(count: usize) -> BTreeSet<Backend> {
 }
 
 fn main() {
-    let words: Vec<String> = env::args().skip(1).collect();
+    let mut words: Vec<String> = env::args().skip(1).collect();
+    let flips = words.pop_if(|word| word == "flips").is_some();
     let numbers: Vec<usize> = words.iter().skip(1).filter_map(|word| word.parse().ok()).collect();
     let (kind, [backends, threads, seconds]) = match (words.first().map(String::as_str), numbers.as_slice()) {
         (Some("fnv"), [b, t, s]) => (Kind::Fnv, [*b, *t, *s]),
         (Some("rr"), [b, t, s]) => (Kind::RoundRobin, [*b, *t, *s]),
         _ => {
-            eprintln!("plainswap fnv|rr BACKENDS THREADS SECONDS");
+            eprintln!("plainswap fnv|rr BACKENDS THREADS SECONDS [flips]");
             process::exit(2);
         }
     };
@@ -150,6 +158,9 @@ fn main() {
                 }
                 thread::sleep(Duration::from_millis(10));
                 balancer.update(if turn % 2 == 0 { &less } else { &whole });
+                if let (true, 9, Some(first)) = (flips, turn % 10, whole.first()) {
+                    balancer.flip(first);
+                }
             }
             over.store(true, Ordering::SeqCst);
         });

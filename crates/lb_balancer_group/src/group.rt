@@ -309,7 +309,7 @@ impl<
 }
 
 // Whether a backend is selected where the ready ones are.
-fn ready_ones(_backend: &Backend, ready: bool) -> bool
+pub(crate) fn ready_ones(_backend: &Backend, ready: bool) -> bool
     ensures { result ≡ ready }
 {
     ready

@@ -11,6 +11,7 @@ mod making;
 mod noting;
 mod passes;
 pub mod port;
+pub mod reader;
 mod readings;
 mod running;
 pub mod start;

@@ -5,6 +5,7 @@
 
 mod board;
 mod group;
+mod groups;
 mod health;
 mod members;
 mod passes;
@@ -50,6 +51,7 @@ fn measure<
     match word {
         "board" => board::run(rt, alloc, numbers),
         "group" => group::run(rt, alloc, numbers),
+        "groups" => groups::run(rt, alloc, numbers),
         "health" => health::run(rt, alloc, numbers),
         "refused" => refused::run(rt, alloc),
         "selects" => selects::run(rt, alloc),
@@ -82,6 +84,7 @@ fn measure_all<
     refused::run(rt, alloc)?;
     selects::few(rt, alloc)?;
     shared::run(rt, alloc, &[])?;
+    groups::run(rt, alloc, &[])?;
     soak::run(rt, alloc, &[])
 }
 

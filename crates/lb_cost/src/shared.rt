@@ -27,13 +27,13 @@ use std::thread::{Threads, join};
 use std::time::{Clock, Duration};
 
 // As many candidates as a selection looks at; the first is accepted, since nothing is ever down.
-const LIMIT: usize = 16;
+pub(crate) const LIMIT: usize = 16;
 
 // How many selections a thread makes before it looks whether the measurement is over.
-const BATCH: u32 = 1000;
+pub(crate) const BATCH: u32 = 1000;
 
 // How long the updating thread sleeps between two updates, in milliseconds.
-const PAUSE: u64 = 10;
+pub(crate) const PAUSE: u64 = 10;
 
 // How a measurement goes.
 #[derive(Clone, Copy)]
@@ -46,9 +46,9 @@ struct Plan {
 
 // So many backends of weight 1, in every other turn one less.
 #[derive(Drop)]
-struct Halves {
-    backends: u32,
-    turn: AtomicU64,
+pub(crate) struct Halves {
+    pub(crate) backends: u32,
+    pub(crate) turn: AtomicU64,
 }
 
 impl ServiceDiscovery for Halves {
@@ -79,7 +79,7 @@ impl HealthCheck for Unchecked {
 type Balancer<S> = LoadBalancer<S, Halves, Rule<NoRule>, Unchecked>;
 
 // The key after this one.
-fn next_key(key: u64) -> u64 {
+pub(crate) fn next_key(key: u64) -> u64 {
     key.wrapping_mul(6364136223846793005)
         .wrapping_add(1442695040888963407)
 }

@@ -1,19 +1,20 @@
 //! One lane: a value that threads read in place, with a word that counts them. A thread that renews a lane which is read marks it: no new
 //! reader comes then, and the last one empties it.
-ghost use Rattle.std.specs.Prelude.{◌≡◌, ◌%◌, ◌<◌, IfSome};
+ghost use Rattle.std.specs.Prelude.{◌≡◌, ◌%◌, ◌<◌, IfOk, IfSome};
 ghost use Rattle.counted_slot.specs.Counting.{readers};
 
 use counted_slot::{Claim, Counted, FREE, Fits, MARKED, MOST_READERS, ONE_READER, PRESENT, TAKEN};
 
-// How often a reader tries one lane, since another reader may change its word between the look and the exchange.
-const READS: u32 = 2;
+// How often a reader tries one lane, since other readers change its word.
+const READS: u32 = 3;
 
-/// A value that may be there, as large as two lines of memory, so that two lanes share none. Contracts see the key that each value of it
-/// fits, as `slot`.
+/// A value that may be there, with so much room on both sides that its word shares a line of memory with no other lane, and with nothing
+/// else. Contracts see the key that each value of it fits, as `slot`.
 #[derive(Drop)]
 pub struct Lane<X: Fits + Drop> {
+    room: [u64; 7],
     pub slot: Counted<Option<X>>,
-    padding: [u64; 14],
+    more_room: [u64; 7],
 }
 
 /// A value that is read in its lane. It is neither dropped nor exchanged while this lives.
@@ -21,6 +22,15 @@ pub struct Seen<'a, X: Fits + Drop> {
     pub(crate) slot: &'a Counted<Option<X>>,
     pub hand: Claim<'a, Option<X>>,
     ghost reads: { (hand.right ≡ 1) × (slot.now ≡ hand.tag) },
+}
+
+// Why a lane isn't read.
+#[derive(Clone, Copy)]
+pub(crate) enum Unread {
+    // It has no value.
+    Free,
+    // It is marked or taken, or other readers come and go.
+    Busy,
 }
 
 fn state_of(word: u64) -> u64
@@ -41,28 +51,35 @@ impl<X: Fits + Drop> Lane<X> {
         ensures { result.slot ≡ key.now }
     {
         Lane {
+            room: [0; 7],
             slot: Counted::new(None, key),
-            padding: [0; 14],
+            more_room: [0; 7],
         }
     }
 
     // Reads the value, where one is there and the lane isn't marked.
-    pub(crate) fn read(&self) -> Option<Seen<'_, X>>
-        ensures { IfSome result (λ s. s.hand.tag ≡ self.now.slot) }
+    //
+    // At first it is taken to be there and unread, as it is mostly. A look before would fetch the word from other processors twice: once
+    // to read it, and once to write it.
+    pub(crate) fn read(&self) -> Result<Seen<'_, X>, Unread>
+        ensures { IfOk result (λ s. s.hand.tag ≡ self.now.slot) }
     {
+        let mut word = PRESENT;
         for _ in 0..READS {
-            let word = self.slot.load();
-            if state_of(word) != PRESENT || reader_count(word) == MOST_READERS {
-                return None;
+            match state_of(word) {
+                FREE => return Err(Unread::Free),
+                PRESENT if reader_count(word) < MOST_READERS => (),
+                _ => return Err(Unread::Busy),
             }
             let (found, hand) = self.slot.turn(word, word + ONE_READER);
             if found == word {
                 let slot = &self.slot;
-                return Some(Seen { slot, hand });
+                return Ok(Seen { slot, hand });
             }
             hand.done();
+            word = found;
         }
-        None
+        Err(Unread::Busy)
     }
 
     // Exchanges what is there for this, under the state `next`, where no thread reads it, and returns what was there. A lane that is read

@@ -1,7 +1,7 @@
 //! Lanes of one owner, which it fills with what it serves. All have the owner's key, which each value fits.
 ghost use Rattle.std.specs.Prelude.{◌≡◌, All, IfOk, IfSome, vec_len};
 
-use crate::lane::{Lane, Seen};
+use crate::lane::{Lane, Seen, Unread};
 use counted_slot::{FREE, Fits, PRESENT};
 use std::alloc::{AllocError, Global};
 
@@ -43,18 +43,19 @@ impl<X: Fits + Drop> Lanes<X> {
         self.lanes.get(self.place(hint))
     }
 
-    /// Reads what the hint's lane has, or one of the next three.
+    /// Reads what the hint's lane has, or, where it is busy, one of the next three.
     ///
-    /// `None` where they are free, marked, or just taken.
+    /// `None` where the hint's lane is free, so that its caller fills it, or where all are marked, just taken, or free.
     pub fn read<'a>(&'a self, hint: u64, key: &X::Tag) -> Option<Seen<'a, X>>
         requires { All (λ lane. lane.slot ≡ key.now) self.now.lanes.items }
         ensures { IfSome result (λ s. s.hand.tag ≡ key.now) }
     {
         for step in 0..TRIES {
             let lane = self.lane(hint.wrapping_add(step), key)?;
-            let seen = lane.read();
-            if seen.is_some() {
-                return seen;
+            match lane.read() {
+                Ok(seen) => return Some(seen),
+                Err(Unread::Free) if step == 0 => return None,
+                Err(_) => (),
             }
         }
         None

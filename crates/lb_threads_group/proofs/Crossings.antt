@@ -19,6 +19,7 @@ use Rattle.lb_threads_core.proofs.lanes.Lanes.TheSendSync as lanes
 use Rattle.lb_rebuild_core.specs.contracts.place.SlotPlace as place
 use Rattle.lb_rebuild_core.specs.contracts.retired.Reader as reader
 use Rattle.lb_threads_group.proofs.group.SlotCounters.TheSendSync as line
+use Rattle.lb_threads_group.proofs.group.LaneWords.TheSendSync as lane_words
 use Rattle.lb_words.proofs.keyed.KeyedWords.TheSendSync as keyed
 use Rattle.lb_threads_group.specs.contracts.found.Found as found
 use Rattle.lb_threads_group.specs.contracts.found.Found.TheInside as found_inside
@@ -124,7 +125,16 @@ module _ (T R H I C W : RattleType) (g : Selection T.Denot I.Denot C.Denot W.Den
                               search (sendable, crosses) depth 20,
                               (
                                 search (sendable, crosses, lock.the_send, lock.the_field_send, slot_words_send, slot_words_sync) depth 20,
-                                (search (sendable, crosses) depth 20, (search (sendable, crosses) depth 20, tt)),
+                                (
+                                  search (sendable, crosses) depth 20,
+                                  (
+                                    search (sendable, crosses) depth 20,
+                                    (
+                                      search (sendable, crosses) depth 20,
+                                      (search (sendable, crosses, lane_words.the_send, lane_words.the_sync) depth 20, tt),
+                                    ),
+                                  ),
+                                ),
                               ),
                             ),
                           ),
@@ -167,7 +177,16 @@ module _ (T R H I C W : RattleType) (g : Selection T.Denot I.Denot C.Denot W.Den
                               search (sendable, crosses) depth 20,
                               (
                                 search (sendable, crosses, lock.the_sync, lock.the_field_sync, slot_words_send, slot_words_sync) depth 20,
-                                (search (sendable, crosses) depth 20, (search (sendable, crosses) depth 20, tt)),
+                                (
+                                  search (sendable, crosses) depth 20,
+                                  (
+                                    search (sendable, crosses) depth 20,
+                                    (
+                                      search (sendable, crosses) depth 20,
+                                      (search (sendable, crosses, lane_words.the_send, lane_words.the_sync) depth 20, tt),
+                                    ),
+                                  ),
+                                ),
                               ),
                             ),
                           ),

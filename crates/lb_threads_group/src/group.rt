@@ -26,6 +26,7 @@ use lb_threads_core::lock::KeyedLock;
 use lb_threads_core::registry::HealthRegistry;
 use lb_threads_core::rule::LockRule;
 use lb_threads_core::wakes::Wakes;
+use rand_core::Rng;
 use rand_pcg::Pcg64;
 use std::alloc::Global;
 use std::marker::Model;
@@ -34,8 +35,8 @@ use std::sync::atomic::Ordering::SeqCst;
 use std::sync::atomic::{AtomicBool, AtomicU64};
 use std::sync::{Arc, Mutex, Wait};
 
-// The number of lanes of a slot, a power of two: some more than the threads that select at once.
-const LANES: usize = 16;
+// The number of lanes of a slot, a power of two: many more than the threads that select at once, so that few meet in one.
+const LANES: usize = 64;
 
 /// The group under the lock is the one that the lock was made with, on the same board: its identity, its gate and its configurations
 /// stay.
@@ -56,6 +57,13 @@ struct SlotCounters {
     awaited_readers: AtomicU64,
 }
 
+// The random words of one lane, with so much room that two of them share no line of memory.
+#[derive(Drop)]
+struct LaneWords {
+    generator: Mutex<Pcg64>,
+    room: [u64; 14],
+}
+
 /// A group behind a lock, with its registry and its gate, which other groups may share, and its board outside the lock. Contracts see the
 /// board, the group as it was made (which one it is, its gate and its configurations), and the registry as it was made.
 pub struct SharedGroup<S: BackendSelection, R: KeyRule + Drop, C> {
@@ -63,7 +71,7 @@ pub struct SharedGroup<S: BackendSelection, R: KeyRule + Drop, C> {
     pub(crate) board: Arc<Board>,
     pub(crate) registry: Arc<HealthRegistry<R, C>>,
     pub(crate) gate: Arc<SelectorRebuildGate>,
-    pub(crate) generator: Mutex<Pcg64>,
+    generator: Mutex<Pcg64>,
     pub(crate) loads: Mutex<Loads>,
     // Held by an update from its discovery to its membership.
     updates: Mutex<()>,
@@ -81,6 +89,10 @@ pub struct SharedGroup<S: BackendSelection, R: KeyRule + Drop, C> {
     pub(crate) changes: AtomicU64,
     // Whether the lanes are used no more.
     pub(crate) is_closed: AtomicBool,
+    // How many threads asked for lanes of their own, wrapping.
+    pub(crate) readers: AtomicU64,
+    // The random words of each lane, for all slots.
+    generators: Vec<LaneWords>,
 }
 
 impl<S: BackendSelection, R: KeyRule + Drop, C: Drop> Drop for SharedGroup<S, R, C> {
@@ -101,6 +113,8 @@ impl<S: BackendSelection, R: KeyRule + Drop, C: Drop> Drop for SharedGroup<S, R,
             words: _,
             changes: _,
             is_closed: _,
+            readers: _,
+            generators: _,
         } = self;
     }
 }
@@ -133,7 +147,7 @@ impl<S: BackendSelection, R: KeyRule + Drop, C> Model for SharedGroup<S, R, C> {
 impl<S: BackendSelection, R: KeyRule + Drop, C: HealthCheck + Drop> SharedGroup<S, R, C> {
     /// Returns this group, for threads, on a board of its own.
     ///
-    /// Random words are those of one generator for all its readers, and all loads are 0.
+    /// Random words are those of a generator for each lane, which this one seeds, and of this one for passes. All loads are 0.
     ///
     /// # Errors
     ///
@@ -157,6 +171,8 @@ impl<S: BackendSelection, R: KeyRule + Drop, C: HealthCheck + Drop> SharedGroup<
         let lanes = lanes_of(alloc, board.word_count() - 1, &site)?;
         let words = words_of(alloc, board.word_count() - 1, &site)?;
         let lock = KeyedLock::new(alloc, watched, &key)?;
+        let mut generator = generator;
+        let generators = generators_of(alloc, &mut generator)?;
         Ok(SharedGroup {
             lock,
             board,
@@ -173,6 +189,8 @@ impl<S: BackendSelection, R: KeyRule + Drop, C: HealthCheck + Drop> SharedGroup<
             words,
             changes: AtomicU64::new(0),
             is_closed: AtomicBool::new(false),
+            readers: AtomicU64::new(0),
+            generators,
         })
     }
 
@@ -315,10 +333,24 @@ impl<S: BackendSelection, R: KeyRule + Drop, C: HealthCheck + Drop> SharedGroup<
             group: self,
             rt,
             found: self.no_words(),
+            lane: 0,
         };
         let told = update_on(alloc, &mut port, discovery, clock);
         drop(turn);
         told
+    }
+
+    // The next random word of a lane.
+    pub(crate) fn random_of<W: Wait>(&self, rt: &W, lane: u64) -> u64 {
+        match self.generators.get(lane as usize % LANES) {
+            Some(words) => words.generator.lock(rt).next_u64(),
+            None => self.random(rt),
+        }
+    }
+
+    // The next random word of no lane.
+    pub(crate) fn random<W: Wait>(&self, rt: &W) -> u64 {
+        self.generator.lock(rt).next_u64()
     }
 
     /// Sets the load of a backend's identity, for all slots.
@@ -352,6 +384,22 @@ fn lines_of(alloc: Global, slots: usize) -> Result<Vec<SlotCounters>, Refusal>
         })?;
     }
     Ok(lines)
+}
+
+// A generator for each lane, seeded by the words of this one.
+fn generators_of(alloc: Global, seeds: &mut Pcg64) -> Result<Vec<LaneWords>, Refusal>
+    ensures { IfErr result (λ e. e ≡ Refusal.OutOfMemory) }
+{
+    let mut generators = Vec::with_capacity(alloc, LANES)?;
+    for _ in 0..LANES {
+        let state = u128::from(seeds.next_u64()) << 64 | u128::from(seeds.next_u64());
+        let stream = u128::from(seeds.next_u64());
+        generators.push(LaneWords {
+            generator: Mutex::new(Pcg64::new(state, stream)),
+            room: [0; 14],
+        })?;
+    }
+    Ok(generators)
 }
 
 // Empty lanes for so many slots.

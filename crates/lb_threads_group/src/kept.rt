@@ -187,6 +187,7 @@ impl<S: BackendSelection, R: KeyRule + Drop, C: HealthCheck + Drop> SharedGroup<
             group: self,
             rt,
             found: self.no_words(),
+            lane: 0,
         };
         let reader = match port.enter(slot) {
             Ok(reader) => reader,

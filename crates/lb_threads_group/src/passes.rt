@@ -23,7 +23,6 @@ use lb_select_base::moments::MomentSource;
 use lb_select_base::refusal::Refusal;
 use lb_select_base::walk::BackendSelection;
 use lb_select_base::words::WordSource;
-use rand_core::Rng;
 use std::alloc::Global;
 use std::sync::Wait;
 
@@ -199,6 +198,7 @@ impl<S: BackendSelection, R: KeyRule + Drop, C: HealthCheck + Drop> SharedGroup<
             group: self,
             rt,
             found: self.no_words(),
+            lane: 0,
         };
         port.leave(reader);
     }
@@ -223,7 +223,7 @@ impl<'g, 'r, S: BackendSelection, R: KeyRule + Drop, C: HealthCheck + Drop, W: W
 
     fn random(&mut self) -> u64 {
         let group = self.group;
-        group.generator.lock(self.rt).next_u64()
+        group.random(self.rt)
     }
 
     fn load(&self, backend: &Backend) -> u64 {

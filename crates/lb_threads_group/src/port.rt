@@ -22,7 +22,6 @@ use lb_select_base::refusal::Refusal;
 use lb_select_base::walk::BackendSelection;
 use lb_threads_core::gate::SelectorRebuildGate;
 use lb_threads_core::registry::HealthRegistry;
-use rand_core::Rng;
 use std::alloc::Global;
 use std::collections::BTreeSet;
 use std::sync::Wait;
@@ -34,6 +33,8 @@ pub struct LockedPort<'g, 'r, 'f, S: BackendSelection, R: KeyRule + Drop, C, W> 
     pub rt: &'r W,
     // Words of the group, which are loaded before a lock is taken.
     pub(crate) found: Option<&'f Found<S, R, C>>,
+    // The lane that random words are of.
+    pub(crate) lane: u64,
     ghost own: { ForSome found (λ f. f.now.site ≡ group.now) },
 }
 
@@ -46,6 +47,7 @@ impl<'g, 'r, S: BackendSelection, R: KeyRule + Drop, C, W> LockedPort<'g, 'r, 'g
             group,
             rt,
             found: group.no_words(),
+            lane: 0,
         }
     }
 }
@@ -217,7 +219,7 @@ impl<'g, 'r, 'f, S: BackendSelection, R: KeyRule + Drop, C: HealthCheck + Drop, 
 
     fn random(&mut self, _reader: &Reader<S>) -> u64 {
         let group = self.group;
-        group.generator.lock(self.rt).next_u64()
+        group.random_of(self.rt, self.lane)
     }
 
     fn load(&self, _reader: &Reader<S>, backend: &Backend) -> u64 {

@@ -16,6 +16,7 @@ use lb_select_base::walk::BackendSelection;
 use lb_threads_core::lane::Seen;
 use std::alloc::Global;
 use std::sync::Wait;
+use std::sync::atomic::Ordering::SeqCst;
 
 impl<S: BackendSelection, R: KeyRule + Drop, C: HealthCheck + Drop> SharedGroup<S, R, C> {
     /// Returns the first backend that `accept` takes among the distinct candidates of what the slot serves, or `None`.
@@ -43,13 +44,41 @@ impl<S: BackendSelection, R: KeyRule + Drop, C: HealthCheck + Drop> SharedGroup<
         ensures { SelectedFrom R.gives (λ b ready a. Answers F.Fn accept.now b ready a) max_iterations S.walks key.now self.now slot
             result }
     {
-        let hint = hint_of(key);
-        let Some(seen) = self.seen_in_lane(rt, slot, hint) else {
-            return self.select_entering(rt, alloc, slot, hint, key, max_iterations, accept);
+        self.select_at(rt, alloc, slot, hint_of(key), key, max_iterations, accept)
+    }
+
+    /// Returns what `select_with` returns, by the lane of this number, modulo the lanes that a slot has.
+    ///
+    /// Threads whose numbers differ share no lane, so that none waits for a word that another one writes.
+    ///
+    /// # Errors
+    ///
+    /// Those of `select_with`.
+    pub fn select_at<W: Wait, F: Fn(&Backend, bool) -> bool>(
+        &self,
+        rt: &W,
+        alloc: Global,
+        slot: usize,
+        lane: u64,
+        key: &[u8],
+        max_iterations: usize,
+        accept: &F,
+    ) -> Result<Option<Backend>, Refusal>
+        requires { F.IsAlwaysCallable accept.now }
+        ensures { SelectedFrom R.gives (λ b ready a. Answers F.Fn accept.now b ready a) max_iterations S.walks key.now self.now slot
+            result }
+    {
+        let Some(seen) = self.seen_in_lane(rt, slot, lane) else {
+            return self.select_entering(rt, alloc, slot, lane, key, max_iterations, accept);
         };
-        let answer = self.select_seen(rt, alloc, slot, hint, &seen, key, max_iterations, accept);
+        let answer = self.select_seen(rt, alloc, slot, lane, &seen, key, max_iterations, accept);
         self.end_reading(rt, seen);
         answer
+    }
+
+    /// Returns the number of a lane for a thread of its own: 0, and one more with each call, wrapping.
+    pub fn own_lane(&self) -> u64 {
+        self.readers.fetch_add(1, SeqCst)
     }
 
     // Selects in what a lane has, where it is of this slot.
@@ -71,7 +100,7 @@ impl<S: BackendSelection, R: KeyRule + Drop, C: HealthCheck + Drop> SharedGroup<
     {
         match self.entry_in(seen) {
             Some(entry) if entry.slot == slot => {
-                self.select_as(rt, alloc, entry, key, max_iterations, accept)
+                self.select_as(rt, alloc, entry, hint, key, max_iterations, accept)
             }
             _ => self.select_entering(rt, alloc, slot, hint, key, max_iterations, accept),
         }
@@ -96,7 +125,7 @@ impl<S: BackendSelection, R: KeyRule + Drop, C: HealthCheck + Drop> SharedGroup<
     {
         match self.enter_lane(rt, slot) {
             Ok(entry) => {
-                let answer = self.select_as(rt, alloc, &entry, key, max_iterations, accept);
+                let answer = self.select_as(rt, alloc, &entry, hint, key, max_iterations, accept);
                 self.keep(rt, hint, entry);
                 answer
             }
@@ -118,6 +147,7 @@ impl<S: BackendSelection, R: KeyRule + Drop, C: HealthCheck + Drop> SharedGroup<
         rt: &W,
         alloc: Global,
         entry: &Entry<S, R, C>,
+        lane: u64,
         key: &[u8],
         max_iterations: usize,
         accept: &F,
@@ -131,6 +161,7 @@ impl<S: BackendSelection, R: KeyRule + Drop, C: HealthCheck + Drop> SharedGroup<
             group: self,
             rt,
             found: entry.words(),
+            lane,
         };
         select_on(alloc, &mut port, &entry.reader, key, max_iterations, accept)
     }

@@ -77,6 +77,7 @@ fn turn_of<
         group,
         rt,
         found: group.no_words(),
+        lane: 0,
     };
     turn_on(alloc, &mut port, slot, clock)
 }

@@ -24,6 +24,7 @@ pub use lb_balancer_group::backends::SharedBackends;
 pub use lb_balancer_group::configured::{Configured, SlotConfig};
 pub use lb_balancer_group::gate_refusal::GateRefusal;
 pub use lb_balancer_group::group::LoadBalancerGroup;
+pub use lb_balancer_group::reader::GroupReader;
 pub use lb_rebuild::board::GroupPass;
 pub use lb_select::backend::{Backend, Ext, InetAddr, SocketAddr};
 pub use lb_select::loads::Loads;
