@@ -132,6 +132,28 @@ fn by_reader<
     Ok(found.is_some() == (generation > 0) && is_within(&found, generation, generation))
 }
 
+// Selects by the handle, or every other time by a reader of it with a lane of its own.
+fn selected<
+    S: BackendSelection,
+    D: ServiceDiscovery + Drop,
+    R: KeyRule + Drop,
+    C: HealthCheck + Drop,
+    W: Wait,
+>(
+    rt: &W,
+    alloc: Global,
+    group: &LoadBalancerGroup<S, D, R, C>,
+    slot: usize,
+    turn: u64,
+) -> Result<Option<Backend>, Refusal> {
+    let key = turn.to_le_bytes();
+    if turn / 2 % 2 == 0 {
+        group.select(rt, alloc, slot, &key, LIMIT)
+    } else {
+        group.reader().select(rt, alloc, slot, &key, LIMIT)
+    }
+}
+
 // A turn at a slot: a selection by the handle, between two readings, and one by a reader. Returns whether all was right.
 fn is_right<
     S: BackendSelection,
@@ -156,7 +178,7 @@ fn is_right<
     let slot = (turn % 2) as usize;
     let before = reads(group, slot, pass, read);
     let least = read.served.get(slot).copied().unwrap_or(0);
-    let found = group.select(rt, alloc, slot, &turn.to_le_bytes(), LIMIT)?;
+    let found = selected(rt, alloc, group, slot, turn)?;
     group.meet(rt, pass, other);
     let after = reads(group, slot, other, read);
     let by_handle = is_within(&found, least, read.newest);

@@ -88,7 +88,7 @@ fn told_after<W: Abort + Wait + Clock + Copy + Drop>(
     ]
 }
 
-// Whether a slot of a handle selects that backend.
+// Whether a slot of a handle selects that backend, by itself and by a reader.
 fn selects<W: Abort + Wait + Clock + Copy + Drop>(
     rt: &W,
     alloc: Global,
@@ -97,7 +97,11 @@ fn selects<W: Abort + Wait + Clock + Copy + Drop>(
     expected: Option<&Backend>,
 ) -> bool {
     let found = group.select(rt, alloc, slot, b"k", 4).expect(rt, "refused");
-    found.as_ref() == expected
+    let read = group
+        .reader()
+        .select(rt, alloc, slot, b"k", 4)
+        .expect(rt, "refused");
+    found.as_ref() == expected && read == found
 }
 
 // What a handle answers once its workers served an update: what it selects from each slot and from one that isn't there, and its timings.
