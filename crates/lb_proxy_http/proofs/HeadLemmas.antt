@@ -123,14 +123,6 @@ asks_nothing Chunks method framing framed no_tunnel = no_tunnel
 asks_nothing Coded method framing framed no_tunnel = absurd (cc)
 asks_nothing Ambiguous method framing framed no_tunnel = refl
 
-pub no_tunnel_of : (stated : Stated) (method : List ℕ) (framing : Framing) → request_framing stated ≡ Ok framing
-    → asks_more stated method ≡ false → bytes_eq method (codes "CONNECT") ≡ false
-no_tunnel_of Silent method framing framed asks = asks
-no_tunnel_of (Length n) method framing framed asks = asks
-no_tunnel_of Chunks method framing framed asks = asks
-no_tunnel_of Coded method framing framed asks = absurd (cc)
-no_tunnel_of Ambiguous method framing framed asks = absurd (cc)
-
 pub asks_seen : (bytes : List ℕ) (spans : List HeaderSpan) (found : RequestSpans) (fields : List Field) (method : List ℕ)
     → map plain fields ≡ map (header_bytes bytes) (take found.headers spans) → method ≡ span_bytes bytes found.method
     → asks_more (statement_of (version_of found.version) fields) method ≡ spans_ask_more bytes spans found

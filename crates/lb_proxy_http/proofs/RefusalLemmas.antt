@@ -55,9 +55,6 @@ word_more : (class : Class) (text more : List ℕ) (b : ℕ) (tail : List ℕ) �
 word_more class [] more b tail is = absurd (cc)
 word_more class (x ∷ text) more b tail is = by (passes class x) refl
   where
-    rest : List ℕ
-    rest = behind_space (behind class (x ∷ text))
-
     inside : (u : List ℕ) → behind class (x ∷ text) ≡ u → behind_space u ≡ b ∷ tail
         → behind_space (behind class ((x ∷ text) ++ more)) ≡ b ∷ (tail ++ more)
     inside [] at here = absurd (cc)
