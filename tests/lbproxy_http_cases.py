@@ -292,6 +292,15 @@ def ambiguous_bodies_are_refused():
 def heads_have_limits():
     with Client(ONE) as client:
         expect(client.ask(b"/head", b"X-Long: " + b"x" * 60000 + b"\r\n")[0] == 200, "60,000 bytes are refused")
+    for length, status in ((65536, 200), (65537, 431)):
+        head = b"GET / HTTP/1.1\r\nHost: h\r\nX-Long: "
+        with Client(ONE) as client:
+            client.send(head + b"x" * (length - len(head) - 4) + b"\r\n\r\n")
+            expect(client.answer()[0] == status, f"another status for {length} bytes")
+    for fields, status in ((100, 200), (101, 431)):
+        with Client(ONE) as client:
+            client.send(b"GET / HTTP/1.1\r\nHost: h\r\n" + b"A: b\r\n" * (fields - 1) + b"\r\n")
+            expect(client.answer()[0] == status, f"another status for {fields} fields")
     with Client(ONE) as client:
         client.send(b"GET / HTTP/1.1\r\nHost: h\r\nX-Long: " + b"x" * 70000 + b"\r\n\r\n")
         expect(client.answer()[0] == 431 and client.has_ended(), "70,000 bytes are taken")

@@ -15,6 +15,9 @@ use Rattle.httparse.specs.declared.spans.ResponseSpans.{ResponseSpans}
 use Rattle.httparse.proofs.GrammarLemmas.{request_unique, response_unique, ReadsRequest-append, ReadsResponse-append}
 use Rattle.lb_proxy_http.specs.declared.fault.Fault.{Fault}
 use Rattle.lb_proxy_http.specs.declared.field.Field.{Field}
+use Rattle.lb_proxy_http.specs.declared.framing.Framing.{Framing}
+use Rattle.lb_proxy_http.specs.declared.framing.Stated.{Stated}
+use Rattle.lb_proxy_http.specs.declared.framing.Stated.TheVariants.{Silent, Length, Chunks, Coded, Ambiguous}
 use Rattle.lb_proxy_http.specs.declared.framing.Version.{Version}
 use Rattle.lb_proxy_http.specs.declared.request.Asked.{Asked}
 use Rattle.lb_proxy_http.specs.declared.request.RequestHead.{RequestHead}
@@ -22,28 +25,30 @@ use Rattle.lb_proxy_http.specs.declared.response.ResponseHead.{ResponseHead}
 use Rattle.lb_proxy_http.specs.Fields.{same_name, has_name, values_of, options_in, options_of, is_guarded}
 use Rattle.lb_proxy_http.specs.Framing.{statement_of, request_framing, response_framing}
 use Rattle.lb_proxy_http.specs.Heads.{HasStrictFeeds, plain, version_of, right_host, is_right_target, begins_blank, IsRequest, IsResponse}
+use Rattle.lb_proxy_http.specs.Refusals.{values_under, stated_in, asks_more, spans_ask_more}
 use denote.Ref.{Bor}
 
 -- ---- what is said of fields rests on their names and values alone
 
-abbrev values_in : List ℕ → List (List ℕ × List ℕ) → List (List ℕ)
-values_in name [] = []
-values_in name (p ∷ ps) = cond (same_name p.0 name) (p.1 ∷ values_in name ps) (values_in name ps)
-
-values_seen : (name : List ℕ) (fields : List Field) → values_of name fields ≡ values_in name (map plain fields)
+values_seen : (name : List ℕ) (fields : List Field) → values_of name fields ≡ values_under name (map plain fields)
 values_seen name [] = refl
 values_seen name (f ∷ fields) =
     ap (λ (vs : List (List ℕ)). cond (has_name name f) (f.value.now ∷ vs) vs) (values_seen name fields)
 
 pub values_same : (name : List ℕ) (fields others : List Field) → map plain fields ≡ map plain others
     → values_of name fields ≡ values_of name others
-values_same name fields others same = values_seen name fields ∙ ap (values_in name) same ∙ sym (values_seen name others)
+values_same name fields others same = values_seen name fields ∙ ap (values_under name) same ∙ sym (values_seen name others)
 
 pub statement_same : (version other : Version) (fields others : List Field) → version ≡ other → map plain fields ≡ map plain others
     → statement_of version fields ≡ statement_of other others
 unfolding statement_of
 statement_same version other fields others is same =
     rw (is, values_same (codes "transfer-encoding") fields others same, values_same (codes "content-length") fields others same) refl
+
+pub statement_seen : (version : Version) (fields : List Field) → statement_of version fields ≡ stated_in version (map plain fields)
+unfolding statement_of
+statement_seen version fields =
+    rw (values_seen (codes "transfer-encoding") fields, values_seen (codes "content-length") fields) refl
 
 abbrev options_at : List (List ℕ × List ℕ) → List (List ℕ)
 options_at [] = []
@@ -108,6 +113,24 @@ strict_bytes : (bytes more : List ℕ) (n : ℕ) → length bytes ≤ n → HasS
 strict_bytes bytes more n long strict =
     strict_front bytes (take (n - length bytes) more) (subst (λ (l : List ℕ). HasStrictFeeds l) (take_over bytes more n long) strict)
 
+-- ---- what asks for more
+
+asks_nothing : (stated : Stated) (method : List ℕ) (framing : Framing) → request_framing stated ≡ Ok framing
+    → bytes_eq method (codes "CONNECT") ≡ false → asks_more stated method ≡ false
+asks_nothing Silent method framing framed no_tunnel = no_tunnel
+asks_nothing (Length n) method framing framed no_tunnel = no_tunnel
+asks_nothing Chunks method framing framed no_tunnel = no_tunnel
+asks_nothing Coded method framing framed no_tunnel = absurd (cc)
+asks_nothing Ambiguous method framing framed no_tunnel = refl
+
+pub asks_seen : (bytes : List ℕ) (spans : List HeaderSpan) (found : RequestSpans) (fields : List Field) (method : List ℕ)
+    → map plain fields ≡ map (header_bytes bytes) (take found.headers spans) → method ≡ span_bytes bytes found.method
+    → asks_more (statement_of (version_of found.version) fields) method ≡ spans_ask_more bytes spans found
+asks_seen bytes spans found fields method at named =
+    let version = version_of found.version in
+    ap (λ (s : Stated). asks_more s method) (statement_seen version fields ∙ ap (stated_in version) at)
+    ∙ ap (asks_more (stated_in version (map (header_bytes bytes) (take found.headers spans)))) named
+
 -- ---- requests
 
 pub record IsSame (bytes : List ℕ) (spans : List HeaderSpan) (found : RequestSpans) (head : RequestHead) : Type 0 where
@@ -153,12 +176,15 @@ module _ (bytes more : List ℕ) (spans : List HeaderSpan) (found : RequestSpans
       let framed = is.framed in
       let both : Err fault ≡ Ok head.framing = sym fails ∙ ap request_framing stated ∙ framed in cc
 
-  pub never_tunnel : (method : List ℕ) → method ≡ span_bytes bytes found.method → bytes_eq method (codes "CONNECT") ≡ true
+  pub never_asking : (fields : List Field) (method : List ℕ) → map plain fields ≡ map (header_bytes bytes) (take found.headers spans)
+      → method ≡ span_bytes bytes found.method → asks_more (statement_of (version_of found.version) fields) method ≡ true
       → (head : RequestHead) → ¬ (IsRequest (bytes ++ more) head)
-  never_tunnel method at holds head is =
+  never_asking fields method at named holds head is =
       let same = same_request bytes more spans found head parsed is in
-      let fails : bytes_eq method (codes "CONNECT") ≡ false =
-      ap (λ (m : List ℕ). bytes_eq m (codes "CONNECT")) (at ∙ same.method) ∙ is.no_tunnel in cc
+      let stated = statement_same (version_of found.version) head.version fields head.fields.items same.version (at ∙ same.fields) in
+      let fails : asks_more (statement_of (version_of found.version) fields) method ≡ false =
+      ap (λ (s : Stated). asks_more s method) stated ∙ ap (asks_more (statement_of head.version head.fields.items)) (named ∙ same.method)
+      ∙ asks_nothing (statement_of head.version head.fields.items) head.method.now head.framing is.framed is.no_tunnel in cc
 
   pub never_guarded : (fields : List Field) (options : List (Bor (List ℕ)))
       → map plain fields ≡ map (header_bytes bytes) (take found.headers spans) → map (λ o. o.now) options ≡ options_of fields

@@ -4,3 +4,4 @@ pub mod Write
 pub mod Chunked
 pub mod Body
 pub mod Heads
+pub mod Refusals

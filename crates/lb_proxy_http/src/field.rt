@@ -1,5 +1,5 @@
 //! The fields of a head, and which of them are for this connection alone.
-ghost use Rattle.std.specs.Prelude.{◌≡◌, ◌≤◌, ◌++◌, length, map, slice_range, OnOk, IfOk};
+ghost use Rattle.std.specs.Prelude.{◌≡◌, ◌≤◌, ◌<◌, ◌++◌, length, map, slice_range, OnOk, OnErr, IfOk};
 ghost use Rattle.std.specs.List.{list_any};
 ghost use Rattle.httparse.specs.Grammar.{trim_ows};
 ghost use Rattle.lb_proxy_http.specs.Fields.{same_name, has_name, options_in, options_of, values_of, Finds, is_option, is_guarded};
@@ -91,7 +91,8 @@ pub(crate) fn connection_options<'a>(
     alloc: Global,
     fields: &[Field<'a>],
 ) -> Result<Vec<&'a [u8]>, AllocError>
-    ensures { IfOk result (λ options. map (λ o. o.now) options.items ≡ options_of fields.now) }
+    ensures listed { IfOk result (λ options. map (λ o. o.now) options.items ≡ options_of fields.now) }
+    ensures memory { OnErr result (0 < length fields.now) }
 {
     let mut options: Vec<&'a [u8]> = Vec::new(alloc);
     for field in fields {

@@ -27,4 +27,5 @@ pub mod field;
 pub mod framing;
 pub mod request;
 pub mod response;
+mod version;
 pub mod write;

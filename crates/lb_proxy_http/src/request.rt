@@ -1,16 +1,18 @@
 //! The head of a request.
-ghost use Rattle.std.specs.Prelude.{true, false, ◌≡◌, ◌≢◌, ◌&&◌, ◌≤◌, ◌<◌, ℕ, List, ◌++◌, Ok, None, All, IfOk, IfErr, IfSome, MatchBool};
-ghost use Rattle.std.specs.Prelude.{bytes_eq, codes, length, map, take, slice_range};
+ghost use Rattle.std.specs.Prelude.{true, false, ◌≡◌, ◌≢◌, ◌&&◌, ◌≤◌, ◌<◌, ℕ, List, ◌++◌, Ok, Err, None, All, IfOk, IfErr, IfSome, OnErr};
+ghost use Rattle.std.specs.Prelude.{MatchBool, bytes_eq, codes, length, map, take, slice_range};
 ghost use Rattle.std.specs.List.{list_all, list_any};
-ghost use Rattle.httparse.specs.Grammar.{HasNoRequest};
+ghost use Rattle.httparse.specs.Grammar.{HasNoRequest, MayBecomeRequest};
 ghost use Rattle.httparse.specs.Spans.{header_bytes, IsHeaderWithin, IsRequestWithin, IsRequestOf, span_bytes};
 ghost use Rattle.lb_proxy_http.specs.Fields.{values_of, options_of, is_guarded};
 ghost use Rattle.lb_proxy_http.specs.Framing.{keeps_by, has_no_body, is_idempotent, request_framing, statement_of};
 ghost use Rattle.lb_proxy_http.specs.Heads.{HasStrictFeeds, plain, version_of, is_host_byte, right_host, is_right_target, IsRequest};
+ghost use Rattle.lb_proxy_http.specs.Refusals.{asks_more, names_other_version, Refuses, RefusesAt};
 
 use crate::fault::Fault;
 use crate::field::{Field, Found, connection_options, find_one, is_option, names_guarded};
 use crate::framing::{Framing, Stated, Version, statement_of};
+use crate::version::names_other_version;
 use httparse::spans::{EMPTY_HEADER_SPAN, HeaderSpan, RequestSpans, parse_request};
 use httparse::{Error, Status};
 use std::alloc::{AllocError, Global};
@@ -129,7 +131,8 @@ pub(crate) fn fields_at<'a>(
     spans: &[HeaderSpan],
 ) -> Result<Vec<Field<'a>>, AllocError>
     requires { All (IsHeaderWithin (length bytes.now)) spans.now }
-    ensures { IfOk result (λ fields. map plain fields.items ≡ map (header_bytes bytes.now) spans.now) }
+    ensures copied { IfOk result (λ fields. map plain fields.items ≡ map (header_bytes bytes.now) spans.now) }
+    ensures memory { OnErr result (0 < length spans.now) }
 {
     let mut fields: Vec<Field<'a>> = Vec::new(alloc);
     for span in spans {
@@ -207,6 +210,17 @@ fn request_framing(stated: Stated) -> Result<Framing, Fault>
     }
 }
 
+// Whether the request asks for what isn't there: a transfer coding other than chunked, or a tunnel.
+fn asks_more(stated: Stated, method: &[u8]) -> bool
+    ensures { result ≡ asks_more stated method.now }
+{
+    match stated {
+        Stated::Coded => true,
+        Stated::Ambiguous => false,
+        Stated::Silent | Stated::Length(_) | Stated::Chunks => method == b"CONNECT".as_slice(),
+    }
+}
+
 // The head whose parts were found there.
 fn head_at<'a>(
     alloc: Global,
@@ -231,6 +245,7 @@ fn head_at<'a>(
     ensures right { IfOk result (λ head. is_right_target head.method.now head.target.now ≡ true) }
     ensures few { IfOk result (λ head. length head.fields.items ≤ 100) }
     ensures no_tunnel { IfOk result (λ head. bytes_eq head.method.now (codes "CONNECT") ≡ false) }
+    ensures why { IfErr result (RefusesAt bytes.now spans.now found.now) }
     ensures refused { IfErr result (λ fault. fault ≢ Fault.Unavailable
         → (more : List ℕ) (head : RequestHead) → ¬ (IsRequest (bytes.now ++ more) head)) }
 {
@@ -247,15 +262,15 @@ fn head_at<'a>(
         return Err(Fault::Unavailable);
     };
     let version = version_of(found.version);
-    let framing = match request_framing(statement_of(version, &fields)) {
-        Ok(framing) => framing,
-        Err(fault) => return Err(fault),
-    };
+    let stated = statement_of(version, &fields);
     let method = found.method.of(bytes);
     let target = found.path.of(bytes);
-    if method == b"CONNECT".as_slice() {
+    if asks_more(stated, method) {
         return Err(Fault::NotImplemented);
     }
+    let Ok(framing) = request_framing(stated) else {
+        return Err(Fault::BadRequest);
+    };
     if names_guarded(&options) {
         return Err(Fault::BadRequest);
     }
@@ -276,20 +291,13 @@ fn head_at<'a>(
     })
 }
 
-// Whether the third word of the bytes begins as a version does.
-fn names_protocol(bytes: &[u8]) -> bool {
-    let mut words = bytes.split(|byte| *byte == b' ');
-    match (words.next(), words.next(), words.next()) {
-        (Some(_), Some(_), Some(word)) => word.starts_with(b"HTTP/"),
-        _ => false,
-    }
-}
-
 /// Reads the head of a request at the front of the bytes; `None` where it isn't whole yet.
 ///
-/// Refused `BadRequest` where the head is malformed or can be understood in two ways, `HeadTooLarge`, `NotImplemented` for a transfer
-/// coding other than chunked and for `CONNECT`, `VersionNotSupported`, and `Unavailable` where memory is short. But for memory, bytes that
-/// may become a head that may be passed on are never refused.
+/// Refused `VersionNotSupported` where the request line names another version with its two digits (RFC 9110 section 15.6.6);
+/// `HeadTooLarge` above `HEAD_LIMIT` bytes or `FIELD_LIMIT` fields (RFC 6585 section 5); `NotImplemented` for a transfer coding other than
+/// chunked (RFC 9112 section 6.1) and for `CONNECT`; and `BadRequest` where the head is malformed or can be understood in two ways. Within
+/// the limits a whole head that has a field may also be refused `Unavailable`, where memory is short. But for that, bytes that may become a
+/// head that may be passed on are never refused.
 pub fn read_request(alloc: Global, bytes: &[u8]) -> Result<Option<RequestHead<'_>>, Fault>
     ensures whole { IfOk result (λ read. IfSome read (IsRequest bytes.now)) }
     ensures open { result ≡ Ok None → HasNoRequest bytes.now }
@@ -297,7 +305,13 @@ pub fn read_request(alloc: Global, bytes: &[u8]) -> Result<Option<RequestHead<'_
         → (more : List ℕ) (head : RequestHead) → ¬ (IsRequest (bytes.now ++ more) head)) }
     ensures short { result ≡ Ok None → length bytes.now < 65536 }
     ensures strict { result ≡ Ok None → HasStrictFeeds bytes.now }
+    ensures unfinished { result ≡ Ok None → MayBecomeRequest bytes.now }
+    ensures other { names_other_version bytes.now ≡ true → result ≡ Err Fault.VersionNotSupported }
+    ensures why { IfErr result (Refuses bytes.now) }
 {
+    if names_other_version(bytes) {
+        return Err(Fault::VersionNotSupported);
+    }
     let mut spans = [EMPTY_HEADER_SPAN; FIELD_LIMIT];
     match parse_request(bytes, &mut spans) {
         Ok(Status::Complete(found)) => match head_at(alloc, bytes, &found, &spans) {
@@ -314,7 +328,6 @@ pub fn read_request(alloc: Global, bytes: &[u8]) -> Result<Option<RequestHead<'_
             Ok(None)
         }
         Err(Error::TooManyHeaders) => Err(Fault::HeadTooLarge),
-        Err(Error::Version) if names_protocol(bytes) => Err(Fault::VersionNotSupported),
         Err(_) => Err(Fault::BadRequest),
     }
 }

@@ -2,12 +2,13 @@
 ghost use Rattle.std.specs.Prelude.{false, ◌≡◌, ◌≢◌, ◌&&◌, ◌≤◌, ◌<◌, ℕ, List, ◌++◌, Ok, None, IfOk, IfErr, IfSome, nat_lt, length, map};
 ghost use Rattle.std.specs.Prelude.{take};
 ghost use Rattle.std.specs.List.{list_any};
-ghost use Rattle.httparse.specs.Grammar.{HasNoResponse};
+ghost use Rattle.httparse.specs.Grammar.{HasNoResponse, MayBecomeResponse};
 ghost use Rattle.httparse.specs.Spans.{header_bytes, IsResponseWithin, IsResponseOf, span_bytes};
 ghost use Rattle.lb_proxy_http.specs.Fields.{options_of, is_guarded};
 ghost use Rattle.lb_proxy_http.specs.Framing.{bodiless_framing, head_framing, full_framing, response_framing, keeps_by, has_end};
 ghost use Rattle.lb_proxy_http.specs.Framing.{statement_of};
 ghost use Rattle.lb_proxy_http.specs.Heads.{HasStrictFeeds, plain, version_of, begins_blank, IsResponse};
+ghost use Rattle.lb_proxy_http.specs.Refusals.{RefusesAnswer, RefusesAnswerAt};
 
 use crate::fault::Fault;
 use crate::field::{Field, connection_options, names_guarded};
@@ -138,6 +139,7 @@ fn head_at<'a>(
     ensures unguarded { IfOk result (λ head. list_any (λ o. is_guarded o.now) head.options.items ≡ false) }
     ensures few { IfOk result (λ head. length head.fields.items ≤ 100) }
     ensures no_switch { IfOk result (λ head. head.status ≢ 101) }
+    ensures why { IfErr result (RefusesAnswerAt bytes.now found.now) }
     ensures refused { IfErr result (λ fault. fault ≢ Fault.Unavailable
         → (more : List ℕ) (head : ResponseHead) → ¬ (IsResponse (bytes.now ++ more) asked head)) }
 {
@@ -163,9 +165,9 @@ fn head_at<'a>(
         return Err(Fault::BadGateway);
     }
     let version = version_of(found.version);
-    let framing = match response_framing(asked, found.code, statement_of(version, &fields)) {
-        Ok(framing) => framing,
-        Err(fault) => return Err(fault),
+    let stated = statement_of(version, &fields);
+    let Ok(framing) = response_framing(asked, found.code, stated) else {
+        return Err(Fault::BadGateway);
     };
     Ok(ResponseHead {
         version,
@@ -190,8 +192,9 @@ fn begins_blank(bytes: &[u8]) -> bool
 
 /// Reads the head of an answer at the front of the bytes; `None` where it isn't whole yet.
 ///
-/// Refused `BadGateway` where the head is malformed, too long, can be understood in two ways, or switches protocols, and `Unavailable`
-/// where memory is short. But for memory, bytes that may become a head that may be passed on are never refused.
+/// Refused `BadGateway` where the head is malformed, too long, can be understood in two ways, or switches protocols (RFC 9110 section
+/// 15.6.3). Within the limits a whole head that has a field may also be refused `Unavailable`, where memory is short. But for that, bytes
+/// that may become a head that may be passed on are never refused.
 pub fn read_response(
     alloc: Global,
     bytes: &[u8],
@@ -203,6 +206,8 @@ pub fn read_response(
         → (more : List ℕ) (head : ResponseHead) → ¬ (IsResponse (bytes.now ++ more) asked head)) }
     ensures short { result ≡ Ok None → length bytes.now < 65536 }
     ensures strict { result ≡ Ok None → HasStrictFeeds bytes.now }
+    ensures unfinished { result ≡ Ok None → MayBecomeResponse bytes.now }
+    ensures why { IfErr result (RefusesAnswer bytes.now) }
 {
     if begins_blank(bytes) {
         return Err(Fault::BadGateway);
