@@ -1,15 +1,15 @@
 -- Faults of a list's entries.
 use Rattle.std.proofs.Common.{◌≡◌, ℕ, zero, suc, ◌<◌, inl, inr, List, [], ◌∷◌, map, take, length, get_or, slice_get}
-use Rattle.std.proofs.Common.{Option, Some, None, option_map, Ok, Err, codes, string_bytes, refl, ap, sym, ◌∙◌}
+use Rattle.std.proofs.Common.{Option, Some, None, option_map, Ok, Err, codes, refl, ap, sym, ◌∙◌}
 use Rattle.std.proofs.Common.{Bool, true, is_some, IfSome}
 use Rattle.std.proofs.lemmas.Bool.{false≢true}
 use Rattle.std.proofs.lemmas.Option.{slice_get_read, slice_get-map}
 use Rattle.std.specs.List.{AllZip}
-use Rattle.toml.specs.Data.{Data, as_table}
+use Rattle.toml.specs.Data.{as_table}
 use Rattle.toml.specs.View.{view}
 use Rattle.toml.specs.declared.value.Value.{Value}
 use Rattle.lb_proxy.specs.Config.{Part, Said, list_at, entry_by, required_of, EntryIs, IsPool, IsPoolNamed, backend_place}
-use Rattle.lb_proxy.specs.Faults.{IsWrongBackend, AreWrongBackends, IsWrongPool, IsSameName, AreWrongPools, IsWrongListen, AreWrongListens}
+use Rattle.lb_proxy.specs.Faults.{IsWrongBackend, AreWrongBackends, IsWrongPool, AreWrongPools, IsWrongListen, AreWrongListens}
 use Rattle.lb_proxy.specs.declared.config.PoolConfig.{PoolConfig}
 use Rattle.lb_proxy.specs.declared.config_fault.Place.TheVariants as place
 use Rattle.lb_proxy.specs.declared.config_fault.Cause.TheVariants as cause

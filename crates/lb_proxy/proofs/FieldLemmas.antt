@@ -1,13 +1,13 @@
 -- Which fields a table has, as its entries are gone over.
-use Rattle.std.proofs.Common.{◌≡◌, ◌||◌, ℕ, true, false, map, eqb, List, [], ◌∷◌, Option, Some, None, IsSome}
-use Rattle.std.proofs.Common.{String, Global, string_bytes, bytes_eq}
+use Rattle.std.proofs.Common.{◌≡◌, ◌||◌, ℕ, true, false, map, eqb, List, [], ◌∷◌, Option, Some, IsSome}
+use Rattle.std.proofs.Common.{String, Global, string_bytes}
 use Rattle.std.proofs.Common.{Ordering, Less, Equal, Greater, nat_cmp, is_eq, refl, ap, sym, subst, ◌∙◌}
 use Rattle.std.proofs.lemmas.Cmp.{nat_list_cmp_total, tied_itself}
 use Rattle.std.proofs.lemmas.Bool.{false≢true}
 use Rattle.std.specs.List.{list_any}
 use Rattle.std.specs.Cmp.Lexicographic.{pointwise, slice_cmp, bytes_decides, texts_ties}
 use Rattle.std.specs.Ordering.{match_ordering}
-use Rattle.toml.specs.Data.{Data, Members, get_member}
+use Rattle.toml.specs.Data.{Data, get_member}
 use Rattle.toml.specs.View.{members_view}
 use Rattle.toml.specs.declared.value.Value.{Value}
 use Rattle.lb_proxy.specs.Config.{Part, Said, HasOnly, IsUnknown, is_among}

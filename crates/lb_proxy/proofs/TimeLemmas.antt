@@ -1,6 +1,6 @@
 -- Ends of a text, and the units that they name.
-use Rattle.std.proofs.Common.{◌≡◌, ℕ, ◌-◌, ◌≤◌, ◌+◌, List, take, length, Option, Some, None, MatchOption, option_map}
-use Rattle.std.proofs.Common.{Bor, refl, ap, sym, ◌∙◌, true, false, eqb, arith}
+use Rattle.std.proofs.Common.{◌≡◌, ℕ, ◌≤◌, ◌+◌, List, length, Option, Some, None, MatchOption, option_map}
+use Rattle.std.proofs.Common.{Bor, refl, sym, true, false, eqb, arith}
 use Rattle.std.proofs.lemmas.Str.Pattern.{ends_text}
 use Rattle.std.specs.List.{ends_with}
 use Rattle.std.specs.Str.Pattern.{StripsSuffix, FindsTextSuffix}

@@ -1,5 +1,5 @@
 -- Why a configuration is refused: a fault names a part, a field and a cause, and the cause is true of what the table has there.
-use Rattle.std.specs.Prelude.{◌≡◌, ◌≢◌, ℕ, List, [], ◌∷◌, codes, take, ◌⊎◌, slice_get, Some, None, IsSome, Ok, Err, true, false}
+use Rattle.std.specs.Prelude.{◌≡◌, ◌≢◌, ℕ, List, [], codes, take, ◌⊎◌, slice_get, Some, None, IsSome, Ok, Err, true, false}
 use Rattle.std.specs.Prelude.{string_bytes}
 use Rattle.std.specs.List.{AllByRecursion, AllZip}
 use Rattle.toml.specs.Data.{Data, get_member, as_str, as_table}

@@ -1,4 +1,4 @@
-use Rattle.std.proofs.Common.{rules, ◌≡◌, Bool, true, false, map, string_bytes, ap, sym, subst, ◌∙◌}
+use Rattle.std.proofs.Common.{rules, ◌≡◌, true, false, map, string_bytes, ap, sym, subst, ◌∙◌}
 use Rattle.lb_proxy.specs.Config.{part_of, said, is_among}
 use Rattle.lb_proxy.proofs.FieldLemmas.{StillOnly, one_known, is_there, unknown_there}
 use Rattle.lb_proxy.proofs.section.Section.only.Goals as goal
