@@ -136,6 +136,31 @@ FAULTS = [
     ("no page", GOOD + '[status]\n', "line 7, column 1: [status]: listen is missing"),
     ("check is no table", "check = 1\n" + GOOD, "line 1, column 1: top: check is to be a table"),
     ("pool is no list", 'pool = "p"\n', "line 1, column 1: top: pool is to be a list"),
+    (
+        "a pool's check",
+        GOOD.replace('name = "p"', 'name = "p"\ncheck = { kind = "http", rise = -1 }'),
+        "line 3, column 1: [[pool]] number 1, check: rise is to be a number from 0 on",
+    ),
+    (
+        "unknown name in a pool's check",
+        GOOD.replace("[[listen]]", '[pool.check]\nkind = "tcp"\n  rises = 1\n[[listen]]'),
+        "line 6, column 3: [[pool]] number 1, check: rises isn't known",
+    ),
+    (
+        "no time in a second pool's check",
+        GOOD + '[[pool]]\nname = "q"\nbackends = []\n[pool.check]\nkind = "http"\ntimeout = "1 s"\n',
+        "line 12, column 1: [[pool]] number 2, check: timeout is to be a time",
+    ),
+    (
+        "no path in a pool's check",
+        GOOD.replace("[[listen]]", '[pool.check]\npath = "x"\nkind = "http"\n[[listen]]'),
+        "line 5, column 1: [[pool]] number 1, check: path is to begin with a slash",
+    ),
+    (
+        "a pool's check is no table",
+        GOOD.replace('name = "p"', 'name = "p"\ncheck = "tcp"'),
+        "line 3, column 1: [[pool]] number 1: check is to be a table",
+    ),
     ("pool is no table", "pool = [1]\n", "line 1, column 1: top: pool is to be a list of tables"),
 ]
 
@@ -342,6 +367,65 @@ def a_cut_backend_cuts_the_client():
             pass
 
 
+class Answering(Backend):
+    """Answers each request by its path: with status 200 where that is among the good ones, else with 500."""
+
+    def __init__(self, good):
+        self.good = good
+        super().__init__("answering")
+
+    def echo(self, peer):
+        with contextlib.suppress(OSError), peer:
+            while head := peer.recv(65536):
+                status = 200 if head.split(b" ")[1].decode() in self.good else 500
+                peer.sendall(f"HTTP/1.1 {status} Said\r\nContent-Length: 0\r\n\r\n".encode())
+
+
+def pool_text(name, address, port, check):
+    return (
+        f'[[pool]]\nname = "{name}"\nbackends = ["{address}"]\n{check}\n'
+        f'[[listen]]\naddress = "127.0.0.1:{port}"\npool = "{name}"\n'
+    )
+
+
+def is_served(port):
+    with connect(port) as peer:
+        with contextlib.suppress(OSError):
+            peer.sendall(b"GET /well HTTP/1.1\r\n\r\n")
+            return peer.recv(100).startswith(b"HTTP/1.1 200")
+    return False
+
+
+def a_pool_has_a_check_of_its_own():
+    server = Answering({"/well"})
+    page, *ports = (free_port() for _ in range(5))
+    every = 'every = "100ms"\ntimeout = "500ms"\n'
+    text = f'[status]\nlisten = "127.0.0.1:{page}"\n[check]\nkind = "http"\npath = "/ill"\n{every}'
+    text += pool_text("connected", server.address, ports[0], f"[pool.check]\n{every}")
+    text += pool_text("well", server.address, ports[1], f'[pool.check]\nkind = "http"\npath = "/well"\n{every}')
+    text += pool_text("other", server.address, ports[2], f'[pool.check]\nkind = "http"\npath = "/other"\n{every}')
+    text += pool_text("as-all", server.address, ports[3], "")
+    proxy = Proxy(text)
+
+    def states():
+        return [pool["backends"][0]["ready"] for pool in json.loads(fetch(page, "/status.json")[1])["pools"]]
+
+    try:
+        wait_until(lambda: states() == [True, True, False, False], "it isn't as the checks say")
+        time.sleep(0.5)
+        expect(states() == [True, True, False, False], states())
+        expect([is_served(port) for port in ports] == [True, True, False, False], "another pool serves")
+        server.good = {"/well", "/other"}
+        wait_until(lambda: states() == [True, True, True, False], "what one pool asks for isn't its own")
+        server.good = {"/well", "/ill"}
+        wait_until(lambda: states() == [True, True, False, True], "what all others ask for isn't theirs")
+        expect([is_served(port) for port in ports] == [True, True, False, True], "another pool serves then")
+        server.stop()
+        wait_until(lambda: not any(states()), "ready once it is gone")
+    finally:
+        expect(proxy.end() == 0, "another status")
+
+
 def no_backend_closes_the_connection():
     expect(named(EMPTY) == "", "somebody answered")
     wait_until(lambda: "pool empty: no ready backend" in PROXY.log(), "it isn't logged")
@@ -482,6 +566,7 @@ try:
         many_at_once,
         a_stopped_backend_is_passed_over,
         a_cut_backend_cuts_the_client,
+        a_pool_has_a_check_of_its_own,
         no_backend_closes_the_connection,
         a_file_is_read_again,
         the_page_shows_the_pools,

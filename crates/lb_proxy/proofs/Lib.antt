@@ -1,7 +1,10 @@
 pub mod AttemptsLemmas
 pub mod ConfigLemmas
+pub mod FaultLemmas
+pub mod FieldLemmas
 pub mod FlowLemmas
 pub mod MetricsLemmas
 pub mod PoolFileLemmas
 pub mod PositionLemmas
 pub mod RelayLemmas
+pub mod TimeLemmas

@@ -1,5 +1,5 @@
 -- Lines of a text.
-use Rattle.std.proofs.Common.{Bool, true, false, Some, None, option_map, ◌||◌, ◌≡◌, ◌⊎◌, ℕ, ◌+◌, ◌<◌, ◌≤◌, ◌==◌, List, [], ◌∷◌, ◌++◌}
+use Rattle.std.proofs.Common.{Bool, true, false, Some, None, option_map, ◌||◌, ◌≡◌, ◌≢◌, ◌⊎◌, ℕ, ◌+◌, ◌<◌, ◌≤◌, ◌==◌, List, [], ◌∷◌, ◌++◌}
 use Rattle.std.proofs.Common.{length, take}
 use Rattle.std.proofs.Common.{slice_index, if◌then◌else◌, refl, ap, sym, ◌∙◌, inl, inr, arith}
 use Rattle.std.proofs.lemmas.Bool.{eqb-true, eq-eqb, ne_eqb, false≢true}
@@ -7,13 +7,16 @@ use Rattle.std.proofs.lemmas.List.{take_more}
 use Rattle.toml.specs.Data.{Members}
 use Rattle.toml.specs.Parse.{parse_document}
 use Rattle.lb_proxy.specs.Config.{Said}
-use Rattle.lb_proxy.specs.Position.{IsLineStart, shows, shown_by, feeds, line_at}
+use Rattle.lb_proxy.specs.Position.{IsLineStart, IsNowhereTo, shows, shown_by, feeds, line_at}
 
 not_less : {m n : ℕ} → m ≡ n → m < n → ⊥
 not_less e lt = grind arith
 
 pub one_later : {m n : ℕ} → m ≤ n → m ≤ n + 1
 one_later le = grind arith
+
+pub no_later : (n : ℕ) → n ≤ n
+no_later n = grind arith
 
 pub one_more_later : {m n : ℕ} → m ≤ n → m + 1 ≤ n + 1
 one_more_later le = grind arith
@@ -33,6 +36,10 @@ le_or_next m n le = grind arith
 neither : (a b : Bool) → (a || b) ≡ false → a ≡ false
 neither true b e = absurd (false≢true (sym e))
 neither false b e = refl
+
+or_right : (a b : Bool) → (a || b) ≡ false → b ≡ false
+or_right true b e = absurd (false≢true (sym e))
+or_right false b e = e
 
 -- a line begins after one that ends, unless the text does
 ends : (text : List ℕ) (place : ℕ) (is_feed is_last : Bool) → is_feed ≡ (slice_index text place == 10)
@@ -92,3 +99,35 @@ pub no_line : (text : List ℕ) (place : ℕ) → ((slice_index text place == 10
 no_line text place not_end (inl zero) = absurd (not_zero place zero)
 no_line text place not_end (inr (before, same, feed)) =
     absurd (false≢true (sym (neither _ _ not_end) ∙ eq-eqb _ 10 (ap (slice_index text) (one_before same) ∙ feed)))
+
+-- one more place that shows nothing
+no_end : (text : List ℕ) (place : ℕ) → ((slice_index text place == 10) || (place + 1 == length text)) ≡ false
+    → ¬ (IsLineStart text (place + 1) ⊎ (place + 1 ≡ length text))
+no_end text place not_end (inl line) = no_line text place not_end line
+no_end text place not_end (inr same) = absurd (false≢true (sym (or_right _ _ not_end) ∙ eq-eqb _ _ same))
+
+pub nowhere_more : (text : List ℕ) (said : Said) (place : ℕ) → IsNowhereTo text said place
+    → ((IsLineStart text (place + 1) ⊎ (place + 1 ≡ length text)) → shown_by (take (place + 1) text) said ≢ Some true)
+    → IsNowhereTo text said (place + 1)
+nowhere_more text said place before here at some le line = by_order (le_or_next at place le)
+  where
+    by_order : (at ≤ place) ⊎ (at ≡ place + 1) → shown_by (take at text) said ≢ Some true
+    by_order (inl earlier) = before at some earlier line
+    by_order (inr same) = rw same (here (rw (sym same) line))
+
+pub nowhere_no_end : (text : List ℕ) (said : Said) (place : ℕ) → IsNowhereTo text said place
+    → ((slice_index text place == 10) || (place + 1 == length text)) ≡ false → IsNowhereTo text said (place + 1)
+nowhere_no_end text said place before not_end = nowhere_more text said place before (λ line. absurd (no_end text place not_end line))
+
+pub nowhere_false : (text : List ℕ) (said : Said) (place : ℕ) → IsNowhereTo text said place
+    → shown_by (take (place + 1) text) said ≡ Some false → IsNowhereTo text said (place + 1)
+nowhere_false text said place before is =
+    nowhere_more text said place before (λ line shown. let never : Some false ≡ Some true = sym is ∙ shown in cc)
+
+pub nowhere_none : (text : List ℕ) (said : Said) (place : ℕ) → IsNowhereTo text said place
+    → shown_by (take (place + 1) text) said ≡ None → IsNowhereTo text said (place + 1)
+nowhere_none text said place before is =
+    nowhere_more text said place before (λ line shown. let never : None ≡ Some true = sym is ∙ shown in cc)
+
+pub nowhere_begins : (text : List ℕ) (said : Said) → IsNowhereTo text said 0
+nowhere_begins text said at some le line = absurd (not_both some le)

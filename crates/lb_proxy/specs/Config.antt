@@ -1,15 +1,21 @@
 -- What a configuration spells, over the table that its text is: fields, words, pools and listeners.
-use Rattle.std.specs.Prelude.{◌≡◌, ◌≢◌, ℕ, ℤ, pos, negsuc, ◌*◌, ◌^◌, ◌<◌, List, [], ◌∷◌, codes, length, nat_lt, bytes_eq, Bool}
-use Rattle.std.specs.Prelude.{slice_get, Option, Some, None, IsSome, option_map, Result, Ok, Err, ⊤, string_bytes, if◌then◌else◌}
-use Rattle.std.specs.List.{AllByRecursion, AllZip}
+use Rattle.std.specs.Prelude.{◌≡◌, ◌≢◌, ℕ, ℤ, pos, negsuc, ◌*◌, ◌^◌, ◌<◌, ◌-◌, List, [], ◌∷◌, codes, length, take, nat_lt, eqb, bytes_eq}
+use Rattle.std.specs.Prelude.{◌⊎◌, slice_get, Option, Some, None, IsSome, option_map, unwrap_or, Result, Ok, Err, ⊤, string_bytes}
+use Rattle.std.specs.Prelude.{Bool, true, false, if◌then◌else◌}
+use Rattle.std.specs.List.{AllByRecursion, AllZip, list_any, starts_with, ends_with}
 use Rattle.std.specs.Net.Grammar.{IsSocketText}
 use Rattle.std.specs.declared.net.socket_addr.SocketAddr.{SocketAddr}
-use Rattle.toml.specs.Data.{Data, Items, no_items, item, Members, get_member, as_str, as_integer, as_bool, as_array, as_table}
+use Rattle.toml.specs.Data.{Data, Items, no_items, item, Members, no_members, get_member, as_str, as_integer, as_bool, as_array, as_table}
 use Rattle.toml.specs.View.{table_view}
 use Rattle.lb_select_base.specs.AddressText.{address_of_text, bare_member}
 use Rattle.lb_select_base.specs.Backends.{Member}
 use Rattle.lb_proxy.specs.Key.{Kind, source, uri, header, key_of_text, owned_seen}
 use Rattle.lb_proxy.specs.PoolFile.{weight_of}
+use Rattle.lb_proxy.specs.declared.config.CheckConfig.{CheckConfig}
+use Rattle.lb_proxy.specs.declared.config.CheckKind.{CheckKind}
+use Rattle.lb_proxy.specs.declared.config.CheckKind.TheVariants.{Tcp as Connects, Http as Asks}
+use Rattle.lb_proxy.specs.declared.config.Config.{Config}
+use Rattle.lb_proxy.specs.declared.config.Limits.{Limits}
 use Rattle.lb_proxy.specs.declared.config.PoolConfig.{PoolConfig}
 use Rattle.lb_proxy.specs.declared.config.ListenConfig.{ListenConfig}
 use Rattle.lb_proxy.specs.declared.config.Selection.{Selection}
@@ -132,6 +138,20 @@ abbrev pub IsNoAddress : Part → List ℕ → Result (List ℕ) Said → Said �
 IsNoAddress part field (Err e) s = s ≡ e
 IsNoAddress part field (Ok text) s = ((a : SocketAddr) → ¬ (IsSocketText text a)) × (s ≡ (part.0, field, cause.NotAddress))
 
+-- the name is one of those
+abbrev pub is_among : List (List ℕ) → List ℕ → Bool
+is_among known name = list_any (λ other. bytes_eq other name) known
+
+-- the part has no field but those
+abbrev pub HasOnly : List (List ℕ) → Part → Type 0
+HasOnly known part = (field : List ℕ) → IsSome (get_member field part.1) → is_among known field ≡ true
+
+-- the part has a field that is none of those
+pub record IsUnknown (known : List (List ℕ)) (part : Part) (fault : Said) : Type 0 where
+  pub there : IsSome (get_member fault.1 part.1)
+  pub unknown : is_among known fault.1 ≡ false
+  pub says : fault ≡ (part.0, fault.1, cause.Unknown)
+
 -- what comes next, where nothing is wrong so far
 abbrev pub and_then : {A B : Type 0} → Result A Said → (A → Result B Said) → Result B Said
 and_then (Ok x) next = next x
@@ -161,6 +181,48 @@ units_by (Some number) unit = if nat_lt (number * unit) (2 ^ 64) then Some (numb
 abbrev pub units_of : List ℕ → ℕ → Option ℕ
 units_of digits unit = units_by (weight_of digits) unit
 
+-- a text without its end
+abbrev pub cut : List ℕ → List ℕ → Option (List ℕ)
+cut end text = if ends_with eqb text end then Some (take (length text - length end) text) else None
+
+abbrev pub units_or : Option (List ℕ) → ℕ → Option ℕ → Option ℕ
+units_or None unit other = other
+units_or (Some digits) unit other = units_of digits unit
+
+-- the time that a text spells, in nanoseconds
+abbrev pub duration_of : List ℕ → Option ℕ
+duration_of text =
+    units_or (cut (codes "ms") text) 1000000 (units_or (cut (codes "s") text) 1000000000
+    (units_or (cut (codes "m") text) 60000000000 (units_or (cut (codes "h") text) 3600000000000 None)))
+
+abbrev pub time_by : ℕ → Option (List ℕ) → Result ℕ Cause
+time_by default None = Ok default
+time_by default (Some text) = or_refused cause.NotDuration (duration_of text)
+
+abbrev pub time_of : Part → List ℕ → ℕ → Result ℕ Said
+time_of part field default = and_then (text_of part field) (λ text. blamed part field (time_by default text))
+
+-- where a backend of a part is, and the check of a part
+abbrev pub backend_place : Place → ℕ → Place
+backend_place (place.Pool pool) number = place.Backend pool number
+backend_place place.Top number = place.Top
+backend_place place.Check number = place.Check
+backend_place place.Status number = place.Status
+backend_place place.Limits number = place.Limits
+backend_place (place.PoolCheck pool) number = place.PoolCheck pool
+backend_place (place.Listen listen) number = place.Listen listen
+backend_place (place.Backend pool other) number = place.Backend pool other
+
+abbrev pub check_place : Place → Place
+check_place (place.Pool number) = place.PoolCheck number
+check_place place.Top = place.Check
+check_place place.Check = place.Check
+check_place place.Status = place.Check
+check_place place.Limits = place.Check
+check_place (place.PoolCheck number) = place.Check
+check_place (place.Listen number) = place.Check
+check_place (place.Backend pool number) = place.Check
+
 -- bytes are relayed, unless a word says otherwise
 abbrev pub mode_by : Option (List ℕ) → Result Mode Cause
 mode_by None = Ok Tcp
@@ -186,6 +248,59 @@ key_by mode (Some word) = key_or mode (key_of_text word)
 abbrev pub key_in : Part → Mode → Result Kind Said
 key_in part mode = and_then (text_of part (codes "key")) (λ word. blamed part (codes "key") (key_by mode word))
 
+-- the fields that each part may have
+abbrev pub top_fields : List (List ℕ)
+top_fields = codes "check" ∷ codes "status" ∷ codes "limits" ∷ codes "pool" ∷ codes "listen" ∷ []
+
+abbrev pub check_fields : List (List ℕ)
+check_fields =
+    codes "kind" ∷ codes "host" ∷ codes "path" ∷ codes "every" ∷ codes "timeout" ∷ codes "rise" ∷ codes "fall" ∷ codes "parallel" ∷ []
+
+abbrev pub status_fields : List (List ℕ)
+status_fields = codes "listen" ∷ []
+
+abbrev pub limits_fields : List (List ℕ)
+limits_fields =
+    codes "max_connections" ∷ codes "threads" ∷ codes "connect" ∷ codes "idle" ∷ codes "answer" ∷ codes "drain" ∷ []
+
+abbrev pub pool_fields : List (List ℕ)
+pool_fields = codes "name" ∷ codes "backends" ∷ codes "file" ∷ codes "check" ∷ []
+
+abbrev pub backend_fields : List (List ℕ)
+backend_fields = codes "address" ∷ codes "weight" ∷ []
+
+abbrev pub listen_fields : List (List ℕ)
+listen_fields = codes "address" ∷ codes "mode" ∷ codes "pool" ∷ codes "select" ∷ codes "key" ∷ []
+
+-- the text of a field, or that one where the field is not there
+abbrev pub IsTextOr : Part → List ℕ → List ℕ → List ℕ → Type 0
+IsTextOr part field default text = (given : Option (List ℕ)) × (text_of part field ≡ Ok given) × (text ≡ unwrap_or given default)
+
+abbrev pub begins_with_slash : List ℕ → Bool
+begins_with_slash text = starts_with eqb text (codes "/")
+
+-- what a check does: it connects unless a word says otherwise
+abbrev pub IsKind : Part → CheckKind → Type 0
+IsKind part Connects = (text_of part (codes "kind") ≡ Ok None) ⊎ (text_of part (codes "kind") ≡ Ok (Some (codes "tcp")))
+IsKind part (Asks host path) =
+    (text_of part (codes "kind") ≡ Ok (Some (codes "http"))) × IsTextOr part (codes "host") (codes "localhost") (string_bytes host)
+    × IsTextOr part (codes "path") (codes "/") (string_bytes path) × (begins_with_slash (string_bytes path) ≡ true)
+
+-- the check is the one that the part spells
+pub record IsCheck (part : Part) (check : CheckConfig) : Type 0 where
+  pub known : HasOnly check_fields part
+  pub kind : IsKind part check.kind
+  pub every : time_of part (codes "every") 1000000000 ≡ Ok check.every
+  pub timeout : time_of part (codes "timeout") 1000000000 ≡ Ok check.timeout
+  pub rise : number_of part (codes "rise") 1 ≡ Ok check.rise
+  pub fall : number_of part (codes "fall") 1 ≡ Ok check.fall
+  pub parallel : flag_of part (codes "parallel") true ≡ Ok check.parallel
+
+-- the check of a part, at that place, where it has one
+abbrev pub IsCheckIn : Part → Place → Option CheckConfig → Type 0
+IsCheckIn part place None = table_at part (codes "check") place ≡ Ok None
+IsCheckIn part place (Some check) = (own : Part) × (table_at part (codes "check") place ≡ Ok (Some own)) × IsCheck own check
+
 -- the pool of this number has this name
 pub record IsPoolNamed (pools : List PoolConfig) (name : List ℕ) (number : ℕ) : Type 0 where
   pub is_there : number < length pools
@@ -193,6 +308,7 @@ pub record IsPoolNamed (pools : List PoolConfig) (name : List ℕ) (number : ℕ
 
 -- the listener is the one that the part spells
 pub record IsListen (pools : List PoolConfig) (part : Part) (listen : ListenConfig) : Type 0 where
+  pub known : HasOnly listen_fields part
   pub address : IsAddressOf part (codes "address") listen.address
   pub mode : mode_in part ≡ Ok listen.mode
   pub key : key_in part listen.mode ≡ Ok (owned_seen listen.key)
@@ -213,7 +329,8 @@ abbrev pub IsWeighed : Option (List ℕ) → Option Members → List ℕ → ℕ
 IsWeighed (Some s) t text weight = (text ≡ s) × (weight ≡ 1)
 IsWeighed None None text weight = ⊥
 IsWeighed None (Some ms) text weight =
-    (place : Place) × (required_of (place, ms) (codes "address") ≡ Ok text) × (number_of (place, ms) (codes "weight") 1 ≡ Ok weight)
+    (place : Place) × HasOnly backend_fields (place, ms) × (required_of (place, ms) (codes "address") ≡ Ok text)
+    × (number_of (place, ms) (codes "weight") 1 ≡ Ok weight)
 
 -- the backend has the address and the weight that the value spells, and nothing attached
 abbrev pub IsBackend : Data → Member → Type 0
@@ -235,8 +352,10 @@ IsSource part (File path) =
 
 -- the pool is the one that the part spells
 pub record IsPool (part : Part) (pool : PoolConfig) : Type 0 where
+  pub known : HasOnly pool_fields part
   pub name : required_of part (codes "name") ≡ Ok (string_bytes pool.name)
   pub source : IsSource part pool.source
+  pub check : IsCheckIn part (check_place part.0) pool.check
 
 -- the pools are what the entries of the list spell, in its order
 abbrev pub ArePools : Part → List PoolConfig → Type 0
@@ -252,13 +371,33 @@ HaveOwnNames (pool ∷ pools) = AllByRecursion (λ later. string_bytes pool.name
 abbrev pub IsStatus : Part → Option SocketAddr → Type 0
 IsStatus top None = table_at top (codes "status") place.Status ≡ Ok None
 IsStatus top (Some address) =
-    (part : Part) × (table_at top (codes "status") place.Status ≡ Ok (Some part)) × IsAddressOf part (codes "listen") address
+    (part : Part) × (table_at top (codes "status") place.Status ≡ Ok (Some part)) × HasOnly status_fields part
+    × IsAddressOf part (codes "listen") address
+
+-- the limits are the ones that the part spells
+pub record AreLimits (part : Part) (limits : Limits) : Type 0 where
+  pub known : HasOnly limits_fields part
+  pub max_connections : number_of part (codes "max_connections") 10000 ≡ Ok limits.max_connections
+  pub threads : number_of part (codes "threads") 0 ≡ Ok limits.threads
+  pub connect : time_of part (codes "connect") 1000000000 ≡ Ok limits.connect
+  pub idle : time_of part (codes "idle") 300000000000 ≡ Ok limits.idle
+  pub answer : time_of part (codes "answer") 60000000000 ≡ Ok limits.answer
+  pub drain : time_of part (codes "drain") 10000000000 ≡ Ok limits.drain
+
+-- the limits of a configuration, those of a part without fields where it has none
+abbrev pub AreLimitsIn : Part → Limits → Type 0
+AreLimitsIn top limits =
+    ((part : Part) × (table_at top (codes "limits") place.Limits ≡ Ok (Some part)) × AreLimits part limits)
+    ⊎ ((table_at top (codes "limits") place.Limits ≡ Ok None) × AreLimits (place.Limits, no_members) limits)
 
 -- the configuration's parts are what the table spells
-pub record IsConfig (top : Part) (status : Option SocketAddr) (pools : List PoolConfig) (listens : List ListenConfig) : Type 0 where
-  pub page : IsStatus top status
-  pub spelled : ArePools top pools
-  pub own_names : HaveOwnNames pools
-  pub some_pool : 0 < length pools
-  pub listening : AreListens pools top listens
-  pub some_listen : 0 < length listens
+pub record IsConfig (top : Part) (config : Config) : Type 0 where
+  pub known : HasOnly top_fields top
+  pub checked : IsCheckIn top place.Check config.check
+  pub page : IsStatus top config.status
+  pub limited : AreLimitsIn top config.limits
+  pub spelled : ArePools top config.pools.items
+  pub own_names : HaveOwnNames config.pools.items
+  pub some_pool : 0 < length config.pools.items
+  pub listening : AreListens config.pools.items top config.listens.items
+  pub some_listen : 0 < length config.listens.items

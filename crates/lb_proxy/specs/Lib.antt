@@ -1,5 +1,6 @@
 pub mod Attempts
 pub mod Config
+pub mod Faults
 pub mod Key
 pub mod Metrics
 pub mod PoolFile

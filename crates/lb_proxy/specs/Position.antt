@@ -1,14 +1,17 @@
 -- Where a fault of a configuration is: the part that it names, and the line of the text that makes it.
-use Rattle.std.specs.Prelude.{◌≡◌, ℕ, ◌+◌, ◌-◌, ◌<◌, ◌≤◌, List, [], ◌∷◌, codes, length, take, drop, slice_index, Bool, true, false}
+use Rattle.std.specs.Prelude.{◌≡◌, ◌≢◌, ℕ, ◌+◌, ◌-◌, ◌<◌, ◌≤◌, List, [], ◌∷◌, codes, length, take, drop, slice_index, Bool, true, false}
 use Rattle.std.specs.Prelude.{◌==◌, is_some, ◌⊎◌, slice_get, Option, Some, None, option_map, Result, Ok, Err, if◌then◌else◌}
-use Rattle.std.specs.Str.{IsTrimAsciiStart}
+use Rattle.std.specs.Str.{IsTrimAsciiStart, IsUtf8}
 use Rattle.toml.specs.Data.{Data, Members, get_member, as_table}
+use Rattle.toml.specs.Errors.{IsBlank}
 use Rattle.toml.specs.Parse.{parse_document}
 use Rattle.lb_proxy.specs.Config.{Part, Said, list_at, table_at}
 use Rattle.lb_proxy.specs.declared.config_fault.Place.{Place}
 use Rattle.lb_proxy.specs.declared.config_fault.Place.TheVariants as place
 use Rattle.lb_proxy.specs.declared.config_fault.Cause.{Cause}
 use Rattle.lb_proxy.specs.declared.config_fault.Cause.TheVariants as cause
+use Rattle.lb_proxy.specs.declared.position.Unread.{Unread}
+use Rattle.lb_proxy.specs.declared.position.Unread.TheVariants as unread
 
 -- a part that may be found
 abbrev pub there : Result (Option Part) Said → Option Part
@@ -36,6 +39,10 @@ abbrev pub entry_in : Option Part → List ℕ → ℕ → Place → Option Part
 entry_in None field number place = None
 entry_in (Some part) field number place = entry_there part field number place
 
+abbrev pub table_inside : Option Part → List ℕ → Place → Option Part
+table_inside None field place = None
+table_inside (Some part) field place = there (table_at part field place)
+
 -- the part of a configuration at a place
 abbrev pub part_at : Part → Place → Option Part
 part_at top place.Top = Some top
@@ -43,6 +50,8 @@ part_at top place.Check = there (table_at top (codes "check") place.Check)
 part_at top place.Status = there (table_at top (codes "status") place.Status)
 part_at top place.Limits = there (table_at top (codes "limits") place.Limits)
 part_at top (place.Pool number) = entry_there top (codes "pool") number (place.Pool number)
+part_at top (place.PoolCheck number) =
+    table_inside (entry_there top (codes "pool") number (place.PoolCheck number)) (codes "check") (place.PoolCheck number)
 part_at top (place.Listen number) = entry_there top (codes "listen") number (place.Listen number)
 part_at top (place.Backend pool number) =
     entry_in (entry_there top (codes "pool") pool (place.Backend pool number)) (codes "backends") number (place.Backend pool number)
@@ -75,6 +84,22 @@ pub record BeginsAt (text : List ℕ) (said : Said) (start : ℕ) : Type 0 where
   pub within : end ≤ length text
   pub after : shown_by (take end text) said ≡ Some true
   pub between : (at : ℕ) → start < at → at < end → IsLineStart text at → shown_by (take at text) said ≡ None
+
+-- up to a place the start of no line but the first, nor the text's end, ends a document that shows what the fault is about
+abbrev pub IsNowhereTo : List ℕ → Said → ℕ → Type 0
+IsNowhereTo text said place =
+    (at : ℕ) → 0 < at → at ≤ place → (IsLineStart text at ⊎ (at ≡ length text)) → shown_by (take at text) said ≢ Some true
+
+abbrev pub IsNowhere : List ℕ → Said → Type 0
+IsNowhere text said = IsNowhereTo text said (length text)
+
+-- why it isn't known whether a text shows what a fault is about; memory is wanting only where the text says something
+abbrev pub IsUnread : List ℕ → Unread → Type 0
+IsUnread text unread.NotText = ¬ (IsUtf8 text)
+IsUnread text unread.OutOfMemory = ¬ (IsBlank text)
+
+abbrev pub IsUnreadIn : List ℕ → Unread → Type 0
+IsUnreadIn text e = (at : ℕ) × (at ≤ length text) × IsUnread (take at text) e
 
 -- the line feeds of a text
 abbrev pub feeds : List ℕ → ℕ

@@ -1,10 +1,14 @@
 //! What a configuration says: the pools, the listeners, the check of backends and the limits, or the first fault with its place.
-ghost use Rattle.std.specs.Prelude.{◌≡◌, ◌≢◌, ◌<◌, length, string_bytes, IfOk, IfSome, IfNone};
+ghost use Rattle.std.specs.Prelude.{◌≡◌, ◌≢◌, ◌<◌, ◌⊎◌, codes, length, string_bytes, IfOk, IfErr, IfSome, IfNone};
 ghost use Rattle.std.specs.List.{AllByRecursion};
 ghost use Rattle.std.specs.Result.{result_map_both};
 ghost use Rattle.lb_proxy.specs.Config.{part_of, said, selection_of, selection_in, IsPoolNamed, IsListen, IsBackend, AreBackends};
 ghost use Rattle.lb_proxy.specs.Config.{IsWeighed, IsSource, IsPool, ArePools, HaveOwnNames, AreListens, IsStatus, IsConfig};
-ghost use Rattle.lb_proxy.specs.declared.config_fault.Place.TheVariants.{Top};
+ghost use Rattle.lb_proxy.specs.Config.{IsCheck, IsCheckIn, IsKind, AreLimitsIn, begins_with_slash};
+ghost use Rattle.lb_proxy.specs.Faults.{IsWrong, IsWrongInside, IsWrongCheck, IsWrongKind, IsWrongStatus, IsWrongLimits, IsWrongWord};
+ghost use Rattle.lb_proxy.specs.Faults.{IsWrongBackend, AreWrongBackends, IsWrongSource, IsWrongPool, AreWrongPools};
+ghost use Rattle.lb_proxy.specs.Faults.{IsWrongListen, AreWrongListens};
+ghost use Rattle.lb_proxy.specs.declared.config_fault.Place.TheVariants.{Top, Status, Limits as LimitsPlace};
 ghost use Rattle.toml.specs.Data.{as_str, as_table};
 ghost use Rattle.toml.specs.View.{table_view, view};
 
@@ -42,7 +46,7 @@ pub enum CheckKind {
     Http { host: String, path: String },
 }
 
-/// The check of all backends. Times are in nanoseconds.
+/// A check of backends. Times are in nanoseconds.
 #[derive(Drop)]
 pub struct CheckConfig {
     pub kind: CheckKind,
@@ -60,11 +64,12 @@ pub enum PoolSource {
     File(String),
 }
 
-/// A pool of backends.
+/// A pool of backends, with a check of its own or the one of all.
 #[derive(Drop)]
 pub struct PoolConfig {
     pub name: String,
     pub source: PoolSource,
+    pub check: Option<CheckConfig>,
 }
 
 /// A listener, and the pool by its number.
@@ -98,13 +103,14 @@ pub struct Config {
     pub listens: Vec<ListenConfig>,
 }
 
-/// Returns the configuration that a table spells, or the first fault.
+/// Returns the configuration that a table spells, or what is wrong with it.
 pub fn read_config<'t>(alloc: Global, table: &'t Table) -> Result<Config, Fault<'t>>
-    ensures { IfOk result (λ config. IsConfig (Top, table_view table.now) config.status config.pools.items config.listens.items) }
+    ensures spelled { IfOk result (IsConfig (Top, table_view table.now)) }
+    ensures fault { IfErr result (λ f. IsWrong (Top, table_view table.now) (said f)) }
 {
     let top = Section::new(table, Place::Top);
     top.only(&["check", "status", "limits", "pool", "listen"])?;
-    let check = read_check(alloc, &top)?;
+    let check = read_check(alloc, &top, Place::Check)?;
     let status = read_status(&top)?;
     let limits = read_limits(&top)?;
     let pools = read_pools(alloc, &top)?;
@@ -118,38 +124,56 @@ pub fn read_config<'t>(alloc: Global, table: &'t Table) -> Result<Config, Fault<
     })
 }
 
-// The check, where there is one.
-fn read_check<'t>(alloc: Global, top: &Section<'t>) -> Result<Option<CheckConfig>, Fault<'t>> {
-    let Some(section) = top.table("check", Place::Check)? else {
-        return Ok(None);
-    };
+// The check of a part, at that place, where it has one.
+fn read_check<'t>(
+    alloc: Global,
+    part: &Section<'t>,
+    place: Place,
+) -> Result<Option<CheckConfig>, Fault<'t>>
+    ensures spelled { IfOk result (IsCheckIn (part_of part.now) place) }
+    ensures fault { IfErr result (λ f. IsWrongInside IsWrongCheck (part_of part.now) (codes "check") place (said f)) }
+{
+    match part.table("check", place)? {
+        None => Ok(None),
+        Some(section) => Ok(Some(read_fields(alloc, &section)?)),
+    }
+}
+
+// The check that a section spells.
+fn read_fields<'t>(alloc: Global, section: &Section<'t>) -> Result<CheckConfig, Fault<'t>>
+    ensures spelled { IfOk result (IsCheck (part_of section.now)) }
+    ensures fault { IfErr result (λ f. IsWrongCheck (part_of section.now) (said f)) }
+{
     section.only(&[
         "kind", "host", "path", "every", "timeout", "rise", "fall", "parallel",
     ])?;
-    let kind = read_kind(alloc, &section)?;
+    let kind = read_kind(alloc, section)?;
     let every = section.duration("every", 1_000_000_000)?;
     let timeout = section.duration("timeout", 1_000_000_000)?;
     let rise = section.count("rise", 1)?;
     let fall = section.count("fall", 1)?;
     let parallel = section.flag("parallel", true)?;
-    Ok(Some(CheckConfig {
+    Ok(CheckConfig {
         kind,
         every,
         timeout,
         rise,
         fall,
         parallel,
-    }))
+    })
 }
 
 // What the check does: it connects, unless the section says otherwise.
-fn read_kind<'t>(alloc: Global, section: &Section<'t>) -> Result<CheckKind, Fault<'t>> {
+fn read_kind<'t>(alloc: Global, section: &Section<'t>) -> Result<CheckKind, Fault<'t>>
+    ensures spelled { IfOk result (IsKind (part_of section.now)) }
+    ensures fault { IfErr result (λ f. IsWrongKind (part_of section.now) (said f)) }
+{
     match section.text("kind")? {
         None | Some("tcp") => Ok(CheckKind::Tcp),
         Some("http") => {
             let host = section.text("host")?.unwrap_or("localhost");
             let path = section.text("path")?.unwrap_or("/");
-            if !path.as_bytes().starts_with(b"/") {
+            if !begins_with_slash(path) {
                 return Err(section.fault("path", Cause::NotPath));
             }
             let host = section.owned(alloc, "host", host)?;
@@ -160,9 +184,17 @@ fn read_kind<'t>(alloc: Global, section: &Section<'t>) -> Result<CheckKind, Faul
     }
 }
 
+// Whether a path begins with a slash.
+fn begins_with_slash(path: &str) -> bool
+    ensures { result ≡ begins_with_slash path.now }
+{
+    path.as_bytes().starts_with(b"/")
+}
+
 // Where the status page is, if anywhere.
 fn read_status<'t>(top: &Section<'t>) -> Result<Option<SocketAddr>, Fault<'t>>
-    ensures { IfOk result (IsStatus (part_of top.now)) }
+    ensures spelled { IfOk result (IsStatus (part_of top.now)) }
+    ensures fault { IfErr result (λ f. IsWrongInside IsWrongStatus (part_of top.now) (codes "status") Status (said f)) }
 {
     let Some(section) = top.table("status", Place::Status)? else {
         return Ok(None);
@@ -173,7 +205,10 @@ fn read_status<'t>(top: &Section<'t>) -> Result<Option<SocketAddr>, Fault<'t>>
 }
 
 // The limits, those that are left out as they are without a section.
-fn read_limits<'t>(top: &Section<'t>) -> Result<Limits, Fault<'t>> {
+fn read_limits<'t>(top: &Section<'t>) -> Result<Limits, Fault<'t>>
+    ensures spelled { IfOk result (AreLimitsIn (part_of top.now)) }
+    ensures fault { IfErr result (λ f. IsWrongInside IsWrongLimits (part_of top.now) (codes "limits") LimitsPlace (said f)) }
+{
     let Some(section) = top.table("limits", Place::Limits)? else {
         return Ok(Limits {
             max_connections: 10_000,
@@ -213,6 +248,7 @@ fn read_pools<'t>(alloc: Global, top: &Section<'t>) -> Result<Vec<PoolConfig>, F
     ensures pools { IfOk result (λ pools. ArePools (part_of top.now) pools.items) }
     ensures names { IfOk result (λ pools. HaveOwnNames pools.items) }
     ensures some { IfOk result (λ pools. 0 < length pools.items) }
+    ensures fault { IfErr result (λ f. AreWrongPools (part_of top.now) (said f)) }
 {
     let mut pools: Vec<PoolConfig> = Vec::new(alloc);
     let tables = top.list("pool")?;
@@ -235,18 +271,25 @@ fn read_pools<'t>(alloc: Global, top: &Section<'t>) -> Result<Vec<PoolConfig>, F
 
 // One pool.
 fn read_pool<'t>(alloc: Global, section: &Section<'t>) -> Result<PoolConfig, Fault<'t>>
-    ensures { IfOk result (IsPool (part_of section.now)) }
+    ensures spelled { IfOk result (IsPool (part_of section.now)) }
+    ensures fault { IfErr result (λ f. IsWrongPool (part_of section.now) (said f)) }
 {
-    section.only(&["name", "backends", "file"])?;
+    section.only(&["name", "backends", "file", "check"])?;
     let name = section.required("name")?;
     let name = section.owned(alloc, "name", name)?;
     let source = read_source(alloc, section)?;
-    Ok(PoolConfig { name, source })
+    let check = read_check(alloc, section, section.place().check())?;
+    Ok(PoolConfig {
+        name,
+        source,
+        check,
+    })
 }
 
 // Where its backends come from: a list or a file.
 fn read_source<'t>(alloc: Global, section: &Section<'t>) -> Result<PoolSource, Fault<'t>>
-    ensures { IfOk result (IsSource (part_of section.now)) }
+    ensures spelled { IfOk result (IsSource (part_of section.now)) }
+    ensures fault { IfErr result (λ f. IsWrongSource (part_of section.now) (said f)) }
 {
     match (section.text("file")?, section.has("backends")) {
         (None, true) => Ok(PoolSource::Fixed(read_backends(alloc, section)?)),
@@ -258,7 +301,8 @@ fn read_source<'t>(alloc: Global, section: &Section<'t>) -> Result<PoolSource, F
 
 // The backends of a list.
 fn read_backends<'t>(alloc: Global, section: &Section<'t>) -> Result<Vec<Backend>, Fault<'t>>
-    ensures { IfOk result (λ backends. AreBackends (part_of section.now) backends.items) }
+    ensures spelled { IfOk result (λ backends. AreBackends (part_of section.now) backends.items) }
+    ensures fault { IfErr result (λ f. AreWrongBackends (part_of section.now) (said f)) }
 {
     let mut backends = Vec::new(alloc);
     let values = section.list("backends")?;
@@ -280,7 +324,8 @@ fn read_backend<'t>(
     value: &'t Value,
     place: Place,
 ) -> Result<Backend, Fault<'t>>
-    ensures { IfOk result (IsBackend (view value.now)) }
+    ensures spelled { IfOk result (IsBackend (view value.now)) }
+    ensures fault { IfErr result (λ f. IsWrongBackend (part_of section.now) place (view value.now) (said f)) }
 {
     let (text, weight) = backend_word(section, value, place)?;
     match Backend::from_text(alloc, text, weight) {
@@ -296,7 +341,8 @@ fn backend_word<'t>(
     value: &'t Value,
     place: Place,
 ) -> Result<(&'t str, usize), Fault<'t>>
-    ensures { IfOk result (λ p. IsWeighed (as_str (view value.now)) (as_table (view value.now)) p.0.now p.1) }
+    ensures spelled { IfOk result (λ p. IsWeighed (as_str (view value.now)) (as_table (view value.now)) p.0.now p.1) }
+    ensures fault { IfErr result (λ f. IsWrongWord (part_of section.now) place (view value.now) (said f)) }
 {
     if let Some(text) = value.as_str() {
         return Ok((text, 1));
@@ -332,6 +378,7 @@ fn read_listens<'t>(
 ) -> Result<Vec<ListenConfig>, Fault<'t>>
     ensures listens { IfOk result (λ listens. AreListens pools.now (part_of top.now) listens.items) }
     ensures some { IfOk result (λ listens. 0 < length listens.items) }
+    ensures fault { IfErr result (λ f. AreWrongListens pools.now (part_of top.now) (said f)) }
 {
     let mut listens = Vec::new(alloc);
     let tables = top.list("listen")?;
@@ -355,7 +402,8 @@ fn read_listen<'t>(
     section: &Section<'t>,
     pools: &[PoolConfig],
 ) -> Result<ListenConfig, Fault<'t>>
-    ensures { IfOk result (IsListen pools.now (part_of section.now)) }
+    ensures spelled { IfOk result (IsListen pools.now (part_of section.now)) }
+    ensures fault { IfErr result (λ f. IsWrongListen pools.now (part_of section.now) (said f)) }
 {
     section.only(&["address", "mode", "pool", "select", "key"])?;
     let address = section.address("address")?;

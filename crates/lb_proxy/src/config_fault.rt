@@ -1,4 +1,6 @@
 //! What is wrong with a configuration, and where.
+ghost use Rattle.std.specs.Prelude.{◌≡◌};
+ghost use Rattle.lb_proxy.specs.Config.{backend_place, check_place};
 
 use std::fmt;
 use thiserror::Error;
@@ -11,6 +13,8 @@ pub enum Place {
     Status,
     Limits,
     Pool(usize),
+    /// The check of a pool's own.
+    PoolCheck(usize),
     Listen(usize),
     /// A backend that is a table.
     Backend { pool: usize, number: usize },
@@ -18,10 +22,24 @@ pub enum Place {
 
 impl Place {
     /// Returns the place of a backend with this number, of the pool that is here; elsewhere there is none, and it is here.
-    pub fn backend(self, number: usize) -> Place {
+    pub fn backend(self, number: usize) -> Place
+        ensures { result ≡ backend_place self number }
+    {
         match self {
             Place::Pool(pool) => Place::Backend { pool, number },
-            place => place,
+            Place::Top | Place::Check | Place::Status | Place::Limits => self,
+            Place::PoolCheck(_) | Place::Listen(_) | Place::Backend { .. } => self,
+        }
+    }
+
+    /// Returns the place of the check of what is here: of a pool, or of all pools.
+    pub fn check(self) -> Place
+        ensures { result ≡ check_place self }
+    {
+        match self {
+            Place::Pool(number) => Place::PoolCheck(number),
+            Place::Top | Place::Check | Place::Status | Place::Limits => Place::Check,
+            Place::PoolCheck(_) | Place::Listen(_) | Place::Backend { .. } => Place::Check,
         }
     }
 }
@@ -34,6 +52,10 @@ impl fmt::Display for Place {
             Place::Status => f.write_str("[status]"),
             Place::Limits => f.write_str("[limits]"),
             Place::Pool(number) => numbered(f, "[[pool]]", *number),
+            Place::PoolCheck(number) => {
+                numbered(f, "[[pool]]", *number)?;
+                f.write_str(", check")
+            }
             Place::Listen(number) => numbered(f, "[[listen]]", *number),
             Place::Backend { pool, number } => {
                 numbered(f, "[[pool]]", *pool)?;

@@ -1,7 +1,8 @@
 //! What a listener does with its connections, and by which key it selects.
-ghost use Rattle.std.specs.Prelude.{◌≡◌, Ok, IfOk};
+ghost use Rattle.std.specs.Prelude.{◌≡◌, Ok, IfOk, IfErr};
 ghost use Rattle.std.specs.Result.{result_map_both};
 ghost use Rattle.lb_proxy.specs.Config.{part_of, said, mode_in, key_in};
+ghost use Rattle.lb_proxy.specs.Faults.{IsWrongKey};
 ghost use Rattle.lb_proxy.specs.Key.{owned_seen};
 
 use crate::config_fault::{Cause, Fault};
@@ -33,7 +34,8 @@ pub fn read_mode<'t>(section: &Section<'t>) -> Result<Mode, Fault<'t>>
 ///
 /// The target and the fields of requests are there in http mode alone.
 pub fn read_key<'t>(alloc: Global, section: &Section<'t>, mode: Mode) -> Result<OwnedKey, Fault<'t>>
-    ensures { IfOk result (λ key. key_in (part_of section.now) mode ≡ Ok (owned_seen key)) }
+    ensures spelled { IfOk result (λ key. key_in (part_of section.now) mode ≡ Ok (owned_seen key)) }
+    ensures fault { IfErr result (λ f. IsWrongKey (part_of section.now) mode (said f)) }
 {
     let Some(text) = section.text("key")? else {
         return Ok(OwnedKey::Source);

@@ -1,8 +1,8 @@
 //! Where in a configuration's text a fault is.
-ghost use Rattle.std.specs.Prelude.{◌≡◌, ◌≤◌, ◌<◌, ◌+◌, ◌==◌, ◌||◌, slice_index, length, IfOk, IfSome};
+ghost use Rattle.std.specs.Prelude.{◌≡◌, ◌≤◌, ◌<◌, ◌+◌, ◌==◌, ◌||◌, slice_index, length, IfOk, IfErr, IfSome, IfNone};
 ghost use Rattle.toml.specs.View.{table_view};
 ghost use Rattle.lb_proxy.specs.Config.{said};
-ghost use Rattle.lb_proxy.specs.Position.{shows, shown_by, BeginsAt, line_at, IsColumn};
+ghost use Rattle.lb_proxy.specs.Position.{shows, shown_by, BeginsAt, IsNowhere, IsUnread, IsUnreadIn, line_at, IsColumn};
 
 use crate::config_fault::{Cause, Fault, Place};
 use crate::section::Section;
@@ -10,41 +10,48 @@ use std::alloc::Global;
 use std::str;
 use toml::Table;
 
-// Why nothing is known of a text's first lines: memory was refused, or they aren't UTF-8.
-#[derive(Clone, Copy)]
-struct Unread;
+/// Why nothing is known of a text's first lines.
+#[derive(Clone, Copy, Debug, PartialEq, Eq)]
+pub enum Unread {
+    /// They aren't UTF-8.
+    NotText,
+    /// Memory was refused.
+    OutOfMemory,
+}
 
 /// Returns where the line begins that makes a fault, as a place in the text.
 ///
 /// That is the line after which the lines so far show the fault's field, or, where the field is missing, its part. A statement of more
-/// lines than one is shown where it begins. `None` where no lines show it, where memory is refused, and where the text isn't UTF-8.
-pub fn position_of(alloc: Global, text: &[u8], fault: &Fault<'_>) -> Option<usize>
-    ensures { IfSome result (BeginsAt text.now (said fault.now)) }
+/// lines than one is shown where it begins. `None` where no first lines show it.
+pub fn position_of(alloc: Global, text: &[u8], fault: &Fault<'_>) -> Result<Option<usize>, Unread>
+    ensures found { IfOk result (λ place. IfSome place (BeginsAt text.now (said fault.now))) }
+    ensures none { IfOk result (λ place. IfNone place (IsNowhere text.now (said fault.now))) }
+    ensures unread { IfErr result (IsUnreadIn text.now) }
 {
     let mut start = 0;
     for place in 0..text.len() {
         if is_end(text, place) {
-            match shown(alloc, &text[..place + 1], fault) {
-                Ok(Some(true)) => return Some(start),
-                Ok(Some(false)) => start = place + 1,
-                Ok(None) => {}
-                Err(Unread) => return None,
+            match shown(alloc, &text[..place + 1], fault)? {
+                Some(true) => return Ok(Some(start)),
+                Some(false) => start = place + 1,
+                None => {}
             }
         }
     }
-    None
+    Ok(None)
 }
 
 // Whether the text has what the fault is about; `None` where it is no document.
 fn shown(alloc: Global, text: &[u8], fault: &Fault<'_>) -> Result<Option<bool>, Unread>
-    ensures { IfOk result (λ shown. shown ≡ shown_by text.now (said fault.now)) }
+    ensures shown { IfOk result (λ shown. shown ≡ shown_by text.now (said fault.now)) }
+    ensures unread { IfErr result (IsUnread text.now) }
 {
     let Ok(text) = str::from_utf8(text) else {
-        return Err(Unread);
+        return Err(Unread::NotText);
     };
     match toml::table_from_str(alloc, text) {
         Ok(table) => Ok(Some(is_shown(&table, fault))),
-        Err(error) if error.is_memory() => Err(Unread),
+        Err(error) if error.is_memory() => Err(Unread::OutOfMemory),
         Err(_) => Ok(None),
     }
 }

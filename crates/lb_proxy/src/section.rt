@@ -1,10 +1,12 @@
 //! A table of a configuration, with the place that its faults name.
-ghost use Rattle.std.specs.Prelude.{◌≡◌, map, option_map, is_some, string_bytes, IfOk, IfErr};
+ghost use Rattle.std.specs.Prelude.{◌≡◌, map, option_map, is_some, string_bytes, IfOk, IfErr, OnOk};
 ghost use Rattle.std.specs.Result.{result_map_both};
 ghost use Rattle.toml.specs.Data.{get_member, as_table};
 ghost use Rattle.toml.specs.View.{table_view, view};
 ghost use Rattle.lb_proxy.specs.Config.{part_of, said, text_of, required_of, number_of, flag_of, list_at, table_at, entry_by};
-ghost use Rattle.lb_proxy.specs.Config.{IsAddressOf, IsNoAddress, natural, units_of};
+ghost use Rattle.lb_proxy.specs.Config.{IsAddressOf, IsNoAddress, natural, cut, units_of, duration_of, time_of};
+ghost use Rattle.lb_proxy.specs.Config.{is_among, HasOnly, IsUnknown};
+ghost use Rattle.lb_proxy.specs.declared.config_fault.Cause.TheVariants.{OutOfMemory};
 ghost use Rattle.lb_proxy.specs.Position.{there, entry_there, part_at};
 
 use crate::config_fault::{Cause, Fault, Place};
@@ -47,7 +49,10 @@ impl<'t> Section<'t> {
     }
 
     /// Refuses a field that is none of these.
-    pub fn only(&self, known: &[&str]) -> Result<(), Fault<'t>> {
+    pub fn only(&self, known: &[&str]) -> Result<(), Fault<'t>>
+        ensures known { OnOk result (HasOnly (map (λ name. name.now) known.now) (part_of self.now)) }
+        ensures unknown { IfErr result (λ f. IsUnknown (map (λ name. name.now) known.now) (part_of self.now) (said f)) }
+    {
         for (name, _) in self.table.iter() {
             if !is_among(known, name.as_str()) {
                 return Err(self.fault(name.as_str(), Cause::Unknown));
@@ -127,7 +132,9 @@ impl<'t> Section<'t> {
     }
 
     /// Returns the time of a field in nanoseconds, or this one where there is none.
-    pub fn duration(&self, field: &'static str, default: u64) -> Result<u64, Fault<'t>> {
+    pub fn duration(&self, field: &'static str, default: u64) -> Result<u64, Fault<'t>>
+        ensures { result_map_both (λ time. time) said result ≡ time_of (part_of self.now) field.now default }
+    {
         match self.text(field)? {
             None => Ok(default),
             Some(text) => match duration_of(text) {
@@ -223,6 +230,10 @@ impl<'t> Section<'t> {
             Place::Status => self.table_there("status", place),
             Place::Limits => self.table_there("limits", place),
             Place::Pool(number) => self.entry_there("pool", number, place),
+            Place::PoolCheck(number) => {
+                let pool = self.entry_there("pool", number, place)?;
+                pool.table_there("check", place)
+            }
             Place::Listen(number) => self.entry_there("listen", number, place),
             Place::Backend { pool, number } => {
                 let pool = self.entry_there("pool", pool, place)?;
@@ -233,7 +244,8 @@ impl<'t> Section<'t> {
 
     /// Returns a copy of a field's text.
     pub fn owned(&self, alloc: Global, field: &'static str, text: &str) -> Result<String, Fault<'t>>
-        ensures { IfOk result (λ copy. string_bytes copy ≡ text.now) }
+        ensures copy { IfOk result (λ copy. string_bytes copy ≡ text.now) }
+        ensures memory { IfErr result (λ f. said f ≡ ((part_of self.now).0, field.now, OutOfMemory)) }
     {
         match text.to_string(alloc) {
             Ok(text) => Ok(text),
@@ -255,25 +267,36 @@ fn natural(number: Option<i64>) -> Option<u64>
 }
 
 // Whether the name is one of these.
-fn is_among(known: &[&str], name: &str) -> bool {
-    known.iter().any(|other| *other == name)
+fn is_among(known: &[&str], name: &str) -> bool
+    ensures { result ≡ is_among (map (λ name. name.now) known.now) name.now }
+{
+    known.contains(&name)
 }
 
 /// Returns the time that a text spells, in nanoseconds: a number and `ms`, `s`, `m` or `h`.
-pub fn duration_of(text: &str) -> Option<u64> {
-    if let Some(digits) = text.strip_suffix("ms") {
+pub fn duration_of(text: &str) -> Option<u64>
+    ensures { result ≡ duration_of text.now }
+{
+    if let Some(digits) = cut(text, "ms") {
         return times(digits, 1_000_000);
     }
-    if let Some(digits) = text.strip_suffix("s") {
+    if let Some(digits) = cut(text, "s") {
         return times(digits, 1_000_000_000);
     }
-    if let Some(digits) = text.strip_suffix("m") {
+    if let Some(digits) = cut(text, "m") {
         return times(digits, 60_000_000_000);
     }
-    match text.strip_suffix("h") {
+    match cut(text, "h") {
         Some(digits) => times(digits, 3_600_000_000_000),
         None => None,
     }
+}
+
+// The text without this end, where it has it.
+fn cut<'a>(text: &'a str, end: &str) -> Option<&'a str>
+    ensures { option_map (λ rest. rest.now) result ≡ cut end.now text.now }
+{
+    text.strip_suffix(end)
 }
 
 // As many units as the digits say.

@@ -1,7 +1,7 @@
 //! Makes what the loops share from a configuration.
 
 use crate::check::ProxyCheck;
-use crate::pool::{Common, Pool, Registry};
+use crate::pool::{Common, Commons, Pool, Registry};
 use crate::proxy::{Counts, Listen, Proxy};
 use crate::source::PoolBackends;
 use lb_proxy::config::{CheckConfig, Config, ListenConfig, PoolConfig, Selection};
@@ -84,12 +84,33 @@ fn slots_of(alloc: Global, listens: Vec<ListenConfig>) -> Result<Vec<Listen>, Al
     Ok(numbered)
 }
 
-/// Returns the registry of all pools, with the configured check, and their gate.
-pub fn common<R: Wait, N: Net<Stream = TcpStream> + Clock + Copy + Drop>(
+/// Returns the registry of all pools with the configured check, one for each pool with a check of its own, and the gate of all.
+pub fn commons<R: Wait, N: Net<Stream = TcpStream> + Clock + Copy + Drop>(
+    rt: &R,
+    net: N,
+    alloc: Global,
+    config: &Config,
+) -> Result<Commons<ProxyCheck<N>>, Refusal> {
+    let gate = Arc::new(alloc, SelectorRebuildGate::new(alloc)?)?;
+    let shared = common(rt, net, alloc, &config.check, &gate)?;
+    let mut own = Vec::new(alloc);
+    for pool in config.pools.iter() {
+        let common = match &pool.check {
+            Some(_) => Some(common(rt, net, alloc, &pool.check, &gate)?),
+            None => None,
+        };
+        own.push(common)?;
+    }
+    Ok(Commons { shared, own })
+}
+
+// A registry with this check, where there is one, and the gate.
+fn common<R: Wait, N: Net<Stream = TcpStream> + Clock + Copy + Drop>(
     rt: &R,
     net: N,
     alloc: Global,
     check: &Option<CheckConfig>,
+    gate: &Arc<SelectorRebuildGate>,
 ) -> Result<Common<ProxyCheck<N>>, Refusal> {
     let registry: Registry<ProxyCheck<N>> = HealthRegistry::over(alloc, keyed_by_identity(alloc))?;
     if let Some(check) = check {
@@ -97,7 +118,7 @@ pub fn common<R: Wait, N: Net<Stream = TcpStream> + Clock + Copy + Drop>(
     }
     Ok(Common {
         registry: Arc::new(alloc, registry)?,
-        gate: Arc::new(alloc, SelectorRebuildGate::new(alloc)?)?,
+        gate: Arc::try_clone(gate)?,
     })
 }
 
@@ -107,10 +128,11 @@ fn pools_of<R: Log + Wait + Copy + Drop, C: HealthCheck + Drop>(
     alloc: Global,
     pools: Vec<PoolConfig>,
     listens: &[ListenConfig],
-    common: &Common<C>,
+    commons: &Commons<C>,
 ) -> Result<Vec<Pool<R, C>>, Refusal> {
     let mut made = Vec::new(alloc);
-    for PoolConfig { name, source } in pools {
+    for PoolConfig { name, source, .. } in pools {
+        let common = commons.of(made.len());
         let kinds = kinds_of(alloc, listens, made.len())?;
         let backends = Arc::new(alloc, PoolBackends::new(alloc, source))?;
         made.push(Pool::new(rt, alloc, name, backends, kinds, common)?)?;
@@ -123,7 +145,7 @@ pub fn build<R: Log + Wait + Copy + Drop, C: HealthCheck + Drop>(
     rt: R,
     alloc: Global,
     config: Config,
-    common: &Common<C>,
+    commons: &Commons<C>,
 ) -> Result<Proxy<R, C>, Refusal> {
     let Config {
         limits,
@@ -132,7 +154,7 @@ pub fn build<R: Log + Wait + Copy + Drop, C: HealthCheck + Drop>(
         ..
     } = config;
     Ok(Proxy {
-        pools: pools_of(rt, alloc, pools, listens.as_slice(), common)?,
+        pools: pools_of(rt, alloc, pools, listens.as_slice(), commons)?,
         listens: slots_of(alloc, listens)?,
         limits,
         counts: Counts {

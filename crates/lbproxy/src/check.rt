@@ -19,7 +19,7 @@ pub enum Probe<N> {
     Http(HttpHealthCheck<N>),
 }
 
-/// The check of all backends, with its thresholds.
+/// A check of backends, with its thresholds.
 #[derive(Drop)]
 pub struct ProxyCheck<N> {
     probe: Probe<N>,

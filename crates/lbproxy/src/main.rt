@@ -28,8 +28,8 @@ fn main(rt: HostRuntime) -> ExitCode {
         Ok(Asked::End(status)) => return ExitCode::from(status),
         Err(_) => return ExitCode::from(1),
     };
-    let served = match build::common(&logged, rt, rt.alloc(), &config.check) {
-        Ok(common) => serve::serve(logged, &rt, &common, config, until_eof),
+    let served = match build::commons(&logged, rt, rt.alloc(), &config) {
+        Ok(commons) => serve::serve(logged, &rt, &commons, config, until_eof),
         Err(refusal) => Err(refusal.into()),
     };
     match served {

@@ -20,7 +20,7 @@ use std::time::Clock;
 // How many candidates a selection looks at.
 const CANDIDATES: usize = 256;
 
-/// The registry of all pools.
+/// The registry of all pools that have the same check.
 pub type Registry<C> = HealthRegistry<Rule<NoRule>, C>;
 
 /// The group of a pool.
@@ -51,11 +51,28 @@ pub struct Pool<R: Log + Wait + Drop, C: HealthCheck + Drop> {
     by_load: bool,
 }
 
-/// What all pools share.
+/// What all pools that have the same check share.
 #[derive(Drop)]
 pub struct Common<C: HealthCheck + Drop> {
     pub registry: Arc<Registry<C>>,
     pub gate: Arc<SelectorRebuildGate>,
+}
+
+/// What the pools share, and for each pool, in order, what it has in place of that where its check is its own.
+#[derive(Drop)]
+pub struct Commons<C: HealthCheck + Drop> {
+    pub shared: Common<C>,
+    pub own: Vec<Option<Common<C>>>,
+}
+
+impl<C: HealthCheck + Drop> Commons<C> {
+    /// Returns what the pool of this number has.
+    pub fn of(&self, pool: usize) -> &Common<C> {
+        match self.own.get(pool) {
+            Some(Some(own)) => own,
+            _ => &self.shared,
+        }
+    }
 }
 
 impl<R: Log + Wait + Copy + Drop, C: HealthCheck + Drop> Pool<R, C> {
@@ -191,7 +208,7 @@ fn counted(
     Ok(traffic.live)
 }
 
-// The group of a pool, on the registry and the gate of all.
+// The group of a pool, on this registry and the gate of all.
 fn group_of<R: Log + Wait + Drop, C: HealthCheck + Drop>(
     rt: &R,
     alloc: Global,

@@ -32,12 +32,12 @@ fn parse(alloc: Global, path: &str, text: &str) -> Result<Config, String> {
 // A fault with its line and its column, where the text has one.
 fn located(alloc: Global, path: &str, text: &str, fault: &Fault<'_>) -> Result<String, AllocError> {
     match position_of(alloc, text.as_bytes(), fault) {
-        Some(place) => {
+        Ok(Some(place)) => {
             let line = line_at(text.as_bytes(), place);
             let column = column_at(text.as_bytes(), place);
             format!(in alloc; "{path}: line {line}, column {column}: {fault}")
         }
-        None => format!(in alloc; "{path}: {fault}"),
+        Ok(None) | Err(_) => format!(in alloc; "{path}: {fault}"),
     }
 }
 

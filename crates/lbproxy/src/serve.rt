@@ -1,7 +1,7 @@
 //! Starts a proxy and its threads, and ends them in order.
 
 use crate::build::{bind, build};
-use crate::pool::Common;
+use crate::pool::{Common, Commons};
 use crate::proxy::Proxy;
 use crate::threads::{Service, Thread, start_checks, start_looking, start_loop, start_page};
 use lb_proxy::config::{CheckConfig, Config};
@@ -28,7 +28,7 @@ const PAUSE: u64 = 10;
 pub fn serve<R, N, C>(
     rt: R,
     net: &N,
-    common: &Common<C>,
+    commons: &Commons<C>,
     config: Config,
     until_eof: bool,
 ) -> Result<(), anyhow::Error>
@@ -55,13 +55,13 @@ where
 {
     let alloc = rt.alloc();
     let listeners = bind(net, alloc, config.listens.as_slice())?;
-    let service = service_of(common, &config.check)?;
+    let services = services_of(alloc, commons, &config)?;
     let page = page_of(net, &config)?;
     let count = thread_count(&rt, config.limits.threads);
-    let proxy = Arc::new(alloc, build(rt, alloc, config, common)?)?;
+    let proxy = Arc::new(alloc, build(rt, alloc, config, commons)?)?;
     begin(&rt, alloc, &*proxy);
     let (mut signal, watch) = shutdown_pair(alloc)?;
-    let helpers = start_helpers(rt, alloc, &proxy, &watch, service, page)?;
+    let helpers = start_helpers(rt, alloc, &proxy, &watch, services, page)?;
     let loops = start_loops(rt, alloc, &proxy, listeners, count)?;
     if until_eof {
         wait_for_end(&rt);
@@ -105,7 +105,25 @@ fn thread_count<R: Threads>(rt: &R, configured: u64) -> u64 {
     }
 }
 
-// The service that checks the backends of all pools, where a check is configured.
+// The services that check the backends: one for each registry that has a check.
+fn services_of<C: HealthCheck + Drop + Send + Sync>(
+    alloc: Global,
+    commons: &Commons<C>,
+    config: &Config,
+) -> Result<Vec<Service<C>>, Refusal> {
+    let mut services = Vec::new(alloc);
+    if let Some(service) = service_of(&commons.shared, &config.check)? {
+        services.push(service)?;
+    }
+    for (number, pool) in config.pools.iter().enumerate() {
+        if let Some(service) = service_of(commons.of(number), &pool.check)? {
+            services.push(service)?;
+        }
+    }
+    Ok(services)
+}
+
+// The service of this registry, where this check is configured.
 fn service_of<C: HealthCheck + Drop + Send + Sync>(
     common: &Common<C>,
     check: &Option<CheckConfig>,
@@ -163,7 +181,7 @@ fn start_helpers<R, C>(
     alloc: Global,
     proxy: &Arc<Proxy<R, C>>,
     watch: &ShutdownWatch,
-    service: Option<Service<C>>,
+    services: Vec<Service<C>>,
     page: Option<TcpListener>,
 ) -> Result<Vec<Thread>, anyhow::Error>
 where
@@ -173,7 +191,7 @@ where
     C: HealthCheck + Drop + Send + Sync + 'static,
 {
     let mut threads = Vec::new(alloc);
-    if let Some(service) = service {
+    for service in services {
         threads.push(start_checks(rt, alloc, service, watch.try_clone()?)?)?;
     }
     if let Some(page) = page {

@@ -25,7 +25,7 @@ const NAP: u64 = 50;
 /// A thread of the proxy.
 pub type Thread = JoinHandle<()>;
 
-/// The check of all pools.
+/// The check of the pools on one registry.
 pub type Service<C> = HealthCheckService<Rule<NoRule>, C>;
 
 /// Starts a loop over these listeners.
@@ -51,7 +51,7 @@ where
     started.map_err(|_| io::ErrorKind::OutOfMemory.into())
 }
 
-/// Starts the checks of all pools.
+/// Starts the checks of the pools on one registry.
 pub fn start_checks<R, C>(
     rt: R,
     alloc: Global,

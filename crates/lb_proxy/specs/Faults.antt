@@ -1,0 +1,161 @@
+-- Why a configuration is refused: a fault names a part, a field and a cause, and the cause is true of what the table has there.
+use Rattle.std.specs.Prelude.{◌≡◌, ◌≢◌, ℕ, List, [], codes, take, ◌⊎◌, slice_get, Some, None, IsSome, Ok, Err, true, false}
+use Rattle.std.specs.Prelude.{string_bytes}
+use Rattle.std.specs.List.{AllByRecursion, AllZip}
+use Rattle.toml.specs.Data.{Data, get_member, as_str, as_table}
+use Rattle.lb_select_base.specs.AddressText.{address_of_text}
+use Rattle.lb_proxy.specs.Config.{Part, Said, text_of, required_of, number_of, flag_of, time_of, list_at, table_at, entry_by, selection_in}
+use Rattle.lb_proxy.specs.Config.{IsUnknown, IsNoAddress, IsWeighed, IsPool, EntryIs, IsPoolNamed, ArePools, mode_in, key_in}
+use Rattle.lb_proxy.specs.Config.{backend_place, check_place, begins_with_slash}
+use Rattle.lb_proxy.specs.Config.{top_fields, check_fields, status_fields, limits_fields, pool_fields, backend_fields, listen_fields}
+use Rattle.lb_proxy.specs.declared.config.PoolConfig.{PoolConfig}
+use Rattle.lb_proxy.specs.declared.config_fault.Place.{Place}
+use Rattle.lb_proxy.specs.declared.config_fault.Place.TheVariants as place
+use Rattle.lb_proxy.specs.declared.config_fault.Cause.TheVariants as cause
+use Rattle.lb_proxy.specs.declared.mode.Mode.{Mode}
+
+-- memory was refused for a field: the one cause that says nothing of the table
+abbrev pub WantsMemory : Part → List ℕ → Said → Type 0
+WantsMemory part field fault = fault ≡ (part.0, field, cause.OutOfMemory)
+
+-- a field is no table, or the table that it is has such a fault
+abbrev pub IsWrongInside : (Part → Said → Type 0) → Part → List ℕ → Place → Said → Type 0
+IsWrongInside IsWrong part field place fault =
+    (table_at part field place ≡ Err fault)
+    ⊎ ((own : Part) × (table_at part field place ≡ Ok (Some own)) × IsWrong own fault)
+
+-- what a check asks for: a text is none, or the path has no slash in front
+abbrev pub IsWrongAsked : Part → Said → Type 0
+IsWrongAsked part fault =
+    (text_of part (codes "host") ≡ Err fault) ⊎ (text_of part (codes "path") ≡ Err fault)
+    ⊎ ((path : List ℕ) × (text_of part (codes "path") ≡ Ok (Some path)) × (begins_with_slash path ≡ false)
+    × (fault ≡ (part.0, codes "path", cause.NotPath)))
+    ⊎ WantsMemory part (codes "host") fault ⊎ WantsMemory part (codes "path") fault
+
+-- what a check does: the kind is no text, or no kind, or what is asked for is wrong
+abbrev pub IsWrongKind : Part → Said → Type 0
+IsWrongKind part fault =
+    (text_of part (codes "kind") ≡ Err fault)
+    ⊎ ((word : List ℕ) × (text_of part (codes "kind") ≡ Ok (Some word)) × (word ≢ codes "tcp") × (word ≢ codes "http")
+    × (fault ≡ (part.0, codes "kind", cause.NotCheck)))
+    ⊎ ((text_of part (codes "kind") ≡ Ok (Some (codes "http"))) × IsWrongAsked part fault)
+
+-- the fault is one of a check
+abbrev pub IsWrongCheck : Part → Said → Type 0
+IsWrongCheck part fault =
+    IsUnknown check_fields part fault ⊎ IsWrongKind part fault
+    ⊎ (time_of part (codes "every") 1000000000 ≡ Err fault) ⊎ (time_of part (codes "timeout") 1000000000 ≡ Err fault)
+    ⊎ (number_of part (codes "rise") 1 ≡ Err fault) ⊎ (number_of part (codes "fall") 1 ≡ Err fault)
+    ⊎ (flag_of part (codes "parallel") true ≡ Err fault)
+
+-- the fault is one of the status page
+abbrev pub IsWrongStatus : Part → Said → Type 0
+IsWrongStatus part fault =
+    IsUnknown status_fields part fault ⊎ IsNoAddress part (codes "listen") (required_of part (codes "listen")) fault
+
+-- the fault is one of the limits
+abbrev pub IsWrongLimits : Part → Said → Type 0
+IsWrongLimits part fault =
+    IsUnknown limits_fields part fault
+    ⊎ (number_of part (codes "max_connections") 10000 ≡ Err fault) ⊎ (number_of part (codes "threads") 0 ≡ Err fault)
+    ⊎ (time_of part (codes "connect") 1000000000 ≡ Err fault) ⊎ (time_of part (codes "idle") 300000000000 ≡ Err fault)
+    ⊎ (time_of part (codes "answer") 60000000000 ≡ Err fault) ⊎ (time_of part (codes "drain") 10000000000 ≡ Err fault)
+
+-- the fault is one of the table that a backend is
+abbrev pub IsWrongTable : Part → Said → Type 0
+IsWrongTable part fault =
+    IsUnknown backend_fields part fault ⊎ (required_of part (codes "address") ≡ Err fault)
+    ⊎ (number_of part (codes "weight") 1 ≡ Err fault)
+
+-- a backend of the part is neither a text nor a table, or its table, which is at that place, is wrong
+abbrev pub IsWrongWord : Part → Place → Data → Said → Type 0
+IsWrongWord part place d fault =
+    ((as_str d ≡ None) × (as_table d ≡ None) × (fault ≡ (part.0, codes "backends", cause.NotBackend)))
+    ⊎ ((own : Part) × (as_str d ≡ None) × (as_table d ≡ Some own.1) × (own.0 ≡ place) × IsWrongTable own fault)
+
+-- or its text spells no address
+abbrev pub IsWrongBackend : Part → Place → Data → Said → Type 0
+IsWrongBackend part place d fault =
+    IsWrongWord part place d fault
+    ⊎ ((text : List ℕ) × (weight : ℕ) × IsWeighed (as_str d) (as_table d) text weight × (address_of_text text ≡ None)
+    × (fault ≡ (part.0, codes "backends", cause.NotBackend)))
+    ⊎ WantsMemory part (codes "backends") fault
+
+-- the backends are no list, or one of the list is wrong
+abbrev pub AreWrongBackends : Part → Said → Type 0
+AreWrongBackends part fault =
+    (list_at part (codes "backends") ≡ Err fault)
+    ⊎ ((values : List Data) × (number : ℕ) × (d : Data) × (list_at part (codes "backends") ≡ Ok values)
+    × (slice_get values number ≡ Some d) × IsWrongBackend part (backend_place part.0 number) d fault)
+
+-- a pool has a list and a file, or neither, or what it has is wrong
+abbrev pub IsWrongSource : Part → Said → Type 0
+IsWrongSource part fault =
+    (text_of part (codes "file") ≡ Err fault)
+    ⊎ (IsSome (get_member (codes "file") part.1) × IsSome (get_member (codes "backends") part.1)
+    × (fault ≡ (part.0, codes "file", cause.TwoSources)))
+    ⊎ ((get_member (codes "file") part.1 ≡ None) × (get_member (codes "backends") part.1 ≡ None)
+    × (fault ≡ (part.0, codes "backends", cause.Missing)))
+    ⊎ AreWrongBackends part fault
+    ⊎ WantsMemory part (codes "file") fault
+
+-- the fault is one of a pool
+abbrev pub IsWrongPool : Part → Said → Type 0
+IsWrongPool part fault =
+    IsUnknown pool_fields part fault ⊎ (required_of part (codes "name") ≡ Err fault) ⊎ IsWrongSource part fault
+    ⊎ IsWrongInside IsWrongCheck part (codes "check") (check_place part.0) fault
+    ⊎ WantsMemory part (codes "name") fault
+
+-- a pool has the name of one that an earlier entry spells
+abbrev pub IsSameName : List Data → ℕ → Part → Said → Type 0
+IsSameName entries number part fault =
+    (pools : List PoolConfig) × (earlier : ℕ) × (name : List ℕ) × AllZip (EntryIs IsPool) (take number entries) pools
+    × IsPoolNamed pools name earlier × (required_of part (codes "name") ≡ Ok name) × (fault ≡ (part.0, codes "name", cause.SameName))
+
+-- an entry of a list is no table, or the table that it is has such a fault
+abbrev pub IsWrongEntry : (Part → Said → Type 0) → Part → List ℕ → Place → Data → Said → Type 0
+IsWrongEntry IsWrong top field place d fault =
+    (entry_by top field place (as_table d) ≡ Err fault)
+    ⊎ ((part : Part) × (entry_by top field place (as_table d) ≡ Ok part) × IsWrong part fault)
+
+-- the pools are no list, there is none, or one is wrong
+abbrev pub AreWrongPools : Part → Said → Type 0
+AreWrongPools top fault =
+    (list_at top (codes "pool") ≡ Err fault)
+    ⊎ ((list_at top (codes "pool") ≡ Ok []) × (fault ≡ (top.0, codes "pool", cause.Missing)))
+    ⊎ ((entries : List Data) × (number : ℕ) × (d : Data) × (list_at top (codes "pool") ≡ Ok entries) × (slice_get entries number ≡ Some d)
+    × IsWrongEntry (λ part f. IsWrongPool part f ⊎ IsSameName entries number part f) top (codes "pool") (place.Pool number) d fault)
+
+-- the fault is one of the key, in the mode that the part has
+abbrev pub IsWrongKey : Part → Mode → Said → Type 0
+IsWrongKey part mode fault = (key_in part mode ≡ Err fault) ⊎ WantsMemory part (codes "key") fault
+
+-- the fault is one of a listener over these pools
+abbrev pub IsWrongListen : List PoolConfig → Part → Said → Type 0
+IsWrongListen pools part fault =
+    IsUnknown listen_fields part fault ⊎ IsNoAddress part (codes "address") (required_of part (codes "address")) fault
+    ⊎ (mode_in part ≡ Err fault)
+    ⊎ ((mode : Mode) × (mode_in part ≡ Ok mode) × IsWrongKey part mode fault)
+    ⊎ (required_of part (codes "pool") ≡ Err fault)
+    ⊎ ((name : List ℕ) × (required_of part (codes "pool") ≡ Ok name) × AllByRecursion (λ pool. string_bytes pool.name ≢ name) pools
+    × (fault ≡ (part.0, codes "pool", cause.NoSuchPool)))
+    ⊎ (selection_in part ≡ Err fault)
+    ⊎ WantsMemory part (codes "address") fault
+
+-- the listeners are no list, there is none, or one is wrong
+abbrev pub AreWrongListens : List PoolConfig → Part → Said → Type 0
+AreWrongListens pools top fault =
+    (list_at top (codes "listen") ≡ Err fault)
+    ⊎ ((list_at top (codes "listen") ≡ Ok []) × (fault ≡ (top.0, codes "listen", cause.Missing)))
+    ⊎ ((entries : List Data) × (number : ℕ) × (d : Data) × (list_at top (codes "listen") ≡ Ok entries) × (slice_get entries number ≡ Some d)
+    × IsWrongEntry (IsWrongListen pools) top (codes "listen") (place.Listen number) d fault)
+
+-- the fault is one of the table
+abbrev pub IsWrong : Part → Said → Type 0
+IsWrong top fault =
+    IsUnknown top_fields top fault
+    ⊎ IsWrongInside IsWrongCheck top (codes "check") place.Check fault
+    ⊎ IsWrongInside IsWrongStatus top (codes "status") place.Status fault
+    ⊎ IsWrongInside IsWrongLimits top (codes "limits") place.Limits fault
+    ⊎ AreWrongPools top fault
+    ⊎ ((pools : List PoolConfig) × ArePools top pools × AreWrongListens pools top fault)
