@@ -1,13 +1,20 @@
 -- Why a configuration is refused: a fault names a part, a field and a cause, and the cause is true of what the table has there.
-use Rattle.std.specs.Prelude.{◌≡◌, ◌≢◌, ℕ, List, [], codes, take, ◌⊎◌, slice_get, Some, None, IsSome, Ok, Err, true, false}
-use Rattle.std.specs.Prelude.{string_bytes}
+-- What is read before the part that is named is right.
+use Rattle.std.specs.Prelude.{◌≡◌, ◌≢◌, ◌<◌, ℕ, List, [], codes, length, take, ◌⊎◌, slice_get, Option, Some, None, IsSome}
+use Rattle.std.specs.Prelude.{Ok, Err, true, false, string_bytes}
 use Rattle.std.specs.List.{AllByRecursion, AllZip}
+use Rattle.std.specs.declared.net.socket_addr.SocketAddr.{SocketAddr}
 use Rattle.toml.specs.Data.{Data, get_member, as_str, as_table}
 use Rattle.lb_select_base.specs.AddressText.{address_of_text}
+use Rattle.lb_select_base.specs.Backends.{Member}
 use Rattle.lb_proxy.specs.Config.{Part, Said, text_of, required_of, number_of, flag_of, time_of, list_at, table_at, entry_by, selection_in}
-use Rattle.lb_proxy.specs.Config.{IsUnknown, IsNoAddress, IsWeighed, IsPool, EntryIs, IsPoolNamed, ArePools, mode_in, key_in}
+use Rattle.lb_proxy.specs.Config.{IsUnknown, HasOnly, IsNoAddress, IsWeighed, IsBackend, IsPool, EntryIs, IsPoolNamed, ArePools}
+use Rattle.lb_proxy.specs.Config.{HaveOwnNames, IsListen, IsCheckIn, IsStatus, AreLimitsIn, mode_in, key_in}
 use Rattle.lb_proxy.specs.Config.{backend_place, check_place, begins_with_slash}
 use Rattle.lb_proxy.specs.Config.{top_fields, check_fields, status_fields, limits_fields, pool_fields, backend_fields, listen_fields}
+use Rattle.lb_proxy.specs.declared.config.CheckConfig.{CheckConfig}
+use Rattle.lb_proxy.specs.declared.config.Limits.{Limits}
+use Rattle.lb_proxy.specs.declared.config.ListenConfig.{ListenConfig}
 use Rattle.lb_proxy.specs.declared.config.PoolConfig.{PoolConfig}
 use Rattle.lb_proxy.specs.declared.config_fault.Place.{Place}
 use Rattle.lb_proxy.specs.declared.config_fault.Place.TheVariants as place
@@ -81,12 +88,13 @@ IsWrongBackend part place d fault =
     × (fault ≡ (part.0, codes "backends", cause.NotBackend)))
     ⊎ WantsMemory part (codes "backends") fault
 
--- the backends are no list, or one of the list is wrong
+-- the backends are no list, or one of the list is wrong, the first that is
 abbrev pub AreWrongBackends : Part → Said → Type 0
 AreWrongBackends part fault =
     (list_at part (codes "backends") ≡ Err fault)
-    ⊎ ((values : List Data) × (number : ℕ) × (d : Data) × (list_at part (codes "backends") ≡ Ok values)
-    × (slice_get values number ≡ Some d) × IsWrongBackend part (backend_place part.0 number) d fault)
+    ⊎ ((values : List Data) × (number : ℕ) × (d : Data) × (before : List Member) × (list_at part (codes "backends") ≡ Ok values)
+    × (slice_get values number ≡ Some d) × AllZip IsBackend (take number values) before
+    × IsWrongBackend part (backend_place part.0 number) d fault)
 
 -- a pool has a list and a file, or neither, or what it has is wrong
 abbrev pub IsWrongSource : Part → Said → Type 0
@@ -106,11 +114,11 @@ IsWrongPool part fault =
     ⊎ IsWrongInside IsWrongCheck part (codes "check") (check_place part.0) fault
     ⊎ WantsMemory part (codes "name") fault
 
--- a pool has the name of one that an earlier entry spells
-abbrev pub IsSameName : List Data → ℕ → Part → Said → Type 0
-IsSameName entries number part fault =
-    (pools : List PoolConfig) × (earlier : ℕ) × (name : List ℕ) × AllZip (EntryIs IsPool) (take number entries) pools
-    × IsPoolNamed pools name earlier × (required_of part (codes "name") ≡ Ok name) × (fault ≡ (part.0, codes "name", cause.SameName))
+-- a pool that is right by itself has the name of one of those before it
+abbrev pub IsSameName : List PoolConfig → Part → Said → Type 0
+IsSameName before part fault =
+    (pool : PoolConfig) × (earlier : ℕ) × IsPool part pool × IsPoolNamed before (string_bytes pool.name) earlier
+    × (fault ≡ (part.0, codes "name", cause.SameName))
 
 -- an entry of a list is no table, or the table that it is has such a fault
 abbrev pub IsWrongEntry : (Part → Said → Type 0) → Part → List ℕ → Place → Data → Said → Type 0
@@ -118,13 +126,14 @@ IsWrongEntry IsWrong top field place d fault =
     (entry_by top field place (as_table d) ≡ Err fault)
     ⊎ ((part : Part) × (entry_by top field place (as_table d) ≡ Ok part) × IsWrong part fault)
 
--- the pools are no list, there is none, or one is wrong
+-- the pools are no list, there is none, or one is wrong, the first that is
 abbrev pub AreWrongPools : Part → Said → Type 0
 AreWrongPools top fault =
     (list_at top (codes "pool") ≡ Err fault)
     ⊎ ((list_at top (codes "pool") ≡ Ok []) × (fault ≡ (top.0, codes "pool", cause.Missing)))
-    ⊎ ((entries : List Data) × (number : ℕ) × (d : Data) × (list_at top (codes "pool") ≡ Ok entries) × (slice_get entries number ≡ Some d)
-    × IsWrongEntry (λ part f. IsWrongPool part f ⊎ IsSameName entries number part f) top (codes "pool") (place.Pool number) d fault)
+    ⊎ ((entries : List Data) × (number : ℕ) × (d : Data) × (before : List PoolConfig) × (list_at top (codes "pool") ≡ Ok entries)
+    × (slice_get entries number ≡ Some d) × AllZip (EntryIs IsPool) (take number entries) before × HaveOwnNames before
+    × IsWrongEntry (λ part f. IsWrongPool part f ⊎ IsSameName before part f) top (codes "pool") (place.Pool number) d fault)
 
 -- the fault is one of the key, in the mode that the part has
 abbrev pub IsWrongKey : Part → Mode → Said → Type 0
@@ -142,20 +151,34 @@ IsWrongListen pools part fault =
     ⊎ (selection_in part ≡ Err fault)
     ⊎ WantsMemory part (codes "address") fault
 
--- the listeners are no list, there is none, or one is wrong
+-- the listeners are no list, there is none, or one is wrong, the first that is
 abbrev pub AreWrongListens : List PoolConfig → Part → Said → Type 0
 AreWrongListens pools top fault =
     (list_at top (codes "listen") ≡ Err fault)
     ⊎ ((list_at top (codes "listen") ≡ Ok []) × (fault ≡ (top.0, codes "listen", cause.Missing)))
-    ⊎ ((entries : List Data) × (number : ℕ) × (d : Data) × (list_at top (codes "listen") ≡ Ok entries) × (slice_get entries number ≡ Some d)
+    ⊎ ((entries : List Data) × (number : ℕ) × (d : Data) × (before : List ListenConfig) × (list_at top (codes "listen") ≡ Ok entries)
+    × (slice_get entries number ≡ Some d) × AllZip (EntryIs (IsListen pools)) (take number entries) before
     × IsWrongEntry (IsWrongListen pools) top (codes "listen") (place.Listen number) d fault)
 
--- the fault is one of the table
+-- The parts of the table are right in the order in which they are read, up to the check, the status page, the limits, the pools.
+abbrev pub IsRightToCheck : Part → Type 0
+IsRightToCheck top = HasOnly top_fields top × (check : Option CheckConfig) × IsCheckIn top place.Check check
+
+abbrev pub IsRightToStatus : Part → Type 0
+IsRightToStatus top = IsRightToCheck top × (status : Option SocketAddr) × IsStatus top status
+
+abbrev pub IsRightToLimits : Part → Type 0
+IsRightToLimits top = IsRightToStatus top × (limits : Limits) × AreLimitsIn top limits
+
+abbrev pub IsRightToPools : Part → List PoolConfig → Type 0
+IsRightToPools top pools = IsRightToLimits top × ArePools top pools × HaveOwnNames pools × (0 < length pools)
+
+-- the fault is one of the table, and no part that is read before it is wrong
 abbrev pub IsWrong : Part → Said → Type 0
 IsWrong top fault =
     IsUnknown top_fields top fault
-    ⊎ IsWrongInside IsWrongCheck top (codes "check") place.Check fault
-    ⊎ IsWrongInside IsWrongStatus top (codes "status") place.Status fault
-    ⊎ IsWrongInside IsWrongLimits top (codes "limits") place.Limits fault
-    ⊎ AreWrongPools top fault
-    ⊎ ((pools : List PoolConfig) × ArePools top pools × AreWrongListens pools top fault)
+    ⊎ (HasOnly top_fields top × IsWrongInside IsWrongCheck top (codes "check") place.Check fault)
+    ⊎ (IsRightToCheck top × IsWrongInside IsWrongStatus top (codes "status") place.Status fault)
+    ⊎ (IsRightToStatus top × IsWrongInside IsWrongLimits top (codes "limits") place.Limits fault)
+    ⊎ (IsRightToLimits top × AreWrongPools top fault)
+    ⊎ ((pools : List PoolConfig) × IsRightToPools top pools × AreWrongListens pools top fault)

@@ -25,14 +25,15 @@ pub returns-in_err-section-clause-fault : goal.returns-in_err-section-clause-fau
 returns-in_err-section-clause-fault c =
     let is : c.from_residual-in_err-section.result ≡ Err c.in_err-section.field-0.0 = search rules in
     rw is (pool_no_table (part_of c.args.top.now) c.in_ok-tables.tables.now c.loop-number.number c.index-tables-number.result
-    (said c.in_err-section.field-0.0) c.in_ok-tables.ensures c.index-tables-number.is c.loop-number-test.true c.in_err-section.ensures)
+    (said c.in_err-section.field-0.0) c.loop-number.pools.items c.in_ok-tables.ensures c.index-tables-number.is c.loop-number-test.true
+    c.loop-number.invariant c.in_err-section.ensures)
 
 pub returns-in_err-pool-clause-fault : goal.returns-in_err-pool-clause-fault
 returns-in_err-pool-clause-fault c =
     let is : c.from_residual-in_err-pool.result ≡ Err c.in_err-pool.field-0.0 = search rules in
     rw is (wrong_pool (part_of c.args.top.now) (part_of c.in_ok-section.section) c.in_ok-tables.tables.now c.loop-number.number
-    c.index-tables-number.result (said c.in_err-pool.field-0.0) c.in_ok-tables.ensures c.index-tables-number.is c.loop-number-test.true
-    c.in_ok-section.ensures c.in_err-pool.ensures.fault)
+    c.index-tables-number.result (said c.in_err-pool.field-0.0) c.loop-number.pools.items c.in_ok-tables.ensures
+    c.index-tables-number.is c.loop-number-test.true c.loop-number.invariant c.in_ok-section.ensures c.in_err-pool.ensures.fault)
 
 pub returns-then-is_some-clause-fault : goal.returns-then-is_some-clause-fault
 returns-then-is_some-clause-fault c =
@@ -40,12 +41,12 @@ returns-then-is_some-clause-fault c =
     let named = named_there c.pool_number.result c.is_some.result c.loop-number.pools.items c.as_slice.result.now c.as_str.result.now name
     c.is_some.ensures c.if-is_some.true c.as_slice.ensures.value c.as_str.ensures.value c.pool_number.ensures.some in
     same_pool (part_of c.args.top.now) (part_of c.in_ok-section.section) c.in_ok-tables.tables.now c.loop-number.number
-    c.index-tables-number.result (said c.fault.result) c.loop-number.pools.items named.0 name c.in_ok-tables.ensures
-    c.index-tables-number.is c.loop-number-test.true c.in_ok-section.ensures c.loop-number.invariant.0 named.1
-    c.in_ok-pool.ensures.spelled.name c.fault.ensures
+    c.index-tables-number.result (said c.fault.result) c.loop-number.pools.items c.in_ok-pool.pool named.0 c.in_ok-tables.ensures
+    c.index-tables-number.is c.loop-number-test.true c.loop-number.invariant c.in_ok-section.ensures c.in_ok-pool.ensures.spelled
+    named.1 c.fault.ensures
 
 pub returns-in-Err-clause-fault : goal.returns-in-Err-clause-fault
 returns-in-Err-clause-fault c =
     wrong_pool (part_of c.args.top.now) (part_of c.in_ok-section.section) c.in_ok-tables.tables.now c.loop-number.number
-    c.index-tables-number.result (said c.fault-in-Err.result) c.in_ok-tables.ensures c.index-tables-number.is c.loop-number-test.true
-    c.in_ok-section.ensures (inr (inr (inr (inr c.fault-in-Err.ensures))))
+    c.index-tables-number.result (said c.fault-in-Err.result) c.loop-number.pools.items c.in_ok-tables.ensures
+    c.index-tables-number.is c.loop-number-test.true c.loop-number.invariant c.in_ok-section.ensures (inr (inr (inr (inr c.fault-in-Err.ensures))))
