@@ -21,7 +21,8 @@ returns-in_err-backend-clause-fault c =
     c.backend-place.ensures ∙ ap (λ p. backend_place p c.loop-number.number) c.place.ensures in
     rw is (wrong_backends part c.in_ok-values.values.now c.loop-number.number c.index-values-number.result
     (said c.in_err-backend.field-0.0) c.loop-number.backends.items c.in_ok-values.ensures c.index-values-number.is
-    c.loop-number-test.true c.loop-number.invariant (subst (λ p. IsWrongBackend part p (view c.index-values-number.result) (said c.in_err-backend.field-0.0)) at
+    c.loop-number-test.true c.loop-number.invariant
+    (subst (λ p. IsWrongBackend part p (view c.index-values-number.result) (said c.in_err-backend.field-0.0)) at
     c.in_err-backend.ensures.fault))
 
 pub returns-in-Err-clause-fault : goal.returns-in-Err-clause-fault

@@ -49,4 +49,5 @@ pub returns-in-Err-clause-fault : goal.returns-in-Err-clause-fault
 returns-in-Err-clause-fault c =
     wrong_pool (part_of c.args.top.now) (part_of c.in_ok-section.section) c.in_ok-tables.tables.now c.loop-number.number
     c.index-tables-number.result (said c.fault-in-Err.result) c.loop-number.pools.items c.in_ok-tables.ensures
-    c.index-tables-number.is c.loop-number-test.true c.loop-number.invariant c.in_ok-section.ensures (inr (inr (inr (inr c.fault-in-Err.ensures))))
+    c.index-tables-number.is c.loop-number-test.true c.loop-number.invariant c.in_ok-section.ensures
+    (inr (inr (inr (inr c.fault-in-Err.ensures))))
