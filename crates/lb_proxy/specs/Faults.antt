@@ -1,5 +1,5 @@
 -- Why a configuration is refused: a fault names a part, a field and a cause, and the cause is true of what the table has there.
--- What is read before the part that is named is right.
+-- Parts, entries of lists and fields that are read before it are right.
 use Rattle.std.specs.Prelude.{◌≡◌, ◌≢◌, ◌<◌, ℕ, List, [], codes, length, take, ◌⊎◌, slice_get, Option, Some, None, IsSome}
 use Rattle.std.specs.Prelude.{◌∷◌, Result, Ok, Err, IsOk, true, false, string_bytes}
 use Rattle.std.specs.List.{AllByRecursion, AllZip}
@@ -8,9 +8,9 @@ use Rattle.toml.specs.Data.{Data, get_member, as_str, as_table}
 use Rattle.lb_select_base.specs.AddressText.{address_of_text}
 use Rattle.lb_select_base.specs.Backends.{Member}
 use Rattle.lb_proxy.specs.Config.{Part, Said, text_of, required_of, number_of, flag_of, time_of, list_at, table_at, entry_by, selection_in}
-use Rattle.lb_proxy.specs.Config.{IsUnknown, HasOnly, IsNoAddress, IsWeighed, IsBackend, IsPool, EntryIs, IsPoolNamed, ArePools}
-use Rattle.lb_proxy.specs.Config.{IsKind, IsSource, IsAddressOf, HaveOwnNames, IsListen, IsCheckIn, IsStatus, AreLimitsIn, mode_in, key_in}
-use Rattle.lb_proxy.specs.Config.{backend_place, check_place, begins_with_slash}
+use Rattle.lb_proxy.specs.Config.{IsUnknown, HasOnly, IsNoAddress, IsAddressOf, IsTextOr, IsKind, IsSource, IsWeighed, IsBackend, IsPool}
+use Rattle.lb_proxy.specs.Config.{EntryIs, IsPoolNamed, ArePools, HaveOwnNames, IsListen, IsCheckIn, IsStatus, AreLimitsIn}
+use Rattle.lb_proxy.specs.Config.{mode_in, key_in, backend_place, check_place, begins_with_slash}
 use Rattle.lb_proxy.specs.Config.{top_fields, check_fields, status_fields, limits_fields, pool_fields, backend_fields, listen_fields}
 use Rattle.lb_proxy.specs.Key.{Kind}
 use Rattle.lb_proxy.specs.declared.config.CheckConfig.{CheckConfig}
@@ -48,9 +48,11 @@ IsWrongInside IsWrong part field place fault =
 abbrev pub IsWrongAsked : Part → Said → Type 0
 IsWrongAsked part fault =
     (first_fault (fault_of (text_of part (codes "host")) ∷ fault_of (text_of part (codes "path")) ∷ []) ≡ Some fault)
-    ⊎ ((path : List ℕ) × IsOk (text_of part (codes "host")) × (text_of part (codes "path") ≡ Ok (Some path)) × (begins_with_slash path ≡ false)
-    × (fault ≡ (part.0, codes "path", cause.NotPath)))
-    ⊎ WantsMemory part (codes "host") fault ⊎ WantsMemory part (codes "path") fault
+    ⊎ ((path : List ℕ) × IsOk (text_of part (codes "host")) × (text_of part (codes "path") ≡ Ok (Some path))
+    × (begins_with_slash path ≡ false) × (fault ≡ (part.0, codes "path", cause.NotPath)))
+    ⊎ ((host : List ℕ) × (path : List ℕ) × IsTextOr part (codes "host") (codes "localhost") host
+    × IsTextOr part (codes "path") (codes "/") path × (begins_with_slash path ≡ true)
+    × (WantsMemory part (codes "host") fault ⊎ WantsMemory part (codes "path") fault))
 
 -- what a check does: the kind is no text, or no kind, or what is asked for is wrong
 abbrev pub IsWrongKind : Part → Said → Type 0
@@ -97,13 +99,13 @@ IsWrongWord part place d fault =
     ((as_str d ≡ None) × (as_table d ≡ None) × (fault ≡ (part.0, codes "backends", cause.NotBackend)))
     ⊎ ((own : Part) × (as_str d ≡ None) × (as_table d ≡ Some own.1) × (own.0 ≡ place) × IsWrongTable own fault)
 
--- or its text spells no address
+-- or its text spells no address, or memory is refused for it
 abbrev pub IsWrongBackend : Part → Place → Data → Said → Type 0
 IsWrongBackend part place d fault =
     IsWrongWord part place d fault
     ⊎ ((text : List ℕ) × (weight : ℕ) × IsWeighed (as_str d) (as_table d) text weight × (address_of_text text ≡ None)
     × (fault ≡ (part.0, codes "backends", cause.NotBackend)))
-    ⊎ WantsMemory part (codes "backends") fault
+    ⊎ ((text : List ℕ) × (weight : ℕ) × IsWeighed (as_str d) (as_table d) text weight × WantsMemory part (codes "backends") fault)
 
 -- the backends are no list, or one of the list is wrong, the first that is
 abbrev pub AreWrongBackends : Part → Said → Type 0
@@ -122,7 +124,8 @@ IsWrongSource part fault =
     ⊎ ((get_member (codes "file") part.1 ≡ None) × (get_member (codes "backends") part.1 ≡ None)
     × (fault ≡ (part.0, codes "backends", cause.Missing)))
     ⊎ ((text_of part (codes "file") ≡ Ok None) × IsSome (get_member (codes "backends") part.1) × AreWrongBackends part fault)
-    ⊎ WantsMemory part (codes "file") fault
+    ⊎ ((path : List ℕ) × (text_of part (codes "file") ≡ Ok (Some path)) × (get_member (codes "backends") part.1 ≡ None)
+    × WantsMemory part (codes "file") fault)
 
 -- the fault is one of a pool
 abbrev pub IsWrongPool : Part → Said → Type 0
@@ -132,7 +135,7 @@ IsWrongPool part fault =
     ⊎ (HasOnly pool_fields part × IsOk (required_of part (codes "name")) × IsWrongSource part fault)
     ⊎ ((source : PoolSource) × HasOnly pool_fields part × IsOk (required_of part (codes "name")) × IsSource part source
     × IsWrongInside IsWrongCheck part (codes "check") (check_place part.0) fault)
-    ⊎ WantsMemory part (codes "name") fault
+    ⊎ (HasOnly pool_fields part × IsOk (required_of part (codes "name")) × WantsMemory part (codes "name") fault)
 
 -- a pool that is right by itself has the name of one of those before it
 abbrev pub IsSameName : List PoolConfig → Part → Said → Type 0
@@ -157,7 +160,7 @@ AreWrongPools top fault =
 
 -- the fault is one of the key, in the mode that the part has
 abbrev pub IsWrongKey : Part → Mode → Said → Type 0
-IsWrongKey part mode fault = (key_in part mode ≡ Err fault) ⊎ WantsMemory part (codes "key") fault
+IsWrongKey part mode fault = (key_in part mode ≡ Err fault) ⊎ (IsOk (key_in part mode) × WantsMemory part (codes "key") fault)
 
 -- the mode is right, and the key in it
 abbrev pub HasKey : Part → Type 0
@@ -185,7 +188,7 @@ IsWrongListen pools part fault =
     IsUnknown listen_fields part fault
     ⊎ (HasOnly listen_fields part × IsNoAddress part (codes "address") (required_of part (codes "address")) fault)
     ⊎ ((address : SocketAddr) × HasOnly listen_fields part × IsAddressOf part (codes "address") address × IsWrongUse pools part fault)
-    ⊎ WantsMemory part (codes "address") fault
+    ⊎ ((listen : ListenConfig) × IsListen pools part listen × WantsMemory part (codes "address") fault)
 
 -- the listeners are no list, there is none, or one is wrong, the first that is
 abbrev pub AreWrongListens : List PoolConfig → Part → Said → Type 0

@@ -1,4 +1,4 @@
-use Rattle.std.proofs.Common.{rules, ◌≡◌, Some, None, Err, List, [], ◌∷◌, codes, refl, inl, inr, sym}
+use Rattle.std.proofs.Common.{rules, ◌≡◌, Some, None, Err, [], ◌∷◌, codes, refl, inl, inr, sym}
 use Rattle.toml.specs.Data.{as_str, as_table}
 use Rattle.toml.specs.View.{view}
 use Rattle.lb_proxy.specs.Config.{part_of, said, required_of, number_of}

@@ -29,4 +29,10 @@ pub returns-in-Err-clause-fault : goal.returns-in-Err-clause-fault
 returns-in-Err-clause-fault c =
     wrong_backends (part_of c.args.section.now) c.in_ok-values.values.now c.loop-number.number c.index-values-number.result
     (said c.fault.result) c.loop-number.backends.items c.in_ok-values.ensures c.index-values-number.is c.loop-number-test.true
-    c.loop-number.invariant (inr (inr c.fault.ensures))
+    c.loop-number.invariant
+    (inr (inr (
+      c.in_ok-backend.ensures.spelled.0,
+      c.in_ok-backend.ensures.spelled.1,
+      c.in_ok-backend.ensures.spelled.2,
+      c.fault.ensures,
+    )))

@@ -1,5 +1,5 @@
 use Rattle.std.proofs.Common.{rules, ◌≡◌, Err, inl, inr, sym}
-use Rattle.lb_proxy.specs.Config.{part_of, said}
+use Rattle.lb_proxy.specs.Config.{part_of}
 use Rattle.lb_proxy.specs.Key.{owned_seen}
 use Rattle.lb_proxy.specs.Faults.{HasKey}
 use Rattle.lb_proxy.proofs.config.read_listen.Goals as goal

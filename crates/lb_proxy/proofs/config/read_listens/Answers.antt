@@ -36,4 +36,5 @@ pub returns-in-Err-clause-fault : goal.returns-in-Err-clause-fault
 returns-in-Err-clause-fault c =
     wrong_listen c.args.pools.now (part_of c.args.top.now) (part_of c.in_ok-section.section) c.in_ok-tables.tables.now
     c.loop-number.number c.index-tables-number.result (said c.fault.result) c.loop-number.listens.items c.in_ok-tables.ensures
-    c.index-tables-number.is c.loop-number-test.true c.loop-number.invariant c.in_ok-section.ensures (inr (inr (inr c.fault.ensures)))
+    c.index-tables-number.is c.loop-number-test.true c.loop-number.invariant c.in_ok-section.ensures
+    (inr (inr (inr (c.in_ok-listen.listen, c.in_ok-listen.ensures.spelled, c.fault.ensures))))

@@ -1,9 +1,9 @@
 use Rattle.std.specs.Prelude.{codes}
-use Rattle.lb_proxy.specs.Config.{IsPool, EntryIs, part_of}
+use Rattle.lb_proxy.specs.Config.{IsPool, EntryIs, part_of, required_of}
 use Rattle.lb_proxy.specs.declared.config_fault.Place.TheVariants.{Pool}
 use Rattle.toml.specs.View.{view}
 use Rattle.lb_proxy.proofs.ConfigLemmas.{zip_more, entry_is, fresh_name, own_names_more}
-use Rattle.std.proofs.Common.{rules, ◌≡◌, Err, inr, string_bytes}
+use Rattle.std.proofs.Common.{rules, ◌≡◌, Err, IsOk, inr, string_bytes}
 use Rattle.lb_proxy.specs.Config.{said}
 use Rattle.lb_proxy.proofs.FaultLemmas.{pool_no_table, wrong_pool, same_pool, named_there}
 use Rattle.lb_proxy.proofs.config.read_pools.Goals as goal
@@ -47,7 +47,8 @@ returns-then-is_some-clause-fault c =
 
 pub returns-in-Err-clause-fault : goal.returns-in-Err-clause-fault
 returns-in-Err-clause-fault c =
+    let named : IsOk (required_of (part_of c.in_ok-section.section) (codes "name")) = rw c.in_ok-pool.ensures.spelled.name search rules in
     wrong_pool (part_of c.args.top.now) (part_of c.in_ok-section.section) c.in_ok-tables.tables.now c.loop-number.number
     c.index-tables-number.result (said c.fault-in-Err.result) c.loop-number.pools.items c.in_ok-tables.ensures
     c.index-tables-number.is c.loop-number-test.true c.loop-number.invariant c.in_ok-section.ensures
-    (inr (inr (inr (inr c.fault-in-Err.ensures))))
+    (inr (inr (inr (inr (c.in_ok-pool.ensures.spelled.known, named, c.fault-in-Err.ensures)))))
