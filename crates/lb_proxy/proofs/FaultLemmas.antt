@@ -1,15 +1,19 @@
 -- Faults of a list's entries.
-use Rattle.std.proofs.Common.{◌≡◌, ℕ, zero, suc, ◌<◌, inl, inr, List, [], ◌∷◌, map, take, length, get_or, slice_get}
+use Rattle.std.proofs.Common.{◌≡◌, ℕ, zero, suc, ◌<◌, ◌⊎◌, inl, inr, List, [], ◌∷◌, map, take, length, get_or, slice_get}
 use Rattle.std.proofs.Common.{Option, Some, None, option_map, Ok, Err, codes, refl, ap, sym, ◌∙◌}
-use Rattle.std.proofs.Common.{Bool, true, is_some, IfSome}
+use Rattle.std.proofs.Common.{Bool, true, is_some, IfSome, string_bytes}
 use Rattle.std.proofs.lemmas.Bool.{false≢true}
 use Rattle.std.proofs.lemmas.Option.{slice_get_read, slice_get-map}
 use Rattle.std.specs.List.{AllZip}
 use Rattle.toml.specs.Data.{as_table}
 use Rattle.toml.specs.View.{view}
 use Rattle.toml.specs.declared.value.Value.{Value}
-use Rattle.lb_proxy.specs.Config.{Part, Said, list_at, entry_by, required_of, EntryIs, IsPool, IsPoolNamed, backend_place}
-use Rattle.lb_proxy.specs.Faults.{IsWrongBackend, AreWrongBackends, IsWrongPool, AreWrongPools, IsWrongListen, AreWrongListens}
+use Rattle.lb_select_base.specs.Backends.{Member}
+use Rattle.lb_proxy.specs.Config.{Part, Said, list_at, entry_by, EntryIs, IsBackend, IsPool, IsPoolNamed, HaveOwnNames, IsListen}
+use Rattle.lb_proxy.specs.Config.{backend_place}
+use Rattle.lb_proxy.specs.Faults.{IsWrongBackend, AreWrongBackends, IsWrongPool, IsSameName, IsWrongEntry, AreWrongPools}
+use Rattle.lb_proxy.specs.Faults.{IsWrongListen, AreWrongListens}
+use Rattle.lb_proxy.specs.declared.config.ListenConfig.{ListenConfig}
 use Rattle.lb_proxy.specs.declared.config.PoolConfig.{PoolConfig}
 use Rattle.lb_proxy.specs.declared.config_fault.Place.TheVariants as place
 use Rattle.lb_proxy.specs.declared.config_fault.Cause.TheVariants as cause
@@ -24,51 +28,62 @@ take_mapped f [] (suc n) = refl
 take_mapped f (x ∷ xs) zero = refl
 take_mapped f (x ∷ xs) (suc n) = ap (λ t. f x ∷ t) (take_mapped f xs n)
 
-pub wrong_backends : (part : Part) (values : List Value) (n : ℕ) (x : Value) (fault : Said)
+pub wrong_backends : (part : Part) (values : List Value) (n : ℕ) (x : Value) (fault : Said) (before : List Member)
     → Ok (map view values) ≡ list_at part (codes "backends") → x ≡ get_or values n x → n < length values
+    → AllZip IsBackend (map view (take n values)) before
     → IsWrongBackend part (backend_place part.0 n) (view x) fault → AreWrongBackends part fault
-wrong_backends part values n x fault is at lt wrong = inr (map view values, n, view x, sym is, entry_at view values n x at lt, wrong)
+wrong_backends part values n x fault before is at lt right wrong =
+    let all : AllZip IsBackend (take n (map view values)) before = rw (← take_mapped view values n) right in
+    inr (map view values, n, view x, before, sym is, entry_at view values n x at lt, all, wrong)
 
-pub pool_no_table : (top : Part) (values : List Value) (n : ℕ) (x : Value) (fault : Said)
+-- the entry of this number is wrong, and those before it are these pools
+pub wrong_entry : (top : Part) (values : List Value) (n : ℕ) (x : Value) (fault : Said) (before : List PoolConfig)
     → Ok (map view values) ≡ list_at top (codes "pool") → x ≡ get_or values n x → n < length values
-    → Err fault ≡ entry_by top (codes "pool") (place.Pool n) (as_table (view x)) → AreWrongPools top fault
-pool_no_table top values n x fault is at lt wrong =
-    inr (inr (map view values, n, view x, sym is, entry_at view values n x at lt, inl (sym wrong)))
-
-pub wrong_pool : (top part : Part) (values : List Value) (n : ℕ) (x : Value) (fault : Said)
-    → Ok (map view values) ≡ list_at top (codes "pool") → x ≡ get_or values n x → n < length values
-    → Ok part ≡ entry_by top (codes "pool") (place.Pool n) (as_table (view x)) → IsWrongPool part fault → AreWrongPools top fault
-wrong_pool top part values n x fault is at lt there wrong =
-    inr (inr (map view values, n, view x, sym is, entry_at view values n x at lt, inr (part, sym there, inl wrong)))
-
-pub same_pool : (top part : Part) (values : List Value) (n : ℕ) (x : Value) (fault : Said) (pools : List PoolConfig) (earlier : ℕ)
-    (name : List ℕ) → Ok (map view values) ≡ list_at top (codes "pool") → x ≡ get_or values n x → n < length values
-    → Ok part ≡ entry_by top (codes "pool") (place.Pool n) (as_table (view x)) → AllZip (EntryIs IsPool) (map view (take n values)) pools
-    → IsPoolNamed pools name earlier → required_of part (codes "name") ≡ Ok name → fault ≡ (part.0, codes "name", cause.SameName)
+    → AllZip (EntryIs IsPool) (map view (take n values)) before × HaveOwnNames before
+    → IsWrongEntry (λ part f. IsWrongPool part f ⊎ IsSameName before part f) top (codes "pool") (place.Pool n) (view x) fault
     → AreWrongPools top fault
-same_pool top part values n x fault pools earlier name is at lt there before named spelled says =
-    let all : AllZip (EntryIs IsPool) (take n (map view values)) pools = rw (← take_mapped view values n) before in
-    inr (inr (
-      map view values,
-      n,
-      view x,
-      sym is,
-      entry_at view values n x at lt,
-      inr (part, sym there, inr (pools, earlier, name, all, named, spelled, says)),
-    ))
+wrong_entry top values n x fault before is at lt right wrong =
+    let all : AllZip (EntryIs IsPool) (take n (map view values)) before = rw (← take_mapped view values n) right.0 in
+    inr (inr (map view values, n, view x, before, sym is, entry_at view values n x at lt, all, right.1, wrong))
+
+pub pool_no_table : (top : Part) (values : List Value) (n : ℕ) (x : Value) (fault : Said) (before : List PoolConfig)
+    → Ok (map view values) ≡ list_at top (codes "pool") → x ≡ get_or values n x → n < length values
+    → AllZip (EntryIs IsPool) (map view (take n values)) before × HaveOwnNames before
+    → Err fault ≡ entry_by top (codes "pool") (place.Pool n) (as_table (view x)) → AreWrongPools top fault
+pool_no_table top values n x fault before is at lt right wrong =
+    wrong_entry top values n x fault before is at lt right (inl (sym wrong))
+
+pub wrong_pool : (top part : Part) (values : List Value) (n : ℕ) (x : Value) (fault : Said) (before : List PoolConfig)
+    → Ok (map view values) ≡ list_at top (codes "pool") → x ≡ get_or values n x → n < length values
+    → AllZip (EntryIs IsPool) (map view (take n values)) before × HaveOwnNames before
+    → Ok part ≡ entry_by top (codes "pool") (place.Pool n) (as_table (view x)) → IsWrongPool part fault → AreWrongPools top fault
+wrong_pool top part values n x fault before is at lt right there wrong =
+    wrong_entry top values n x fault before is at lt right (inr (part, sym there, inl wrong))
+
+pub same_pool : (top part : Part) (values : List Value) (n : ℕ) (x : Value) (fault : Said) (before : List PoolConfig) (pool : PoolConfig)
+    (earlier : ℕ) → Ok (map view values) ≡ list_at top (codes "pool") → x ≡ get_or values n x → n < length values
+    → AllZip (EntryIs IsPool) (map view (take n values)) before × HaveOwnNames before
+    → Ok part ≡ entry_by top (codes "pool") (place.Pool n) (as_table (view x)) → IsPool part pool
+    → IsPoolNamed before (string_bytes pool.name) earlier → fault ≡ (part.0, codes "name", cause.SameName) → AreWrongPools top fault
+same_pool top part values n x fault before pool earlier is at lt right there spelled named says =
+    wrong_entry top values n x fault before is at lt right (inr (part, sym there, inr (pool, earlier, spelled, named, says)))
 
 pub listen_no_table : (pools : List PoolConfig) (top : Part) (values : List Value) (n : ℕ) (x : Value) (fault : Said)
-    → Ok (map view values) ≡ list_at top (codes "listen") → x ≡ get_or values n x → n < length values
+    (before : List ListenConfig) → Ok (map view values) ≡ list_at top (codes "listen") → x ≡ get_or values n x → n < length values
+    → AllZip (EntryIs (IsListen pools)) (map view (take n values)) before
     → Err fault ≡ entry_by top (codes "listen") (place.Listen n) (as_table (view x)) → AreWrongListens pools top fault
-listen_no_table pools top values n x fault is at lt wrong =
-    inr (inr (map view values, n, view x, sym is, entry_at view values n x at lt, inl (sym wrong)))
+listen_no_table pools top values n x fault before is at lt right wrong =
+    let all : AllZip (EntryIs (IsListen pools)) (take n (map view values)) before = rw (← take_mapped view values n) right in
+    inr (inr (map view values, n, view x, before, sym is, entry_at view values n x at lt, all, inl (sym wrong)))
 
 pub wrong_listen : (pools : List PoolConfig) (top part : Part) (values : List Value) (n : ℕ) (x : Value) (fault : Said)
-    → Ok (map view values) ≡ list_at top (codes "listen") → x ≡ get_or values n x → n < length values
+    (before : List ListenConfig) → Ok (map view values) ≡ list_at top (codes "listen") → x ≡ get_or values n x → n < length values
+    → AllZip (EntryIs (IsListen pools)) (map view (take n values)) before
     → Ok part ≡ entry_by top (codes "listen") (place.Listen n) (as_table (view x)) → IsWrongListen pools part fault
     → AreWrongListens pools top fault
-wrong_listen pools top part values n x fault is at lt there wrong =
-    inr (inr (map view values, n, view x, sym is, entry_at view values n x at lt, inr (part, sym there, wrong)))
+wrong_listen pools top part values n x fault before is at lt right there wrong =
+    let all : AllZip (EntryIs (IsListen pools)) (take n (map view values)) before = rw (← take_mapped view values n) right in
+    inr (inr (map view values, n, view x, before, sym is, entry_at view values n x at lt, all, inr (part, sym there, wrong)))
 
 -- a name that is found is that of an earlier pool
 pub named_there : (r : Option ℕ) (t : Bool) (ps qs : List PoolConfig) (n m : List ℕ) → t ≡ is_some r → t ≡ true → qs ≡ ps → n ≡ m

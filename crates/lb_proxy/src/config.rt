@@ -103,7 +103,8 @@ pub struct Config {
     pub listens: Vec<ListenConfig>,
 }
 
-/// Returns the configuration that a table spells, or what is wrong with it.
+/// Returns the configuration that a table spells, or the first fault: no part, entry or field that is read
+/// before it is wrong.
 pub fn read_config<'t>(alloc: Global, table: &'t Table) -> Result<Config, Fault<'t>>
     ensures spelled { IfOk result (IsConfig (Top, table_view table.now)) }
     ensures fault { IfErr result (λ f. IsWrong (Top, table_view table.now) (said f)) }

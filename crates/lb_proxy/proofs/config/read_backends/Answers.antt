@@ -20,11 +20,19 @@ returns-in_err-backend-clause-fault c =
     let at : c.backend-place.result ≡ backend_place part.0 c.loop-number.number =
     c.backend-place.ensures ∙ ap (λ p. backend_place p c.loop-number.number) c.place.ensures in
     rw is (wrong_backends part c.in_ok-values.values.now c.loop-number.number c.index-values-number.result
-    (said c.in_err-backend.field-0.0) c.in_ok-values.ensures c.index-values-number.is c.loop-number-test.true
+    (said c.in_err-backend.field-0.0) c.loop-number.backends.items c.in_ok-values.ensures c.index-values-number.is
+    c.loop-number-test.true c.loop-number.invariant
     (subst (λ p. IsWrongBackend part p (view c.index-values-number.result) (said c.in_err-backend.field-0.0)) at
     c.in_err-backend.ensures.fault))
 
 pub returns-in-Err-clause-fault : goal.returns-in-Err-clause-fault
 returns-in-Err-clause-fault c =
     wrong_backends (part_of c.args.section.now) c.in_ok-values.values.now c.loop-number.number c.index-values-number.result
-    (said c.fault.result) c.in_ok-values.ensures c.index-values-number.is c.loop-number-test.true (inr (inr c.fault.ensures))
+    (said c.fault.result) c.loop-number.backends.items c.in_ok-values.ensures c.index-values-number.is c.loop-number-test.true
+    c.loop-number.invariant
+    (inr (inr (
+      c.in_ok-backend.ensures.spelled.0,
+      c.in_ok-backend.ensures.spelled.1,
+      c.in_ok-backend.ensures.spelled.2,
+      c.fault.ensures,
+    )))

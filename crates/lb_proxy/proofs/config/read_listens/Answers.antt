@@ -21,18 +21,20 @@ pub returns-in_err-section-clause-fault : goal.returns-in_err-section-clause-fau
 returns-in_err-section-clause-fault c =
     let is : c.from_residual-in_err-section.result ≡ Err c.in_err-section.field-0.0 = search rules in
     rw is (listen_no_table c.args.pools.now (part_of c.args.top.now) c.in_ok-tables.tables.now c.loop-number.number
-    c.index-tables-number.result (said c.in_err-section.field-0.0) c.in_ok-tables.ensures c.index-tables-number.is c.loop-number-test.true
-    c.in_err-section.ensures)
+    c.index-tables-number.result (said c.in_err-section.field-0.0) c.loop-number.listens.items c.in_ok-tables.ensures
+    c.index-tables-number.is c.loop-number-test.true c.loop-number.invariant c.in_err-section.ensures)
 
 pub returns-in_err-listen-clause-fault : goal.returns-in_err-listen-clause-fault
 returns-in_err-listen-clause-fault c =
     let is : c.from_residual-in_err-listen.result ≡ Err c.in_err-listen.field-0.0 = search rules in
     rw is (wrong_listen c.args.pools.now (part_of c.args.top.now) (part_of c.in_ok-section.section) c.in_ok-tables.tables.now
-    c.loop-number.number c.index-tables-number.result (said c.in_err-listen.field-0.0) c.in_ok-tables.ensures c.index-tables-number.is
-    c.loop-number-test.true c.in_ok-section.ensures c.in_err-listen.ensures.fault)
+    c.loop-number.number c.index-tables-number.result (said c.in_err-listen.field-0.0) c.loop-number.listens.items
+    c.in_ok-tables.ensures c.index-tables-number.is c.loop-number-test.true c.loop-number.invariant c.in_ok-section.ensures
+    c.in_err-listen.ensures.fault)
 
 pub returns-in-Err-clause-fault : goal.returns-in-Err-clause-fault
 returns-in-Err-clause-fault c =
     wrong_listen c.args.pools.now (part_of c.args.top.now) (part_of c.in_ok-section.section) c.in_ok-tables.tables.now
-    c.loop-number.number c.index-tables-number.result (said c.fault.result) c.in_ok-tables.ensures c.index-tables-number.is
-    c.loop-number-test.true c.in_ok-section.ensures (inr (inr (inr (inr (inr (inr (inr c.fault.ensures)))))))
+    c.loop-number.number c.index-tables-number.result (said c.fault.result) c.loop-number.listens.items c.in_ok-tables.ensures
+    c.index-tables-number.is c.loop-number-test.true c.loop-number.invariant c.in_ok-section.ensures
+    (inr (inr (inr (c.in_ok-listen.listen, c.in_ok-listen.ensures.spelled, c.fault.ensures))))
