@@ -31,6 +31,9 @@ use std::time::{Clock, Duration};
 // How many updates there are for each pass of checks.
 const UPDATES: u64 = 10;
 
+// The lane of a thread that has none of its own.
+const BY_KEY: u64 = u64::MAX;
+
 // How a measurement goes.
 #[derive(Clone, Copy)]
 struct Plan {
@@ -76,18 +79,19 @@ fn seconds_since<W: Clock>(rt: &W, begun: Duration) -> u64 {
     now.saturating_sub(begun).as_secs()
 }
 
-// Selects once, by this lane if there is one; whether a backend was found.
+// Selects once, by this lane or by the key; whether a backend was found.
 fn select_once<S: BackendSelection, R: KeyRule + Drop, C: HealthCheck + Drop, W: Wait>(
     rt: &W,
     alloc: Global,
     group: &SharedGroup<S, R, C>,
-    lane: Option<u64>,
+    lane: u64,
     key: u64,
 ) -> Result<bool, Refusal> {
     let bytes = key.to_le_bytes();
-    let found = match lane {
-        Some(lane) => group.select_at(rt, alloc, 0, lane, &bytes, LIMIT, &is_ready)?,
-        None => group.select_with(rt, alloc, 0, &bytes, LIMIT, &is_ready)?,
+    let found = if lane == BY_KEY {
+        group.select_with(rt, alloc, 0, &bytes, LIMIT, &is_ready)?
+    } else {
+        group.select_at(rt, alloc, 0, lane, &bytes, LIMIT, &is_ready)?
     };
     Ok(found.is_some())
 }
@@ -98,7 +102,7 @@ fn selected<S: BackendSelection, R: KeyRule + Drop, C: HealthCheck + Drop, W: Wa
     alloc: Global,
     group: &SharedGroup<S, R, C>,
     worker: u64,
-    lane: Option<u64>,
+    lane: u64,
     seconds: u64,
 ) -> u64 {
     let begun = rt.monotonic().unwrap_or(Duration::from_secs(0));
@@ -140,11 +144,7 @@ where
 {
     let shared = Arc::try_clone(group).ok()?;
     let own = *rt;
-    let lane = if has_lane {
-        Some(group.own_lane())
-    } else {
-        None
-    };
+    let lane = if has_lane { group.own_lane() } else { BY_KEY };
     let started = thread::spawn(rt, move || {
         let group: &SharedGroup<S, R, C> = &*shared;
         selected(&own, alloc, group, worker, lane, seconds)

@@ -23,5 +23,5 @@ spawn-started-requires-send-F g c κs within =
     b.send-S b.send-S-Config b.sync-S b.sync-S-Config b.send-R b.sync-R b.send-C b.sync-C in
     let y = shared_sync T R H I C W g.S.BackendSelection g.S.Iter.BackendIter g.R.KeyRule
     b.send-S b.send-S-Config b.sync-S b.sync-S-Config b.send-R b.sync-R b.send-C b.sync-C in
-    sent 1 _ no _ (Arc.the_row group heap.the_row ghosts ∷ copied 3 g.row.W ∷ heap.the_row ∷ u64 ∷ u64 ∷ [])
-    (Arc-send group s y, (b.send-W, (send, (search sendable depth 20, (search sendable depth 20, tt)))))
+    sent 1 _ no _ (Arc.the_row group heap.the_row ghosts ∷ copied 3 g.row.W ∷ heap.the_row ∷ u64 ∷ u64 ∷ u64 ∷ [])
+    (Arc-send group s y, (b.send-W, (send, (search sendable depth 20, (search sendable depth 20, (search sendable depth 20, tt))))))
