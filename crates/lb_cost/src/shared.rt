@@ -1,6 +1,6 @@
 //! Selections a second of one balancer by threads, while another thread updates it each 10 milliseconds; every other update leaves one
 //! backend out: `shared KIND BACKENDS THREADS SECONDS HOW`. The kind is `fnv` or `rr`; `reader` or `balancer` says how they select.
-//! `bench/shared` prints them with a plain program's.
+//! `bench/groups` prints them with a plain program's.
 use crate::members::members;
 use crate::words::{Usage, number_at, word_at};
 use anyhow::Error;
