@@ -1,5 +1,5 @@
 -- What updates, flags and refusals leave of what a balancer serves, and what is shown of it.
-use Rattle.std.proofs.Common.{◌≡◌, ◌∙◌, ◌<◌, ◌≤◌, ◌+◌, Bool, true, false, ℕ, List, [], ◌∷◌, Result, Ok, Err, OnOk, OnErr, refl}
+use Rattle.std.proofs.Common.{◌≡◌, ◌∙◌, ◌<◌, ◌≤◌, ◌+◌, Bool, true, false, ℕ, List, [], ◌∷◌, Result, Ok, Err, OnOk, OnErr, refl, tt}
 use Rattle.std.proofs.Common.{sym, ap, subst, arith}
 use Rattle.std.specs.Prelude.{if◌then◌else◌}
 use Rattle.std.specs.List.{list_any}
@@ -7,13 +7,14 @@ use Rattle.lb_select_base.specs.Backends.{Member, same_member}
 use Rattle.lb_select_base.specs.Memberships.{same_members}
 use Rattle.lb_health_core.specs.Keys.{by_identity}
 use Rattle.lb_health_core.specs.RegistryEvents.{shown_cells}
-use Rattle.lb_health_view.specs.Discoveries.{Discovers}
+use Rattle.lb_health_view.specs.Discoveries.{Discovers, Found}
 use Rattle.lb_health_view.specs.declared.discovery.DiscoverySource.{DiscoverySource}
+use Rattle.lb_health_view.specs.declared.discovery.DiscoverySource.TheVariants as source
 use Rattle.lb_health_view.specs.RegistrySide.{after_settings, view_updated, with_membership}
 use Rattle.lb_health_view.specs.ViewEvents.{ViewEvent, Set, Shown, generation_after, membership_after}
 use Rattle.lb_health_view.specs.Views.{IsViewAfter}
 use Rattle.lb_balancer_core.specs.Texts.{one_view}
-use Rattle.lb_balancer.specs.History.{AreDiscovered, BalancerValue, IsServedBy, IsShownBy, Takes}
+use Rattle.lb_balancer.specs.History.{AreDiscovered, BalancerValue, IsServedBy, IsShownBy, MayGive, Takes}
 use Rattle.lb_balancer.specs.Shown.{ServingValue, ShownValue, ShowsView}
 use Rattle.lb_balancer.proofs.Memberships.{kept-members, new-members}
 
@@ -58,13 +59,19 @@ moved : {D : Type 0} (d : DiscoverySource D) {n m : ℕ} {ms ns : List Member} �
 moved d {m = m} {ms = ms} number same is =
     subst (λ xs. AreDiscovered d m xs) same (subst (λ k. AreDiscovered d k ms) number is)
 
+-- what a discovery may give
+pub may-give : {D : Type 0} (finds : D → Found → Type 0) (d : DiscoverySource D) (members : List Member) (settings : List (Member × Bool))
+    → Discovers finds d members settings → MayGive d members settings
+may-give finds (source.Static backends) members settings found = found
+may-give finds (source.Boxed discovery) members settings found = tt
+
 -- nothing was discovered yet
 pub none-yet : {D : Type 0} (d : DiscoverySource D) → AreDiscovered d 0 []
 none-yet d = record { none = (λ none. refl); some = (λ some. absurd (omega (arith, some))) }
 
 -- an update took what was discovered, or settings alone
 taken : {D : Type 0} (d : DiscoverySource D) (members : List Member) (settings : List (Member × Bool)) (cells : List (Member × ℕ))
-    (views : List ViewEvent) (b : Bool) → same_members members (membership_after views) ≡ b → Discovers d members settings
+    (views : List ViewEvent) (b : Bool) → same_members members (membership_after views) ≡ b → MayGive d members settings
     → AreDiscovered d (generation_after views) (membership_after views)
     → (let after = after_settings settings (with_membership members cells views) in
     AreDiscovered d (generation_after after) (membership_after after))
@@ -81,7 +88,7 @@ known {s = s} same was = subst (λ x. IsServedBy x s) same was
 
 module _ {D C : Type 0} (b : BalancerValue D C) {s t : ServingValue C} where
   pub updated : IsServedBy b s → t.config ≡ s.config → (members : List Member) (settings : List (Member × Bool))
-      → Discovers b.discovery members settings → Takes members settings s t → IsServedBy b t
+      → MayGive b.discovery members settings → Takes members settings s t → IsServedBy b t
   updated was config members settings discovered takes = record {
     config = config ∙ was.config;
     views = after_settings settings (with_membership members takes.0 was.views);
@@ -107,7 +114,7 @@ module _ {D C : Type 0} (b : BalancerValue D C) {s t : ServingValue C} where
 
   -- what was renewed, or refused
   pub renewed : {A E : Type 0} (r : Result A E) → IsServedBy b s → t.config ≡ s.config
-      → (members : List Member) (settings : List (Member × Bool)) → Discovers b.discovery members settings
+      → (members : List Member) (settings : List (Member × Bool)) → MayGive b.discovery members settings
       → OnOk r (Takes members settings s t) → OnErr r ((views : List ViewEvent) → IsViewAfter views s.view → IsViewAfter views t.view)
       → IsServedBy b t
   renewed (Ok a) was config members settings discovered ok err = updated was config members settings discovered ok
@@ -142,7 +149,7 @@ first-generation members = numbered (same_members members []) members (shown_cel
 
 -- the first view of a registry, with members that were discovered
 pub first-discovered : {D : Type 0} (d : DiscoverySource D) (members : List Member) (b : Bool) → same_members members [] ≡ b
-    → Discovers d members [] → (let views = view_updated by_identity 1 members [] one_view [] in
+    → MayGive d members [] → (let views = view_updated by_identity 1 members [] one_view [] in
     AreDiscovered d (generation_after views) (membership_after views))
 first-discovered d members true same found = rw same (none-yet d)
 first-discovered d members false other found =

@@ -1,6 +1,6 @@
 -- What a balancer that threads share may serve and show: what some of its own updates left. Other threads go on changing it, so a call is
 -- made at some state of it.
-use Rattle.std.specs.Prelude.{◌≡◌, ◌<◌, ◌≤◌, ℕ, Bool, List, []}
+use Rattle.std.specs.Prelude.{◌≡◌, ◌<◌, ◌≤◌, ⊤, ℕ, Bool, List, []}
 use Rattle.lb_select_base.specs.Backends.{Member}
 use Rattle.lb_health_view.specs.Discoveries.{Discovers}
 use Rattle.lb_health_view.specs.declared.discovery.DiscoverySource.{DiscoverySource}
@@ -15,11 +15,16 @@ pub record BalancerValue (D C : Type 0) : Type 0 where
   pub config : C
   pub first : ℕ
 
+-- What a discovery may give, as far as a lock's fact can say it: a set that stays gives itself. What a caller's discovery says of itself
+-- (`finds`) isn't in it, since the type of a lock can't rest on the contract of a boxed one.
+abbrev pub MayGive : {D : Type 0} → DiscoverySource D → List Member → List (Member × Bool) → Type 0
+MayGive {D} discovery members settings = Discovers {D} (λ _ _. ⊤) discovery members settings
+
 -- Generation and members belong together: generation 0 has none, and those of another one are what the discovery may give, with some
 -- settings (`∥ ∥₁`: which ones isn't said).
 pub record AreDiscovered {D : Type 0} (discovery : DiscoverySource D) (generation : ℕ) (members : List Member) : Type 0 where
   pub none : generation ≡ 0 → members ≡ []
-  pub some : 0 < generation → ∥ ((settings : List (Member × Bool)) × Discovers discovery members settings) ∥₁
+  pub some : 0 < generation → ∥ ((settings : List (Member × Bool)) × MayGive discovery members settings) ∥₁
 
 module _ {D C : Type 0} (b : BalancerValue D C) where
   -- what the balancer may serve: a view whose newest membership was discovered, and a selector that is built with its configuration

@@ -6,7 +6,7 @@ use Rattle.lb_select_base.specs.Refusals.{memory_apart}
 use Rattle.lb_select_base.specs.declared.refusal.Refusal.{Refusal}
 use Rattle.lb_select_base.specs.declared.refusal.Refusal.TheVariants.{Discovery, OutOfMemory, GenerationsExhausted, NoSuch}
 use Rattle.lb_select_base.specs.declared.refusal.Refusal.TheVariants.{NumbersExhausted}
-use Rattle.lb_health_view.specs.Discoveries.{Discovers, MayFault}
+use Rattle.lb_health_view.specs.Discoveries.{Discovers, Found, MayFault, MayLackMemory}
 use Rattle.lb_balancer_core.specs.Timings.{Reads}
 use Rattle.lb_balancer.specs.History.{BalancerValue}
 use Rattle.lb_background.specs.declared.event.Event.{Event}
@@ -25,11 +25,12 @@ abbrev pub IsBuildRefusal : Option Refusal → Refusal → Type 0
 IsBuildRefusal build r = (memory_apart build ≡ Some r) ⊎ IsRoomRefusal r
 
 -- why an update is refused: the discovery answered a fault or was refused memory, or what it gave is refused
-abbrev pub IsSharedRefusal : {D C : Type 0} → (List Member → C → Option Refusal) → BalancerValue D C → Refusal → Type 0
-IsSharedRefusal build b r =
-    ((r ≡ Discovery) × MayFault b.discovery)
-    ⊎ ((r ≡ OutOfMemory)
-    ⊎ ((members : List Member) × (settings : List (Member × Bool)) × Discovers b.discovery members settings
+abbrev pub IsSharedRefusal :
+    {D C : Type 0} → (D → Found → Type 0) → (List Member → C → Option Refusal) → BalancerValue D C → Refusal → Type 0
+IsSharedRefusal finds build b r =
+    ((r ≡ Discovery) × MayFault finds b.discovery)
+    ⊎ (((r ≡ OutOfMemory) × MayLackMemory finds b.discovery)
+    ⊎ ((members : List Member) × (settings : List (Member × Bool)) × Discovers finds b.discovery members settings
     × IsBuildRefusal (build members b.config) r))
 
 -- the sleep ends by the shutdown, or at a reading of the clock that had come to the moment

@@ -8,12 +8,11 @@ ghost use Rattle.lb_select_base.specs.Backends.{Member, same_member};
 ghost use Rattle.lb_select_base.specs.Refusals.{Refuses, memory_apart};
 ghost use Rattle.lb_select_base.specs.Memberships.{same_members};
 ghost use Rattle.lb_rebuild_core.specs.GroupCalls.{AcceptsBy};
-ghost use Rattle.lb_health_view.specs.Discoveries.{Discovers};
 ghost use Rattle.lb_health_view.specs.RegistrySide.{settings_of};
 ghost use Rattle.lb_health_view.specs.Views.{IsViewAfter, IsViewRefusal};
 ghost use Rattle.lb_health_core.specs.Registry.{IsGrowthRefusal};
 ghost use Rattle.lb_balancer_core.specs.Timings.{Reads};
-ghost use Rattle.lb_balancer.specs.History.{IsServedBy, IsShownBy};
+ghost use Rattle.lb_balancer.specs.History.{IsServedBy, IsShownBy, MayGive};
 ghost use Rattle.lb_balancer.specs.SharedUpdates.{IsBuildRefusal, IsSharedRefusal, ReadsUpdate};
 
 use crate::origin::{KeptShown, OfServing, OfShown, Origin};
@@ -219,7 +218,7 @@ impl<
         clock: &mut K,
     ) -> Result<(), Refusal>
         ensures reads { OnOk result (ReadsUpdate K.reads clock.old clock.new) }
-        ensures refused { IfErr result (IsSharedRefusal S.refusal self.now) }
+        ensures refused { IfErr result (IsSharedRefusal D.finds S.refusal self.now) }
     {
         let _turn = self.updates.lock(rt);
         let start = clock.now();
@@ -244,7 +243,7 @@ impl<
         settings: Settings,
         clock: &mut K,
     ) -> Result<u128, Refusal>
-        requires { Discovers self.now.discovery members.keys (settings_of settings.entries) }
+        requires { MayGive self.now.discovery members.keys (settings_of settings.entries) }
         ensures reads { OnOk result ((clock.new ≡ clock.old)
             ⊎ ((before : ℕ) × (after : ℕ) × Reads K.reads clock.old (before ∷ after ∷ []) clock.new)) }
         ensures refused { IfErr result (IsBuildRefusal (S.refusal members.keys self.now.config)) }
@@ -267,7 +266,7 @@ impl<
         members: BTreeSet<Backend>,
         settings: Settings,
     ) -> Option<(BTreeSet<Backend>, Settings)>
-        requires { Discovers self.now.discovery members.keys (settings_of settings.entries) }
+        requires { MayGive self.now.discovery members.keys (settings_of settings.entries) }
         ensures { IfSome result (λ found. found ≡ (members, settings)) }
     {
         // `_key` and `founded()` are for the prover alone: they show it the value's invariant, and do nothing at run time.
@@ -325,7 +324,7 @@ impl<
     ) -> Result<(), Refusal>
         requires members { S.members (arc_value built.selector) ≡ members.keys }
         requires config { S.built_with (arc_value built.selector) ≡ self.now.config }
-        requires discovered { Discovers self.now.discovery members.keys (settings_of settings.entries) }
+        requires discovered { MayGive self.now.discovery members.keys (settings_of settings.entries) }
         ensures { OnErr result (IsViewRefusal result) }
     {
         let _key = &self.origin;

@@ -125,7 +125,7 @@ impl<
         clock: &mut K,
     ) -> Result<(), Refusal>
         ensures reads { OnOk result (ReadsUpdate K.reads clock.old clock.new) }
-        ensures refused { IfErr result (IsSharedRefusal S.refusal self.now.shared) }
+        ensures refused { IfErr result (IsSharedRefusal D.finds S.refusal self.now.shared) }
     {
         self.shared.update(rt, alloc, clock)
     }

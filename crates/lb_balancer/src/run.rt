@@ -126,7 +126,7 @@ impl<
     ghost can_check = { (pass : F) → F.IsAlwaysCallable pass };
 
     ghost updates = { λ p r q. OnOk r (ReadsUpdate K.reads p.clock.now q.clock.now)
-        × IfErr r (λ e. IsSharedRefusal S.refusal p.balancing.now e) };
+        × IfErr r (λ e. IsSharedRefusal D.finds S.refusal p.balancing.now e) };
 
     ghost checks = { λ p q. q.clock.now ≡ p.clock.now };
 

@@ -6,7 +6,7 @@ use Rattle.lb_select_base.specs.declared.refusal.Refusal.{Refusal}
 use Rattle.lb_select_base.specs.declared.refusal.Refusal.TheVariants.{OutOfMemory}
 use Rattle.lb_health_core.specs.Keys.{by_identity}
 use Rattle.lb_health_core.specs.Registry.{RegistryValue, IsRegistryAfter}
-use Rattle.lb_health_view.specs.Discoveries.{Discovers}
+use Rattle.lb_health_view.specs.Discoveries.{Discovers, Found}
 use Rattle.lb_health_view.specs.RegistrySide.{registry_updated}
 use Rattle.lb_health_view.specs.Lookups.{IsMadeOf}
 use Rattle.lb_health_view.specs.declared.discovery.DiscoverySource.{DiscoverySource}
@@ -36,10 +36,10 @@ module _ {C G R : Type 0} (gives : R → Member → Member → Type 0) (build : 
   cause-told members r is (inl some) = inr (inr (inr (members, subst (λ ms. IsMadeOf texts (Ok ms)) (sym is) made, some)))
   cause-told members r is (inr none) = inr (inl none.1)
 
-  module _ {D : Type 0} where
-    refused-of : (r : Refusal) → IsRefusal {D = D} gives (Static found) was before build r → IsTextsRefusal texts (λ ms. build ms default) r
+  module _ {D : Type 0} (finds : D → Found → Type 0) where
+    refused-of : (r : Refusal) → IsRefusal finds gives (Static found) was before build r → IsTextsRefusal texts (λ ms. build ms default) r
     refused-of r (inl h) = absurd h.1
-    refused-of r (inr (inl memory)) = inr (inl memory)
+    refused-of r (inr (inl memory)) = inr (inl memory.0)
     refused-of r (inr (inr a)) =
         cause-told a.members r a.discovered.0
         (subst (λ c. IsFor (update_cause (build a.members c) by_identity 1 a.members one_view (Took [] ∷ [])) r) config
@@ -48,19 +48,19 @@ module _ {C G R : Type 0} (gives : R → Member → Member → Type 0) (build : 
 
     -- the one update of it is refused
     pub update-refused : (discovery : DiscoverySource D) (r : Refusal) → discovery ≡ Static found
-        → IsRefusal gives discovery was before build r
+        → IsRefusal finds gives discovery was before build r
         → IsTextsRefusal texts (λ ms. build ms default) r
-    update-refused discovery r is h = refused-of r (subst (λ d. IsRefusal gives d was before build r) is h)
+    update-refused discovery r is h = refused-of r (subst (λ d. IsRefusal finds gives d was before build r) is h)
 
     -- the one update of it is made
     pub updated-once : {K : Type 0} (reads : K → ℕ → K → Type 0) (discovery after_discovery : DiscoverySource D) (clock clock_after : K)
         (now : ServedValue C G) (after : RegistryValue R) (timing : Option UpdateTimings) → discovery ≡ Static found
         → after_discovery ≡ discovery
-        → IsUpdated gives discovery was before build reads clock clock_after now after timing
+        → IsUpdated finds gives discovery was before build reads clock clock_after now after timing
         → IsOfTexts gives reads texts clock clock_after after_discovery now after timing
     updated-once reads discovery after_discovery clock clock_after now after timing is same u =
-        let discovered : Discovers {D = D} (Static found) u.members u.settings =
-        subst (λ d. Discovers d u.members u.settings) is u.discovered in
+        let discovered : Discovers finds (Static found) u.members u.settings =
+        subst (λ d. Discovers finds d u.members u.settings) is u.discovered in
         record {
           members = found;
           times = u.times;

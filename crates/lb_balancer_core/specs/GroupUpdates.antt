@@ -7,7 +7,7 @@ use Rattle.lb_health_core.specs.Registry.{RegistryValue, IsRegistryAfter}
 use Rattle.lb_health_core.specs.RegistryEvents.{Event, Applied, Updated, cells_given, has_view, views_after}
 use Rattle.lb_rebuild_core.specs.SlotsCalls.{is_change, schedule_refusal}
 use Rattle.lb_rebuild_core.specs.declared.membership.Scheduled.{Scheduled}
-use Rattle.lb_health_view.specs.Discoveries.{Discovers, MayFault}
+use Rattle.lb_health_view.specs.Discoveries.{Discovers, Found, MayFault, MayLackMemory}
 use Rattle.lb_health_view.specs.RegistrySide.{registry_updated}
 use Rattle.lb_health_view.specs.declared.discovery.DiscoverySource.{DiscoverySource}
 use Rattle.lb_rebuild_core.specs.GroupCalls.{IsRefusedFor, Schedules, after_schedule}
@@ -16,7 +16,8 @@ use Rattle.lb_rebuild_core.specs.GroupStates.{GroupValue, Stands, After, views_o
 use Rattle.lb_balancer_core.specs.Timings.{Reads, update_timing}
 use Rattle.lb_balancer_core.specs.declared.timings.UpdateTimings.{UpdateTimings}
 
-module _ {D C R : Type 0} (gives : R → Member → Member → Type 0) (discovery : DiscoverySource D) (was : GroupValue C)
+module _ {D C R : Type 0} (finds : D → Found → Type 0) (gives : R → Member → Member → Type 0)
+    (discovery : DiscoverySource D) (was : GroupValue C)
     (before : RegistryValue R) where
   -- the discovery gave members and settings, and they were scheduled at the second of the moments that were read
   pub record IsGroupUpdated {K : Type 0} (reads : K → ℕ → K → Type 0) (clock clock_after : K) (now : GroupValue C)
@@ -25,7 +26,7 @@ module _ {D C R : Type 0} (gives : R → Member → Member → Type 0) (discover
     pub settings : List (Member × Bool)
     pub start : ℕ
     pub moment : ℕ
-    pub discovered : Discovers discovery members settings
+    pub discovered : Discovers finds discovery members settings
     pub read : Reads reads clock (start ∷ moment ∷ []) clock_after
     pub timed : timing ≡ update_timing (start ∷ moment ∷ [])
     pub answers : After was (λ made e. Schedules made e members (Ok s))
@@ -39,7 +40,7 @@ module _ {D C R : Type 0} (gives : R → Member → Member → Type 0) (discover
   pub record AreRefused (r : Refusal) : Type 0 where
     pub members : List Member
     pub settings : List (Member × Bool)
-    pub discovered : Discovers discovery members settings
+    pub discovered : Discovers finds discovery members settings
     pub cause : After was (λ made e. IsRefusedFor (slot_events e) members r)
     pub unknown : r ≡ NoSuch → (key_of : Member → Member) (events : List Event) → IsRegistryAfter gives key_of events before
         → has_view was.view.id (views_after events) ≡ false
@@ -55,4 +56,4 @@ module _ {D C R : Type 0} (gives : R → Member → Member → Type 0) (discover
 
   -- the discovery answers a fault or is refused memory, or what it gave is refused
   abbrev pub IsGroupRefusal : Refusal → Type 0
-  IsGroupRefusal r = ((r ≡ Discovery) × MayFault discovery) ⊎ ((r ≡ OutOfMemory) ⊎ AreRefused r)
+  IsGroupRefusal r = ((r ≡ Discovery) × MayFault finds discovery) ⊎ (((r ≡ OutOfMemory) × MayLackMemory finds discovery) ⊎ AreRefused r)

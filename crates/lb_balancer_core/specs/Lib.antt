@@ -4,7 +4,6 @@ pub mod Builds
 pub mod Calls
 pub mod Choices
 pub mod Due
-pub mod Found
 pub mod GroupUpdates
 pub mod Internal
 pub mod Lent

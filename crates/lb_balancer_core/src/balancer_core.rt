@@ -117,14 +117,14 @@ impl<S: BackendSelection, G: Rng + Drop, D: ServiceDiscovery + Drop> LoadBalance
         registry: &mut Registry<R>,
         clock: &mut K,
     ) -> Result<(), Refusal>
-        ensures updated { OnOk result (IsUpdated R.gives self.old.discovery self.old.served registry.old S.refusal K.reads clock.old
+        ensures updated { OnOk result (IsUpdated D.finds R.gives self.old.discovery self.old.served registry.old S.refusal K.reads clock.old
             clock.new self.new.served registry.new self.new.timing) }
         ensures err { OnErr result (After self.old.served (λ e. Stands e self.new.served)) }
         ensures registry_err { OnErr result ((key_of : Member → Member) (events : List Event)
             → IsRegistryAfter R.gives key_of events registry.old
             → IsRegistryAfter R.gives key_of events registry.new) }
         ensures kept { OnErr result (self.new ≡ record self.old { served = record self.old.served { view = self.new.served.view } }) }
-        ensures refused { IfErr result (IsRefusal R.gives self.old.discovery self.old.served registry.old S.refusal) }
+        ensures refused { IfErr result (IsRefusal D.finds R.gives self.old.discovery self.old.served registry.old S.refusal) }
         ensures discovery { self.new.discovery ≡ self.old.discovery }
         ensures words { (self.new.served.words.generator ≡ self.old.served.words.generator)
             × (self.new.served.words.loads ≡ self.old.served.words.loads) }

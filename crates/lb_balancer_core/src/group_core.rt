@@ -94,14 +94,14 @@ impl<S: BackendSelection, D: ServiceDiscovery + Drop> LoadBalancerGroupCore<S, D
         registry: &mut Registry<R>,
         clock: &mut K,
     ) -> Result<Scheduled, Refusal>
-        ensures updated { IfOk result (λ s. IsGroupUpdated R.gives self.old.discovery self.old.group registry.old
+        ensures updated { IfOk result (λ s. IsGroupUpdated D.finds R.gives self.old.discovery self.old.group registry.old
             K.reads clock.old clock.new self.new.group registry.new self.new.timing s) }
         ensures err { OnErr result (After self.old.group (λ made e. Stands made e self.new.group)) }
         ensures registry_err { OnErr result ((key_of : Member → Member) (events : List Event)
             → IsRegistryAfter R.gives key_of events registry.old
             → IsRegistryAfter R.gives key_of events registry.new) }
         ensures timing_err { OnErr result (self.new.timing ≡ self.old.timing) }
-        ensures refused { IfErr result (IsGroupRefusal R.gives self.old.discovery self.old.group registry.old) }
+        ensures refused { IfErr result (IsGroupRefusal D.finds R.gives self.old.discovery self.old.group registry.old) }
         ensures discovery { self.new.discovery ≡ self.old.discovery }
         ensures site { SameSite self.old.group self.new.group }
     {

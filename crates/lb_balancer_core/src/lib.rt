@@ -13,7 +13,6 @@ mod plain_calls;
 pub mod port;
 pub mod select;
 pub mod served;
-pub mod source;
 pub mod timings;
 pub mod turn;
 pub mod update;

@@ -163,14 +163,14 @@ impl<
     ///
     /// Those of `LoadBalancerCore::update`. All but the clock is then as before.
     pub fn update<K: MomentSource>(&mut self, alloc: Global, clock: &mut K) -> Result<(), Refusal>
-        ensures updated { OnOk result (IsUpdated R.gives self.old.core.discovery self.old.core.served self.old.registry.registry
+        ensures updated { OnOk result (IsUpdated D.finds R.gives self.old.core.discovery self.old.core.served self.old.registry.registry
             S.refusal K.reads clock.old clock.new self.new.core.served self.new.registry.registry self.new.core.timing) }
         ensures err { OnErr result (After self.old.core.served (λ e. Stands e self.new.core.served)) }
         ensures registry_err { OnErr result ((key_of : Member → Member) (events : List Event)
             → IsRegistryAfter R.gives key_of events self.old.registry.registry
             → IsRegistryAfter R.gives key_of events self.new.registry.registry) }
         ensures timing_err { OnErr result (self.new.core.timing ≡ self.old.core.timing) }
-        ensures refused { IfErr result (IsRefusal R.gives self.old.core.discovery self.old.core.served self.old.registry.registry
+        ensures refused { IfErr result (IsRefusal D.finds R.gives self.old.core.discovery self.old.core.served self.old.registry.registry
             S.refusal) }
         ensures discovery { self.new.core.discovery ≡ self.old.core.discovery }
         ensures words { (self.new.core.served.words.generator ≡ self.old.core.served.words.generator)

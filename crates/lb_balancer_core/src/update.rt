@@ -2,7 +2,7 @@
 ghost use Rattle.lb_balancer_core.specs.Through.{UpdatedThrough};
 
 use crate::port::GroupPort;
-use crate::source::BackendSource;
+use lb_health_view::discovery::ServiceDiscovery;
 use lb_select_base::moments::MomentSource;
 use lb_select_base::refusal::Refusal;
 use lb_select_base::walk::BackendSelection;
@@ -13,7 +13,7 @@ use std::alloc::Global;
 /// # Errors
 ///
 /// What the discovery is refused for, and then no call is made; and what the port refuses.
-pub fn update_through<S: BackendSelection, P: GroupPort<S>, D: BackendSource, K: MomentSource>(
+pub fn update_through<S: BackendSelection, P: GroupPort<S>, D: ServiceDiscovery, K: MomentSource>(
     alloc: Global,
     port: &mut P,
     discovery: &D,

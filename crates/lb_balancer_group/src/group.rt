@@ -9,7 +9,7 @@ ghost use Rattle.lb_rebuild_core.specs.GroupCalls.{IsMakingRefusal};
 ghost use Rattle.lb_rebuild_core.specs.GroupHistory.{slot_events};
 ghost use Rattle.lb_rebuild_core.specs.GroupStates.{After, Stands};
 ghost use Rattle.lb_balancer_core.specs.Timings.{selector_timings};
-ghost use Rattle.lb_balancer_core.specs.Found.{FoundBy};
+ghost use Rattle.lb_health_view.specs.Discoveries.{FoundBy};
 ghost use Rattle.lb_balancer_core.specs.Looks.{Answers};
 ghost use Rattle.lb_threads_group.specs.Group.{Seen, UpdatedUnder};
 ghost use Rattle.lb_threads_group.specs.Kept.{SelectedFrom};
@@ -200,7 +200,7 @@ impl<
         alloc: Global,
         clock: &mut K,
     ) -> Result<u64, Refusal>
-        ensures { UpdatedUnder R.gives K.reads FoundBy self.now.discovery clock.old (arc_value self.now.shared) result clock.new }
+        ensures { UpdatedUnder R.gives K.reads (FoundBy D.finds) self.now.discovery clock.old (arc_value self.now.shared) result clock.new }
     {
         let turn = self.updates.lock(rt);
         let mut noting = Noting {

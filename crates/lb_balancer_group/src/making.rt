@@ -3,7 +3,7 @@ ghost use Rattle.std.specs.Prelude.{◌≡◌, ◌+◌, ◌⊎◌, [], Some, Non
 ghost use Rattle.std.specs.Arc.{arc_value};
 ghost use Rattle.lb_select_base.specs.Refusals.{least, memory_apart as apart};
 ghost use Rattle.lb_rebuild_core.specs.GroupCalls.{IsMakingRefusal};
-ghost use Rattle.lb_balancer_core.specs.Found.{FoundBy};
+ghost use Rattle.lb_health_view.specs.Discoveries.{FoundBy};
 ghost use Rattle.lb_threads_group.specs.Group.{UpdatedUnder};
 ghost use Rattle.lb_balancer_group.specs.Made.{IsNewGroup, slot_configs};
 
@@ -209,7 +209,7 @@ pub(crate) fn update_noting<
     discovery: &DiscoverySource<D>,
     noting: &mut Noting<'c, K>,
 ) -> Result<u64, Refusal>
-    ensures updated { UpdatedUnder R.gives K.reads FoundBy discovery.now noting.old.clock.now group.now result noting.new.clock.now }
+    ensures updated { UpdatedUnder R.gives K.reads (FoundBy D.finds) discovery.now noting.old.clock.now group.now result noting.new.clock.now }
     ensures same_reference { noting.new.clock.ghost_name ≡ noting.old.clock.ghost_name }
 {
     group.update(rt, alloc, discovery, noting)

@@ -4,7 +4,7 @@ ghost use Rattle.std.specs.Prelude.{◌≡◌, ◌≤◌, ◌<◌, ◌+◌, Ok, 
 ghost use Rattle.std.specs.Arc.{arc_value};
 ghost use Rattle.std.specs.Fn.{FnReturnsAt};
 ghost use Rattle.lb_rebuild.specs.Pass.{IsLoad, IsLater, AreServed, HasSeenBelow, HasMet, newest_of, served_of};
-ghost use Rattle.lb_balancer_core.specs.Found.{FoundBy};
+ghost use Rattle.lb_health_view.specs.Discoveries.{FoundBy};
 ghost use Rattle.lb_threads_group.specs.Group.{EnteredUnder, LeftUnder, UpdatedUnder};
 ghost use Rattle.lb_threads_group.specs.Shared.{IsEntryRefusal, SelectsByAny};
 
@@ -101,7 +101,7 @@ impl<
         pass: &mut GroupPass,
     ) -> Result<u64, Refusal>
         requires { pass.old.board ≡ (arc_value self.now.shared).board }
-        ensures updated { UpdatedUnder R.gives K.reads FoundBy self.now.discovery clock.old (arc_value self.now.shared) result
+        ensures updated { UpdatedUnder R.gives K.reads (FoundBy D.finds) self.now.discovery clock.old (arc_value self.now.shared) result
             clock.new }
         ensures seen { IfOk result (λ g. g ≤ newest_of pass.new) }
         ensures later { IsLater pass.old pass.new }

@@ -193,7 +193,7 @@ impl<
     ghost use Rattle.std.specs.Prelude.{◌≡◌, None};
     ghost use Rattle.std.specs.Arc.{arc_value};
     ghost use Rattle.lb_threads_group.specs.Group.{UpdatedUnder};
-    ghost use Rattle.lb_balancer_core.specs.Found.{FoundBy};
+    ghost use Rattle.lb_health_view.specs.Discoveries.{FoundBy};
     ghost use Rattle.lb_balancer_group.specs.Readiness.{EndsSleep};
 
     ghost moments = { λ p moment q. K.reads p.clock.now moment q.clock.now };
@@ -204,7 +204,7 @@ impl<
 
     ghost can_run = { ((start : F) → F.IsAlwaysCallable start) × ((pass : G) → G.IsAlwaysCallable pass) };
 
-    ghost updates = { λ p r q. UpdatedUnder R.gives K.reads FoundBy p.group.now.discovery p.clock.now
+    ghost updates = { λ p r q. UpdatedUnder R.gives K.reads (FoundBy D.finds) p.group.now.discovery p.clock.now
         (arc_value p.group.now.shared) r q.clock.now };
 
     ghost checks = { λ p q. q.clock.now ≡ p.clock.now };

@@ -6,7 +6,7 @@ use Rattle.lb_select_base.specs.declared.refusal.Refusal.TheVariants.{Discovery}
 use Rattle.lb_health_core.specs.Registry.{IsRegistryAfter}
 use Rattle.lb_health_core.specs.RegistryEvents.{Event}
 use Rattle.lb_health_view.specs.declared.discovery.DiscoverySource.{DiscoverySource}
-use Rattle.lb_health_view.specs.Discoveries.{Discovers}
+use Rattle.lb_health_view.specs.Discoveries.{Discovers, Found}
 use Rattle.lb_health_view.specs.RegistrySide.{view_updated, registry_updated}
 use Rattle.lb_health_view.specs.Passes.{HealthValue}
 use Rattle.lb_health_view.specs.Snapshots.{ViewValue}
@@ -20,11 +20,11 @@ pub record BackendsValue (D R C : Type 0) : Type 0 where
   pub view : ViewValue
 
 -- the view and its registry after an update by members and settings that the discovery gave
-pub record IsUpdated {D R C : Type 0} (gives : R → Member → Member → Type 0) (key_of : Member → Member) (views : List ViewEvent)
-    (events : List Event) (id : ℕ) (after : BackendsValue D R C) : Type 0 where
+pub record IsUpdated {D R C : Type 0} (finds : D → Found → Type 0) (gives : R → Member → Member → Type 0) (key_of : Member → Member)
+    (views : List ViewEvent) (events : List Event) (id : ℕ) (after : BackendsValue D R C) : Type 0 where
   pub members : List Member
   pub settings : List (Member × Bool)
-  pub discovered : Discovers after.discovery members settings
+  pub discovered : Discovers finds after.discovery members settings
   pub view : IsViewAfter (view_updated key_of id members settings events views) after.view
   pub registry : IsRegistryAfter gives key_of (registry_updated key_of id members views events) after.health.registry
 

@@ -201,7 +201,7 @@ impl<D: ServiceDiscovery + Drop, R: KeyRule + Drop, C: HealthCheck + Drop> Backe
         ensures ok { OnOk result ((key_of : Member → Member) (views : List ViewEvent) (events : List Event)
             → IsViewAfter views self.old.view
             → IsRegistryAfter R.gives key_of events self.old.health.registry
-            → IsUpdated R.gives key_of views events self.old.view.id self.new) }
+            → IsUpdated D.finds R.gives key_of views events self.old.view.id self.new) }
         ensures told { IfOk result (λ answer. MatchOption answer (self.new.view.generation ≡ self.old.view.generation)
             (λ t. (self.new.view.generation ≡ self.old.view.generation + 1) × IfHead self.new.view.snapshots
             (λ s. (set : BTreeSet Member Global) × (set.keys ≡ s.members) × FnOnceReturnsAt F.FnOnce changed set t))) }
@@ -210,7 +210,7 @@ impl<D: ServiceDiscovery + Drop, R: KeyRule + Drop, C: HealthCheck + Drop> Backe
             → IsRegistryAfter R.gives key_of events self.old.health.registry
             → IsViewAfter views self.new.view × IsRegistryAfter R.gives key_of events self.new.health.registry) }
         ensures refused { OnErr result (IsBackendsRefusal result) }
-        ensures fault { IsErrOf result Refusal.Discovery → MayFault self.old.discovery }
+        ensures fault { IsErrOf result Refusal.Discovery → MayFault D.finds self.old.discovery }
         ensures last { IsErrOf result Refusal.GenerationsExhausted → (views : List ViewEvent) → IsViewAfter views self.old.view
             → generation_after views + 1 ≡ 2 ^ 64 }
         ensures unknown { IsErrOf result Refusal.NoSuch → (key_of : Member → Member) (events : List Event)

@@ -1,9 +1,9 @@
 //! Discovery: where the backends of a view come from.
 //! A discovery gives a set and settings; of a backend that the settings omit the flag stays.
-ghost use Rattle.std.specs.Prelude.{◌≡◌, ℕ, [], List, IfOk, IsErrOf, OnErr, Err};
+ghost use Rattle.std.specs.Prelude.{◌≡◌, ⊤, ℕ, [], List, IfOk, IsErrOf, OnErr, Err};
 ghost use Rattle.std.specs.Borrow.{Bor};
 ghost use Rattle.std.specs.Iterator.{Drains, IsFinite};
-ghost use Rattle.lb_health_view.specs.Discoveries.{Discovers, MayFault, IsDiscoveryRefusal, IsLookupRefusal};
+ghost use Rattle.lb_health_view.specs.Discoveries.{Discovers, Found, MayFault, MayLackMemory, IsDiscoveryRefusal, IsLookupRefusal, found_of};
 ghost use Rattle.lb_health_view.specs.RegistrySide.{settings_of};
 ghost use Rattle.lb_health_view.specs.Lookups.{IsMadeOf};
 
@@ -21,16 +21,22 @@ pub type Discovered = (BTreeSet<Backend>, Settings);
 
 /// A source of backends.
 pub trait ServiceDiscovery {
+    /// What the discovery may return: anything, for one that doesn't say.
+    ghost finds: { Self → Found → Type 0 } = { λ _ _. ⊤ };
+
     /// Returns the backends that are there now.
     ///
     /// A fault is `Discovery`; `OutOfMemory` where memory is refused.
-    fn discover(&self, alloc: Global) -> Result<Discovered, Refusal>;
+    fn discover(&self, alloc: Global) -> Result<Discovered, Refusal>
+        ensures { finds self.now (found_of result) };
 }
 
 /// The caller's discovery behind a box.
 pub type BoxedDiscovery = Box<dyn ServiceDiscovery + Send + Sync + Drop>;
 
 impl ServiceDiscovery for BoxedDiscovery {
+    ghost finds = { λ b found. (ServiceDiscovery-box b).finds b.value found };
+
     fn discover(&self, alloc: Global) -> Result<Discovered, Refusal> {
         (**self).discover(alloc)
     }
@@ -114,6 +120,10 @@ impl Static {
 }
 
 impl ServiceDiscovery for Static {
+    ghost use Rattle.lb_health_view.specs.Discoveries.{Stays};
+
+    ghost finds = { Stays };
+
     fn discover(&self, alloc: Global) -> Result<Discovered, Refusal>
         ensures ok { IfOk result (λ found. (found.0.keys ≡ self.now) × (found.1.entries ≡ [])) }
         ensures refused { OnErr result (result ≡ Err Refusal.OutOfMemory) }
@@ -131,13 +141,18 @@ pub enum DiscoverySource<D = BoxedDiscovery> {
 }
 
 impl<D: ServiceDiscovery> ServiceDiscovery for DiscoverySource<D> {
+    ghost use Rattle.lb_health_view.specs.Discoveries.{FoundBy};
+
+    ghost finds = { FoundBy D.finds };
+
     /// Returns the backends that the set or the caller's discovery gives now.
     ///
     /// A caller's fault becomes `Discovery`, whatever its refusal, save `OutOfMemory`.
     fn discover(&self, alloc: Global) -> Result<Discovered, Refusal>
-        ensures ok { IfOk result (λ found. Discovers self.now found.0.keys (settings_of found.1.entries)) }
+        ensures ok { IfOk result (λ found. Discovers D.finds self.now found.0.keys (settings_of found.1.entries)) }
         ensures refused { OnErr result (IsDiscoveryRefusal result) }
-        ensures fault { IsErrOf result Refusal.Discovery → MayFault self.now }
+        ensures fault { IsErrOf result Refusal.Discovery → MayFault D.finds self.now }
+        ensures memory { IsErrOf result Refusal.OutOfMemory → MayLackMemory D.finds self.now }
     {
         match self {
             DiscoverySource::Static(backends) => backends.discover(alloc),

@@ -7,7 +7,7 @@ use Rattle.lb_select_base.specs.declared.refusal.Refusal.{Refusal}
 use Rattle.lb_select_base.specs.declared.refusal.Refusal.TheVariants.{Discovery}
 use Rattle.lb_health_core.specs.Registry.{RegistryValue, IsRegistryAfter}
 use Rattle.lb_health_core.specs.RegistryEvents.{Event}
-use Rattle.lb_health_view.specs.Discoveries.{Discovers}
+use Rattle.lb_health_view.specs.Discoveries.{Discovers, Found}
 use Rattle.lb_health_view.specs.RegistrySide.{registry_updated}
 use Rattle.lb_health_view.specs.Snapshots.{ViewValue}
 use Rattle.lb_health_view.specs.ViewEvents.{ViewEvent}
@@ -60,13 +60,13 @@ module _ {R : Type 0} {gives : R → Member → Member → Type 0} where
       (λ key_of events after. ok key_of p.0 events p.1 after)
   taken-later (Err a) v members p ok err = stays err
 
-  module _ {D : Type 0} (site : ViewHandle D R) where
+  module _ {D : Type 0} (finds : D → Found → Type 0) (site : ViewHandle D R) where
     module _ {members : List Member} {settings : List (Member × Bool)} {v w : ViewValue} {r : Result Bool Refusal}
-        (found : Discovers site.discovery members settings) (old : IsState site.id v) (new : IsState site.id w)
+        (found : Discovers finds site.discovery members settings) (old : IsState site.id v) (new : IsState site.id w)
         (taken : UnderRegistry gives site.registry (λ x y. IsTakenIn gives members settings v x r w y)) where
       under : (Call : List Member → List (Member × Bool) → ViewValue → RegistryValue R → ViewValue → RegistryValue R → Type 0)
           → ((x y : RegistryValue R) → IsTakenIn gives members settings v x r w y → Call members settings v x w y)
-          → UnderBoth gives site Call
+          → UnderBoth gives finds site Call
       under Call more = (
         members,
         (
@@ -86,7 +86,7 @@ module _ {R : Type 0} {gives : R → Member → Member → Type 0} where
 
       -- another membership, of which the caller's function answered this
       pub updated-other : {T : Type 0} (Answers : List Member → T → Type 0) (t : T) → r ≡ Ok true → Answers members t
-          → UpdatedUnder gives site Answers (Some t)
+          → UpdatedUnder gives finds site Answers (Some t)
       updated-other Answers t is answers =
           under (λ members settings v x w y. Takes gives members settings v x w y × Calls members Answers v (Some t))
           (λ x y told. (
@@ -95,12 +95,12 @@ module _ {R : Type 0} {gives : R → Member → Member → Type 0} where
           ))
 
       -- the same membership
-      pub updated-same : {T : Type 0} (Answers : List Member → T → Type 0) → r ≡ Ok false → UpdatedUnder gives site Answers None
+      pub updated-same : {T : Type 0} (Answers : List Member → T → Type 0) → r ≡ Ok false → UpdatedUnder gives finds site Answers None
       updated-same Answers is =
           under (λ members settings v x w y. Takes gives members settings v x w y × Calls members Answers v None)
           (λ x y told. (IfOk-at_ok _ is told.ok, λ views after. is-same false _ (IfOk-at_ok _ is told.changed views after) refl))
 
-      pub refused-for : (e : Refusal) → r ≡ Err e → RefusedFor gives site e
+      pub refused-for : (e : Refusal) → r ≡ Err e → RefusedFor gives finds site e
       refused-for e is = record {
         last = λ why. under (λ members settings v x w y. Keeps gives v x w y × HasLast v)
             (λ x y told. (at-err is told.err, told.last (is ∙ ap Err why)));

@@ -10,7 +10,7 @@ use Rattle.lb_select_base.specs.declared.refusal.Refusal.TheVariants.{Generation
 use Rattle.lb_health_core.specs.Registry.{RegistryValue, IsRegistryAfter}
 use Rattle.lb_health_core.specs.RegistryEvents.{Event, Applied, Registered, Updated, cells_given, has_view}
 use Rattle.lb_health_core.specs.RegistryEvents.{registered_after, views_after}
-use Rattle.lb_health_view.specs.Discoveries.{Discovers}
+use Rattle.lb_health_view.specs.Discoveries.{Discovers, Found}
 use Rattle.lb_health_view.specs.RegistrySide.{IsReady, registry_updated, view_updated}
 use Rattle.lb_health_view.specs.Snapshots.{ViewValue}
 use Rattle.lb_health_view.specs.ViewEvents.{ViewEvent, generation_after, membership_after}
@@ -100,12 +100,12 @@ module _ {R : Type 0} (gives : R → Member → Member → Type 0) where
     pub unknown : IsErrOf r NoSuch → LacksView v x
     pub numbers : IsErrOf r NumbersExhausted → LacksNumbers members v x
 
-  module _ {D : Type 0} (site : ViewHandle D R) where
+  module _ {D : Type 0} (finds : D → Found → Type 0) (site : ViewHandle D R) where
     -- a call with what was discovered, made at some state of the view and of its registry
     abbrev pub UnderBoth :
         (List Member → List (Member × Bool) → ViewValue → RegistryValue R → ViewValue → RegistryValue R → Type 0) → Type 0
     UnderBoth Call =
-        (members : List Member) × ((settings : List (Member × Bool)) × (Discovers site.discovery members settings
+        (members : List Member) × ((settings : List (Member × Bool)) × (Discovers finds site.discovery members settings
         × UnderRegistry gives site.registry (λ x y. Under site.id (λ v w. Call members settings v x w y))))
 
     -- an update, and what the caller's function answered of the new membership

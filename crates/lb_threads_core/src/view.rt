@@ -191,11 +191,11 @@ impl<D: ServiceDiscovery + Drop, R: KeyRule + Drop, C: HealthCheck + Drop> Backe
         changed: F,
     ) -> Result<Option<T>, Refusal>
         requires { F.IsAlwaysCallable changed }
-        ensures updated { IfOk result (λ answer. UpdatedUnder R.gives self.now
+        ensures updated { IfOk result (λ answer. UpdatedUnder R.gives D.finds self.now
             (λ members t. (set : BTreeSet Member Global) × (set.keys ≡ members) × FnOnceReturnsAt F.FnOnce changed set t) answer) }
         ensures refused { OnErr result (IsBackendsRefusal result) }
-        ensures fault { IsErrOf result Refusal.Discovery → MayFault self.now.discovery }
-        ensures causes { IfErr result (RefusedFor R.gives self.now) }
+        ensures fault { IsErrOf result Refusal.Discovery → MayFault D.finds self.now.discovery }
+        ensures causes { IfErr result (RefusedFor R.gives D.finds self.now) }
     {
         let _turn = self.updates.lock(rt);
         let (members, settings) = self.discovery.discover(alloc)?;

@@ -8,7 +8,6 @@ ghost use Rattle.lb_threads_group.specs.Shared.{IsSame};
 use crate::found::{SlotWords, WordsLock};
 use crate::kept::{Site, SlotLanes};
 use crate::port::LockedPort;
-use lb_balancer_core::source::BackendSource;
 use lb_balancer_core::update::update_through;
 use lb_health_core::health_check::HealthCheck;
 use lb_health_core::keys::KeyRule;
@@ -319,7 +318,7 @@ impl<S: BackendSelection, R: KeyRule + Drop, C: HealthCheck + Drop> SharedGroup<
     /// # Errors
     ///
     /// Those of `update_through`.
-    pub fn update<W: Wait, D: BackendSource, K: MomentSource>(
+    pub fn update<W: Wait, D: ServiceDiscovery, K: MomentSource>(
         &self,
         rt: &W,
         alloc: Global,
@@ -442,7 +441,7 @@ fn update_on<
     R: KeyRule + Drop,
     C: HealthCheck + Drop,
     W: Wait,
-    D: BackendSource,
+    D: ServiceDiscovery,
     K: MomentSource,
 >(
     alloc: Global,

@@ -12,7 +12,6 @@ ghost use Rattle.lb_threads_group.specs.Shared.{IsSame, IsEntryRefusal, SelectsB
 use crate::group::SharedGroup;
 use crate::port::LockedPort;
 use lb_balancer_core::port::TakesBack;
-use lb_balancer_core::source::BackendSource;
 use lb_health_core::health_check::HealthCheck;
 use lb_health_core::keys::KeyRule;
 use lb_rebuild::board::GroupPass;
@@ -100,7 +99,7 @@ impl<S: BackendSelection, R: KeyRule + Drop, C: HealthCheck + Drop> SharedGroup<
     /// # Errors
     ///
     /// Those of `update`.
-    pub fn update_as<W: Wait, D: BackendSource, K: MomentSource>(
+    pub fn update_as<W: Wait, D: ServiceDiscovery, K: MomentSource>(
         &self,
         rt: &W,
         alloc: Global,

@@ -10,13 +10,13 @@ pub returns-in-Ok-true-clause-updated : goal.returns-in-Ok-true-clause-updated
 returns-in-Ok-true-clause-updated g c =
     let newest = c.in-Ok-true.ensures.newest c.in-Ok-true.field-0-test in
     let shown = c.show.ensures in
-    updated-other c.args.self.now (search rules) (search rules) c.take_in.ensures.state c.take_in.ensures.taken
+    updated-other g.D.ServiceDiscovery.finds c.args.self.now (search rules) (search rules) c.take_in.ensures.state c.take_in.ensures.taken
     (λ members t. (set : BTreeSet Member) × (set.keys ≡ members) × FnOnceReturnsAt g.F.FnOnce c.args.changed set t)
     c.show.result (c.in-Ok-true.is ∙ ap Ok c.in-Ok-true.field-0-test) (shown.0, shown.1 newest.0 newest.1 ∙ newest.2, shown.2)
 
 pub returns-in-Ok-false-clause-updated : goal.returns-in-Ok-false-clause-updated
 returns-in-Ok-false-clause-updated g c =
-    updated-same c.args.self.now (search rules) (search rules) c.take_in.ensures.state c.take_in.ensures.taken
+    updated-same g.D.ServiceDiscovery.finds c.args.self.now (search rules) (search rules) c.take_in.ensures.state c.take_in.ensures.taken
     (λ members t. (set : BTreeSet Member) × (set.keys ≡ members) × FnOnceReturnsAt g.F.FnOnce c.args.changed set t)
     (c.in-Ok-false.is ∙ ap Ok c.in-Ok-false.field-0-test)
 
@@ -28,4 +28,4 @@ returns-in-Err-clause-fault g c fault = absurd (no-fault c.in-Err.refusal c.in-E
 
 pub returns-in-Err-clause-causes : goal.returns-in-Err-clause-causes
 returns-in-Err-clause-causes g c =
-    refused-for c.args.self.now (search rules) (search rules) c.take_in.ensures.state c.take_in.ensures.taken c.in-Err.refusal c.in-Err.is
+    refused-for g.D.ServiceDiscovery.finds c.args.self.now (search rules) (search rules) c.take_in.ensures.state c.take_in.ensures.taken c.in-Err.refusal c.in-Err.is
