@@ -209,7 +209,8 @@ pub(crate) fn update_noting<
     discovery: &DiscoverySource<D>,
     noting: &mut Noting<'c, K>,
 ) -> Result<u64, Refusal>
-    ensures updated { UpdatedUnder R.gives K.reads (FoundBy D.finds) discovery.now noting.old.clock.now group.now result noting.new.clock.now }
+    ensures updated { UpdatedUnder R.gives K.reads (FoundBy D.finds) discovery.now noting.old.clock.now group.now result
+        noting.new.clock.now }
     ensures same_reference { noting.new.clock.ghost_name ≡ noting.old.clock.ghost_name }
 {
     group.update(rt, alloc, discovery, noting)

@@ -3,7 +3,8 @@
 ghost use Rattle.std.specs.Prelude.{◌≡◌, ⊤, ℕ, [], List, IfOk, IsErrOf, OnErr, Err};
 ghost use Rattle.std.specs.Borrow.{Bor};
 ghost use Rattle.std.specs.Iterator.{Drains, IsFinite};
-ghost use Rattle.lb_health_view.specs.Discoveries.{Discovers, Found, MayFault, MayLackMemory, IsDiscoveryRefusal, IsLookupRefusal, found_of};
+ghost use Rattle.lb_health_view.specs.Discoveries.{Discovers, Found, MayFault, MayLackMemory, found_of};
+ghost use Rattle.lb_health_view.specs.Discoveries.{IsDiscoveryRefusal, IsLookupRefusal};
 ghost use Rattle.lb_health_view.specs.RegistrySide.{settings_of};
 ghost use Rattle.lb_health_view.specs.Lookups.{IsMadeOf};
 

@@ -7,7 +7,9 @@ use Rattle.lb_balancer_core.proofs.group_core.LoadBalancerGroupCore.update.Goals
 pub returns-in_err-scheduled-clause-refused : goal.returns-in_err-scheduled-clause-refused
 returns-in_err-scheduled-clause-refused g c =
     let is : c.from_residual-in_err-scheduled.result ≡ Err c.in_err-scheduled.field-0.0 = search rules in
-    subst (λ r. IfErr r (IsGroupRefusal g.D.ServiceDiscovery.finds g.R.KeyRule.gives c.args.self.now.discovery c.args.self.now.group c.args.registry.now)) (sym is)
+    let finds = g.D.ServiceDiscovery.finds in
+    let site = c.args.self.now in
+    subst (λ r. IfErr r (IsGroupRefusal finds g.R.KeyRule.gives site.discovery site.group c.args.registry.now)) (sym is)
     (inr (inr (record {
       members = c.in_ok-members.members.keys;
       settings = settings_of c.in_ok-members.settings.entries;

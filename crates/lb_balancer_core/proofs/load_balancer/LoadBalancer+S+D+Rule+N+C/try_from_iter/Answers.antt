@@ -35,7 +35,8 @@ returns-in_err-update-clause-refused g c =
           c.in_ok-balancer.balancer.core.served c.in_ok-balancer.balancer.registry.registry
           parts.2 (ap (λ v. v.id) parts.1 ∙ c.in_ok-backends.ensures.id)
           (c.in_ok-balancer.ensures.stands [] c.in_ok-backends.ensures.ok.0).1 registry looked.2
-          g.D.ServiceDiscovery.finds c.in_ok-balancer.balancer.core.discovery r (parts.0 ∙ c.in_ok-backends.ensures.parts.0) c.in_err-update.ensures.refused,
+          g.D.ServiceDiscovery.finds
+          c.in_ok-balancer.balancer.core.discovery r (parts.0 ∙ c.in_ok-backends.ensures.parts.0) c.in_err-update.ensures.refused,
     )
 
 pub returns-clause-made : goal.returns-clause-made
@@ -50,7 +51,8 @@ returns-clause-made g c =
           c.in_ok-balancer.balancer.core.served c.in_ok-balancer.balancer.registry.registry
           parts.2 (ap (λ v. v.id) parts.1 ∙ c.in_ok-backends.ensures.id)
           (c.in_ok-balancer.ensures.stands [] c.in_ok-backends.ensures.ok.0).1 registry looked.2
-          g.D.ServiceDiscovery.finds g.K.MomentSource.reads c.in_ok-balancer.balancer.core.discovery c.update.new.self.core.discovery c.args.clock.now
+          g.D.ServiceDiscovery.finds
+          g.K.MomentSource.reads c.in_ok-balancer.balancer.core.discovery c.update.new.self.core.discovery c.args.clock.now
           c.update.new.clock c.update.new.self.core.served c.update.new.self.registry.registry c.update.new.self.core.timing
           (parts.0 ∙ c.in_ok-backends.ensures.parts.0) c.update.ensures.discovery c.in_ok-update.ensures.updated,
     )

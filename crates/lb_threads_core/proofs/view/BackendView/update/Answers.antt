@@ -28,4 +28,5 @@ returns-in-Err-clause-fault g c fault = absurd (no-fault c.in-Err.refusal c.in-E
 
 pub returns-in-Err-clause-causes : goal.returns-in-Err-clause-causes
 returns-in-Err-clause-causes g c =
-    refused-for g.D.ServiceDiscovery.finds c.args.self.now (search rules) (search rules) c.take_in.ensures.state c.take_in.ensures.taken c.in-Err.refusal c.in-Err.is
+    refused-for g.D.ServiceDiscovery.finds c.args.self.now (search rules) (search rules) c.take_in.ensures.state c.take_in.ensures.taken
+    c.in-Err.refusal c.in-Err.is
