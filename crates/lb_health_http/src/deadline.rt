@@ -1,5 +1,5 @@
 //! The limit on a whole check: by when it has to be over, and connections whose calls wait no longer than that.
-ghost use Rattle.std.specs.Prelude.{◌≡◌, ◌≢◌, ◌↔◌, ◌*◌, ◌^◌, ◌<◌, max, Some, None, Err, IfSome, IsSomeAnd, IfOk, IsErr, OnErr, option_map};
+ghost use Rattle.std.specs.Prelude.{◌≡◌, ◌≢◌, ◌↔◌, ◌*◌, ◌^◌, ◌-◌, ◌<◌, ◌≤◌, max, Some, None, Err, IfSome, IsSomeAnd, IfOk, IsErr, OnErr, option_map};
 ghost use Rattle.std.specs.Duration.{as_nanos};
 ghost use Rattle.lb_health_http.specs.Limits.{least_limit, left_at};
 
@@ -70,6 +70,9 @@ impl Deadline {
         ensures there { IfOk result (λ limit. limit ≢ None) }
         ensures some { IfOk result (λ limit. IfSome (least_limit own (Some (left_at self now)))
             (λ nanos. nanos < 2 ^ 64 * 1000000000 → IsSomeAnd limit (λ d. as_nanos d ≡ max nanos 1))) }
+        ensures above { IfOk result (λ limit. IfSome (least_limit own (Some (left_at self now)))
+            (λ nanos. 2 ^ 64 * 1000000000 ≤ nanos
+            → IsSomeAnd limit (λ d. (as_nanos d ≤ nanos) × ((2 ^ 64 - 1) * 1000000000 ≤ as_nanos d)))) }
     {
         let left = self.left_at(now);
         if left == 0 {

@@ -1,6 +1,6 @@
 //! How long a check waits for its peer, and connections to one.
 //! No name is looked up: a backend's address is where it is reached.
-ghost use Rattle.std.specs.Prelude.{◌≡◌, ◌↔◌, Some, None, ◌*◌, ◌^◌, ◌<◌, max, Err, IfSome, OnErr};
+ghost use Rattle.std.specs.Prelude.{◌≡◌, ◌↔◌, Some, None, ◌*◌, ◌^◌, ◌<◌, ◌≤◌, ◌-◌, max, Err, IfSome, OnErr};
 ghost use Rattle.std.specs.Duration.{as_nanos};
 ghost use Rattle.lb_health_http.specs.Check.{at_port};
 
@@ -65,6 +65,8 @@ impl HttpPeer {
 pub(crate) fn duration_of(limit: Option<u128>) -> Option<Duration>
     ensures none { result ≡ None ↔ limit ≡ None }
     ensures some { IfSome limit (λ nanos. nanos < 2 ^ 64 * SECOND → IfSome result (λ d. as_nanos d ≡ max nanos 1)) }
+    ensures above { IfSome limit (λ nanos. 2 ^ 64 * SECOND ≤ nanos
+        → IfSome result (λ d. (as_nanos d ≤ nanos) × ((2 ^ 64 - 1) * SECOND ≤ as_nanos d))) }
 {
     let nanos = limit?.max(1);
     let seconds = (nanos / SECOND).min(u64::MAX as u128) as u64;
