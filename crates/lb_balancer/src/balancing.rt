@@ -12,7 +12,8 @@ ghost use Rattle.lb_health_view.specs.RegistrySide.{settings_of};
 ghost use Rattle.lb_health_view.specs.Views.{IsViewAfter, IsViewRefusal};
 ghost use Rattle.lb_health_core.specs.Registry.{IsGrowthRefusal};
 ghost use Rattle.lb_balancer_core.specs.Timings.{Reads};
-ghost use Rattle.lb_balancer.specs.History.{IsServedBy, IsShownBy, MayGive};
+ghost use Rattle.lb_balancer.specs.History.{IsServedBy, IsServedGeneration, IsShownBy, MayGive};
+ghost use Rattle.lb_balancer.specs.Shown.{ShownValue};
 ghost use Rattle.lb_balancer.specs.SharedUpdates.{IsBuildRefusal, IsSharedRefusal, ReadsUpdate};
 
 use crate::origin::{KeptShown, OfServing, OfShown, Origin};
@@ -120,7 +121,7 @@ impl<
     ///
     /// The cause for which the configuration gives no selector over no backends; where there is none, `NumbersExhausted` where no
     /// number is left for a view, and else `OutOfMemory` where memory is refused.
-    pub fn new<W: Wait>(
+    pub(crate) fn new<W: Wait>(
         rt: &W,
         alloc: Global,
         backends: Backends<D, R, C>,
@@ -211,7 +212,7 @@ impl<
     /// `Discovery` where the discovery answers a fault; the cause for which another membership makes no selector; where there is none,
     /// `GenerationsExhausted`, `NoSuch` where the registry has no such view, or `NumbersExhausted` where no number is left for a cell;
     /// and only then `OutOfMemory` where memory is refused. What is served is then as before.
-    pub fn update<W: Wait, K: MomentSource>(
+    pub(crate) fn update<W: Wait, K: MomentSource>(
         &self,
         rt: &W,
         alloc: Global,
@@ -390,7 +391,7 @@ impl<
     /// Returns what is served now.
     ///
     /// Selections in it are all in one generation, with the readiness of one moment. Refused for memory alone.
-    pub fn shown<W: Wait>(&self, rt: &W, alloc: Global) -> Result<Arc<Shown<S>>, Refusal>
+    pub(crate) fn shown<W: Wait>(&self, rt: &W, alloc: Global) -> Result<Arc<Shown<S>>, Refusal>
         ensures shown { IfOk result (λ s. IsShownBy self.now (arc_value s)) }
         ensures refused { IfErr result (λ e. e ≡ Refusal.OutOfMemory) }
     {
@@ -409,7 +410,9 @@ impl<
     }
 
     /// Returns the newest generation; 0 before the first membership.
-    pub fn generation<W: Wait>(&self, rt: &W) -> u64 {
+    pub fn generation<W: Wait>(&self, rt: &W) -> u64
+        ensures { IsServedGeneration self.now result }
+    {
         let _key = &self.origin;
         let held = self.serving.take(rt);
         let generation = held.value.generation();
@@ -425,6 +428,7 @@ impl<
         rt: &W,
         alloc: Global,
     ) -> Result<Arc<BTreeSet<Backend>>, Refusal>
+        ensures members { IfOk result (λ set. (s : ShownValue S.Config) × IsShownBy self.now s × ((arc_value set).keys ≡ s.members)) }
         ensures refused { IfErr result (λ e. e ≡ Refusal.OutOfMemory) }
     {
         self.shown(rt, alloc)?.get_backend()
@@ -461,7 +465,7 @@ impl<
     /// Sets the load of a backend's identity, which outlives each update.
     ///
     /// Refused `OutOfMemory` where memory is refused; nothing is set then.
-    pub fn set_load<W: Wait>(
+    pub(crate) fn set_load<W: Wait>(
         &self,
         rt: &W,
         alloc: Global,
@@ -478,7 +482,7 @@ impl<
     ///
     /// From the next call on that applies marks its backends are no targets, a backend whose cell no other view keeps isn't ready, and
     /// another membership is refused `NoSuch`. It takes no memory.
-    pub fn leave<W: Wait>(&self, rt: &W) {
+    pub(crate) fn leave<W: Wait>(&self, rt: &W) {
         let _key = &self.origin;
         let registries: &HealthRegistry<R, C> = &*self.registry;
         let held = self.serving.take(rt);
@@ -492,14 +496,14 @@ impl<
     /// Sets the check of the registry.
     ///
     /// Refused `HealthCheckSet` where one is set, which stays.
-    pub fn set_health_check<W: Wait>(&self, rt: &W, check: C) -> Result<(), Refusal>
+    pub(crate) fn set_health_check<W: Wait>(&self, rt: &W, check: C) -> Result<(), Refusal>
         ensures { IfErr result (λ e. e ≡ Refusal.HealthCheckSet) }
     {
         self.registry.set_health_check(rt, check)
     }
 
     /// Returns how long the last accepted update took; `None` before the first.
-    pub fn last_update_timing<W: Wait>(&self, rt: &W) -> Option<UpdateTimings> {
+    pub(crate) fn last_update_timing<W: Wait>(&self, rt: &W) -> Option<UpdateTimings> {
         *self.timing.lock(rt)
     }
 

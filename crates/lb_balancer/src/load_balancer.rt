@@ -4,7 +4,7 @@ ghost use Rattle.std.specs.Arc.{arc_value};
 ghost use Rattle.lb_select_base.specs.Refusals.{memory_apart};
 ghost use Rattle.lb_rebuild_core.specs.GroupCalls.{AcceptsBy};
 ghost use Rattle.lb_health_core.specs.Registry.{IsGrowthRefusal};
-ghost use Rattle.lb_balancer.specs.History.{IsShownBy};
+ghost use Rattle.lb_balancer.specs.History.{IsServedGeneration, IsShownBy};
 ghost use Rattle.lb_balancer.specs.Selections.{SelectsFrom};
 ghost use Rattle.lb_balancer.specs.Shown.{ShownValue};
 ghost use Rattle.lb_balancer.specs.SharedUpdates.{IsSharedRefusal, ReadsUpdate};
@@ -202,7 +202,7 @@ impl<
         self.shared.set_load(rt, alloc, backend, load)
     }
 
-    /// Leaves the registry, which others may share: the view is marked for removal, as by `Balancing::leave`.
+    /// Leaves the registry, which others may share: the view is marked for removal, and its cells are released.
     ///
     /// A balancer that is dropped leaves it too, at the registry's next call.
     pub fn leave<W: Wait>(&self, rt: &W) {
@@ -226,7 +226,9 @@ impl<
     }
 
     /// Returns the newest generation, which is the served one; 0 before the first membership.
-    pub fn backend_generation<W: Wait>(&self, rt: &W) -> u64 {
+    pub fn backend_generation<W: Wait>(&self, rt: &W) -> u64
+        ensures { IsServedGeneration self.now.shared result }
+    {
         self.shared.generation(rt)
     }
 

@@ -44,7 +44,7 @@ impl<T> Counted<T> {
     }
 
     /// Returns whether a call has failed since `new`.
-    pub fn has_failed(&self) -> bool
+    pub fn failed(&self) -> bool
         ensures { result ≡ has_failed self.now }
     {
         self.has_failed
