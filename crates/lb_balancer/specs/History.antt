@@ -37,7 +37,9 @@ module _ {D C : Type 0} (b : BalancerValue D C) where
 
   -- a generation that the balancer may serve, read of what it served at that moment
   abbrev pub IsServedGeneration : ℕ → Type 0
-  IsServedGeneration n = (s : ServingValue C) × IsServedBy s × ((views : List ViewEvent) → IsViewAfter views s.view → n ≡ generation_after views)
+  IsServedGeneration n =
+      (s : ServingValue C) × IsServedBy s
+      × ((views : List ViewEvent) → IsViewAfter views s.view → n ≡ generation_after views)
 
   -- what the balancer may show: members that were discovered, and a selector that is built with its configuration
   pub record IsShownBy (s : ShownValue C) : Type 0 where

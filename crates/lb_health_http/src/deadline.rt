@@ -1,5 +1,6 @@
 //! The limit on a whole check: by when it has to be over, and connections whose calls wait no longer than that.
-ghost use Rattle.std.specs.Prelude.{◌≡◌, ◌≢◌, ◌↔◌, ◌*◌, ◌^◌, ◌-◌, ◌<◌, ◌≤◌, max, Some, None, Err, IfSome, IsSomeAnd, IfOk, IsErr, OnErr, option_map};
+ghost use Rattle.std.specs.Prelude.{◌≡◌, ◌≢◌, ◌↔◌, ◌*◌, ◌^◌, ◌-◌, ◌<◌, ◌≤◌, max, Some, None, Err, IfSome, IsSomeAnd, IfOk};
+ghost use Rattle.std.specs.Prelude.{IsErr, OnErr, option_map};
 ghost use Rattle.std.specs.Duration.{as_nanos};
 ghost use Rattle.lb_health_http.specs.Limits.{least_limit, left_at};
 
