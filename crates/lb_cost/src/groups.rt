@@ -1,7 +1,7 @@
 //! Selections a second from one group by threads that share its handle: `groups KIND BACKENDS THREADS SECONDS HOW`. Meanwhile another
 //! thread updates it each 10 milliseconds, where every other update leaves one backend out, and flips the health of a backend each 100.
-//! The kind is `fnv` or `rr`; `group` or `reader` says how they select. The group has one slot and its worker. `bench/groups` prints them
-//! with a plain program's.
+//! The kind is `fnv`, `ketama`, `least`, `random` or `rr`; `group` or `reader` says how they select. The group has one slot and its worker.
+//! `bench/groups` prints them with a plain program's.
 use crate::shared::{BATCH, Halves, LIMIT, PAUSE, next_key};
 use crate::words::{Usage, number_at, word_at};
 use anyhow::Error;
@@ -10,7 +10,9 @@ use lb_health_core::error::CheckError;
 use lb_health_core::health_check::HealthCheck;
 use lb_health_core::keys::{KeyRule, Rule};
 use lb_health_view::discovery::DiscoverySource;
-use lb_select::selection::{FNVHash, RoundRobin};
+use lb_select::ketama::Consistent;
+use lb_select::least::LeastConnections;
+use lb_select::selection::{FNVHash, Random, RoundRobin};
 use lb_select_base::backend::Backend;
 use lb_select_base::moments::MomentSource;
 use lb_select_base::refusal::Refusal;
@@ -278,6 +280,9 @@ pub fn run<R: Log + Threads + Wait + Clock + Print + Copy + Send + Sync + 'stati
     };
     let count = match word_at(words, 0, "fnv") {
         "fnv" => all_selected::<FNVHash, R>(rt, alloc, plan)?,
+        "ketama" => all_selected::<Consistent, R>(rt, alloc, plan)?,
+        "least" => all_selected::<LeastConnections, R>(rt, alloc, plan)?,
+        "random" => all_selected::<Random, R>(rt, alloc, plan)?,
         "rr" => all_selected::<RoundRobin, R>(rt, alloc, plan)?,
         _ => return Err(Usage::UnknownKind)?,
     };

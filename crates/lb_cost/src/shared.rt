@@ -1,6 +1,6 @@
 //! Selections a second of one balancer by threads, while another thread updates it each 10 milliseconds; every other update leaves one
-//! backend out: `shared KIND BACKENDS THREADS SECONDS HOW`. The kind is `fnv` or `rr`; `reader` or `balancer` says how they select.
-//! `bench/groups` prints them with a plain program's.
+//! backend out: `shared KIND BACKENDS THREADS SECONDS HOW`. The kind is `fnv`, `ketama`, `least`, `random` or `rr`; `reader`
+//! or `balancer` says how they select. `bench/groups` prints them with a plain program's.
 use crate::members::members;
 use crate::words::{Usage, number_at, word_at};
 use anyhow::Error;
@@ -10,7 +10,9 @@ use lb_health_core::health_check::HealthCheck;
 use lb_health_core::keys::Rule;
 use lb_health_view::discovery::{Discovered, DiscoverySource, ServiceDiscovery};
 use lb_health_view::view::Settings;
-use lb_select::selection::{FNVHash, RoundRobin};
+use lb_select::ketama::Consistent;
+use lb_select::least::LeastConnections;
+use lb_select::selection::{FNVHash, Random, RoundRobin};
 use lb_select_base::backend::Backend;
 use lb_select_base::moments::MomentSource;
 use lb_select_base::refusal::Refusal;
@@ -196,59 +198,40 @@ fn sum(counts: Vec<Result<u64, Refusal>>) -> Result<u64, Refusal> {
     Ok(sum)
 }
 
-// Selections of all threads by a hash of their keys; how many.
-fn all_by_hash<R: Threads + Wait + Sync>(
+// Selections of all threads; how many.
+fn all_selected<S: BackendSelection + Send + Sync, R: Threads + Wait + Sync>(
     rt: &R,
     alloc: Global,
-    balancer: &Balancer<FNVHash>,
+    balancer: &Balancer<S>,
     over: &AtomicU64,
     plan: Plan,
-) -> Result<u64, Refusal> {
+) -> Result<u64, Refusal>
+where
+    S::Iter: Send + Sync,
+    S::Config: Send + Sync,
+    S::Walk: Send + Sync,
+{
     let selects = |worker: usize| selected(rt, alloc, balancer, over, plan, worker as u64);
     let counts = thread::map_indices(rt, alloc, plan.threads as usize, &selects)?;
     sum(counts)
 }
 
-// The same of a new balancer that another thread updates meanwhile, and how long that took, in nanoseconds.
-fn by_hash<R: Threads + Wait + Clock + Copy + Sync>(
+// Selections of all threads from a new balancer that another thread updates meanwhile; how many, and how long that took, in nanoseconds.
+fn measured<S: BackendSelection + Send + Sync, R: Threads + Wait + Clock + Copy + Sync>(
     rt: &R,
     alloc: Global,
     plan: Plan,
-) -> Result<(u64, u128), Refusal> {
-    let balancer: Balancer<FNVHash> = made(rt, alloc, plan)?;
+) -> Result<(u64, u128), Refusal>
+where
+    S::Iter: Send + Sync,
+    S::Config: Send + Sync,
+    S::Walk: Send + Sync,
+{
+    let balancer: Balancer<S> = made(rt, alloc, plan)?;
     let over = AtomicU64::new(0);
     let (count, spent) = join(
         rt,
-        || all_by_hash(rt, alloc, &balancer, &over, plan),
-        || updated(rt, alloc, &balancer, &over, plan.seconds),
-    );
-    Ok((count?, spent?))
-}
-
-// Selections of all threads in turn; how many.
-fn all_in_turn<R: Threads + Wait + Sync>(
-    rt: &R,
-    alloc: Global,
-    balancer: &Balancer<RoundRobin>,
-    over: &AtomicU64,
-    plan: Plan,
-) -> Result<u64, Refusal> {
-    let selects = |worker: usize| selected(rt, alloc, balancer, over, plan, worker as u64);
-    let counts = thread::map_indices(rt, alloc, plan.threads as usize, &selects)?;
-    sum(counts)
-}
-
-// The same of a new balancer that another thread updates meanwhile, and how long that took, in nanoseconds.
-fn in_turn<R: Threads + Wait + Clock + Copy + Sync>(
-    rt: &R,
-    alloc: Global,
-    plan: Plan,
-) -> Result<(u64, u128), Refusal> {
-    let balancer: Balancer<RoundRobin> = made(rt, alloc, plan)?;
-    let over = AtomicU64::new(0);
-    let (count, spent) = join(
-        rt,
-        || all_in_turn(rt, alloc, &balancer, &over, plan),
+        || all_selected(rt, alloc, &balancer, &over, plan),
         || updated(rt, alloc, &balancer, &over, plan.seconds),
     );
     Ok((count?, spent?))
@@ -267,8 +250,11 @@ pub fn run<R: Threads + Wait + Clock + Print + Copy + Sync>(
         has_reader: word_at(words, 4, "reader") != "balancer",
     };
     let (count, spent) = match word_at(words, 0, "fnv") {
-        "fnv" => by_hash(rt, alloc, plan)?,
-        "rr" => in_turn(rt, alloc, plan)?,
+        "fnv" => measured::<FNVHash, R>(rt, alloc, plan)?,
+        "ketama" => measured::<Consistent, R>(rt, alloc, plan)?,
+        "least" => measured::<LeastConnections, R>(rt, alloc, plan)?,
+        "random" => measured::<Random, R>(rt, alloc, plan)?,
+        "rr" => measured::<RoundRobin, R>(rt, alloc, plan)?,
         _ => return Err(Usage::UnknownKind)?,
     };
     if plan.seconds == 0 {
