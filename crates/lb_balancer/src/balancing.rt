@@ -226,10 +226,7 @@ impl<
         let (members, settings) = self.origin.discovery().discover(alloc)?;
         let build_duration = self.take_in(rt, alloc, members, settings, clock)?;
         let end = clock.now();
-        let timing = UpdateTimings {
-            discovery_duration: end.saturating_sub(start).saturating_sub(build_duration),
-            build_duration,
-        };
+        let timing = UpdateTimings::between(start, end, build_duration);
         *self.timing.lock(rt) = Some(timing);
         self.spread(rt);
         Ok(())

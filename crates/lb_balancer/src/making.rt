@@ -72,10 +72,7 @@ impl<
         let mut registry = Registry::with_rule(alloc, Rule::Identity);
         let serving = first_served(alloc, &mut registry, members, built)?;
         let end = clock.now();
-        let timing = UpdateTimings {
-            discovery_duration: end.saturating_sub(start).saturating_sub(build_duration),
-            build_duration,
-        };
+        let timing = UpdateTimings::between(start, end, build_duration);
         let origin = Origin {
             discovery: DiscoverySource::Static(found),
             config: None,

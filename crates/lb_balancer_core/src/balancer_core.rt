@@ -138,10 +138,7 @@ impl<S: BackendSelection, G: Rng + Drop, D: ServiceDiscovery + Drop> LoadBalance
             .update(alloc, registry, members, settings, clock)?;
         let end = clock.now();
         let build_duration = build.unwrap_or(0);
-        self.timing = Some(UpdateTimings {
-            discovery_duration: end.saturating_sub(start).saturating_sub(build_duration),
-            build_duration,
-        });
+        self.timing = Some(UpdateTimings::between(start, end, build_duration));
         Ok(())
     }
 

@@ -12,6 +12,18 @@ pub struct UpdateTimings {
     pub build_duration: u128,
 }
 
+impl UpdateTimings {
+    /// Returns the timings of an update from its start to its end, of which the build of a selector took so long.
+    pub fn between(start: u128, end: u128, build_duration: u128) -> UpdateTimings
+        ensures { result ≡ record { discovery_duration = end - start - build_duration; build_duration = build_duration } }
+    {
+        UpdateTimings {
+            discovery_duration: end.saturating_sub(start).saturating_sub(build_duration),
+            build_duration,
+        }
+    }
+}
+
 /// How long the last publication of a slot took.
 #[derive(Clone, Copy, Debug, PartialEq, Eq)]
 pub struct SelectorUpdateTimings {
