@@ -111,7 +111,10 @@ impl<S: BackendSelection, D: ServiceDiscovery + Drop> LoadBalancerGroupCore<S, D
         let scheduled = self
             .group
             .schedule(alloc, registry, members, settings, moment)?;
-        self.timing = Some(UpdateTimings::between(start, moment, 0));
+        self.timing = Some(UpdateTimings {
+            discovery_duration: moment.saturating_sub(start),
+            build_duration: 0,
+        });
         Ok(scheduled)
     }
 
