@@ -9,6 +9,7 @@ use crate::members::members;
 use crate::words::{number_at, print_line};
 use anyhow::Error;
 use lb_rebuild_core::answers::Ask;
+use lb_rebuild_core::end_source::FixedMoment;
 use lb_rebuild_core::gate::GateCore;
 use lb_rebuild_core::job::{FailedBuild, Job};
 use lb_rebuild_core::slots::Slots;
@@ -158,7 +159,7 @@ fn published<R: Clock>(
     requires config { slice_get (configs_of group.old) job.slot ≡ Some job.config }
     ensures { SameSite group.old group.new }
 {
-    let built = match job.build(alloc, || 0) {
+    let built = match job.build(alloc, &mut FixedMoment { moment: 0 }) {
         Ok(built) => built,
         Err(FailedBuild { job, refusal }) => {
             job.close();

@@ -4,6 +4,7 @@
 #![tactic(auto)]
 
 pub mod answers;
+pub mod end_source;
 pub mod gate;
 mod gate_rule;
 pub mod group;

@@ -6,6 +6,7 @@ ghost use Rattle.lb_rebuild_core.specs.Stands.{SameSite};
 use crate::selection::fixtures::set_of;
 use crate::selection::noting::{Gone, Noting};
 use lb_rebuild_core::answers::Ask;
+use lb_rebuild_core::end_source::FixedMoment;
 use lb_rebuild_core::gate::GateCore;
 use lb_rebuild_core::job::FailedBuild;
 use lb_rebuild_core::slots::Slots;
@@ -27,7 +28,7 @@ fn granted(alloc: Global, group: &mut Slots<Noting>, gate: &mut GateCore) -> Res
         }
         Ask::Job(job) => job,
     };
-    let built = match job.build(alloc, || 0) {
+    let built = match job.build(alloc, &mut FixedMoment { moment: 0 }) {
         Ok(built) => built,
         Err(FailedBuild { job, refusal }) => {
             job.close();
