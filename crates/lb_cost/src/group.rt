@@ -10,6 +10,7 @@ use crate::words::{number_at, print_line};
 use anyhow::Error;
 use lb_rebuild_core::answers::Ask;
 use lb_rebuild_core::end_source::FixedMoment;
+use lb_rebuild_core::endings::{end_built, end_job, end_permit, end_reader};
 use lb_rebuild_core::gate::GateCore;
 use lb_rebuild_core::job::{FailedBuild, Job};
 use lb_rebuild_core::slots::Slots;
@@ -142,7 +143,7 @@ fn failed<R: Clock>(
     let answer = group.fail(job, gate, now);
     costs.end(FAIL, start);
     if let Err(job) = answer {
-        job.close();
+        end_job(job);
     }
 }
 
@@ -162,19 +163,19 @@ fn published<R: Clock>(
     let built = match job.build(alloc, &mut FixedMoment { moment: 0 }) {
         Ok(built) => built,
         Err(FailedBuild { job, refusal }) => {
-            job.close();
+            end_job(job);
             return Err(refusal);
         }
     };
     if until == BUILT {
-        built.close();
+        end_built(built);
         return Ok(());
     }
     let start = costs.begin();
     let answer = group.publish(built);
     costs.end(PUBLISH, start);
     if let Err(built) = answer {
-        built.close();
+        end_built(built);
     }
     Ok(())
 }
@@ -195,7 +196,7 @@ fn read<R: Clock>(
     let answer = group.leave(reader);
     costs.end(LEAVE, start);
     if let Err(reader) = answer {
-        reader.close();
+        end_reader(reader);
     }
     Ok(())
 }
@@ -219,7 +220,7 @@ fn destroyed<R: Clock>(
     let answer = group.destroyed(slot, permit, gate);
     costs.end(REPORT, start);
     if let Err(permit) = answer {
-        permit.spend();
+        end_permit(permit);
     }
     Ok(())
 }

@@ -156,14 +156,14 @@ impl<S: BackendSelection> Job<S> {
         (order, permit)
     }
 
-    /// Ends the job for good: its gate never grants again.
-    pub fn close(self) {
+    // Ends the job for good.
+    pub(crate) fn end(self) {
         let Job {
             place: _,
             order: _,
             permit,
         } = self;
-        permit.spend();
+        permit.end();
     }
 }
 
@@ -183,8 +183,8 @@ impl<S: BackendSelection> Built<S> {
         self.order.generation
     }
 
-    /// Ends the selector for good: its gate never grants again.
-    pub fn close(self) {
+    // Ends the selector for good.
+    pub(crate) fn end(self) {
         let Built {
             place: _,
             order: _,
@@ -192,7 +192,7 @@ impl<S: BackendSelection> Built<S> {
             selector: _,
             ended: _,
         } = self;
-        permit.spend();
+        permit.end();
     }
 }
 

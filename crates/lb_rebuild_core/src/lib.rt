@@ -5,6 +5,7 @@
 
 pub mod answers;
 pub mod end_source;
+pub mod endings;
 pub mod gate;
 mod gate_rule;
 pub mod group;
