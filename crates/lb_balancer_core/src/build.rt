@@ -1,8 +1,9 @@
 //! Builds of the jobs that a port gave out. One that is refused leaves a value that nothing else makes, and by it alone a job fails.
-ghost use Rattle.std.specs.Prelude.{◌≡◌, None, IfOk, IfErr};
+ghost use Rattle.std.specs.Prelude.{◌≡◌, None, IfOk, IfErr, OnErr};
 ghost use Rattle.lb_balancer_core.specs.Builds.{IsCauseOf};
 
 use lb_rebuild_core::job::{Built, FailedBuild, Job};
+use lb_select_base::moments::MomentSource;
 use lb_select_base::refusal::Refusal;
 use lb_select_base::walk::BackendSelection;
 use std::alloc::Global;
@@ -51,18 +52,23 @@ impl<S: BackendSelection> RefusedJob<S> {
     }
 }
 
-/// Builds the selector of a job.
+/// Builds the selector of a job, and then reads the clock once.
 ///
-/// It runs outside all locks, and may take long. `Built::ended_at` is to say when it ended.
+/// It runs outside all locks, and may take long.
 ///
 /// # Errors
 ///
-/// The job with the cause for which its selector cannot be built, or with `OutOfMemory`.
-pub fn build<S: BackendSelection>(alloc: Global, job: Job<S>) -> Result<Built<S>, RefusedJob<S>>
-    ensures built { IfOk result (λ b. (S.refusal job.members job.config ≡ None) × (b.task ≡ job)) }
+/// The job with the cause for which its selector cannot be built, or with `OutOfMemory`. The clock isn't read then.
+pub fn build<S: BackendSelection, K: MomentSource>(
+    alloc: Global,
+    job: Job<S>,
+    clock: &mut K,
+) -> Result<Built<S>, RefusedJob<S>>
+    ensures built { IfOk result (λ b. (S.refusal job.members job.config ≡ None) × (b.task ≡ job) × K.reads clock.old b.ended clock.new) }
     ensures refused { IfErr result (λ r. (r.task ≡ job) × IsCauseOf S.refusal job r.refusal) }
+    ensures unread { OnErr result (clock.new ≡ clock.old) }
 {
-    match job.build(alloc, || 0) {
+    match job.build(alloc, clock) {
         Ok(built) => Ok(built),
         Err(FailedBuild { job, refusal }) => Err(RefusedJob { job, refusal }),
     }

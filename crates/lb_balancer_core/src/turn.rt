@@ -62,14 +62,11 @@ pub fn worker_turn<S: BackendSelection, P: GroupPort<S>, K: MomentSource>(
         Ask::Nothing => Ok(Turn::Nothing),
         Ask::NotDue(moment) => Ok(Turn::NotDue(moment)),
         Ask::Busy => Ok(Turn::Busy),
-        Ask::Job(job) => match build(alloc, job) {
-            Ok(built) => {
-                let end = clock.now();
-                match port.publish(built.ended_at(end)) {
-                    Publication::Published(generation) => Ok(Turn::Published(generation)),
-                    Publication::Abandoned(generation) => Ok(Turn::Abandoned(generation)),
-                }
-            }
+        Ask::Job(job) => match build(alloc, job, clock) {
+            Ok(built) => match port.publish(built) {
+                Publication::Published(generation) => Ok(Turn::Published(generation)),
+                Publication::Abandoned(generation) => Ok(Turn::Abandoned(generation)),
+            },
             Err(refused) => {
                 let end = clock.now();
                 let failed = Turn::Failed(refused.generation(), refused.refusal());

@@ -18,7 +18,7 @@ use lb_select_base::causes::{earlier, memory_apart};
 use lb_select_base::moments::MomentSource;
 use lb_select_base::refusal::Refusal;
 use lb_select_base::walk::BackendSelection;
-use lb_threads_core::gate::SelectorRebuildGate;
+use lb_threads_core::gate::{SelectorRebuildGate, put_gate, take_gate};
 use lb_threads_core::owner::ViewOwner;
 use lb_threads_core::registry::HealthRegistry;
 use lb_threads_group::group::SharedGroup;
@@ -41,9 +41,9 @@ pub(crate) fn make<S: BackendSelection, R: KeyRule + Drop, C: HealthCheck + Drop
     ensures refused { IsMakingRefusal (least (map (S.refusal []) configs.items)) result }
 {
     let mut cells = registry.take(rt);
-    let held = gate.take(rt);
+    let held = take_gate(gate, rt);
     let made = GroupCore::new(alloc, &mut cells.value, &held.value, configs);
-    gate.put(held);
+    put_gate(gate, held);
     registry.put(cells);
     made
 }

@@ -9,6 +9,8 @@ use crate::members::members;
 use crate::words::{number_at, print_line};
 use anyhow::Error;
 use lb_rebuild_core::answers::Ask;
+use lb_rebuild_core::end_source::FixedMoment;
+use lb_rebuild_core::endings::{end_built, end_job, end_permit, end_reader};
 use lb_rebuild_core::gate::GateCore;
 use lb_rebuild_core::job::{FailedBuild, Job};
 use lb_rebuild_core::slots::Slots;
@@ -141,7 +143,7 @@ fn failed<R: Clock>(
     let answer = group.fail(job, gate, now);
     costs.end(FAIL, start);
     if let Err(job) = answer {
-        job.close();
+        end_job(job);
     }
 }
 
@@ -158,22 +160,22 @@ fn published<R: Clock>(
     requires config { slice_get (configs_of group.old) job.slot ≡ Some job.config }
     ensures { SameSite group.old group.new }
 {
-    let built = match job.build(alloc, || 0) {
+    let built = match job.build(alloc, &mut FixedMoment { moment: 0 }) {
         Ok(built) => built,
         Err(FailedBuild { job, refusal }) => {
-            job.close();
+            end_job(job);
             return Err(refusal);
         }
     };
     if until == BUILT {
-        built.close();
+        end_built(built);
         return Ok(());
     }
     let start = costs.begin();
     let answer = group.publish(built);
     costs.end(PUBLISH, start);
     if let Err(built) = answer {
-        built.close();
+        end_built(built);
     }
     Ok(())
 }
@@ -194,7 +196,7 @@ fn read<R: Clock>(
     let answer = group.leave(reader);
     costs.end(LEAVE, start);
     if let Err(reader) = answer {
-        reader.close();
+        end_reader(reader);
     }
     Ok(())
 }
@@ -218,7 +220,7 @@ fn destroyed<R: Clock>(
     let answer = group.destroyed(slot, permit, gate);
     costs.end(REPORT, start);
     if let Err(permit) = answer {
-        permit.spend();
+        end_permit(permit);
     }
     Ok(())
 }

@@ -7,5 +7,5 @@ pub mod board_rule;
 pub mod watched;
 
 pub use lb_rebuild_core::{
-    answers, gate, group, identity, job, laws, membership, retired, snapshot_laws,
+    answers, end_source, gate, group, identity, job, laws, membership, retired, snapshot_laws,
 };

@@ -12,7 +12,7 @@ use std::marker::Model;
 
 /// The right to one extra selector, from the grant of a gate until it is given back to the same gate.
 ///
-/// It cannot be dropped: its owner spends it, or passes it on. Contracts see which gate it is of.
+/// It cannot be dropped: its owner gives it back, or passes it on. Contracts see which gate it is of.
 pub struct Permit {
     seat: Seat<(), GateMark>,
 }
@@ -113,8 +113,8 @@ impl Permit {
         seats_apart(&mut a.seat, &mut b.seat);
     }
 
-    /// Ends the permit for good, as for a value that is dropped with a permit in it: its gate never grants again.
-    pub fn spend(self) {
+    // Ends the permit for good, as where a slot is dropped with a permit in it: its gate never grants again.
+    pub(crate) fn end(self) {
         let Permit { seat: _ } = self;
     }
 }

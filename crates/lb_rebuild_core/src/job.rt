@@ -1,9 +1,10 @@
 //! Orders for selectors, and the values that carry one out: a job that is to be built, and the selector that was built.
 //! A job and a built selector hold the permit of their gate and cannot be dropped; building runs outside all locks.
-ghost use Rattle.std.specs.Prelude.{◌≡◌, ◌⊎◌, IfOk, IfErr};
+ghost use Rattle.std.specs.Prelude.{◌≡◌, ◌⊎◌, IfOk, IfErr, OnErr};
 ghost use Rattle.std.specs.Arc.{arc_value};
 ghost use Rattle.lb_rebuild_core.specs.Values.{order_of};
 
+use crate::end_source::EndSource;
 use crate::gate::Permit;
 use crate::place::SlotPlace;
 use lb_select_base::backend::Backend;
@@ -90,28 +91,32 @@ impl<S: BackendSelection> Job<S> {
         self.order.generation
     }
 
-    /// Builds the selector, and then reads the clock once.
+    /// Builds the selector, and then reads the clock once: no reading can be made before, as it borrows the selector.
     ///
     /// It runs outside all locks, and may take long.
     ///
     /// # Errors
     ///
     /// The job and the cause for which its selector cannot be built, or the job and `OutOfMemory`. The clock isn't read then.
-    pub fn build<F: FnOnce() -> u128>(
+    pub fn build<K: EndSource<S>>(
         self,
         alloc: Global,
-        clock: F,
+        clock: &mut K,
     ) -> Result<Built<S>, FailedBuild<S>>
-        requires { F.IsAlwaysCallable clock }
-        ensures built { IfOk result (λ b. (S.refusal self.members self.config ≡ None) × (b.task ≡ self) × F.post clock b.ended) }
+        ensures built { IfOk result (λ b. (S.refusal self.members self.config ≡ None) × (b.task ≡ self)
+            × K.ends clock.old b.ended clock.new) }
         ensures failed { IfErr result (λ f. (f.job ≡ self)
             × ((S.refusal self.members self.config ≡ Some f.refusal)
             ⊎ ((S.refusal self.members self.config ≡ None) × (f.refusal ≡ Refusal.OutOfMemory)))) }
+        ensures unread { OnErr result (clock.new ≡ clock.old) }
     {
         let order = &self.order;
         match S::build_with_config(alloc, &order.members, &order.config) {
             Ok(selector) => match Arc::new(alloc, selector) {
-                Ok(selector) => Ok(self.built(selector, clock())),
+                Ok(selector) => {
+                    let ended = clock.end_of(&*selector);
+                    Ok(self.built(selector, ended))
+                }
                 Err(_refused) => Err(FailedBuild {
                     job: self,
                     refusal: Refusal::OutOfMemory,
@@ -151,14 +156,14 @@ impl<S: BackendSelection> Job<S> {
         (order, permit)
     }
 
-    /// Ends the job for good: its gate never grants again.
-    pub fn close(self) {
+    // Ends the job for good.
+    pub(crate) fn end(self) {
         let Job {
             place: _,
             order: _,
             permit,
         } = self;
-        permit.spend();
+        permit.end();
     }
 }
 
@@ -178,28 +183,8 @@ impl<S: BackendSelection> Built<S> {
         self.order.generation
     }
 
-    /// Returns the selector with that moment as the end of its build, for a clock that `build` doesn't borrow.
-    pub fn ended_at(self, ended: u128) -> Built<S>
-        ensures { result ≡ record self { ended = ended } }
-    {
-        let Built {
-            place,
-            order,
-            permit,
-            selector,
-            ended: _,
-        } = self;
-        Built {
-            place,
-            order,
-            permit,
-            selector,
-            ended,
-        }
-    }
-
-    /// Ends the selector for good: its gate never grants again.
-    pub fn close(self) {
+    // Ends the selector for good.
+    pub(crate) fn end(self) {
         let Built {
             place: _,
             order: _,
@@ -207,7 +192,7 @@ impl<S: BackendSelection> Built<S> {
             selector: _,
             ended: _,
         } = self;
-        permit.spend();
+        permit.end();
     }
 }
 

@@ -4,6 +4,8 @@
 #![tactic(auto)]
 
 pub mod answers;
+pub mod end_source;
+pub mod endings;
 pub mod gate;
 mod gate_rule;
 pub mod group;

@@ -118,10 +118,10 @@ impl Model for OwedPermit {
 }
 
 impl OwedPermit {
-    /// Ends the permit for good: its gate never grants again.
-    pub fn spend(self) {
+    // Ends the permit for good.
+    pub(crate) fn end(self) {
         let OwedPermit { place: _, permit } = self;
-        permit.spend();
+        permit.end();
     }
 }
 
@@ -190,8 +190,8 @@ impl<S: BackendSelection> Reader<S> {
         select(alloc, &self.selector, key, words, limit, accept)
     }
 
-    /// Ends the reader for good: the selector that it is in can't be destroyed from then on.
-    pub fn close(self) {
+    // Ends the reader for good.
+    pub(crate) fn end(self) {
         let Reader {
             place: _,
             generation: _,

@@ -394,7 +394,7 @@ impl<S: BackendSelection> Slot<S> {
         if !self.is_read(generation) {
             return Err(reader);
         }
-        reader.close();
+        reader.end();
         self.count_left(generation);
         Ok(())
     }
@@ -559,7 +559,7 @@ impl<S: BackendSelection> Drop for Slot<S> {
             timing: _,
         } = self;
         match stage {
-            SlotStage::Retired(retired) => retired.destroy().spend(),
+            SlotStage::Retired(retired) => retired.destroy().end(),
             SlotStage::Free | SlotStage::Flight(_) | SlotStage::Lost(_) | SlotStage::TakenOut(_) =>
                 {}
         }

@@ -11,6 +11,8 @@ use lb_health_core::registry::RegistryCore;
 use lb_health_view::discovery::{Discovered, DiscoverySource, ServiceDiscovery};
 use lb_health_view::view::Settings;
 use lb_rebuild_core::answers::{Ask, Publication};
+use lb_rebuild_core::end_source::FixedMoment;
+use lb_rebuild_core::endings::{end_built, end_job};
 use lb_rebuild_core::gate::GateCore;
 use lb_rebuild_core::job::FailedBuild;
 use lb_select::selection::FNVHash;
@@ -313,17 +315,17 @@ fn is_served(alloc: Global, group: &mut Group<'_>, gate: &mut GateCore) -> bool
         Ask::Cancelled | Ask::Building | Ask::Nothing | Ask::NotDue(_) | Ask::Busy => return false,
         Ask::Job(job) => job,
     };
-    let built = match job.build(alloc, || 23) {
+    let built = match job.build(alloc, &mut FixedMoment { moment: 23 }) {
         Ok(built) => built,
         Err(FailedBuild { job, refusal: _ }) => {
-            job.close();
+            end_job(job);
             return false;
         }
     };
     match group.group.publish(built) {
         Ok(told) => told == Publication::Published(1),
         Err(built) => {
-            built.close();
+            end_built(built);
             false
         }
     }

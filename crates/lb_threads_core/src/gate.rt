@@ -73,24 +73,6 @@ impl SelectorRebuildGate {
         &self.wakes
     }
 
-    /// Takes the gate itself out of its lock, for one call of a group; `put` ends it.
-    ///
-    /// The thread sleeps while another one has it.
-    pub fn take<R: Wait>(&self, rt: &R) -> TakenValue<GateCore, Snapshot<GateCore>>
-        ensures gate { result.value.id ≡ self.now.id }
-        ensures here { result.seat.table_id ≡ self.now.lock }
-    {
-        self.lock.take(rt)
-    }
-
-    /// Puts this gate back under its lock.
-    pub fn put(&self, held: TakenValue<GateCore, Snapshot<GateCore>>)
-        requires gate { held.value.id ≡ self.now.id }
-        requires here { held.seat.table_id ≡ self.now.lock }
-    {
-        self.lock.put(held);
-    }
-
     /// Takes the gate's permit and returns it, or `None` where it is out. It takes no memory.
     pub fn grant<R: Wait>(&self, rt: &R) -> Option<Permit>
         ensures { IfSome result (λ p. p ≡ self.now.id) }
@@ -112,4 +94,25 @@ impl SelectorRebuildGate {
         held.value.give_back(permit);
         self.lock.put(held);
     }
+}
+
+/// Takes the gate itself out of its lock, for one call of a group; `put_gate` ends it.
+///
+/// The thread sleeps while another one has it. It is for the crates of this library: the crate that users take doesn't pass it on.
+pub fn take_gate<R: Wait>(
+    gate: &SelectorRebuildGate,
+    rt: &R,
+) -> TakenValue<GateCore, Snapshot<GateCore>>
+    ensures gate { result.value.id ≡ gate.now.id }
+    ensures here { result.seat.table_id ≡ gate.now.lock }
+{
+    gate.lock.take(rt)
+}
+
+/// Puts the gate back under its lock.
+pub fn put_gate(gate: &SelectorRebuildGate, held: TakenValue<GateCore, Snapshot<GateCore>>)
+    requires gate { held.value.id ≡ gate.now.id }
+    requires here { held.seat.table_id ≡ gate.now.lock }
+{
+    gate.lock.put(held);
 }

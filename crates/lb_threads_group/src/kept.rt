@@ -13,6 +13,7 @@ use lb_balancer_core::port::GroupPort;
 use lb_health_core::health_check::HealthCheck;
 use lb_health_core::keys::KeyRule;
 use lb_rebuild::watched::Watched;
+use lb_rebuild_core::endings::end_reader;
 use lb_rebuild_core::retired::Reader;
 use lb_select_base::refusal::Refusal;
 use lb_select_base::walk::BackendSelection;
@@ -103,7 +104,7 @@ impl<S: BackendSelection, R: KeyRule + Drop, C> Drop for Entry<S, R, C> {
             reader,
             found: _,
         } = self;
-        reader.close();
+        end_reader(reader);
     }
 }
 

@@ -14,13 +14,14 @@ use lb_health_core::health_check::HealthCheck;
 use lb_health_core::keys::KeyRule;
 use lb_health_view::view::Settings;
 use lb_rebuild_core::answers::{Ask, Publication};
+use lb_rebuild_core::endings::{end_built, end_job, end_permit, end_reader};
 use lb_rebuild_core::job::Built;
 use lb_rebuild_core::membership::Scheduled;
 use lb_rebuild_core::retired::{OwedPermit, Reader, Retired};
 use lb_select_base::backend::Backend;
 use lb_select_base::refusal::Refusal;
 use lb_select_base::walk::BackendSelection;
-use lb_threads_core::gate::SelectorRebuildGate;
+use lb_threads_core::gate::{SelectorRebuildGate, put_gate, take_gate};
 use lb_threads_core::registry::HealthRegistry;
 use std::alloc::Global;
 use std::collections::BTreeSet;
@@ -78,15 +79,15 @@ impl<'g, 'r, 'f, S: BackendSelection, R: KeyRule + Drop, C: HealthCheck + Drop, 
         // `_gate` and `founded()` are for the prover alone: they show it the group's invariant, and do nothing at run time.
         held.value.founded();
         let mut cells = registries.take(self.rt);
-        let mut gate = gates.take(self.rt);
+        let mut gate = take_gate(gates, self.rt);
         let told = held.value.fail(job, &mut cells.value, &mut gate.value, now);
-        gates.put(gate);
+        put_gate(gates, gate);
         registries.put(cells);
         group.lock.put(held);
         gates.wakes().wake();
         match told {
             Ok(()) => {}
-            Err(job) => job.close(),
+            Err(job) => end_job(job),
         }
     }
 
@@ -104,7 +105,7 @@ impl<'g, 'r, 'f, S: BackendSelection, R: KeyRule + Drop, C: HealthCheck + Drop, 
         match told {
             Ok(told) => told,
             Err(built) => {
-                built.close();
+                end_built(built);
                 Publication::Abandoned(generation)
             }
         }
@@ -124,7 +125,7 @@ impl<'g, 'r, 'f, S: BackendSelection, R: KeyRule + Drop, C: HealthCheck + Drop, 
         group.wake_if(is_last);
         match told {
             Ok(()) => {}
-            Err(reader) => reader.close(),
+            Err(reader) => end_reader(reader),
         }
     }
 }
@@ -182,9 +183,9 @@ impl<'g, 'r, 'f, S: BackendSelection, R: KeyRule + Drop, C: HealthCheck + Drop, 
         let gates: &SelectorRebuildGate = &*group.gate;
         let mut held = group.lock.take(self.rt);
         held.value.founded();
-        let mut gate = gates.take(self.rt);
+        let mut gate = take_gate(gates, self.rt);
         let told = held.value.ask(slot, &mut gate.value, now);
-        gates.put(gate);
+        put_gate(gates, gate);
         group.lock.put(held);
         if let Ok(Ask::Job(job)) = &told {
             group.expect(self.rt, slot, job.generation());
@@ -245,17 +246,17 @@ impl<'g, 'r, 'f, S: BackendSelection, R: KeyRule + Drop, C: HealthCheck + Drop, 
         let mut held = group.lock.take(self.rt);
         held.value.founded();
         let mut cells = registries.take(self.rt);
-        let mut gate = gates.take(self.rt);
+        let mut gate = take_gate(gates, self.rt);
         let told = held
             .value
             .destroyed(slot, permit, &mut cells.value, &mut gate.value);
-        gates.put(gate);
+        put_gate(gates, gate);
         registries.put(cells);
         group.lock.put(held);
         gates.wakes().wake();
         match told {
             Ok(()) => {}
-            Err(permit) => permit.spend(),
+            Err(permit) => end_permit(permit),
         }
     }
 

@@ -4,6 +4,7 @@ ghost use Rattle.std.specs.Prelude.{◌≡◌, ◌≤◌, [], MatchOption, repli
 ghost use Rattle.lb_world.specs.Views.{nothing, building, built, NotBuilding, NotBuilt};
 ghost use Rattle.lb_world.specs.Works.{work_value};
 
+use lb_rebuild_core::endings::{end_built, end_job, end_reader};
 use lb_rebuild_core::job::{Built, Job};
 use lb_rebuild_core::retired::Reader;
 use lb_select_base::walk::BackendSelection;
@@ -37,8 +38,8 @@ impl<S: BackendSelection> InHand<S> {
         let InHand { work } = self;
         match work {
             Work::Nothing => {}
-            Work::Building(job) => job.close(),
-            Work::Built(built) => built.close(),
+            Work::Building(job) => end_job(job),
+            Work::Built(built) => end_built(built),
         }
     }
 
@@ -133,6 +134,6 @@ impl<S: BackendSelection> OpenReader<S> {
     // Ends the reader with the world.
     pub(crate) fn close(self) {
         let OpenReader { group: _, reader } = self;
-        reader.close();
+        end_reader(reader);
     }
 }

@@ -12,6 +12,7 @@ pub use lb_health::{
 };
 pub use lb_rebuild::answers::{Ask, Counts, Publication, Selection, Timing};
 pub use lb_rebuild::board::{Board, WritingPass};
+pub use lb_rebuild::end_source::{EndSource, FixedMoment};
 pub use lb_rebuild::gate::{GateCore, Permit};
 pub use lb_rebuild::group::GroupCore;
 pub use lb_rebuild::job::{Built, FailedBuild, Job};

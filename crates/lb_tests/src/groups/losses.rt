@@ -7,6 +7,7 @@ use crate::selection::fixtures::set_of;
 use lb_health_core::registry::RegistryCore;
 use lb_health_view::view::Settings;
 use lb_rebuild_core::answers::{Ask, Counts};
+use lb_rebuild_core::endings::end_job;
 use lb_rebuild_core::gate::GateCore;
 use lb_rebuild_core::group::GroupCore;
 use lb_select::selection::RoundRobin;
@@ -88,7 +89,7 @@ fn lost_then_failed(
             Ok((generation, newest?))
         }
         Err(job) => {
-            job.close();
+            end_job(job);
             Err(Refusal::NothingInFlight)
         }
     }
@@ -113,7 +114,7 @@ fn cancelled_then_failed(
     match group.fail(job, registry, gate, 4) {
         Ok(()) => Ok(generation),
         Err(job) => {
-            job.close();
+            end_job(job);
             Err(Refusal::NothingInFlight)
         }
     }

@@ -6,6 +6,8 @@ ghost use Rattle.lb_rebuild_core.specs.Stands.{SameSite};
 use crate::selection::fixtures::set_of;
 use crate::selection::noting::{Gone, Noting};
 use lb_rebuild_core::answers::Ask;
+use lb_rebuild_core::end_source::FixedMoment;
+use lb_rebuild_core::endings::{end_built, end_job, end_permit};
 use lb_rebuild_core::gate::GateCore;
 use lb_rebuild_core::job::FailedBuild;
 use lb_rebuild_core::slots::Slots;
@@ -27,17 +29,17 @@ fn granted(alloc: Global, group: &mut Slots<Noting>, gate: &mut GateCore) -> Res
         }
         Ask::Job(job) => job,
     };
-    let built = match job.build(alloc, || 0) {
+    let built = match job.build(alloc, &mut FixedMoment { moment: 0 }) {
         Ok(built) => built,
         Err(FailedBuild { job, refusal }) => {
-            job.close();
+            end_job(job);
             return Err(refusal);
         }
     };
     match group.publish(built) {
         Ok(_) => Ok(true),
         Err(built) => {
-            built.close();
+            end_built(built);
             Ok(false)
         }
     }
@@ -71,7 +73,7 @@ fn retires_in_order(
     let reported = match group.destroyed(0, permit, gate) {
         Ok(()) => true,
         Err(permit) => {
-            permit.spend();
+            end_permit(permit);
             false
         }
     };

@@ -12,6 +12,7 @@ use crate::answer::Answer;
 use crate::held::Work;
 use crate::rule::WorldRegistry;
 use lb_rebuild_core::answers::{Ask, Publication};
+use lb_rebuild_core::end_source::FixedMoment;
 use lb_rebuild_core::gate::GateCore;
 use lb_rebuild_core::job::{FailedBuild, Job};
 use lb_select_base::refusal::Refusal;
@@ -62,10 +63,8 @@ impl<S: BackendSelection> Entry<S> {
             return Answer::Refused(Refusal::NothingInFlight);
         };
         let generation = job.generation();
-        let clock = || -> u128
-            ensures { result ≡ now }
-        { now };
-        match job.build(alloc, clock) {
+        let mut clock = FixedMoment { moment: now };
+        match job.build(alloc, &mut clock) {
             Ok(built) => {
                 place.hold(Work::Built(built));
                 Answer::Built(generation)

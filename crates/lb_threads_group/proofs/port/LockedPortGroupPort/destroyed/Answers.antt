@@ -7,8 +7,8 @@ use Rattle.lb_threads_core.proofs.Histories.{at_site, later}
 use Rattle.lb_threads_group.proofs.Releases.{released_later}
 use Rattle.lb_threads_group.proofs.port.LockedPortGroupPort.destroyed.Goals as goal
 
-pub put-requires-2-clause-registry : goal.put-requires-2-clause-registry
-put-requires-2-clause-registry g c =
+pub put-requires-clause-registry : goal.put-requires-clause-registry
+put-requires-clause-registry g c =
     later c.take-cells.ensures.registry (released_later c.destroyed-told.result c.take-held.result.value.core
     (λ made e. generation_at c.args.slot e) c.founded.ensures c.destroyed-told.ensures.registry)
 
@@ -28,7 +28,7 @@ returns-in-Ok g c =
               (
                 released_later told v (λ made e. generation_at c.args.slot e) c.founded.ensures is.registry,
                 (
-                  c.take-gate.result.value,
+                  c.take_gate-gate.result.value,
                   (
                     c.destroyed-told.new.gate,
                     (
@@ -67,7 +67,7 @@ returns-in-Err g c =
               (
                 released_later told v (λ made e. generation_at c.args.slot e) c.founded.ensures is.registry,
                 (
-                  c.take-gate.result.value,
+                  c.take_gate-gate.result.value,
                   (
                     c.destroyed-told.new.gate,
                     (

@@ -6,8 +6,8 @@ use Rattle.lb_threads_core.proofs.Histories.{at_site, later}
 use Rattle.lb_threads_group.proofs.Releases.{released_later}
 use Rattle.lb_threads_group.proofs.port.LockedPortTakesBackRefusedJobBuiltReader.fail.Goals as goal
 
-pub put-requires-2-clause-registry : goal.put-requires-2-clause-registry
-put-requires-2-clause-registry g c =
+pub put-requires-clause-registry : goal.put-requires-clause-registry
+put-requires-clause-registry g c =
     later c.take-cells.ensures.registry (released_later c.fail-told.result c.take-held.result.value.core
     (λ made e. c.into_job-job.result.generation) c.founded.ensures c.fail-told.ensures.registry)
 
@@ -28,7 +28,7 @@ returns-in-Ok g c =
               (
                 released_later told v (λ made e. c.into_job-job.result.generation) c.founded.ensures is.registry,
                 (
-                  c.take-gate.result.value,
+                  c.take_gate-gate.result.value,
                   (
                     c.fail-told.new.gate,
                     (
@@ -68,7 +68,7 @@ returns-in-Err g c =
               (
                 released_later told v (λ made e. c.into_job-job.result.generation) c.founded.ensures is.registry,
                 (
-                  c.take-gate.result.value,
+                  c.take_gate-gate.result.value,
                   (
                     c.fail-told.new.gate,
                     (

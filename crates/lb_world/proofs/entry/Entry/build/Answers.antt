@@ -35,7 +35,7 @@ returns-in-Ok g c =
     (λ h n b.
     let at = at-place c.self.inside.works.items c.args.slot _ (omega arith) c.index_mut-place.ensures.value ∙ ap Some c.in-Some.ensures.0 in
     let x = c.in-Ok.ensures.built in
-    does-build b (holds b.is c.in-Some.job Work.building at refl) c.args.now c.in-Ok.built at x.0 x.1 x.2)
+    does-build b (holds b.is c.in-Some.job Work.building at refl) c.args.now c.in-Ok.built at x.0 x.1 x.2.0)
 
 pub returns-in-Ok-fail : goal.returns-in-Ok-fail
 returns-in-Ok-fail g c =
