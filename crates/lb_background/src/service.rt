@@ -9,9 +9,10 @@ use crate::port::ServicePort;
 use crate::ready::ServiceReadyNotifier;
 use crate::service_run::ServiceRun;
 use crate::shutdown::ShutdownWatch;
-use lb_health_core::health_check::HealthCheck;
-use lb_health_core::keys::KeyRule;
+use lb_health_core::health_check::{BoxedCheck, HealthCheck};
+use lb_health_core::keys::{KeyRule, Rule};
 use lb_select_base::moments::MomentSource;
+use lb_threads_core::keyed::NoRule;
 use lb_threads_core::registry::HealthRegistry;
 use log::{Log, error};
 use std::alloc::Global;
@@ -25,7 +26,7 @@ const WITHOUT_TARGETS: u128 = 100_000_000;
 
 /// A service that checks the targets of one registry, for all the views that share it.
 #[derive(Drop)]
-pub struct HealthCheckService<R: KeyRule + Drop, C> {
+pub struct HealthCheckService<R: KeyRule + Drop = Rule<NoRule>, C = BoxedCheck> {
     registry: Arc<HealthRegistry<R, C>>,
     /// How long after a pass of checks the next one begins, in nanoseconds. Without it the targets are checked once, as soon as there
     /// are some.

@@ -30,7 +30,7 @@ use lb_select_base::loads::Loads;
 use lb_select_base::moments::MomentSource;
 use lb_select_base::refusal::Refusal;
 use lb_select_base::walk::BackendSelection;
-use lb_threads_core::backends::Backends;
+use lb_threads_core::backends::{Backends, BackendsParts};
 use lb_threads_core::lanes::Lanes;
 use lb_threads_core::lock::KeyedLock;
 use lb_threads_core::owner::ViewOwner;
@@ -115,7 +115,9 @@ impl<
     R: KeyRule + Drop,
     C: HealthCheck + Drop,
 > Balancing<S, D, R, C> {
-    /// Returns a balancer with a view of its own in the registry, at generation 0, with a selector over no backends.
+    /// Returns a balancer with a view of its own in the registry of `backends`, at generation 0, with a selector over no backends.
+    ///
+    /// The view of `backends` itself leaves the registry.
     ///
     /// # Errors
     ///
@@ -132,11 +134,11 @@ impl<
         ensures refused { IfErr result (λ r. (memory_apart (S.refusal [] (unwrap_or config S.default_config)) ≡ Some r)
             ⊎ ((r ≡ Refusal.NumbersExhausted) ⊎ (r ≡ Refusal.OutOfMemory))) }
     {
-        let Backends {
+        let BackendsParts {
             discovery,
             registry,
             owns_checks: _,
-        } = backends;
+        } = backends.into_parts();
         let shared: &HealthRegistry<R, C> = &*registry;
         let built = first_built(rt, alloc, shared, &config)?;
         let view = register(rt, alloc, shared)?;

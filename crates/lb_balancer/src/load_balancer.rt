@@ -56,7 +56,7 @@ impl<
 > LoadBalancer<S, D, R, C> {
     /// Returns a balancer over these backends, whose selectors are built with the default configuration.
     ///
-    /// It is at generation 0: nothing updated it yet.
+    /// It has a view of its own, at generation 0, in the registry of `backends`, whose own view leaves.
     ///
     /// # Errors
     ///
@@ -78,7 +78,7 @@ impl<
 
     /// Returns a balancer over these backends, whose selectors are built with this configuration, or with the default one for `None`.
     ///
-    /// It is at generation 0: nothing updated it yet.
+    /// It has a view of its own, at generation 0, in the registry of `backends`, whose own view leaves.
     ///
     /// # Errors
     ///
@@ -97,7 +97,7 @@ impl<
         ensures refused { IfErr result (λ r. (memory_apart (S.refusal [] (unwrap_or config S.default_config)) ≡ Some r)
             ⊎ ((r ≡ Refusal.NumbersExhausted) ⊎ (r ≡ Refusal.OutOfMemory))) }
     {
-        let owns_checks = backends.owns_checks;
+        let owns_checks = backends.owns_checks();
         let shared = Balancing::new(rt, alloc, backends, config)?;
         Ok(LoadBalancer {
             shared,

@@ -28,7 +28,7 @@ use lb_select_base::causes::least_refusal;
 use lb_select_base::moments::MomentSource;
 use lb_select_base::refusal::Refusal;
 use lb_select_base::walk::BackendSelection;
-use lb_threads_core::backends::Backends;
+use lb_threads_core::backends::{Backends, BackendsParts};
 use lb_threads_core::gate::SelectorRebuildGate;
 use lb_threads_core::keyed::NoRule;
 use lb_threads_core::owner::ViewOwner;
@@ -92,8 +92,10 @@ impl<
     R: KeyRule + Drop,
     C: HealthCheck + Drop,
 > LoadBalancerGroup<S, D, R, C> {
-    /// Returns a group of one slot for each configuration, with a view of its own in the registry and a gate of its own, at generation 0.
-    /// A slot without a configuration has that of `S::build`. No worker runs yet.
+    /// Returns a group of one slot for each configuration, with a gate of its own. A slot without a configuration has that of `S::build`.
+    /// No worker runs yet.
+    ///
+    /// It has a view of its own, at generation 0, in the registry of `backends`, whose own view leaves.
     ///
     /// # Errors
     ///
@@ -108,18 +110,18 @@ impl<
     ) -> Result<LoadBalancerGroup<S, D, R, C>, Refusal>
         ensures made { IfOk result (λ g. IsNewGroup (slot_configs S.default_config configs.items) (arc_value g.shared).core) }
         ensures words { IfOk result (λ g. (arc_value g.shared).board.words ≡ length configs.items + 1) }
-        ensures registry { IfOk result (λ g. (arc_value g.shared).registry ≡ (arc_value backends.registry).start) }
+        ensures registry { IfOk result (λ g. (arc_value g.shared).registry ≡ backends.registry.start) }
         ensures parts { IfOk result (λ g. (g.discovery ≡ backends.discovery) × (g.owns_checks ≡ backends.owns_checks)
-            × (g.registry ≡ backends.registry) × (g.configs.items ≡ slot_configs S.default_config configs.items)) }
+            × (arc_value g.registry ≡ backends.registry) × (g.configs.items ≡ slot_configs S.default_config configs.items)) }
         ensures settings { IfOk result (λ g. (g.health_check_frequency ≡ None) × (g.update_frequency ≡ None)
             × (g.parallel_health_check ≡ false)) }
         ensures refused { IsMakingRefusal (least (map (S.refusal []) (slot_configs S.default_config configs.items))) result }
     {
-        let Backends {
+        let BackendsParts {
             discovery,
             registry,
             owns_checks,
-        } = backends;
+        } = backends.into_parts();
         if let Some(refusal) = first_cause::<S, R, C, W>(
             rt,
             alloc,

@@ -212,7 +212,7 @@ where
         backends: plan.backends,
         turn: AtomicU64::new(0),
     };
-    let backends = Backends::new(alloc, DiscoverySource::Boxed(discovery))?;
+    let backends = Backends::new(rt, alloc, DiscoverySource::Boxed(discovery))?;
     let mut configs = Vec::new(alloc);
     configs.push(None)?;
     let group: Group<S> = LoadBalancerGroup::from_backends_with_configs(

@@ -12,11 +12,10 @@ use lb_select::selection::{FNVHash, RoundRobin};
 use lb_select_base::backend::Backend;
 use lb_select_base::refusal::Refusal;
 use lb_select_base::walk::BackendSelection;
-use lb_threads_core::backends::Backends;
+use lb_threads_core::backends::{BackendView, Backends};
 use lb_threads_core::gate::SelectorRebuildGate;
 use lb_threads_core::keyed::NoRule;
 use lb_threads_core::registry::HealthRegistry;
-use lb_threads_core::view::BackendView;
 use lb_threads_group::group::SharedGroup;
 use lb_threads_group::port::LockedPort;
 use std::alloc::Global;
@@ -76,15 +75,17 @@ impl<W: Wait> Site<W> {
         })
     }
 
-    // The backends of a discovery over the registry.
+    // A view of a discovery over the registry.
     fn found(&self) -> Result<Found, Refusal> {
         let lists = Lists {
             other: Arc::try_clone(&self.other)?,
         };
-        Ok(Backends::new_with_health_registry(
+        Backends::new_with_health_registry(
+            &self.rt,
+            self.alloc,
             DiscoverySource::Boxed(lists),
             Arc::try_clone(&self.registry)?,
-        ))
+        )
     }
 
     // How many targets the registry has.
@@ -120,7 +121,7 @@ impl<const BY_ADDRESS: bool> Made for Alone<BY_ADDRESS> {
 
 impl Made for View {
     fn make<W: Net + Wait>(site: &Site<W>) -> Result<View, Refusal> {
-        BackendView::new(&site.rt, site.alloc, site.found()?)
+        site.found()
     }
 }
 

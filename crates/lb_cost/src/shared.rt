@@ -168,7 +168,7 @@ fn made<S: BackendSelection, R: Wait + Clock + Copy>(
         backends: plan.backends,
         turn: AtomicU64::new(0),
     };
-    let backends = Backends::new(alloc, DiscoverySource::Boxed(discovery))?;
+    let backends = Backends::new(rt, alloc, DiscoverySource::Boxed(discovery))?;
     let balancer = LoadBalancer::from_backends(rt, alloc, backends)?;
     updated(rt, alloc, &balancer, &AtomicU64::new(0), 0)?;
     Ok(balancer)

@@ -131,7 +131,7 @@ fn group_on<W: Wait + Clock + Drop, S: BackendSelection>(
     let found = DiscoverySource::Boxed(Generations {
         found: AtomicU64::new(0),
     });
-    let backends = Backends::new_with_health_registry(found, Arc::try_clone(registry)?);
+    let backends = Backends::new_with_health_registry(rt, alloc, found, Arc::try_clone(registry)?)?;
     let mut group: Handle<W, S> = LoadBalancerGroup::from_backends_with_configs(
         rt, alloc, backends, configs,
     )?;

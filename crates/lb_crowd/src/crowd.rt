@@ -76,7 +76,7 @@ impl<W: Wait + Clock + Copy + Drop> Site<W> {
     /// Returns a group of two slots that serve selectors over no backends; its discovery finds one backend.
     pub fn group(&self, rt: &W, alloc: Global) -> Result<Handle<W>, Refusal> {
         let configs = self.configs(alloc)?;
-        let backends = self.backends(alloc)?;
+        let backends = self.backends(rt, alloc)?;
         let mut group = LoadBalancerGroup::from_backends_with_configs(
             rt, alloc, backends, configs,
         )?;
@@ -96,9 +96,10 @@ impl<W: Wait + Clock + Copy + Drop> Site<W> {
         Ok(configs)
     }
 
-    fn backends(&self, alloc: Global) -> Result<Found, Refusal> {
+    fn backends(&self, rt: &W, alloc: Global) -> Result<Found, Refusal> {
         let registry = Arc::try_clone(&self.registry)?;
-        Ok(Backends::new_with_health_registry(one_backend(alloc, 1)?, registry))
+        let found = one_backend(alloc, 1)?;
+        Backends::new_with_health_registry(rt, alloc, found, registry)
     }
 }
 

@@ -41,8 +41,8 @@ where
     let found = Static::try_from_iter(alloc, &rt, texts.iter().copied())?;
     let found = DiscoverySource::Static(found);
     let backends: Backends<BoxedDiscovery, Rule<NoRule>, C> = Backends::new_with_health_registry(
-        found, registry,
-    );
+        &rt, alloc, found, registry,
+    )?;
     let mut group: Group<C> = LoadBalancerGroup::from_backends_with_configs(
         &rt, alloc, backends, configs,
     )?;

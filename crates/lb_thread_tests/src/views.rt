@@ -6,10 +6,9 @@ use lb_health_view::discovery::{Discovered, DiscoverySource, ServiceDiscovery};
 use lb_health_view::view::Settings;
 use lb_select_base::backend::{Backend, InetAddr, SocketAddr};
 use lb_select_base::refusal::Refusal;
-use lb_threads_core::backends::Backends;
+use lb_threads_core::backends::{BackendView, Backends};
 use lb_threads_core::keyed::NoRule;
 use lb_threads_core::registry::HealthRegistry;
-use lb_threads_core::view::BackendView;
 use log::Log;
 use std::alloc::Global;
 use std::collections::BTreeSet;
@@ -112,12 +111,13 @@ impl Bench {
             weight,
         };
         let registry = Arc::try_clone(registry).expect(rt, "refused");
-        let backends = Backends::new_with_health_registry(DiscoverySource::Boxed(finds), registry);
+        let finds = DiscoverySource::Boxed(finds);
+        let view = Backends::new_with_health_registry(rt, alloc, finds, registry);
         Bench {
             alloc,
             weight,
             found,
-            view: BackendView::new(rt, alloc, backends).expect(rt, "refused"),
+            view: view.expect(rt, "refused"),
         }
     }
 

@@ -1,10 +1,10 @@
 -- A registered view, and what is made of it or refused after that.
-use Rattle.std.proofs.Common.{◌≡◌, ◌∙◌, ℕ, Result, Ok, Err, sym, subst}
+use Rattle.std.proofs.Common.{◌≡◌, ◌∙◌, inl, inr, ℕ, Result, Ok, Err, IfOk, IfErr, sym, ap, subst}
 use Rattle.std.specs.Prelude.{IsErrOf}
 use Rattle.lb_select_base.specs.Backends.{Member}
 use Rattle.lb_select_base.specs.declared.refusal.Refusal.{Refusal}
 use Rattle.lb_select_base.specs.declared.refusal.Refusal.TheVariants.{NumbersExhausted, OutOfMemory}
-use Rattle.lb_health_core.specs.Registry.{RegistryValue}
+use Rattle.lb_health_core.specs.Registry.{IsGrowthRefusal, RegistryValue}
 use Rattle.lb_threads_core.specs.Registry.{UnderRegistry}
 use Rattle.lb_threads_core.proofs.Histories.{at_site}
 use Rattle.lb_threads_core.specs.View.{IsRegisteredAs}
@@ -15,6 +15,9 @@ no-err a is = cc
 
 no-number : {A : Type 0} → (let r : Result A Refusal = Err OutOfMemory in IsErrOf r NumbersExhausted) → ⊥
 no-number is = cc
+
+error_of : (A : Type 0) (e f : Refusal) → (let x : Result A Refusal = Err e in let y : Result A Refusal = Err f in x ≡ y) → e ≡ f
+error_of A e f h = cc
 
 err-as : {A B : Type 0} (e : Refusal) → (let r : Result A Refusal = Err e in IsErrOf r NumbersExhausted)
     → (let s : Result B Refusal = Err e in IsErrOf s NumbersExhausted)
@@ -72,3 +75,15 @@ module _ {R : Type 0} {gives : R → Member → Member → Type 0} {start site :
           λ full. err-as {A = A} {B = B} e ((was.exhausted key_of events after).1 full),
         );
       }))
+
+  -- what is made of the view has its number, or memory is refused
+  pub behind-of : (a : A) → r ≡ Ok a → (s : Result B Refusal) → IfOk s (λ b. id b ≡ id_of a) → IfErr s (λ e. e ≡ OutOfMemory)
+      → UnderRegistry gives site (IsRegisteredAs gives id s)
+  behind-of a is (Ok b) same refused = made-of a b is same
+  behind-of a is (Err e) same refused = lost-of a is (Err e) (ap Err refused)
+
+-- where a number is left for a view, memory is refused
+pub registers : {A : Type 0} (e : Refusal) → (let r : Result A Refusal = Err e in IsGrowthRefusal r × (IsErrOf r NumbersExhausted → ⊥))
+    → e ≡ OutOfMemory
+registers {A = A} e (inl memory, few) = error_of A e OutOfMemory memory
+registers {A = A} e (inr numbers, few) = absurd (few numbers)

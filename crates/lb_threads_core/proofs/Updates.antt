@@ -63,7 +63,7 @@ module _ {R : Type 0} {gives : R → Member → Member → Type 0} where
   module _ {D : Type 0} (finds : D → Found → Type 0) (site : ViewHandle D R) where
     module _ {members : List Member} {settings : List (Member × Bool)} {v w : ViewValue} {r : Result Bool Refusal}
         (found : Discovers finds site.discovery members settings) (old : IsState site.id v) (new : IsState site.id w)
-        (taken : UnderRegistry gives site.registry (λ x y. IsTakenIn gives members settings v x r w y)) where
+        (taken : UnderRegistry gives site.registry.start (λ x y. IsTakenIn gives members settings v x r w y)) where
       under : (Call : List Member → List (Member × Bool) → ViewValue → RegistryValue R → ViewValue → RegistryValue R → Type 0)
           → ((x y : RegistryValue R) → IsTakenIn gives members settings v x r w y → Call members settings v x w y)
           → UnderBoth gives finds site Call

@@ -16,14 +16,15 @@ use Rattle.lb_health_view.specs.Snapshots.{ViewValue}
 use Rattle.lb_health_view.specs.ViewEvents.{ViewEvent, generation_after, membership_after}
 use Rattle.lb_health_view.specs.Views.{IsFounded, IsViewAfter}
 use Rattle.lb_health_view.specs.declared.discovery.DiscoverySource.{DiscoverySource}
-use Rattle.lb_threads_core.specs.Registry.{Becomes, IsRegistryOf, Told, UnderRegistry}
+use Rattle.lb_threads_core.specs.Registry.{Becomes, IsRegistryOf, RegistryHandle, Told, UnderRegistry}
 
--- the discovery, the number of the view, its registry as that was when it came under its lock, and which lock the view is behind
+-- the discovery, the number of the view, its registry, which lock the view is behind, and whether who is made of it runs the checks
 pub record ViewHandle (D R : Type 0) : Type 0 where
   pub discovery : DiscoverySource D
   pub id : ℕ
-  pub registry : RegistryValue R
+  pub registry : RegistryHandle R
   pub lock : TableId
+  pub owns_checks : Bool
 
 -- a state that the view of this number may have: some history explains it
 abbrev pub IsState : ℕ → ViewValue → Type 0
@@ -68,7 +69,7 @@ module _ {R : Type 0} (gives : R → Member → Member → Type 0) where
   -- whether a backend is ready in the newest membership, by some state of the view and some state of its registry
   abbrev pub JudgedUnder : {D : Type 0} → ViewHandle D R → Member → Bool → Type 0
   JudgedUnder site b ready =
-      Seen site.id (λ v. (x : RegistryValue R) × (IsRegistryOf gives site.registry x
+      Seen site.id (λ v. (x : RegistryValue R) × (IsRegistryOf gives site.registry.start x
       × AfterBoth v x (λ key_of views events. IsTrue ready ↔ IsReady key_of views events (generation_after views) b)))
 
   -- a view and its registry after a membership and settings
@@ -106,7 +107,7 @@ module _ {R : Type 0} (gives : R → Member → Member → Type 0) where
         (List Member → List (Member × Bool) → ViewValue → RegistryValue R → ViewValue → RegistryValue R → Type 0) → Type 0
     UnderBoth Call =
         (members : List Member) × ((settings : List (Member × Bool)) × (Discovers finds site.discovery members settings
-        × UnderRegistry gives site.registry (λ x y. Under site.id (λ v w. Call members settings v x w y))))
+        × UnderRegistry gives site.registry.start (λ x y. Under site.id (λ v w. Call members settings v x w y))))
 
     -- an update, and what the caller's function answered of the new membership
     abbrev pub UpdatedUnder : {T : Type 0} → (List Member → T → Type 0) → Option T → Type 0

@@ -1,17 +1,18 @@
-//! Registries for threads that are keyed by identity or by address, not by a caller's rule. A locked registry's type depends on its rule's
-//! contract, which a boxed function, as in `ByNumber`, has only as a parameter's.
-ghost use Rattle.std.specs.Prelude.{◌≡◌, []};
-ghost use Rattle.lb_health_core.specs.Keys.{by_address, by_identity};
+//! Rules of keys for registries that threads share: none, and one that a caller's type gives by numbers. A locked registry's type depends
+//! on its rule's contract, which a boxed function, as in `ByNumber`, has only as a parameter's; so a caller's rule is a type.
+ghost use Rattle.std.specs.Prelude.{◌≡◌, [], ℕ, ⊤};
+ghost use Rattle.lb_health_core.specs.Keys.{by_address, by_identity, by_number};
 ghost use Rattle.lb_health_core.specs.Registry.{IsRegistryAfter};
+ghost use Rattle.lb_select_base.specs.Backends.{Member};
 
 use lb_health_core::keys::{KeyRule, Rule};
 use lb_health_core::registry::Registry;
-use lb_select_base::backend::{Backend, Ext};
+use lb_select_base::backend::{Backend, Ext, InetAddr, SocketAddr};
 use lb_select_base::refusal::Refusal;
 use std::alloc::Global;
 
-/// The rule where a caller gives none: the key of a backend is its address and weight, as by `Rule::Identity`. A caller's own rule for a
-/// locked registry is a type with `KeyRule`; a type that contains one with `ByNumber` has to be generic over its rule.
+/// The rule where a caller gives none: the key of a backend is its address and weight, as by `Rule::Identity`. A caller's rule is an
+/// `Equivalence`, or a type with `KeyRule`; a type that contains one with `ByNumber` has to be generic over its rule.
 #[derive(Drop)]
 pub struct NoRule;
 
@@ -31,6 +32,40 @@ impl KeyRule for NoRule {
 
     fn same(&self, backend: &Backend, other: &Backend) -> bool {
         backend == other
+    }
+}
+
+/// A caller's rule by which backends share a cell: those of one number do. It has to be a function of the backend.
+pub trait Equivalence {
+    /// Which numbers the rule may give a backend: any, for a rule that doesn't say. What is known of a registry by this rule is known where
+    /// these are one number for each backend.
+    ghost numbers: { Self → Member → ℕ → Type 0 } = { λ _ _ _. ⊤ };
+
+    /// Returns the number of a backend.
+    fn number(&self, backend: &Backend) -> u64
+        ensures { numbers self.now backend.now result };
+}
+
+/// A caller's rule as a rule of keys: the key of a backend is that of its number.
+#[derive(Drop)]
+pub struct Numbered<E> {
+    pub rule: E,
+}
+
+impl<E: Equivalence> KeyRule for Numbered<E> {
+    ghost gives = { λ rule backend key. (n : ℕ) × E.numbers rule.rule backend n × (key ≡ by_number n) };
+
+    fn key(&self, alloc: Global, backend: &Backend) -> Result<Backend, Refusal> {
+        let number = self.rule.number(backend);
+        Ok(Backend {
+            addr: SocketAddr::Inet(InetAddr::V4([0, 0, 0, 0], 0)),
+            weight: number as usize,
+            ext: Ext::new(alloc),
+        })
+    }
+
+    fn same(&self, backend: &Backend, other: &Backend) -> bool {
+        self.rule.number(backend) == self.rule.number(other)
     }
 }
 

@@ -14,5 +14,4 @@ pub mod making;
 pub mod owner;
 pub mod registry;
 pub mod rule;
-pub mod view;
 pub mod wakes;

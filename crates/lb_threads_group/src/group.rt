@@ -9,8 +9,8 @@ use crate::found::{SlotWords, WordsLock};
 use crate::kept::{Site, SlotLanes};
 use crate::port::LockedPort;
 use lb_balancer_core::update::update_through;
-use lb_health_core::health_check::HealthCheck;
-use lb_health_core::keys::KeyRule;
+use lb_health_core::health_check::{BoxedCheck, HealthCheck};
+use lb_health_core::keys::{KeyRule, Rule};
 use lb_rebuild::board::Board;
 use lb_rebuild::watched::Watched;
 use lb_rebuild_core::group::GroupCore;
@@ -20,6 +20,7 @@ use lb_select_base::moments::MomentSource;
 use lb_select_base::refusal::Refusal;
 use lb_select_base::walk::BackendSelection;
 use lb_threads_core::gate::SelectorRebuildGate;
+use lb_threads_core::keyed::NoRule;
 use lb_threads_core::lanes::Lanes;
 use lb_threads_core::lock::KeyedLock;
 use lb_threads_core::registry::HealthRegistry;
@@ -65,7 +66,7 @@ struct LaneWords {
 
 /// A group behind a lock, with its registry and its gate, which other groups may share, and its board outside the lock. Contracts see the
 /// board, the group as it was made (which one it is, its gate and its configurations), and the registry as it was made.
-pub struct SharedGroup<S: BackendSelection, R: KeyRule + Drop, C> {
+pub struct SharedGroup<S: BackendSelection, R: KeyRule + Drop = Rule<NoRule>, C = BoxedCheck> {
     pub(crate) lock: KeyedLock<Watched<S>, Snapshot<Watched<S>>, OfGroup>,
     pub(crate) board: Arc<Board>,
     pub(crate) registry: Arc<HealthRegistry<R, C>>,

@@ -218,7 +218,8 @@ fn group_of<R: Log + Wait + Drop, C: HealthCheck + Drop>(
 ) -> Result<Group<R, C>, Refusal> {
     let registry = Arc::try_clone(&common.registry)?;
     let gate = Arc::try_clone(&common.gate)?;
-    let backends = Backends::new_with_health_registry(DiscoverySource::Boxed(discovery), registry);
+    let discovery = DiscoverySource::Boxed(discovery);
+    let backends = Backends::new_with_health_registry(rt, alloc, discovery, registry)?;
     let mut group = LoadBalancerGroup::from_backends_with_configs(rt, alloc, backends, kinds)?;
     match group.with_rebuild_gate(rt, alloc, gate) {
         Ok(()) => Ok(group),

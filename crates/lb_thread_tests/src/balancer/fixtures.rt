@@ -167,7 +167,7 @@ impl<S: BackendSelection, R: Abort + Wait + Clock + Copy + Drop> Bench<S, R> {
             turn: AtomicU64::new(0),
         };
         let discovery = DiscoverySource::Boxed(discovery);
-        let backends = Backends::new(alloc, discovery).expect(rt, "refused");
+        let backends = Backends::new(rt, alloc, discovery).expect(rt, "refused");
         Bench {
             alloc,
             line,

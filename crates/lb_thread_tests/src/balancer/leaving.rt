@@ -27,7 +27,8 @@ fn sharing<R: Abort + Wait + Clock + Copy + Drop>(
     let found = listed(alloc, &[address]).expect(rt, "refused");
     let discovery = DiscoverySource::Static(Static::new(found));
     let registry = Arc::try_clone(registry).expect(rt, "refused");
-    let backends = Backends::new_with_health_registry(discovery, registry);
+    let backends = Backends::new_with_health_registry(rt, alloc, discovery, registry);
+    let backends = backends.expect(rt, "refused");
     let balancer = LoadBalancer::from_backends(rt, alloc, backends).expect(rt, "refused");
     balancer
         .update(rt, alloc, &mut Ticks { next: 0, step: 5 })

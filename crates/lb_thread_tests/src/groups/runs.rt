@@ -190,9 +190,8 @@ fn group_of<W: Abort + Wait + Clock + Copy + Drop>(
     watch: &ShutdownWatch,
 ) -> Group<W> {
     let discovery = DiscoverySource::Boxed(slow_for(rt, calls, watch));
-    let backends: Backends<Slow<W>, Rule<NoRule>, Slow<W>> = Backends::new(alloc, discovery).expect(
-        &rt, "refused",
-    );
+    let backends = Backends::new(&rt, alloc, discovery);
+    let backends: Backends<Slow<W>, Rule<NoRule>, Slow<W>> = backends.expect(&rt, "refused");
     let counts = Arc::try_clone(counts).expect(&rt, "refused");
     let mut configs = Vec::new(alloc);
     configs

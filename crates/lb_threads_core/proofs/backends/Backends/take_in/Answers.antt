@@ -4,7 +4,7 @@ use Rattle.lb_health_view.specs.RegistrySide.{after_settings, settings_of, with_
 use Rattle.lb_threads_core.proofs.Histories.{at_site, later}
 use Rattle.lb_threads_core.proofs.Memberships.{changed-is, founded-after, is-other, new-members}
 use Rattle.lb_threads_core.proofs.Updates.{err-of, ok-apart, taken-later}
-use Rattle.lb_threads_core.proofs.view.BackendView.take_in.Goals as goal
+use Rattle.lb_threads_core.proofs.backends.Backends.take_in.Goals as goal
 
 pub put-requires-clause-registry : goal.put-requires-clause-registry
 put-requires-clause-registry g c =

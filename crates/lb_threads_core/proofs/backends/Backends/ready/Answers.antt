@@ -1,7 +1,7 @@
 -- What the view under its lock answers, by the registry under its own.
 use Rattle.std.proofs.Common.{rules}
 use Rattle.lb_threads_core.proofs.Histories.{at_site}
-use Rattle.lb_threads_core.proofs.view.BackendView.ready.Goals as goal
+use Rattle.lb_threads_core.proofs.backends.Backends.ready.Goals as goal
 
 pub returns : goal.returns
 returns g c = (

@@ -4,7 +4,7 @@ use Rattle.std.specs.BTreeSet.{BTreeSet}
 use Rattle.std.specs.Fn.{FnOnceReturnsAt}
 use Rattle.lb_select_base.specs.Backends.{Member}
 use Rattle.lb_threads_core.proofs.Updates.{no-fault, refusal-of, refused-for, updated-other, updated-same}
-use Rattle.lb_threads_core.proofs.view.BackendView.update.Goals as goal
+use Rattle.lb_threads_core.proofs.backends.Backends.update.Goals as goal
 
 pub returns-in-Ok-true-clause-updated : goal.returns-in-Ok-true-clause-updated
 returns-in-Ok-true-clause-updated g c =
