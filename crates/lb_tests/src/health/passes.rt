@@ -4,12 +4,12 @@ use crate::asserted::{assert_row, assert_same};
 use crate::selection::fixtures::set_of;
 use lb_health_core::error::CheckError;
 use lb_health_core::health_check::{HealthCheck, identity_summary};
-use lb_health_core::keys::{ByNumber, Rule};
+use lb_health_core::keys::{ByNumber, Number, Rule};
 use lb_health_view::backends::Backends;
 use lb_health_view::discovery::{Discovered, DiscoverySource, ServiceDiscovery};
 use lb_health_view::registry::HealthRegistry;
-use lb_health_view::view::Settings;
-use lb_select_base::backend::Backend;
+use lb_health_view::view::{Settings, ViewCore};
+use lb_select_base::backend::{Backend, InetAddr, SocketAddr};
 use lb_select_base::refusal::Refusal;
 use log::sink::Memory;
 use log::{Level, Log, Logged};
@@ -20,7 +20,8 @@ use std::process::Abort;
 use std::rc::Rc;
 use std::test::Fail;
 
-/// How often a check was asked and got a report, whether it finds 1.0.0.1:80/1 down, and whether discoveries answer a fault.
+/// How often a check was asked, and which reports it got, each as one more digit: 1 of a backend that became healthy, and 2 of one that
+/// didn't; whether it finds 1.0.0.1:80/1 down, and whether discoveries answer a fault.
 #[derive(Drop)]
 struct Counts {
     asked: Cell<u64>,
@@ -67,9 +68,10 @@ impl HealthCheck for Counting {
         Ok(())
     }
 
-    fn health_status_change(&self, _target: &Backend, _healthy: bool) {
+    fn health_status_change(&self, _target: &Backend, healthy: bool) {
         let told = &self.counts.told;
-        told.set(told.get().wrapping_add(1));
+        let digit = if healthy { 1 } else { 2 };
+        told.set(told.get().wrapping_mul(10).wrapping_add(digit));
     }
 
     fn backend_summary(&self, alloc: Global, target: &Backend) -> Result<String, Refusal> {
@@ -145,12 +147,13 @@ fn ready(alloc: Global, backends: &Counted) -> Result<bool, Refusal> {
     Ok(backends.ready(&Backend::new(alloc, "1.0.0.1:80")?))
 }
 
-// Whether a pass finds the backend down; how often the check was asked and got a report then, and whether the backend is ready. The first
-// pass finds it down for the first time, the second flips it, the third finds it up and flips it back; each pass checks each target once.
+// Whether a pass finds the backend down; how often the check was asked and which reports it got then, and whether the backend is ready. The
+// first pass finds it down for the first time, the second flips it, the third finds it up and flips it back; each pass checks each target
+// once.
 const PASSES: [(bool, u64, u64, bool); 3] = [
     (true, 2, 0, true),
-    (true, 4, 1, false),
-    (false, 6, 2, true),
+    (true, 4, 2, false),
+    (false, 6, 21, true),
 ];
 
 fn passes<R: Abort, L: Log>(
@@ -270,5 +273,71 @@ fn a_check_is_set_once(rt: HostRuntime) -> Result<(), Fail> {
     let counts = new_counts(alloc)?;
     let mut health: Health = HealthRegistry::by_address(alloc).start_unhealthy();
     check_is_set_once(alloc, &mut health, &counts, &rt)?;
+    Ok(())
+}
+
+// A new view of that backend.
+fn view_of(alloc: Global, health: &mut Health, backend: &Backend) -> Result<ViewCore, Refusal> {
+    let mut view = ViewCore::register(alloc, &mut health.registry)?;
+    let mut set = BTreeSet::new(alloc);
+    set.insert(backend.clone()?)?;
+    let settings = Settings::new(alloc);
+    view.update(
+        alloc,
+        &mut health.registry,
+        set,
+        settings,
+        |lent: &BTreeSet<Backend>| lent.len(),
+    )?;
+    Ok(view)
+}
+
+// How many targets the views of both backends have, how often the check was asked then, and whether each is ready in its view: before the
+// first one is disabled, and after.
+fn share(
+    alloc: Global,
+    health: &mut Health,
+    backends: (&Backend, &Backend),
+    counts: &Counts,
+    log: &impl Log,
+) -> Result<(usize, u64, [bool; 4]), Refusal> {
+    let (light, heavy) = backends;
+    let mut first = view_of(alloc, health, light)?;
+    let second = view_of(alloc, health, heavy)?;
+    let targets = health.target_count(alloc)?;
+    health.run_health_check(log, alloc)?;
+    let is_first = first.ready(&health.registry, light);
+    let is_second = second.ready(&health.registry, heavy);
+    first.set_enable(light, false);
+    let ready = [
+        is_first,
+        is_second,
+        first.ready(&health.registry, light),
+        second.ready(&health.registry, heavy),
+    ];
+    Ok((targets, counts.asked.get(), ready))
+}
+
+// The last byte of a backend's address.
+fn last_byte(backend: &Backend) -> u64 {
+    match &backend.addr {
+        SocketAddr::Inet(InetAddr::V4([_, _, _, last], _)) => u64::from(*last),
+        _ => 0,
+    }
+}
+
+// Two views whose backends have one number, by a rule of the caller's, have one target, which is checked once. Each has flags of its own.
+#[test]
+fn views_share_by_number(rt: HostRuntime) -> Result<(), Fail> {
+    let alloc = rt.alloc();
+    let counts = new_counts(alloc)?;
+    let number: Number = Box::new(alloc, |backend: &Backend| last_byte(backend))?;
+    let mut health: Health = HealthRegistry::with_equivalence(alloc, ByNumber::new(number));
+    health.set_health_check(new_check(&counts, false)?)?;
+    let light = Backend::new(alloc, "1.0.0.1:80")?;
+    let heavy = Backend::new_with_weight(alloc, "2.0.0.1:80", 2)?;
+    let found = share(alloc, &mut health, (&light, &heavy), &counts, &rt);
+    let wanted = Ok((1, 1, [true, true, false, true]));
+    assert_same(&rt, &found, &wanted, &"views share by number");
     Ok(())
 }

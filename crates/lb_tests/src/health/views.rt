@@ -28,8 +28,8 @@ enum Call {
     SetEnable(bool),
     Hold(u64),
     Release(u64),
-    /// Whether the backend of weight 1 at that address is ready.
-    IsReady(&'static str),
+    /// Whether the backend of that address and weight is ready.
+    IsReady(&'static str, usize),
     /// Whether 1.0.0.1:80 is ready in the other view.
     IsReadyInOther,
     /// Whether 1.0.0.1:80 is ready in the snapshot of this generation.
@@ -85,8 +85,8 @@ impl Viewed {
     // Makes a call that changes nothing.
     fn read(&self, alloc: Global, call: Call) -> Answer {
         match call {
-            Call::IsReady(address) => {
-                let backend = Backend::new(alloc, address)?;
+            Call::IsReady(address, weight) => {
+                let backend = Backend::new_with_weight(alloc, address, weight)?;
                 Ok(Told::Flag(self.view.ready(&self.registry, &backend)))
             }
             Call::IsReadyInOther => {
@@ -178,7 +178,7 @@ const COMES_BACK: Calls = &[
     (Call::Update(ONE, None), Ok(Told::Length(1))),
 ];
 
-const ROWS: [Row; 6] = [
+const ROWS: [Row; 8] = [
     // A discovery disables a backend; one that omits it leaves it so, and one that enables it does.
     Row {
         name: "flags of a discovery",
@@ -188,15 +188,15 @@ const ROWS: [Row; 6] = [
                 Ok(Told::Length(2)),
             ),
             (Call::Generation, Ok(Told::Number(1))),
-            (Call::IsReady("1.0.0.1:80"), YES),
-            (Call::IsReady("127.0.0.1:79"), NO),
+            (Call::IsReady("1.0.0.1:80", 1), YES),
+            (Call::IsReady("127.0.0.1:79", 1), NO),
         ],
         then: &[
             (Call::Update(NEAR, None), DONE),
             (Call::Generation, Ok(Told::Number(1))),
-            (Call::IsReady("127.0.0.1:79"), NO),
+            (Call::IsReady("127.0.0.1:79", 1), NO),
             (Call::Update(NEAR, Some(("127.0.0.1:79", true))), DONE),
-            (Call::IsReady("127.0.0.1:79"), YES),
+            (Call::IsReady("127.0.0.1:79", 1), YES),
         ],
     },
     // A setting of a backend that the membership lacks does nothing, now and later.
@@ -208,7 +208,7 @@ const ROWS: [Row; 6] = [
         )],
         then: &[
             (Call::Update(NEAR, None), Ok(Told::Length(2))),
-            (Call::IsReady("127.0.0.1:79"), YES),
+            (Call::IsReady("127.0.0.1:79", 1), YES),
         ],
     },
     // The key came back to a fresh cell; the flag stayed, since generation 1 lists the backend. Readiness in generation 1 goes by
@@ -218,9 +218,9 @@ const ROWS: [Row; 6] = [
         first: COMES_BACK,
         then: &[
             (Call::Generation, Ok(Told::Number(3))),
-            (Call::IsReady("1.0.0.1:80"), NO),
+            (Call::IsReady("1.0.0.1:80", 1), NO),
             (Call::SetEnable(true), DONE),
-            (Call::IsReady("1.0.0.1:80"), YES),
+            (Call::IsReady("1.0.0.1:80", 1), YES),
             (Call::IsReadyIn(1), NO),
             (Call::Registry(RegistryCall::Observe(0, true, 1)), YES),
             (Call::IsReadyIn(1), YES),
@@ -239,7 +239,7 @@ const ROWS: [Row; 6] = [
                 Err(Refusal::NoSuch),
             ),
             (Call::IsReadyIn(1), NO),
-            (Call::IsReady("1.0.0.1:80"), YES),
+            (Call::IsReady("1.0.0.1:80", 1), YES),
             (Call::CountMembers, Ok(Told::Length(1))),
         ],
     },
@@ -253,8 +253,46 @@ const ROWS: [Row; 6] = [
         ],
         then: &[
             (Call::SetEnable(false), DONE),
-            (Call::IsReady("1.0.0.1:80"), NO),
+            (Call::IsReady("1.0.0.1:80", 1), NO),
             (Call::IsReadyInOther, YES),
+        ],
+    },
+    // Readiness is of an identity: a backend of another weight at its address is another one.
+    Row {
+        name: "readiness of one identity",
+        first: &[
+            (Call::Update(ONE, None), Ok(Told::Length(1))),
+            (Call::IsReady("1.0.0.1:80", 1), YES),
+            (
+                Call::Update(&[("1.0.0.1:80", 2)], None),
+                Ok(Told::Length(1)),
+            ),
+            (Call::IsReady("1.0.0.1:80", 1), NO),
+            (Call::IsReady("1.0.0.1:80", 2), YES),
+        ],
+        then: &[
+            (Call::Update(&[], None), Ok(Told::Length(0))),
+            (Call::IsReady("1.0.0.1:80", 1), NO),
+            (Call::IsReady("1.0.0.1:80", 2), NO),
+        ],
+    },
+    // Two weights of one address have a flag each; a third, which isn't listed, isn't ready.
+    Row {
+        name: "weights of one address have their own flags",
+        first: &[
+            (
+                Call::Update(&[("1.0.0.1:80", 1), ("1.0.0.1:80", 2)], None),
+                Ok(Told::Length(2)),
+            ),
+            (Call::IsReady("1.0.0.1:80", 1), YES),
+            (Call::IsReady("1.0.0.1:80", 2), YES),
+            (Call::IsReady("1.0.0.1:80", 3), NO),
+        ],
+        then: &[
+            (Call::SetEnable(false), DONE),
+            (Call::IsReady("1.0.0.1:80", 1), NO),
+            (Call::IsReady("1.0.0.1:80", 2), YES),
+            (Call::IsReady("1.0.0.1:80", 3), NO),
         ],
     },
     // An update that is refused for memory leaves view and registry as they were, and succeeds when it is given again.

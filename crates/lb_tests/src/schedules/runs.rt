@@ -77,7 +77,7 @@ const GROUP: [Answered; 5] = [
     (8, 1, Event::Told, Action::Return),
 ];
 
-// A service without a check holds.
+// A service without a check holds, until nobody can shut it down or it is shut down.
 const HOLDS: [Answered; 3] = [
     (0, 0, Event::Start, Action::Hold),
     (1, 0, Event::Woke, Action::Hold),
@@ -92,6 +92,38 @@ const WAITS: [Answered; 6] = [
     (9, 1, Event::Targets, Action::Check),
     (10, 1, Event::Checked, Action::SleepUntil(15)),
     (11, 0, Event::ViewRemoved, Action::WaitTargets),
+];
+
+const ENDS: [Answered; 3] = [
+    (0, 0, Event::Start, Action::Hold),
+    (1, 1, Event::Targets, Action::Hold),
+    (2, 1, Event::Shutdown, Action::Return),
+];
+
+const HOUR: u128 = 3_600_000_000_000;
+
+// An hourly service checks what comes first at once, and again what comes after its last target left; it is shut down while it waits.
+const HOURLY: [Answered; 11] = [
+    (0, 0, Event::Start, Action::Check),
+    (1, 0, Event::Checked, Action::WaitTargets),
+    (2, 0, Event::Woke, Action::WaitTargets),
+    (5, 1, Event::Targets, Action::Check),
+    (7, 1, Event::Checked, Action::SleepUntil(HOUR + 7)),
+    (8, 1, Event::ViewRemoved, Action::SleepUntil(HOUR + 7)),
+    (9, 0, Event::ViewRemoved, Action::WaitTargets),
+    (20, 1, Event::Targets, Action::Check),
+    (22, 1, Event::Checked, Action::SleepUntil(HOUR + 22)),
+    (30, 0, Event::ViewRemoved, Action::WaitTargets),
+    (31, 0, Event::Shutdown, Action::Return),
+];
+
+// One without a frequency waits for its first target, though nobody can shut it down, and checks once.
+const FIRST_TARGET: [Answered; 5] = [
+    (0, 0, Event::Start, Action::WaitTargets),
+    (1, 0, Event::Closed, Action::WaitTargets),
+    (5, 1, Event::Targets, Action::Check),
+    (7, 2, Event::Checked, Action::Ready),
+    (8, 2, Event::Told, Action::Return),
 ];
 
 // How a run is made.
@@ -119,12 +151,15 @@ impl Made {
     }
 }
 
-const RUNS: [(Made, &[Answered]); 6] = [
+const RUNS: [(Made, &[Answered]); 9] = [
     (Made::Balancer(None, true, true), &ONCE),
     (Made::Balancer(Some(10), true, true), &AGAIN),
     (Made::Balancer(Some(10), false, false), &SHUTDOWN),
     (Made::Group, &GROUP),
     (Made::Service(None, false, true), &HOLDS),
+    (Made::Service(None, false, true), &ENDS),
+    (Made::Service(Some(HOUR), true, false), &HOURLY),
+    (Made::Service(None, true, true), &FIRST_TARGET),
     (Made::Service(Some(5), true, true), &WAITS),
 ];
 

@@ -19,7 +19,7 @@ struct Row {
     told: Said,
 }
 
-const ROWS: [Row; 8] = [
+const ROWS: [Row; 10] = [
     // without tasks it is idle
     Row {
         update: None,
@@ -42,6 +42,21 @@ const ROWS: [Row; 8] = [
         is_finished: true,
         now: 0,
         told: ((false, false, true), (NEVER, None, false)),
+    },
+    // a check that is done once
+    Row {
+        update: None,
+        check: Some(None),
+        is_finished: false,
+        now: 0,
+        told: ((false, true, false), (0, Some(0), true)),
+    },
+    Row {
+        update: None,
+        check: Some(None),
+        is_finished: true,
+        now: 0,
+        told: ((false, false, true), (NEVER, None, true)),
     },
     // a check that is repeated is due again
     Row {

@@ -4,6 +4,7 @@ use lb_select::selection::Random;
 use lb_select_base::backend::Backend;
 use lb_select_base::refusal::Refusal;
 use lb_select_base::select::select;
+use lb_select_base::walk::{BackendIter, BackendSelection};
 use lb_select_base::words::{CoreWords, SharedWords, WordSource};
 use rand_pcg::Pcg64;
 use std::alloc::Global;
@@ -40,7 +41,25 @@ fn selects<W: WordSource>(
     Ok(found.is_some_and(|backend| backend == wanted))
 }
 
+// How many of ten thousand walks begin at the backend of weight 8, which stands between two of weight 1.
+fn heavy_ones<W: WordSource>(alloc: Global, words: &mut W) -> Result<u32, Refusal> {
+    let set = set_of(
+        alloc,
+        &[("1.1.1.1:80", 1), ("1.0.0.1:80", 8), ("1.0.0.255:80", 1)],
+    )?;
+    let selector: Arc<Random> = selector_of(alloc, &set)?;
+    let mut heavy = 0u32;
+    for _ in 0..10_000u32 {
+        let mut walk = Random::iter(&selector, b"test", words)?;
+        if walk.next(words).is_some_and(|backend| backend.weight == 8) {
+            heavy = heavy.wrapping_add(1);
+        }
+    }
+    Ok(heavy)
+}
+
 // The words are those of the generator's published algorithm, by their rest modulo 3: 0 2 2 0, and 2 1 1 0.
+// Of ten thousand a backend gets about its share of the weights.
 #[test]
 fn random_words_select(rt: HostRuntime) {
     let alloc = rt.alloc();
@@ -50,8 +69,9 @@ fn random_words_select(rt: HostRuntime) {
     let told = [
         select_all(alloc, &mut words_from(0), &first) == Ok(true),
         select_all(alloc, &mut shared.lend(&rt), &second) == Ok(true),
+        heavy_ones(alloc, &mut shared.lend(&rt)).is_ok_and(|heavy| (7000..=9000).contains(&heavy)),
     ];
-    assert_eq!(rt; told, [true; 2]);
+    assert_eq!(rt; told, [true; 3]);
 }
 
 // No contract tells what a lock and a shared counter contain; of one thread alone they are the counter and the generator.
