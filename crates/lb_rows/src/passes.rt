@@ -1,6 +1,6 @@
 //! Two passes of a check over a view of one backend on the own loopback.
 //! What a pass does with a check's word is proved; here the checks meet real servers, and closed ports.
-use crate::server_tables::{ANSWER, By, Pass};
+use crate::server_tables::{By, Pass};
 use crate::servers::{backend_at, backend_at_closed_port};
 use lb_health_core::health_check::{HealthCheck, HealthObserve, IdentitySummary};
 use lb_health_core::keys::{ByNumber, Rule};
@@ -66,19 +66,21 @@ impl Log for Flips {
     }
 }
 
-// The observer of a row whose backend becomes healthy, or unhealthy.
+// The observer of a row whose backend begins healthy, or unhealthy. Each report is of the other health than the one before.
 #[derive(Drop)]
 struct Observer<'a> {
     flips: &'a Flips,
     backend: &'a Backend,
-    healthy: bool,
+    starts_healthy: bool,
 }
 
 impl HealthObserve for Observer<'_> {
     fn observe(&self, target: &Backend, healthy: bool) {
         let flips = self.flips;
-        let is_first = flips.reported.load(Ordering::SeqCst) == flips.logged.load(Ordering::SeqCst);
-        if is_first && target == self.backend && healthy == self.healthy {
+        let reported = flips.reported.load(Ordering::SeqCst);
+        let is_first = reported == flips.logged.load(Ordering::SeqCst);
+        let was_healthy = (reported % 2 == 0) == self.starts_healthy;
+        if is_first && target == self.backend && healthy != was_healthy {
             flips.reported.fetch_add(1, Ordering::SeqCst);
         } else {
             flips.astray.fetch_add(1, Ordering::SeqCst);
@@ -86,7 +88,7 @@ impl HealthObserve for Observer<'_> {
     }
 }
 
-/// Whether both passes leave the backend and its observer as the row says.
+/// Whether the backend begins as the row says, and both passes leave it and its observer so.
 pub(crate) fn agrees<R>(rt: &R, row: &Pass) -> io::Result<bool>
 where
     R: Net<Listener = TcpListener, Stream = TcpStream> + Threads + Clock + AllocGlobal,
@@ -97,7 +99,8 @@ where
     } else {
         passes_where_closed(rt, row, &flips)?
     };
-    let wanted = [row.is_ready, row.is_ready];
+    let [once, twice] = row.is_ready;
+    let wanted = [row.starts_healthy, once, twice];
     Ok(ready == Ok(wanted) && flips.are(row.flips))
 }
 
@@ -106,7 +109,7 @@ fn passes_where_closed<R>(
     rt: &R,
     row: &Pass,
     flips: &Flips,
-) -> io::Result<Result<[bool; 2], Refusal>>
+) -> io::Result<Result<[bool; 3], Refusal>>
 where
     R: Net<Listener = TcpListener, Stream = TcpStream> + Clock + AllocGlobal,
 {
@@ -114,13 +117,13 @@ where
     Ok(passes(rt, row, flips, &backend))
 }
 
-// Passes over a port where somebody listens, who gives good answers where there are requests. What owns the listener makes one
+// Passes over a port where somebody listens, who gives the row's answers where there are requests. What owns the listener makes one
 // call.
 fn passes_where_served<R>(
     rt: &R,
     row: &Pass,
     flips: &Flips,
-) -> io::Result<Result<[bool; 2], Refusal>>
+) -> io::Result<Result<[bool; 3], Refusal>>
 where
     R: Net<Listener = TcpListener, Stream = TcpStream> + Threads + Clock + AllocGlobal,
 {
@@ -134,30 +137,30 @@ fn passes_at<R>(
     row: &Pass,
     flips: &Flips,
     listener: &TcpListener,
-) -> io::Result<Result<[bool; 2], Refusal>>
+) -> io::Result<Result<[bool; 3], Refusal>>
 where
     R: Net<Listener = TcpListener, Stream = TcpStream> + Threads + Clock + AllocGlobal,
 {
     let backend = backend_at(rt.alloc(), listener.local_addr()?.port())?;
     let (_served, ready) = join(
         rt,
-        || serve(listener, row.by),
+        || serve(listener, row),
         || passes(rt, row, flips, &backend),
     );
     Ok(ready)
 }
 
-// Serves two connections with a good answer each; for a check that only connects, the system takes them.
-fn serve(listener: &TcpListener, by: By) -> io::Result<()> {
-    if matches!(&by, By::Tcp) {
+// Serves two connections with the row's answers; for a check that only connects, the system takes them.
+fn serve(listener: &TcpListener, row: &Pass) -> io::Result<()> {
+    if matches!(&row.by, By::Tcp) {
         return Ok(());
     }
-    for _ in 0..2 {
+    for answer in &row.answers {
         let (stream, _) = listener.accept()?;
         let mut stream = &stream;
         let mut request = [0u8; 512];
         let _ = stream.read(&mut request)?;
-        stream.write_all(ANSWER)?;
+        stream.write_all(*answer)?;
     }
     Ok(())
 }
@@ -168,19 +171,19 @@ fn passes<R: Net<Stream = TcpStream> + Clock + AllocGlobal>(
     row: &Pass,
     flips: &Flips,
     backend: &Backend,
-) -> Result<[bool; 2], Refusal> {
+) -> Result<[bool; 3], Refusal> {
     let alloc = rt.alloc();
     let observer = Observer {
         flips,
         backend,
-        healthy: row.is_ready,
+        starts_healthy: row.starts_healthy,
     };
     match row.by {
         By::Tcp => {
             let check = TcpHealthCheck::new(rt).with_callbacks(Some(observer), IdentitySummary);
             passes_of(row.starts_healthy, flips, backend, check, alloc)
         }
-        By::Http => {
+        By::Http | By::HttpMoved => {
             let check = HttpHealthCheck::new(alloc, rt, "h")?;
             let check = check.with_callbacks(None::<AcceptStatus>, Some(observer), IdentitySummary);
             passes_of(row.starts_healthy, flips, backend, check, alloc)
@@ -195,7 +198,7 @@ fn passes_of<L: Log, C: HealthCheck + Drop>(
     backend: &Backend,
     check: C,
     alloc: Global,
-) -> Result<[bool; 2], Refusal> {
+) -> Result<[bool; 3], Refusal> {
     // The view has a boxed rule of keys in its type, so the function that makes it calls what borrows it.
     let mut set = BTreeSet::new(alloc);
     set.insert(backend.clone()?)?;
@@ -209,18 +212,19 @@ fn passes_of<L: Log, C: HealthCheck + Drop>(
     run_passes(log, alloc, &mut backends, backend, check)
 }
 
-// Sets the check, updates the view and runs two passes; whether the backend is ready after each.
+// Sets the check, updates the view and runs two passes; whether the backend is ready before them and after each.
 fn run_passes<L: Log, C: HealthCheck + Drop>(
     log: &L,
     alloc: Global,
     backends: &mut Backends<Static, Rule<ByNumber>, C>,
     backend: &Backend,
     check: C,
-) -> Result<[bool; 2], Refusal> {
+) -> Result<[bool; 3], Refusal> {
     backends.set_health_check(check)?;
     backends.update(alloc, |lent: &BTreeSet<Backend>| lent.len())?;
+    let before = backends.ready(backend);
     backends.run_health_check(log, alloc)?;
     let once = backends.ready(backend);
     backends.run_health_check(log, alloc)?;
-    Ok([once, backends.ready(backend)])
+    Ok([before, once, backends.ready(backend)])
 }

@@ -5,6 +5,8 @@ use lb_health_core::error::CheckError;
 #[derive(Clone, Copy)]
 pub(crate) enum By {
     Http,
+    /// Over HTTP, with a validator that is no type of the library's: it accepts 301.
+    HttpMoved,
     Tcp,
 }
 
@@ -14,6 +16,8 @@ pub(crate) enum Place {
     Port,
     /// The port is the check's own, and the backend names another.
     CheckPort,
+    /// The listener at the port takes no connection, and holds as many as it can.
+    FullPort,
     /// Nobody listens at the port.
     ClosedPort,
     /// A Unix socket in the folder that the program is run in.
@@ -51,8 +55,12 @@ pub(crate) struct Server {
     pub(crate) outcome: Result<(), CheckError>,
 }
 
-/// A good answer, and one that is cut.
-pub(crate) const ANSWER: &[u8] = b"HTTP/1.1 200 OK\r\nContent-Length: 2\r\n\r\nok";
+/// A good answer, others of other statuses, and one that is cut.
+const ANSWER: &[u8] = b"HTTP/1.1 200 OK\r\nContent-Length: 2\r\n\r\nok";
+
+const MOVED: &[u8] = b"HTTP/1.1 301 Moved Permanently\r\nContent-Length: 0\r\n\r\n";
+
+const UNAVAILABLE: &[u8] = b"HTTP/1.1 503 Service Unavailable\r\nContent-Length: 0\r\n\r\n";
 
 const CUT: &[u8] = b"HTTP/1.1 200 OK\r\nContent-Length: 2\r\n\r\no";
 
@@ -62,7 +70,7 @@ const STATUS_LINE: &[u8] = b"HTTP/1.1 200 OK\r\n";
 const MANY_BYTES: usize = 16777216;
 
 /// The checks of servers.
-pub(crate) const SERVERS: [Server; 13] = [
+pub(crate) const SERVERS: [Server; 18] = [
     Server {
         name: "a served answer",
         by: By::Http,
@@ -80,6 +88,33 @@ pub(crate) const SERVERS: [Server; 13] = [
         field_bytes: 0,
         total_timeout: None,
         outcome: Ok(()),
+    },
+    Server {
+        name: "a moved answer",
+        by: By::Http,
+        place: Place::Port,
+        serves: Serves::Answer(MOVED),
+        field_bytes: 0,
+        total_timeout: None,
+        outcome: Err(CheckError::Status(301)),
+    },
+    Server {
+        name: "a moved answer, accepted by the caller's validator",
+        by: By::HttpMoved,
+        place: Place::Port,
+        serves: Serves::Answer(MOVED),
+        field_bytes: 0,
+        total_timeout: None,
+        outcome: Ok(()),
+    },
+    Server {
+        name: "a good answer, not accepted by the caller's validator",
+        by: By::HttpMoved,
+        place: Place::Port,
+        serves: Serves::Answer(ANSWER),
+        field_bytes: 0,
+        total_timeout: None,
+        outcome: Err(CheckError::Rejected),
     },
     Server {
         name: "a server that closes in the body",
@@ -163,6 +198,24 @@ pub(crate) const SERVERS: [Server; 13] = [
         outcome: Err(CheckError::Write),
     },
     Server {
+        name: "a port that takes no more connections",
+        by: By::Http,
+        place: Place::FullPort,
+        serves: Serves::Nothing,
+        field_bytes: 0,
+        total_timeout: Some(1_000_000_000),
+        outcome: Err(CheckError::Connect),
+    },
+    Server {
+        name: "a port that takes no more connections, without a request",
+        by: By::Tcp,
+        place: Place::FullPort,
+        serves: Serves::Nothing,
+        field_bytes: 0,
+        total_timeout: None,
+        outcome: Err(CheckError::Connect),
+    },
+    Server {
         name: "a closed port",
         by: By::Http,
         place: Place::ClosedPort,
@@ -182,25 +235,27 @@ pub(crate) const SERVERS: [Server; 13] = [
     },
 ];
 
-/// Two passes of a check over a backend: whether it begins healthy, whether it is ready after each pass, and how many flips the observer
-/// gets.
+/// Two passes of a check over a backend: whether it begins healthy, what a server answers at each pass where one listens, whether the
+/// backend is ready after each, and how many flips the observer gets.
 pub(crate) struct Pass {
     pub(crate) name: &'static str,
     pub(crate) by: By,
     pub(crate) listens: bool,
     pub(crate) starts_healthy: bool,
-    pub(crate) is_ready: bool,
+    pub(crate) answers: [&'static [u8]; 2],
+    pub(crate) is_ready: [bool; 2],
     pub(crate) flips: u64,
 }
 
 /// The passes.
-pub(crate) const PASSES: [Pass; 5] = [
+pub(crate) const PASSES: [Pass; 7] = [
     Pass {
         name: "a closed port, by TCP",
         by: By::Tcp,
         listens: false,
         starts_healthy: true,
-        is_ready: false,
+        answers: [ANSWER, ANSWER],
+        is_ready: [false, false],
         flips: 1,
     },
     Pass {
@@ -208,7 +263,8 @@ pub(crate) const PASSES: [Pass; 5] = [
         by: By::Tcp,
         listens: true,
         starts_healthy: true,
-        is_ready: true,
+        answers: [ANSWER, ANSWER],
+        is_ready: [true, true],
         flips: 0,
     },
     Pass {
@@ -216,7 +272,8 @@ pub(crate) const PASSES: [Pass; 5] = [
         by: By::Http,
         listens: false,
         starts_healthy: true,
-        is_ready: false,
+        answers: [ANSWER, ANSWER],
+        is_ready: [false, false],
         flips: 1,
     },
     Pass {
@@ -224,7 +281,8 @@ pub(crate) const PASSES: [Pass; 5] = [
         by: By::Http,
         listens: true,
         starts_healthy: true,
-        is_ready: true,
+        answers: [ANSWER, ANSWER],
+        is_ready: [true, true],
         flips: 0,
     },
     Pass {
@@ -232,7 +290,26 @@ pub(crate) const PASSES: [Pass; 5] = [
         by: By::Http,
         listens: true,
         starts_healthy: false,
-        is_ready: true,
+        answers: [ANSWER, ANSWER],
+        is_ready: [true, true],
         flips: 1,
+    },
+    Pass {
+        name: "a bad answer and then a good one, by HTTP",
+        by: By::Http,
+        listens: true,
+        starts_healthy: true,
+        answers: [UNAVAILABLE, ANSWER],
+        is_ready: [false, true],
+        flips: 2,
+    },
+    Pass {
+        name: "a good answer and then a bad one, by HTTP, of a backend that begins unhealthy",
+        by: By::Http,
+        listens: true,
+        starts_healthy: false,
+        answers: [ANSWER, UNAVAILABLE],
+        is_ready: [true, false],
+        flips: 2,
     },
 ];

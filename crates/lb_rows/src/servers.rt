@@ -1,14 +1,17 @@
 //! Checks of servers on the own loopback: each serves one connection in a thread of its own.
+ghost use Rattle.std.specs.Prelude.{◌==◌};
+
 use crate::server_tables::{By, Place, Server, Serves};
 use http::header::USER_AGENT;
+use http::response::Parts;
 use http_header::{HeaderMap, HeaderValue};
 use lb_health_core::error::CheckError;
-use lb_health_core::health_check::HealthCheck;
-use lb_health_http::{HttpHealthCheck, HttpPeer, TcpHealthCheck};
+use lb_health_core::health_check::{HealthCheck, IdentitySummary};
+use lb_health_http::{HttpHealthCheck, HttpPeer, NoObserver, TcpHealthCheck, Validate};
 use lb_select_base::backend::Backend;
 use std::alloc::Global;
 use std::io::{self, Error, ErrorKind, Read, Write};
-use std::net::{Net, TcpListener, TcpStream};
+use std::net::{Net, SocketAddr, TcpListener, TcpStream};
 use std::os::unix::net::UnixListener;
 use std::rt::{Clock, Files};
 use std::thread::{Threads, join, sleep};
@@ -16,6 +19,9 @@ use std::time::{Duration, Instant};
 
 // How long a check waits for a read, and for a write that is to fail, in nanoseconds.
 const TIMEOUT: u128 = 300_000_000;
+
+// More connections than a listener holds that takes none.
+const MOST_HELD: u32 = 900;
 
 // By when a check has to be over, in seconds.
 const LATEST: u64 = 10;
@@ -33,6 +39,7 @@ where
     match row.place {
         Place::Port => at_port(rt, row, false),
         Place::CheckPort => at_port(rt, row, true),
+        Place::FullPort => at_full_port(rt, row),
         Place::ClosedPort => where_none_listens(rt, row, backend_at_closed_port(rt)),
         Place::Path(path) => at_path(rt, row, path, None),
         Place::PathAndPort(path) => at_path(rt, row, path, Some(1)),
@@ -72,6 +79,32 @@ pub(crate) fn backend_at(alloc: Global, port: u16) -> io::Result<Backend> {
         Ok(backend) => Ok(backend),
         Err(_) => Err(Error::from(ErrorKind::Other)),
     }
+}
+
+// Whether the check of a listener agrees that holds as many connections as it can, none of which is taken.
+fn at_full_port<R>(rt: &R, row: &Server) -> io::Result<bool>
+where
+    R: Net<Listener = TcpListener, Stream = TcpStream> + Clock + AllocGlobal,
+{
+    let listener = TcpListener::bind(rt, "127.0.0.1:0")?;
+    let addr = listener.local_addr()?;
+    let _held = connections_to(rt, &addr)?;
+    where_none_listens(rt, row, backend_at(rt.alloc(), addr.port()))
+}
+
+// Connections to that address, until one more isn't made in 200 ms: a listener of std holds some 130.
+fn connections_to<R: Net<Stream = TcpStream> + AllocGlobal>(
+    rt: &R,
+    addr: &SocketAddr,
+) -> io::Result<Vec<TcpStream>> {
+    let mut held = Vec::new(rt.alloc());
+    for _ in 0..MOST_HELD {
+        match TcpStream::connect_timeout(rt, addr, Duration::from_millis(200)) {
+            Ok(stream) => held.push(stream)?,
+            Err(_) => break,
+        }
+    }
+    Ok(held)
 }
 
 // The backend behind that Unix socket.
@@ -209,7 +242,7 @@ fn check_agrees<R: Net<Stream = TcpStream> + Clock + AllocGlobal>(
     port: Option<u16>,
 ) -> io::Result<bool> {
     match row.by {
-        By::Http => http_check_agrees(rt, row, backend, port),
+        By::Http | By::HttpMoved => http_check_agrees(rt, row, backend, port),
         By::Tcp => timed_check_agrees(rt, &TcpHealthCheck::new(rt), row, backend),
     }
 }
@@ -221,16 +254,32 @@ fn http_check_agrees<R: Net<Stream = TcpStream> + Clock + AllocGlobal>(
     backend: &Backend,
     port: Option<u16>,
 ) -> io::Result<bool> {
-    match HttpHealthCheck::new(rt.alloc(), rt, "h") {
-        Ok(mut check) => set_check_agrees(rt, &mut check, row, backend, port),
-        Err(_) => Err(Error::from(ErrorKind::OutOfMemory)),
+    let Ok(mut check) = HttpHealthCheck::new(rt.alloc(), rt, "h") else {
+        return Err(Error::from(ErrorKind::OutOfMemory));
+    };
+    if matches!(&row.by, By::Http) {
+        return set_check_agrees(rt, &mut check, row, backend, port);
+    }
+    let mut check = check.with_callbacks(Some(Moved), None::<NoObserver>, IdentitySummary);
+    set_check_agrees(rt, &mut check, row, backend, port)
+}
+
+// The rule that accepts 301 and no other status.
+#[derive(Drop)]
+struct Moved;
+
+impl Validate for Moved {
+    ghost accepts = { λ _ p. p.status == 301 };
+
+    fn validate(&self, head: &Parts) -> bool {
+        head.status.as_u16() == 301
     }
 }
 
 // Sets the check as the row and the port ask; whether it answers so.
-fn set_check_agrees<R: Net<Stream = TcpStream> + Clock + AllocGlobal>(
+fn set_check_agrees<R: Net<Stream = TcpStream> + Clock + AllocGlobal, V: Validate>(
     rt: &R,
-    check: &mut HttpHealthCheck<&R>,
+    check: &mut HttpHealthCheck<&R, V>,
     row: &Server,
     backend: &Backend,
     port: Option<u16>,

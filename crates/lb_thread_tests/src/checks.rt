@@ -17,12 +17,16 @@ use std::thread;
 use std::thread::{Threads, join};
 use std::time::{Clock, Duration};
 
-// How many checks there were, how many run, and the most that ran at once.
+// How many checks there were, how many run, and the most that ran at once; whether that of weight 1 has begun, how many have answered, and
+// whether one had when that of weight 1 went on.
 #[derive(Drop)]
 struct Seen {
     checks: AtomicU64,
     inside: AtomicU64,
     most: AtomicU64,
+    begun: AtomicU64,
+    answered: AtomicU64,
+    before: AtomicU64,
 }
 
 impl Seen {
@@ -32,16 +36,32 @@ impl Seen {
             checks: AtomicU64::new(0),
             inside: AtomicU64::new(0),
             most: AtomicU64::new(0),
+            begun: AtomicU64::new(0),
+            answered: AtomicU64::new(0),
+            before: AtomicU64::new(0),
         }
     }
 }
 
-// A check that waits, for so many milliseconds at most, until another one runs at the same time. A backend of weight 2 is down.
+// A check of which that of weight 1 waits until another has answered, and the others until that one has begun; for so many turns of ten
+// milliseconds at most. A backend of weight 2 is down.
 #[derive(Drop)]
 struct Meeting<R> {
     rt: R,
     turns: usize,
     seen: Arc<Seen>,
+}
+
+impl<R: Clock> Meeting<R> {
+    // Waits until the word isn't 0.
+    fn wait(&self, word: &AtomicU64) {
+        for _ in 0..self.turns {
+            if word.load(SeqCst) > 0 {
+                break;
+            }
+            thread::sleep(&self.rt, Duration::from_millis(10));
+        }
+    }
 }
 
 impl<R: Clock> HealthCheck for Meeting<R> {
@@ -52,13 +72,15 @@ impl<R: Clock> HealthCheck for Meeting<R> {
         seen.checks.fetch_add(1, SeqCst);
         let inside = seen.inside.fetch_add(1, SeqCst).wrapping_add(1);
         seen.most.fetch_max(inside, SeqCst);
-        for _ in 0..self.turns {
-            if seen.most.load(SeqCst) > 1 {
-                break;
-            }
-            thread::sleep(&self.rt, Duration::from_millis(1));
+        if target.weight == 1 {
+            seen.begun.store(1, SeqCst);
+            self.wait(&seen.answered);
+            seen.before.store(seen.answered.load(SeqCst).min(1), SeqCst);
+        } else {
+            self.wait(&seen.begun);
         }
         seen.inside.fetch_sub(1, SeqCst);
+        seen.answered.fetch_add(1, SeqCst);
         if target.weight == 2 {
             return Err(CheckError::Connect);
         }
@@ -109,8 +131,9 @@ fn set<R: Abort + Wait + Clock + Copy + Drop>(
 }
 
 // What a pass came to: what a second check was answered before it, how many checks there were, how many of them ran at the same time
-// (one, or two and more), how many targets there are, and which cells are healthy.
-type Told = (Result<(), Refusal>, u64, u64, usize, [bool; 3]);
+// (one, or two and more) and whether one had answered when that of weight 1 went on, how many targets there are, and which cells are
+// healthy.
+type Told = (Result<(), Refusal>, u64, [u64; 2], usize, [bool; 3]);
 
 // A pass with its checks at the same time or not, once a second check was set.
 fn passed<R: Abort + Log + Threads + Wait + Clock + Copy + Send + Sync + Drop>(
@@ -129,7 +152,7 @@ fn passed<R: Abort + Log + Threads + Wait + Clock + Copy + Send + Sync + Drop>(
         registry.cell_ready(&rt, 1),
         registry.cell_ready(&rt, 2),
     ];
-    let most = seen.most.load(SeqCst).min(2);
+    let most = [seen.most.load(SeqCst).min(2), seen.before.load(SeqCst)];
     let targets = registry.target_count(&rt, alloc).expect(&rt, "refused");
     (second, seen.checks.load(SeqCst), most, targets, healthy)
 }
@@ -148,11 +171,11 @@ fn pass<R: Abort + Log + Threads + Wait + Clock + Copy + Send + Sync + Drop>(
     passed(rt, alloc, &registry, &seen, parallel)
 }
 
-// With `parallel` two checks meet, within ten thousand turns of a millisecond; without it, no two run at once. Each target is checked
-// once, and each verdict reaches its cell. A second check is refused, and the first stays.
+// With `parallel` a check that is held goes on once another has answered, within a thousand turns of ten milliseconds; without it, no two
+// run at once. Each target is checked once, and each verdict reaches its cell. A second check is refused, and the first stays.
 #[test]
 fn passes_of_checks(rt: HostRuntime) {
-    for (parallel, turns, most) in [(true, 10_000, 2), (false, 5, 1)] {
+    for (parallel, turns, most) in [(true, 1000, [2, 1]), (false, 5, [1, 0])] {
         let wanted = (
             Err(Refusal::HealthCheckSet),
             3,
@@ -179,7 +202,7 @@ fn removes<R: Abort + Wait + Clock + Drop>(
     }
     let removed = registry.update_view(rt, alloc, 1, backends_from(rt, alloc, 3));
     let is_checked = seen.checks.load(SeqCst) == 1;
-    seen.most.store(2, SeqCst);
+    seen.answered.store(1, SeqCst);
     removed == Ok(()) && is_checked
 }
 
@@ -191,7 +214,7 @@ fn passed_meanwhile<R: Abort + Log + Threads + Wait + Clock + Copy + Send + Sync
     registry: &Registry<R>,
     seen: &Arc<Seen>,
 ) -> (bool, u64, usize, [bool; 5]) {
-    set(rt, registry, seen, 10_000).expect(rt, "refused");
+    set(rt, registry, seen, 1000).expect(rt, "refused");
     let (removed, passed) = join(
         rt,
         || removes(rt, alloc, registry, &**seen),

@@ -62,12 +62,18 @@ fn play<W: Abort + Log + Threads + Wait + Clock + Copy + Send + Sync + Drop + 's
         Row::CancelsABuild => builds::cancels_a_build(rt, alloc, crowd),
         Row::TurnsOnOneGate => turns::turns_on_one_gate(rt, alloc, first, second),
         Row::WorkerOfOneLetGo => turns::worker_of_one_let_go(rt, alloc, first),
-        Row::RefusedOnce => turns::refused_once(rt, alloc, first),
+        Row::RefusedOnce => {
+            turns::refused_once(rt, alloc, first);
+            handles::counts(rt, &crowd.first, 0, [0, 1]);
+        }
         Row::LastReaderWakes => waking::last_reader_wakes(rt, alloc, crowd),
         Row::RebuildsGoOn => waking::rebuilds_go_on(rt, alloc, crowd),
         Row::ClockGoesBack => moments::clock_goes_back(rt, alloc, first),
         Row::AtTheLastMoment => moments::at_the_last_moment(rt, alloc, crowd),
-        Row::ReaderStays => staying::reader_stays(rt, alloc, first),
+        Row::ReaderStays => {
+            staying::reader_stays(rt, alloc, first);
+            handles::counts(rt, &crowd.first, 1, [2, 0]);
+        }
         Row::CancelledWhileRead => {
             staying::cancelled_while_read(rt, alloc, first, &*crowd.site.registry)
         }

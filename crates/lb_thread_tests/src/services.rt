@@ -1,6 +1,7 @@
 //! Services that run, while another thread sends the end.
 use crate::ends::{Ends, send_end};
 use crate::service_fixtures::{Checked, ServiceBench, Ticks, counted, one_backend, registry_of};
+use lb_background::ready::ReadyWatch;
 use lb_background::shutdown::ShutdownSignal;
 use lb_select_base::refusal::Refusal;
 use log::sink::Locked;
@@ -18,10 +19,12 @@ use std::time::{Clock, Duration};
 #[derive(Clone, Copy)]
 enum Beside {
     Nothing,
-    // The end is sent once so many checks were counted.
+    // The end is sent once so many checks were counted; a little later, where none has to be.
     Ends(u64),
     // The view's first target is published a little later.
     Publishes,
+    // The same, once the service is ready; the end is sent once the target was checked.
+    PublishesAndEnds,
 }
 
 // What becomes of the signal before a service begins.
@@ -36,11 +39,12 @@ enum Signal {
 // ready; and whether the one target's cell is ready.
 type Told = (bool, u64, bool, bool);
 
-// A case: whether the registry has no target at first, and whether each check waits until services are to end; the service's frequency, and
-// whether its checks run in parallel; by how much its clock goes on at each reading.
+// A case: whether the registry has no target at first, whether it has a check, and whether each check waits until services are to end; the
+// service's frequency, and whether its checks run in parallel; by how much its clock goes on at each reading.
 struct Row {
     name: &'static str,
     is_empty: bool,
+    has_check: bool,
     waits: bool,
     frequency: Option<u128>,
     is_parallel: bool,
@@ -50,11 +54,12 @@ struct Row {
     wanted: Told,
 }
 
-const ROWS: [Row; 6] = [
+const ROWS: [Row; 9] = [
     // Without a frequency the one target is checked once, the service is ready, and it is done.
     Row {
         name: "one pass",
         is_empty: false,
+        has_check: true,
         waits: false,
         frequency: None,
         is_parallel: false,
@@ -67,6 +72,7 @@ const ROWS: [Row; 6] = [
     Row {
         name: "three passes",
         is_empty: false,
+        has_check: true,
         waits: false,
         frequency: Some(10),
         is_parallel: true,
@@ -79,6 +85,7 @@ const ROWS: [Row; 6] = [
     Row {
         name: "passes longer than their frequency",
         is_empty: false,
+        has_check: true,
         waits: false,
         frequency: Some(10),
         is_parallel: false,
@@ -91,6 +98,7 @@ const ROWS: [Row; 6] = [
     Row {
         name: "a check ends, and then the service",
         is_empty: false,
+        has_check: true,
         waits: true,
         frequency: Some(10),
         is_parallel: false,
@@ -103,6 +111,7 @@ const ROWS: [Row; 6] = [
     Row {
         name: "a target wakes it",
         is_empty: true,
+        has_check: true,
         waits: false,
         frequency: None,
         is_parallel: false,
@@ -111,10 +120,49 @@ const ROWS: [Row; 6] = [
         beside: Beside::Publishes,
         wanted: (true, 1, true, false),
     },
+    // An hourly service is ready without a target; the first one wakes it, and is checked once.
+    Row {
+        name: "a target wakes an hourly one",
+        is_empty: true,
+        has_check: true,
+        waits: false,
+        frequency: Some(3_600_000_000_000),
+        is_parallel: false,
+        step: 50_000_000,
+        signal: Signal::Stays,
+        beside: Beside::PublishesAndEnds,
+        wanted: (true, 1, true, false),
+    },
+    // A service ends while it waits for targets, and one that has no check while it has nothing to do.
+    Row {
+        name: "ends while it waits for targets",
+        is_empty: true,
+        has_check: true,
+        waits: false,
+        frequency: None,
+        is_parallel: false,
+        step: 50_000_000,
+        signal: Signal::Stays,
+        beside: Beside::Ends(0),
+        wanted: (true, 0, false, false),
+    },
+    Row {
+        name: "ends without a check",
+        is_empty: false,
+        has_check: false,
+        waits: false,
+        frequency: None,
+        is_parallel: false,
+        step: 5,
+        signal: Signal::Stays,
+        beside: Beside::Ends(0),
+        wanted: (true, 0, false, true),
+    },
     // Whatever it does, a service that is to end before it begins does nothing.
     Row {
         name: "no pass",
         is_empty: false,
+        has_check: true,
         waits: false,
         frequency: None,
         is_parallel: false,
@@ -133,16 +181,38 @@ fn happens<R: Abort + Wait + Clock + Drop>(
     checks: &AtomicU64,
     registry: &Checked<R>,
     signal: &mut Option<ShutdownSignal>,
+    ready: &ReadyWatch,
 ) -> bool {
     match beside {
         Beside::Nothing => true,
         Beside::Ends(wanted) => {
+            if wanted == 0 {
+                thread::sleep(rt, Duration::from_millis(150));
+            }
             let came = counted(rt, checks, wanted);
             send_end(signal);
             came
         }
         Beside::Publishes => publish_later(rt, alloc, registry).is_ok(),
+        Beside::PublishesAndEnds => {
+            let is_ready = tells(rt, ready);
+            let published = publish_later(rt, alloc, registry).is_ok();
+            let came = is_ready && published && counted(rt, checks, 1);
+            send_end(signal);
+            came
+        }
     }
+}
+
+// Waits, for ten seconds at most, until the service is ready; whether it is.
+fn tells<R: Clock>(rt: &R, ready: &ReadyWatch) -> bool {
+    for _ in 0..1000 {
+        if ready.is_ready() {
+            return true;
+        }
+        thread::sleep(rt, Duration::from_millis(10));
+    }
+    false
 }
 
 // Publishes the view's first target a little later.
@@ -151,7 +221,7 @@ fn publish_later<R: Abort + Wait + Clock + Drop>(
     alloc: Global,
     registry: &Checked<R>,
 ) -> Result<(), Refusal> {
-    thread::sleep(rt, Duration::from_millis(20));
+    thread::sleep(rt, Duration::from_millis(100));
     registry.update_view(rt, alloc, 1, one_backend(rt, alloc))
 }
 
@@ -168,7 +238,9 @@ fn begin<R: Abort + Wait + Clock + Copy + Send + Sync + Drop>(
         Signal::SendsTheEnd => send_end(&mut bench.ends.signal),
         Signal::IsGone => bench.ends.signal = None,
     }
-    bench.set_check(rt, row.waits);
+    if row.has_check {
+        bench.set_check(rt, row.waits);
+    }
 }
 
 // Runs the service, and what happens meanwhile.
@@ -184,19 +256,14 @@ fn runs<R: Abort + Log + Threads + Wait + Clock + Copy + Send + Sync + Drop>(
     };
     let (beside, notifier) = (row.beside, bench.ends.notifier.take());
     let (service, registry, checks) = (&bench.service, &*bench.registry, &*bench.checks);
-    let (signal, watch) = (&mut bench.ends.signal, &bench.ends.watch);
+    let (signal, watch, ready) = (&mut bench.ends.signal, &bench.ends.watch, &bench.ends.ready);
     let (came, ()) = join(
         rt,
-        move || happens(rt, alloc, beside, checks, registry, signal),
+        move || happens(rt, alloc, beside, checks, registry, signal, ready),
         move || service.run(rt, alloc, &mut clock, watch, notifier),
     );
     let count = checks.load(SeqCst).min(3);
-    (
-        came,
-        count,
-        bench.ends.ready.is_ready(),
-        registry.cell_ready(rt, 0),
-    )
+    (came, count, ready.is_ready(), registry.cell_ready(rt, 0))
 }
 
 // A case, on a new service.

@@ -276,11 +276,10 @@ fn a_check_is_set_once(rt: HostRuntime) -> Result<(), Fail> {
     Ok(())
 }
 
-// A new view of that backend.
-fn view_of(alloc: Global, health: &mut Health, backend: &Backend) -> Result<ViewCore, Refusal> {
+// A new view of one backend.
+fn view_of(alloc: Global, health: &mut Health, member: (&str, usize)) -> Result<ViewCore, Refusal> {
+    let set = set_of(alloc, &[member])?;
     let mut view = ViewCore::register(alloc, &mut health.registry)?;
-    let mut set = BTreeSet::new(alloc);
-    set.insert(backend.clone()?)?;
     let settings = Settings::new(alloc);
     view.update(
         alloc,
@@ -292,30 +291,44 @@ fn view_of(alloc: Global, health: &mut Health, backend: &Backend) -> Result<View
     Ok(view)
 }
 
-// How many targets the views of both backends have, how often the check was asked then, and whether each is ready in its view: before the
-// first one is disabled, and after.
-fn share(
+// Whether the backend of a view is ready.
+fn is_ready(health: &Health, view: &ViewCore) -> bool {
+    view.members()
+        .first()
+        .is_some_and(|backend| view.ready(&health.registry, backend))
+}
+
+// How many targets two views of one number have, what a pass came to, and whether the backend of each is ready: before the first one is
+// disabled, and after.
+type Shared = (Result<usize, Refusal>, Result<(), Refusal>, [bool; 4]);
+
+fn shared(alloc: Global, health: &mut Health, log: &impl Log) -> Result<Shared, Refusal> {
+    let light = Backend::new(alloc, "1.0.0.1:80")?;
+    let mut first = view_of(alloc, health, ("1.0.0.1:80", 1))?;
+    let second = view_of(alloc, health, ("2.0.0.1:80", 2))?;
+    let targets = health.target_count(alloc);
+    let passed = health.run_health_check(log, alloc);
+    let (one, other) = (is_ready(health, &first), is_ready(health, &second));
+    first.set_enable(&light, false);
+    let ready = [
+        one,
+        other,
+        is_ready(health, &first),
+        is_ready(health, &second),
+    ];
+    Ok((targets, passed, ready))
+}
+
+// The same with a check, and how often that was asked.
+fn checked(
     alloc: Global,
     health: &mut Health,
-    backends: (&Backend, &Backend),
-    counts: &Counts,
+    counts: &Rc<Counts>,
     log: &impl Log,
-) -> Result<(usize, u64, [bool; 4]), Refusal> {
-    let (light, heavy) = backends;
-    let mut first = view_of(alloc, health, light)?;
-    let second = view_of(alloc, health, heavy)?;
-    let targets = health.target_count(alloc)?;
-    health.run_health_check(log, alloc)?;
-    let is_first = first.ready(&health.registry, light);
-    let is_second = second.ready(&health.registry, heavy);
-    first.set_enable(light, false);
-    let ready = [
-        is_first,
-        is_second,
-        first.ready(&health.registry, light),
-        second.ready(&health.registry, heavy),
-    ];
-    Ok((targets, counts.asked.get(), ready))
+) -> Result<(Shared, u64), Refusal> {
+    health.set_health_check(new_check(counts, false)?)?;
+    let shared = shared(alloc, health, log)?;
+    Ok((shared, counts.asked.get()))
 }
 
 // The last byte of a backend's address.
@@ -333,11 +346,8 @@ fn views_share_by_number(rt: HostRuntime) -> Result<(), Fail> {
     let counts = new_counts(alloc)?;
     let number: Number = Box::new(alloc, |backend: &Backend| last_byte(backend))?;
     let mut health: Health = HealthRegistry::with_equivalence(alloc, ByNumber::new(number));
-    health.set_health_check(new_check(&counts, false)?)?;
-    let light = Backend::new(alloc, "1.0.0.1:80")?;
-    let heavy = Backend::new_with_weight(alloc, "2.0.0.1:80", 2)?;
-    let found = share(alloc, &mut health, (&light, &heavy), &counts, &rt);
-    let wanted = Ok((1, 1, [true, true, false, true]));
-    assert_same(&rt, &found, &wanted, &"views share by number");
+    let found = checked(alloc, &mut health, &counts, &rt);
+    let wanted = ((Ok(1), Ok(()), [true, true, false, true]), 1);
+    assert_same(&rt, &found, &Ok(wanted), &"views share by number");
     Ok(())
 }

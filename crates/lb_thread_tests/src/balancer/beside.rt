@@ -1,6 +1,7 @@
 //! Selections during updates and checks, in threads.
-use crate::balancer::fixtures::{Bench, ROWS, is_second, waited};
+use crate::balancer::fixtures::{Bench, GROWN, ROWS, is_second, waited};
 use lb_select::selection::RoundRobin;
+use lb_select_base::backend::Backend;
 use log::Log;
 use std::process::Abort;
 use std::sync::Wait;
@@ -18,6 +19,8 @@ enum Case {
     Updated,
     // One checks, and another selects.
     Checked,
+    // One updates to a membership that keeps the first backend, and another disables that one while the discovery is asked.
+    Disabled,
 }
 
 // Selects once the discovery was asked, and lets it answer then; whether it was asked, and nothing was selected.
@@ -29,6 +32,36 @@ fn selects_meanwhile<R: Abort + Wait + Clock + Copy + Drop>(
     let found = bench.select(rt, 9);
     bench.line.open.store(1, SeqCst);
     came && found.is_none()
+}
+
+// The backend of weight 1 at an address.
+fn at<R: Abort>(rt: &R, bench: &Bench<RoundRobin, R>, address: &str) -> Backend {
+    Backend::new(bench.alloc, address).expect(rt, "refused")
+}
+
+// Disables the first backend once the discovery was asked, and lets it answer then; whether it was asked.
+fn disables_meanwhile<R: Abort + Wait + Clock + Copy + Drop>(
+    rt: &R,
+    bench: &Bench<RoundRobin, R>,
+) -> bool {
+    let came = waited(rt, &bench.line.asked, 1);
+    let first = at(rt, bench, "1.0.0.1:80");
+    bench
+        .balancer
+        .backends()
+        .set_enable(rt, bench.alloc, &first, false);
+    bench.line.open.store(1, SeqCst);
+    came
+}
+
+// Whether the first backend is ready, and the fourth one.
+fn ready<R: Abort + Wait + Clock + Copy + Drop>(
+    rt: &R,
+    bench: &Bench<RoundRobin, R>,
+) -> (bool, bool) {
+    let backends = bench.balancer.backends();
+    let first = backends.ready(rt, &at(rt, bench, "1.0.0.1:80"));
+    (first, backends.ready(rt, &at(rt, bench, "1.0.0.4:80")))
 }
 
 // What is shown now, whose generation is at least this one, and whether it is of one membership: each selected one is a member of it.
@@ -96,7 +129,9 @@ fn part<R: Abort + Log + Threads + Wait + Clock + Copy + Send + Sync + Drop>(
     match (case, thread) {
         (Case::Asked, 0) => bench.update(rt, 1),
         (Case::Asked, 1) => return selects_meanwhile(rt, bench),
-        (Case::Asked, _) => {}
+        (Case::Disabled, 0) => bench.update(rt, 1),
+        (Case::Disabled, 1) => return disables_meanwhile(rt, bench),
+        (Case::Asked | Case::Disabled, _) => {}
         (Case::Updated, 0) => bench.update(rt, 300),
         (Case::Updated, _) => return shows_ones(rt, bench),
         (Case::Checked, 0) => bench
@@ -121,24 +156,28 @@ fn together<R: Abort + Log + Threads + Wait + Clock + Copy + Send + Sync + Drop>
     (is_good, bench.balancer.backend_generation(rt))
 }
 
-// All cases; the check is set before the last one.
+// All cases, and which backends are ready then; the check is set before the third one.
 fn cases<R: Abort + Log + Threads + Wait + Clock + Copy + Send + Sync + Drop>(
     rt: &R,
     bench: &Bench<RoundRobin, R>,
-) -> [(bool, u64); 3] {
+) -> ([(bool, u64); 4], (bool, bool)) {
     bench.line.begin(false, ROWS);
     let asked = together(rt, bench, Case::Asked);
     let updated = together(rt, bench, Case::Updated);
     bench.set_check(rt);
     let checked = together(rt, bench, Case::Checked);
-    [asked, updated, checked]
+    bench.line.begin(false, GROWN);
+    let disabled = together(rt, bench, Case::Disabled);
+    ([asked, updated, checked, disabled], ready(rt, bench))
 }
 
 // While a discovery is asked selections go on, in what was served before. During updates each thread sees one membership at a time, with a
-// selector of it, and generations that only rise. A thread that keeps what it saw selects what is found down meanwhile no longer.
+// selector of it, and generations that only rise. A thread that keeps what it saw selects what is found down meanwhile no longer. A backend
+// that is disabled during an update stays so.
 #[test]
 fn selections_go_on(rt: HostRuntime) {
     let bench = Bench::new(&rt, rt.alloc());
     let seen = cases(&rt, &bench);
-    assert_eq!(rt; seen, [(true, 1), (true, 301), (true, 301)]);
+    let told = [(true, 1), (true, 301), (true, 301), (true, 302)];
+    assert_eq!(rt; seen, (told, (false, true)));
 }

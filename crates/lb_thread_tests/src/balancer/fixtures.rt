@@ -29,6 +29,9 @@ pub const FAULT: u64 = 1;
 /// The word by which it answers a membership of too much weight.
 pub const HEAVY: u64 = 2;
 
+/// The word by which it answers its first row, and one more.
+pub const GROWN: u64 = 3;
+
 /// A line between the test and what a balancer calls: how often that was called, whether it may answer, and what.
 #[derive(Drop)]
 pub struct Line {
@@ -82,6 +85,8 @@ pub struct InTurn<R> {
 
 const FIRST: [&str; 3] = ["1.0.0.1:80", "1.0.0.2:80", "1.0.0.3:80"];
 
+const MORE: [&str; 4] = ["1.0.0.1:80", "1.0.0.2:80", "1.0.0.3:80", "1.0.0.4:80"];
+
 const SECOND: [&str; 3] = ["2.0.0.1:80", "2.0.0.2:80", "2.0.0.3:80"];
 
 /// Returns backends of weight 1 at these addresses.
@@ -107,6 +112,7 @@ impl<R: Clock> ServiceDiscovery for InTurn<R> {
         let set = match self.line.answers.load(SeqCst) {
             FAULT => return Err(Refusal::Discovery),
             HEAVY => heavy(alloc)?,
+            GROWN => listed(alloc, &MORE)?,
             _ if turn % 2 == 0 => listed(alloc, &FIRST)?,
             _ => listed(alloc, &SECOND)?,
         };

@@ -24,6 +24,10 @@ enum Case {
     Refused,
     // The discovery has a fault until it is asked for the third time, and services are to end once something is served.
     Mended,
+    // Nobody is left who could send the end, and the run is done.
+    Alone,
+    // The run sleeps for an hour, hears that services are not to end, and then that they are.
+    Sleeps,
     // The discovery waits; then the run is done.
     Waits,
     // The discovery waits, and services are to end meanwhile.
@@ -40,6 +44,9 @@ type Told = (bool, u64, bool);
 // asked, and whether the notifier was notified.
 type Left = (u64, bool, u64, u64, bool);
 
+// An hour, by whose clock a run sleeps.
+const HOUR: u128 = 3_600_000_000_000;
+
 // Sets up the bench for a run.
 fn begin<R: Abort + Wait + Clock + Copy + Drop>(
     rt: &R,
@@ -48,11 +55,17 @@ fn begin<R: Abort + Wait + Clock + Copy + Drop>(
 ) {
     let waits = case == Case::Waits || case == Case::EndedInUpdate;
     let has_fault = case == Case::Refused || case == Case::Mended;
+    // Once a run has ended, that is open twice.
+    bench.checks.begin(true, ROWS);
     let goes_on = case == Case::Mended || case == Case::EndedInUpdate || case == Case::EndedInCheck;
     bench
         .line
         .begin(!waits, if has_fault { FAULT } else { ROWS });
-    bench.balancer.update_frequency = if goes_on { Some(10) } else { None };
+    bench.balancer.update_frequency = match case {
+        Case::Sleeps => Some(HOUR),
+        _ if goes_on => Some(10),
+        _ => None,
+    };
     if case == Case::EndedInCheck {
         bench.balancer.health_check_frequency = Some(10);
         bench.checks.begin(false, ROWS);
@@ -76,6 +89,29 @@ fn rises<R: Wait + Clock + Copy + Drop>(rt: &R, bench: &Bench<RoundRobin, R>, fi
     false
 }
 
+// Once a run is ready, tells it that services are not to end and, a little later, that they are; whether it ran until then.
+fn sleeps<R: Wait + Clock + Copy + Drop>(
+    rt: &R,
+    bench: &Bench<RoundRobin, R>,
+    first: u64,
+    signal: &mut Option<ShutdownSignal>,
+    ready: &ReadyWatch,
+) -> Told {
+    for _ in 0..5000 {
+        if ready.is_ready() {
+            break;
+        }
+        thread::sleep(rt, Duration::from_millis(2));
+    }
+    if let Some(signal) = signal {
+        signal.send(false);
+    }
+    thread::sleep(rt, Duration::from_millis(150));
+    let runs = bench.checks.open.load(SeqCst) == 1;
+    send_end(signal);
+    (runs, risen(rt, bench, first), ready.is_ready())
+}
+
 // What the other thread does during a run: it waits until discovery or check is asked, looks, and opens its line; mostly it sends the end.
 fn tells<R: Wait + Clock + Copy + Drop>(
     rt: &R,
@@ -86,7 +122,8 @@ fn tells<R: Wait + Clock + Copy + Drop>(
     ready: &ReadyWatch,
 ) -> Told {
     let (line, wanted) = match case {
-        Case::Ended | Case::Refused => return (true, 0, false),
+        Case::Ended | Case::Refused | Case::Alone => return (true, 0, false),
+        Case::Sleeps => return sleeps(rt, bench, first, signal, ready),
         // Once it is asked for the third time, two were refused.
         Case::Mended => (&*bench.line, 3),
         Case::Waits | Case::EndedInUpdate => (&*bench.line, 1),
@@ -151,7 +188,10 @@ fn run_beside<
     let (told, ()) = join(
         rt,
         move || tells(rt, bench, case, first, signal, ready),
-        move || runs(logged, bench, watch, notifier),
+        move || {
+            runs(logged, bench, watch, notifier);
+            bench.checks.open.fetch_add(1, SeqCst);
+        },
     );
     (told, left(rt, bench, first, &ends.ready))
 }
@@ -163,22 +203,27 @@ fn play<
 >(rt: &R, logged: &W, bench: &mut Bench<RoundRobin, R>, case: Case) -> (Told, Left) {
     begin(rt, bench, case);
     let mut ends = Ends::new(bench.alloc).expect(rt, "refused");
-    if case == Case::Ended {
-        send_end(&mut ends.signal);
+    match case {
+        Case::Ended => send_end(&mut ends.signal),
+        Case::Alone => ends.signal = None,
+        _ => {}
     }
     run_beside(rt, logged, bench, case, &mut ends)
 }
 
 // A run that is to end before it begins updates nothing. A refused update is one too: the notifier is notified, and the run that has no
-// other one ends by itself. The notifier is notified after the first update and not before. An update that runs when services are to end
+// other one ends by itself. So does a run that nobody can end any more, once it has updated. One that sleeps goes on when it hears that
+// services are not to end. The notifier is notified after the first update and not before. An update that runs when services are to end
 // goes on to its end, and then the run ends without notifying. So is a pass of checks: each verdict counts, and then the run ends.
 fn rows<
     R: Abort + Threads + Wait + Clock + Copy + Send + Sync + Drop,
     W: Log + Threads + Wait + Sync,
 >(rt: &R, logged: &W, bench: &mut Bench<RoundRobin, R>) {
-    let rows: [(Case, (Told, Left)); 5] = [
+    let rows: [(Case, (Told, Left)); 7] = [
         (Case::Ended, ((true, 0, false), (0, false, 0, 0, false))),
         (Case::Refused, ((true, 0, false), (0, false, 1, 0, true))),
+        (Case::Alone, ((true, 0, false), (1, false, 1, 0, true))),
+        (Case::Sleeps, ((true, 1, true), (1, false, 1, 0, true))),
         (Case::Waits, ((true, 0, false), (1, false, 1, 0, true))),
         (
             Case::EndedInUpdate,

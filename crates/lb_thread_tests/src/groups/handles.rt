@@ -29,13 +29,16 @@ fn fresh<W: Abort + Wait + Clock + Copy + Drop>(
     alloc: Global,
     group: &Handle<W>,
 ) -> [bool; 9] {
+    let has_third = group.selector_generation(rt, 2).is_some()
+        || group.selector_coalesced_rebuilds(rt, 2).is_some()
+        || group.selector_failed_rebuilds(rt, 2).is_some();
     [
         group.selector_count() == 2,
         group.worker_count() == 0,
         group.backend_generation(rt) == 0,
         group.selectors_ready_for(rt, 0),
         !group.selectors_ready_for(rt, 1),
-        group.selector_generation(rt, 2).is_none(),
+        !has_third,
         group.last_update_timing(rt).is_none(),
         selected(rt, alloc, group).is_none(),
         !group.is_cancelled(rt),
@@ -77,6 +80,21 @@ pub fn without_workers<W: Abort + Wait + Clock + Copy + Drop>(
 ) {
     let told = [fresh(rt, alloc, group), lent(rt, alloc, group)];
     assert_eq!(rt; told, [[true; 9]; 2]);
+}
+
+/// A slot has so many rebuilds that were coalesced, and so many that failed.
+pub fn counts<W: Abort + Wait + Clock + Copy + Drop>(
+    rt: &W,
+    group: &Handle<W>,
+    slot: usize,
+    wanted: [u64; 2],
+) {
+    let [coalesced, failed] = wanted;
+    let told = [
+        group.selector_coalesced_rebuilds(rt, slot),
+        group.selector_failed_rebuilds(rt, slot),
+    ];
+    assert_eq!(rt; told, [Some(coalesced), Some(failed)]);
 }
 
 // Whether each slot of a group serves its newest generation within a thousand turns of ten milliseconds.
