@@ -242,7 +242,8 @@ fn check_agrees<R: Net<Stream = TcpStream> + Clock + AllocGlobal>(
     port: Option<u16>,
 ) -> io::Result<bool> {
     match row.by {
-        By::Http | By::HttpMoved => http_check_agrees(rt, row, backend, port),
+        By::Http => http_check_agrees(rt, row, backend, port),
+        By::HttpMoved => moved_check_agrees(rt, row, backend),
         By::Tcp => timed_check_agrees(rt, &TcpHealthCheck::new(rt), row, backend),
     }
 }
@@ -254,14 +255,10 @@ fn http_check_agrees<R: Net<Stream = TcpStream> + Clock + AllocGlobal>(
     backend: &Backend,
     port: Option<u16>,
 ) -> io::Result<bool> {
-    let Ok(mut check) = HttpHealthCheck::new(rt.alloc(), rt, "h") else {
-        return Err(Error::from(ErrorKind::OutOfMemory));
-    };
-    if matches!(&row.by, By::Http) {
-        return set_check_agrees(rt, &mut check, row, backend, port);
+    match HttpHealthCheck::new(rt.alloc(), rt, "h") {
+        Ok(mut check) => set_check_agrees(rt, &mut check, row, backend, port),
+        Err(_) => Err(Error::from(ErrorKind::OutOfMemory)),
     }
-    let mut check = check.with_callbacks(Some(Moved), None::<NoObserver>, IdentitySummary);
-    set_check_agrees(rt, &mut check, row, backend, port)
 }
 
 // The rule that accepts 301 and no other status.
@@ -276,10 +273,25 @@ impl Validate for Moved {
     }
 }
 
-// Sets the check as the row and the port ask; whether it answers so.
-fn set_check_agrees<R: Net<Stream = TcpStream> + Clock + AllocGlobal, V: Validate>(
+// The same of a check over HTTP by that rule, with the limits that it is made with.
+fn moved_check_agrees<R: Net<Stream = TcpStream> + Clock + AllocGlobal>(
     rt: &R,
-    check: &mut HttpHealthCheck<&R, V>,
+    row: &Server,
+    backend: &Backend,
+) -> io::Result<bool> {
+    match HttpHealthCheck::new(rt.alloc(), rt, "h") {
+        Ok(check) => {
+            let check = check.with_callbacks(Some(Moved), None::<NoObserver>, IdentitySummary);
+            timed_check_agrees(rt, &check, row, backend)
+        }
+        Err(_) => Err(Error::from(ErrorKind::OutOfMemory)),
+    }
+}
+
+// Sets the check as the row and the port ask; whether it answers so.
+fn set_check_agrees<R: Net<Stream = TcpStream> + Clock + AllocGlobal>(
+    rt: &R,
+    check: &mut HttpHealthCheck<&R>,
     row: &Server,
     backend: &Backend,
     port: Option<u16>,

@@ -7,6 +7,7 @@ use lb_select_base::refusal::Refusal;
 use log::sink::Locked;
 use log::{Level, Log, Logged};
 use std::alloc::Global;
+use std::collections::BTreeSet;
 use std::process::Abort;
 use std::sync::Wait;
 use std::sync::atomic::AtomicU64;
@@ -107,7 +108,7 @@ const ROWS: [Row; 9] = [
         beside: Beside::Ends(1),
         wanted: (true, 1, false, false),
     },
-    // A signal that is gone doesn't end a service that waits for targets; the first one wakes it.
+    // A signal that is gone doesn't end a service that waits for targets; the first one wakes it, and an update to nothing doesn't.
     Row {
         name: "a target wakes it",
         is_empty: true,
@@ -215,12 +216,13 @@ fn tells<R: Clock>(rt: &R, ready: &ReadyWatch) -> bool {
     false
 }
 
-// Publishes the view's first target a little later.
+// Updates the view to nothing, and publishes its first target a little later.
 fn publish_later<R: Abort + Wait + Clock + Drop>(
     rt: &R,
     alloc: Global,
     registry: &Checked<R>,
 ) -> Result<(), Refusal> {
+    registry.update_view(rt, alloc, 1, BTreeSet::new(alloc))?;
     thread::sleep(rt, Duration::from_millis(100));
     registry.update_view(rt, alloc, 1, one_backend(rt, alloc))
 }
