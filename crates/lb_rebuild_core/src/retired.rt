@@ -15,6 +15,7 @@ use lb_select_base::walk::BackendSelection;
 use lb_select_base::words::WordSource;
 use std::alloc::Global;
 use std::marker::Model;
+use std::snapshot::Snapshot;
 use std::sync::Arc;
 
 // A selector with the generation that it was built for, and the tickets drawn from its counter so far.
@@ -56,7 +57,7 @@ impl<S: BackendSelection> ServedSelector<S> {
 pub struct Retired<S: BackendSelection> {
     pub(crate) place: SlotPlace,
     pub(crate) serving: ServedSelector<S>,
-    pub(crate) permit: Permit,
+    pub(crate) permit: Snapshot<Permit>,
 }
 
 impl<S: BackendSelection> Model for Retired<S> {
@@ -68,7 +69,7 @@ impl<S: BackendSelection> Model for Retired<S> {
       group = r.place.group;
       slot = r.place.slot;
       generation = r.serving.generation;
-      permit = r.permit;
+      permit = r.permit.value;
     } };
 }
 
@@ -79,13 +80,6 @@ impl<S: BackendSelection> Retired<S> {
     {
         let serving = &self.serving;
         serving.generation
-    }
-
-    // The next ticket of its counter, which contracts do not see.
-    pub(crate) fn draw(&mut self) -> u64
-        ensures { self.new ≡ self.old }
-    {
-        self.serving.draw()
     }
 
     /// Drops the selector, outside all locks, and returns the permit that is to be reported.
@@ -106,7 +100,7 @@ impl<S: BackendSelection> Retired<S> {
 /// Contracts see the group and the slot that it is owed to, and of which gate it is.
 pub struct OwedPermit {
     pub(crate) place: SlotPlace,
-    pub(crate) permit: Permit,
+    pub(crate) permit: Snapshot<Permit>,
 }
 
 impl Model for OwedPermit {
@@ -114,14 +108,16 @@ impl Model for OwedPermit {
 
     ghost Value = { PermitValue };
 
-    ghost view = { λ p. record { group = p.place.group; slot = p.place.slot; gate = p.permit } };
+    ghost view = { λ p. record { group = p.place.group; slot = p.place.slot; gate = p.permit.value } };
 }
 
 impl OwedPermit {
     // Ends the permit for good.
     pub(crate) fn end(self) {
-        let OwedPermit { place: _, permit } = self;
-        permit.end();
+        let OwedPermit {
+            place: _,
+            permit: _,
+        } = self;
     }
 }
 
