@@ -36,7 +36,7 @@ impl<C: Drop> Model for Order<C> {
 
 /// The right and the order to build the selector of one slot for one generation.
 ///
-/// Contracts see its group, its slot, the generation, the members, the configuration, and of which gate the permit is.
+/// Contracts see its group, its slot, the generation, the members, the configuration, and of which gate the permit is that its slot has.
 pub struct Job<S: BackendSelection> {
     pub(crate) place: SlotPlace,
     pub(crate) order: Order<S::Config>,

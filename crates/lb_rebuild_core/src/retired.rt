@@ -1,5 +1,5 @@
 //! Selectors that are served or were, and the readers that are in them.
-//! A retired selector holds the permit of the extra selector that it is, until it is destroyed and reported.
+//! The gate's permit stays in the slot of a retired selector until it is destroyed and reported.
 ghost use Rattle.std.specs.Prelude.{◌≡◌, ◌+◌, ◌%◌, ◌^◌};
 ghost use Rattle.std.specs.Arc.{arc_value};
 ghost use Rattle.std.specs.Fn.{FnReturnsAt};
@@ -51,9 +51,9 @@ impl<S: BackendSelection> ServedSelector<S> {
     }
 }
 
-/// A selector that is no longer served, with the permit of the extra selector that it is.
+/// A selector that is no longer served, and was taken out of its slot.
 ///
-/// It cannot be dropped. Contracts see its group, its slot, its generation, and of which gate the permit is.
+/// It cannot be dropped. Contracts see its group, its slot, its generation, and of which gate the permit is that its slot keeps for it.
 pub struct Retired<S: BackendSelection> {
     pub(crate) place: SlotPlace,
     pub(crate) serving: ServedSelector<S>,
@@ -82,7 +82,7 @@ impl<S: BackendSelection> Retired<S> {
         serving.generation
     }
 
-    /// Drops the selector, outside all locks, and returns the permit that is to be reported.
+    /// Drops the selector, outside all locks, and returns what is to be reported.
     pub fn destroy(self) -> OwedPermit
         ensures { result ≡ record { group = self.group; slot = self.slot; gate = self.permit } }
     {
@@ -95,9 +95,9 @@ impl<S: BackendSelection> Retired<S> {
     }
 }
 
-/// The permit of a selector that was taken out of a slot and is destroyed. It is to be reported, and cannot be dropped.
+/// A selector was taken out of a slot and is destroyed. That is to be reported, for the slot's permit to go back; it cannot be dropped.
 ///
-/// Contracts see the group and the slot that it is owed to, and of which gate it is.
+/// Contracts see the group and the slot that it is owed to, and of which gate the permit is.
 pub struct OwedPermit {
     pub(crate) place: SlotPlace,
     pub(crate) permit: Snapshot<Permit>,
@@ -112,7 +112,7 @@ impl Model for OwedPermit {
 }
 
 impl OwedPermit {
-    // Ends the permit for good.
+    // Ends it for good, unreported.
     pub(crate) fn end(self) {
         let OwedPermit {
             place: _,

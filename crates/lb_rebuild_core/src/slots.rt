@@ -44,8 +44,8 @@ use std::sync::Arc;
 
 /// A group of slots, each of which serves one selector, and gets the next one by way of a job, a build and a publication.
 ///
-/// Contracts see a record that is a function of the group's history; some history explains every group. A group that is dropped with a
-/// retired selector in it keeps the permit of that selector for good.
+/// Contracts see a record that is a function of the group's history; some history explains every group. A group that is dropped with
+/// anything beside what its slots serve keeps the gate's permit for good.
 #[derive(Drop)]
 pub struct Slots<S: BackendSelection> {
     identity: Identity,
@@ -348,7 +348,7 @@ impl<S: BackendSelection> Slots<S> {
         self.slots[slot].abandon(newest, built)
     }
 
-    /// Ends a slot's flight as lost: its job or its selector goes on with the permit, but is not served any more.
+    /// Ends a slot's flight as lost: its job or its selector goes on, and the slot keeps the permit, but it is not served any more.
     ///
     /// It takes no memory.
     ///
