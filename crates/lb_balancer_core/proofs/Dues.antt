@@ -231,7 +231,7 @@ module _ {S I C W K P : Type 0} (refuses : List Member → C → Option Refusal)
   turn_ends made e p q k l r s due out (inl free) (a, m, told_, next) =
       bare_ends made e due (bare-at-free (extra (past_of slot (slot_events e))) (gate_of p).out out free) p m q k l a r s free
       (taken_is p slot a m told_) next
-  turn_ends made e p q k l r s due out (inr (n, own, unread)) (a, m, told_, next) =
+  turn_ends made e p q k l r s due out (inr (n, (own, unread))) (a, m, told_, next) =
       own_ends made e due n own unread p m q k l a r s (taken_is p slot a m told_) next
 
   pub due_ends : (p q : P) (k l : K) (r : Result Turn Refusal)

@@ -63,7 +63,7 @@ impl<'c, 'x, 'g, 'w, 'l, S: BackendSelection, R: KeyRule + Drop, G: Rng> PlainPo
     fn extra_is_out(&mut self, slot: usize)
         ensures out { After self.old.core.now (λ made e. slot < length made.configs
             → is_extra (extra (past_of slot (slot_events e))) ≡ true → self.old.gate.now.out ≡ true) }
-        ensures same { self.new ≡ self.old }
+        ensures same { (self.new.core.now ≡ self.old.core.now) × (self.new.gate.now ≡ self.old.gate.now) }
     {
         self.core.extra_is_out(slot, self.gate);
     }
