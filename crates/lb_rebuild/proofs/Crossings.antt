@@ -16,8 +16,6 @@ use Rattle.lb_rebuild_core.proofs.answers.Counts.TheSendSync as counts
 use Rattle.lb_rebuild_core.proofs.answers.Timing.TheSendSync as timing
 use Rattle.lb_rebuild_core.proofs.retired.ServedSelector.TheSendSync as serving
 use Rattle.lb_rebuild_core.proofs.job.Order.TheSendSync as order
-use Rattle.lb_rebuild_core.specs.contracts.place.SlotPlace as place
-use Rattle.lb_rebuild_core.specs.contracts.retired.Retired as retired
 use Rattle.lb_rebuild_core.specs.contracts.slot.SlotStage as stage
 use Rattle.lb_rebuild_core.specs.contracts.slot.Slot as slot
 use Rattle.lb_rebuild_core.specs.contracts.slots.Slots as slots
@@ -28,16 +26,10 @@ use Rattle.lb_rebuild.proofs.board.WritingPass.TheSendSync as writer
 use Rattle.lb_rebuild.specs.contracts.watched.Watched as watched
 use Rattle.lb_rebuild.specs.contracts.watched.Watched.TheInside as watched_inside
 
-place_send : IsSend place.the_row
-place_send = search (sendable, crosses) depth 20
-
 module _ (T I C W : RattleType) (g : Selection T.Denot I.Denot C.Denot W.Denot) (h : Iter I.Denot) (s : IsSend T) (sc : IsSend C)
     (y : IsSync T) (yc : IsSync C) where
-  retired_send : IsSend (retired.the_row T I C W g h)
-  retired_send = search (sendable, crosses, place_send, serving.the_send, permit.the_send) depth 20
-
   stage_send : IsSend (stage.the_field T I C W g h).row
-  stage_send = search (sendable, retired_send) depth 20
+  stage_send = search (sendable, serving.the_send, permit.the_send) depth 20
 
   slot_fields : IsSend (slot.the_field T I C W g h).row
   slot_fields = struct_send (shape (slot.the_type T I C W g h)) (

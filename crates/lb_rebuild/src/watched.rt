@@ -316,7 +316,7 @@ impl<S: BackendSelection> Watched<S> {
         self.core.abandon(built)
     }
 
-    /// Ends a slot's flight as lost: its job or its selector goes on with the permit, but is not served any more.
+    /// Ends a slot's flight as lost: its job or its selector goes on, and the slot keeps the permit, but it is not served any more.
     ///
     /// It takes no memory.
     ///

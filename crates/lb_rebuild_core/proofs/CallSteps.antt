@@ -1,7 +1,7 @@
 -- What each call on a slot says of the group's history: its answer, and what the group is after it.
 use Rattle.std.proofs.Common.{arith, ◌≡◌, ◌<◌, ◌&&◌, ◌||◌, ◌∙◌, ◌⊎◌, ◌++◌, ◌==◌, ◌+◌, ◌%◌, ◌^◌, MatchBool, ℕ, Bool, true, false, not, cond}
-use Rattle.std.proofs.Common.{nat_lt, List, [], ◌∷◌, length, set, refl, sym, ap, subst, inl, inr, Some, None, Result, Ok, Err, IfOk, IfErr}
-use Rattle.std.proofs.Common.{OnErr, slice_get}
+use Rattle.std.proofs.Common.{nat_lt, List, [], ◌∷◌, length, set, refl, sym, ap, subst, inl, inr, Some, None, Result, Ok, Err, IfOk}
+use Rattle.std.proofs.Common.{IfErr, IfSome, OnErr, Option, slice_get}
 use Rattle.std.proofs.lemmas.Bool.{ltb-true, lt-ltb, eqb-true, eq-eqb, ne_eqb}
 use Rattle.lb_select_base.specs.Backends.{Member}
 use Rattle.lb_select_base.specs.Draws.{Draw}
@@ -16,7 +16,7 @@ use Rattle.lb_rebuild_core.specs.SlotsHistory.{cancelled, building, up_to_date, 
 use Rattle.lb_rebuild_core.specs.Values.{OrderValue, PlaceValue, Task, BuiltValue, RetiredValue, ReaderValue, SlotValue, SlotsValue}
 use Rattle.lb_rebuild_core.specs.Values.{order_of, configs_of}
 use Rattle.lb_rebuild_core.specs.Stands.{Made, order_due, left_readers, permit_in, slot_after, StandsFor}
-use Rattle.lb_rebuild_core.specs.SlotSeen.{slot_value}
+use Rattle.lb_rebuild_core.specs.SlotSeen.{extra_of, permit_of, slot_value}
 use Rattle.lb_rebuild_core.specs.SlotCalls.{slot_answer, ask_told, asked_slot, asked_gate, IsJobOf, failed_slot, published_slot}
 use Rattle.lb_rebuild_core.specs.SlotCalls.{abandoned_slot, lost_slot, entered_slot, reader_of, readers_at, left_slot, take_refusal}
 use Rattle.lb_rebuild_core.specs.SlotCalls.{taken_slot, TakesAt, destroyed_slot, drawn_slot, TicketAt, SelectsFrom, PublishesAt}
@@ -175,18 +175,19 @@ module _ {S I C W : Type 0} {made : Made C} {h : History} {own : GroupId} {id : 
       f.newest_is f.stopped f.slot
       ∙ answered made.gate f.config out now Past
 
-  pub asked-stands : (a : AskAnswer) (out : Bool) (now : ℕ) → a ≡ slot_answer n st out now (slot_value x)
-      → slot_value y ≡ asked_slot a n at now (slot_value x)
+  pub asked-stands : (a : AskAnswer) (out : Bool) (now : ℕ) (g : GateId) → g ≡ made.gate → a ≡ slot_answer n st out now (slot_value x)
+      → slot_value y ≡ asked_slot a g n at now (slot_value x)
       → StandsFor made (asked_events i now a ++ h) (slots_of own id n ms at st (set xs i y))
-  asked-stands cancelled out now is to = f.same to
-  asked-stands building out now is to = f.same to
-  asked-stands up_to_date out now is to = f.same to
-  asked-stands (not_due m) out now is to = f.same to
-  asked-stands busy out now is to = f.same to
-  asked-stands job out now is to =
+  asked-stands cancelled out now g own is to = f.same to
+  asked-stands building out now g own is to = f.same to
+  asked-stands up_to_date out now g own is to = f.same to
+  asked-stands (not_due m) out now g own is to = f.same to
+  asked-stands busy out now g own is to = f.same to
+  asked-stands job out now g own is to =
       let may : MayHappen Past (Granted now) = job-may Past out now (sym (is ∙ answer-is out now)) in
       f.step (Granted now) may
-      (to ∙ cong3 (λ k m z. asked_slot job k m now z) n (newest Past) at (scheduled_at (newest Past) Past) (slot_value x)
+      (to ∙ ap (λ (o : GateId). asked_slot job o n at now (slot_value x)) own
+      ∙ cong3 (λ k m z. asked_slot job made.gate k m now z) n (newest Past) at (scheduled_at (newest Past) Past) (slot_value x)
       (slot_after made.gate f.config Past) f.newest_is f.moment f.slot
       ∙ granted-step made.gate f.config i now Past (f.past, may))
 
@@ -209,6 +210,28 @@ module _ {S I C W : Type 0} {made : Made C} {h : History} {own : GroupId} {id : 
         config = f.there ∙ ap (λ (o : OrderValue C). Some o.config) (sym order);
         members = ap (λ (o : OrderValue C). o.members) order;
       }
+
+  permit-owned : (e : Extra) (g : GateId) → g ≡ made.gate → IfSome (permit_in made.gate e) (λ p. p ≡ g)
+  permit-owned nothing g own = tt
+  permit-owned (flight m) g own = sym own
+  permit-owned (lost m) g own = sym own
+  permit-owned (retired m) g own = sym own
+  permit-owned (taken_out m) g own = sym own
+
+  -- what the slot has of a permit is of the group's gate
+  pub permits : (g : GateId) → g ≡ made.gate → IfSome (permit_of x.stage) (λ p. p ≡ g)
+  permits g own =
+      subst (λ (o : Option GateId). IfSome o (λ p. p ≡ g)) (sym (ap (λ (z : SlotValue C). z.permit) f.slot))
+      (permit-owned (extra Past) g own)
+
+  pub permit-is : (p : GateId) → (slot_value x).permit ≡ Some p → p ≡ made.gate
+  permit-is p e =
+      let have : IfSome (Some p) (λ q. q ≡ made.gate) =
+      subst (λ (o : Option GateId). IfSome o (λ q. q ≡ made.gate)) e (permits made.gate refl) in have
+
+  -- the slot shows its extra
+  pub extra-shown : is_extra (extra Past) ≡ true → is_extra (extra_of x.stage) ≡ true
+  extra-shown is = ap (λ (z : SlotValue C). is_extra z.extra) f.slot ∙ is
 
   pub asks : (a : Ask S I C W) (out : Bool) (now : ℕ) (p : PlaceValue) (g : GateId) → p ≡ record { group = made.id; slot = i }
       → g ≡ made.gate

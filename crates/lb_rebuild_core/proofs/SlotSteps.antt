@@ -107,19 +107,26 @@ left-flight (lost n) h up = refl
 left-flight (retired n) h up = absurd (cc)
 left-flight (taken_out n) h up = refl
 
-permit-under_way : (gate : GateId) (g : ℕ) (e : Extra) → is_under_way g e ≡ true → permit_in gate e ≡ None
-permit-under_way gate g nothing up = refl
-permit-under_way gate g (flight n) up = refl
-permit-under_way gate g (lost n) up = refl
-permit-under_way gate g (retired n) up = absurd (cc)
-permit-under_way gate g (taken_out n) up = refl
-
-permit-flight : (gate : GateId) (e : Extra) → is_flight e ≡ true → permit_in gate e ≡ None
-permit-flight gate nothing up = refl
+permit-flight : (gate : GateId) (e : Extra) → is_flight e ≡ true → permit_in gate e ≡ Some gate
+permit-flight gate nothing up = absurd (cc)
 permit-flight gate (flight n) up = refl
 permit-flight gate (lost n) up = refl
-permit-flight gate (retired n) up = absurd (cc)
+permit-flight gate (retired n) up = refl
 permit-flight gate (taken_out n) up = refl
+
+permit-under_way : (gate : GateId) (g : ℕ) (e : Extra) → is_under_way g e ≡ true → permit_in gate e ≡ Some gate
+permit-under_way gate g nothing up = absurd (cc)
+permit-under_way gate g (flight n) up = refl
+permit-under_way gate g (lost n) up = refl
+permit-under_way gate g (retired n) up = refl
+permit-under_way gate g (taken_out n) up = refl
+
+permit-retired : (gate : GateId) (g : ℕ) (e : Extra) → is_retired_of g e ≡ true → permit_in gate e ≡ Some gate
+permit-retired gate g nothing up = absurd (cc)
+permit-retired gate g (flight n) up = refl
+permit-retired gate g (lost n) up = refl
+permit-retired gate g (retired n) up = refl
+permit-retired gate g (taken_out n) up = refl
 
 -- the orders that wait, over plain numbers
 module _ {C : Type 0} where
@@ -203,13 +210,6 @@ module _ {C : Type 0} where
   destroyed-waits s n (lost m) o r = absurd (cc)
   destroyed-waits s n (retired m) o r = absurd (cc)
   destroyed-waits s n (taken_out m) o r = refl
-
-permit-out : (gate : GateId) (e : Extra) → is_taken_out e ≡ true → permit_in gate e ≡ None
-permit-out gate nothing r = refl
-permit-out gate (flight m) r = refl
-permit-out gate (lost m) r = refl
-permit-out gate (retired m) r = absurd (cc)
-permit-out gate (taken_out m) r = refl
 
 out-left : (e : Extra) (h : History) → is_taken_out e ≡ true → left_readers e h ≡ 0
 out-left nothing h r = refl
@@ -297,11 +297,11 @@ module _ {C : Type 0} where
       (same-counts _ _ _ _ _ _ _ _ refl (more-at (waits h) (coalesced h) (omega (arith, all))) refl refl) refl
 
   pub granted-step : (gate : GateId) (c : C) (i now : ℕ) (h : History) → IsPast (At i (Granted now) ∷ h)
-      → asked_slot job (newest h) (scheduled_at (newest h) h) now (slot_after gate c h) ≡ slot_after gate c (At i (Granted now) ∷ h)
+      → asked_slot job gate (newest h) (scheduled_at (newest h) h) now (slot_after gate c h) ≡ slot_after gate c (At i (Granted now) ∷ h)
   granted-step gate c i now h p =
       same-parts c refl refl
       (granted-waits (served h) (newest h) (record { generation = newest h; members = order_members h; config = c }))
-      refl (ap (λ (e : Extra). left_readers e h) p.1.0) (ap (permit_in gate) p.1.0) refl refl refl refl refl refl
+      refl (ap (λ (e : Extra). left_readers e h) p.1.0) refl refl refl refl refl refl refl
 
   pub failed-step : (gate : GateId) (c : C) (i now : ℕ) (ms : List Member) (h : History) → IsPast (At i (Failed now ms) ∷ h)
       → newest h < 2 ^ 64
@@ -311,7 +311,7 @@ module _ {C : Type 0} where
       let all : Balanced (At i (Failed now ms) ∷ h) = balanced (At i (Failed now ms) ∷ h) p in
       same-parts c refl refl
       (back-waits c (served h) (granted h) (newest h) (extra h) ms (order_members h) p.1 (under-way-fits h p.0) (granted-newest h))
-      refl (left-under_way (granted h) (extra h) h p.1) (permit-under_way gate (granted h) (extra h) p.1) refl refl
+      refl (left-under_way (granted h) (extra h) h p.1) refl refl refl
       (more-ends-at (granted h == newest h) (failures (newest h) h)) refl
       (same-counts _ _ _ _ _ _ _ _ refl refl (more-at (is_outdated h) (superseded h) (omega (arith, all))) (more-ends (all_failures h)))
       refl
@@ -336,7 +336,7 @@ module _ {C : Type 0} where
       same-parts c refl (sym (unread (granted h) h above))
       (published-waits (served h) (granted h) (newest h) (extra h) (record { generation = newest h; members = order_members h; config = c })
       p.1.0 (under-way-fits h p.0))
-      refl refl refl refl refl refl refl
+      refl refl (permit-flight gate (extra h) p.1.0) refl refl refl refl
       (same-counts _ _ _ _ _ _ _ _ (more-of (published h) (omega (arith, all))) refl refl refl) refl
 
   pub abandoned-step : (gate : GateId) (c : C) (group : GroupId) (slot i ended : ℕ) (ms : List Member) (h : History)
@@ -352,7 +352,7 @@ module _ {C : Type 0} where
       let above : served h < granted h = is_up (served h) (granted h) (extra h) p.1 (under-way-fits h p.0) in
       same-parts c refl refl
       (back-waits c (served h) (granted h) (newest h) (extra h) ms (order_members h) p.1 (under-way-fits h p.0) (granted-newest h))
-      refl (sym (unread (granted h) h above)) refl refl refl refl refl
+      refl (sym (unread (granted h) h above)) (permit-under_way gate (granted h) (extra h) p.1) refl refl refl refl
       (same-counts _ _ _ _ _ _ _ _ refl refl (more-at (is_outdated h) (superseded h) (omega (arith, all))) refl) refl
 
   pub lost-step : (gate : GateId) (c : C) (i : ℕ) (h : History) → IsPast (At i WorkerLost ∷ h) → newest h < 2 ^ 64
@@ -371,14 +371,14 @@ module _ {C : Type 0} where
   taken-step gate c i h p =
       same-parts c refl refl
       (taken-waits (served h) (newest h) (extra h) (record { generation = newest h; members = order_members h; config = c }) p.1.0)
-      refl refl refl refl refl refl refl refl refl
+      refl refl (permit-retired gate (generation_of (extra h)) (extra h) p.1.0) refl refl refl refl refl refl
 
   pub destroyed-step : (gate : GateId) (c : C) (i : ℕ) (h : History) → IsPast (At i Destroyed ∷ h)
       → destroyed_slot (slot_after gate c h) ≡ slot_after gate c (At i Destroyed ∷ h)
   destroyed-step gate c i h p =
       same-parts c refl refl
       (destroyed-waits (served h) (newest h) (extra h) (record { generation = newest h; members = order_members h; config = c }) p.1)
-      refl (out-left (extra h) h p.1) (permit-out gate (extra h) p.1) refl refl refl refl refl refl
+      refl (out-left (extra h) h p.1) refl refl refl refl refl refl refl
 
   pub entered-step : (gate : GateId) (c : C) (i : ℕ) (h : History) → IsPast h
       → entered_slot (slot_after gate c h) ≡ slot_after gate c (At i Entered ∷ h)

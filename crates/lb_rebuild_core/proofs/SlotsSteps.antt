@@ -43,7 +43,7 @@ module _ {C : Type 0} where
   configs-after gate k [] h = refl
   configs-after gate k (c ∷ cs) h = ap (λ (l : List C). c ∷ l) (configs-after gate (k + 1) cs h)
 
-  -- a retired selector has a permit of the gate
+  -- what stands in a slot has a permit of the gate
   permits-after : (gate : GateId) (k i : ℕ) (cs : List C) (h : History) (x : SlotValue C) → slice_get (slots_after gate k cs h) i ≡ Some x
       → x.permit ≡ permit_in gate x.extra
   permits-after gate k i [] h x is = absurd (cc)

@@ -10,7 +10,7 @@ use Rattle.lb_select_base.specs.declared.refusal.Refusal.TheVariants as refusal
 use Rattle.lb_rebuild_core.specs.Gate.{GateId, GateValue, gate}
 use Rattle.lb_rebuild_core.specs.Drawn.{DrawnValue, DrawnGives}
 use Rattle.lb_rebuild_core.specs.SlotsHistory.{Extra, nothing, flight, lost, retired, taken_out, is_flight, is_extra, is_under_way}
-use Rattle.lb_rebuild_core.specs.SlotsHistory.{is_retired_of}
+use Rattle.lb_rebuild_core.specs.SlotsHistory.{is_retired_of, is_taken_out}
 use Rattle.lb_rebuild_core.specs.SlotsHistory.{flight_number, generation_of, due_after, AskAnswer, cancelled, building, up_to_date}
 use Rattle.lb_rebuild_core.specs.SlotsHistory.{not_due}
 use Rattle.lb_rebuild_core.specs.SlotsHistory.{busy, job}
@@ -63,14 +63,15 @@ ask_told (asked.NotDue m) = not_due m
 ask_told asked.Busy = busy
 ask_told (asked.Job j) = job
 
--- the slot after its answer, where `at` is the moment of the newest membership
-abbrev pub asked_slot : {C : Type 0} → AskAnswer → ℕ → ℕ → ℕ → SlotValue C → SlotValue C
-asked_slot cancelled newest at now x = x
-asked_slot building newest at now x = x
-asked_slot up_to_date newest at now x = x
-asked_slot (not_due m) newest at now x = x
-asked_slot busy newest at now x = x
-asked_slot job newest at now x = record x { waiting = None; extra = flight newest; asked = now; scheduled = at }
+-- the slot after its answer, where `id` is the gate and `at` the moment of the newest membership
+abbrev pub asked_slot : {C : Type 0} → AskAnswer → GateId → ℕ → ℕ → ℕ → SlotValue C → SlotValue C
+asked_slot cancelled id newest at now x = x
+asked_slot building id newest at now x = x
+asked_slot up_to_date id newest at now x = x
+asked_slot (not_due m) id newest at now x = x
+asked_slot busy id newest at now x = x
+asked_slot job id newest at now x =
+    record x { waiting = None; extra = flight newest; permit = Some id; asked = now; scheduled = at }
 
 -- a job takes the gate's permit
 abbrev pub asked_gate : AskAnswer → GateValue → GateValue
@@ -100,6 +101,7 @@ failed_slot newest now o x =
     record x {
       waiting = put_back newest o x;
       extra = nothing;
+      permit = None;
       failures = if o.generation == newest then more x.failures else x.failures;
       failed_at = if o.generation == newest then now else x.failed_at;
       counts = record x.counts { superseded = superseded_more newest x; failed = more x.counts.failed };
@@ -113,7 +115,6 @@ published_slot b x =
       readers = 0;
       extra = retired x.serving.generation;
       left_in = x.readers;
-      permit = Some b.task.permit;
       counts = record x.counts { published = more x.counts.published };
       timing = Some (record { generation = b.task.generation; queue = x.asked - x.scheduled; build = b.ended - x.asked });
     }
@@ -125,7 +126,6 @@ abandoned_slot newest b x =
       waiting = put_back newest (order_of b.task) x;
       extra = retired b.task.generation;
       left_in = 0;
-      permit = Some b.task.permit;
       counts = record x.counts { superseded = superseded_more newest x };
     }
 
@@ -170,7 +170,7 @@ take_refusal (taken_out n) left = Some refusal.NothingRetired
 -- What the calls answer and leave, by cases on the answer. What is not awaited is returned, and changes nothing.
 abbrev pub FailsAt : {C : Type 0} → ℕ → ℕ → Task C → SlotValue C → Result GateId (Task C) → SlotValue C → Type 0
 FailsAt newest now j x (Ok p) y =
-    (is_under_way j.generation x.extra ≡ true) × (p ≡ j.permit) × (y ≡ failed_slot newest now (order_of j) x)
+    (is_under_way j.generation x.extra ≡ true) × (x.permit ≡ Some p) × (y ≡ failed_slot newest now (order_of j) x)
 FailsAt newest now j x (Err k) y = (is_under_way j.generation x.extra ≡ false) × (k ≡ j) × (y ≡ x)
 
 abbrev pub PublishesAt : {C : Type 0} → ℕ → Bool → BuiltValue C → SlotValue C → Result Publication (BuiltValue C) → SlotValue C → Type 0
@@ -196,7 +196,7 @@ LeavesAt r x (Err q) y = (nat_lt 0 (readers_at r.generation x) ≡ false) × (q 
 
 -- the slot without its retired selector
 abbrev pub taken_slot : {C : Type 0} → SlotValue C → SlotValue C
-taken_slot x = record x { extra = taken_out (generation_of x.extra); left_in = 0; permit = None }
+taken_slot x = record x { extra = taken_out (generation_of x.extra); left_in = 0 }
 
 abbrev pub TakesAt : {C : Type 0} → PlaceValue → SlotValue C → Result RetiredValue Refusal → SlotValue C → Type 0
 TakesAt p x (Ok r) y =
@@ -206,7 +206,12 @@ TakesAt p x (Err e) y = (take_refusal x.extra x.left_in ≡ Some e) × (y ≡ x)
 
 -- the slot once what was taken out of it is destroyed
 abbrev pub destroyed_slot : {C : Type 0} → SlotValue C → SlotValue C
-destroyed_slot x = record x { extra = nothing }
+destroyed_slot x = record x { extra = nothing; permit = None }
+
+-- a report gives the permit that the slot had, where a selector was taken out of it
+abbrev pub ReportsAt : {C : Type 0} → SlotValue C → Option GateId → SlotValue C → Type 0
+ReportsAt x (Some p) y = (is_taken_out x.extra ≡ true) × (x.permit ≡ Some p) × (y ≡ destroyed_slot x)
+ReportsAt x None y = (is_taken_out x.extra ≡ false) × (y ≡ x)
 
 -- the slot with its counter of tickets elsewhere
 abbrev pub drawn_slot : {C : Type 0} → ℕ → SlotValue C → SlotValue C

@@ -10,18 +10,18 @@ use Rattle.lb_rebuild_core.specs.declared.slot.SlotStage.TheVariants as stage
 
 abbrev pub extra_of : {S I C W : Type 0} → SlotStage S I C W → Extra
 extra_of stage.Free = nothing
-extra_of (stage.Flight n) = flight n
-extra_of (stage.Lost n) = lost n
-extra_of (stage.Retired r) = retired r.generation
-extra_of (stage.TakenOut n) = taken_out n
+extra_of (stage.Flight n p) = flight n
+extra_of (stage.Lost n p) = lost n
+extra_of (stage.Retired s p) = retired s.generation
+extra_of (stage.TakenOut n p) = taken_out n
 
--- the permit of a retired selector
+-- the gate of the permit that is out for what stands there
 abbrev pub permit_of : {S I C W : Type 0} → SlotStage S I C W → Option GateId
 permit_of stage.Free = None
-permit_of (stage.Flight n) = None
-permit_of (stage.Lost n) = None
-permit_of (stage.Retired r) = Some r.permit
-permit_of (stage.TakenOut n) = None
+permit_of (stage.Flight n p) = Some p
+permit_of (stage.Lost n p) = Some p
+permit_of (stage.Retired s p) = Some p
+permit_of (stage.TakenOut n p) = Some p
 
 abbrev pub slot_value : {S I C W : Type 0} → Slot S I C W → SlotValue C
 slot_value x =

@@ -31,13 +31,13 @@ left_readers (lost n) h = 0
 left_readers (retired n) h = readers n h
 left_readers (taken_out n) h = 0
 
--- a retired selector holds a permit of the group's gate
+-- what stands in a slot beside what it serves has the permit of the group's gate
 abbrev pub permit_in : GateId → Extra → Option GateId
 permit_in gate nothing = None
-permit_in gate (flight n) = None
-permit_in gate (lost n) = None
+permit_in gate (flight n) = Some gate
+permit_in gate (lost n) = Some gate
 permit_in gate (retired n) = Some gate
-permit_in gate (taken_out n) = None
+permit_in gate (taken_out n) = Some gate
 
 -- the counts of a slot after its past
 abbrev pub counts_after : History → Counts

@@ -68,7 +68,7 @@ pub record ReaderValue (C : Type 0) : Type 0 where
   pub config : C
 
 -- A slot: what it serves and to how many readers, what it is configured with, the order that waits, its extra,
--- with the readers left in it and the gate of its permit where it is retired, and what retries, counts and timing need.
+-- with the readers left in it where it is retired and the gate of its permit, and what retries, counts and timing need.
 pub record SlotValue (C : Type 0) : Type 0 where
   pub serving : ServingValue C
   pub readers : ℕ

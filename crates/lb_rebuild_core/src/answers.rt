@@ -17,7 +17,7 @@ pub enum Ask<S: BackendSelection> {
     NotDue(u128),
     /// The gate's permit is out, or the slot still has a lost flight or a selector that is not reported destroyed.
     Busy,
-    /// The slot's build of the newest generation, with the permit.
+    /// The slot's build of the newest generation. The slot has the permit.
     Job(Job<S>),
 }
 

@@ -5,12 +5,12 @@ use crate::job::{Built, Job};
 use crate::retired::{OwedPermit, Reader};
 use lb_select_base::walk::BackendSelection;
 
-/// Ends a job for good: its gate never grants again.
+/// Ends a job for good: its slot keeps the permit, and the gate never grants again.
 pub fn end_job<S: BackendSelection>(job: Job<S>) {
     job.end();
 }
 
-/// Ends what was built for good: its gate never grants again.
+/// Ends what was built for good: its slot keeps the permit, and the gate never grants again.
 pub fn end_built<S: BackendSelection>(built: Built<S>) {
     built.end();
 }
@@ -20,7 +20,7 @@ pub fn end_reader<S: BackendSelection>(reader: Reader<S>) {
     reader.end();
 }
 
-/// Ends the permit of a destroyed selector for good: its gate never grants again.
+/// Ends the report of a destroyed selector for good: its slot keeps the permit, and the gate never grants again.
 pub fn end_permit(permit: OwedPermit) {
     permit.end();
 }

@@ -1,5 +1,5 @@
-//! The gate of selector rebuilds: it gives out one permit at a time, and a permit goes with each extra selector until that
-//! selector is destroyed.
+//! The gate of selector rebuilds: it gives out one permit at a time, which stays in the slot of an extra selector until that selector
+//! is destroyed: a slot with one so shows that the gate isn't free.
 //! The permit carries the only writing seat of the gate's word, so two permits of one gate cannot both exist, whichever threads hold them.
 ghost use Rattle.std.specs.Prelude.{◌≡◌, ◌≢◌, true, false, IfOk, IfErr, IfSome, IfNone};
 ghost use Rattle.lb_rebuild_core.specs.Gate.{gate};

@@ -1,7 +1,7 @@
 //! A group joined with its view: a membership reaches both or neither, and each slot holds the snapshots that it has in use.
 //! A call tests all that it can refuse for before it changes anything; builds run elsewhere, between `ask` and `publish`.
-ghost use Rattle.std.specs.Prelude.{◌≡◌, ◌≢◌, ◌↔◌, ◌≤◌, ◌+◌, ◌^◌, ◌∷◌, ◌++◌, [], ℕ, List, true, false, map, replicate, None, Ok, Err};
-ghost use Rattle.std.specs.Prelude.{IfOk, IfErr, IsTrue, OnOk, OnErr, IsErrOf, slice_get};
+ghost use Rattle.std.specs.Prelude.{◌≡◌, ◌≢◌, ◌↔◌, ◌<◌, ◌≤◌, ◌+◌, ◌^◌, ◌∷◌, ◌++◌, [], ℕ, List, true, false, map, replicate, None, Ok, Err};
+ghost use Rattle.std.specs.Prelude.{length, IfOk, IfErr, IsTrue, OnOk, OnErr, IsErrOf, slice_get};
 ghost use Rattle.std.specs.Arc.{arc_value};
 ghost use Rattle.lb_select_base.specs.Backends.{Member};
 ghost use Rattle.lb_select_base.specs.Loads.{load_in};
@@ -10,7 +10,7 @@ ghost use Rattle.lb_rebuild_core.specs.SlotsHistory.{Cancelled, WorkerLost, Ente
 ghost use Rattle.lb_rebuild_core.specs.SlotsHistory.{newest as newest_after};
 ghost use Rattle.lb_rebuild_core.specs.SlotsHistory.{served as served_after, is_cancelled, timing as timing_after};
 ghost use Rattle.lb_rebuild_core.specs.SlotsHistory.{waits as waits_after, readers as readers_after};
-ghost use Rattle.lb_rebuild_core.specs.SlotsHistory.{flight_after};
+ghost use Rattle.lb_rebuild_core.specs.SlotsHistory.{extra, flight_after, is_extra};
 ghost use Rattle.lb_rebuild_core.specs.Values.{configs_of};
 ghost use Rattle.lb_rebuild_core.specs.Stands.{Made, StandsFor, After as AfterGroup, counts_after};
 ghost use Rattle.lb_rebuild_core.specs.SlotsCalls.{IsOwnJob, Asks, ask_events, gate_after, Fails, fail_events, gate_back, Publishes};
@@ -120,6 +120,17 @@ impl<S: BackendSelection> GroupCore<S> {
         ensures same { (a.new ≡ a.old) × (b.new ≡ b.old) }
     {
         slots::Slots::apart(&mut a.group, &mut b.group);
+    }
+
+    /// Shows that the gate's permit is out where anything stands in a slot beside what it serves: a flight, a lost flight, or a
+    /// selector that is retired or taken out. It takes no memory and changes nothing.
+    pub fn extra_is_out(&mut self, slot: usize, gate: &mut GateCore)
+        requires { gate.old.id ≡ self.old.group.gate }
+        ensures out { After self.old (λ made e. slot < length made.configs → is_extra (extra (past_of slot (slot_events e))) ≡ true
+            → gate.old.out ≡ true) }
+        ensures same { (self.new ≡ self.old) × (gate.new ≡ gate.old) }
+    {
+        self.group.extra_is_out(slot, gate);
     }
 
     /// States that some history of calls explains the group and its view.
@@ -309,7 +320,7 @@ impl<S: BackendSelection> GroupCore<S> {
         self.group.abandon(built)
     }
 
-    /// Ends a slot's flight as lost: its job or its selector goes on with the permit, but is not served any more.
+    /// Ends a slot's flight as lost: its job or its selector goes on, and the slot keeps the permit, but it is not served any more.
     ///
     /// It takes no memory.
     ///

@@ -1,5 +1,5 @@
 //! Orders for selectors, and the values that carry one out: a job that is to be built, and the selector that was built.
-//! A job and a built selector hold the permit of their gate and cannot be dropped; building runs outside all locks.
+//! A job and a built selector cannot be dropped: the gate's permit stays in their slot until they come back. Building runs outside all locks.
 ghost use Rattle.std.specs.Prelude.{◌≡◌, ◌⊎◌, IfOk, IfErr, OnErr};
 ghost use Rattle.std.specs.Arc.{arc_value};
 ghost use Rattle.lb_rebuild_core.specs.Values.{order_of};
@@ -13,6 +13,7 @@ use lb_select_base::walk::BackendSelection;
 use std::alloc::Global;
 use std::collections::BTreeSet;
 use std::marker::Model;
+use std::snapshot::Snapshot;
 use std::sync::Arc;
 
 /// A slot's share of one membership and of its own configuration. It is made when the membership becomes the newest, so that
@@ -35,11 +36,11 @@ impl<C: Drop> Model for Order<C> {
 
 /// The right and the order to build the selector of one slot for one generation.
 ///
-/// Contracts see its group, its slot, the generation, the members, the configuration, and of which gate the permit is.
+/// Contracts see its group, its slot, the generation, the members, the configuration, and of which gate the permit is that its slot has.
 pub struct Job<S: BackendSelection> {
     pub(crate) place: SlotPlace,
     pub(crate) order: Order<S::Config>,
-    pub(crate) permit: Permit,
+    pub(crate) permit: Snapshot<Permit>,
 }
 
 impl<S: BackendSelection> Model for Job<S> {
@@ -47,14 +48,14 @@ impl<S: BackendSelection> Model for Job<S> {
 
     ghost Value = { Task S.Config };
 
-    ghost view = { λ j. task_of j.place j.order j.permit };
+    ghost view = { λ j. task_of j.place j.order j.permit.value };
 }
 
 /// A selector that was built and is not yet published. Contracts see of it what they saw of its job, and when the build ended.
 pub struct Built<S: BackendSelection> {
     pub(crate) place: SlotPlace,
     pub(crate) order: Order<S::Config>,
-    pub(crate) permit: Permit,
+    pub(crate) permit: Snapshot<Permit>,
     pub(crate) selector: Arc<S>,
     pub(crate) ended: u128,
 }
@@ -67,7 +68,7 @@ impl<S: BackendSelection> Model for Built<S> {
     ghost Value = { BuiltValue S.Config };
 
     ghost view = { λ b. record {
-      task = task_of b.place b.order b.permit;
+      task = task_of b.place b.order b.permit.value;
       ended = b.ended;
     } };
 
@@ -144,16 +145,16 @@ impl<S: BackendSelection> Job<S> {
         }
     }
 
-    // Takes the job apart.
-    pub(crate) fn into_parts(self) -> (Order<S::Config>, Permit)
-        ensures { (result.0 ≡ order_of self) × (result.1 ≡ self.permit) }
+    // The order that comes back with the job.
+    pub(crate) fn into_order(self) -> Order<S::Config>
+        ensures { result ≡ order_of self }
     {
         let Job {
             place: _,
             order,
-            permit,
+            permit: _,
         } = self;
-        (order, permit)
+        order
     }
 
     // Ends the job for good.
@@ -161,9 +162,8 @@ impl<S: BackendSelection> Job<S> {
         let Job {
             place: _,
             order: _,
-            permit,
+            permit: _,
         } = self;
-        permit.end();
     }
 }
 
@@ -188,11 +188,10 @@ impl<S: BackendSelection> Built<S> {
         let Built {
             place: _,
             order: _,
-            permit,
+            permit: _,
             selector: _,
             ended: _,
         } = self;
-        permit.end();
     }
 }
 

@@ -27,8 +27,8 @@ pub fn slots_account()
     ensures { (n : ℕ) (h : History) → IsSlotsHistory h → IsWithin n h → SlotsAccount n h }
 {}
 
-/// A flight or a lost flight is above what its slot serves and not past the newest; a retired selector holds a permit of the
-/// group's gate.
+/// A flight or a lost flight is above what its slot serves and not past the newest; what stands in a slot beside what it serves has a
+/// permit of the group's gate.
 pub fn slots_keep<S: BackendSelection>()
     ensures flights { (h : History) → IsPast h → FlightFits h }
     ensures permits { (made : Made S.Config) (h : History) (v : SlotsValue S.Config) (i : ℕ) (x : SlotValue S.Config) → StandsFor made h v

@@ -1,5 +1,5 @@
 //! Selectors that are served or were, and the readers that are in them.
-//! A retired selector holds the permit of the extra selector that it is, until it is destroyed and reported.
+//! The gate's permit stays in the slot of a retired selector until it is destroyed and reported.
 ghost use Rattle.std.specs.Prelude.{◌≡◌, ◌+◌, ◌%◌, ◌^◌};
 ghost use Rattle.std.specs.Arc.{arc_value};
 ghost use Rattle.std.specs.Fn.{FnReturnsAt};
@@ -15,6 +15,7 @@ use lb_select_base::walk::BackendSelection;
 use lb_select_base::words::WordSource;
 use std::alloc::Global;
 use std::marker::Model;
+use std::snapshot::Snapshot;
 use std::sync::Arc;
 
 // A selector with the generation that it was built for, and the tickets drawn from its counter so far.
@@ -50,13 +51,13 @@ impl<S: BackendSelection> ServedSelector<S> {
     }
 }
 
-/// A selector that is no longer served, with the permit of the extra selector that it is.
+/// A selector that is no longer served, and was taken out of its slot.
 ///
-/// It cannot be dropped. Contracts see its group, its slot, its generation, and of which gate the permit is.
+/// It cannot be dropped. Contracts see its group, its slot, its generation, and of which gate the permit is that its slot keeps for it.
 pub struct Retired<S: BackendSelection> {
     pub(crate) place: SlotPlace,
     pub(crate) serving: ServedSelector<S>,
-    pub(crate) permit: Permit,
+    pub(crate) permit: Snapshot<Permit>,
 }
 
 impl<S: BackendSelection> Model for Retired<S> {
@@ -68,7 +69,7 @@ impl<S: BackendSelection> Model for Retired<S> {
       group = r.place.group;
       slot = r.place.slot;
       generation = r.serving.generation;
-      permit = r.permit;
+      permit = r.permit.value;
     } };
 }
 
@@ -81,14 +82,7 @@ impl<S: BackendSelection> Retired<S> {
         serving.generation
     }
 
-    // The next ticket of its counter, which contracts do not see.
-    pub(crate) fn draw(&mut self) -> u64
-        ensures { self.new ≡ self.old }
-    {
-        self.serving.draw()
-    }
-
-    /// Drops the selector, outside all locks, and returns the permit that is to be reported.
+    /// Drops the selector, outside all locks, and returns what is to be reported.
     pub fn destroy(self) -> OwedPermit
         ensures { result ≡ record { group = self.group; slot = self.slot; gate = self.permit } }
     {
@@ -101,12 +95,12 @@ impl<S: BackendSelection> Retired<S> {
     }
 }
 
-/// The permit of a selector that was taken out of a slot and is destroyed. It is to be reported, and cannot be dropped.
+/// A selector was taken out of a slot and is destroyed. That is to be reported, for the slot's permit to go back; it cannot be dropped.
 ///
-/// Contracts see the group and the slot that it is owed to, and of which gate it is.
+/// Contracts see the group and the slot that it is owed to, and of which gate the permit is.
 pub struct OwedPermit {
     pub(crate) place: SlotPlace,
-    pub(crate) permit: Permit,
+    pub(crate) permit: Snapshot<Permit>,
 }
 
 impl Model for OwedPermit {
@@ -114,14 +108,16 @@ impl Model for OwedPermit {
 
     ghost Value = { PermitValue };
 
-    ghost view = { λ p. record { group = p.place.group; slot = p.place.slot; gate = p.permit } };
+    ghost view = { λ p. record { group = p.place.group; slot = p.place.slot; gate = p.permit.value } };
 }
 
 impl OwedPermit {
-    // Ends the permit for good.
+    // Ends it for good, unreported.
     pub(crate) fn end(self) {
-        let OwedPermit { place: _, permit } = self;
-        permit.end();
+        let OwedPermit {
+            place: _,
+            permit: _,
+        } = self;
     }
 }
 

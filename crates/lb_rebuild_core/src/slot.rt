@@ -1,11 +1,12 @@
 //! A slot of a group: the selector that it serves to its readers, the order that waits, and at most one extra selector. Its calls say
 //! exactly what they do to the slot; the group above describes them by its history.
-ghost use Rattle.std.specs.Prelude.{◌≡◌, ◌&&◌, not, Bool, true, [], ◌<◌, ◌⊎◌, ℕ, Some, None, IfOk, IfErr, OnErr, nat_lt, if◌then◌else◌};
+ghost use Rattle.std.specs.Prelude.{◌≡◌, ◌&&◌, not, Bool, true, [], ◌<◌, ◌⊎◌, ℕ, Some, None, IfOk, IfErr, IfSome, OnErr, nat_lt};
+ghost use Rattle.std.specs.Prelude.{if◌then◌else◌};
 ghost use Rattle.std.specs.Fn.{FnReturnsAt};
 ghost use Rattle.lb_select_base.specs.Refusals.{Refuses};
 ghost use Rattle.lb_select_base.specs.Loads.{load_in};
-ghost use Rattle.lb_rebuild_core.specs.SlotSeen.{permit_of};
-ghost use Rattle.lb_rebuild_core.specs.SlotsHistory.{is_flight, is_under_way, is_retired_of, is_taken_out, taken_out_number};
+ghost use Rattle.lb_rebuild_core.specs.SlotSeen.{extra_of, permit_of};
+ghost use Rattle.lb_rebuild_core.specs.SlotsHistory.{is_flight, is_under_way, is_retired_of, is_extra, taken_out_number};
 ghost use Rattle.lb_rebuild_core.specs.SlotsHistory.{flight_number};
 
 use crate::answers::{Ask, Counts, Publication, Selection, Timing};
@@ -24,16 +25,18 @@ use lb_select_base::walk::BackendSelection;
 use std::alloc::Global;
 use std::collections::BTreeSet;
 use std::mem;
+use std::snapshot::Snapshot;
 use std::sync::Arc;
 
-// What a slot has apart from what it serves, each with its generation. A flight goes from the slot's job to its failure or publication; it
-// is lost with its worker. What was taken out is on its way to the report of its destruction.
+// What a slot has apart from what it serves, each with its generation and with the gate's permit, which stays in the slot until it goes
+// back. A flight goes from the slot's job to its failure or publication; it is lost with its worker. What was taken out is on its way to
+// the report of its destruction.
 pub(crate) enum SlotStage<S: BackendSelection> {
     Free,
-    Flight(u64),
-    Lost(u64),
-    Retired(Retired<S>),
-    TakenOut(u64),
+    Flight(u64, Permit),
+    Lost(u64, Permit),
+    Retired(ServedSelector<S>, Permit),
+    TakenOut(u64, Permit),
 }
 
 // A slot: what it is configured with, what it serves and to how many readers, the order that waits for a permit, and what else it has,
@@ -56,10 +59,10 @@ pub(crate) struct Slot<S: BackendSelection> {
 
 impl<S: BackendSelection> Slot<S> {
     ghost use Rattle.lb_rebuild_core.specs.Internal.Fresh.{fresh_slot, turn_of};
-    ghost use Rattle.lb_rebuild_core.specs.SlotSeen.{slot_value, extra_of};
+    ghost use Rattle.lb_rebuild_core.specs.SlotSeen.{slot_value};
     ghost use Rattle.lb_rebuild_core.specs.SlotCalls.{slot_waits, slot_answer, ask_told, asked_slot, asked_gate, IsJobOf, ordered_slot};
     ghost use Rattle.lb_rebuild_core.specs.SlotCalls.{failed_slot, published_slot, abandoned_slot, lost_slot, entered_slot, reader_of};
-    ghost use Rattle.lb_rebuild_core.specs.SlotCalls.{readers_at, left_slot, TakesAt, destroyed_slot, drawn_slot, superseded_more};
+    ghost use Rattle.lb_rebuild_core.specs.SlotCalls.{readers_at, left_slot, TakesAt, ReportsAt, drawn_slot, superseded_more};
     ghost use Rattle.lb_rebuild_core.specs.SlotCalls.{SelectsFrom};
     ghost use Rattle.lb_rebuild_core.specs.SlotCalls.{TicketAt, FailsAt, PublishesAt, AbandonsAt, LosesAt, LeavesAt};
 
@@ -103,9 +106,11 @@ impl<S: BackendSelection> Slot<S> {
         ensures { result ≡ slot_waits newest (slot_value self.now) }
     {
         let flight = match &self.stage {
-            SlotStage::Flight(generation) => *generation,
-            SlotStage::Free | SlotStage::Lost(_) | SlotStage::Retired(_) | SlotStage::TakenOut(_) =>
-                0,
+            SlotStage::Flight(generation, _) => *generation,
+            SlotStage::Free
+            | SlotStage::Lost(..)
+            | SlotStage::Retired(..)
+            | SlotStage::TakenOut(..) => 0,
         };
         let serving = &self.serving;
         serving.generation.max(flight) < newest
@@ -115,9 +120,11 @@ impl<S: BackendSelection> Slot<S> {
         ensures { result ≡ is_flight (extra_of self.now.stage) }
     {
         match &self.stage {
-            SlotStage::Flight(_) => true,
-            SlotStage::Free | SlotStage::Lost(_) | SlotStage::Retired(_) | SlotStage::TakenOut(_) =>
-                false,
+            SlotStage::Flight(..) => true,
+            SlotStage::Free
+            | SlotStage::Lost(..)
+            | SlotStage::Retired(..)
+            | SlotStage::TakenOut(..) => false,
         }
     }
 
@@ -126,8 +133,8 @@ impl<S: BackendSelection> Slot<S> {
         ensures { result ≡ is_under_way generation (extra_of self.now.stage) }
     {
         match &self.stage {
-            SlotStage::Flight(flight) | SlotStage::Lost(flight) => *flight == generation,
-            SlotStage::Free | SlotStage::Retired(_) | SlotStage::TakenOut(_) => false,
+            SlotStage::Flight(flight, _) | SlotStage::Lost(flight, _) => *flight == generation,
+            SlotStage::Free | SlotStage::Retired(..) | SlotStage::TakenOut(..) => false,
         }
     }
 
@@ -165,7 +172,7 @@ impl<S: BackendSelection> Slot<S> {
         now: u128,
     ) -> Ask<S>
         ensures told { ask_told result ≡ slot_answer newest cancelled gate.old.out now (slot_value self.old) }
-        ensures slot { slot_value self.new ≡ asked_slot (ask_told result) newest scheduled now (slot_value self.old) }
+        ensures slot { slot_value self.new ≡ asked_slot (ask_told result) gate.old.id newest scheduled now (slot_value self.old) }
         ensures gate { gate.new ≡ asked_gate (ask_told result) gate.old }
         ensures job { IsJobOf place gate.old.id (slot_value self.old) result }
     {
@@ -194,13 +201,14 @@ impl<S: BackendSelection> Slot<S> {
         let Some(order) = self.waiting.take() else {
             unreachable!();
         };
-        fill(&mut self.stage, SlotStage::Flight(newest));
+        let mark = Snapshot::of(&permit);
+        fill(&mut self.stage, SlotStage::Flight(newest, permit));
         self.asked = now;
         self.scheduled = scheduled;
         Ask::Job(Job {
             place,
             order,
-            permit,
+            permit: mark,
         })
     }
 
@@ -210,7 +218,7 @@ impl<S: BackendSelection> Slot<S> {
           counts = record self.old.counts { superseded = superseded_more newest (slot_value self.old) };
         } }
     {
-        if let SlotStage::Flight(flight) = &self.stage {
+        if let SlotStage::Flight(flight, _) = &self.stage {
             if *flight < newest {
                 self.counts.superseded = self.counts.superseded.saturating_add(1);
             }
@@ -224,24 +232,25 @@ impl<S: BackendSelection> Slot<S> {
         if !self.awaits(job.generation()) {
             return Err(job);
         }
-        let (order, permit) = job.into_parts();
-        self.take_back(newest, order, now);
-        Ok(permit)
+        Ok(self.take_back(newest, job.into_order(), now))
     }
 
-    // Ends the flight or the lost flight of an order that failed; it waits again where it is of the newest generation.
-    fn take_back(&mut self, newest: u64, order: Order<S::Config>, now: u128)
+    // Ends the flight or the lost flight of an order that failed, and gives its permit; the order waits again where it is of the newest
+    // generation.
+    fn take_back(&mut self, newest: u64, order: Order<S::Config>, now: u128) -> Permit
         requires { is_under_way order.generation (extra_of self.old.stage) ≡ true }
-        ensures { slot_value self.new ≡ failed_slot newest now order (slot_value self.old) }
+        ensures permit { permit_of self.old.stage ≡ Some result }
+        ensures slot { slot_value self.new ≡ failed_slot newest now order (slot_value self.old) }
     {
         self.count_superseded(newest);
         self.counts.failed = self.counts.failed.saturating_add(1);
-        clear(&mut self.stage);
+        let permit = release(&mut self.stage);
         if order.generation == newest {
             self.failures = self.failures.saturating_add(1);
             self.failed_at = now;
             self.waiting = Some(order);
         }
+        permit
     }
 
     // Serves the selector of its flight, and retires that of a lost flight or of a cancelled group unserved. A selector that is not
@@ -281,9 +290,9 @@ impl<S: BackendSelection> Slot<S> {
         ensures slot { slot_value self.new ≡ published_slot built (slot_value self.old) }
     {
         let Built {
-            place,
+            place: _,
             order,
-            permit,
+            permit: _,
             selector,
             ended,
         } = built;
@@ -295,15 +304,8 @@ impl<S: BackendSelection> Slot<S> {
         };
         let before = mem::replace(&mut self.serving, serving);
         self.left_in = mem::replace(&mut self.readers, 0);
-        clear(&mut self.stage);
-        fill(
-            &mut self.stage,
-            SlotStage::Retired(Retired {
-                place,
-                serving: before,
-                permit,
-            }),
-        );
+        let permit = release(&mut self.stage);
+        fill(&mut self.stage, SlotStage::Retired(before, permit));
         self.counts.published = self.counts.published.saturating_add(1);
         self.timing = Some(Timing {
             generation,
@@ -321,9 +323,9 @@ impl<S: BackendSelection> Slot<S> {
     {
         self.count_superseded(newest);
         let Built {
-            place,
+            place: _,
             order,
-            permit,
+            permit: _,
             selector,
             ended: _,
         } = built;
@@ -334,15 +336,8 @@ impl<S: BackendSelection> Slot<S> {
             tickets: 0,
         };
         self.left_in = 0;
-        clear(&mut self.stage);
-        fill(
-            &mut self.stage,
-            SlotStage::Retired(Retired {
-                place,
-                serving,
-                permit,
-            }),
-        );
+        let permit = release(&mut self.stage);
+        fill(&mut self.stage, SlotStage::Retired(serving, permit));
         if generation == newest {
             self.waiting = Some(order);
         }
@@ -353,13 +348,13 @@ impl<S: BackendSelection> Slot<S> {
     pub(crate) fn lose(&mut self, newest: u64) -> Result<(), Refusal>
         ensures { LosesAt newest (slot_value self.old) result (slot_value self.new) }
     {
-        let SlotStage::Flight(flight) = &self.stage else {
+        let SlotStage::Flight(flight, _) = &self.stage else {
             return Err(Refusal::NothingInFlight);
         };
         let flight = *flight;
         self.count_superseded(newest);
-        clear(&mut self.stage);
-        fill(&mut self.stage, SlotStage::Lost(flight));
+        let permit = release(&mut self.stage);
+        fill(&mut self.stage, SlotStage::Lost(flight, permit));
         Ok(())
     }
 
@@ -414,9 +409,11 @@ impl<S: BackendSelection> Slot<S> {
         ensures { result ≡ is_retired_of generation (extra_of self.now.stage) }
     {
         match &self.stage {
-            SlotStage::Retired(retired) => retired.generation() == generation,
-            SlotStage::Free | SlotStage::Flight(_) | SlotStage::Lost(_) | SlotStage::TakenOut(_) =>
-                false,
+            SlotStage::Retired(serving, _) => serving.generation == generation,
+            SlotStage::Free
+            | SlotStage::Flight(..)
+            | SlotStage::Lost(..)
+            | SlotStage::TakenOut(..) => false,
         }
     }
 
@@ -442,12 +439,12 @@ impl<S: BackendSelection> Slot<S> {
             return serving.draw();
         }
         match &mut self.stage {
-            SlotStage::Retired(retired) if retired.generation() == generation => retired.draw(),
+            SlotStage::Retired(serving, _) if serving.generation == generation => serving.draw(),
             SlotStage::Free
-            | SlotStage::Flight(_)
-            | SlotStage::Lost(_)
-            | SlotStage::Retired(_)
-            | SlotStage::TakenOut(_) => 0,
+            | SlotStage::Flight(..)
+            | SlotStage::Lost(..)
+            | SlotStage::Retired(..)
+            | SlotStage::TakenOut(..) => 0,
         }
     }
 
@@ -455,20 +452,29 @@ impl<S: BackendSelection> Slot<S> {
     pub(crate) fn take_retired(&mut self, place: SlotPlace) -> Result<Retired<S>, Refusal>
         ensures { TakesAt place (slot_value self.old) result (slot_value self.new) }
     {
-        let SlotStage::Retired(retired) = &self.stage else {
+        let SlotStage::Retired(..) = &self.stage else {
             return Err(Refusal::NothingRetired);
         };
         if self.left_in > 0 {
             return Err(Refusal::StillRead(self.left_in));
         }
-        let generation = retired.generation();
-        match mem::replace(&mut self.stage, SlotStage::TakenOut(generation)) {
-            SlotStage::Retired(mut retired) => {
-                retired.place = place;
-                Ok(retired)
+        match mem::replace(&mut self.stage, SlotStage::Free) {
+            SlotStage::Retired(serving, permit) => {
+                let mark = Snapshot::of(&permit);
+                fill(
+                    &mut self.stage,
+                    SlotStage::TakenOut(serving.generation, permit),
+                );
+                Ok(Retired {
+                    place,
+                    serving,
+                    permit: mark,
+                })
             }
-            SlotStage::Free | SlotStage::Flight(_) | SlotStage::Lost(_) | SlotStage::TakenOut(_) =>
-                unreachable!(),
+            SlotStage::Free
+            | SlotStage::Flight(..)
+            | SlotStage::Lost(..)
+            | SlotStage::TakenOut(..) => unreachable!(),
         }
     }
 
@@ -477,9 +483,11 @@ impl<S: BackendSelection> Slot<S> {
         ensures { result ≡ (if is_flight (extra_of self.now.stage) then Some (flight_number (extra_of self.now.stage)) else None) }
     {
         match &self.stage {
-            SlotStage::Flight(generation) => Some(*generation),
-            SlotStage::Free | SlotStage::Lost(_) | SlotStage::Retired(_) | SlotStage::TakenOut(_) =>
-                None,
+            SlotStage::Flight(generation, _) => Some(*generation),
+            SlotStage::Free
+            | SlotStage::Lost(..)
+            | SlotStage::Retired(..)
+            | SlotStage::TakenOut(..) => None,
         }
     }
 
@@ -488,22 +496,38 @@ impl<S: BackendSelection> Slot<S> {
         ensures { result ≡ taken_out_number (extra_of self.now.stage) }
     {
         match &self.stage {
-            SlotStage::TakenOut(generation) => Some(*generation),
-            SlotStage::Free | SlotStage::Flight(_) | SlotStage::Lost(_) | SlotStage::Retired(_) =>
-                None,
+            SlotStage::TakenOut(generation, _) => Some(*generation),
+            SlotStage::Free
+            | SlotStage::Flight(..)
+            | SlotStage::Lost(..)
+            | SlotStage::Retired(..) => None,
         }
     }
 
-    // The selector that was taken out is destroyed, where one was.
-    pub(crate) fn report(&mut self) -> bool
-        ensures out { result ≡ is_taken_out (extra_of self.old.stage) }
-        ensures slot { slot_value self.new ≡ (if result then destroyed_slot (slot_value self.old) else slot_value self.old) }
+    // The selector that was taken out is destroyed, where one was: gives its permit.
+    pub(crate) fn report(&mut self) -> Option<Permit>
+        ensures { ReportsAt (slot_value self.old) result (slot_value self.new) }
     {
-        let SlotStage::TakenOut(_) = &self.stage else {
-            return false;
+        let SlotStage::TakenOut(..) = &self.stage else {
+            return None;
         };
-        clear(&mut self.stage);
-        true
+        Some(release(&mut self.stage))
+    }
+
+    // Shows that the gate's permit is out where anything stands in the slot. It changes nothing.
+    pub(crate) fn extra_is_out(&mut self, gate: &mut GateCore)
+        requires { IfSome (permit_of self.old.stage) (λ p. p ≡ gate.old.id) }
+        ensures out { is_extra (extra_of self.old.stage) ≡ true → gate.old.out ≡ true }
+        ensures slot { slot_value self.new ≡ slot_value self.old }
+        ensures gate { gate.new ≡ gate.old }
+    {
+        match &mut self.stage {
+            SlotStage::Free => {}
+            SlotStage::Flight(_, permit) => gate.is_out(permit),
+            SlotStage::Lost(_, permit) => gate.is_out(permit),
+            SlotStage::Retired(_, permit) => gate.is_out(permit),
+            SlotStage::TakenOut(_, permit) => gate.is_out(permit),
+        }
     }
 
     // Selects from what is served the first that `accept` accepts.
@@ -542,7 +566,7 @@ impl<S: BackendSelection> Slot<S> {
 }
 
 impl<S: BackendSelection> Drop for Slot<S> {
-    // The gate of a retired selector that is dropped here never grants again.
+    // The gate of a permit that is dropped here never grants again.
     fn drop(self) {
         let Slot {
             config: _,
@@ -559,9 +583,11 @@ impl<S: BackendSelection> Drop for Slot<S> {
             timing: _,
         } = self;
         match stage {
-            SlotStage::Retired(retired) => retired.destroy().end(),
-            SlotStage::Free | SlotStage::Flight(_) | SlotStage::Lost(_) | SlotStage::TakenOut(_) =>
-                {}
+            SlotStage::Free => {}
+            SlotStage::Flight(_, permit)
+            | SlotStage::Lost(_, permit)
+            | SlotStage::TakenOut(_, permit) => permit.end(),
+            SlotStage::Retired(_serving, permit) => permit.end(),
         }
     }
 }
@@ -577,13 +603,17 @@ fn fill<S: BackendSelection>(stage: &mut SlotStage<S>, next: SlotStage<S>)
     };
 }
 
-// Ends what holds no permit.
-fn clear<S: BackendSelection>(stage: &mut SlotStage<S>)
-    requires { permit_of stage.old ≡ None }
-    ensures { stage.new ≡ SlotStage.Free }
+// Ends what stands in a slot, and gives its permit.
+fn release<S: BackendSelection>(stage: &mut SlotStage<S>) -> Permit
+    requires { is_extra (extra_of stage.old) ≡ true }
+    ensures stage { stage.new ≡ SlotStage.Free }
+    ensures permit { permit_of stage.old ≡ Some result }
 {
     match mem::replace(stage, SlotStage::Free) {
-        SlotStage::Retired(_retired) => unreachable!(),
-        SlotStage::Free | SlotStage::Flight(_) | SlotStage::Lost(_) | SlotStage::TakenOut(_) => {}
+        SlotStage::Free => unreachable!(),
+        SlotStage::Flight(_, permit)
+        | SlotStage::Lost(_, permit)
+        | SlotStage::TakenOut(_, permit) => permit,
+        SlotStage::Retired(_serving, permit) => permit,
     }
 }

@@ -1,6 +1,6 @@
 //! A group: a membership of backends in numbered generations, and slots that each serve one selector built from it.
 //! A call tests all that it can refuse for before it changes anything; builds run elsewhere, between `ask` and `publish`.
-ghost use Rattle.std.specs.Prelude.{◌≡◌, ◌≢◌, ◌++◌, ◌∷◌, [], map, IfOk, slice_get};
+ghost use Rattle.std.specs.Prelude.{◌≡◌, ◌≢◌, ◌<◌, ◌++◌, ◌∷◌, [], true, map, length, IfOk, slice_get};
 ghost use Rattle.std.specs.Arc.{arc_value};
 ghost use Rattle.std.specs.Fn.{FnReturnsAt};
 ghost use Rattle.lb_select_base.specs.Loads.{load_in};
@@ -9,7 +9,7 @@ ghost use Rattle.lb_rebuild_core.specs.SlotsHistory.{History, Scheduled as Sched
 ghost use Rattle.lb_rebuild_core.specs.SlotsHistory.{Destroyed, past_of, newest as newest_after, served as served_after, is_cancelled};
 ghost use Rattle.lb_rebuild_core.specs.SlotsHistory.{members_of};
 ghost use Rattle.lb_rebuild_core.specs.SlotsHistory.{waits as waits_after, readers as readers_after};
-ghost use Rattle.lb_rebuild_core.specs.SlotsHistory.{flight_after};
+ghost use Rattle.lb_rebuild_core.specs.SlotsHistory.{flight_after, extra, is_extra};
 ghost use Rattle.lb_rebuild_core.specs.SlotsHistory.{timing as timing_after};
 ghost use Rattle.lb_rebuild_core.specs.Internal.Fresh.{fresh_slot};
 ghost use Rattle.lb_rebuild_core.specs.SlotSeen.{slot_value};
@@ -44,8 +44,8 @@ use std::sync::Arc;
 
 /// A group of slots, each of which serves one selector, and gets the next one by way of a job, a build and a publication.
 ///
-/// Contracts see a record that is a function of the group's history; some history explains every group. A group that is dropped with a
-/// retired selector in it keeps the permit of that selector for good.
+/// Contracts see a record that is a function of the group's history; some history explains every group. A group that is dropped with
+/// anything beside what its slots serve keeps the gate's permit for good.
 #[derive(Drop)]
 pub struct Slots<S: BackendSelection> {
     identity: Identity,
@@ -113,6 +113,20 @@ impl<S: BackendSelection> Slots<S> {
             cancelled: false,
             slots,
         })
+    }
+
+    /// Shows that the gate's permit is out where anything stands in a slot beside what it serves: a flight, a lost flight, or a
+    /// selector that is retired or taken out. It takes no memory and changes nothing.
+    pub fn extra_is_out(&mut self, slot: usize, gate: &mut GateCore)
+        requires { gate.old.id ≡ self.old.gate }
+        ensures out { After self.old (λ made h. slot < length made.configs → is_extra (extra (past_of slot h)) ≡ true
+            → gate.old.out ≡ true) }
+        ensures same { (self.new ≡ self.old) × (gate.new ≡ gate.old) }
+    {
+        if slot >= self.slots.len() {
+            return;
+        }
+        self.slots[slot].extra_is_out(gate);
     }
 
     /// Shows that two groups are not the same one. It takes no memory and changes neither.
@@ -334,7 +348,7 @@ impl<S: BackendSelection> Slots<S> {
         self.slots[slot].abandon(newest, built)
     }
 
-    /// Ends a slot's flight as lost: its job or its selector goes on with the permit, but is not served any more.
+    /// Ends a slot's flight as lost: its job or its selector goes on, and the slot keeps the permit, but it is not served any more.
     ///
     /// It takes no memory.
     ///
@@ -454,11 +468,12 @@ impl<S: BackendSelection> Slots<S> {
         if slot >= self.slots.len() {
             return Err(permit);
         }
-        if !self.slots[slot].report() {
-            return Err(permit);
-        }
-        let OwedPermit { place: _, permit } = permit;
-        gate.give_back(permit);
+        let kept = match self.slots[slot].report() {
+            Some(kept) => kept,
+            None => return Err(permit),
+        };
+        permit.end();
+        gate.give_back(kept);
         Ok(())
     }
 

@@ -11,8 +11,8 @@ returns-then-slot-len-clause-answers g c made h s =
 pub invariant_of-self : goal.invariant_of-self
 invariant_of-self g c =
     stays c.self.invariant c.self.view_is (λ made h s.
-    asked-stands (facing c.args.slot c.index_mut.result.now c.ask.new.self c.self.view_is (omega arith) c.index_mut.ensures.value s) _ _ _
-    c.ask.ensures.told c.ask.ensures.slot)
+    asked-stands (facing c.args.slot c.index_mut.result.now c.ask.new.self c.self.view_is (omega arith) c.index_mut.ensures.value s)
+    _ _ _ _ (c.requires ∙ gate-made s) c.ask.ensures.told c.ask.ensures.slot)
 
 pub returns-clause-answers : goal.returns-clause-answers
 returns-clause-answers g c made h s =
@@ -21,8 +21,8 @@ returns-clause-answers g c made h s =
 
 pub returns-clause-stands : goal.returns-clause-stands
 returns-clause-stands g c made h s =
-    asked-stands (facing c.args.slot c.index_mut.result.now c.ask.new.self c.self.view_is (omega arith) c.index_mut.ensures.value s) _ _ _
-    c.ask.ensures.told c.ask.ensures.slot
+    asked-stands (facing c.args.slot c.index_mut.result.now c.ask.new.self c.self.view_is (omega arith) c.index_mut.ensures.value s)
+    _ _ _ _ (c.requires ∙ gate-made s) c.ask.ensures.told c.ask.ensures.slot
 
 pub returns-clause-site : goal.returns-clause-site
 returns-clause-site g c = site-of c.self.invariant c.self.view_is (returns-clause-stands g c)

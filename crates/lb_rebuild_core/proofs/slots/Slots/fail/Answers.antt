@@ -1,7 +1,7 @@
 -- The slot of the job is put back in its place.
-use Rattle.std.proofs.Common.{false, true}
-use Rattle.lb_rebuild_core.proofs.SlotsSteps.{coming, stays, site-of}
-use Rattle.lb_rebuild_core.proofs.CallSteps.{failed-stands, awaited-at}
+use Rattle.std.proofs.Common.{◌∙◌, false, sym, true}
+use Rattle.lb_rebuild_core.proofs.SlotsSteps.{coming, gate-made, known, stays, site-of}
+use Rattle.lb_rebuild_core.proofs.CallSteps.{failed-stands, awaited-at, permit-is}
 use Rattle.lb_rebuild_core.proofs.slots.Slots.fail.Goals as goal
 
 pub invariant_of-self : goal.invariant_of-self
@@ -47,3 +47,11 @@ returns-clause-site g c = site-of c.self.invariant c.self.view_is (returns-claus
 
 pub returns-in-Err-clause-site : goal.returns-in-Err-clause-site
 returns-in-Err-clause-site g c = site-of c.self.invariant c.self.view_is (returns-in-Err-clause-stands g c)
+
+-- the slot's permit is of the group's gate
+pub give_back-requires : goal.give_back-requires
+give_back-requires g c =
+    known c.self.invariant c.self.view_is (λ made h s.
+    let w = coming c.slot-slot.result c.index_mut.result.now c.fail.new.self c.self.view_is c.slot-slot.ensures c.requires.config
+    c.index_mut.ensures.value s in
+    permit-is w.faces c.in-Ok.permit c.in-Ok.ensures.1 ∙ sym (gate-made s) ∙ sym c.requires.gate)
