@@ -60,14 +60,14 @@ abbrev pub turn_of : Publication → Turn
 turn_of (told.Published n) = turn.Published n
 turn_of (told.Abandoned n) = turn.Abandoned n
 
-module _ {S I C W K P : Type 0} (refuses : List Member → C → Option Refusal) (reads : K → ℕ → K → Type 0)
+module _ {S I C W K P : Type 0} (refuses : List Member → C → Option Refusal) (reads ends : K → ℕ → K → Type 0)
     (taken : P → ℕ → Result RetiredValue Refusal → P → Type 0) (reported : P → ℕ → PermitValue → P → Type 0)
     (asked : P → ℕ → ℕ → Result (Ask S I C W) Refusal → P → Type 0)
     (published : P → BuiltValue C → Publication → P → Type 0) (failed : P → RefusedValue C → ℕ → P → Type 0) (slot : ℕ) where
-  -- the job was built, which ended at the next reading, and was published
+  -- the job was built, which ended at the next reading, one that borrowed what was built, and was published
   abbrev pub Publishes : Task C → P → K → Turn → P → K → Type 0
   Publishes j p k t q l =
-      (refuses j.members j.config ≡ None) × (end : ℕ) × reads k end l
+      (refuses j.members j.config ≡ None) × (end : ℕ) × ends k end l
       × (u : Publication) × published p (record { task = j; ended = end }) u q × (t ≡ turn_of u)
 
   -- its build was refused, and the job failed at the next reading; the turn says its generation and the cause

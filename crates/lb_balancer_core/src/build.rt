@@ -2,8 +2,8 @@
 ghost use Rattle.std.specs.Prelude.{◌≡◌, None, IfOk, IfErr, OnErr};
 ghost use Rattle.lb_balancer_core.specs.Builds.{IsCauseOf};
 
+use lb_rebuild_core::end_source::EndSource;
 use lb_rebuild_core::job::{Built, FailedBuild, Job};
-use lb_select_base::moments::MomentSource;
 use lb_select_base::refusal::Refusal;
 use lb_select_base::walk::BackendSelection;
 use std::alloc::Global;
@@ -59,12 +59,12 @@ impl<S: BackendSelection> RefusedJob<S> {
 /// # Errors
 ///
 /// The job with the cause for which its selector cannot be built, or with `OutOfMemory`. The clock isn't read then.
-pub fn build<S: BackendSelection, K: MomentSource>(
+pub fn build<S: BackendSelection, K: EndSource<S>>(
     alloc: Global,
     job: Job<S>,
     clock: &mut K,
 ) -> Result<Built<S>, RefusedJob<S>>
-    ensures built { IfOk result (λ b. (S.refusal job.members job.config ≡ None) × (b.task ≡ job) × K.reads clock.old b.ended clock.new) }
+    ensures built { IfOk result (λ b. (S.refusal job.members job.config ≡ None) × (b.task ≡ job) × K.ends clock.old b.ended clock.new) }
     ensures refused { IfErr result (λ r. (r.task ≡ job) × IsCauseOf S.refusal job r.refusal) }
     ensures unread { OnErr result (clock.new ≡ clock.old) }
 {

@@ -1,13 +1,15 @@
 //! Implements `GroupPort` over a plain group: its calls are the group's own, on the registry and the gate that it borrows. And a worker's
 //! turn over it, at a slot that is due.
-ghost use Rattle.std.specs.Prelude.{◌≡◌, false};
+ghost use Rattle.std.specs.Prelude.{◌≡◌, ◌<◌, true, length};
 ghost use Rattle.lb_select_base.specs.Loads.{load_in};
 ghost use Rattle.lb_balancer_core.specs.Plain.{OwnsJob, OwnsReader, OwnsPermit, IsScheduled, IsAsked, IsEntered, IsReadyFor, IsDrawn};
 ghost use Rattle.lb_balancer_core.specs.Lent.{SameLent};
 ghost use Rattle.lb_balancer_core.specs.Plain.{IsTaken, IsReported, IsFailed, IsPublished, IsLeft};
 ghost use Rattle.std.proofs.Common.{subst, sym};
+ghost use Rattle.lb_rebuild_core.specs.GroupHistory.{slot_events};
 ghost use Rattle.lb_rebuild_core.specs.GroupStates.{After};
-ghost use Rattle.lb_balancer_core.specs.Due.{EndsTurn, IsDue, IsLate};
+ghost use Rattle.lb_rebuild_core.specs.SlotsHistory.{extra, is_extra, past_of};
+ghost use Rattle.lb_balancer_core.specs.Due.{EndsDue, IsClear, IsDue};
 ghost use Rattle.lb_balancer_core.specs.Internal.PlainLaws.{drawn_keeps};
 
 use crate::build::RefusedJob;
@@ -17,6 +19,7 @@ use crate::turn::{Turn, worker_turn};
 use lb_health_core::keys::KeyRule;
 use lb_health_view::view::Settings;
 use lb_rebuild_core::answers::{Ask, Publication};
+use lb_rebuild_core::end_source::EndSource;
 use lb_rebuild_core::job::Built;
 use lb_rebuild_core::membership::Scheduled;
 use lb_rebuild_core::retired::{OwedPermit, Reader, Retired};
@@ -38,20 +41,31 @@ impl<'c, 'x, 'g, 'w, 'l, S: BackendSelection, R: KeyRule + Drop, G: Rng> PlainPo
     R,
     G,
 > {
-    /// Takes a worker's turn at a slot that waits and is due, of a group that is not cancelled, whose gate is free.
+    /// Takes a worker's turn at a slot that waits, of a group that is not cancelled. The gate is free, or its permit is that of the
+    /// slot's own retired selector, in which no reader is left: that is destroyed then.
     ///
-    /// It ends with the newest generation served, or with one failed build more.
-    pub fn due_turn<K: MomentSource>(
+    /// It ends with the newest generation served, or with one failed build more. Where the moment that it reads is before the slot's
+    /// next build is due, it answers when that is.
+    pub fn due_turn<K: MomentSource + EndSource<S>>(
         &mut self,
         alloc: Global,
         slot: usize,
         clock: &mut K,
     ) -> Result<Turn, Refusal>
-        requires free { self.old.gate.now.out ≡ false }
-        requires due { After self.old.core.now (λ made e. IsDue made e slot × IsLate K.reads clock.old e slot) }
-        ensures { After self.old.core.now (λ made e. EndsTurn made e slot result self.new.core.now) }
+        requires { After self.old.core.now (λ made e. IsDue made e slot × IsClear self.old.gate.now e slot) }
+        ensures { After self.old.core.now (λ made e. EndsDue K.reads clock.old made e slot result self.new.core.now) }
     {
+        self.extra_is_out(slot);
         worker_turn(alloc, self, slot, clock)
+    }
+
+    // Shows that the gate's permit is out where a slot has an extra. It changes nothing.
+    fn extra_is_out(&mut self, slot: usize)
+        ensures out { After self.old.core.now (λ made e. slot < length made.configs
+            → is_extra (extra (past_of slot (slot_events e))) ≡ true → self.old.gate.now.out ≡ true) }
+        ensures same { (self.new.core.now ≡ self.old.core.now) × (self.new.gate.now ≡ self.old.gate.now) }
+    {
+        self.core.extra_is_out(slot, self.gate);
     }
 }
 

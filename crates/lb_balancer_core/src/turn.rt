@@ -4,6 +4,7 @@ ghost use Rattle.lb_balancer_core.specs.Through.{Turned};
 use crate::build::build;
 use crate::port::GroupPort;
 use lb_rebuild_core::answers::{Ask, Publication};
+use lb_rebuild_core::end_source::EndSource;
 use lb_select_base::moments::MomentSource;
 use lb_select_base::refusal::Refusal;
 use lb_select_base::walk::BackendSelection;
@@ -38,13 +39,13 @@ pub enum Turn {
 /// # Errors
 ///
 /// What the port refuses; but that no retired selector is there, or that it is still read, is passed over.
-pub fn worker_turn<S: BackendSelection, P: GroupPort<S>, K: MomentSource>(
+pub fn worker_turn<S: BackendSelection, P: GroupPort<S>, K: MomentSource + EndSource<S>>(
     alloc: Global,
     port: &mut P,
     slot: usize,
     clock: &mut K,
 ) -> Result<Turn, Refusal>
-    ensures { Turned S.refusal K.reads P.taken P.reported P.asked P.published P.failed slot port.old clock.old
+    ensures { Turned S.refusal K.reads K.ends P.taken P.reported P.asked P.published P.failed slot port.old clock.old
         result port.new clock.new }
 {
     match port.take_retired(slot) {
