@@ -18,7 +18,7 @@ pub record BalancerValue (D C : Type 0) : Type 0 where
 -- What a discovery may give, as far as a lock's fact can say it: a set that stays gives itself. What a caller's discovery says of itself
 -- (`finds`) isn't in it, since the type of a lock can't rest on the contract of a boxed one.
 abbrev pub MayGive : {D : Type 0} → DiscoverySource D → List Member → List (Member × Bool) → Type 0
-MayGive {D} discovery members settings = Discovers {D} (λ _ _. ⊤) discovery members settings
+MayGive {D} discovery members settings = Discovers {D = D} (λ _ _. ⊤) discovery members settings
 
 -- Generation and members belong together: generation 0 has none, and those of another one are what the discovery may give, with some
 -- settings (`∥ ∥₁`: which ones isn't said).

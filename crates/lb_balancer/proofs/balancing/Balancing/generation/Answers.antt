@@ -3,6 +3,6 @@ use Rattle.std.proofs.Common.{◌∙◌}
 use Rattle.lb_balancer.proofs.Served.{known}
 use Rattle.lb_balancer.proofs.balancing.Balancing.generation.Goals as goal
 
-pub returns-clause : goal.returns-clause
-returns-clause g c =
-    (c.take-held.result.value, known (c.self.invariant.0 ∙ c.self.view_is) c.take-held.ensures.fact, c.generation.ensures)
+pub returns : goal.returns
+returns g c =
+    (c.take-held.result.value, known (c.self.invariant.0 ∙ c.self.view_is) c.take-held.ensures.fact, c.generation-generation.ensures)
