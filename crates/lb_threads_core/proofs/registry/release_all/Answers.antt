@@ -1,15 +1,7 @@
--- Each snapshot that is released is an event more, and the calls end where there is none.
-use Rattle.std.proofs.Common.{◌≡◌, ◌∙◌, ◌∷◌, ◌++◌, inl, inr, Option, None, Some, map, refl, sym, arith}
-use Rattle.std.specs.Option.{option_map}
+-- Each snapshot that is released is an event more.
+use Rattle.std.proofs.Common.{◌∷◌, ◌++◌, map, arith}
 use Rattle.lb_health_core.specs.RegistryEvents.{Released}
 use Rattle.lb_threads_core.proofs.registry.release_all.Goals as goal
-
-some-apart : {A : Type 0} {x : A} → (let a : Option A = Some x in let b : Option A = None in a ≡ b) → ⊥
-some-apart is = cc
-
-no-hold : {A B : Type 0} (f : A → B) (o : Option A) → option_map f o ≡ None → o ≡ None
-no-hold f None is = refl
-no-hold f (Some x) is = absurd (some-apart is)
 
 pub loop-preserved : goal.loop-preserved
 loop-preserved g c =
