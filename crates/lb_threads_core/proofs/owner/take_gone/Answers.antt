@@ -14,7 +14,8 @@ all-left P xs ys n m i is-n is-m within shorter there elsewhere all k d below =
     dite (ℕ_discrete k i)
     (λ e. subst (λ j. P (slice_index_or ys j d)) (sym e)
     (subst P (sym (there d (omega (arith, e, below, is-m, shorter)))) (all (n - 1) d (omega (arith, within, is-n)))))
-    (λ differ. subst P (sym (elsewhere k d differ (omega (arith, below, is-m, shorter)))) (all k d (omega (arith, below, is-m, is-n, shorter))))
+    (λ differ. subst P (sym (elsewhere k d differ (omega (arith, below, is-m, shorter))))
+    (all k d (omega (arith, below, is-m, is-n, shorter))))
 
 pub returns-then-load : goal.returns-then-load
 returns-then-load c =
