@@ -1,5 +1,8 @@
 //! The owner of a view in a registry that threads share. Its drop takes no lock and no memory: it notes that the view has no owner,
 //! and the registry looks at these notes when it is taken next.
+ghost use Rattle.std.specs.Prelude.{ℕ, All, Bool, IfSome};
+ghost use Rattle.std.specs.Arc.{arc_value};
+ghost use Rattle.lb_threads_core.specs.Registry.{IsNoteOf};
 
 use std::sync::Arc;
 use std::sync::atomic::AtomicBool;
@@ -37,7 +40,10 @@ impl ViewOwner {
 }
 
 // Takes out the note of a view whose owner is gone.
-pub(crate) fn take_gone(notes: &mut Vec<Arc<ViewNote>>) -> Option<Arc<ViewNote>> {
+pub(crate) fn take_gone(notes: &mut Vec<Arc<ViewNote>>) -> Option<Arc<ViewNote>>
+    ensures { (is_of : ℕ → Bool) → All (λ n. IsNoteOf is_of (arc_value n)) notes.old.items
+        → All (λ n. IsNoteOf is_of (arc_value n)) notes.new.items × IfSome result (λ n. IsNoteOf is_of (arc_value n)) }
+{
     for place in 0..notes.len() {
         if place < notes.len() && notes[place].is_gone.load(SeqCst) {
             return Some(notes.swap_remove(place));

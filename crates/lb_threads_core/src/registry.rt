@@ -1,6 +1,7 @@
 //! A registry of health that threads share, and the passes that check its targets, one after another or at the same time. No check runs
 //! under the registry's lock: a pass copies its targets, and each verdict takes the lock for one call.
-ghost use Rattle.std.specs.Prelude.{◌≡◌, ◌∷◌, Bool, false, length, Result, Err, IfErr, IfOk, OnErr};
+ghost use Rattle.std.specs.Prelude.{◌≡◌, ◌∷◌, ℕ, All, Bool, false, length, Result, Err, IfErr, IfOk, OnErr};
+ghost use Rattle.std.specs.Arc.{arc_value};
 ghost use Rattle.lb_health_core.specs.declared.error.CheckError.{CheckError};
 ghost use Rattle.lb_health_core.specs.Registry.{IsGrowthRefusal, IsUpdateRefusal, targets_after};
 ghost use Rattle.lb_health_core.specs.RegistryEvents.{Marked, views_after};
@@ -9,7 +10,8 @@ ghost use Rattle.lb_health_core.specs.Verdicts.{Verdict};
 ghost use Rattle.lb_health_core.specs.RegistryEvents.{Configured};
 ghost use Rattle.lb_health_view.specs.Passes.{verdict_of};
 ghost use Rattle.lb_select_base.specs.declared.refusal.Refusal.{Refusal};
-ghost use Rattle.lb_threads_core.specs.Registry.{Becomes, IsApplied, IsCellReady, IsObserved, IsRegistered, IsRegistryOf, IsUpdated};
+ghost use Rattle.lb_threads_core.specs.Registry.{Becomes, HaveLeft, IsNoteOf, IsReleased};
+ghost use Rattle.lb_threads_core.specs.Registry.{IsApplied, IsCellReady, IsObserved, IsRegistered, IsRegistryOf, IsUpdated};
 ghost use Rattle.lb_threads_core.specs.Registry.{SeenIn, UnderRegistry};
 
 use crate::keyed::NoRule;
@@ -338,20 +340,22 @@ impl<R: KeyRule + Drop, C: HealthCheck + Drop> HealthRegistry<R, C> {
 
 // Marks the views whose owners are gone for removal, and releases their cells.
 fn remove_gone<R: KeyRule + Drop>(registry: &mut Registry<R>, notes: &mut Vec<Arc<ViewNote>>)
-    ensures { IsRegistryOf R.gives registry.old registry.new }
+    ensures { (is_of : ℕ → Bool) → All (λ n. IsNoteOf is_of (arc_value n)) notes.old.items
+        → HaveLeft R.gives is_of registry.old registry.new }
 {
     for _ in 0..notes.len() {
         let Some(view) = take_gone(notes) else {
             return;
         };
-        registry.remove_view(view.id);
-        release_all(registry, view.id);
+        let id = view.id;
+        registry.remove_view(id);
+        release_all(registry, id);
     }
 }
 
 // Releases each live snapshot of a view, so that the view keeps no cell for itself any more.
 fn release_all<R: KeyRule + Drop>(registry: &mut Registry<R>, id: u64)
-    ensures { IsRegistryOf R.gives registry.old registry.new }
+    ensures { IsReleased R.gives id registry.old registry.new }
 {
     for _ in 0..u64::MAX {
         let Some(generation) = registry.held_generation(id) else {

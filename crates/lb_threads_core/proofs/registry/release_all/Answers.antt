@@ -1,7 +1,13 @@
 -- Each snapshot that is released is an event more.
+use Rattle.std.proofs.Common.{◌∷◌, ◌++◌, map, arith}
 use Rattle.lb_health_core.specs.RegistryEvents.{Released}
-use Rattle.lb_threads_core.proofs.Histories.{later, marked_later}
 use Rattle.lb_threads_core.proofs.registry.release_all.Goals as goal
 
 pub loop-preserved : goal.loop-preserved
-loop-preserved g c = later c.loop.invariant (marked_later (Released c.args.id c.in-Some.generation) c.release.ensures)
+loop-preserved g c =
+    let was = c.loop.invariant in (
+      c.in-Some.generation ∷ was.0,
+      omega (arith, was.1),
+      λ key_of events after.
+          c.release.ensures key_of (map (λ n. Released c.args.id n) was.0 ++ events) (was.2 key_of events after),
+    )

@@ -1,5 +1,10 @@
-use Rattle.lb_threads_core.specs.Registry.{IsRegistryOf}
+-- As many lives ended as there were rounds.
+use Rattle.std.proofs.Common.{◌≡◌, ◌++◌, ℕ, List, length, map}
+use Rattle.lb_health_core.specs.RegistryEvents.{Released}
+use Rattle.lb_threads_core.specs.Registry.{Becomes}
 use Rattle.lb_threads_core.proofs.registry.release_all.Given as goal
 
 abbrev pub invariant-loop : goal.invariant-loop
-invariant-loop g l = IsRegistryOf g.R.KeyRule.gives l.fn.registry l.registry
+invariant-loop g l =
+    (generations : List ℕ) × (length generations ≡ l.counter)
+    × Becomes g.R.KeyRule.gives l.fn.registry (λ events. map (λ n. Released l.id n) generations ++ events) l.registry
