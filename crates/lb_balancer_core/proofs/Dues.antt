@@ -23,7 +23,7 @@ use Rattle.lb_rebuild_core.proofs.Pasts.{past-same, newest-past, cancelled-past}
 use Rattle.lb_rebuild_core.specs.GroupHistory.{History, At, slot_events, in_group}
 use Rattle.lb_rebuild_core.specs.GroupStates.{GroupValue, Stands, After, Becomes}
 use Rattle.lb_balancer_core.specs.Builds.{RefusedValue}
-use Rattle.lb_balancer_core.specs.Due.{IsDue, IsClear, EndsTurn, EndsAt, EndsDue}
+use Rattle.lb_balancer_core.specs.Due.{IsDue, IsClear, EndsTurn, EndsDue}
 use Rattle.lb_balancer_core.specs.Plain.{IsTaken, IsAsked, IsPublished}
 use Rattle.lb_balancer_core.specs.Calls.{owed_of}
 use Rattle.lb_balancer_core.specs.Through.{Publishes, Fails, Answered, Asks, Clears, Turned, turn_of}
@@ -178,7 +178,8 @@ module _ {S I C W K P : Type 0} (refuses : List Member → C → Option Refusal)
       where
         timed : (b : Bool) → nat_lt now (due_moment Before) ≡ b
             → MatchBool b (r ≡ Ok (turn.NotDue (due_moment Before))) (EndsTurn made e slot r (core_of q))
-        timed true early = waited now (due_moment Before) m n q z l a r s (early-now now (gate_of m).out early) (asked_is m slot now a n out) next
+        timed true early =
+            waited now (due_moment Before) m n q z l a r s (early-now now (gate_of m).out early) (asked_is m slot now a n out) next
         timed false late = answered now m n q z l a r s (job-now now (gate_of m).out free late) (asked_is m slot now a n out) next
 
     -- nothing is there to take out

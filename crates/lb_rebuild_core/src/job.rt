@@ -1,5 +1,6 @@
 //! Orders for selectors, and the values that carry one out: a job that is to be built, and the selector that was built.
-//! A job and a built selector cannot be dropped: the gate's permit stays in their slot until they come back. Building runs outside all locks.
+//! A job and a built selector cannot be dropped: the gate's permit stays in their slot until they come back. Building runs outside all
+//! locks.
 ghost use Rattle.std.specs.Prelude.{◌≡◌, ◌⊎◌, IfOk, IfErr, OnErr};
 ghost use Rattle.std.specs.Arc.{arc_value};
 ghost use Rattle.lb_rebuild_core.specs.Values.{order_of};
