@@ -11,6 +11,7 @@ use crate::port::LockedPort;
 use lb_balancer_core::update::update_through;
 use lb_health_core::health_check::{BoxedCheck, HealthCheck};
 use lb_health_core::keys::{KeyRule, Rule};
+use lb_health_view::discovery::ServiceDiscovery;
 use lb_rebuild::board::Board;
 use lb_rebuild::watched::Watched;
 use lb_rebuild_core::group::GroupCore;

@@ -14,6 +14,7 @@ use crate::port::LockedPort;
 use lb_balancer_core::port::TakesBack;
 use lb_health_core::health_check::HealthCheck;
 use lb_health_core::keys::KeyRule;
+use lb_health_view::discovery::ServiceDiscovery;
 use lb_rebuild::board::GroupPass;
 use lb_rebuild::watched::Watched;
 use lb_rebuild_core::retired::Reader;
