@@ -151,7 +151,7 @@ fn rebuilds<R: Abort + Wait>(rt: &R, alloc: Global, group: &Loaded, text: &mut S
 // A group of one slot without workers, whose turns the tests take.
 fn group_of<R: Abort + Wait + Clock + Copy + Drop>(rt: &R, alloc: Global) -> Loaded {
     let none = DiscoverySource::Static(Static::default(alloc));
-    let backends: Backends<Static, Rule<NoRule>, NoCheck> = Backends::new(alloc, none).expect(
+    let backends: Backends<Static, Rule<NoRule>, NoCheck> = Backends::new(rt, alloc, none).expect(
         rt, "refused",
     );
     let mut configs = Vec::new(alloc);
