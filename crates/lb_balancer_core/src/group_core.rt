@@ -56,6 +56,8 @@ impl<S: BackendSelection, D: ServiceDiscovery + Drop> LoadBalancerGroupCore<S, D
     ) -> Result<LoadBalancerGroupCore<S, D>, Refusal>
         ensures stands { IfOk result (λ b. Stands
             (record { id = b.group.group.id; gate = gate.now.id; configs = configs.items }) [] b.group) }
+        ensures site { IfOk result (λ b. b.group.registry ≡ registry.old.id) }
+        ensures one_registry { registry.new.id ≡ registry.old.id }
         ensures gate { IfOk result (λ b. b.group.group.gate ≡ gate.now.id) }
         ensures id { IfOk result (λ b. (key_of : Member → Member) (events : List Event)
             → IsRegistryAfter R.gives key_of events registry.old → b.group.view.id ≡ registered_after events + 1) }
@@ -94,6 +96,7 @@ impl<S: BackendSelection, D: ServiceDiscovery + Drop> LoadBalancerGroupCore<S, D
         registry: &mut Registry<R>,
         clock: &mut K,
     ) -> Result<Scheduled, Refusal>
+        requires registry { registry.old.id ≡ self.old.group.registry }
         ensures updated { IfOk result (λ s. IsGroupUpdated D.finds R.gives self.old.discovery self.old.group registry.old
             K.reads clock.old clock.new self.new.group registry.new self.new.timing s) }
         ensures err { OnErr result (After self.old.group (λ made e. Stands made e self.new.group)) }
@@ -104,6 +107,7 @@ impl<S: BackendSelection, D: ServiceDiscovery + Drop> LoadBalancerGroupCore<S, D
         ensures refused { IfErr result (IsGroupRefusal D.finds R.gives self.old.discovery self.old.group registry.old) }
         ensures discovery { self.new.discovery ≡ self.old.discovery }
         ensures site { SameSite self.old.group self.new.group }
+        ensures one_registry { registry.new.id ≡ registry.old.id }
     {
         let start = clock.now();
         let (members, settings) = self.discovery.discover(alloc)?;
@@ -129,6 +133,7 @@ impl<S: BackendSelection, D: ServiceDiscovery + Drop> LoadBalancerGroupCore<S, D
         random: &[u64],
         loads: &Loads,
     ) -> Selection
+        requires registry { registry.now.id ≡ self.old.group.registry }
         ensures answers { (key_of : Member → Member) (events : List Event) → IsRegistryAfter R.gives key_of events registry.now
             → After self.old.group (λ made e. SelectsIn S.may_draw_random S.walks
             (Judges key_of events made e (served_at slot e)) (load_in loads.now)
@@ -154,7 +159,8 @@ impl<S: BackendSelection, D: ServiceDiscovery + Drop> LoadBalancerGroupCore<S, D
         loads: &Loads,
         accept: &F,
     ) -> Selection
-        requires { F.IsAlwaysCallable accept.now }
+        requires accept { F.IsAlwaysCallable accept.now }
+        requires registry { registry.now.id ≡ self.old.group.registry }
         ensures answers { (key_of : Member → Member) (events : List Event) → IsRegistryAfter R.gives key_of events registry.now
             → After self.old.group (λ made e. SelectsIn S.may_draw_random S.walks
             (AcceptsBy F.Fn accept.now (Judges key_of events made e (served_at slot e))) (load_in loads.now)

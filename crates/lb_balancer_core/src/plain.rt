@@ -16,4 +16,5 @@ pub struct PlainPort<'c, 'x, 'g, 'w, 'l, S: BackendSelection, R, G> {
     pub generator: &'w mut G,
     pub loads: &'l Loads,
     ghost tied: { gate.now.id ≡ core.now.group.gate },
+    ghost homed: { registry.now.id ≡ core.now.registry },
 }

@@ -15,8 +15,10 @@ use Rattle.lb_health_core.specs.Table.{TableValue, IsTableAfter, IsPruned}
 use Rattle.lb_health_core.specs.Targets.{ViewValue, targets_in}
 use Rattle.std.specs.Map.{lookup}
 
--- what contracts see of a registry: plain lists, and its rule
+-- What contracts see of a registry: plain lists, its rule, and which one it is. Of that nothing else is known than that no call changes
+-- it, so no two registries can be shown to be the same one.
 pub record RegistryValue (R : Type 0) : Type 0 where
+  pub id : ℕ
   pub rule : R
   pub views : List ViewValue
   -- how many views were registered

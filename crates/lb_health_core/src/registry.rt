@@ -26,12 +26,30 @@ use lb_select_base::refusal::Refusal;
 use std::alloc::Global;
 use std::collections::{BTreeMap, BTreeSet};
 use std::marker::Model;
+use std::snapshot::Snapshot;
+
+/// Which registry it is. Only contracts see it: a call that borrows a registry can require the one that it was made with.
+///
+/// Nothing is known of it but that no call changes it, so no two registries can be shown to be the same one. It has no bytes.
+#[derive(Drop)]
+pub struct RegistryId {
+    number: Snapshot<u64>,
+}
+
+impl Model for RegistryId {
+    ghost use Rattle.std.specs.Prelude.{ℕ};
+
+    ghost Value = { ℕ };
+
+    ghost view = { λ i. i.number.value };
+}
 
 /// A registry whose backends share cells by a rule: its views with their memberships, and the cells of their targets.
 ///
 /// Contracts see plain lists: the views, and what is stored of the cells. They are stated by the history of the registry's calls.
 #[derive(Drop)]
 pub struct Registry<R> {
+    id: RegistryId,
     rule: R,
     views: Vec<View>,
     registered: u64,
@@ -47,6 +65,7 @@ impl<R> Model for Registry<R> {
     ghost Value = { RegistryValue R };
 
     ghost view = { λ r. record {
+      id = r.id;
       rule = r.rule;
       views = map view_value r.views.items;
       registered = r.registered;
@@ -87,6 +106,9 @@ impl<R: KeyRule + Drop> Registry<R> {
         ensures { (key_of : Member → Member) → IsRuleOf R.gives rule key_of → IsRegistryAfter R.gives key_of [] result }
     {
         Registry {
+            id: RegistryId {
+                number: Snapshot::of(&0),
+            },
             rule,
             views: Vec::new(alloc),
             registered: 0,
@@ -94,10 +116,18 @@ impl<R: KeyRule + Drop> Registry<R> {
         }
     }
 
+    /// Returns which registry this is, for contracts alone. It has no bytes.
+    pub fn id(&self) -> Snapshot<RegistryId>
+        ensures { result.value ≡ self.now.id }
+    {
+        Snapshot::of(&self.id)
+    }
+
     /// Returns the registry with cells that begin unhealthy from now on; those that are there stay. It takes no memory.
     pub fn start_unhealthy(mut self) -> Registry<R>
-        ensures { (key_of : Member → Member) (events : List Event) → IsRegistryAfter R.gives key_of events self
+        ensures after { (key_of : Member → Member) (events : List Event) → IsRegistryAfter R.gives key_of events self
             → IsRegistryAfter R.gives key_of (Configured false ∷ events) result }
+        ensures one { result.id ≡ self.id }
     {
         self.table.configure(false);
         self
@@ -122,6 +152,7 @@ impl<R: KeyRule + Drop> Registry<R> {
         ensures exhausted { (key_of : Member → Member) (events : List Event) → IsRegistryAfter R.gives key_of events self.old
             → (IsErrOf result Refusal.NumbersExhausted ↔ (2 ^ 64 ≤ registered_after events + 1)) }
         ensures refused { OnErr result (IsGrowthRefusal result) }
+        ensures one { self.new.id ≡ self.old.id }
     {
         let Some(id) = self.registered.checked_add(1) else {
             return Err(Refusal::NumbersExhausted);
@@ -230,6 +261,7 @@ impl<R: KeyRule + Drop> Registry<R> {
             → has_view id (views_after events) ≡ true
             → (IsErrOf result Refusal.NumbersExhausted ↔ (2 ^ 64 ≤ cells_given key_of (after_update id members.keys events))) }
         ensures refused { OnErr result (IsUpdateRefusal result) }
+        ensures one { self.new.id ≡ self.old.id }
     {
         let Some(place) = place_of(&self.views, id) else {
             return Err(Refusal::NoSuch);
@@ -280,6 +312,7 @@ impl<R: KeyRule + Drop> Registry<R> {
             → has_view id (views_after events) ≡ true
             → (IsErrOf result Refusal.NumbersExhausted ↔ (2 ^ 64 ≤ cells_given key_of (Updated id members.keys ∷ Applied ∷ events))) }
         ensures refused { OnErr result (IsUpdateRefusal result) }
+        ensures one { self.new.id ≡ self.old.id }
     {
         let Some(place) = place_of(&self.views, id) else {
             return Err(Refusal::NoSuch);
@@ -306,8 +339,9 @@ impl<R: KeyRule + Drop> Registry<R> {
 
     /// Ends the life of a view's snapshot of a generation. It takes no memory.
     pub fn release(&mut self, id: u64, generation: u64)
-        ensures { (key_of : Member → Member) (events : List Event) → IsRegistryAfter R.gives key_of events self.old
+        ensures after { (key_of : Member → Member) (events : List Event) → IsRegistryAfter R.gives key_of events self.old
             → IsRegistryAfter R.gives key_of (Released id generation ∷ events) self.new }
+        ensures one { self.new.id ≡ self.old.id }
     {
         self.table.release(id, generation);
     }
@@ -326,8 +360,9 @@ impl<R: KeyRule + Drop> Registry<R> {
     ///
     /// A view that isn't there or has a mark stays so. It takes no memory.
     pub fn remove_view(&mut self, id: u64)
-        ensures { (key_of : Member → Member) (events : List Event) → IsRegistryAfter R.gives key_of events self.old
+        ensures after { (key_of : Member → Member) (events : List Event) → IsRegistryAfter R.gives key_of events self.old
             → IsRegistryAfter R.gives key_of (Marked id ∷ events) self.new }
+        ensures one { self.new.id ≡ self.old.id }
     {
         if let Some(place) = place_of(&self.views, id) {
             self.views[place].marked = true;
@@ -351,6 +386,7 @@ impl<R: KeyRule + Drop> Registry<R> {
         ensures kept { (key_of : Member → Member) (events : List Event) → IsRegistryAfter R.gives key_of events self.old
             → (IsOk result ↔ IsCellKept key_of cell events) }
         ensures refused { OnErr result ((result ≡ Err Refusal.NoSuch) × (self.new ≡ self.old)) }
+        ensures one { self.new.id ≡ self.old.id }
     {
         self.table.observe(cell, verdict, threshold)
     }
@@ -379,6 +415,7 @@ impl<R: KeyRule + Drop> Registry<R> {
         ensures exhausted { (key_of : Member → Member) (events : List Event) → IsRegistryAfter R.gives key_of events self.old
             → (IsErrOf result Refusal.NumbersExhausted ↔ (2 ^ 64 ≤ cells_given key_of (Applied ∷ events))) }
         ensures refused { OnErr result (IsGrowthRefusal result) }
+        ensures one { self.new.id ≡ self.old.id }
     {
         let count = live_order(alloc, &self.rule, &self.views)?.len();
         apply(alloc, &self.rule, &mut self.views, &mut self.table)?;
@@ -401,6 +438,7 @@ impl<R: KeyRule + Drop> Registry<R> {
         ensures exhausted { (key_of : Member → Member) (events : List Event) → IsRegistryAfter R.gives key_of events self.old
             → (IsErrOf result Refusal.NumbersExhausted ↔ (2 ^ 64 ≤ cells_given key_of (Applied ∷ events))) }
         ensures refused { OnErr result (IsGrowthRefusal result) }
+        ensures one { self.new.id ≡ self.old.id }
     {
         let order = live_order(alloc, &self.rule, &self.views)?;
         let mut targets = Vec::new(alloc);

@@ -96,6 +96,7 @@ impl<R: KeyRule + Drop, C: HealthCheck + Drop> HealthRegistry<R, C> {
         ensures registry { (key_of : Member → Member) (events : List Event) → IsRegistryAfter R.gives key_of events self.registry
             → IsRegistryAfter R.gives key_of (Configured false ∷ events) result.registry }
         ensures check { result.check ≡ self.check }
+        ensures one { result.registry.id ≡ self.registry.id }
     {
         let HealthRegistry { registry, check } = self;
         HealthRegistry {
@@ -137,6 +138,7 @@ impl<R: KeyRule + Drop, C: HealthCheck + Drop> HealthRegistry<R, C> {
             → (IsErrOf result Refusal.NumbersExhausted ↔ (2 ^ 64 ≤ cells_given key_of (Applied ∷ events))) }
         ensures refused { OnErr result (IsGrowthRefusal result) }
         ensures check { self.new.check ≡ self.old.check }
+        ensures one { self.new.registry.id ≡ self.old.registry.id }
     {
         self.registry.target_count(alloc)
     }
@@ -160,6 +162,7 @@ impl<R: KeyRule + Drop, C: HealthCheck + Drop> HealthRegistry<R, C> {
             → (IsErrOf result Refusal.NumbersExhausted ↔ (2 ^ 64 ≤ cells_given key_of (Applied ∷ events))) }
         ensures refused { OnErr result (IsGrowthRefusal result) }
         ensures check { self.new.check ≡ self.old.check }
+        ensures one { self.new.registry.id ≡ self.old.registry.id }
     {
         self.registry.targets(alloc)
     }
@@ -184,6 +187,7 @@ impl<R: KeyRule + Drop, C: HealthCheck + Drop> HealthRegistry<R, C> {
             → (IsErrOf result Refusal.NumbersExhausted ↔ (2 ^ 64 ≤ cells_given key_of (Applied ∷ events))) }
         ensures refused { OnErr result (IsGrowthRefusal result) }
         ensures check { self.new.check ≡ self.old.check }
+        ensures one { self.new.registry.id ≡ self.old.registry.id }
     {
         let targets = self.registry.targets(alloc)?;
         if let Some(check) = &self.check {
@@ -201,10 +205,11 @@ fn check_all<R: KeyRule + Drop, C: HealthCheck, L: Log>(
     check: &C,
     targets: &[Target],
 )
-    ensures { (key_of : Member → Member) (events : List Event) → IsRegistryAfter R.gives key_of events registry.old
+    ensures after { (key_of : Member → Member) (events : List Event) → IsRegistryAfter R.gives key_of events registry.old
         → AreKept key_of targets.now events
         → (after : List Event) × Passes (C.answers check.now) (C.threshold check.now) targets.now events after
         × IsRegistryAfter R.gives key_of after registry.new }
+    ensures one { registry.new.id ≡ registry.old.id }
 {
     for target in targets {
         check_one(rt, alloc, registry, check, target);
@@ -219,10 +224,11 @@ fn check_one<R: KeyRule + Drop, C: HealthCheck, L: Log>(
     check: &C,
     target: &Target,
 )
-    ensures { (key_of : Member → Member) (events : List Event) → IsRegistryAfter R.gives key_of events registry.old
+    ensures after { (key_of : Member → Member) (events : List Event) → IsRegistryAfter R.gives key_of events registry.old
         → (answer : Result Unit CheckError) × C.answers check.now target.now.backend answer × (after : List Event)
         × Reaches key_of target.now.cell (verdict_of (C.threshold check.now) answer) events after
         × IsRegistryAfter R.gives key_of after registry.new }
+    ensures one { registry.new.id ≡ registry.old.id }
 {
     let verdict = check.check(alloc, &target.backend);
     let healthy = verdict.is_ok();

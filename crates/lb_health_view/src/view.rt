@@ -113,6 +113,7 @@ impl ViewCore {
         ensures exhausted { (key_of : Member → Member) (events : List Event) → IsRegistryAfter R.gives key_of events registry.old
             → (IsErrOf result Refusal.NumbersExhausted ↔ (2 ^ 64 ≤ registered_after events + 1)) }
         ensures refused { OnErr result (IsGrowthRefusal result) }
+        ensures one_registry { registry.new.id ≡ registry.old.id }
     {
         if registry.is_full() {
             return Err(Refusal::NumbersExhausted);
@@ -251,6 +252,7 @@ impl ViewCore {
             → IsRegistryAfter R.gives key_of events registry.old
             → IsRegistryAfter R.gives key_of (registry_released self.old.id generation views events) registry.new }
         ensures id { self.new.id ≡ self.old.id }
+        ensures one_registry { registry.new.id ≡ registry.old.id }
     {
         self.hold_less(generation);
         self.prune();
@@ -373,6 +375,7 @@ impl ViewCore {
             → result ≡ Err Refusal.NumbersExhausted }
         ensures refused { OnErr result (IsViewRefusal result) }
         ensures id { self.new.id ≡ self.old.id }
+        ensures one_registry { registry.new.id ≡ registry.old.id }
     {
         if self.is_membership(&discovered) {
             self.set_members(alloc, settings);
@@ -421,6 +424,7 @@ impl ViewCore {
             → result ≡ Err Refusal.NumbersExhausted }
         ensures refused { OnErr result (IsViewRefusal result) }
         ensures id { self.new.id ≡ self.old.id }
+        ensures one_registry { registry.new.id ≡ registry.old.id }
     {
         let last = self.current.generation;
         let Some(next) = last.checked_add(1) else {

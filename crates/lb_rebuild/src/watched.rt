@@ -149,6 +149,7 @@ impl<S: BackendSelection> Watched<S> {
         settings: Settings,
         now: u128,
     ) -> Result<Scheduled, Refusal>
+        requires registry { registry.old.id ≡ self.old.core.registry }
         ensures answers { After self.old.core (λ made e. Schedules made e discovered.keys result) }
         ensures stands { OnOk result ((key_of : Member → Member) (events : List Event)
             → IsRegistryAfter R.gives key_of events registry.old
@@ -181,6 +182,7 @@ impl<S: BackendSelection> Watched<S> {
         ensures site { SameSite self.old.core self.new.core }
         ensures board { self.new.board ≡ self.old.board }
         ensures steps { self.new.steps ≡ self.old.steps + schedule_steps result }
+        ensures one_registry { registry.new.id ≡ registry.old.id }
     {
         self.core.past();
         let scheduled = self
@@ -198,12 +200,14 @@ impl<S: BackendSelection> Watched<S> {
     ///
     /// Selections and readers go on, and what is under way can still come back. It takes no memory.
     pub fn cancel<R: KeyRule + Drop>(&mut self, registry: &mut Registry<R>)
+        requires registry { registry.old.id ≡ self.old.core.registry }
         ensures stands { Becomes self.old.core (in_group (Cancelled ∷ [])) self.new.core }
         ensures site { SameSite self.old.core self.new.core }
         ensures registry { (key_of : Member → Member) (events : List Event) → IsRegistryAfter R.gives key_of events registry.old
             → IsRegistryAfter R.gives key_of (Marked self.old.core.view.id ∷ events) registry.new }
         ensures board { self.new.board ≡ self.old.board }
         ensures steps { self.new.steps ≡ self.old.steps }
+        ensures one_registry { registry.new.id ≡ registry.old.id }
     {
         self.core.past();
         self.core.cancel(registry);
@@ -249,6 +253,7 @@ impl<S: BackendSelection> Watched<S> {
         requires permit { job.permit ≡ self.old.core.group.gate }
         requires config { slice_get (configs_of self.old.core.group) job.slot ≡ Some job.config }
         requires gate { gate.old.id ≡ self.old.core.group.gate }
+        requires registry { registry.old.id ≡ self.old.core.registry }
         ensures answers { After self.old.core (λ made e. Fails (slot_events e) job result) }
         ensures stands { Becomes self.old.core (in_group (fail_events job now result)) self.new.core }
         ensures site { SameSite self.old.core self.new.core }
@@ -259,6 +264,7 @@ impl<S: BackendSelection> Watched<S> {
         ensures one_gate { gate.new.id ≡ gate.old.id }
         ensures board { self.new.board ≡ self.old.board }
         ensures steps { self.new.steps ≡ self.old.steps }
+        ensures one_registry { registry.new.id ≡ registry.old.id }
     {
         self.core.past();
         self.core.fail(job, registry, gate, now)
@@ -424,6 +430,7 @@ impl<S: BackendSelection> Watched<S> {
         requires own { (permit.group ≡ self.old.core.group.id) × (permit.slot ≡ slot) }
         requires permit { permit.gate ≡ self.old.core.group.gate }
         requires gate { gate.old.id ≡ self.old.core.group.gate }
+        requires registry { registry.old.id ≡ self.old.core.registry }
         ensures answers { After self.old.core (λ made e. Reports made (slot_events e) slot permit result) }
         ensures stands { Becomes self.old.core (in_group (done_at slot Destroyed result)) self.new.core }
         ensures site { SameSite self.old.core self.new.core }
@@ -434,6 +441,7 @@ impl<S: BackendSelection> Watched<S> {
         ensures one_gate { gate.new.id ≡ gate.old.id }
         ensures board { self.new.board ≡ self.old.board }
         ensures steps { self.new.steps ≡ self.old.steps }
+        ensures one_registry { registry.new.id ≡ registry.old.id }
     {
         self.core.past();
         self.core.destroyed(slot, permit, registry, gate)

@@ -102,26 +102,26 @@ module _ {C : Type 0} where
       slice_get_within made.configs i c (sym (ap (λ (l : List C). slice_get l i) configs) ∙ own)
 
   -- group and view after what happened to each
-  pub joined : (made : Made C) (e : History) (es : slots.History) (w z : SlotsValue C) (u t : ViewValue) (v : GroupValue C)
-      → (let parts : GroupValue C = record { group = w; view = u } in parts ≡ v) → Stands made e v
+  pub joined : {n : ℕ} (made : Made C) (e : History) (es : slots.History) (w z : SlotsValue C) (u t : ViewValue) (v : GroupValue C)
+      → (let parts : GroupValue C = record { group = w; view = u; registry = n } in parts ≡ v) → Stands made e v
       → ((h : slots.History) → core.StandsFor made h w → core.StandsFor made (es ++ h) z)
       → (IsViewAfter (views_of made e) u → IsViewAfter (views_of made (in_group es ++ e)) t)
-      → (let after : GroupValue C = record { group = z; view = t } in Stands made (in_group es ++ e) after)
-  joined made e es w z u t v is s group_ view_ =
-      let before : Stands made e (record { group = w; view = u }) = subst (λ (x : GroupValue C). Stands made e x) (sym is) s in
+      → (let after : GroupValue C = record { group = z; view = t; registry = n } in Stands made (in_group es ++ e) after)
+  joined {n} made e es w z u t v is s group_ view_ =
+      let before : Stands made e (record { group = w; view = u; registry = n }) = subst (λ (x : GroupValue C). Stands made e x) (sym is) s in
       record {
         few = before.few;
         group = subst (λ (h : slots.History). core.StandsFor made h z) (sym (group-joined es e)) (group_ (slot_events e) before.group);
         view = view_ before.view;
       }
 
-  pub group-part : (made : Made C) (e : History) (w : SlotsValue C) (u : ViewValue) (v : GroupValue C)
-      → (let parts : GroupValue C = record { group = w; view = u } in parts ≡ v) → Stands made e v → core.StandsFor made (slot_events e) w
+  pub group-part : {n : ℕ} (made : Made C) (e : History) (w : SlotsValue C) (u : ViewValue) (v : GroupValue C)
+      → (let parts : GroupValue C = record { group = w; view = u; registry = n } in parts ≡ v) → Stands made e v → core.StandsFor made (slot_events e) w
   group-part made e w u v is s = subst (λ (x : SlotsValue C). core.StandsFor made (slot_events e) x)
       (sym (ap (λ (x : GroupValue C). x.group) is)) s.group
 
-  pub view-part : (made : Made C) (e : History) (w : SlotsValue C) (u : ViewValue) (v : GroupValue C)
-      → (let parts : GroupValue C = record { group = w; view = u } in parts ≡ v) → Stands made e v → IsViewAfter (views_of made e) u
+  pub view-part : {n : ℕ} (made : Made C) (e : History) (w : SlotsValue C) (u : ViewValue) (v : GroupValue C)
+      → (let parts : GroupValue C = record { group = w; view = u; registry = n } in parts ≡ v) → Stands made e v → IsViewAfter (views_of made e) u
   view-part made e w u v is s = subst (λ (x : ViewValue). IsViewAfter (views_of made e) x) (sym (ap (λ (x : GroupValue C). x.view) is))
       s.view
 
@@ -137,12 +137,12 @@ module _ {C : Type 0} where
       (hold-fits (length made.configs) slot now e few inside s.possible))
 
   -- a membership that reached both
-  pub schedules : (made : Made C) (e : History) (members : List Member) (cells : List (Member × ℕ)) (settings : List (Member × Bool))
+  pub schedules : {n : ℕ} (made : Made C) (e : History) (members : List Member) (cells : List (Member × ℕ)) (settings : List (Member × Bool))
       (now : ℕ) (b : Bool) (w : SlotsValue C) (u : ViewValue)
       → length made.configs < 2 ^ 64 → is_change members (slot_events e) ≡ b
       → core.StandsFor made (cond b (slots.Scheduled members now ∷ slot_events e) (slot_events e)) w
       → IsViewAfter (health.after_settings settings (health.with_membership members cells (views_of made e))) u
-      → (let after : GroupValue C = record { group = w; view = u }
+      → (let after : GroupValue C = record { group = w; view = u; registry = n }
       in Stands made (after_settings settings (with_membership members cells now e)) after)
   schedules made e members cells settings now b w u few change g i = record {
     few = few;
@@ -153,11 +153,11 @@ module _ {C : Type 0} where
   }
 
   -- a call that the view does not see
-  pub joined-still : (made : Made C) (e : History) (es : slots.History) (w z : SlotsValue C) (u : ViewValue) (v : GroupValue C)
-      → (let parts : GroupValue C = record { group = w; view = u } in parts ≡ v) → Stands made e v
+  pub joined-still : {n : ℕ} (made : Made C) (e : History) (es : slots.History) (w z : SlotsValue C) (u : ViewValue) (v : GroupValue C)
+      → (let parts : GroupValue C = record { group = w; view = u; registry = n } in parts ≡ v) → Stands made e v
       → ((h : slots.History) → core.StandsFor made h w → core.StandsFor made (es ++ h) z)
       → views_of made (in_group es ++ e) ≡ views_of made e
-      → (let after : GroupValue C = record { group = z; view = u } in Stands made (in_group es ++ e) after)
+      → (let after : GroupValue C = record { group = z; view = u; registry = n } in Stands made (in_group es ++ e) after)
   joined-still made e es w z u v is s group_ still =
       joined made e es w z u u v is s group_ (λ i. subst (λ (l : List ViewEvent). IsViewAfter l u) (sym still) i)
 
@@ -189,13 +189,13 @@ module _ {C : Type 0} where
       ]
 
   -- a ticket of a reader, whose events rest on what the slot serves
-  pub joined-ticket : (made : Made C) (e : History) (slot n t : ℕ) (w z : SlotsValue C) (u : ViewValue) (v : GroupValue C)
-      → (let parts : GroupValue C = record { group = w; view = u } in parts ≡ v) → Stands made e v
+  pub joined-ticket : {r : ℕ} (made : Made C) (e : History) (slot n t : ℕ) (w z : SlotsValue C) (u : ViewValue) (v : GroupValue C)
+      → (let parts : GroupValue C = record { group = w; view = u; registry = r } in parts ≡ v) → Stands made e v
       → ((h : slots.History) → core.StandsFor made h w → core.StandsFor made (ticket_events made slot n t h ++ h) z)
-      → (let after : GroupValue C = record { group = z; view = u }
+      → (let after : GroupValue C = record { group = z; view = u; registry = r }
       in Stands made (in_group (ticket_events made slot n t (slot_events e)) ++ e) after)
-  joined-ticket made e slot n t w z u v is s group_ =
-      let before : Stands made e (record { group = w; view = u }) = subst (λ (x : GroupValue C). Stands made e x) (sym is) s in
+  joined-ticket {r} made e slot n t w z u v is s group_ =
+      let before : Stands made e (record { group = w; view = u; registry = r }) = subst (λ (x : GroupValue C). Stands made e x) (sym is) s in
       let es : slots.History = ticket_events made slot n t (slot_events e) in
       let still : views_of made (in_group es ++ e) ≡ views_of made e =
       elim (serves made slot n (slot_events e)) as
@@ -208,12 +208,13 @@ module _ {C : Type 0} where
       }
 
   -- gate, configurations and the number of the view stay
-  pub site-joined : (w z : SlotsValue C) (u t : ViewValue) (v : GroupValue C) → (let parts : GroupValue C = record { group = w; view = u }
+  pub site-joined : {n : ℕ} (w z : SlotsValue C) (u t : ViewValue) (v : GroupValue C) → (let parts : GroupValue C = record { group = w; view = u; registry = n }
       in parts ≡ v)
-      → core.SameSite w z → t.id ≡ u.id → (let after : GroupValue C = record { group = z; view = t } in SameSite v after)
+      → core.SameSite w z → t.id ≡ u.id → (let after : GroupValue C = record { group = z; view = t; registry = n } in SameSite v after)
   site-joined w z u t v is same id = record {
     group = subst (λ (x : SlotsValue C). core.SameSite x z) (ap (λ (x : GroupValue C). x.group) is) same;
     id = id ∙ ap (λ (x : GroupValue C). x.view.id) is;
+    registry = ap (λ (x : GroupValue C). x.registry) is;
   }
 
 module _ {S I C W : Type 0} where
@@ -228,7 +229,7 @@ module _ {C : Type 0} where
       → slot < length made.configs
       → core.StandsFor made (slots.At slot (slots.Granted now) ∷ slot_events e) w → g ≡ newest (slot_events e)
       → IsViewAfter (view.Held g ∷ views_of made e) t
-      → (let after : GroupValue C = record { group = w; view = t } in Stands made (At slot (slots.Granted now) ∷ e) after)
+      → (let after : GroupValue C = record { group = w; view = t; registry = n } in Stands made (At slot (slots.Granted now) ∷ e) after)
   job-joined made e slot now g w t few inside s at i = record {
     few = few;
     group = s;
@@ -242,7 +243,7 @@ module _ {C : Type 0} where
       (t : ViewValue) → Stands made e v
       → slice_get (configs_of v.group) slot ≡ Some c → is_awaited slot g (slot_events e) ≡ true
       → core.StandsFor made (slots.At slot (slots.Failed now ms) ∷ slot_events e) w → IsViewAfter (view.Released g ∷ views_of made e) t
-      → (let after : GroupValue C = record { group = w; view = t } in Stands made (At slot (slots.Failed now ms) ∷ e) after)
+      → (let after : GroupValue C = record { group = w; view = t; registry = n } in Stands made (At slot (slots.Failed now ms) ∷ e) after)
   failed-joined made e slot now g ms c v w t s own up after i = record {
     few = s.few;
     group = after;
@@ -255,7 +256,7 @@ module _ {C : Type 0} where
   pub destroyed-joined : (made : Made C) (e : History) (slot g : ℕ) (v : GroupValue C) (w : SlotsValue C) (t : ViewValue) → Stands made e v
       → Some g ≡ taken_out_at made slot (slot_events e)
       → core.StandsFor made (slots.At slot slots.Destroyed ∷ slot_events e) w → IsViewAfter (view.Released g ∷ views_of made e) t
-      → (let after : GroupValue C = record { group = w; view = t } in Stands made (At slot slots.Destroyed ∷ e) after)
+      → (let after : GroupValue C = record { group = w; view = t; registry = n } in Stands made (At slot slots.Destroyed ∷ e) after)
   destroyed-joined made e slot g v w t s out after i =
       let is = out-is made slot g (slot_events e) (sym out) in
       record {
@@ -323,7 +324,7 @@ module _ {S I C W : Type 0} where
       → length made.configs < 2 ^ 64
       → ((j : Task C) → a ≡ asked.Job j → ⊥)
       → core.StandsFor made (asked_events slot now (ask_told a) ++ slot_events e) w → IsViewAfter (views_of made e) u
-      → (let after : GroupValue C = record { group = w; view = u }
+      → (let after : GroupValue C = record { group = w; view = u; registry = n }
       in Stands made (in_group (asked_events slot now (ask_told a)) ++ e) after)
   other-joined made e slot now asked.Cancelled w u few never s i = record { few = few; group = s; view = i }
   other-joined made e slot now asked.Building w u few never s i = record { few = few; group = s; view = i }

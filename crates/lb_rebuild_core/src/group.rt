@@ -38,7 +38,7 @@ use crate::membership::{Prepared, Scheduled};
 use crate::retired::{OwedPermit, Reader, Retired};
 use crate::slots;
 use lb_health_core::keys::KeyRule;
-use lb_health_core::registry::Registry;
+use lb_health_core::registry::{Registry, RegistryId};
 use lb_health_view::view::{Settings, ViewCore};
 use lb_select_base::backend::Backend;
 use lb_select_base::loads::Loads;
@@ -47,17 +47,20 @@ use lb_select_base::walk::BackendSelection;
 use std::alloc::Global;
 use std::collections::BTreeSet;
 use std::marker::Model;
+use std::snapshot::Snapshot;
 use std::sync::Arc;
 
 /// A group of slots with the view of a registry: each slot serves one selector, built from one of the view's memberships, and the
 /// view keeps the snapshots of the generations that a slot serves, builds, or still has to destroy.
 ///
 /// Contracts see the group and the view, and describe both by one history; some history explains every joined group. A registry, a gate,
-/// jobs, built selectors, readers and permits that its calls take are its own.
+/// jobs, built selectors, readers and permits that its calls take are its own: each call requires the registry and the gate with which the
+/// group was made.
 #[derive(Drop)]
 pub struct GroupCore<S: BackendSelection> {
     group: slots::Slots<S>,
     view: ViewCore,
+    registry: Snapshot<RegistryId>,
 }
 
 impl<S: BackendSelection> Model for GroupCore<S> {
@@ -65,9 +68,9 @@ impl<S: BackendSelection> Model for GroupCore<S> {
 
     ghost Value = { GroupValue S.Config };
 
-    ghost view = { λ g. record { group = g.group; view = g.view } };
+    ghost view = { λ g. record { group = g.group; view = g.view; registry = g.registry.value } };
 
-    ghost invariant = { λ g. IsFounded (record { group = g.group; view = g.view }) };
+    ghost invariant = { λ g. IsFounded (record { group = g.group; view = g.view; registry = g.registry.value }) };
 }
 
 impl<S: BackendSelection> GroupCore<S> {
@@ -87,6 +90,8 @@ impl<S: BackendSelection> GroupCore<S> {
         configs: Vec<S::Config>,
     ) -> Result<GroupCore<S>, Refusal>
         ensures stands { IfOk result (λ g. Stands (record { id = g.group.id; gate = gate.now.id; configs = configs.items }) [] g) }
+        ensures site { IfOk result (λ g. g.registry ≡ registry.old.id) }
+        ensures one_registry { registry.new.id ≡ registry.old.id }
         ensures gate { IfOk result (λ g. g.group.gate ≡ gate.now.id) }
         ensures id { IfOk result (λ g. (key_of : Member → Member) (events : List Event) → IsRegistryAfter R.gives key_of events registry.old
             → g.view.id ≡ registered_after events + 1) }
@@ -111,7 +116,11 @@ impl<S: BackendSelection> GroupCore<S> {
         };
         let mut view = ViewCore::register(alloc, registry)?;
         hold_first(&mut view, slots);
-        Ok(GroupCore { group, view })
+        Ok(GroupCore {
+            group,
+            view,
+            registry: registry.id(),
+        })
     }
 
     /// Shows that two groups are not the same one. It takes no memory and changes neither.
@@ -169,6 +178,7 @@ impl<S: BackendSelection> GroupCore<S> {
         settings: Settings,
         now: u128,
     ) -> Result<Scheduled, Refusal>
+        requires registry { registry.old.id ≡ self.old.registry }
         ensures answers { After self.old (λ made e. Schedules made e discovered.keys result) }
         ensures stands { OnOk result ((key_of : Member → Member) (events : List Event) → IsRegistryAfter R.gives key_of events registry.old
             → After self.old (λ made e. Stands made
@@ -198,6 +208,7 @@ impl<S: BackendSelection> GroupCore<S> {
             → 2 ^ 64 ≤ cells_given key_of (Updated self.old.view.id discovered.keys ∷ Applied ∷ events)
             → result ≡ Err Refusal.NumbersExhausted) }
         ensures site { SameSite self.old self.new }
+        ensures one_registry { registry.new.id ≡ registry.old.id }
     {
         let prepared = prepared(alloc, &self.group, &self.view, registry, &discovered)?;
         self.view
@@ -216,10 +227,12 @@ impl<S: BackendSelection> GroupCore<S> {
     ///
     /// Selections and readers go on, and what is under way can still come back. It takes no memory.
     pub fn cancel<R: KeyRule + Drop>(&mut self, registry: &mut Registry<R>)
+        requires registry { registry.old.id ≡ self.old.registry }
         ensures stands { Becomes self.old (in_group (Cancelled ∷ [])) self.new }
         ensures site { SameSite self.old self.new }
         ensures registry { (key_of : Member → Member) (events : List Event) → IsRegistryAfter R.gives key_of events registry.old
             → IsRegistryAfter R.gives key_of (Marked self.old.view.id ∷ events) registry.new }
+        ensures one_registry { registry.new.id ≡ registry.old.id }
     {
         self.group.cancel();
         registry.remove_view(self.view.id());
@@ -266,6 +279,7 @@ impl<S: BackendSelection> GroupCore<S> {
         requires permit { job.permit ≡ self.old.group.gate }
         requires config { slice_get (configs_of self.old.group) job.slot ≡ Some job.config }
         requires gate { gate.old.id ≡ self.old.group.gate }
+        requires registry { registry.old.id ≡ self.old.registry }
         ensures answers { After self.old (λ made e. Fails (slot_events e) job result) }
         ensures stands { Becomes self.old (in_group (fail_events job now result)) self.new }
         ensures site { SameSite self.old self.new }
@@ -274,6 +288,7 @@ impl<S: BackendSelection> GroupCore<S> {
             (released_where result self.old.view.id job.generation (views_of made e) events) registry.new) }
         ensures gate { gate.new ≡ gate_back result gate.old }
         ensures one_gate { gate.new.id ≡ gate.old.id }
+        ensures one_registry { registry.new.id ≡ registry.old.id }
     {
         let generation = job.generation();
         match self.group.fail(job, gate, now) {
@@ -359,7 +374,8 @@ impl<S: BackendSelection> GroupCore<S> {
         registry: &Registry<R>,
         backend: &Backend,
     ) -> bool
-        requires { reader.now.group ≡ self.now.group.id }
+        requires own { reader.now.group ≡ self.now.group.id }
+        requires registry { registry.now.id ≡ self.now.registry }
         ensures { (key_of : Member → Member) (events : List Event) → IsRegistryAfter R.gives key_of events registry.now
             → After self.now (λ made e. IsTrue result ↔ IsReady key_of (views_of made e) events reader.now.generation backend.now) }
     {
@@ -428,6 +444,7 @@ impl<S: BackendSelection> GroupCore<S> {
         requires own { (permit.group ≡ self.old.group.id) × (permit.slot ≡ slot) }
         requires permit { permit.gate ≡ self.old.group.gate }
         requires gate { gate.old.id ≡ self.old.group.gate }
+        requires registry { registry.old.id ≡ self.old.registry }
         ensures answers { After self.old (λ made e. Reports made (slot_events e) slot permit result) }
         ensures stands { Becomes self.old (in_group (done_at slot Destroyed result)) self.new }
         ensures site { SameSite self.old self.new }
@@ -436,6 +453,7 @@ impl<S: BackendSelection> GroupCore<S> {
             (released_where result self.old.view.id (generation_at slot e) (views_of made e) events) registry.new) }
         ensures gate { gate.new ≡ gate_back result gate.old }
         ensures one_gate { gate.new.id ≡ gate.old.id }
+        ensures one_registry { registry.new.id ≡ registry.old.id }
     {
         let Some(generation) = self.group.taken_out(slot) else {
             return Err(permit);
@@ -462,6 +480,7 @@ impl<S: BackendSelection> GroupCore<S> {
         random: &[u64],
         loads: &Loads,
     ) -> Selection
+        requires registry { registry.now.id ≡ self.old.registry }
         ensures answers { (key_of : Member → Member) (events : List Event) → IsRegistryAfter R.gives key_of events registry.now
             → After self.old (λ made e. SelectsIn S.may_draw_random S.walks
             (Judges key_of events made e (served_at slot e)) (load_in loads.now)
@@ -495,7 +514,8 @@ impl<S: BackendSelection> GroupCore<S> {
         loads: &Loads,
         accept: &F,
     ) -> Selection
-        requires { F.IsAlwaysCallable accept.now }
+        requires accept { F.IsAlwaysCallable accept.now }
+        requires registry { registry.now.id ≡ self.old.registry }
         ensures answers { (key_of : Member → Member) (events : List Event) → IsRegistryAfter R.gives key_of events registry.now
             → After self.old (λ made e. SelectsIn S.may_draw_random S.walks
             (AcceptsBy F.Fn accept.now (Judges key_of events made e (served_at slot e))) (load_in loads.now)
@@ -524,6 +544,7 @@ impl<S: BackendSelection> GroupCore<S> {
 
     /// Returns whether a backend is ready in the newest membership, without taking memory.
     pub fn newest_ready<R: KeyRule + Drop>(&self, registry: &Registry<R>, backend: &Backend) -> bool
+        requires registry { registry.now.id ≡ self.now.registry }
         ensures { (key_of : Member → Member) (events : List Event) → IsRegistryAfter R.gives key_of events registry.now
             → After self.now (λ made e. IsTrue result
             ↔ IsReady key_of (views_of made e) events (newest_after (slot_events e)) backend.now) }

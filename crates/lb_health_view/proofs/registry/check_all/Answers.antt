@@ -5,11 +5,11 @@ use Rattle.lb_health_view.proofs.PassLemmas.{reached}
 use Rattle.lb_health_view.proofs.registry.check_all.Goals as goal
 
 pub loop-target-preserved : goal.loop-target-preserved
-loop-target-preserved g c = λ key_of events r kept.
+loop-target-preserved g c = (c.check_one.ensures.one ∙ c.loop-target.invariant.0, λ key_of events r kept.
     let answers = g.C.HealthCheck.answers c.args.check.now in
     let threshold = g.C.HealthCheck.threshold c.args.check.now in
-    let so_far = c.loop-target.invariant key_of events r kept in
-    let one = c.check_one.ensures key_of so_far.0 so_far.1 in
+    let so_far = c.loop-target.invariant.1 key_of events r kept in
+    let one = c.check_one.ensures.after key_of so_far.0 so_far.1 in
     let x : Target = c.target-item.result in
     let i = c.loop-target.target-index in
     let inside : i < length c.args.targets.now = c.loop-target-test.true in
@@ -23,4 +23,4 @@ loop-target-preserved g c = λ key_of events r kept.
       λ after passes. so_far.3 after
           (subst (λ (ts : List Target). Passes answers threshold ts so_far.0 after) (sym rest)
           (one.0, one.1, subst (λ es. Passes answers threshold (drop (i + 1) c.args.targets.now) es after) there.0 passes)),
-    )
+    ))

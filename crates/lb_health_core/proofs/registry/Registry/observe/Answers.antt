@@ -22,6 +22,7 @@ returns-clause-after g c =
     → (key_of : Member → Member) (events : List Event) → IsRegistryAfter g.R.KeyRule.gives key_of events c.args.self.now
     → IsRegistryAfter g.R.KeyRule.gives key_of (Observed c.args.cell v ∷ events)
     (record {
+      id = inside.id;
       rule = inside.rule;
       views = map view_value inside.views.items;
       registered = inside.registered;

@@ -7,8 +7,8 @@ use Rattle.lb_health_core.proofs.ChangeLemmas.{at_place, at_nowhere, missing_vie
 use Rattle.lb_health_core.proofs.StateLemmas.{at_found}
 use Rattle.lb_health_core.proofs.registry.Registry.remove_view.Goals as goal
 
-pub returns-in-Some : goal.returns-in-Some
-returns-in-Some g c =
+pub returns-in-Some-clause-after : goal.returns-in-Some-clause-after
+returns-in-Some-clause-after g c =
     λ key_of events r.
     let After : RegistryValue g.row.R.Denot → Type 0 = λ v. IsRegistryAfter g.R.KeyRule.gives key_of events v in
     let now = subst After (sym c.self.view_is) r in
@@ -30,8 +30,8 @@ returns-in-Some g c =
       };
     }
 
-pub returns-in_default : goal.returns-in_default
-returns-in_default g c =
+pub returns-in_default-clause-after : goal.returns-in_default-clause-after
+returns-in_default-clause-after g c =
     λ key_of events r.
     let After : RegistryValue g.row.R.Denot → Type 0 = λ v. IsRegistryAfter g.R.KeyRule.gives key_of events v in
     let now = subst After (sym c.self.view_is) r in

@@ -36,6 +36,7 @@ returns-in_err-shown-clause-err g c =
     (key_of : Member → Member) (events : List Event) → IsRegistryAfter g.R.KeyRule.gives key_of events c.args.self.now
     → IsRegistryAfter g.R.KeyRule.gives key_of events
     (record {
+      id = inside.id;
       rule = inside.rule;
       views = map view_value c.replace.new.views.items;
       registered = inside.registered;

@@ -29,6 +29,7 @@ returns-in_err-apply-clause-err g c =
     (key_of : Member → Member) (events : List Event) → IsRegistryAfter g.R.KeyRule.gives key_of events c.args.self.now
     → IsRegistryAfter g.R.KeyRule.gives key_of events
     (record {
+      id = inside.id;
       rule = inside.rule;
       views = map view_value c.apply.new.views.items;
       registered = inside.registered;

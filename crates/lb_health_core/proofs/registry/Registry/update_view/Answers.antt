@@ -49,6 +49,7 @@ returns-in_err-replace-clause-err g c =
     (key_of : Member → Member) (events : List Event) → IsRegistryAfter g.R.KeyRule.gives key_of events c.args.self.now
     → IsRegistryAfter g.R.KeyRule.gives key_of events
     (record {
+      id = inside.id;
       rule = inside.rule;
       views = map view_value c.replace.new.views.items;
       registered = inside.registered;
@@ -92,6 +93,7 @@ returns-clause-ok g c =
     c.deref-2.ensures.value (c.lacks_numbers.ensures.lacks key_of c.args.id now.rule) in
     let after : RegistryValue g.row.R.Denot
     = record {
+      id = inside.id;
       rule = inside.rule;
       views = map view_value c.replace.new.views.items;
       registered = inside.registered;

@@ -20,7 +20,7 @@ returns-clause-ok g c = λ key_of events r.
           let checked = w.as_slice.ensures.value ∙ targets in
           let kept = subst (λ (ts : List Target). AreKept key_of ts (Applied ∷ events)) (sym checked)
           (targets_kept key_of (Applied ∷ events)) in
-          let passed = w.check_all.ensures key_of (Applied ∷ events) applied kept in
+          let passed = w.check_all.ensures.after key_of (Applied ∷ events) applied kept in
           let check = sym w.in-Some.is ∙ ap (λ (v : HealthValue g.row.R.Denot g.row.C.Denot). v.check) c.self.view_is in (
             passed.0,
             subst (λ (o : Option g.row.C.Denot). PassesWith answers threshold o (targets_after key_of (Applied ∷ events))

@@ -23,7 +23,11 @@ invariant_of-self g c =
 
 pub returns-clause-answers : goal.returns-clause-answers
 returns-clause-answers g c key_of events registry made e s =
-    let here : Stands made e (record { group = c.self.inside.group; view = c.self.inside.view }) =
+    let here : Stands made e (record {
+      group = c.self.inside.group;
+      view = c.self.inside.view;
+      registry = c.self.inside.registry.value;
+    }) =
     subst (λ v. Stands made e v) (sym c.self.view_is) s in
     let at : (config : _) → slice_get made.configs c.args.slot ≡ Some config → c.unwrap_or-served.result ≡ served_at c.args.slot e =
     λ config there. c.unwrap_or-served.ensures ∙ number-there made c.args.slot (served_at c.args.slot e) c.served.result config there
