@@ -140,6 +140,7 @@ impl<S: BackendSelection, D: ServiceDiscovery + Drop> LoadBalancerGroupCore<S, D
             made (slot_events e) slot key.now max_iterations random.now result) }
         ensures stands { After self.old.group (λ made e. Stands made (after_select made slot result e) self.new.group) }
         ensures kept { self.new ≡ record self.old { group = self.new.group } }
+        ensures site { SameSite self.old.group self.new.group }
     {
         self.group
             .select(alloc, registry, slot, key, max_iterations, random, loads)
@@ -167,6 +168,7 @@ impl<S: BackendSelection, D: ServiceDiscovery + Drop> LoadBalancerGroupCore<S, D
             made (slot_events e) slot key.now max_iterations random.now result) }
         ensures stands { After self.old.group (λ made e. Stands made (after_select made slot result e) self.new.group) }
         ensures kept { self.new ≡ record self.old { group = self.new.group } }
+        ensures site { SameSite self.old.group self.new.group }
     {
         self.group.select_with(
             alloc,
