@@ -358,7 +358,10 @@ pub fn take_registry<W: Wait, R: KeyRule + Drop, C: HealthCheck + Drop>(
 }
 
 /// Puts this registry back under its lock.
-pub fn put_registry<R: KeyRule + Drop, C: HealthCheck + Drop>(registry: &HealthRegistry<R, C>, held: HeldRegistry<R>)
+pub fn put_registry<R: KeyRule + Drop, C: HealthCheck + Drop>(
+    registry: &HealthRegistry<R, C>,
+    held: HeldRegistry<R>,
+)
     requires registry { IsRegistryOf R.gives registry.now.start held.value }
     requires one { held.value.id ≡ registry.now.start.id }
     requires here { held.seat.table_id ≡ registry.now.lock }

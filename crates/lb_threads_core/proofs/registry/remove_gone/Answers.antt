@@ -38,9 +38,11 @@ loop-preserved g c =
     let found = c.take_gone.ensures is_of was.0 in
     let id = c.deref.result.now.id in
     let same : c.deref.result.now ≡ arc_value c.in-Some.view = search rules in
-    let of_note = at-some (λ n. IsNoteOf is_of (arc_value n)) c.in-Some.is found.1 in
-    (found.0, left-more is_of id (ap (λ (n : ViewNote). is_of n.id) same ∙ of_note) was.1 c.remove_view.ensures.after c.remove_view.ensures.one
-    c.release_all.ensures)
+    let of_note = at-some (λ n. IsNoteOf is_of (arc_value n)) c.in-Some.is found.1 in (
+      found.0,
+      left-more is_of id (ap (λ (n : ViewNote). is_of n.id) same ∙ of_note) was.1 c.remove_view.ensures.after c.remove_view.ensures.one
+          c.release_all.ensures,
+    )
 
 pub returns : goal.returns
 returns g c = λ is_of all. (c.loop.invariant is_of all).1
