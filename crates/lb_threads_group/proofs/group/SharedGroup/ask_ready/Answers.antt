@@ -8,6 +8,9 @@ returns g c = (
   c.take-held.result.value.core,
   (
     c.take_registry-cells.result.value,
-    ((search rules, c.founded.ensures), (at_site (search rules) c.take_registry-cells.ensures.registry, rw c.core.ensures at c.ready-told.ensures)),
+    (
+      (search rules, c.founded.ensures),
+      (at_site (search rules) c.take_registry-cells.ensures.registry, rw c.core.ensures at c.ready-told.ensures),
+    ),
   ),
 )

@@ -8,8 +8,8 @@ use Rattle.lb_threads_group.proofs.port.LockedPortGroupPort.schedule.Goals as go
 pub put_registry-requires-clause-registry : goal.put_registry-requires-clause-registry
 put_registry-requires-clause-registry g c =
     let is = c.schedule-told.ensures in
-    later c.take_registry-cells.ensures.registry (scheduled_later c.schedule-told.result c.take-held.result.value.core c.args.discovered.keys
-    c.founded.ensures is.registry is.registry_err)
+    later c.take_registry-cells.ensures.registry (scheduled_later c.schedule-told.result c.take-held.result.value.core
+    c.args.discovered.keys c.founded.ensures is.registry is.registry_err)
 
 pub returns : goal.returns
 returns g c =
