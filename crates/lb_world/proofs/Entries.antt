@@ -178,15 +178,14 @@ module _ {C : Type 0} {M : Meaning C} {h : History C} {g : ℕ} {e : EntryValue 
   pub shared : (st : Step C) (a : Answer) {es : List registry.Event} {u : RegistryValue WorldRule} → group_at h st ≡ Some g
       → changed h ((st, a) ∷ h) st a (registry_events e.registry h) ≡ es → IsRegistryAfter key_gives (key_of g h) es u
       → u.id ≡ v.id → IsShared st a u
-  shared st a {u = u} at is kept one =
-      (
-        subst (λ es. IsRegistryAfter key_gives (key_of g h) es u)
+  shared st a {u = u} at is kept one = (
+    subst (λ es. IsRegistryAfter key_gives (key_of g h) es u)
         (sym
         (taken _ (registry_events e.registry h) e.registry (registry_at h st)
         ((at-group h st a g at).registry_is ∙ registry-here b.is) ∙ is))
         kept,
-        one ∙ b.own,
-      )
+    one ∙ b.own,
+  )
 
   pub unshared : (st : Step C) (a : Answer) → group_at h st ≡ Some g
       → changed h ((st, a) ∷ h) st a (registry_events e.registry h) ≡ registry_events e.registry h

@@ -20,8 +20,13 @@ fail-requires g c =
     let at = at-place c.self.inside.works.items c.args.slot _ (omega arith) c.index_mut-place.ensures.value ∙ ap Some c.in-Some.ensures.0 in
     let its = own-task own (holds own c.in-Some.job Work.building at refl) in
     let same = c.in-Err.ensures.failed.0 in
-    record { own = rw same its.0; permit = rw same its.1; config = rw same its.2; gate = rw (← c.self.view_is) at c.requires.gate;
-      registry = rw (← c.self.view_is) at c.requires.registry }
+    record {
+      own = rw same its.0;
+      permit = rw same its.1;
+      config = rw same its.2;
+      gate = rw (← c.self.view_is) at c.requires.gate;
+      registry = rw (← c.self.view_is) at c.requires.registry;
+    }
 
 pub unreachable-requires : goal.unreachable-requires
 unreachable-requires g c =

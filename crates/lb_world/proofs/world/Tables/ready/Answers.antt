@@ -27,8 +27,11 @@ pub index-registry-requires : goal.index-registry-requires
 index-registry-requires g c =
     let reader = at-place c.args.self.now.readers.items c.args.reader _ (omega arith) c.index.ensures ∙ ap Some c.in-Some-index.is in
     let in_ = entry-of c.requires.founded.stands c.args.reader _ reader c.group.ensures c.index-entry.ensures in
-    omega (arith, c.registry.ensures,
-    slice_get_within c.args.self.now.registries.items _ _ (c.requires.founded.stands.on_site _ _ in_).registry)
+    omega (
+      arith,
+      c.registry.ensures,
+      slice_get_within c.args.self.now.registries.items _ _ (c.requires.founded.stands.on_site _ _ in_).registry,
+    )
 
 pub ready-requires : goal.ready-requires
 ready-requires g c =

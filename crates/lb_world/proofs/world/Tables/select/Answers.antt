@@ -18,9 +18,10 @@ select-requires g c =
     let at = at-place c.args.self.now.groups.items c.args.group _ (omega arith) c.index_mut-entry.ensures.value in
     let on = c.requires.founded.stands.on_site _ _ at in
     let low = slice_get_within c.args.self.now.registries.items _ _ on.registry in
-    own-registry c.requires.founded.stands c.args.group _ _ at
-    (rw c.registry.ensures
-    at (at-place c.args.self.now.registries.items c.registry.result _ (omega (arith, c.registry.ensures, low)) c.index-registry.ensures))
+    let at_registry =
+    rw c.registry.ensures
+    at (at-place c.args.self.now.registries.items c.registry.result _ (omega (arith, c.registry.ensures, low)) c.index-registry.ensures) in
+    record { registry = own-registry c.requires.founded.stands c.args.group _ _ at at_registry }
 
 pub returns : goal.returns
 returns g c =
