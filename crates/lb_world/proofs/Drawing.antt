@@ -8,6 +8,7 @@ use Rattle.lb_select_base.specs.Draws.{Draw, ticket, random, load, Gives, Handed
 use Rattle.lb_select_base.specs.Selections.{Selects}
 use Rattle.lb_select_base.specs.declared.refusal.Refusal.{Refusal}
 use Rattle.lb_select_base.specs.declared.refusal.Refusal.TheVariants as refusal
+use Rattle.lb_rebuild_core.specs.GroupHistory as group
 use Rattle.lb_rebuild_core.specs.SlotsHistory as slots
 use Rattle.lb_world.specs.Steps.{Step}
 use Rattle.lb_world.specs.Steps as step
@@ -16,13 +17,22 @@ use Rattle.lb_world.specs.declared.answer.Answer.TheVariants as answer
 use Rattle.lb_world.specs.Meanings.{Meaning}
 use Rattle.lb_world.specs.History.{History, Made, is_at, config_in, drew, made_at, gate_of, slot_events, past, is_grant, is_failure}
 use Rattle.lb_world.specs.History.{is_destruction, is_out, load_of}
-use Rattle.lb_world.specs.Shared.{registry_at, registry_events, view_events}
+use Rattle.lb_world.specs.Shared.{registry_at, registry_events}
+use Rattle.lb_world.specs.GroupEvents.{group_events, views_in}
 use Rattle.lb_world.specs.History.{count_on}
 use Rattle.lb_world.specs.Answers.{IsRun, SelectAnswers, SelectsIn, Judges, refuse, selected}
 use Rattle.lb_world.specs.Refused.{DrewAlone, RefusedStays}
 use Rattle.lb_world.proofs.Unrefused.{as-before}
 use Rattle.lb_world.proofs.Placing.{same-either}
 use Rattle.lb_world.proofs.Refusing.{none-more}
+use Rattle.lb_world.proofs.Together.{drawn-view}
+
+-- what was drawn at a slot is nothing to the view of its group
+drawn-views : {C : Type 0} (m : Option (Made C)) (b : Bool) (o : Option C) (s t : ℕ) (e : group.History)
+    → views_in m (cond b (group.in_group (drew o s t) ++ e) e) ≡ views_in m e
+drawn-views None b o s t e = refl
+drawn-views (Some m) true o s t e = drawn-view o (length m.configs) s t e
+drawn-views (Some m) false o s t e = refl
 
 -- the counter goes on by as many tickets as were drawn
 further : (s m u whole : ℕ) → u + whole ≡ s + 1 → s + (m + 1) ≡ u + m + whole
@@ -135,7 +145,7 @@ module _ {C : Type 0} (M : Meaning C) (few : DrawsFew M) (h : History C) (g s : 
               groups_made = refl;
               readers = refl;
               works = λ i r. refl;
-              views = λ i. same-either (g == i) (view_events i h);
+              views = λ i. drawn-views (made_at i h) (g == i) (config g s h) s t (group_events i h);
               shared = λ r. same-either (is_at r (registry_at h (step.select g s key limit words))) (registry_events r h);
               cells = λ i n. refl;
               outs = λ a. same-either (is_at a (gate_of g h)) (is_out a h);

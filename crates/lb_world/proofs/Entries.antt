@@ -13,7 +13,7 @@ use Rattle.lb_world.proofs.Accepted.{job-may}
 use Rattle.lb_world.proofs.Extras.{free-in}
 use Rattle.lb_world.proofs.Placing.{here, same-either}
 use Rattle.lb_world.proofs.Runs.{under_way}
-use Rattle.lb_world.proofs.Together.{joins-alike}
+use Rattle.lb_world.proofs.Together.{views-of}
 use Rattle.lb_world.specs.Answers.{flight_of, asked, built_or_failed, destroy_refusal, of_built, of_job}
 use Rattle.lb_world.specs.History.{drew, gate_of, is_grant, is_held}
 use Rattle.lb_world.specs.Shared.{registry_in, registry_made, extra_at}
@@ -152,8 +152,8 @@ module _ {C : Type 0} {h : History C} {g : ℕ} {e : EntryValue C} (is : EntryIs
   pub group-told : (a : Answer) → at_one (made_at g h) (λ m. a) ≡ a
   group-told a = ap (λ o. at_one o (λ m. a)) is.made_is
 
-  pub views-are : (M : Meaning C) → IsRun M h → views_of (site e.core) (group_events g h) ≡ view_events g h
-  views-are M run = (joins-alike M h run g).views (made_of e) is.made_is
+  pub views-are : views_of (site e.core) (group_events g h) ≡ view_events g h
+  views-are = views-of g h (made_of e) is.made_is
 
   -- the core, where no call moved it
   pub stays : Moves e (group_events g h) e.core
@@ -414,7 +414,7 @@ module _ {C : Type 0} {M : Meaning C} {h : History C} {g : ℕ} {e : EntryValue 
   released : (s n : ℕ) (es : List registry.Event) (u : RegistryValue WorldRule) → n ≡ extra_at g s h
       → es ≡ registry_released e.core.view.id (extra_at g s h) (view_events g h) (registry_events e.registry h) → Releases n u
       → IsRegistryAfter key_gives (key_of g h) es u × (u.id ≡ e.core.registry)
-  released s n es u of new kept = (rw (new, ← of, ← views-are b.is M b.run) kept.0, kept.1 ∙ b.own)
+  released s n es u of new kept = (rw (new, ← of, ← views-are b.is) kept.0, kept.1 ∙ b.own)
 
   -- what a slot answers: another answer than a job changes nothing
   ask-right : (s now : ℕ) (t : AskAnswer) → s < length (configs_of e.core.group)

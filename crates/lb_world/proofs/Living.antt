@@ -19,11 +19,11 @@ use Rattle.lb_rebuild_core.proofs.Holds.{counted, newest-live}
 use Rattle.lb_rebuild_core.proofs.Totals.{total, holds, held-lives}
 use Rattle.lb_world.specs.Meanings.{Meaning}
 use Rattle.lb_world.specs.History.{History, Made, made_at, slot_events}
-use Rattle.lb_world.specs.Shared.{is_live, view_events}
+use Rattle.lb_world.specs.Shared.{is_live}
 use Rattle.lb_world.specs.Answers.{IsRun}
 use Rattle.lb_world.specs.GroupEvents.{group_events}
 use Rattle.lb_world.proofs.Runs.{slots-fit}
-use Rattle.lb_world.proofs.Together.{group-of, joins-alike}
+use Rattle.lb_world.proofs.Together.{group-of, views-of}
 use Rattle.lb_world.proofs.Viewing.{each-at}
 
 -- settings leave the snapshots
@@ -114,5 +114,5 @@ module _ {C : Type 0} (M : Meaning C) where
   lives-exactly h run g m there n =
       let all : IsSlotsHistory (group.slot_events (group_events g h)) =
       λ i. subst (λ (k : slots.History). IsPast (past_of i k)) (sym (group-of g h)) (slots-fit M h run g i).0 in
-      ap (λ (v : List ViewEvent). lives n (snapshots_after v)) (sym ((joins-alike M h run g).views m there))
+      ap (λ (v : List ViewEvent). lives n (snapshots_after v)) (sym (views-of g h m there))
       ∙ joined-lives (length m.configs) n (group_events g h) all ∙ ap (λ (k : slots.History). is_live n m.configs k) (group-of g h)

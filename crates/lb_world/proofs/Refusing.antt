@@ -6,9 +6,6 @@ use Rattle.std.specs.Option.{option_map}
 use Rattle.lb_select_base.specs.Backends.{Member, same_member}
 use Rattle.lb_select_base.specs.declared.refusal.Refusal.{Refusal}
 use Rattle.lb_health_core.specs.RegistryEvents as registry
-use Rattle.lb_health_view.specs.ViewEvents.{ViewEvent}
-use Rattle.lb_health_view.specs.ViewEvents as view
-use Rattle.lb_health_view.specs.RegistrySide.{view_updated}
 use Rattle.lb_rebuild_core.specs.SlotsHistory as slots
 use Rattle.lb_rebuild_core.specs.Laws.{number}
 use Rattle.lb_rebuild_core.specs.GroupHistory as group
@@ -21,8 +18,8 @@ use Rattle.lb_world.specs.History.{History, RegistryMade, Made, Work, is_at, mem
 use Rattle.lb_world.specs.History.{registries, gates, made, made_at, config, registry_of, entries, group_at, works_at, worked, work, ended}
 use Rattle.lb_world.specs.History.{happened, slot_events, past, gate_in, is_grant, is_failure, is_destruction, is_out, load_of}
 use Rattle.lb_world.specs.Shared.{settings_in, is_live, configs_in, view_in, key_in, registry_made, registry_in, registry_at, let_go}
-use Rattle.lb_world.specs.Shared.{extra_at, changed, registry_events, events_in, key_of, showed, held_at_first, view_events, cells_of}
-use Rattle.lb_world.specs.GroupEvents.{cells_for, group_after_step, group_events}
+use Rattle.lb_world.specs.Shared.{extra_at, changed, registry_events, events_in, key_of, cells_of}
+use Rattle.lb_world.specs.GroupEvents.{cells_for, group_after_step, group_events, view_events, views_in}
 use Rattle.lb_world.specs.History.{count_on}
 use Rattle.lb_world.specs.Refused.{TellsAlike}
 use Rattle.lb_world.proofs.Placing.{same-either}
@@ -69,22 +66,17 @@ module _ {C : Type 0} where
   happened-kept h k (step.ask g s now) r = refl
   happened-kept h k st r = refl
 
-  showed-kept : (h : History C) (st : Step C) (r : Refusal) (views : List ViewEvent) → showed h st (answer.Refused r) views ≡ views
-  showed-kept h (step.enable g (Some b)) r views = refl
-  showed-kept h (step.disable g (Some b)) r views = refl
-  showed-kept h st r views = refl
-
-  views-kept : (h : History C) (st : Step C) (r : Refusal) (g : ℕ) → view_events g ((st, answer.Refused r) ∷ h) ≡ view_events g h
-  views-kept h (step.group e b cs) r g = refl
-  views-kept h st r g =
-      ap (λ (v : List ViewEvent). cond (is_at g (group_at h st)) v (view_events g h)) (showed-kept h st r (view_events g h))
-      ∙ same-either (is_at g (group_at h st)) (view_events g h)
-
   joined-kept : (h : History C) (k : slots.History) (e : group.History) (st : Step C) (r : Refusal)
       → group_after_step h k e st (answer.Refused r) ≡ e
   joined-kept h k e (step.enable g (Some b)) r = refl
   joined-kept h k e (step.disable g (Some b)) r = refl
   joined-kept h k e st r = refl
+
+  joins-kept : (h : History C) (st : Step C) (r : Refusal) (g : ℕ) → group_events g ((st, answer.Refused r) ∷ h) ≡ group_events g h
+  joins-kept h st r g =
+      ap (λ (es : group.History). cond (is_at g (group_at h st)) es (group_events g h))
+      (joined-kept h (slot_events g h) (group_events g h) st r)
+      ∙ same-either (is_at g (group_at h st)) (group_events g h)
 
   changed-kept : (h now : History C) (st : Step C) (r : Refusal) (events : List registry.Event)
       → changed h now st (answer.Refused r) events ≡ events
@@ -130,7 +122,7 @@ module _ {C : Type 0} where
                   λ g s.
                   ap (λ (w : Work). cond (works_at g s st) w (work g s h)) (worked-kept st r (work g s h))
                   ∙ same-either (works_at g s st) (work g s h);
-              views = λ g. views-kept h st r g;
+              views = λ g. ap2 views_in (ap (λ (ms : List (Made C)). slice_get ms g) (made-kept h st r)) (joins-kept h st r g);
               shared =
                   λ i.
                   ap (λ (es : List registry.Event). cond (is_at i (registry_at h st)) es (registry_events i h))
@@ -151,11 +143,7 @@ module _ {C : Type 0} where
             ap (λ (es : slots.History). cond (is_at g (group_at h st)) (es ++ slot_events g h) (slot_events g h))
             (happened-kept h (slot_events g h) st r)
             ∙ same-either (is_at g (group_at h st)) (slot_events g h);
-        joined =
-            λ g.
-            ap (λ (es : group.History). cond (is_at g (group_at h st)) es (group_events g h))
-            (joined-kept h (slot_events g h) (group_events g h) st r)
-            ∙ same-either (is_at g (group_at h st)) (group_events g h);
+        joined = λ g. joins-kept h st r g;
       }
 
   pub alike-sym : (h k : History C) → TellsAlike h k → TellsAlike k h
@@ -295,26 +283,6 @@ module _ {C : Type 0} (k h : History C) (e : TellsAlike k h) where
   works-step : (st : Step C) (a : Answer) (g s : ℕ) → work g s ((st, a) ∷ k) ≡ work g s ((st, a) ∷ h)
   works-step st a g s = ap (λ (w : Work). cond (works_at g s st) (worked st a w) w) (e.rest.works g s)
 
-  showed-alike : (st : Step C) (a : Answer) (x : List ViewEvent) → showed k st a x ≡ showed h st a x
-  showed-alike (step.update g now ls) (answer.Generation n) x =
-      ap3 (λ (key : Member → Member) (v : ℕ) (es : List registry.Event). view_updated key v (members_in ls) (settings_in ls) es x)
-      (key-alike g) (ap view_in (at-alike g)) (events-alike g)
-  showed-alike (step.update g now ls) (answer.Same n) x =
-      ap3 (λ (key : Member → Member) (v : ℕ) (es : List registry.Event). view_updated key v (members_in ls) (settings_in ls) es x)
-      (key-alike g) (ap view_in (at-alike g)) (events-alike g)
-  showed-alike (step.ask g s now) (answer.Build n) x = ap (λ (es : slots.History). view.Held (slots.newest es) ∷ x) (e.groups g)
-  showed-alike (step.build g s now) (answer.BuildFailed n r) x = ap (λ (i : ℕ). view.Released i ∷ x) (extra-alike g s)
-  showed-alike (step.failbuild g s now) (answer.Failed n) x = ap (λ (i : ℕ). view.Released i ∷ x) (extra-alike g s)
-  showed-alike (step.destroy g s) answer.Destroyed x = ap (λ (i : ℕ). view.Released i ∷ x) (extra-alike g s)
-  showed-alike st a x = refl
-
-  views-step : (st : Step C) (a : Answer) (g : ℕ) → view_events g ((st, a) ∷ k) ≡ view_events g ((st, a) ∷ h)
-  views-step (step.group r b configs) (answer.Group n) g =
-      ap2 (λ (ms : List (Made C)) (x : List ViewEvent). cond (length ms == g) (held_at_first configs) x) e.rest.groups_made (e.rest.views g)
-  views-step st a g =
-      ap3 (λ (o : Option ℕ) (v x : List ViewEvent). cond (is_at g o) v x) (group-at-alike st)
-      (showed-alike st a (view_events g k) ∙ ap (showed h st a) (e.rest.views g)) (e.rest.views g)
-
   cells-for-alike : (g : ℕ) (ls : List Listing) → cells_for g ls k ≡ cells_for g ls h
   cells-for-alike g ls =
       ap3 (λ (key : Member → Member) (v : ℕ) (es : List registry.Event). registry.shown_cells key v (members_in ls) es)
@@ -335,6 +303,9 @@ module _ {C : Type 0} (k h : History C) (e : TellsAlike k h) where
       (joined-alike st a (slot_events g k) (group_events g k)
       ∙ ap2 (λ (x : slots.History) (j : group.History). group_after_step h x j st a) (e.groups g) (e.joined g))
       (e.joined g)
+
+  views-step : (st : Step C) (a : Answer) (g : ℕ) → view_events g ((st, a) ∷ k) ≡ view_events g ((st, a) ∷ h)
+  views-step st a g = ap2 views_in (ap (λ (ms : List (Made C)). slice_get ms g) (made-step st a)) (joined-step st a g)
 
   let-go-alike : (st : Step C) (a : Answer) (g n m : ℕ) (x y : List registry.Event) → n ≡ m → x ≡ y
       → let_go g n ((st, a) ∷ k) x ≡ let_go g m ((st, a) ∷ h) y

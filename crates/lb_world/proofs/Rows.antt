@@ -15,7 +15,8 @@ use Rattle.lb_health_core.specs.RegistryEvents.{cell_events, cell_health}
 use Rattle.lb_health_view.specs.RegistrySide.{IsReady}
 use Rattle.lb_health_view.specs.Snapshots.{snapshot_at}
 use Rattle.lb_health_view.specs.ViewEvents.{snapshots_after, flag_after}
-use Rattle.lb_world.specs.Shared.{key_of, registry_events, view_events}
+use Rattle.lb_world.specs.Shared.{key_of, registry_events}
+use Rattle.lb_world.specs.GroupEvents.{view_events}
 use Rattle.lb_world.specs.History.{History}
 use Rattle.lb_world.specs.Answers.{IsRun}
 

@@ -34,7 +34,7 @@ use Rattle.lb_world.specs.Shared.{key_of, registry_events}
 use Rattle.lb_world.specs.Answers.{IsRun, Judges, SelectAnswers, SelectsIn, refuse, selected}
 use Rattle.lb_world.specs.GroupEvents.{group_after_step, group_events}
 use Rattle.lb_world.proofs.Promised.{members-kept}
-use Rattle.lb_world.proofs.Together.{group-of, joins-alike}
+use Rattle.lb_world.proofs.Together.{group-of, views-of}
 
 -- a selection is refused for memory alone
 for-memory : {S : Type 0} (accepts : Member → Bool → Type 0) (limit : ℕ) (gives : S → Draw → S → Type 0)
@@ -100,7 +100,7 @@ module _ {C : Type 0} (M : Meaning C) (h : History C) (g s : ℕ) (key : List �
       judged-alike : (b : Member) (is : Bool) → Was b is → Judges h g (served (past g s h)) b is
       judged-alike b is was =
           let registry-is : registry_of g h ≡ Some m.registry = ap (λ o. option_map (λ y. y.registry) o) made_is in
-          rw (registry-is, ← (joins-alike M h run g).views m made_is, same, ← group-of g h) (rw registry-is at was)
+          rw (registry-is, ← views-of g h m made_is, same, ← group-of g h) (rw registry-is at was)
 
       -- the selection of a slot that is there
       from-slot : (c : C) → slice_get made.configs s ≡ Some c

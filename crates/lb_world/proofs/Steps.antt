@@ -1,9 +1,8 @@
 -- What single steps do: publications, destructions, and that others stay.
-use Rattle.std.proofs.Common.{◌≡◌, ◌⊎◌, inl, inr, ◌<◌, ◌==◌, ◌∙◌, ℕ, Bool, true, false, cond, ◌∷◌, ◌++◌, length, refl, sym, ap, subst}
+use Rattle.std.proofs.Common.{◌≡◌, ◌⊎◌, inl, inr, ◌<◌, ◌==◌, ◌∙◌, ℕ, Bool, true, false, cond, ◌∷◌, ◌++◌, refl, sym, ap, subst}
 use Rattle.std.proofs.Common.{arith}
 use Rattle.std.specs.Prelude.{Option, Some, None}
-use Rattle.std.proofs.lemmas.Bool.{ne_eqb, eqb-false}
-use Rattle.std.proofs.lemmas.Option.{slice_get_within}
+use Rattle.std.proofs.lemmas.Bool.{eqb-false}
 use Rattle.lb_select_base.specs.declared.refusal.Refusal.{Refusal}
 use Rattle.lb_select_base.specs.declared.refusal.Refusal.TheVariants as refusal
 use Rattle.lb_rebuild_core.specs.SlotsHistory as slots
@@ -17,11 +16,12 @@ use Rattle.lb_world.specs.declared.answer.Answer.{Answer}
 use Rattle.lb_world.specs.declared.answer.Answer.TheVariants as answer
 use Rattle.lb_world.specs.Meanings.{Meaning}
 use Rattle.lb_world.specs.History.{History, Made, is_at, config, made, made_at, group_at, work, ended, happened, slot_events, past}
-use Rattle.lb_world.specs.Shared.{held_at_first, changed, registry_events, showed, view_events}
+use Rattle.lb_world.specs.Shared.{changed, registry_events}
 use Rattle.lb_world.specs.Answers.{Answers, IsRun, without_memory, at_one, unless_refused, destroy_refusal}
-use Rattle.lb_world.specs.GroupEvents.{group_after_step, group_events}
+use Rattle.lb_world.specs.GroupEvents.{group_after_step, group_events, view_events, views_in}
 use Rattle.lb_world.specs.Promises.{Raises, DestroysExactly, OthersStay}
 use Rattle.lb_world.proofs.Placing.{on-past}
+use Rattle.lb_world.proofs.Extras.{get-kept}
 use Rattle.lb_world.proofs.Accepted.{right-is, there, built-there, destroying}
 use Rattle.lb_world.proofs.Readers.{counts}
 use Rattle.lb_world.proofs.Runs.{slots-fit, Pasts}
@@ -95,12 +95,17 @@ module _ {C : Type 0} (M : Meaning C) where
   destroys h st a run = tt
 
 module _ {C : Type 0} where
+  made-stays : (h : History C) (st : Step C) (a : Answer) (g : ℕ) (m : Made C) → made_at g h ≡ Some m
+      → made_at g ((st, a) ∷ h) ≡ Some m
+  made-stays h (step.group r b cs) (answer.Group n) g m there = get-kept (made h) _ m g there
+  made-stays h st a g m there = there
+
   views-stay : (h : History C) (st : Step C) (a : Answer) (g : ℕ) (m : Made C) → made_at g h ≡ Some m → is_at g (group_at h st) ≡ false
       → view_events g ((st, a) ∷ h) ≡ view_events g h
-  views-stay h (step.group r b cs) (answer.Group n) g m there off =
-      ap (λ (t : Bool). cond t (held_at_first cs) (view_events g h))
-      (ne_eqb (length (made h)) g (λ e. let within : g < length (made h) = slice_get_within (made h) g m there in omega arith))
-  views-stay h st a g m there off = ap (λ (t : Bool). cond t (showed h st a (view_events g h)) (view_events g h)) off
+  views-stay h st a g m there off =
+      ap (λ o. views_in o (group_events g ((st, a) ∷ h))) (made-stays h st a g m there ∙ sym there)
+      ∙ ap (λ (t : Bool). views_in (made_at g h) (cond t (group_after_step h (slot_events g h) (group_events g h) st a) (group_events g h)))
+      off
 
   pub others-stay : (h : History C) (st : Step C) (a : Answer) → OthersStay h st a
   others-stay h st a =

@@ -661,7 +661,7 @@ module _ {C : Type 0} {M : Meaning C} {w : WorldValue C} {h : History C} (s : St
   ready-next t b is r e u there_ in_ registry-there told =
       let own = s.each r.group e in_ in
       let judged : Judges h r.group r.reader.generation b is =
-      rw (key-here own, registry-here own, ← views-are own M s.run)
+      rw (key-here own, registry-here own, ← views-are own)
       (told (key_at e.registry h) (registry_events e.registry h) (s.kept e.registry u registry-there) _ _ own.core_is) in
       rw (set-same w.registries e.registry u registry-there)
       at (registry-set s ((Step.ready t (Some b), Answer.Ready is) ∷ h) e.registry u u

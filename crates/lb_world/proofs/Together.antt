@@ -1,37 +1,28 @@
--- In a run the events of a group and of its view are those of a group that is joined with its view.
+-- The events of a group are those of a group that is joined with its view, and to one that isn't made nothing has happened.
 use Rattle.std.proofs.Common.{◌≡◌, ◌⊎◌, inl, inr, ◌<◌, ◌==◌, ◌∙◌, ℕ, zero, suc, Bool, true, false, cond, List, [], ◌∷◌, ◌++◌, length}
-use Rattle.std.proofs.Common.{replicate, refl, sym, ap, subst, arith}
+use Rattle.std.proofs.Common.{refl, sym, ap, arith}
 use Rattle.std.specs.Prelude.{Option, Some, None, slice_get}
-use Rattle.std.proofs.lemmas.Bool.{eq-eqb, ne_eqb, eqb-true, not-true, not-false}
-use Rattle.std.proofs.lemmas.Option.{none-some, same_Some, slice_get_within, slice_get_past}
-use Rattle.lb_select_base.specs.Memberships.{same_members}
-use Rattle.lb_health_view.specs.ViewEvents as view
-use Rattle.lb_health_view.specs.ViewEvents.{ViewEvent, membership_after}
-use Rattle.lb_health_view.specs.RegistrySide as health
+use Rattle.std.proofs.lemmas.Bool.{eq-eqb, ne_eqb}
+use Rattle.std.proofs.lemmas.Option.{none-some, same_Some}
 use Rattle.lb_rebuild_core.specs.SlotsHistory as slots
-use Rattle.lb_rebuild_core.specs.SlotsHistory.{At, past_of, newest, members_of, granted, extra, is_under_way, generation_of}
 use Rattle.lb_rebuild_core.specs.SlotsCalls.{is_change}
-use Rattle.lb_rebuild_core.proofs.Pasts.{past-same}
 use Rattle.lb_rebuild_core.specs.GroupHistory as group
-use Rattle.lb_rebuild_core.specs.GroupHistory.{Shown, Set, in_group, after_settings}
-use Rattle.lb_rebuild_core.proofs.Histories.{group-joined, settings-group, settings-view}
-use Rattle.lb_rebuild_core.proofs.Joins.{granted-view, failed-view, destroyed-view}
+use Rattle.lb_rebuild_core.specs.GroupHistory.{Shown, in_group, after_settings}
+use Rattle.lb_rebuild_core.proofs.Histories.{group-joined, settings-group}
 use Rattle.lb_world.specs.Steps.{Step}
 use Rattle.lb_world.specs.Steps as step
 use Rattle.lb_world.specs.declared.answer.Answer.{Answer}
 use Rattle.lb_world.specs.declared.answer.Answer.TheVariants as answer
 use Rattle.lb_world.specs.declared.step.Listing.{Listing}
 use Rattle.lb_world.specs.Meanings.{Meaning}
-use Rattle.lb_world.specs.History.{History, Made, building, is_at, members_in, config_in, config, drew, made, made_at, group_at, happened}
-use Rattle.lb_world.specs.History.{slot_events, past}
-use Rattle.lb_world.specs.Shared.{settings_in, extra_at, held_at_first, showed, view_events}
+use Rattle.lb_world.specs.History.{History, Made, is_at, members_in, drew, made, made_at, group_at, happened}
+use Rattle.lb_world.specs.History.{slot_events}
+use Rattle.lb_world.specs.Shared.{settings_in}
 use Rattle.lb_world.specs.Answers.{IsRun, Answers, has_refused, refuse}
 use Rattle.lb_select_base.specs.declared.refusal.Refusal.TheVariants as refusal
-use Rattle.lb_world.specs.GroupEvents.{cells_for, group_after_step, group_events, JoinsAlike, SchedulesAlike}
-use Rattle.lb_world.proofs.Accepted.{is_lasting, right-is, there, granting, failing, ordered-failure, updating, unchanging, right_answer}
-use Rattle.lb_world.proofs.Runs.{slots-fit, under_way}
+use Rattle.lb_world.specs.GroupEvents.{cells_for, group_after_step, group_events, view_events, views_in, JoinsAlike, SchedulesAlike}
+use Rattle.lb_world.proofs.Accepted.{is_lasting, right-is, there, updating, unchanging, right_answer}
 use Rattle.lb_world.proofs.Absent.{found, get-front, absent}
-use Rattle.lb_world.proofs.Joining.{follows}
 
 true-false : true ≡ false → ⊥
 true-false e = absurd (cc)
@@ -103,10 +94,6 @@ module _ {C : Type 0} (M : Meaning C) where
       quiet (is_at i (group_at h st)) (happened h (slot_events i h) st a) (slot_events i h) (group_events i h)
       (absent M ((st, a) ∷ h) run i none).events (nothing-joined h run.0 i none)
 
-first-held : {C : Type 0} (cs : List C) → replicate (length cs) (view.Held 0) ≡ held_at_first cs
-first-held [] = refl
-first-held (c ∷ cs) = ap (λ (v : List ViewEvent). view.Held 0 ∷ v) (first-held cs)
-
 pub get-pushed : {X : Type 0} (xs : List X) (y z : X) (i : ℕ) → slice_get (xs ++ y ∷ []) i ≡ Some z
     → ((i ≡ length xs) × (z ≡ y)) ⊎ ((i < length xs) × (slice_get xs i ≡ Some z))
 get-pushed [] y z zero e = inl (refl, sym (same_Some y z e))
@@ -118,171 +105,19 @@ get-pushed (x ∷ xs) y z (suc i) e =
       | inr before ↦ inr ((let low : i < length xs = before.0 in omega arith), before.1)
     ]
 
-under_way-number : (n : ℕ) (e : slots.Extra) → is_under_way n e ≡ true → n ≡ generation_of e
-under_way-number n slots.nothing up = absurd (cc)
-under_way-number n (slots.flight m) up = sym (eqb-true m n up)
-under_way-number n (slots.lost m) up = sym (eqb-true m n up)
-under_way-number n (slots.retired m) up = absurd (cc)
-under_way-number n (slots.taken_out m) up = absurd (cc)
-
-drawn-view : {C : Type 0} (o : Option C) (n s t : ℕ) (e : group.History)
+pub drawn-view : {C : Type 0} (o : Option C) (n s t : ℕ) (e : group.History)
     → group.view_events n (in_group (drew o s t) ++ e) ≡ group.view_events n e
 drawn-view None n s t e = refl
 drawn-view (Some c) n s t e = refl
 
-config-within : {C : Type 0} (s : ℕ) (o : Option (Made C)) (m : Made C) (c : C) → o ≡ Some m → config_in s o ≡ Some c → s < length m.configs
-config-within s None m c there is = absurd (cc)
-config-within {C = C} s (Some x) m c there is =
-    slice_get_within m.configs s c (ap (λ (y : Made C). slice_get y.configs s) (sym (same_Some x m there)) ∙ is)
+-- the events of the view of a group that is made
+pub views-of : {C : Type 0} (g : ℕ) (h : History C) (m : Made C) → made_at g h ≡ Some m
+    → group.view_events (length m.configs) (group_events g h) ≡ view_events g h
+views-of g h m there = sym (ap (λ o. views_in o (group_events g h)) there)
 
 module _ {C : Type 0} (M : Meaning C) where
-  abbrev Goal : ℕ → Made C → History C → Type 0
-  Goal g m h = group.view_events (length m.configs) (group_events g h) ≡ view_events g h
-
-  -- an event of a group that its view doesn't see
-  unseen : (h : History C) (g : ℕ) (m : Made C) (b : Bool) (new : group.History) → Goal g m h
-      → group.view_events (length m.configs) new ≡ group.view_events (length m.configs) (group_events g h)
-      → group.view_events (length m.configs) (cond b new (group_events g h)) ≡ cond b (view_events g h) (view_events g h)
-  unseen h g m b new before same =
-      either-way (group.view_events (length m.configs)) b new (group_events g h) (view_events g h) (view_events g h) (λ t. same
-      ∙ before) before
-
-  -- a job that failed
-  failed : (h : History C) → IsRun M h → (at g s now : ℕ) (m : Made C) (c : C) → made_at g h ≡ Some m → config at s h ≡ Some c
-      → is_under_way (granted (past at s h)) (extra (past at s h)) ≡ true → Goal g m h
-      → group.view_events (length m.configs)
-      (cond (at == g) (group.At s (slots.Failed now (slots.granted_members (past g s h))) ∷ group_events g h) (group_events g h))
-      ≡ cond (at == g) (view.Released (extra_at at s h) ∷ view_events g h) (view_events g h)
-  failed h run at g s now m c there is up before =
-      either-way (group.view_events (length m.configs)) (at == g)
-      (group.At s (slots.Failed now (slots.granted_members (past g s h))) ∷ group_events g h)
-      (group_events g h) (view.Released (extra_at at s h) ∷ view_events g h) (view_events g h)
-      (λ t.
-      let same : at ≡ g = eqb-true at g t in
-      let few : s < length m.configs = config-within s (made_at g h) m c there (ap (λ (j : ℕ). config j s h) (sym same) ∙ is) in
-      let number_is : granted (past_of s (group.slot_events (group_events g h))) ≡ extra_at at s h =
-      ap (λ (k : slots.History). granted (past_of s k)) (group-of g h)
-      ∙ ap (λ (j : ℕ). granted (past j s h)) (sym same) ∙ under_way-number (granted (past at s h)) (extra (past at s h)) up in
-      failed-view (length m.configs) s now (extra_at at s h) (slots.granted_members (past g s h)) (group_events g h) few number_is
-      ∙ ap (λ (v : List ViewEvent). view.Released (extra_at at s h) ∷ v) before)
-      before
-
-  viewed : (h : History C) → IsRun M h → (g : ℕ) (m : Made C) → made_at g h ≡ Some m → Goal g m h
-  viewed [] run g m there = absurd (none-some m there)
-  viewed ((step.group r b cs, answer.Group n) ∷ h) run g m there =
-      elim (get-pushed (made h) _ m g there) [
-        | inl new ↦
-            let none = nothing-joined M h run.0 g (slice_get_past (made h) g (let at : g ≡ length (made h) = new.0 in omega arith)) in
-            rw (eq-eqb (length (made h)) g (sym new.0))
-            (ap (group.view_events (length m.configs)) none
-            ∙ subst (λ (x : Made C). replicate (length x.configs) (view.Held 0) ≡ held_at_first cs) (sym new.1) (first-held cs))
-        | inr old ↦ rw (ne_eqb (length (made h)) g (λ e. let low : g < length (made h) = old.0 in omega arith)) (viewed h run.0 g m old.1)
-      ]
-  viewed ((step.update at now ls, answer.Generation n) ∷ h) run g m there =
-      let before = viewed h run.0 g m there in
-      either-way (group.view_events (length m.configs)) (at == g)
-      (group_after_step h (slot_events g h) (group_events g h) (step.update at now ls) (answer.Generation n)) (group_events g h)
-      (showed h (step.update at now ls) (answer.Generation n) (view_events g h)) (view_events g h)
-      (λ t.
-      let same : at ≡ g = eqb-true at g t in
-      let f = follows M h run.0 g in
-      let change : is_change (members_in ls) (slot_events g h) ≡ true =
-      ap (λ (j : ℕ). is_change (members_in ls) (slot_events j h)) (sym same) ∙ (updating M h at now ls n run.1).0 in
-      let other : same_members (members_in ls) (membership_after (view_events g h)) ≡ false =
-      ap (same_members (members_in ls)) f.membership
-      ∙ not-true (same_members (members_in ls) (members_of (newest (slot_events g h)) (slot_events g h))) change in
-      settings-view (length m.configs) (settings_in ls) (Shown (members_in ls) (cells_for at ls h) now ∷ group_events g h)
-      ∙ ap (λ (v : List ViewEvent). health.after_settings (settings_in ls) (view.Shown (members_in ls) (cells_for at ls h) ∷ v)) before
-      ∙ sym
-      (ap (λ (b : Bool). health.after_settings (settings_in ls)
-      (cond b (view_events g h) (view.Shown (members_in ls) (cells_for at ls h) ∷ view_events g h))) other))
-      before
-  viewed ((step.update at now ls, answer.Same n) ∷ h) run g m there =
-      let before = viewed h run.0 g m there in
-      either-way (group.view_events (length m.configs)) (at == g) (after_settings (settings_in ls) (group_events g h)) (group_events g h)
-      (showed h (step.update at now ls) (answer.Same n) (view_events g h)) (view_events g h)
-      (λ t.
-      let same : at ≡ g = eqb-true at g t in
-      let f = follows M h run.0 g in
-      let change : is_change (members_in ls) (slot_events g h) ≡ false =
-      ap (λ (j : ℕ). is_change (members_in ls) (slot_events j h)) (sym same) ∙ unchanging M h at now ls n run.1 in
-      let alike : same_members (members_in ls) (membership_after (view_events g h)) ≡ true =
-      ap (same_members (members_in ls)) f.membership
-      ∙ not-false (same_members (members_in ls) (members_of (newest (slot_events g h)) (slot_events g h))) change in
-      settings-view (length m.configs) (settings_in ls) (group_events g h) ∙ ap (health.after_settings (settings_in ls)) before
-      ∙ sym
-      (ap (λ (b : Bool). health.after_settings (settings_in ls)
-      (cond b (view_events g h) (view.Shown (members_in ls) (cells_for at ls h) ∷ view_events g h))) alike))
-      before
-  viewed ((step.ask at s now, answer.Build n) ∷ h) run g m there =
-      let before = viewed h run.0 g m there in
-      let q = granting M h at s now n run.1 in
-      either-way (group.view_events (length m.configs)) (at == g) (group.At s (slots.Granted now) ∷ group_events g h) (group_events g h)
-      (view.Held (newest (slot_events at h)) ∷ view_events g h) (view_events g h)
-      (λ t.
-      let same : at ≡ g = eqb-true at g t in
-      let mine : q.made_by ≡ m = same_Some q.made_by m (sym q.made_is ∙ ap (λ (j : ℕ). made_at j h) same ∙ there) in
-      let few : s < length m.configs = slice_get_within m.configs s q.config (ap (λ (x : Made C). slice_get x.configs s) (sym mine)
-      ∙ q.config_is) in
-      let newest_is : newest (group.slot_events (group_events g h)) ≡ newest (slot_events at h) =
-      ap newest (group-of g h) ∙ ap (λ (j : ℕ). newest (slot_events j h)) (sym same) in
-      granted-view (length m.configs) s now (group_events g h) few
-      ∙ ap (λ (x : ℕ). view.Held x ∷ group.view_events (length m.configs) (group_events g h)) newest_is
-      ∙ ap (λ (v : List ViewEvent). view.Held (newest (slot_events at h)) ∷ v) before)
-      before
-  viewed ((step.build at s now, answer.BuildFailed n e) ∷ h) run g m there =
-      let c = found {C = C} (step.build at s now) (config at s h) _ (answer.BuildFailed n e) refl run.1 in
-      failed h run.0 at g s now m c.0 there c.1 (under_way M h at s building (slots-fit M h run.0) (failing M h at s now n e run.1) refl)
-      (viewed h run.0 g m there)
-  viewed ((step.failbuild at s now, answer.Failed n) ∷ h) run g m there =
-      let c = found {C = C} (step.failbuild at s now) (config at s h) _ (answer.Failed n) refl run.1 in
-      failed h run.0 at g s now m c.0 there c.1 (under_way M h at s building (slots-fit M h run.0) (ordered-failure M h at s now n run.1)
-      refl) (viewed h run.0 g m there)
-  viewed ((step.destroy at s, answer.Destroyed) ∷ h) run g m there =
-      let before = viewed h run.0 g m there in
-      let c = found {C = C} (step.destroy at s) (config at s h) _ answer.Destroyed refl run.1 in
-      either-way (group.view_events (length m.configs)) (at == g)
-      (group.At s slots.Destroyed ∷ group.At s slots.TakenOut ∷ group_events g h) (group_events g h)
-      (view.Released (extra_at at s h) ∷ view_events g h) (view_events g h)
-      (λ t.
-      let same : at ≡ g = eqb-true at g t in
-      let few : s < length m.configs = config-within s (made_at g h) m c.0 there (ap (λ (j : ℕ). config j s h) (sym same) ∙ c.1) in
-      let number_is : generation_of (extra (past_of s (At s slots.TakenOut ∷ group.slot_events (group_events g h)))) ≡ extra_at at s h =
-      ap (λ (p : slots.History). generation_of (extra p)) (past-same s slots.TakenOut (group.slot_events (group_events g h)))
-      ∙ ap (λ (k : slots.History). generation_of (extra (past_of s k))) (group-of g h)
-      ∙ ap (λ (j : ℕ). generation_of (extra (past j s h))) (sym same) in
-      destroyed-view (length m.configs) s (extra_at at s h) (group.At s slots.TakenOut ∷ group_events g h) few number_is
-      ∙ ap (λ (v : List ViewEvent). view.Released (extra_at at s h) ∷ v) before)
-      before
-  viewed ((step.enable at (Some b), answer.Done) ∷ h) run g m there =
-      let before = viewed h run.0 g m there in
-      either-way (group.view_events (length m.configs)) (at == g) (Set b true ∷ group_events g h) (group_events g h)
-      (view.Set b true ∷ view_events g h) (view_events g h)
-      (λ t. ap (λ (v : List ViewEvent). view.Set b true ∷ v) before) before
-  viewed ((step.disable at (Some b), answer.Done) ∷ h) run g m there =
-      let before = viewed h run.0 g m there in
-      either-way (group.view_events (length m.configs)) (at == g) (Set b false ∷ group_events g h) (group_events g h)
-      (view.Set b false ∷ view_events g h) (view_events g h)
-      (λ t. ap (λ (v : List ViewEvent). view.Set b false ∷ v) before) before
-  viewed ((step.select at s key limit words, answer.Backend b t) ∷ h) run g m there =
-      unseen h g m (at == g) _ (viewed h run.0 g m there) (drawn-view (config at s h) (length m.configs) s t (group_events g h))
-  viewed ((step.select at s key limit words, answer.NoBackend t) ∷ h) run g m there =
-      unseen h g m (at == g) _ (viewed h run.0 g m there) (drawn-view (config at s h) (length m.configs) s t (group_events g h))
-  viewed ((step.select at s key limit words, answer.NotSelected t) ∷ h) run g m there =
-      unseen h g m (at == g) _ (viewed h run.0 g m there) (drawn-view (config at s h) (length m.configs) s t (group_events g h))
-  viewed ((step.lost at s, answer.Lost n) ∷ h) run g m there = unseen h g m (at == g) _ (viewed h run.0 g m there) refl
-  viewed ((step.publish at s, answer.Published n) ∷ h) run g m there = unseen h g m (at == g) _ (viewed h run.0 g m there) refl
-  viewed ((step.publish at s, answer.Abandoned n) ∷ h) run g m there = unseen h g m (at == g) _ (viewed h run.0 g m there) refl
-  viewed ((step.abandon at s, answer.Abandoned n) ∷ h) run g m there = unseen h g m (at == g) _ (viewed h run.0 g m there) refl
-  viewed ((step.enter at s, answer.Reader t n) ∷ h) run g m there = unseen h g m (at == g) _ (viewed h run.0 g m there) refl
-  viewed ((step.leave t, answer.Left n) ∷ h) run g m there = unseen h g m (is_at g (group_at h (step.leave t))) _
-      (viewed h run.0 g m there) refl
-  viewed ((step.cancel at, answer.Cancelled) ∷ h) run g m there = unseen h g m (at == g) _ (viewed h run.0 g m there) refl
-  viewed ((st, a) ∷ h) run g m there =
-      unseen h g m (is_at g (group_at h st)) (group_events g h) (viewed h run.0 g m there) refl
-
   pub joins-alike : (h : History C) → IsRun M h → (g : ℕ) → JoinsAlike g h
-  joins-alike h run g = record { groups = group-of g h; views = λ m there. viewed h run g m there }
+  joins-alike h run g = group-of g h
 
   here : (g : ℕ) (v w : group.History) → cond (g == g) v w ≡ v
   here g v w = rw (eq-eqb g g refl) refl

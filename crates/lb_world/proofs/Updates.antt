@@ -26,16 +26,16 @@ use Rattle.lb_world.specs.declared.answer.Answer.TheVariants as answer
 use Rattle.lb_world.specs.declared.step.Listing.{Listing}
 use Rattle.lb_world.specs.Meanings.{Meaning}
 use Rattle.lb_world.specs.History.{History, Made, members_in, made_at, slot_events}
-use Rattle.lb_world.specs.Shared.{settings_in, view_in, key_of, events_in, registry_events, view_events}
+use Rattle.lb_world.specs.Shared.{settings_in, view_in, key_of, events_in, registry_events}
 use Rattle.lb_world.specs.Answers.{Answers, IsRun, at_one, has_refused, no_number, refuse, unless_refused, update_answer, without_memory}
-use Rattle.lb_world.specs.GroupEvents.{Updated, group_after_step, group_events}
+use Rattle.lb_world.specs.GroupEvents.{Updated, group_after_step, group_events, view_events}
 use Rattle.lb_world.proofs.Accepted.{goes-on, right_answer}
 use Rattle.lb_world.proofs.Causes.{caused, cause-first, number-left, number-wanted, out-of-memory, uncaused, wanted-both}
 use Rattle.lb_world.proofs.Joining.{follows}
 use Rattle.lb_world.proofs.Placing.{same-either}
 use Rattle.lb_world.proofs.Registered.{is-registered}
 use Rattle.lb_world.proofs.Sharing.{shares}
-use Rattle.lb_world.proofs.Together.{group-of, joins-alike, schedules-alike}
+use Rattle.lb_world.proofs.Together.{group-of, schedules-alike, views-of}
 
 -- a number is wanted for another membership alone
 unwanted : (c : Bool) (n : ℕ) → (c ≡ true → 2 ^ 64 ≤ n → ⊥) → cond c (no_number n) None ≡ None
@@ -173,7 +173,7 @@ module _ {C : Type 0} (M : Meaning C) (h : History C) (g now : ℕ) (ls : List L
         updated-by vs = registry_updated (key_of g h) m.view (members_in ls) vs (registry_events m.registry h)
 
         views : view_events g h ≡ group.view_events (length m.configs) (group_events g h)
-        views = sym ((joins-alike M h run g).views m made_is)
+        views = sym (views-of g h m made_is)
 
         by-change : (c : Bool) → change ≡ c → Updates (update_answer N c)
         by-change true is =

@@ -1,16 +1,17 @@
 -- What events do to the snapshots of a view, over plain variables.
-use Rattle.std.proofs.Common.{◌≡◌, ◌≤◌, ◌+◌, ◌==◌, ◌∙◌, ℕ, Bool, true, false, cond, List, [], ◌∷◌, ◌++◌, map, filter, refl, sym, ap, arith}
-use Rattle.std.specs.Prelude.{Some}
+use Rattle.std.proofs.Common.{◌≡◌, ◌≤◌, ◌+◌, ◌==◌, ◌∙◌, ℕ, zero, suc, Bool, true, false, cond, List, [], ◌∷◌, ◌++◌}
+use Rattle.std.proofs.Common.{filter, refl, sym, ap, arith}
+use Rattle.std.specs.Prelude.{Some, nat_lt, replicate}
 use Rattle.std.specs.List.{AllByRecursion as Each, list_any, find}
 use Rattle.std.specs.Option.{IsSomeAnd}
 use Rattle.std.proofs.lemmas.Bool.{eq-eqb, ne_eqb}
 use Rattle.lb_select_base.specs.Backends.{Member, same_member}
+use Rattle.lb_rebuild_core.specs.GroupHistory as group
 use Rattle.lb_rebuild_core.specs.SlotsHistory as slots
 use Rattle.lb_rebuild_core.specs.SlotsHistory.{SlotsEvent, Scheduled, Cancelled, At, newest, members_of}
 use Rattle.lb_health_view.specs.Snapshots.{SnapshotValue, held_more, held_less, at_generation}
 use Rattle.lb_health_view.specs.ViewEvents.{ViewEvent, Shown, Held, Released, Set, generation_after, membership_after, by_age}
 use Rattle.lb_health_view.specs.ViewEvents.{snapshots_after}
-use Rattle.lb_health_view.specs.RegistrySide.{after_settings}
 
 module _ {X : Type 0} (P : X → Type 0) where
   pub each-filter : (t : X → Bool) (xs : List X) → Each P xs → Each P (filter t xs)
@@ -65,23 +66,8 @@ one-else (Scheduled ms now) k views cells u f = absurd (cc)
 one-else Cancelled k views cells u f = record { generation = f.generation; membership = f.membership; snapshots = f.snapshots }
 one-else (At i e) k views cells u f = record { generation = f.generation; membership = f.membership; snapshots = f.snapshots }
 
-abbrev pub all-else : slots.History → Bool
-all-else [] = true
-all-else (e ∷ es) = cond (unscheduled e) (all-else es) false
-
-both-else : (b c : Bool) → cond b c false ≡ true → (b ≡ true) × (c ≡ true)
-both-else true c e = (refl, e)
-both-else false c e = absurd (cc)
-
-pub happened-else : (es k : slots.History) (views : List ViewEvent) (cells : ℕ → List (Member × ℕ)) → all-else es ≡ true
-    → Follows k views cells → Follows (es ++ k) views cells
-happened-else [] k views cells u f = f
-happened-else (e ∷ es) k views cells u f =
-    let both = both-else (unscheduled e) (all-else es) u in
-    one-else e (es ++ k) views cells both.0 (happened-else es k views cells both.1 f)
-
 module _ (k : slots.History) (cells : ℕ → List (Member × ℕ)) where
-  pub held : (n : ℕ) (views : List ViewEvent) → Follows k views cells → Follows k (Held n ∷ views) cells
+  held : (n : ℕ) (views : List ViewEvent) → Follows k views cells → Follows k (Held n ∷ views) cells
   held n views f =
       record {
         generation = f.generation;
@@ -89,7 +75,7 @@ module _ (k : slots.History) (cells : ℕ → List (Member × ℕ)) where
         snapshots = each-at (Fits k cells) n held_more (snapshots_after views) (λ s p. p) f.snapshots;
       }
 
-  pub released : (n : ℕ) (views : List ViewEvent) → Follows k views cells → Follows k (Released n ∷ views) cells
+  released : (n : ℕ) (views : List ViewEvent) → Follows k views cells → Follows k (Released n ∷ views) cells
   released n views f =
       record {
         generation = f.generation;
@@ -98,21 +84,11 @@ module _ (k : slots.History) (cells : ℕ → List (Member × ℕ)) where
             (each-at (Fits k cells) n held_less (snapshots_after views) (λ s p. p) f.snapshots);
       }
 
-  pub set : (b : Member) (on : Bool) (views : List ViewEvent) → Follows k views cells → Follows k (Set b on ∷ views) cells
+  set : (b : Member) (on : Bool) (views : List ViewEvent) → Follows k views cells → Follows k (Set b on ∷ views) cells
   set b on views f = record { generation = f.generation; membership = f.membership; snapshots = f.snapshots }
 
-  pub settled : (settings : List (Member × Bool)) (views : List ViewEvent) → Follows k views cells
-      → Follows k (after_settings settings views) cells
-  settled [] views f = f
-  settled (e ∷ rest) views f =
-      settled rest _ (either (list_any (same_member e.0) (membership_after views)))
-    where
-      either : (b : Bool) → Follows k (cond b (Set e.0 e.1 ∷ views) views) cells
-      either true = set e.0 e.1 views f
-      either false = f
-
   -- a new membership
-  pub shown : (ms : List Member) (now : ℕ) (new : List (Member × ℕ)) (views : List ViewEvent) → Follows k views cells
+  shown : (ms : List Member) (now : ℕ) (new : List (Member × ℕ)) (views : List ViewEvent) → Follows k views cells
       → Follows (Scheduled ms now ∷ k) (Shown ms new ∷ views) (λ n. cond (newest k + 1 == n) new (cells n))
   shown ms now new views f =
       let next : newest k + 1 ≡ generation_after views + 1 = ap (λ (n : ℕ). n + 1) (sym f.generation) in
@@ -141,9 +117,51 @@ module _ (k : slots.History) (cells : ℕ → List (Member × ℕ)) where
       }
 
 -- a new view, whose first generation so many slots hold
-pub first : {C : Type 0} (cs : List C) (cells : ℕ → List (Member × ℕ)) → cells 0 ≡ [] → Follows [] (map (λ c. Held 0) cs) cells
-first [] cells none = record { generation = refl; membership = refl; snapshots = ((omega arith, refl, sym none), tt) }
-first (c ∷ cs) cells none = held [] cells 0 (map (λ x. Held 0) cs) (first cs cells none)
+first : (k : ℕ) → Follows [] (replicate k (Held 0)) (λ n. [])
+first zero = record { generation = refl; membership = refl; snapshots = ((omega arith, refl, refl), tt) }
+first (suc k) = held [] (λ n. []) 0 (replicate k (Held 0)) (first k)
+
+-- what a slot's event holds or lets go
+holds : (k : slots.History) (cells : ℕ → List (Member × ℕ)) (there : Bool) (x : slots.SlotEvent) (p : slots.History)
+    (views : List ViewEvent) → Follows k views cells → Follows k (group.hold_events there x p ++ views) cells
+holds k cells true (slots.Granted now) p views f = held k cells (newest p) views f
+holds k cells false (slots.Granted now) p views f = f
+holds k cells true (slots.Failed now ms) p views f = released k cells (slots.granted p) views f
+holds k cells false (slots.Failed now ms) p views f = f
+holds k cells true slots.Destroyed p views f = released k cells (slots.generation_of (slots.extra p)) views f
+holds k cells false slots.Destroyed p views f = f
+holds k cells there x p views f = f
+
+-- the cells of a generation, as the events of a group with its view tell them
+abbrev pub cells_in : ℕ → group.History → List (Member × ℕ)
+cells_in n [] = []
+cells_in n (group.Shown ms cells now ∷ e) = cond (newest (group.slot_events e) + 1 == n) cells (cells_in n e)
+cells_in n (group.Set b on ∷ e) = cells_in n e
+cells_in n (group.Cancelled ∷ e) = cells_in n e
+cells_in n (group.At i x ∷ e) = cells_in n e
+
+pub settings-cells : (n : ℕ) (settings : List (Member × Bool)) (e : group.History)
+    → cells_in n (group.after_settings settings e) ≡ cells_in n e
+settings-cells n [] e = refl
+settings-cells n (s ∷ rest) e =
+    settings-cells n rest _ ∙ either (list_any (same_member s.0) (group.members_now e))
+  where
+    either : (b : Bool) → cells_in n (cond b (group.Set s.0 s.1 ∷ e) e) ≡ cells_in n e
+    either true = refl
+    either false = refl
+
+-- the view of a joined group follows the group
+pub joined-follows : (k : ℕ) (e : group.History) → Follows (group.slot_events e) (group.view_events k e) (λ n. cells_in n e)
+joined-follows k [] = first k
+joined-follows k (group.Shown ms cells now ∷ e) =
+    shown (group.slot_events e) (λ n. cells_in n e) ms now cells (group.view_events k e) (joined-follows k e)
+joined-follows k (group.Set b on ∷ e) = set (group.slot_events e) (λ n. cells_in n e) b on (group.view_events k e) (joined-follows k e)
+joined-follows k (group.Cancelled ∷ e) =
+    one-else Cancelled (group.slot_events e) (group.view_events k e) (λ n. cells_in n e) refl (joined-follows k e)
+joined-follows k (group.At i x ∷ e) =
+    one-else (At i x) (group.slot_events e) _ (λ n. cells_in n e) refl
+    (holds (group.slot_events e) (λ n. cells_in n e) (nat_lt i k) x (slots.past_of i (group.slot_events e)) (group.view_events k e)
+    (joined-follows k e))
 
 -- what a look-up finds is one of the list
 module _ {X : Type 0} (P Q : X → Type 0) (t : X → Bool) where

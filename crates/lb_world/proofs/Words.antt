@@ -21,11 +21,11 @@ pub use Rattle.lb_world.specs.Answers.{unless_refused, where_, without_memory}
 pub use Rattle.lb_world.specs.History.{History, Made, RegistryMade, Work, after, config, config_in, entries, gates, group_at}
 pub use Rattle.lb_world.specs.History.{slot_events, happened, is_at, is_out, load_of, made, made_at, members_in, past, registries}
 pub use Rattle.lb_world.specs.History.{registry_of, work, worked, works_at}
-pub use Rattle.lb_world.specs.GroupEvents.{group_after_step, group_events}
+pub use Rattle.lb_world.specs.GroupEvents.{group_after_step, group_events, view_events}
 pub use Rattle.lb_world.specs.Meanings.{Meaning, meaning_of}
 pub use Rattle.lb_world.specs.Refused.{unrefused}
 pub use Rattle.lb_world.specs.Shared.{changed, events_in, key_at, key_by, key_in, key_of, marked, registry_at, registry_events}
-pub use Rattle.lb_world.specs.Shared.{settings_in, view_events, view_in}
+pub use Rattle.lb_world.specs.Shared.{settings_in, view_in}
 pub use Rattle.lb_world.specs.Steps.{Step}
 pub use Rattle.lb_world.specs.declared.answer.Answer.{Answer}
 pub use Rattle.lb_world.specs.declared.step.Listing.{Listing}

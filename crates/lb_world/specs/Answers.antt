@@ -26,7 +26,8 @@ use Rattle.lb_world.specs.declared.answer.Answer.TheVariants as answer
 use Rattle.lb_world.specs.Meanings.{Meaning}
 use Rattle.lb_world.specs.History.{History, Entered, Work, idle, building, built, members_in, registries, gates, made, made_at, config}
 use Rattle.lb_world.specs.History.{registry_of, entries, work, slot_events, past, is_free, load_of}
-use Rattle.lb_world.specs.Shared.{key_by, key_of, registry_events, events_in, view_events}
+use Rattle.lb_world.specs.Shared.{key_by, key_of, registry_events, events_in}
+use Rattle.lb_world.specs.GroupEvents.{view_events}
 
 abbrev pub refuse : Refusal → Answer
 refuse r = answer.Refused r

@@ -5,7 +5,8 @@ use Rattle.lb_health_view.specs.RegistrySide.{IsReady}
 use Rattle.lb_world.specs.Steps.{Step}
 use Rattle.lb_world.specs.declared.answer.Answer.{Answer}
 use Rattle.lb_world.specs.History.{History, registry_of}
-use Rattle.lb_world.specs.Shared.{key_of, events_in, view_events}
+use Rattle.lb_world.specs.Shared.{key_of, events_in}
+use Rattle.lb_world.specs.GroupEvents.{view_events}
 use Rattle.lb_world.specs.Promises.{JudgedBy}
 
 module _ {C : Type 0} where

@@ -1,7 +1,8 @@
 -- What a history did to a group and to its view, in the words of a group that is joined with its view.
-use Rattle.std.specs.Prelude.{◌≡◌, ℕ, true, false, List, [], ◌∷◌, ◌++◌, length, Some, if◌then◌else◌}
+use Rattle.std.specs.Prelude.{◌≡◌, ℕ, true, false, List, [], ◌∷◌, ◌++◌, length, Option, Some, None, if◌then◌else◌}
 use Rattle.lb_select_base.specs.Backends.{Member}
 use Rattle.lb_health_core.specs.RegistryEvents.{shown_cells}
+use Rattle.lb_health_view.specs.ViewEvents.{ViewEvent}
 use Rattle.lb_rebuild_core.specs.SlotsHistory as slots
 use Rattle.lb_rebuild_core.specs.GroupCalls.{after_schedule}
 use Rattle.lb_rebuild_core.specs.GroupHistory as group
@@ -12,7 +13,7 @@ use Rattle.lb_world.specs.declared.answer.Answer.{Answer}
 use Rattle.lb_world.specs.declared.answer.Answer.TheVariants as answer
 use Rattle.lb_world.specs.declared.step.Listing.{Listing}
 use Rattle.lb_world.specs.History.{History, Made, is_at, members_in, made_at, registry_of, group_at, happened, slot_events}
-use Rattle.lb_world.specs.Shared.{settings_in, view_in, key_of, events_in, view_events}
+use Rattle.lb_world.specs.Shared.{settings_in, view_in, key_of, events_in}
 
 module _ {C : Type 0} where
   -- the cells that the members of an update get when they are shown
@@ -34,10 +35,18 @@ module _ {C : Type 0} where
   group_events g ((st, a) ∷ h) =
       if is_at g (group_at h st) then group_after_step h (slot_events g h) (group_events g h) st a else group_events g h
 
-  -- They give the group's events and those of its view, as the world's history does.
-  pub record JoinsAlike (g : ℕ) (h : History C) : Type 0 where
-    pub groups : group.slot_events (group_events g h) ≡ slot_events g h
-    pub views : (m : Made C) → made_at g h ≡ Some m → group.view_events (length m.configs) (group_events g h) ≡ view_events g h
+  -- the view's events are among them: none before the group is made, and then those that its slots and its memberships give
+  abbrev pub views_in : Option (Made C) → group.History → List ViewEvent
+  views_in None e = []
+  views_in (Some m) e = group.view_events (length m.configs) e
+
+  -- what happened to the view of a group
+  abbrev pub view_events : ℕ → History C → List ViewEvent
+  view_events g h = views_in (made_at g h) (group_events g h)
+
+  -- and so are the group's own
+  abbrev pub JoinsAlike : ℕ → History C → Type 0
+  JoinsAlike g h = group.slot_events (group_events g h) ≡ slot_events g h
 
   -- what an update does, in the words of the call that does it
   abbrev pub Updated : History C → ℕ → ℕ → List Listing → Answer → Type 0

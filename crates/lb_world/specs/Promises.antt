@@ -18,8 +18,8 @@ use Rattle.lb_world.specs.declared.answer.Answer.{Answer}
 use Rattle.lb_world.specs.declared.answer.Answer.TheVariants as answer
 use Rattle.lb_world.specs.History.{History, Made, idle, is_at, members_in, reads, made, made_at, slot_gate, entries, group_at}
 use Rattle.lb_world.specs.History.{work, slot_events, past, extras, is_out, registry_of}
-use Rattle.lb_world.specs.Shared.{is_live, extra_at, key_of, events_in, cells_of, registry_at, registry_events, view_events}
-use Rattle.lb_world.specs.GroupEvents.{group_events}
+use Rattle.lb_world.specs.Shared.{is_live, extra_at, key_of, events_in, cells_of, registry_at, registry_events}
+use Rattle.lb_world.specs.GroupEvents.{group_events, view_events}
 
 module _ {C : Type 0} where
   -- the slot has a flight, a lost flight, or a retired selector that is not reported destroyed

@@ -10,8 +10,8 @@ use Rattle.lb_world.specs.declared.answer.Answer.TheVariants as answer
 use Rattle.lb_world.specs.Meanings.{Meaning}
 use Rattle.lb_world.specs.History.{History, registries, gates, made, entries, work, slot_events, past, is_out, is_grant, is_failure}
 use Rattle.lb_world.specs.History.{is_destruction, count_on, load_of}
-use Rattle.lb_world.specs.Shared.{registry_events, view_events, cells_of}
-use Rattle.lb_world.specs.GroupEvents.{group_events}
+use Rattle.lb_world.specs.Shared.{registry_events, cells_of}
+use Rattle.lb_world.specs.GroupEvents.{group_events, view_events}
 use Rattle.lb_world.specs.Answers.{Answers, IsRun}
 
 module _ {C : Type 0} where

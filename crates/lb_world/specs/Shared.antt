@@ -1,16 +1,12 @@
--- What a history did to each registry and to the view of each group, in the words of the registry's and the view's own events.
--- A snapshot of a view lives while it is the newest or some slot holds it, which the events of its group tell: so the events of
--- a registry need no view, and those of a view need none but its own group and registry.
-use Rattle.std.specs.Prelude.{ℕ, ◌+◌, Bool, true, false, ◌||◌, ◌==◌, nat_lt, List, [], ◌∷◌, length, map, fold, Option, Some, None}
+-- What a history did to each registry, in the words of the registry's own events. A snapshot of a view lives while it is the newest
+-- or some slot holds it, which the events of its group tell: so the events of a registry need no view.
+use Rattle.std.specs.Prelude.{ℕ, ◌+◌, Bool, true, false, ◌||◌, ◌==◌, nat_lt, List, [], ◌∷◌, length, fold, Option, Some, None}
 use Rattle.std.specs.Prelude.{if◌then◌else◌, slice_get}
 use Rattle.std.specs.List.{filter_map}
 use Rattle.std.specs.BTreeMap.{insert_entry}
 use Rattle.lb_select_base.specs.Backends.{Member, member_cmp}
 use Rattle.lb_health_core.specs.Keys.{by_identity, by_address}
 use Rattle.lb_health_core.specs.RegistryEvents as registry
-use Rattle.lb_health_view.specs.ViewEvents.{ViewEvent}
-use Rattle.lb_health_view.specs.ViewEvents as view
-use Rattle.lb_health_view.specs.RegistrySide.{view_updated}
 use Rattle.lb_rebuild_core.specs.SlotsHistory as slots
 use Rattle.lb_rebuild_core.specs.GroupHistory.{holders}
 use Rattle.lb_world.specs.Steps.{Step}
@@ -20,7 +16,7 @@ use Rattle.lb_world.specs.declared.step.CellKey.TheVariants.{Identity, Address}
 use Rattle.lb_world.specs.Steps as step
 use Rattle.lb_world.specs.declared.answer.Answer.{Answer}
 use Rattle.lb_world.specs.declared.answer.Answer.TheVariants as answer
-use Rattle.lb_world.specs.History.{History, RegistryMade, Made, is_at, members_in, registries, made, made_at, registry_of, group_at}
+use Rattle.lb_world.specs.History.{History, RegistryMade, Made, is_at, members_in, registries, made_at, registry_of, group_at}
 use Rattle.lb_world.specs.History.{slot_events, past}
 
 -- the key of a backend by a registry's rule
@@ -118,31 +114,6 @@ module _ {C : Type 0} where
 
   abbrev pub key_of : ℕ → History C → Member → Member
   key_of g h = key_in (registry_made (registry_of g h) h)
-
-  -- What a step did to the view of its group. A setting reaches what a live snapshot lists, which the view's events tell.
-  abbrev pub showed : History C → Step C → Answer → List ViewEvent → List ViewEvent
-  showed h (step.update g now listings) (answer.Generation n) views =
-      view_updated (key_of g h) (view_in (made_at g h)) (members_in listings) (settings_in listings) (events_in (registry_of g h) h) views
-  showed h (step.update g now listings) (answer.Same n) views =
-      view_updated (key_of g h) (view_in (made_at g h)) (members_in listings) (settings_in listings) (events_in (registry_of g h) h) views
-  showed h (step.ask g s now) (answer.Build n) views = view.Held (slots.newest (slot_events g h)) ∷ views
-  showed h (step.build g s now) (answer.BuildFailed n r) views = view.Released (extra_at g s h) ∷ views
-  showed h (step.failbuild g s now) (answer.Failed n) views = view.Released (extra_at g s h) ∷ views
-  showed h (step.destroy g s) answer.Destroyed views = view.Released (extra_at g s h) ∷ views
-  showed h (step.enable g (Some b)) answer.Done views = view.Set b true ∷ views
-  showed h (step.disable g (Some b)) answer.Done views = view.Set b false ∷ views
-  showed h st a views = views
-
-  -- each slot of a group that is made holds generation 0
-  abbrev pub held_at_first : List C → List ViewEvent
-  held_at_first configs = map (λ c. view.Held 0) configs
-
-  -- what happened to the view of a group
-  abbrev pub view_events : ℕ → History C → List ViewEvent
-  view_events g [] = []
-  view_events g ((step.group r a configs, answer.Group n) ∷ h) =
-      if length (made h) == g then held_at_first configs else view_events g h
-  view_events g ((st, a) ∷ h) = if is_at g (group_at h st) then showed h st a (view_events g h) else view_events g h
 
   -- the cells that the backends of generation n had when it was shown
   abbrev pub cells_of : ℕ → ℕ → History C → List (Member × ℕ)
