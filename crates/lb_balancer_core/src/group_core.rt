@@ -140,6 +140,7 @@ impl<S: BackendSelection, D: ServiceDiscovery + Drop> LoadBalancerGroupCore<S, D
             made (slot_events e) slot key.now max_iterations random.now result) }
         ensures stands { After self.old.group (λ made e. Stands made (after_select made slot result e) self.new.group) }
         ensures kept { self.new ≡ record self.old { group = self.new.group } }
+        ensures site { SameSite self.old.group self.new.group }
     {
         self.group
             .select(alloc, registry, slot, key, max_iterations, random, loads)
@@ -167,6 +168,7 @@ impl<S: BackendSelection, D: ServiceDiscovery + Drop> LoadBalancerGroupCore<S, D
             made (slot_events e) slot key.now max_iterations random.now result) }
         ensures stands { After self.old.group (λ made e. Stands made (after_select made slot result e) self.new.group) }
         ensures kept { self.new ≡ record self.old { group = self.new.group } }
+        ensures site { SameSite self.old.group self.new.group }
     {
         self.group.select_with(
             alloc,
@@ -268,6 +270,7 @@ impl<S: BackendSelection, D: ServiceDiscovery + Drop> LoadBalancerGroupCore<S, D
         &'a mut self,
         registry: &'x mut HealthRegistry<R, C>,
     ) -> LentGroupBackends<'a, 'x, S, D, R, C>
+        requires registry { registry.old.registry.id ≡ self.old.group.registry }
         ensures same_references { (result.balancer.ghost_name ≡ self.entry.ghost_name)
             × (result.health.ghost_name ≡ registry.entry.ghost_name) }
         ensures same { (result.balancer.now ≡ self.old) × (result.health.now ≡ registry.old) }
