@@ -20,7 +20,7 @@ use lb_select_base::refusal::Refusal;
 use lb_select_base::walk::BackendSelection;
 use lb_threads_core::gate::{SelectorRebuildGate, put_gate, take_gate};
 use lb_threads_core::owner::ViewOwner;
-use lb_threads_core::registry::HealthRegistry;
+use lb_threads_core::registry::{HealthRegistry, put_registry, take_registry};
 use lb_threads_group::group::SharedGroup;
 use rand_pcg::Pcg64;
 use std::alloc::Global;
@@ -37,14 +37,15 @@ pub(crate) fn make<S: BackendSelection, R: KeyRule + Drop, C: HealthCheck + Drop
 ) -> Result<GroupCore<S>, Refusal>
     ensures stands { IfOk result (λ g. IsNewGroup configs.items g) }
     ensures gate { IfOk result (λ g. g.group.gate ≡ gate.now.id) }
+    ensures site { IfOk result (λ g. g.registry ≡ registry.now.start.id) }
     ensures slots { IfOk result (λ g. length g.group.slots ≡ length configs.items) }
     ensures refused { IsMakingRefusal (least (map (S.refusal []) configs.items)) result }
 {
-    let mut cells = registry.take(rt);
+    let mut cells = take_registry(registry, rt);
     let held = take_gate(gate, rt);
     let made = GroupCore::new(alloc, &mut cells.value, &held.value, configs);
     put_gate(gate, held);
-    registry.put(cells);
+    put_registry(registry, cells);
     made
 }
 
@@ -57,7 +58,8 @@ pub(crate) fn share<S: BackendSelection, R: KeyRule + Drop, C: HealthCheck + Dro
     registry: &Arc<HealthRegistry<R, C>>,
     gate: Arc<SelectorRebuildGate>,
 ) -> Result<(Arc<SharedGroup<S, R, C>>, ViewOwner), Refusal>
-    requires { (arc_value gate).id ≡ core.group.gate }
+    requires gate { (arc_value gate).id ≡ core.group.gate }
+    requires registry { (arc_value registry.now).start.id ≡ core.registry }
     ensures made { IfOk result (λ g. ((arc_value g.0).core ≡ core)
         × ((arc_value g.0).registry ≡ (arc_value registry.now).start)) }
     ensures words { IfOk result (λ g. (arc_value g.0).board.words ≡ length core.group.slots + 1) }
@@ -187,9 +189,9 @@ fn is_full<R: KeyRule + Drop, C: HealthCheck + Drop, W: Wait>(
     rt: &W,
     registry: &HealthRegistry<R, C>,
 ) -> bool {
-    let cells = registry.take(rt);
+    let cells = take_registry(registry, rt);
     let full = cells.value.is_full();
-    registry.put(cells);
+    put_registry(registry, cells);
     full
 }
 

@@ -25,7 +25,8 @@ use Rattle.lb_proxy_http.specs.declared.response.ResponseHead.{ResponseHead}
 use Rattle.lb_proxy_http.specs.Fields.{same_name, has_name, values_of, options_in, options_of, is_guarded}
 use Rattle.lb_proxy_http.specs.Framing.{statement_of, request_framing, response_framing}
 use Rattle.lb_proxy_http.specs.Heads.{HasStrictFeeds, plain, version_of, right_host, is_right_target, begins_blank, IsRequest, IsResponse}
-use Rattle.lb_proxy_http.specs.Refusals.{values_under, stated_in, asks_more, spans_ask_more}
+use Rattle.lb_proxy_http.specs.Internal.RefusedSpans.{spans_ask_more}
+use Rattle.lb_proxy_http.specs.Refusals.{values_under, stated_in, asks_more}
 use denote.Ref.{Bor}
 
 -- ---- what is said of fields rests on their names and values alone

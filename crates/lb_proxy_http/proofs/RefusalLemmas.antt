@@ -20,8 +20,8 @@ use Rattle.lb_proxy_http.specs.declared.version.Class.{Class}
 use Rattle.lb_proxy_http.specs.declared.version.Class.TheVariants.{Newline, Token, Target}
 use Rattle.lb_proxy_http.specs.Heads.{HasStrictFeeds, IsRequest}
 use Rattle.lb_proxy_http.specs.Refusals.{passes, behind, behind_space, behind_word, version_part, is_other_version, names_other_version}
-use Rattle.lb_proxy_http.specs.Refusals.{head_asks_more, IsWithinLimits, IsMalformed, Refuses, AreStrict, RefusesAt}
-use Rattle.lb_proxy_http.specs.Refusals.{spans_ask_more}
+use Rattle.lb_proxy_http.specs.Internal.RefusedSpans.{AreStrict, RefusesAt, spans_ask_more}
+use Rattle.lb_proxy_http.specs.Refusals.{head_asks_more, IsWithinLimits, IsMalformed, Refuses}
 
 -- ---- what is behind a part of a request line goes on as the bytes do, once it has begun
 

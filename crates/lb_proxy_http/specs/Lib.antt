@@ -4,4 +4,5 @@ pub mod Write
 pub mod Chunked
 pub mod Body
 pub mod Heads
+pub mod Internal
 pub mod Refusals

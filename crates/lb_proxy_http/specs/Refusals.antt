@@ -6,10 +6,7 @@ use Rattle.httparse.specs.Grammar as Grammar
 use Rattle.httparse.specs.Grammar.{is_token_byte, is_uri_byte, ReadsRequest, print_request, HasNoRequest, NeverHasRequest, MayBecomeRequest}
 use Rattle.httparse.specs.Grammar.{ReadsResponse, print_response, status_code}
 use Rattle.httparse.specs.Pieces.{is_newline}
-use Rattle.httparse.specs.Spans.{name_and_value, header_bytes, span_bytes, RequestExceeds}
-use Rattle.httparse.specs.declared.spans.HeaderSpan.{HeaderSpan}
-use Rattle.httparse.specs.declared.spans.RequestSpans.{RequestSpans}
-use Rattle.httparse.specs.declared.spans.ResponseSpans.{ResponseSpans}
+use Rattle.httparse.specs.Spans.{name_and_value, RequestExceeds}
 use Rattle.lb_proxy_http.specs.declared.fault.Fault.{Fault}
 use Rattle.lb_proxy_http.specs.declared.framing.Stated.{Stated}
 use Rattle.lb_proxy_http.specs.declared.framing.Stated.TheVariants.{Silent, Length, Chunks, Coded, Ambiguous}
@@ -126,25 +123,6 @@ Refuses bytes Fault.RequestTimeout = ⊥
 Refuses bytes Fault.BadGateway = ⊥
 Refuses bytes Fault.GatewayTimeout = ⊥
 
--- the spans are those of a head that is no longer than the limit, with strict line ends
-abbrev pub AreStrict : List ℕ → ℕ → Type 0
-AreStrict bytes len = (len ≤ 65536) × HasStrictFeeds (take len bytes)
-
-abbrev pub spans_ask_more : List ℕ → List HeaderSpan → RequestSpans → Bool
-spans_ask_more bytes spans found =
-    asks_more (stated_in (version_of found.version) (map (header_bytes bytes) (take found.headers spans))) (span_bytes bytes found.method)
-
--- the head at those spans gives that fault
-abbrev pub RefusesAt : List ℕ → List HeaderSpan → RequestSpans → Fault → Type 0
-RefusesAt bytes spans found Fault.VersionNotSupported = ⊥
-RefusesAt bytes spans found Fault.HeadTooLarge = 65536 < found.len
-RefusesAt bytes spans found Fault.NotImplemented = AreStrict bytes found.len × (spans_ask_more bytes spans found ≡ true)
-RefusesAt bytes spans found Fault.Unavailable = AreStrict bytes found.len × (0 < found.headers)
-RefusesAt bytes spans found Fault.BadRequest = (found.len ≤ 65536) × (AreStrict bytes found.len → spans_ask_more bytes spans found ≡ false)
-RefusesAt bytes spans found Fault.RequestTimeout = ⊥
-RefusesAt bytes spans found Fault.BadGateway = ⊥
-RefusesAt bytes spans found Fault.GatewayTimeout = ⊥
-
 -- ---- answers: 502, and 503 where memory was refused
 
 -- a whole answer is at the front, within the limits and with strict line ends, and it doesn't switch protocols
@@ -168,15 +146,3 @@ RefusesAnswer bytes Fault.BadRequest = ⊥
 RefusesAnswer bytes Fault.RequestTimeout = ⊥
 RefusesAnswer bytes Fault.BadGateway = ⊤
 RefusesAnswer bytes Fault.GatewayTimeout = ⊥
-
--- the answer at those spans gives that fault
-abbrev pub RefusesAnswerAt : List ℕ → ResponseSpans → Fault → Type 0
-RefusesAnswerAt bytes found Fault.VersionNotSupported = ⊥
-RefusesAnswerAt bytes found Fault.HeadTooLarge = ⊥
-RefusesAnswerAt bytes found Fault.NotImplemented = ⊥
-RefusesAnswerAt bytes found Fault.Unavailable =
-    AreStrict bytes found.len × (0 < found.headers) × (100 ≤ found.code) × ¬ (found.code ≡ 101)
-RefusesAnswerAt bytes found Fault.BadRequest = ⊥
-RefusesAnswerAt bytes found Fault.RequestTimeout = ⊥
-RefusesAnswerAt bytes found Fault.BadGateway = ⊤
-RefusesAnswerAt bytes found Fault.GatewayTimeout = ⊥

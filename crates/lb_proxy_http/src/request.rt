@@ -7,7 +7,8 @@ ghost use Rattle.httparse.specs.Spans.{header_bytes, IsHeaderWithin, IsRequestWi
 ghost use Rattle.lb_proxy_http.specs.Fields.{values_of, options_of, is_guarded};
 ghost use Rattle.lb_proxy_http.specs.Framing.{keeps_by, has_no_body, is_idempotent, request_framing, statement_of};
 ghost use Rattle.lb_proxy_http.specs.Heads.{HasStrictFeeds, plain, version_of, is_host_byte, right_host, is_right_target, IsRequest};
-ghost use Rattle.lb_proxy_http.specs.Refusals.{asks_more, names_other_version, Refuses, RefusesAt};
+ghost use Rattle.lb_proxy_http.specs.Internal.RefusedSpans.{RefusesAt};
+ghost use Rattle.lb_proxy_http.specs.Refusals.{asks_more, names_other_version, Refuses};
 
 use crate::fault::Fault;
 use crate::field::{Field, Found, connection_options, find_one, is_option, names_guarded};

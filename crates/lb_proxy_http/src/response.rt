@@ -8,7 +8,8 @@ ghost use Rattle.lb_proxy_http.specs.Fields.{options_of, is_guarded};
 ghost use Rattle.lb_proxy_http.specs.Framing.{bodiless_framing, head_framing, full_framing, response_framing, keeps_by, has_end};
 ghost use Rattle.lb_proxy_http.specs.Framing.{statement_of};
 ghost use Rattle.lb_proxy_http.specs.Heads.{HasStrictFeeds, plain, version_of, begins_blank, IsResponse};
-ghost use Rattle.lb_proxy_http.specs.Refusals.{RefusesAnswer, RefusesAnswerAt};
+ghost use Rattle.lb_proxy_http.specs.Internal.RefusedSpans.{RefusesAnswerAt};
+ghost use Rattle.lb_proxy_http.specs.Refusals.{RefusesAnswer};
 
 use crate::fault::Fault;
 use crate::field::{Field, connection_options, names_guarded};

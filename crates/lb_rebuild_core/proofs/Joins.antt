@@ -108,7 +108,8 @@ module _ {C : Type 0} where
       → (IsViewAfter (views_of made e) u → IsViewAfter (views_of made (in_group es ++ e)) t)
       → (let after : GroupValue C = record { group = z; view = t; registry = n } in Stands made (in_group es ++ e) after)
   joined {n} made e es w z u t v is s group_ view_ =
-      let before : Stands made e (record { group = w; view = u; registry = n }) = subst (λ (x : GroupValue C). Stands made e x) (sym is) s in
+      let before : Stands made e (record { group = w; view = u; registry = n }) =
+      subst (λ (x : GroupValue C). Stands made e x) (sym is) s in
       record {
         few = before.few;
         group = subst (λ (h : slots.History). core.StandsFor made h z) (sym (group-joined es e)) (group_ (slot_events e) before.group);
@@ -116,12 +117,14 @@ module _ {C : Type 0} where
       }
 
   pub group-part : {n : ℕ} (made : Made C) (e : History) (w : SlotsValue C) (u : ViewValue) (v : GroupValue C)
-      → (let parts : GroupValue C = record { group = w; view = u; registry = n } in parts ≡ v) → Stands made e v → core.StandsFor made (slot_events e) w
+      → (let parts : GroupValue C = record { group = w; view = u; registry = n } in parts ≡ v) → Stands made e v
+      → core.StandsFor made (slot_events e) w
   group-part made e w u v is s = subst (λ (x : SlotsValue C). core.StandsFor made (slot_events e) x)
       (sym (ap (λ (x : GroupValue C). x.group) is)) s.group
 
   pub view-part : {n : ℕ} (made : Made C) (e : History) (w : SlotsValue C) (u : ViewValue) (v : GroupValue C)
-      → (let parts : GroupValue C = record { group = w; view = u; registry = n } in parts ≡ v) → Stands made e v → IsViewAfter (views_of made e) u
+      → (let parts : GroupValue C = record { group = w; view = u; registry = n } in parts ≡ v) → Stands made e v
+      → IsViewAfter (views_of made e) u
   view-part made e w u v is s = subst (λ (x : ViewValue). IsViewAfter (views_of made e) x) (sym (ap (λ (x : GroupValue C). x.view) is))
       s.view
 
@@ -137,7 +140,8 @@ module _ {C : Type 0} where
       (hold-fits (length made.configs) slot now e few inside s.possible))
 
   -- a membership that reached both
-  pub schedules : {n : ℕ} (made : Made C) (e : History) (members : List Member) (cells : List (Member × ℕ)) (settings : List (Member × Bool))
+  pub schedules : {n : ℕ} (made : Made C) (e : History) (members : List Member) (cells : List (Member × ℕ))
+      (settings : List (Member × Bool))
       (now : ℕ) (b : Bool) (w : SlotsValue C) (u : ViewValue)
       → length made.configs < 2 ^ 64 → is_change members (slot_events e) ≡ b
       → core.StandsFor made (cond b (slots.Scheduled members now ∷ slot_events e) (slot_events e)) w
@@ -195,7 +199,8 @@ module _ {C : Type 0} where
       → (let after : GroupValue C = record { group = z; view = u; registry = r }
       in Stands made (in_group (ticket_events made slot n t (slot_events e)) ++ e) after)
   joined-ticket {r} made e slot n t w z u v is s group_ =
-      let before : Stands made e (record { group = w; view = u; registry = r }) = subst (λ (x : GroupValue C). Stands made e x) (sym is) s in
+      let before : Stands made e (record { group = w; view = u; registry = r }) =
+      subst (λ (x : GroupValue C). Stands made e x) (sym is) s in
       let es : slots.History = ticket_events made slot n t (slot_events e) in
       let still : views_of made (in_group es ++ e) ≡ views_of made e =
       elim (serves made slot n (slot_events e)) as
@@ -208,7 +213,8 @@ module _ {C : Type 0} where
       }
 
   -- gate, configurations and the number of the view stay
-  pub site-joined : {n : ℕ} (w z : SlotsValue C) (u t : ViewValue) (v : GroupValue C) → (let parts : GroupValue C = record { group = w; view = u; registry = n }
+  pub site-joined : {n : ℕ} (w z : SlotsValue C) (u t : ViewValue) (v : GroupValue C)
+      → (let parts : GroupValue C = record { group = w; view = u; registry = n }
       in parts ≡ v)
       → core.SameSite w z → t.id ≡ u.id → (let after : GroupValue C = record { group = z; view = t; registry = n } in SameSite v after)
   site-joined w z u t v is same id = record {
@@ -225,7 +231,7 @@ module _ {S I C W : Type 0} where
 
 module _ {C : Type 0} where
   -- a job that is held
-  pub job-joined : (made : Made C) (e : History) (slot now g : ℕ) (w : SlotsValue C) (t : ViewValue) → length made.configs < 2 ^ 64
+  pub job-joined : {n : ℕ} (made : Made C) (e : History) (slot now g : ℕ) (w : SlotsValue C) (t : ViewValue) → length made.configs < 2 ^ 64
       → slot < length made.configs
       → core.StandsFor made (slots.At slot (slots.Granted now) ∷ slot_events e) w → g ≡ newest (slot_events e)
       → IsViewAfter (view.Held g ∷ views_of made e) t
@@ -239,7 +245,8 @@ module _ {C : Type 0} where
   }
 
   -- the snapshot of a job that failed, and of what was destroyed, is released
-  pub failed-joined : (made : Made C) (e : History) (slot now g : ℕ) (ms : List Member) (c : C) (v : GroupValue C) (w : SlotsValue C)
+  pub failed-joined : {n : ℕ} (made : Made C) (e : History) (slot now g : ℕ) (ms : List Member) (c : C) (v : GroupValue C)
+      (w : SlotsValue C)
       (t : ViewValue) → Stands made e v
       → slice_get (configs_of v.group) slot ≡ Some c → is_awaited slot g (slot_events e) ≡ true
       → core.StandsFor made (slots.At slot (slots.Failed now ms) ∷ slot_events e) w → IsViewAfter (view.Released g ∷ views_of made e) t
@@ -253,7 +260,8 @@ module _ {C : Type 0} where
         (awaited-granted slot g (slot_events e) s.group.possible up))) i;
   }
 
-  pub destroyed-joined : (made : Made C) (e : History) (slot g : ℕ) (v : GroupValue C) (w : SlotsValue C) (t : ViewValue) → Stands made e v
+  pub destroyed-joined : {n : ℕ} (made : Made C) (e : History) (slot g : ℕ) (v : GroupValue C) (w : SlotsValue C) (t : ViewValue)
+      → Stands made e v
       → Some g ≡ taken_out_at made slot (slot_events e)
       → core.StandsFor made (slots.At slot slots.Destroyed ∷ slot_events e) w → IsViewAfter (view.Released g ∷ views_of made e) t
       → (let after : GroupValue C = record { group = w; view = t; registry = n } in Stands made (At slot slots.Destroyed ∷ e) after)
@@ -320,7 +328,7 @@ view-refused {A} r (inr (inr (inr h))) = inr (inr (inr (error-is {A = A} r refus
 
 module _ {S I C W : Type 0} where
   -- an answer that is no job
-  pub other-joined : (made : Made C) (e : History) (slot now : ℕ) (a : Ask S I C W) (w : SlotsValue C) (u : ViewValue)
+  pub other-joined : {n : ℕ} (made : Made C) (e : History) (slot now : ℕ) (a : Ask S I C W) (w : SlotsValue C) (u : ViewValue)
       → length made.configs < 2 ^ 64
       → ((j : Task C) → a ≡ asked.Job j → ⊥)
       → core.StandsFor made (asked_events slot now (ask_told a) ++ slot_events e) w → IsViewAfter (views_of made e) u

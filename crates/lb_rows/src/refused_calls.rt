@@ -232,7 +232,10 @@ pub(crate) fn balancer_agrees(alloc: Global) -> (bool, Again) {
 type Group<'a> = LoadBalancerGroupCore<FNVHash, Lists<'a>>;
 
 // What is read of a group of one slot.
-fn seen_of_group(alloc: Global, group: &mut Group<'_>, registry: &RegistryCore) -> Option<Seen> {
+fn seen_of_group(alloc: Global, group: &mut Group<'_>, registry: &RegistryCore) -> Option<Seen>
+    requires { registry.now.id ≡ group.old.group.registry }
+    ensures { SameSite group.old.group group.new.group }
+{
     let loads = Loads::new();
     let first = group.select(alloc, registry, 0, b"k", 1, &[], &loads);
     let selected = match first.answer {
@@ -258,7 +261,9 @@ fn first_update_of_group(
     registry: &mut RegistryCore,
     course: &mut Course,
 )
-    ensures { SameSite group.old.group group.new.group }
+    requires { registry.old.id ≡ group.old.group.registry }
+    ensures site { SameSite group.old.group group.new.group }
+    ensures one_registry { registry.new.id ≡ registry.old.id }
 {
     let mut clock = Ticks { next: 10 };
     let mut updated = group.update(alloc, registry, &mut clock);
@@ -279,7 +284,11 @@ fn update_of_group(
     row: Update,
     is_served: bool,
     course: &mut Course,
-) {
+)
+    requires { registry.old.id ≡ group.old.group.registry }
+    ensures site { SameSite group.old.group group.new.group }
+    ensures one_registry { registry.new.id ≡ registry.old.id }
+{
     let (is_other, newest, _, _, cells) = row;
     other.set(is_other);
     let mut clock = Ticks { next: 10 };
@@ -306,6 +315,7 @@ fn update_of_group(
 // of a world do that.
 fn is_served(alloc: Global, group: &mut Group<'_>, gate: &mut GateCore) -> bool
     requires { gate.old.id ≡ group.old.group.group.gate }
+    ensures { SameSite group.old.group group.new.group }
 {
     let asked = match group.group.ask(0, gate, 20) {
         Ok(asked) => asked,
@@ -340,7 +350,8 @@ fn updates_of_group(
     other: &Cell<bool>,
     course: &mut Course,
 )
-    requires { gate.old.id ≡ group.old.group.group.gate }
+    requires gate { gate.old.id ≡ group.old.group.group.gate }
+    requires registry { registry.old.id ≡ group.old.group.registry }
 {
     first_update_of_group(alloc, group, registry, course);
     let is_served = is_served(alloc, group, gate);
@@ -355,7 +366,9 @@ fn new_group<'a>(
     gate: &GateCore,
     other: &'a Cell<bool>,
 ) -> Result<Group<'a>, Refusal>
-    ensures { IfOk result (λ b. b.group.group.gate ≡ gate.now.id) }
+    ensures gate { IfOk result (λ b. b.group.group.gate ≡ gate.now.id) }
+    ensures site { IfOk result (λ b. b.group.registry ≡ registry.old.id) }
+    ensures one_registry { registry.new.id ≡ registry.old.id }
 {
     let mut configs = Vec::new(alloc);
     configs.push(())?;

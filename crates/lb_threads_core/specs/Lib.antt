@@ -1,4 +1,5 @@
 pub mod Gates
+pub mod Internal
 pub mod Keyed
 pub mod Registry
 pub mod View

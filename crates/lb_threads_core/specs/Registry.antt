@@ -1,39 +1,22 @@
 -- What is known of a registry that threads share. Between two calls of a thread others may have made calls of their own, so what lies
 -- under its lock is what some further events have made of the registry that the lock was made with.
-use Rattle.std.specs.Prelude.{◌≡◌, ◌≢◌, ◌≤◌, ◌^◌, ◌↔◌, ◌+◌, ◌⊎◌, ◌==◌, ℕ, Bool, true, false, List, ◌∷◌, ◌++◌, None, length, map}
-use Rattle.std.specs.List.{AllByRecursion, find}
+use Rattle.std.specs.Prelude.{◌≡◌, ◌≢◌, ◌≤◌, ◌^◌, ◌↔◌, ◌+◌, ℕ, Bool, true, false, List, ◌∷◌, ◌++◌}
 use Rattle.std.specs.Prelude.{Result, OnOk, OnErr, IfOk, IsOk, IsErrOf, IsTrue}
 use Rattle.atomic_table.specs.Seated.{TableId}
 use Rattle.lb_select_base.specs.Backends.{Member}
 use Rattle.lb_select_base.specs.declared.refusal.Refusal.{Refusal}
 use Rattle.lb_select_base.specs.declared.refusal.Refusal.TheVariants.{NoSuch, NumbersExhausted}
 use Rattle.lb_health_core.specs.Registry.{RegistryValue, IsRegistryAfter}
-use Rattle.lb_health_core.specs.RegistryEvents.{Event, Applied, Configured, Held, Marked, Observed, Registered, Released, Updated}
+use Rattle.lb_health_core.specs.RegistryEvents.{Event, Applied, Observed, Registered}
 use Rattle.lb_health_core.specs.RegistryEvents.{after_update, cell_health, cells_given}
 use Rattle.lb_health_core.specs.RegistryEvents.{registered_after}
 use Rattle.lb_health_core.specs.RegistryEvents.{has_view, IsCellKept, views_after}
 use Rattle.lb_health_core.specs.Verdicts.{Verdict}
-use Rattle.lb_threads_core.specs.declared.owner.ViewNote.{ViewNote}
 
 -- the registry as it was when it came under the lock, and which lock it is behind
 pub record RegistryHandle (R : Type 0) : Type 0 where
   pub start : RegistryValue R
   pub lock : TableId
-
--- the note is of one of these views
-abbrev pub IsNoteOf : (ℕ → Bool) → ViewNote → Type 0
-IsNoteOf is_of note = is_of note.id ≡ true
-
--- this marks one of these views, or ends the life of one of its snapshots
-abbrev pub IsLeaving : (ℕ → Bool) → Event → Type 0
-IsLeaving is_of Registered = ⊥
-IsLeaving is_of Applied = ⊥
-IsLeaving is_of (Updated id members) = ⊥
-IsLeaving is_of (Marked id) = is_of id ≡ true
-IsLeaving is_of (Observed c v) = ⊥
-IsLeaving is_of (Held id generation) = ⊥
-IsLeaving is_of (Released id generation) = is_of id ≡ true
-IsLeaving is_of (Configured healthy) = ⊥
 
 module _ {R : Type 0} (gives : R → Member → Member → Type 0) where
   -- The second is the first after some further events: whichever history explains the first, by its own rule of keys, the second is
@@ -59,18 +42,6 @@ module _ {R : Type 0} (gives : R → Member → Member → Type 0) where
   -- the first became the second by these events more
   abbrev pub Becomes : RegistryValue R → (List Event → List Event) → RegistryValue R → Type 0
   Becomes x grow y = Told x (λ key_of events. IsRegistryAfter gives key_of (grow events) y)
-
-  -- Lives of this view's snapshots ended, and nothing else happened. No snapshot of it lives then, unless 2^64 - 1 ended.
-  pub record IsReleased (id : ℕ) (x y : RegistryValue R) : Type 0 where
-    pub generations : List ℕ
-    pub becomes : Becomes x (λ events. map (λ g. Released id g) generations ++ events) y
-    pub all : (find (λ h. h.view == id) y.table.held ≡ None) ⊎ (length generations + 1 ≡ 2 ^ 64)
-
-  -- some of these views were marked, and lives of their snapshots ended; nothing else happened
-  pub record HaveLeft (is_of : ℕ → Bool) (x y : RegistryValue R) : Type 0 where
-    pub events : List Event
-    pub leaving : AllByRecursion (IsLeaving is_of) events
-    pub becomes : Becomes x (λ earlier. events ++ earlier) y
 
   -- a cell is kept and healthy
   abbrev pub IsCellReady : RegistryValue R → ℕ → Bool → Type 0

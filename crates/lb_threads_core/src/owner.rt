@@ -2,7 +2,7 @@
 //! and the registry looks at these notes when it is taken next.
 ghost use Rattle.std.specs.Prelude.{ℕ, All, Bool, IfSome};
 ghost use Rattle.std.specs.Arc.{arc_value};
-ghost use Rattle.lb_threads_core.specs.Registry.{IsNoteOf};
+ghost use Rattle.lb_threads_core.specs.Internal.Leaving.{IsNoteOf};
 
 use std::sync::Arc;
 use std::sync::atomic::AtomicBool;

@@ -10,7 +10,8 @@ ghost use Rattle.lb_health_core.specs.Verdicts.{Verdict};
 ghost use Rattle.lb_health_core.specs.RegistryEvents.{Configured};
 ghost use Rattle.lb_health_view.specs.Passes.{verdict_of};
 ghost use Rattle.lb_select_base.specs.declared.refusal.Refusal.{Refusal};
-ghost use Rattle.lb_threads_core.specs.Registry.{Becomes, HaveLeft, IsNoteOf, IsReleased};
+ghost use Rattle.lb_threads_core.specs.Internal.Leaving.{EndsSnapshots, HaveLeft, IsNoteOf};
+ghost use Rattle.lb_threads_core.specs.Registry.{Becomes};
 ghost use Rattle.lb_threads_core.specs.Registry.{IsApplied, IsCellReady, IsObserved, IsRegistered, IsRegistryOf, IsUpdated};
 ghost use Rattle.lb_threads_core.specs.Registry.{SeenIn, UnderRegistry};
 
@@ -40,9 +41,10 @@ use std::thread::Threads;
 pub struct OfRegistry {}
 
 impl<R: KeyRule> LockRule<Registry<R>, Snapshot<Registry<R>>> for OfRegistry {
+    ghost use Rattle.std.specs.Prelude.{◌≡◌};
     ghost use Rattle.lb_threads_core.specs.Registry.{IsRegistryOf};
 
-    ghost holds = { λ key registry. IsRegistryOf R.gives key.value registry };
+    ghost holds = { λ key registry. IsRegistryOf R.gives key.value registry × (registry.id ≡ key.value.id) };
 }
 
 /// A registry that was taken from its lock.
@@ -121,12 +123,11 @@ impl<R: KeyRule + Drop, C: HealthCheck + Drop> HealthRegistry<R, C> {
         self.put(TakenValue { value, seat });
     }
 
-    /// Takes the registry itself out of its lock, for one call of a view or a group; `put` ends it.
-    ///
-    /// The thread sleeps while another one has it. Views whose owners are gone are marked for removal first. A verdict goes through
-    /// `observe`, which counts it where it flips a cell.
-    pub fn take<W: Wait>(&self, rt: &W) -> HeldRegistry<R>
+    // The registry itself out of its lock, for one call of a view or a group; `put` ends it. Views whose owners are gone are marked for
+    // removal first.
+    pub(crate) fn take<W: Wait>(&self, rt: &W) -> HeldRegistry<R>
         ensures registry { IsRegistryOf R.gives self.now.start result.value }
+        ensures one { result.value.id ≡ self.now.start.id }
         ensures here { result.seat.table_id ≡ self.now.lock }
     {
         let mut held = self.taken(rt);
@@ -137,6 +138,7 @@ impl<R: KeyRule + Drop, C: HealthCheck + Drop> HealthRegistry<R, C> {
     // The registry, as the last call left it.
     fn taken<W: Wait>(&self, rt: &W) -> HeldRegistry<R>
         ensures registry { IsRegistryOf R.gives self.now.start result.value }
+        ensures one { result.value.id ≡ self.now.start.id }
         ensures here { result.seat.table_id ≡ self.now.lock }
     {
         self.lock.take(rt)
@@ -144,7 +146,8 @@ impl<R: KeyRule + Drop, C: HealthCheck + Drop> HealthRegistry<R, C> {
 
     // Marks the views for removal whose owners were dropped since the last look.
     fn look_for_gone<W: Wait>(&self, rt: &W, registry: &mut Registry<R>)
-        ensures { IsRegistryOf R.gives registry.old registry.new }
+        ensures registry { IsRegistryOf R.gives registry.old registry.new }
+        ensures one { registry.new.id ≡ registry.old.id }
     {
         if !self.some_gone.swap(false, SeqCst) {
             return;
@@ -175,9 +178,10 @@ impl<R: KeyRule + Drop, C: HealthCheck + Drop> HealthRegistry<R, C> {
         Ok(ViewOwner { note, some_gone })
     }
 
-    /// Puts this registry back under its lock.
-    pub fn put(&self, held: HeldRegistry<R>)
+    // Puts this registry back under its lock.
+    pub(crate) fn put(&self, held: HeldRegistry<R>)
         requires registry { IsRegistryOf R.gives self.now.start held.value }
+        requires one { held.value.id ≡ self.now.start.id }
         requires here { held.seat.table_id ≡ self.now.lock }
     {
         self.lock.put(held);
@@ -338,6 +342,33 @@ impl<R: KeyRule + Drop, C: HealthCheck + Drop> HealthRegistry<R, C> {
     }
 }
 
+/// Takes the registry itself out of its lock, for one call of a view or a group; `put_registry` ends it.
+///
+/// The thread sleeps while another one has it. Views whose owners are gone are marked for removal first. A verdict goes through
+/// `observe`, which counts it where it flips a cell. It is for the crates of this library: the crate that users take doesn't pass it on.
+pub fn take_registry<W: Wait, R: KeyRule + Drop, C: HealthCheck + Drop>(
+    registry: &HealthRegistry<R, C>,
+    rt: &W,
+) -> HeldRegistry<R>
+    ensures registry { IsRegistryOf R.gives registry.now.start result.value }
+    ensures one { result.value.id ≡ registry.now.start.id }
+    ensures here { result.seat.table_id ≡ registry.now.lock }
+{
+    registry.take(rt)
+}
+
+/// Puts this registry back under its lock.
+pub fn put_registry<R: KeyRule + Drop, C: HealthCheck + Drop>(
+    registry: &HealthRegistry<R, C>,
+    held: HeldRegistry<R>,
+)
+    requires registry { IsRegistryOf R.gives registry.now.start held.value }
+    requires one { held.value.id ≡ registry.now.start.id }
+    requires here { held.seat.table_id ≡ registry.now.lock }
+{
+    registry.put(held);
+}
+
 // Marks the views whose owners are gone for removal, and releases their cells.
 fn remove_gone<R: KeyRule + Drop>(registry: &mut Registry<R>, notes: &mut Vec<Arc<ViewNote>>)
     ensures { (is_of : ℕ → Bool) → All (λ n. IsNoteOf is_of (arc_value n)) notes.old.items
@@ -355,7 +386,7 @@ fn remove_gone<R: KeyRule + Drop>(registry: &mut Registry<R>, notes: &mut Vec<Ar
 
 // Releases each live snapshot of a view, so that the view keeps no cell for itself any more.
 fn release_all<R: KeyRule + Drop>(registry: &mut Registry<R>, id: u64)
-    ensures { IsReleased R.gives id registry.old registry.new }
+    ensures { EndsSnapshots R.gives id registry.old registry.new }
 {
     for _ in 0..u64::MAX {
         let Some(generation) = registry.held_generation(id) else {

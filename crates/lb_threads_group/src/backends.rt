@@ -12,7 +12,7 @@ use lb_health_core::keys::KeyRule;
 use lb_select_base::backend::Backend;
 use lb_select_base::refusal::Refusal;
 use lb_select_base::walk::BackendSelection;
-use lb_threads_core::registry::HealthRegistry;
+use lb_threads_core::registry::{HealthRegistry, put_registry, take_registry};
 use std::collections::BTreeSet;
 use std::sync::{Arc, Wait};
 
@@ -44,9 +44,9 @@ impl<S: BackendSelection, R: KeyRule + Drop, C: HealthCheck + Drop> SharedGroup<
         let registries: &HealthRegistry<R, C> = &*self.registry;
         let held = self.lock.take(rt);
         held.value.founded();
-        let registry = registries.take(rt);
+        let registry = take_registry(registries, rt);
         let told = held.value.core().newest_ready(&registry.value, backend);
-        registries.put(registry);
+        put_registry(registries, registry);
         self.lock.put(held);
         told
     }

@@ -17,7 +17,7 @@ use lb_rebuild_core::retired::Reader;
 use lb_select_base::backend::Backend;
 use lb_select_base::walk::BackendSelection;
 use lb_threads_core::lock::KeyedLock;
-use lb_threads_core::registry::HealthRegistry;
+use lb_threads_core::registry::{HealthRegistry, put_registry, take_registry};
 use lb_threads_core::rule::LockRule;
 use lb_words::keyed::KeyedWords;
 use lb_words::rule::WordRule;
@@ -366,9 +366,9 @@ impl<S: BackendSelection, R: KeyRule + Drop, C: HealthCheck + Drop> SharedGroup<
         let _gate = &self.gate;
         let held = self.lock.take(rt);
         held.value.founded();
-        let cells = registries.take(rt);
+        let cells = take_registry(registries, rt);
         let told = held.value.core().ready(reader, &cells.value, backend);
-        registries.put(cells);
+        put_registry(registries, cells);
         self.lock.put(held);
         told
     }

@@ -24,7 +24,7 @@ use lb_threads_core::gate::SelectorRebuildGate;
 use lb_threads_core::keyed::NoRule;
 use lb_threads_core::lanes::Lanes;
 use lb_threads_core::lock::KeyedLock;
-use lb_threads_core::registry::HealthRegistry;
+use lb_threads_core::registry::{HealthRegistry, put_registry, take_registry};
 use lb_threads_core::rule::LockRule;
 use lb_threads_core::wakes::Wakes;
 use rand_core::Rng;
@@ -39,8 +39,8 @@ use std::sync::{Arc, Mutex, Wait};
 // The number of lanes of a slot, a power of two: many more than the threads that select at once, so that few meet in one.
 const LANES: usize = 64;
 
-/// The group under the lock is the one that the lock was made with, on the same board: its identity, its gate and its configurations
-/// stay.
+/// The group under the lock is the one that the lock was made with, on the same board: its identity, its gate, its registry and its
+/// configurations stay.
 pub struct OfGroup {}
 
 impl<S: BackendSelection> LockRule<Watched<S>, Snapshot<Watched<S>>> for OfGroup {
@@ -134,6 +134,7 @@ impl<S: BackendSelection, R: KeyRule + Drop, C> Model for SharedGroup<S, R, C> {
     } };
 
     ghost invariant = { λ g. ((arc_value g.gate).id ≡ g.lock.table.shared.key.value.core.group.gate)
+        × ((arc_value g.registry).start.id ≡ g.lock.table.shared.key.value.core.registry)
         × (g.lock.table.shared.key.value.board ≡ arc_value g.board)
         × ((arc_value g.board).words ≡ length g.lines.items + 1)
         × (g.site ≡ record {
@@ -160,7 +161,8 @@ impl<S: BackendSelection, R: KeyRule + Drop, C: HealthCheck + Drop> SharedGroup<
         gate: Arc<SelectorRebuildGate>,
         generator: Pcg64,
     ) -> Result<SharedGroup<S, R, C>, Refusal>
-        requires { (arc_value gate).id ≡ core.group.gate }
+        requires gate { (arc_value gate).id ≡ core.group.gate }
+        requires registry { (arc_value registry).start.id ≡ core.registry }
         ensures made { IfOk result (λ g. (g.core ≡ core) × (g.registry ≡ (arc_value registry).start)) }
         ensures words { IfOk result (λ g. g.board.words ≡ length core.group.slots + 1) }
         ensures refused { IfErr result (λ e. e ≡ Refusal.OutOfMemory) }
@@ -201,9 +203,9 @@ impl<S: BackendSelection, R: KeyRule + Drop, C: HealthCheck + Drop> SharedGroup<
         let _gate = &self.gate;
         let registries: &HealthRegistry<R, C> = &*self.registry;
         let mut held = self.lock.take(rt);
-        let mut registry = registries.take(rt);
+        let mut registry = take_registry(registries, rt);
         held.value.cancel(&mut registry.value);
-        registries.put(registry);
+        put_registry(registries, registry);
         self.lock.put(held);
         self.is_closed.store(true, SeqCst);
         for slot in 0..self.slot_count() {

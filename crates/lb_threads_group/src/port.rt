@@ -22,7 +22,7 @@ use lb_select_base::backend::Backend;
 use lb_select_base::refusal::Refusal;
 use lb_select_base::walk::BackendSelection;
 use lb_threads_core::gate::{SelectorRebuildGate, put_gate, take_gate};
-use lb_threads_core::registry::HealthRegistry;
+use lb_threads_core::registry::{HealthRegistry, put_registry, take_registry};
 use std::alloc::Global;
 use std::collections::BTreeSet;
 use std::sync::Wait;
@@ -78,11 +78,11 @@ impl<'g, 'r, 'f, S: BackendSelection, R: KeyRule + Drop, C: HealthCheck + Drop, 
         let mut held = group.lock.take(self.rt);
         // `_gate` and `founded()` are for the prover alone: they show it the group's invariant, and do nothing at run time.
         held.value.founded();
-        let mut cells = registries.take(self.rt);
+        let mut cells = take_registry(registries, self.rt);
         let mut gate = take_gate(gates, self.rt);
         let told = held.value.fail(job, &mut cells.value, &mut gate.value, now);
         put_gate(gates, gate);
-        registries.put(cells);
+        put_registry(registries, cells);
         group.lock.put(held);
         gates.wakes().wake();
         match told {
@@ -165,11 +165,11 @@ impl<'g, 'r, 'f, S: BackendSelection, R: KeyRule + Drop, C: HealthCheck + Drop, 
         let has_settings = !settings.is_empty();
         let mut held = group.lock.take(self.rt);
         held.value.founded();
-        let mut cells = registries.take(self.rt);
+        let mut cells = take_registry(registries, self.rt);
         let told = held
             .value
             .schedule(alloc, &mut cells.value, discovered, settings, now);
-        registries.put(cells);
+        put_registry(registries, cells);
         group.lock.put(held);
         if has_settings {
             group.note_change();
@@ -245,13 +245,13 @@ impl<'g, 'r, 'f, S: BackendSelection, R: KeyRule + Drop, C: HealthCheck + Drop, 
         let gates: &SelectorRebuildGate = &*group.gate;
         let mut held = group.lock.take(self.rt);
         held.value.founded();
-        let mut cells = registries.take(self.rt);
+        let mut cells = take_registry(registries, self.rt);
         let mut gate = take_gate(gates, self.rt);
         let told = held
             .value
             .destroyed(slot, permit, &mut cells.value, &mut gate.value);
         put_gate(gates, gate);
-        registries.put(cells);
+        put_registry(registries, cells);
         group.lock.put(held);
         gates.wakes().wake();
         match told {

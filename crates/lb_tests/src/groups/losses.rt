@@ -55,7 +55,9 @@ fn update(
     address: &str,
     now: u128,
 ) -> Result<u64, Refusal>
-    ensures { SameSite group.old group.new }
+    requires { registry.old.id ≡ group.old.registry }
+    ensures site { SameSite group.old group.new }
+    ensures one_registry { registry.new.id ≡ registry.old.id }
 {
     let set = set_of(alloc, &[(address, 1)])?;
     let scheduled = group.schedule(alloc, registry, set, Settings::new(alloc), now)?;
@@ -70,9 +72,11 @@ fn lost_then_failed(
     gate: &mut GateCore,
     group: &mut Group,
 ) -> Result<(u64, u64), Refusal>
-    requires { gate.old.id ≡ group.old.group.gate }
+    requires gate { gate.old.id ≡ group.old.group.gate }
+    requires registry { registry.old.id ≡ group.old.registry }
     ensures site { SameSite group.old group.new }
     ensures gate { gate.new.id ≡ gate.old.id }
+    ensures one_registry { registry.new.id ≡ registry.old.id }
 {
     let job = match group.ask(0, gate, 0)? {
         Ask::Job(job) => job,
@@ -101,7 +105,8 @@ fn cancelled_then_failed(
     gate: &mut GateCore,
     group: &mut Group,
 ) -> Result<u64, Refusal>
-    requires { gate.old.id ≡ group.old.group.gate }
+    requires gate { gate.old.id ≡ group.old.group.gate }
+    requires registry { registry.old.id ≡ group.old.registry }
 {
     let job = match group.ask(0, gate, 3)? {
         Ask::Job(job) => job,
@@ -128,7 +133,8 @@ fn told(
     gate: &mut GateCore,
     group: &mut Group,
 ) -> Result<([u64; 4], [Figures; 2]), Refusal>
-    requires { gate.old.id ≡ group.old.group.gate }
+    requires gate { gate.old.id ≡ group.old.group.gate }
+    requires registry { registry.old.id ≡ group.old.registry }
 {
     let first = update(alloc, registry, group, "1.0.0.1:80", 0)?;
     let (lost, second) = lost_then_failed(alloc, registry, gate, group)?;

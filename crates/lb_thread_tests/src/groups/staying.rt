@@ -131,9 +131,9 @@ pub fn selects_while_the_registry_is_held<
     update(rt, alloc, group, 1);
     let published = turn(rt, alloc, group, 0);
     let first = select_one(rt, alloc, group, 0).expect(rt, "refused");
-    let held = registry.take(rt);
+    let held = take_registry(registry, rt);
     let second = select_one(rt, alloc, group, 0);
-    registry.put(held);
+    put_registry(registry, held);
     let targets = registry.targets(rt, alloc).expect(rt, "refused");
     let cell = targets.get(0).map(|target| target.cell).unwrap_or(0);
     let flipped = registry.observe(rt, cell, false, 1);

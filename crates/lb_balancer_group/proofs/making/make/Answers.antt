@@ -3,10 +3,10 @@ use Rattle.lb_threads_core.proofs.Histories.{later, registered_later}
 use Rattle.lb_balancer_group.proofs.FirstSlots.{new_group, slots_of_new}
 use Rattle.lb_balancer_group.proofs.making.make.Goals as goal
 
-pub put-requires-clause-registry : goal.put-requires-clause-registry
-put-requires-clause-registry g c =
+pub put_registry-requires-clause-registry : goal.put_registry-requires-clause-registry
+put_registry-requires-clause-registry g c =
     let is = c.new-made.ensures in
-    later c.take-cells.ensures.registry (registered_later c.new-made.result is.registry is.err)
+    later c.take_registry-cells.ensures.registry (registered_later c.new-made.result is.registry is.err)
 
 pub returns-clause-slots : goal.returns-clause-slots
 returns-clause-slots g c = slots_of_new _ c.args.configs.items c.new-made.result c.new-made.ensures.stands

@@ -4,7 +4,7 @@ use Rattle.std.specs.Arc.{arc_value}
 use Rattle.std.specs.Vec.{vec_len}
 use mathlib.Core.Logic.{dite}
 use native.Mathlib.Decide.{ℕ_discrete}
-use Rattle.lb_threads_core.specs.Registry.{IsNoteOf}
+use Rattle.lb_threads_core.specs.Internal.Leaving.{IsNoteOf}
 use Rattle.lb_threads_core.proofs.owner.take_gone.Goals as goal
 
 all-left : {X : Type 0} (P : X → Type 0) (xs ys : List X) (n m i : ℕ) → length xs ≡ n → length ys ≡ m → i < n → m + 1 ≡ n

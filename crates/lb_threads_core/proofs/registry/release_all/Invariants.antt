@@ -7,4 +7,5 @@ use Rattle.lb_threads_core.proofs.registry.release_all.Given as goal
 abbrev pub invariant-loop : goal.invariant-loop
 invariant-loop g l =
     (generations : List ℕ) × (length generations ≡ l.counter)
+    × (l.registry.id ≡ l.fn.registry.id)
     × Becomes g.R.KeyRule.gives l.fn.registry (λ events. map (λ n. Released l.id n) generations ++ events) l.registry

@@ -5,7 +5,8 @@ use Rattle.std.specs.List.{AllByRecursion}
 use Rattle.lb_select_base.specs.Backends.{Member}
 use Rattle.lb_health_core.specs.Registry.{IsRegistryAfter, RegistryValue}
 use Rattle.lb_health_core.specs.RegistryEvents.{Event, Marked, Released}
-use Rattle.lb_threads_core.specs.Registry.{Becomes, HaveLeft, IsLeaving, IsNoteOf, IsReleased}
+use Rattle.lb_threads_core.specs.Internal.Leaving.{EndsSnapshots, HaveLeft, IsLeaving, IsNoteOf}
+use Rattle.lb_threads_core.specs.Registry.{Becomes}
 use Rattle.lb_threads_core.specs.declared.owner.ViewNote.{ViewNote}
 use Rattle.lb_threads_core.proofs.registry.remove_gone.Goals as goal
 
@@ -19,9 +20,10 @@ releases-leave is_of id is (g ∷ gs) rest told = (is, releases-leave is_of id i
 
 module _ {R : Type 0} {gives : R → Member → Member → Type 0} where
   left-more : (is_of : ℕ → Bool) (id : ℕ) → is_of id ≡ true → {x y z w : RegistryValue R} → HaveLeft gives is_of x y
-      → Becomes gives y (λ events. Marked id ∷ events) z → IsReleased gives id z w → HaveLeft gives is_of x w
-  left-more is_of id is {w = w} before marked released = record {
+      → Becomes gives y (λ events. Marked id ∷ events) z → z.id ≡ y.id → EndsSnapshots gives id z w → HaveLeft gives is_of x w
+  left-more is_of id is {w = w} before marked same released = record {
     events = map (λ g. Released id g) released.generations ++ Marked id ∷ before.events;
+    one = released.one ∙ same ∙ before.one;
     leaving = releases-leave is_of id is released.generations (Marked id ∷ before.events) (is, before.leaving);
     becomes = λ key_of events after. subst (λ es. IsRegistryAfter gives key_of es w)
         (sym (append_assoc (map (λ g. Released id g) released.generations) (Marked id ∷ before.events) events))
@@ -36,8 +38,11 @@ loop-preserved g c =
     let found = c.take_gone.ensures is_of was.0 in
     let id = c.deref.result.now.id in
     let same : c.deref.result.now ≡ arc_value c.in-Some.view = search rules in
-    let of_note = at-some (λ n. IsNoteOf is_of (arc_value n)) c.in-Some.is found.1 in
-    (found.0, left-more is_of id (ap (λ (n : ViewNote). is_of n.id) same ∙ of_note) was.1 c.remove_view.ensures c.release_all.ensures)
+    let of_note = at-some (λ n. IsNoteOf is_of (arc_value n)) c.in-Some.is found.1 in (
+      found.0,
+      left-more is_of id (ap (λ (n : ViewNote). is_of n.id) same ∙ of_note) was.1 c.remove_view.ensures.after c.remove_view.ensures.one
+          c.release_all.ensures,
+    )
 
 pub returns : goal.returns
 returns g c = λ is_of all. (c.loop.invariant is_of all).1

@@ -1,7 +1,7 @@
 -- What is left to be looked at are notes of before, and what left were their views.
 use Rattle.std.proofs.Common.{ℕ, All, Bool}
 use Rattle.std.specs.Arc.{arc_value}
-use Rattle.lb_threads_core.specs.Registry.{HaveLeft, IsNoteOf}
+use Rattle.lb_threads_core.specs.Internal.Leaving.{HaveLeft, IsNoteOf}
 use Rattle.lb_threads_core.proofs.registry.remove_gone.Given as goal
 
 abbrev pub invariant-loop : goal.invariant-loop

@@ -126,7 +126,7 @@ returns-clause-registry g c = λ key_of views events h r.
           (subst (λ m. IsRegistryAfter g.R.KeyRule.gives key_of (Released c.args.self.now.id m ∷ after) w.release.new.self) last
           (subst (λ i. IsRegistryAfter g.R.KeyRule.gives key_of (Released i c.self.inside.current.generation ∷ after) w.release.new.self)
           same
-          (w.release.ensures key_of after held))))
+          (w.release.ensures.after key_of after held))))
       | else-not-lives w ↦ let yes : c.lives.result ≡ true = search rules in subst Left (sym yes) (rw w.registry-is held)
     ])
 

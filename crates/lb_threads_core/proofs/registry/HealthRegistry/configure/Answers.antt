@@ -5,11 +5,12 @@ use Rattle.lb_threads_core.proofs.Histories.{later, marked_later}
 use Rattle.lb_threads_core.proofs.registry.HealthRegistry.configure.Goals as goal
 
 pub put-requires-clause-registry : goal.put-requires-clause-registry
-put-requires-clause-registry g c = later c.take-value.ensures.registry (marked_later (Configured false) c.start_unhealthy-value.ensures)
+put-requires-clause-registry g c =
+    later c.take-value.ensures.registry (marked_later (Configured false) c.start_unhealthy-value.ensures.after)
 
 pub returns : goal.returns
 returns g c =
-    let configured = c.start_unhealthy-value.ensures in (
+    let configured = c.start_unhealthy-value.ensures.after in (
       c.take-value.result.value,
       (c.start_unhealthy-value.result, (c.take-value.ensures.registry, (marked_later (Configured false) configured, configured))),
     )

@@ -3,4 +3,4 @@ use Rattle.lb_threads_core.proofs.Histories.{later}
 use Rattle.lb_threads_core.proofs.registry.HealthRegistry.take.Goals as goal
 
 pub returns-clause-registry : goal.returns-clause-registry
-returns-clause-registry g c = later c.taken-held.ensures.registry c.look_for_gone.ensures
+returns-clause-registry g c = later c.taken-held.ensures.registry c.look_for_gone.ensures.registry

@@ -7,7 +7,10 @@ pub returns : goal.returns
 returns g c = (
   c.take-held.result.value.core,
   (
-    c.take-cells.result.value,
-    ((search rules, c.founded.ensures), (at_site (search rules) c.take-cells.ensures.registry, rw c.core.ensures at c.ready-told.ensures)),
+    c.take_registry-cells.result.value,
+    (
+      (search rules, c.founded.ensures),
+      (at_site (search rules) c.take_registry-cells.ensures.registry, rw c.core.ensures at c.ready-told.ensures),
+    ),
   ),
 )

@@ -6,7 +6,7 @@ use Rattle.lb_threads_group.proofs.group.SharedGroup.keep.Goals as goal
 pub renew-requires-clause-fits : goal.renew-requires-clause-fits
 renew-requires-clause-fits g c =
     subst (λ v. IsEntry v c.args.entry.slot c.args.entry.reader c.args.entry.found)
-    (sym (c.self.invariant.3 ∙ c.self.view_is)) c.requires
+    (sym (c.self.invariant.4 ∙ c.self.view_is)) c.requires
 
 pub returns : goal.returns
 returns g c = inr c.requires.0

@@ -7,11 +7,11 @@ pub returns : goal.returns
 returns g c = (
   c.take-held.result.value.core,
   (
-    c.take-registry.result.value,
+    c.take_registry-registry.result.value,
     (
       (search rules, c.founded.ensures),
       (
-        at_site (search rules) c.take-registry.ensures.registry,
+        at_site (search rules) c.take_registry-registry.ensures.registry,
         rw c.core.ensures at c.newest_ready-told.ensures,
       ),
     ),

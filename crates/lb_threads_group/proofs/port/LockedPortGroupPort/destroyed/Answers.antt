@@ -7,9 +7,9 @@ use Rattle.lb_threads_core.proofs.Histories.{at_site, later}
 use Rattle.lb_threads_group.proofs.Releases.{released_later}
 use Rattle.lb_threads_group.proofs.port.LockedPortGroupPort.destroyed.Goals as goal
 
-pub put-requires-clause-registry : goal.put-requires-clause-registry
-put-requires-clause-registry g c =
-    later c.take-cells.ensures.registry (released_later c.destroyed-told.result c.take-held.result.value.core
+pub put_registry-requires-clause-registry : goal.put_registry-requires-clause-registry
+put_registry-requires-clause-registry g c =
+    later c.take_registry-cells.ensures.registry (released_later c.destroyed-told.result c.take-held.result.value.core
     (λ made e. generation_at c.args.slot e) c.founded.ensures c.destroyed-told.ensures.registry)
 
 pub returns-in-Ok : goal.returns-in-Ok
@@ -20,11 +20,11 @@ returns-in-Ok g c =
       (
         told,
         (
-          c.take-cells.result.value,
+          c.take_registry-cells.result.value,
           (
             c.destroyed-told.new.registry,
             (
-              at_site (search rules) c.take-cells.ensures.registry,
+              at_site (search rules) c.take_registry-cells.ensures.registry,
               (
                 released_later told v (λ made e. generation_at c.args.slot e) c.founded.ensures is.registry,
                 (
@@ -59,11 +59,11 @@ returns-in-Err g c =
       (
         told,
         (
-          c.take-cells.result.value,
+          c.take_registry-cells.result.value,
           (
             c.destroyed-told.new.registry,
             (
-              at_site (search rules) c.take-cells.ensures.registry,
+              at_site (search rules) c.take_registry-cells.ensures.registry,
               (
                 released_later told v (λ made e. generation_at c.args.slot e) c.founded.ensures is.registry,
                 (

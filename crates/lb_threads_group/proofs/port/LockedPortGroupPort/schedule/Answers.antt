@@ -5,22 +5,22 @@ use Rattle.lb_threads_core.proofs.Histories.{at_site, later}
 use Rattle.lb_threads_group.proofs.Releases.{scheduled_later}
 use Rattle.lb_threads_group.proofs.port.LockedPortGroupPort.schedule.Goals as goal
 
-pub put-requires-clause-registry : goal.put-requires-clause-registry
-put-requires-clause-registry g c =
+pub put_registry-requires-clause-registry : goal.put_registry-requires-clause-registry
+put_registry-requires-clause-registry g c =
     let is = c.schedule-told.ensures in
-    later c.take-cells.ensures.registry (scheduled_later c.schedule-told.result c.take-held.result.value.core c.args.discovered.keys
-    c.founded.ensures is.registry is.registry_err)
+    later c.take_registry-cells.ensures.registry (scheduled_later c.schedule-told.result c.take-held.result.value.core
+    c.args.discovered.keys c.founded.ensures is.registry is.registry_err)
 
 pub returns : goal.returns
 returns g c =
     let is = c.schedule-told.ensures in
     let v = c.take-held.result.value.core in (
       (
-        c.take-cells.result.value,
+        c.take_registry-cells.result.value,
         (
           c.schedule-told.new.registry,
           (
-            at_site (search rules) c.take-cells.ensures.registry,
+            at_site (search rules) c.take_registry-cells.ensures.registry,
             (
               scheduled_later c.schedule-told.result v c.args.discovered.keys c.founded.ensures is.registry is.registry_err,
               (

@@ -6,9 +6,9 @@ use Rattle.lb_threads_core.proofs.Histories.{at_site, later}
 use Rattle.lb_threads_group.proofs.Releases.{released_later}
 use Rattle.lb_threads_group.proofs.port.LockedPortTakesBackRefusedJobBuiltReader.fail.Goals as goal
 
-pub put-requires-clause-registry : goal.put-requires-clause-registry
-put-requires-clause-registry g c =
-    later c.take-cells.ensures.registry (released_later c.fail-told.result c.take-held.result.value.core
+pub put_registry-requires-clause-registry : goal.put_registry-requires-clause-registry
+put_registry-requires-clause-registry g c =
+    later c.take_registry-cells.ensures.registry (released_later c.fail-told.result c.take-held.result.value.core
     (λ made e. c.into_job-job.result.generation) c.founded.ensures c.fail-told.ensures.registry)
 
 pub returns-in-Ok : goal.returns-in-Ok
@@ -20,11 +20,11 @@ returns-in-Ok g c =
       (
         told,
         (
-          c.take-cells.result.value,
+          c.take_registry-cells.result.value,
           (
             c.fail-told.new.registry,
             (
-              at_site (search rules) c.take-cells.ensures.registry,
+              at_site (search rules) c.take_registry-cells.ensures.registry,
               (
                 released_later told v (λ made e. c.into_job-job.result.generation) c.founded.ensures is.registry,
                 (
@@ -60,11 +60,11 @@ returns-in-Err g c =
       (
         told,
         (
-          c.take-cells.result.value,
+          c.take_registry-cells.result.value,
           (
             c.fail-told.new.registry,
             (
-              at_site (search rules) c.take-cells.ensures.registry,
+              at_site (search rules) c.take_registry-cells.ensures.registry,
               (
                 released_later told v (λ made e. c.into_job-job.result.generation) c.founded.ensures is.registry,
                 (

@@ -1,0 +1,2 @@
+-- Definitions that only private functions need.
+pub mod RefusedSpans
