@@ -5,4 +5,4 @@ use Rattle.lb_balancer.proofs.balancing.Balancing.leave.Goals as goal
 
 pub put-requires-clause-registry : goal.put-requires-clause-registry
 put-requires-clause-registry g c =
-    later c.take-cells.ensures.registry (left_later c.take-held.result.value.view c.founded.ensures c.leave.ensures)
+    later c.take-cells.ensures.registry (left_later c.take-held.result.value.view c.founded.ensures c.leave.ensures.after)
