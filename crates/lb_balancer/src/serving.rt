@@ -130,6 +130,7 @@ impl<S: BackendSelection> Serving<S> {
         ensures took { Takes members.keys (settings_of settings.entries) self.old self.new }
         ensures members { self.new.members ≡ self.old.members }
         ensures config { self.new.config ≡ self.old.config }
+        ensures one_registry { registry.new.id ≡ registry.old.id }
     {
         let _ = self
             .view
@@ -166,6 +167,7 @@ impl<S: BackendSelection> Serving<S> {
         ensures members_err { OnErr result.1 (self.new.members ≡ self.old.members) }
         ensures refused { OnErr result.1 (IsViewRefusal result.1) }
         ensures config { self.new.config ≡ self.old.config }
+        ensures one_registry { registry.new.id ≡ registry.old.id }
     {
         match self
             .view
@@ -220,10 +222,11 @@ impl<S: BackendSelection> Serving<S> {
     ///
     /// It takes no memory.
     pub fn leave<R: KeyRule + Drop>(&self, registry: &mut Registry<R>)
-        ensures { (key_of : Member → Member) (views : List ViewEvent) (events : List Event) → IsViewAfter views self.now.view
+        ensures after { (key_of : Member → Member) (views : List ViewEvent) (events : List Event) → IsViewAfter views self.now.view
             → IsRegistryAfter R.gives key_of events registry.old
             → IsRegistryAfter R.gives key_of (Released self.now.view.id (generation_after views) ∷ Marked self.now.view.id ∷ events)
             registry.new }
+        ensures one_registry { registry.new.id ≡ registry.old.id }
     {
         registry.remove_view(self.view.id());
         registry.release(self.view.id(), self.view.generation());
