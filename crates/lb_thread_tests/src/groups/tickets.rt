@@ -33,7 +33,7 @@ fn published<S: BackendSelection, R: KeyRule + Drop, C: HealthCheck + Drop, W: W
     group: &SharedGroup<S, R, C>,
     backends: usize,
 ) -> bool {
-    let discovery = weights_to(alloc, backends).expect(rt, "refused");
+    let discovery = first_ones(alloc, backends).expect(rt, "refused");
     let updated = group.update(rt, alloc, &discovery, &mut Still {});
     let generation = updated.expect(rt, "refused");
     turn(rt, alloc, group, 0) == Turn::Published(generation)
