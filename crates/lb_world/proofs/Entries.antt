@@ -157,7 +157,7 @@ module _ {C : Type 0} {h : History C} {g : ℕ} {e : EntryValue C} (is : EntryIs
 
   -- the core, where no call moved it
   pub stays : Moves e (group_events g h) e.core
-  stays = (record { group = record { id = refl; gate = refl; configs = refl }; id = refl }, is.core_is)
+  stays = (record { group = record { id = refl; gate = refl; configs = refl }; id = refl; registry = refl }, is.core_is)
 
   -- what was read of a slot's past
   pub reading-told : {A : Type 0} (s : ℕ) (f : slots.History → A) (tells : A → Answer) (r : Option A)
@@ -169,27 +169,35 @@ module _ {C : Type 0} {h : History C} {g : ℕ} {e : EntryValue C} (is : EntryIs
 
 module _ {C : Type 0} {M : Meaning C} {h : History C} {g : ℕ} {e : EntryValue C} {z : GateValue} {v : RegistryValue WorldRule}
     (b : Before M h g e z v) where
+  -- the registry is what the history says, and is the group's own
+  abbrev pub IsShared : Step C → Answer → RegistryValue WorldRule → Type 0
+  IsShared st a u =
+      IsRegistryAfter key_gives (key_of g h) (registry_events e.registry ((st, a) ∷ h)) u × (u.id ≡ e.core.registry)
+
   -- the registry, by what happened to it
   pub shared : (st : Step C) (a : Answer) {es : List registry.Event} {u : RegistryValue WorldRule} → group_at h st ≡ Some g
       → changed h ((st, a) ∷ h) st a (registry_events e.registry h) ≡ es → IsRegistryAfter key_gives (key_of g h) es u
-      → IsRegistryAfter key_gives (key_of g h) (registry_events e.registry ((st, a) ∷ h)) u
-  shared st a {u = u} at is kept =
-      subst (λ es. IsRegistryAfter key_gives (key_of g h) es u)
-      (sym
-      (taken _ (registry_events e.registry h) e.registry (registry_at h st) ((at-group h st a g at).registry_is ∙ registry-here b.is) ∙ is))
-      kept
+      → u.id ≡ v.id → IsShared st a u
+  shared st a {u = u} at is kept one = (
+    subst (λ es. IsRegistryAfter key_gives (key_of g h) es u)
+        (sym
+        (taken _ (registry_events e.registry h) e.registry (registry_at h st)
+        ((at-group h st a g at).registry_is ∙ registry-here b.is) ∙ is))
+        kept,
+    one ∙ b.own,
+  )
 
   pub unshared : (st : Step C) (a : Answer) → group_at h st ≡ Some g
       → changed h ((st, a) ∷ h) st a (registry_events e.registry h) ≡ registry_events e.registry h
-      → IsRegistryAfter key_gives (key_of g h) (registry_events e.registry ((st, a) ∷ h)) v
-  unshared st a at is = shared st a at is b.kept
+      → IsShared st a v
+  unshared st a at is = shared st a at is b.kept refl
 
   -- a right step, by the core, the works and the loads after it
   pub next : {st : Step C} {a : Answer} {core : GroupValue C} (ws : List (WorkValue C)) (ls : List (Member × ℕ)) {y : GateValue}
       {u : RegistryValue WorldRule} → group_at h st ≡ Some g → Answers M h st a
       → Moves e (group_after_step h (slot_events g h) (group_events g h) st a) core → length ws ≡ length e.works
       → AreHeld ((st, a) ∷ h) g e ws → ((m : Member) → load_in ls m ≡ load_of g m ((st, a) ∷ h))
-      → y ≡ gate z.id (permit_after st a z.out) → IsRegistryAfter key_gives (key_of g h) (registry_events e.registry ((st, a) ∷ h)) u
+      → y ≡ gate z.id (permit_after st a z.out) → IsShared st a u
       → EntryNext M h g st a e z (record e { core = core; works = ws; loads = ls }) y u
   next {st} {a} {core} ws ls at right moves count held loads out kept =
       let same = moves.0 in
@@ -213,7 +221,9 @@ module _ {C : Type 0} {M : Meaning C} {h : History C} {g : ℕ} {e : EntryValue 
         gate_is = refl;
         origin_is = origin-is;
         out = out;
-        kept = kept;
+        kept = kept.0;
+        one = same.registry;
+        own = kept.1 ∙ sym same.registry;
       }
 
   -- one that moves the core, and none of the works
@@ -221,8 +231,7 @@ module _ {C : Type 0} {M : Meaning C} {h : History C} {g : ℕ} {e : EntryValue 
       → Answers M h st a → Moves e (group_after_step h (slot_events g h) (group_events g h) st a) core
       → is_grant st a ≡ false → ((x : Work) → worked st a x ≡ x)
       → ((m : Member) → load_of g m ((st, a) ∷ h) ≡ load_of g m h) → y ≡ gate z.id (permit_after st a z.out)
-      → IsRegistryAfter key_gives (key_of g h) (registry_events e.registry ((st, a) ∷ h)) u
-      → EntryNext M h g st a e z (with_core core e) y u
+      → IsShared st a u → EntryNext M h g st a e z (with_core core e) y u
   next-core {st} {a} at right moves free stay loads out kept =
       next {st = st} {a = a} e.works e.loads at right moves refl
       (λ s c k cs ks.
@@ -247,7 +256,7 @@ module _ {C : Type 0} {M : Meaning C} {h : History C} {g : ℕ} {e : EntryValue 
       b.is.works_are s c k cs ks
       ∙ ap2 (held_of (origin e.core) s c) (ap (past_of s) (sym (told.groups g))) (sym (told.rest.works g s)))
       (λ m. b.is.loads_are m ∙ sym (told.rest.loads g m)) (ap (gate z.id) (sym (unmoved st r z.out)))
-      (subst (λ es. IsRegistryAfter key_gives (key_of g h) es v) (sym (told.rest.shared e.registry)) b.kept)
+      (subst (λ es. IsRegistryAfter key_gives (key_of g h) es v) (sym (told.rest.shared e.registry)) b.kept, b.own)
 
   -- one that writes the place of one slot, where no other slot saw an event
   pub next-work : (s : ℕ) {st : Step C} {a : Answer} {core : GroupValue C} {old new : WorkValue C} {y : GateValue}
@@ -258,7 +267,7 @@ module _ {C : Type 0} {M : Meaning C} {h : History C} {g : ℕ} {e : EntryValue 
       → ((c : C) → slice_get (configs_of e.core.group) s ≡ Some c
       → new ≡ held_of (origin e.core) s c (past_of s (happened h (slot_events g h) st a ++ slot_events g h)) (worked st a (work g s h)))
       → ((m : Member) → load_of g m ((st, a) ∷ h) ≡ load_of g m h) → y ≡ gate z.id (permit_after st a z.out)
-      → IsRegistryAfter key_gives (key_of g h) (registry_events e.registry ((st, a) ∷ h)) u
+      → IsShared st a u
       → EntryNext M h g st a e z (record e { core = core; works = slice_set e.works s new }) y u
   next-work s {st} {a} {old = old} {new = new} at right was moves pasts places placed loads out kept =
       let events = events-here h st a g at in
@@ -396,16 +405,16 @@ module _ {C : Type 0} {M : Meaning C} {h : History C} {g : ℕ} {e : EntryValue 
       subst (λ ws. EntryNext M h g st (Answer.Refused r) e z (record e { works = ws }) z v)
       (sym (ap (slice_set e.works s) same ∙ set-same e.works s _ at)) (next-refused b here right (stays b.is))
 
-  -- the snapshot of what was in the slot is released
+  -- the snapshot of what was in the slot is released, in the same registry
   abbrev pub Releases : ℕ → RegistryValue WorldRule → Type 0
   Releases n u =
       IsRegistryAfter key_gives (key_of g h)
-      (registry_released e.core.view.id n (views_of (site e.core) (group_events g h)) (registry_events e.registry h)) u
+      (registry_released e.core.view.id n (views_of (site e.core) (group_events g h)) (registry_events e.registry h)) u × (u.id ≡ v.id)
 
   released : (s n : ℕ) (es : List registry.Event) (u : RegistryValue WorldRule) → n ≡ extra_at g s h
       → es ≡ registry_released e.core.view.id (extra_at g s h) (view_events g h) (registry_events e.registry h) → Releases n u
-      → IsRegistryAfter key_gives (key_of g h) es u
-  released s n es u of new kept = rw (new, ← of, ← views-are b.is M b.run) kept
+      → IsRegistryAfter key_gives (key_of g h) es u × (u.id ≡ e.core.registry)
+  released s n es u of new kept = (rw (new, ← of, ← views-are b.is M b.run) kept.0, kept.1 ∙ b.own)
 
   -- what a slot answers: another answer than a job changes nothing
   ask-right : (s now : ℕ) (t : AskAnswer) → s < length (configs_of e.core.group)
@@ -481,7 +490,7 @@ module _ {C : Type 0} {M : Meaning C} {h : History C} {g : ℕ} {e : EntryValue 
       where
         let-go : (es : List registry.Event)
             → es ≡ registry_released e.core.view.id (extra_at g s h) (view_events g h) (registry_events e.registry h)
-            → IsRegistryAfter key_gives (key_of g h) es u
+            → IsRegistryAfter key_gives (key_of g h) es u × (u.id ≡ e.core.registry)
         let-go es new =
             released s j.generation es u
             (ap (λ x. x.generation) has.is

@@ -46,6 +46,34 @@ use Rattle.lb_world.proofs.Entries.{reading-told, unshared, views-are}
 beside : (g i : ℕ) (b : Bool) → ¬ (i ≡ g) → (g == i && b) ≡ false
 beside g i b off = rw (ne_eqb g i (λ e. off (sym e))) refl
 
+-- a registry that was there is there still, the same one
+pub record IsThere (vs : List (RegistryValue WorldRule)) (r : ℕ) (u : RegistryValue WorldRule) : Type 0 where
+  pub now : RegistryValue WorldRule
+  pub there : slice_get vs r ≡ Some now
+  pub one : now.id ≡ u.id
+
+abbrev pub Remain : List (RegistryValue WorldRule) → List (RegistryValue WorldRule) → Type 0
+Remain ws vs = (r : ℕ) (u : RegistryValue WorldRule) → slice_get ws r ≡ Some u → IsThere vs r u
+
+pub remain-all : (ws : List (RegistryValue WorldRule)) → Remain ws ws
+remain-all ws r u at = record { now = u; there = at; one = refl }
+
+pub remain-set : (ws : List (RegistryValue WorldRule)) (r : ℕ) (u v : RegistryValue WorldRule) → slice_get ws r ≡ Some u → v.id ≡ u.id
+    → Remain ws (slice_set ws r v)
+remain-set ws r u v there one i x at =
+    elim (cases_eq i r) [
+      | inl p ↦
+          record {
+            now = v;
+            there = ap (slice_get (slice_set ws r v)) p ∙ set_found ws r u v there;
+            one = one ∙ ap (λ t. t.id) (same_Some u x (sym there ∙ ap (slice_get ws) (sym p) ∙ at));
+          }
+      | inr off ↦ record { now = x; there = get_other ws r i v off ∙ at; one = refl }
+    ]
+
+remain-push : (ws : List (RegistryValue WorldRule)) (v : RegistryValue WorldRule) → Remain ws (ws ++ v ∷ [])
+remain-push ws v r u at = record { now = u; there = get-kept ws v u r at; one = refl }
+
 module _ {C : Type 0} where
   -- an entry stays right where what it rests on is as before
   pub entry-moves : {h k : History C} {g : ℕ} {e : EntryValue C} → made_at g k ≡ Some (made_of e) → group_events g k ≡ group_events g h
@@ -98,10 +126,10 @@ module _ {C : Type 0} {M : Meaning C} {w : WorldValue C} {h : History C} (s : St
       let m = config-made r.reader.slot (made_at r.group h) c.0 c.1 in
       omega (arith, slice_get_within (made h) r.group m.0 m.1, s.groups_are)
 
-  -- The tables of registries, gates and groups are others, after a history that tells the same of what was there: the gates and the groups
-  -- that were there are there still, and a group that is new is what the history tells.
+  -- The tables of registries, gates and groups are others, after a history that tells the same of what was there: the registries, the
+  -- gates and the groups that were there are there still, and a group that is new is what the history tells.
   pub tables-set : (k : History C) (vs : List (RegistryValue WorldRule)) (zs : List GateValue) (gs : List (EntryValue C)) → IsRun M k
-      → length vs ≡ length (registries k) → length w.registries ≤ length vs → length zs ≡ gates k → length gs ≡ length (made k)
+      → length vs ≡ length (registries k) → Remain w.registries vs → length zs ≡ gates k → length gs ≡ length (made k)
       → entries k ≡ entries h
       → ((r : ℕ) (v : RegistryValue WorldRule) → slice_get vs r ≡ Some v → IsRegistryAfter key_gives (key_at r k) (registry_events r k) v)
       → ((x : ℕ) (z : GateValue) → slice_get zs x ≡ Some z → z.out ≡ is_out x k)
@@ -112,7 +140,7 @@ module _ {C : Type 0} {M : Meaning C} {w : WorldValue C} {h : History C} (s : St
       → ((g : ℕ) (e : EntryValue C) → slice_get gs g ≡ Some e → (slice_get w.groups g ≡ Some e)
       ⊎ ((length w.groups ≤ g) × EntryIs k g e × OnSite (record w { registries = vs; gates = zs; groups = gs }) e))
       → Stands M (record w { registries = vs; gates = zs; groups = gs }) k
-  tables-set k vs zs gs run rs more zs_are gs_are es kept outs stay made_stay joins groups works loads there =
+  tables-set k vs zs gs run rs remain zs_are gs_are es kept outs stay made_stay joins groups works loads there =
       record {
         run = run;
         registries_are = rs;
@@ -130,11 +158,14 @@ module _ {C : Type 0} {M : Meaning C} {w : WorldValue C} {h : History C} (s : St
             elim (there g e in_) [
               | inl was ↦
                   let on = s.on_site g e was in
+                  let still = remain e.registry on.shared on.registry in
                   record {
                     view = on.view;
                     gate = stay e.gate on.view on.gate;
                     id = on.id;
-                    registry = omega (arith, more, on.registry);
+                    shared = still.now;
+                    registry = still.there;
+                    one = still.one ∙ on.one;
                   }
               | inr new ↦ new.2
             ];
@@ -147,19 +178,20 @@ module _ {C : Type 0} {M : Meaning C} {w : WorldValue C} {h : History C} (s : St
 
   -- the registries alone are others
   registries-set : (k : History C) (vs : List (RegistryValue WorldRule)) → IsRun M k → length vs ≡ length (registries k)
-      → length w.registries ≤ length vs → gates k ≡ gates h → made k ≡ made h → entries k ≡ entries h
+      → Remain w.registries vs → gates k ≡ gates h → made k ≡ made h → entries k ≡ entries h
       → ((r : ℕ) (v : RegistryValue WorldRule) → slice_get vs r ≡ Some v → IsRegistryAfter key_gives (key_at r k) (registry_events r k) v)
       → ((g : ℕ) → group_events g k ≡ group_events g h) → ((g : ℕ) → slot_events g k ≡ slot_events g h)
       → ((g i : ℕ) → work g i k ≡ work g i h) → ((g : ℕ) (b : Member) → load_of g b k ≡ load_of g b h)
       → ((x : ℕ) → is_out x k ≡ is_out x h) → Stands M (record w { registries = vs }) k
-  registries-set k vs run rs more zs ms es kept joins groups works loads outs =
-      tables-set k vs w.gates w.groups run rs more (s.gates_are ∙ sym zs) (s.groups_are ∙ ap length (sym ms)) es kept
+  registries-set k vs run rs remain zs ms es kept joins groups works loads outs =
+      tables-set k vs w.gates w.groups run rs remain (s.gates_are ∙ sym zs) (s.groups_are ∙ ap length (sym ms)) es kept
       (λ x z in_. s.outs x z in_ ∙ sym (outs x)) (λ x z in_. in_) (λ g m at. ap (λ xs. slice_get xs g) ms ∙ at) joins groups works loads
       (λ g e in_. inl in_)
 
   pub stands-alike : (k : History C) → TellsAlike h k → IsRun M k → Stands M w k
   stands-alike k e run =
-      registries-set k w.registries run (s.registries_are ∙ ap length e.rest.registries_made) (omega arith) (sym e.rest.gates_made)
+      registries-set k w.registries run (s.registries_are ∙ ap length e.rest.registries_made) (remain-all w.registries)
+      (sym e.rest.gates_made)
       (sym e.rest.groups_made) (sym e.rest.readers)
       (λ r v there.
       rw (← e.rest.shared r) (subst (λ rs. IsRegistryAfter key_gives (key_in (slice_get rs r)) (registry_events r h) v)
@@ -202,22 +234,36 @@ module _ {C : Type 0} {M : Meaning C} {w : WorldValue C} {h : History C} (s : St
   pub no-group : (g : ℕ) → length w.groups ≤ g → made_at g h ≡ None
   no-group g few = slice_get_past (made h) g (omega (arith, s.groups_are, few))
 
+  -- the registry of a group is its own
+  pub own-registry : (g : ℕ) (e : EntryValue C) (u : RegistryValue WorldRule) → slice_get w.groups g ≡ Some e
+      → slice_get w.registries e.registry ≡ Some u → u.id ≡ e.core.registry
+  own-registry g e u there registry-there =
+      let on = s.on_site g e there in
+      ap (λ t. t.id) (same_Some u on.shared (sym registry-there ∙ on.registry)) ∙ on.one
+
   -- a group with its gate and its registry
   pub before : (g : ℕ) (e : EntryValue C) (z : GateValue) (u : RegistryValue WorldRule) → slice_get w.groups g ≡ Some e
       → slice_get w.gates e.gate ≡ Some z → slice_get w.registries e.registry ≡ Some u → Before M h g e z u
   before g e z u there gate-there registry-there =
       let is = s.each g e there in
-      record { run = s.run; is = is; out = s.outs e.gate z gate-there; kept = rw (key-here is) (s.kept e.registry u registry-there) }
+      record {
+        run = s.run;
+        is = is;
+        out = s.outs e.gate z gate-there;
+        kept = rw (key-here is) (s.kept e.registry u registry-there);
+        own = own-registry g e u there registry-there;
+      }
 
   -- the site of a group stays
   placed : (gs : List (EntryValue C)) (rs : List (Option (OpenReaderValue C))) (e x d : EntryValue C) (z y : GateValue)
-      (v : RegistryValue WorldRule) → slice_get w.gates e.gate ≡ Some z → y.id ≡ z.id
-      → d.registry ≡ x.registry → d.gate ≡ x.gate → d.core.group.gate ≡ x.core.group.gate → OnSite w x
+      (u v : RegistryValue WorldRule) → slice_get w.gates e.gate ≡ Some z → y.id ≡ z.id → slice_get w.registries e.registry ≡ Some u
+      → v.id ≡ u.id → d.registry ≡ x.registry → d.core.registry ≡ x.core.registry → d.gate ≡ x.gate
+      → d.core.group.gate ≡ x.core.group.gate → OnSite w x
       → OnSite
       (record { registries = slice_set w.registries e.registry v; gates = slice_set w.gates e.gate y; groups = gs; readers = rs }) d
-  placed gs rs e x d z y v there same r a i on =
-      let inside : d.registry < length (slice_set w.registries e.registry v) =
-      omega (arith, length-set w.registries e.registry v, on.registry, r) in
+  placed gs rs e x d z y u v there same registry-there one r n a i on =
+      let still = remain-set w.registries e.registry u v registry-there one x.registry on.shared on.registry in
+      let at = ap (slice_get (slice_set w.registries e.registry v)) r ∙ still.there in
       elim (cases_eq d.gate e.gate) [
         | inl p ↦
             record {
@@ -225,14 +271,18 @@ module _ {C : Type 0} {M : Meaning C} {w : WorldValue C} {h : History C} (s : St
               gate = ap (slice_get (slice_set w.gates e.gate y)) p ∙ set_found w.gates e.gate z y there;
               id = same ∙ ap (λ t. t.id) (same_Some z on.view (sym there ∙ ap (slice_get w.gates) (sym p ∙ a) ∙ on.gate)) ∙ on.id ∙
                   sym i;
-              registry = inside;
+              shared = still.now;
+              registry = at;
+              one = still.one ∙ on.one ∙ sym n;
             }
         | inr off ↦
             record {
               view = on.view;
               gate = get_other w.gates e.gate d.gate y off ∙ ap (slice_get w.gates) a ∙ on.gate;
               id = on.id ∙ sym i;
-              registry = inside;
+              shared = still.now;
+              registry = at;
+              one = still.one ∙ on.one ∙ sym n;
             }
       ]
 
@@ -266,6 +316,7 @@ module _ {C : Type 0} {M : Meaning C} {w : WorldValue C} {h : History C} (s : St
       let is = s.each g e there in
       let now = at-group h st a g at in
       let same-id : y.id ≡ z.id = ap (λ x. x.id) next.out in
+      let one : v.id ≡ u.id = next.own ∙ next.one ∙ sym (own-registry g e u there registry-there) in
       let gate-at : gate_in h (group_at h st) ≡ Some e.gate = ap (gate_in h) at ∙ gate-here is in
       let registry-at : registry_at h st ≡ Some e.registry = now.registry_is ∙ registry-here is in
       record {
@@ -292,9 +343,10 @@ module _ {C : Type 0} {M : Meaning C} {w : WorldValue C} {h : History C} (s : St
         each = each-set w.groups g e d there next.is (λ i x off was. entry-else h st a g i x at off (s.each i x was));
         on_site =
             each-set w.groups g e d there
-            (placed (slice_set w.groups g d) rs e e d z y v gate-there same-id next.registry_is next.gate_is
+            (placed (slice_set w.groups g d) rs e e d z y u v gate-there same-id registry-there one next.registry_is next.one next.gate_is
             (ap (λ o. o.gate) next.origin_is) (s.on_site g e there))
-            (λ i x off was. placed (slice_set w.groups g d) rs e x x z y v gate-there same-id refl refl refl (s.on_site i x was));
+            (λ i x off was.
+            placed (slice_set w.groups g d) rs e x x z y u v gate-there same-id registry-there one refl refl refl refl (s.on_site i x was));
         own = owns;
       }
 
@@ -309,21 +361,20 @@ module _ {C : Type 0} {M : Meaning C} {w : WorldValue C} {h : History C} (s : St
       → Stands M (record w { groups = slice_set w.groups g d; readers = rs }) ((st, a) ∷ h)
   group-moves g st a e d rs at reads owns there next =
       let on = s.on_site g e there in
-      let u = there-at w.registries e.registry on.registry in
-      rw (set-same w.registries e.registry u.0 u.1, set-same w.gates e.gate on.view on.gate)
-      at (world-moves g st a e d on.view on.view u.0 u.0 rs at reads owns there on.gate u.1
-      (next on.view u.0 (before g e on.view u.0 there on.gate u.1)))
+      rw (set-same w.registries e.registry on.shared on.registry, set-same w.gates e.gate on.view on.gate)
+      at (world-moves g st a e d on.view on.view on.shared on.shared rs at reads owns there on.gate on.registry
+      (next on.view on.shared (before g e on.view on.shared there on.gate on.registry)))
 
   -- one registry is another after a history that tells the same of all else
   pub registry-set : (k : History C) (r : ℕ) (u v : RegistryValue WorldRule) → IsRun M k → registries k ≡ registries h → gates k ≡ gates h
       → made k ≡ made h → entries k ≡ entries h → ((i : ℕ) → (i ≡ r → ⊥) → registry_events i k ≡ registry_events i h)
       → ((g : ℕ) → group_events g k ≡ group_events g h) → ((g : ℕ) → slot_events g k ≡ slot_events g h)
       → ((g i : ℕ) → work g i k ≡ work g i h) → ((g : ℕ) (b : Member) → load_of g b k ≡ load_of g b h)
-      → ((x : ℕ) → is_out x k ≡ is_out x h) → slice_get w.registries r ≡ Some u
+      → ((x : ℕ) → is_out x k ≡ is_out x h) → slice_get w.registries r ≡ Some u → v.id ≡ u.id
       → IsRegistryAfter key_gives (key_at r h) (registry_events r k) v → Stands M (record w { registries = slice_set w.registries r v }) k
-  registry-set k r u v run rs zs ms es others joins groups works loads outs there now =
+  registry-set k r u v run rs zs ms es others joins groups works loads outs there one now =
       registries-set s k (slice_set w.registries r v) run (length-set w.registries r v ∙ s.registries_are ∙ ap length (sym rs))
-      (omega (arith, length-set w.registries r v)) zs ms es
+      (remain-set w.registries r u v there one) zs ms es
       (λ i x found_.
       subst (λ ms. IsRegistryAfter key_gives (key_in (slice_get ms i)) (registry_events i k) x) (sym rs)
       (each-set {Q = λ (i : ℕ) (t : RegistryValue WorldRule). IsRegistryAfter key_gives (key_at i h) (registry_events i k) t}
@@ -331,11 +382,11 @@ module _ {C : Type 0} {M : Meaning C} {w : WorldValue C} {h : History C} (s : St
       joins groups works loads outs
 
   -- and one that was borrowed is in the state after the same history
-  registry-lent : (r : ℕ) (u v : RegistryValue WorldRule) → slice_get w.registries r ≡ Some u
+  registry-lent : (r : ℕ) (u v : RegistryValue WorldRule) → slice_get w.registries r ≡ Some u → v.id ≡ u.id
       → IsRegistryAfter key_gives (key_at r h) (registry_events r h) v → Stands M (record w { registries = slice_set w.registries r v }) h
-  registry-lent r u v there now =
+  registry-lent r u v there one now =
       registry-set h r u v s.run refl refl refl refl (λ i off. refl) (λ g. refl) (λ g. refl) (λ g i. refl) (λ g b. refl) (λ x. refl) there
-      now
+      one now
 
 -- a flip is answered where the health is another one
 flip-told : (b new old : Bool) → (IsTrue b ↔ (new ≢ old)) → b ≡ not (agree old new)
@@ -360,10 +411,10 @@ marks-fit key_of events u now = omega (arith, marks_start_none key_of events now
 module _ {C : Type 0} {M : Meaning C} {w : WorldValue C} {h : History C} (s : Stands M w h) where
   -- a right refusal, of a world whose registry was borrowed
   pub lent-refused : {st : Step C} {f : Refusal} (r : ℕ) {u v : RegistryValue WorldRule} → slice_get w.registries r ≡ Some u
-      → Answers M h st (Answer.Refused f) → Tells u (λ k es. IsRegistryAfter key_gives k es v)
+      → v.id ≡ u.id → Answers M h st (Answer.Refused f) → Tells u (λ k es. IsRegistryAfter key_gives k es v)
       → Stands M (record w { registries = slice_set w.registries r v }) ((st, Answer.Refused f) ∷ h)
-  lent-refused {st} {f} r {u} {v} there right after =
-      let refused = world-refused s {st = st} {r = f} right in registry-lent refused r u v there (after _ _ (refused.kept r u there))
+  lent-refused {st} {f} r {u} {v} there one right after =
+      let refused = world-refused s {st = st} {r = f} right in registry-lent refused r u v there one (after _ _ (refused.kept r u there))
 
   -- what a registry was made with
   made-there : (r : ℕ) (u : RegistryValue WorldRule) → slice_get w.registries r ≡ Some u → (m : RegistryMade)
@@ -372,51 +423,51 @@ module _ {C : Type 0} {M : Meaning C} {w : WorldValue C} {h : History C} (s : St
 
   -- one registry moves by a step that tells nothing of all else
   pub verdict-next : (r c threshold : ℕ) (ok b : Bool) (u v : RegistryValue WorldRule) → slice_get w.registries r ≡ Some u
-      → Tells u (λ k es. IsRegistryAfter key_gives k (Observed c (record { ok = ok; threshold = threshold }) ∷ es) v)
+      → v.id ≡ u.id → Tells u (λ k es. IsRegistryAfter key_gives k (Observed c (record { ok = ok; threshold = threshold }) ∷ es) v)
       → Tells u (λ k es.
       IsTrue b ↔ (cell_health k c (Observed c (record { ok = ok; threshold = threshold }) ∷ es) ≢ cell_health k c es))
       → Tells u (λ k es. IsCellKept k c es)
       → Stands M (record w { registries = slice_set w.registries r v }) ((Step.verdict r c ok threshold, Answer.Flipped b) ∷ h)
-  verdict-next r c threshold ok b u v there after flips kept =
+  verdict-next r c threshold ok b u v there one after flips kept =
       let m = (made-there r u there).1 in
       let now = rw m at (s.kept r u there) in
       let st : Step C = Step.verdict r c ok threshold in
       registry-set s ((st, Answer.Flipped b) ∷ h) r u v
       (s.run, rw m (inl (kept _ _ now, ap Answer.Flipped (flip-told b _ _ (flips _ _ now))))) refl refl refl refl
       (λ i off. (others-stay h st (Answer.Flipped b)).registries i (ne_eqb r i (λ q. off (sym q)))) (λ g. refl) (λ g. refl) (λ g i. refl)
-      (λ g b. refl) (λ x. refl) there (rw (eq-eqb r r refl) (after _ _ (s.kept r u there)))
+      (λ g b. refl) (λ x. refl) there one (rw (eq-eqb r r refl) (after _ _ (s.kept r u there)))
 
   pub verdict-refused : (r c threshold : ℕ) (ok : Bool) (u v : RegistryValue WorldRule) → slice_get w.registries r ≡ Some u → v ≡ u
       → Tells u (λ k es. IsCellKept k c es → ⊥)
       → Stands M (record w { registries = slice_set w.registries r v }) ((Step.verdict r c ok threshold, Answer.Refused Refusal.NoSuch) ∷ h)
   verdict-refused r c threshold ok u v there same off =
       let m = (made-there r u there).1 in
-      lent-refused r there (rw m (inr (rw m at (off _ _ (s.kept r u there)), refl))) (λ k es now. rw same now)
+      lent-refused r there (ap (λ t. t.id) same) (rw m (inr (rw m at (off _ _ (s.kept r u there)), refl))) (λ k es now. rw same now)
 
   targets-told : (r : ℕ) (u : RegistryValue WorldRule) → slice_get w.registries r ≡ Some u
       → right_answer M h (Step.targets r) ≡ Answer.Targets (targets_after (key_at r h) (Applied ∷ registry_events r h))
   targets-told r u there = let m = (made-there r u there).1 in rw m refl
 
-  pub targets-next : (r : ℕ) (ts : List Target) (u v : RegistryValue WorldRule) → slice_get w.registries r ≡ Some u
+  pub targets-next : (r : ℕ) (ts : List Target) (u v : RegistryValue WorldRule) → slice_get w.registries r ≡ Some u → v.id ≡ u.id
       → Tells u (λ k es. IsRegistryAfter key_gives k (Applied ∷ es) v) → Tells u (λ k es. ts ≡ targets_after k (Applied ∷ es))
       → Stands M (record w { registries = slice_set w.registries r v }) ((Step.targets r, Answer.Targets ts) ∷ h)
-  targets-next r ts u v there after told =
+  targets-next r ts u v there one after told =
       let now = s.kept r u there in
       let st : Step C = Step.targets r in
       registry-set s ((st, Answer.Targets ts) ∷ h) r u v (s.run, inl (ap Answer.Targets (told _ _ now) ∙ sym (targets-told r u there))) refl
       refl refl refl (λ i off. (others-stay h st (Answer.Targets ts)).registries i (ne_eqb r i (λ q. off (sym q)))) (λ g. refl) (λ g. refl)
-      (λ g i. refl) (λ g b. refl) (λ x. refl) there (rw (eq-eqb r r refl) (after _ _ now))
+      (λ g i. refl) (λ g b. refl) (λ x. refl) there one (rw (eq-eqb r r refl) (after _ _ now))
 
   -- a refusal other than for the want of a number is for memory
-  pub targets-refused : (r : ℕ) (e : Refusal) (u v : RegistryValue WorldRule) → slice_get w.registries r ≡ Some u
+  pub targets-refused : (r : ℕ) (e : Refusal) (u v : RegistryValue WorldRule) → slice_get w.registries r ≡ Some u → v.id ≡ u.id
       → Tells u (λ k es. IsRegistryAfter key_gives k es v) → (e ≡ Refusal.OutOfMemory) ⊎ (e ≡ Refusal.NumbersExhausted)
       → Tells u (λ k es. e ≡ Refusal.NumbersExhausted → 2 ^ 64 ≤ cells_given k (Applied ∷ es))
       → Stands M (record w { registries = slice_set w.registries r v }) ((Step.targets r, Answer.Refused e) ∷ h)
-  targets-refused r e u v there after cause many =
+  targets-refused r e u v there one after cause many =
       let now = s.kept r u there in
       let memory : e ≡ Refusal.OutOfMemory =
       elim cause [ inl is ↦ is | inr is ↦ absurd (omega (arith, many _ _ now is, marks-fit _ _ u now)) ] in
-      lent-refused r there (rw memory (inr (sym (ap (without_memory {C = C} (Step.targets r)) (targets-told r u there))))) after
+      lent-refused r there one (rw memory (inr (sym (ap (without_memory {C = C} (Step.targets r)) (targets-told r u there))))) after
 
   pub registry-made : (rule : CellKey) (healthy : Bool) (n : ℕ) (v : RegistryValue WorldRule) → n ≡ length w.registries
       → IsRegistryAfter key_gives (key_by rule) (started healthy) v
@@ -425,7 +476,7 @@ module _ {C : Type 0} {M : Meaning C} {w : WorldValue C} {h : History C} (s : St
       registries-set s ((Step.registry rule healthy, Answer.Registry n) ∷ h) (w.registries ++ v ∷ [])
       (s.run, inl (ap Answer.Registry (number ∙ s.registries_are)))
       (length_push w.registries v ∙ ap (λ k. k + 1) s.registries_are ∙ sym (length_push (registries h) _))
-      (omega (arith, length_push w.registries v)) refl refl refl
+      (remain-push w.registries v) refl refl refl
       (each-push w.registries v (rw (s.registries_are, eq-eqb (length (registries h)) (length (registries h)) refl, get_last) new)
       (λ i x low was.
       let m = there-at (registries h) i (omega (arith, low, s.registries_are)) in
@@ -440,7 +491,7 @@ module _ {C : Type 0} {M : Meaning C} {w : WorldValue C} {h : History C} (s : St
         s.run,
         inl (ap Answer.Gate (number ∙ s.gates_are)),
       )
-      s.registries_are (omega arith) (length_push w.gates z ∙ ap (λ k. k + 1) s.gates_are) s.groups_are refl s.kept
+      s.registries_are (remain-all w.registries) (length_push w.gates z ∙ ap (λ k. k + 1) s.gates_are) s.groups_are refl s.kept
       (each-push w.gates z (free ∙ sym (ap (λ i. is_out i h) s.gates_are ∙ gate-unmade M h s.run)) (λ x y low was. s.outs x y was))
       (λ x y was. get-kept w.gates z y x was) (λ g m at. at) (λ g. refl) (λ g. refl) (λ g i. refl) (λ g b. refl) (λ g e in_. inl in_)
 
@@ -616,4 +667,4 @@ module _ {C : Type 0} {M : Meaning C} {w : WorldValue C} {h : History C} (s : St
       at (registry-set s ((Step.ready t (Some b), Answer.Ready is) ∷ h) e.registry u u
       (s.run, rw (entered-in s t (Some r) there_) (is, refl, judged)) refl refl refl refl (λ i off. refl) (λ g. refl) (λ g. refl)
       (λ g i. refl)
-      (λ g b. refl) (λ x. refl) registry-there (s.kept e.registry u registry-there))
+      (λ g b. refl) (λ x. refl) registry-there refl (s.kept e.registry u registry-there))

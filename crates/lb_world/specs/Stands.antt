@@ -1,5 +1,5 @@
 -- A world after a history: the answers are a run, and each table is what the history says.
-use Rattle.std.specs.Prelude.{◌≡◌, ◌<◌, ℕ, Bool, true, false, ◌||◌, List, ◌∷◌, Some, length, map, slice_get, if◌then◌else◌}
+use Rattle.std.specs.Prelude.{◌≡◌, ℕ, Bool, true, false, ◌||◌, List, ◌∷◌, Some, length, map, slice_get, if◌then◌else◌}
 use Rattle.std.specs.Option.{option_map}
 use Rattle.lb_select_base.specs.Backends.{Member}
 use Rattle.lb_select_base.specs.Loads.{load_in}
@@ -23,12 +23,14 @@ use Rattle.lb_world.specs.Works.{held_of}
 abbrev pub permit_after : {C : Type 0} → Step C → Answer → Bool → Bool
 permit_after st a out = if is_grant st a then true else if is_failure st a || is_destruction st a then false else out
 
--- the gate of a group is there, with the identity that the group has of it, and its registry is there
+-- the gate of a group is there, and its registry, each with the identity that the group has of it
 pub record OnSite {C : Type 0} (w : WorldValue C) (e : EntryValue C) : Type 0 where
   pub view : GateValue
   pub gate : slice_get w.gates e.gate ≡ Some view
   pub id : view.id ≡ e.core.group.gate
-  pub registry : e.registry < length w.registries
+  pub shared : RegistryValue WorldRule
+  pub registry : slice_get w.registries e.registry ≡ Some shared
+  pub one : shared.id ≡ e.core.registry
 
 module _ {C : Type 0} where
   -- what a group was made with, as its entry has it
@@ -69,14 +71,15 @@ module _ {C : Type 0} (M : Meaning C) where
     pub history : History C
     pub stands : Stands w history
 
-  -- a group with its gate and its registry, before a step
+  -- a group with its gate and its own registry, before a step
   pub record Before (h : History C) (g : ℕ) (e : EntryValue C) (z : GateValue) (v : RegistryValue WorldRule) : Type 0 where
     pub run : IsRun M h
     pub is : EntryIs h g e
     pub out : z.out ≡ is_out e.gate h
     pub kept : IsRegistryAfter key_gives (key_of g h) (registry_events e.registry h) v
+    pub own : v.id ≡ e.core.registry
 
-  -- a right step at a group: the group, its gate and its registry after it
+  -- a right step at a group: the group, its gate and its registry after it; the group's registry is the same one
   pub record EntryNext (h : History C) (g : ℕ) (st : Step C) (a : Answer) (e : EntryValue C) (z : GateValue) (e2 : EntryValue C)
       (z2 : GateValue) (v2 : RegistryValue WorldRule)
       : Type 0 where
@@ -87,6 +90,8 @@ module _ {C : Type 0} (M : Meaning C) where
     pub origin_is : origin e2.core ≡ origin e.core
     pub out : z2 ≡ gate z.id (permit_after st a z.out)
     pub kept : IsRegistryAfter key_gives (key_of g h) (registry_events e.registry ((st, a) ∷ h)) v2
+    pub one : e2.core.registry ≡ e.core.registry
+    pub own : v2.id ≡ e2.core.registry
 
   -- what a call at an entry does, after each history and as each number
   abbrev pub Performs : (ℕ → Step C) → EntryValue C → GateValue → RegistryValue WorldRule → Answer → EntryValue C → GateValue

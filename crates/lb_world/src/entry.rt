@@ -91,6 +91,7 @@ impl<S: BackendSelection> Entry<S> {
         local: GroupStep<'_>,
     ) -> Answer
         requires gate { gate.old.id ≡ self.old.core.group.gate }
+        requires registry { registry.old.id ≡ self.old.core.registry }
         requires whole { IsWhole local }
         requires stands { IsEntry (meaning_of S.BackendSelection) self.old }
         ensures { Performs (meaning_of S.BackendSelection) (λ (g : ℕ). group_step_seen g local.entry)
@@ -152,6 +153,7 @@ impl<S: BackendSelection> Entry<S> {
 
     // Stops the rebuilds for good.
     fn cancel(&mut self, registry: &mut WorldRegistry) -> Answer
+        requires registry { registry.old.id ≡ self.old.core.registry }
         ensures { PerformsAtRegistry (meaning_of S.BackendSelection) (λ (g : ℕ). seen.cancel g)
             self.old registry.old result self.new registry.new }
     {

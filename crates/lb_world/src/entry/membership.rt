@@ -51,6 +51,8 @@ impl<S: BackendSelection> Entry<S> {
     ) -> Result<Entry<S>, Refusal>
         requires empty { room.items ≡ [] }
         requires fits { vec_len configs ≤ vec_capacity room }
+        ensures site { IfOk result (λ e. e.core.registry ≡ registry.old.id) }
+        ensures one_registry { registry.new.id ≡ registry.old.id }
         ensures made { IfOk result (λ e. (key_of : Member → Member) (events : List Event)
             → IsRegistryAfter key_gives key_of events registry.old
             → IsNewEntry at.0 at.1 gate.now.id configs.items (registered_after events + 1) e
@@ -89,6 +91,7 @@ impl<S: BackendSelection> Entry<S> {
         listings: Vec<Listing>,
         now: u128,
     ) -> Answer
+        requires registry { registry.old.id ≡ self.old.core.registry }
         requires whole { has_refused listings.items ≡ false }
         requires stands { IsEntry (meaning_of S.BackendSelection) self.old }
         ensures { PerformsAtRegistry (meaning_of S.BackendSelection)
@@ -120,6 +123,7 @@ impl<S: BackendSelection> Entry<S> {
         limit: usize,
         words: &[u64],
     ) -> Answer
+        requires registry { registry.now.id ≡ self.old.core.registry }
         ensures { (z : GateValue) → Performs (meaning_of S.BackendSelection)
             (λ (g : ℕ). seen.select g slot key.now limit words.now) self.old z registry.now result self.new z registry.now }
     {

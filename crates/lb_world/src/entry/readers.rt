@@ -60,7 +60,8 @@ impl<S: BackendSelection> Entry<S> {
         registry: &WorldRegistry,
         backend: &Backend,
     ) -> bool
-        requires { IsOwnReader self.now.core reader.now }
+        requires own { IsOwnReader self.now.core reader.now }
+        requires registry { registry.now.id ≡ self.now.core.registry }
         ensures { (key_of : Member → Member) (events : List Event)
             → IsRegistryAfter key_gives key_of events registry.now
             → After self.now.core (λ made e. IsTrue result ↔ IsReady key_of (views_of made e) events reader.now.generation backend.now) }

@@ -51,6 +51,7 @@ impl<S: BackendSelection> Entry<S> {
         now: u128,
     ) -> Answer
         requires gate { gate.old.id ≡ self.old.core.group.gate }
+        requires registry { registry.old.id ≡ self.old.core.registry }
         requires stands { IsEntry (meaning_of S.BackendSelection) self.old }
         ensures { Performs (meaning_of S.BackendSelection) (λ (g : ℕ). seen.build g slot now)
             self.old gate.old registry.old result self.new gate.new registry.new }
@@ -85,6 +86,7 @@ impl<S: BackendSelection> Entry<S> {
         now: u128,
     ) -> Answer
         requires gate { gate.old.id ≡ self.old.core.group.gate }
+        requires registry { registry.old.id ≡ self.old.core.registry }
         requires stands { IsEntry (meaning_of S.BackendSelection) self.old }
         ensures { Performs (meaning_of S.BackendSelection) (λ (g : ℕ). seen.failbuild g slot now)
             self.old gate.old registry.old result self.new gate.new registry.new }
@@ -162,6 +164,7 @@ impl<S: BackendSelection> Entry<S> {
         registry: &mut WorldRegistry,
     ) -> Answer
         requires gate { gate.old.id ≡ self.old.core.group.gate }
+        requires registry { registry.old.id ≡ self.old.core.registry }
         requires stands { IsEntry (meaning_of S.BackendSelection) self.old }
         ensures { Performs (meaning_of S.BackendSelection) (λ (g : ℕ). seen.destroy g slot)
             self.old gate.old registry.old result self.new gate.new registry.new }

@@ -20,7 +20,13 @@ fail-requires g c =
     let at = at-place c.self.inside.works.items c.args.slot _ (omega arith) c.index_mut-place.ensures.value ∙ ap Some c.in-Some.ensures.0 in
     let its = own-task own (holds own c.in-Some.job Work.building at refl) in
     let same = c.in-Err.ensures.failed.0 in
-    record { own = rw same its.0; permit = rw same its.1; config = rw same its.2; gate = rw (← c.self.view_is) at c.requires.gate }
+    record {
+      own = rw same its.0;
+      permit = rw same its.1;
+      config = rw same its.2;
+      gate = rw (← c.self.view_is) at c.requires.gate;
+      registry = rw (← c.self.view_is) at c.requires.registry;
+    }
 
 pub unreachable-requires : goal.unreachable-requires
 unreachable-requires g c =
@@ -45,4 +51,4 @@ returns-in-Ok-fail g c =
     let same = c.in-Err.ensures.failed.0 in
     does-fall b (holds b.is c.in-Some.job Work.building at refl) at
     (c.fail.ensures.site, rw same at (c.in-Ok-fail.ensures.stands _ _ b.is.core_is)) c.in-Ok-fail.ensures.gate
-    (rw same at (c.in-Ok-fail.ensures.registry _ _ b.kept _ _ b.is.core_is)) _ c.in-Err.ensures.failed.1)
+    (rw same at (c.in-Ok-fail.ensures.registry _ _ b.kept _ _ b.is.core_is), c.fail.ensures.one_registry) _ c.in-Err.ensures.failed.1)

@@ -11,4 +11,5 @@ returns g c =
     next-core b refl (inl (sym (group-told b.is Answer.Cancelled))) (c.cancel.ensures.site, c.cancel.ensures.stands _ _ b.is.core_is) refl
     (λ x. refl) (λ m. refl) refl
     (shared b (Step.cancel n) Answer.Cancelled refl
-    (ap (λ o. registry.Marked (view_in o) ∷ registry_events c.self.inside.registry h) b.is.made_is) (c.cancel.ensures.registry _ _ b.kept)))
+    (ap (λ o. registry.Marked (view_in o) ∷ registry_events c.self.inside.registry h) b.is.made_is) (c.cancel.ensures.registry _ _ b.kept)
+    c.cancel.ensures.one_registry))

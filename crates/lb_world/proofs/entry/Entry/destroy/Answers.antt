@@ -11,6 +11,7 @@ site-then a b =
       group =
           record { id = b.group.id ∙ a.group.id; gate = b.group.gate ∙ a.group.gate; configs = b.group.configs ∙ a.group.configs };
       id = b.id ∙ a.id;
+      registry = b.registry ∙ a.registry;
     }
 
 pub unreachable-requires : goal.unreachable-requires
@@ -35,4 +36,4 @@ returns-in-Ok-destroyed g c =
     let first = c.take_retired.ensures.site in
     does-destroy b c.args.slot _ (site-then first c.destroyed.ensures.site, c.in-Ok-destroyed.ensures.stands _ _ after)
     (c.in-Ok.ensures.answers _ _ b.is.core_is).0 refl c.in-Ok-destroyed.ensures.gate
-    (rw first.id at (c.in-Ok-destroyed.ensures.registry _ _ b.kept _ _ after)))
+    (rw first.id at (c.in-Ok-destroyed.ensures.registry _ _ b.kept _ _ after), c.destroyed.ensures.one_registry))

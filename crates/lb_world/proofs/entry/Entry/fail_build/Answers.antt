@@ -19,7 +19,13 @@ fail-requires g c =
     let own = rw (← c.self.view_is) at c.requires.stands.is in
     let at = at-place c.self.inside.works.items c.args.slot _ (omega arith) c.index_mut-place.ensures.value ∙ ap Some c.in-Some.ensures.0 in
     let its = own-task own (holds own c.in-Some.job Work.building at refl) in
-    record { own = its.0; permit = its.1; config = its.2; gate = rw (← c.self.view_is) at c.requires.gate }
+    record {
+      own = its.0;
+      permit = its.1;
+      config = its.2;
+      gate = rw (← c.self.view_is) at c.requires.gate;
+      registry = rw (← c.self.view_is) at c.requires.registry;
+    }
 
 pub unreachable-requires : goal.unreachable-requires
 unreachable-requires g c =
@@ -34,4 +40,4 @@ returns g c =
     (λ h n b.
     let at = at-place c.self.inside.works.items c.args.slot _ (omega arith) c.index_mut-place.ensures.value ∙ ap Some c.in-Some.ensures.0 in
     does-fail b (holds b.is c.in-Some.job Work.building at refl) at (c.fail.ensures.site, c.in-Ok.ensures.stands _ _ b.is.core_is)
-    c.in-Ok.ensures.gate (c.in-Ok.ensures.registry _ _ b.kept _ _ b.is.core_is))
+    c.in-Ok.ensures.gate (c.in-Ok.ensures.registry _ _ b.kept _ _ b.is.core_is, c.fail.ensures.one_registry))

@@ -49,10 +49,10 @@ module _ {C : Type 0} {M : Meaning C} {h : History C} {g : ℕ} {e : EntryValue 
       → IsRefusedFor (group.slot_events (group_events g h)) (members_in ls) r
       → (r ≡ Refusal.NoSuch → registry.has_view e.core.view.id (registry.views_after (registry_events e.registry h)) ≡ false)
       → (r ≡ Refusal.NumbersExhausted → 2 ^ 64 ≤ cells) → Lacks M h g now ls (made_of e) (Err r) → Moves e (group_events g h) core
-      → IsRegistryAfter key_gives (key_of g h) (registry_events e.registry h) u
+      → IsRegistryAfter key_gives (key_of g h) (registry_events e.registry h) u → u.id ≡ v.id
       → EntryNext M h g st (Answer.Refused r) e z (with_core core e) z u
-  does-refuse {u = u} why unknown numbers lacks moves kept =
-      let lent : Before M h g e z u = record { run = b.run; is = b.is; out = b.out; kept = kept } in
+  does-refuse {u = u} why unknown numbers lacks moves kept one =
+      let lent : Before M h g e z u = record { run = b.run; is = b.is; out = b.out; kept = kept; own = one ∙ b.own } in
       next-refused lent refl (refused M h g now ls (made_of e) b.run b.is.made_is whole why unknown numbers lacks) moves
 
   -- the core made it the newest, or left the newest
@@ -64,11 +64,11 @@ module _ {C : Type 0} {M : Meaning C} {h : History C} {g : ℕ} {e : EntryValue 
       → IsRegistryAfter key_gives (key_of g h)
       (registry_updated (key_of g h) e.core.view.id (members_in ls) (views_of (site e.core) (group_events g h))
       (registry_events e.registry h)) u
-      → EntryNext M h g st (scheduled_as s) e z (with_core core e) z u
-  does-update s {core} {u} scheduled lacks moves kept =
+      → u.id ≡ v.id → EntryNext M h g st (scheduled_as s) e z (with_core core e) z u
+  does-update s {core} {u} scheduled lacks moves kept one =
       let did = updates M h g now ls (made_of e) b.run b.is.made_is whole (site e.core) s scheduled lacks in
       next-core b refl did.right (moves.0, subst (λ es. stands.Stands (site e.core) es core) (sym did.joins) moves.1) refl (λ x. refl)
-      (λ m. refl) refl (subst (λ es. IsRegistryAfter key_gives (key_of g h) es u) (sym did.shares) kept)
+      (λ m. refl) refl (subst (λ es. IsRegistryAfter key_gives (key_of g h) es u) (sym did.shares) kept, one ∙ b.own)
 
 pub returns-in-Some : goal.returns-in-Some
 returns-in-Some g c =
@@ -92,14 +92,14 @@ returns g c =
           (λ e. w.in-Err.ensures.unknown (ap Err e) _ _ b.kept) (λ e. rw set at (w.in-Err.ensures.numbers (ap Err e) _ _ b.kept))
           (rw set at (w.in-Err.ensures.lacking _ _ b.kept _ _ b.is.core_is))
           (c.schedule.ensures.site, w.in-Err.ensures.err _ _ b.is.core_is)
-          (w.in-Err.ensures.registry_err _ _ b.kept))
+          (w.in-Err.ensures.registry_err _ _ b.kept) c.schedule.ensures.one_registry)
       | goal.in-Ok w ↦
           let flags = rw c.in-Ok-Ok.is-0 at c.settings_from-settings.ensures.settings ∙ ap settings_in c.deref-3.ensures.value in
           rw (w.result-is, w.generation_of.ensures)
           (does-update b c.args.now ls c.requires.whole _ (rw set at (w.in-Ok.ensures.answers _ _ b.is.core_is))
           (rw set at (w.in-Ok.ensures.lacking _ _ b.kept _ _ b.is.core_is))
           (c.schedule.ensures.site, rw (set, flags) at (w.in-Ok.ensures.stands _ _ b.kept _ _ b.is.core_is))
-          (rw set at (w.in-Ok.ensures.registry _ _ b.kept _ _ b.is.core_is)))
+          (rw set at (w.in-Ok.ensures.registry _ _ b.kept _ _ b.is.core_is)) c.schedule.ensures.one_registry)
     ])
 
 pub returns-then-lacks_numbers : goal.returns-then-lacks_numbers

@@ -3,7 +3,7 @@ use Rattle.lb_world.specs.Internal.GroupSteps.{IsWhole, group_step_seen}
 use Rattle.lb_world.specs.declared.group_step.GroupStep.{GroupStep}
 use Rattle.lb_world.proofs.Words.{◌∷◌, ◌∙◌, ◌≡◌, Answer, Answers, ap, arith, entries, group_at, History, inl, made_at, Meaning, meaning_of}
 use Rattle.lb_world.proofs.Words.{None, refl, Refusal, same_Some, slice_get_within, Some, sym, ℕ, at-place}
-use Rattle.lb_world.proofs.Tables.{before, no-group, own-kept, world-moves, world-refused}
+use Rattle.lb_world.proofs.Tables.{before, no-group, own-kept, own-registry, world-moves, world-refused}
 use Rattle.lb_world.proofs.world.Tables.at_group.Goals as goal
 
 -- no such group
@@ -36,7 +36,7 @@ pub index_mut-registry-requires : goal.index_mut-registry-requires
 index_mut-registry-requires g c =
     let at = at-place c.args.self.now.groups.items c.args.group _ (omega arith) c.index_mut-entry.ensures.value in
     let on = c.requires.founded.stands.on_site _ _ at in
-    omega (arith, c.registry.ensures, on.registry)
+    omega (arith, c.registry.ensures, slice_get_within c.args.self.now.registries.items _ _ on.registry)
 
 pub take-requires : goal.take-requires
 take-requires g c =
@@ -46,9 +46,15 @@ take-requires g c =
     let at_gate =
     rw c.gate.ensures
     at (at-place c.args.self.now.gates.items c.gate.result _ (omega (arith, c.gate.ensures, low)) c.index_mut-gate.ensures.value) in
+    let in_ = slice_get_within c.args.self.now.registries.items _ _ on.registry in
+    let at_registry =
+    rw c.registry.ensures
+    at (at-place c.args.self.now.registries.items c.registry.result _ (omega (arith, c.registry.ensures, in_))
+    c.index_mut-registry.ensures.value) in
     let was = c.requires.founded in
     record {
       gate = ap (λ z. z.id) (same_Some c.index_mut-gate.result.now on.view (sym at_gate ∙ on.gate)) ∙ on.id;
+      registry = own-registry was.stands c.args.group _ _ at at_registry;
       whole = c.requires.whole;
       stands = record { history = was.history; number = c.args.group; run = was.stands.run; is = was.stands.each c.args.group _ at };
     }
@@ -61,9 +67,10 @@ returns g c =
     let at_gate =
     rw c.gate.ensures
     at (at-place c.args.self.now.gates.items c.gate.result _ (omega (arith, c.gate.ensures, low)) c.index_mut-gate.ensures.value) in
+    let in_ = slice_get_within c.args.self.now.registries.items _ _ on.registry in
     let at_registry =
     rw c.registry.ensures
-    at (at-place c.args.self.now.registries.items c.registry.result _ (omega (arith, c.registry.ensures, on.registry))
+    at (at-place c.args.self.now.registries.items c.registry.result _ (omega (arith, c.registry.ensures, in_))
     c.index_mut-registry.ensures.value) in
     rw (c.gate.ensures, c.registry.ensures)
     (λ h s.

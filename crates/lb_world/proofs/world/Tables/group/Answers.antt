@@ -12,8 +12,8 @@ use Rattle.lb_world.proofs.Words.{GateValue, get-kept, get_replicate, held_of, H
 use Rattle.lb_world.proofs.Words.{key_gives, least, length, length-set, length_push, List, made, map, Meaning}
 use Rattle.lb_world.proofs.Words.{and_parts, ltb-true, nat_lt, ne_eqb, None, Option, origin, past, refl, Refusal, registries}
 use Rattle.lb_world.proofs.Words.{registry_events}
-use Rattle.lb_world.proofs.Words.{RegistryValue, slice_get, slice_set, Some, Stands, Step, sym, true, WorldRule, WorldValue, ℕ}
-use Rattle.lb_world.proofs.Tables.{lent-refused, tables-set, Tells, world-refused}
+use Rattle.lb_world.proofs.Words.{RegistryValue, set_found, slice_get, slice_set, Some, Stands, Step, sym, true, WorldRule, WorldValue, ℕ}
+use Rattle.lb_world.proofs.Tables.{lent-refused, remain-set, tables-set, Tells, world-refused}
 use Rattle.lb_world.proofs.world.Tables.group.Goals as goal
 
 -- the entry of a new group
@@ -62,23 +62,25 @@ module _ {C : Type 0} {M : Meaning C} {w : WorldValue C} {h : History C} (s : St
 
     refused : (e : Refusal) (v : RegistryValue WorldRule)
         → Tells u (λ k es. e ≡ or_memory (making_cause (least (map (M.refusal []) cs)) (registry.registered_after es)))
-        → Tells u (λ k es. IsRegistryAfter key_gives k es v)
+        → Tells u (λ k es. IsRegistryAfter key_gives k es v) → v.id ≡ u.id
         → Stands M (record w { registries = slice_set w.registries r v }) ((st, Answer.Refused e) ∷ h)
-    refused e v why after =
-        lent-refused s r in_ (group-refused M h r a cs (there-as true on) e (why _ _ (s.kept r u in_))) after
+    refused e v why after one =
+        lent-refused s r in_ one (group-refused M h r a cs (there-as true on) e (why _ _ (s.kept r u in_))) after
 
     joins : (n : ℕ) (z : GateValue) (v : RegistryValue WorldRule) (e : EntryValue C) → n ≡ length w.groups → z ≡ get_or w.gates a z
         → Tells u (λ k es. IsNewEntry r a z.id cs (registry.registered_after es + 1) e
         × IsRegistryAfter key_gives k (registry.Applied ∷ registry.Registered ∷ es) v)
         → Tells u (λ k es. making_cause (least (map (M.refusal []) cs)) (registry.registered_after es) ≡ None)
+        → e.core.registry ≡ u.id → v.id ≡ u.id
         → Stands M (record w { registries = slice_set w.registries r v; groups = w.groups ++ e ∷ [] }) ((st, Answer.Group n) ∷ h)
-    joins n z v e number gate-read makes none =
+    joins n z v e number gate-read makes none own one =
         let new = (makes _ _ (s.kept r u in_)).0 in
         let now = (makes _ _ (s.kept r u in_)).1 in
         let right = group-made M h r a cs (there-as true on) (none _ _ (s.kept r u in_)) in
         let more : length (slice_set w.registries r v) ≡ length w.registries = length-set w.registries r v in
         tables-set s ((st, Answer.Group n) ∷ h) (slice_set w.registries r v) w.gates (w.groups ++ e ∷ [])
-        (s.run, inl (ap Answer.Group (number ∙ s.groups_are) ∙ sym right)) (more ∙ s.registries_are) (omega (arith, more)) s.gates_are
+        (s.run, inl (ap Answer.Group (number ∙ s.groups_are) ∙ sym right)) (more ∙ s.registries_are)
+        (remain-set w.registries r u v in_ one) s.gates_are
         (length_push w.groups e ∙ ap (λ i. i + 1) s.groups_are ∙ sym (length_push (made h) _)) refl
         (each-set w.registries r u v in_ (rw (eq-eqb r r refl) now)
         (λ i x off was. rw (ne_eqb r i (λ q. off (sym q))) (s.kept i x was)))
@@ -90,7 +92,9 @@ module _ {C : Type 0} {M : Meaning C} {w : WorldValue C} {h : History C} (s : St
             view = z;
             gate = ap (slice_get w.gates) new.gate_is ∙ at-place w.gates a z (omega (arith, sites.1, s.gates_are)) gate-read;
             id = sym new.id_is;
-            registry = omega (arith, new.registry_is, sites.0, more, s.registries_are);
+            shared = v;
+            registry = ap (slice_get (slice_set w.registries r v)) new.registry_is ∙ set_found w.registries r u v in_;
+            one = one ∙ sym own;
           },
         )) (λ g x low was. inl was))
 
@@ -103,14 +107,14 @@ pub returns-in_default : goal.returns-in_default
 returns-in_default g c =
     rw c.reserve.ensures.items
     (λ h s. refused s c.args.registry c.args.gate c.args.configs.items (sym c.has.ensures ∙ c.if-not-has.false)
-    c.index_mut-registry.ensures.value _ _ (rw c.deref-in_default.ensures.value at c.starved_cause.ensures) (λ k es now. now))
+    c.index_mut-registry.ensures.value _ _ (rw c.deref-in_default.ensures.value at c.starved_cause.ensures) (λ k es now. now) refl)
 
 pub returns-in_default-with_capacity : goal.returns-in_default-with_capacity
 returns-in_default-with_capacity g c =
     rw c.reserve.ensures.items
     (λ h s. refused s c.args.registry c.args.gate c.args.configs.items (sym c.has.ensures ∙ c.if-not-has.false)
     c.index_mut-registry.ensures.value _ _
-    (rw c.deref-in_default-with_capacity.ensures.value at c.starved_cause-in_default-with_capacity.ensures) (λ k es now. now))
+    (rw c.deref-in_default-with_capacity.ensures.value at c.starved_cause-in_default-with_capacity.ensures) (λ k es now. now) refl)
 
 pub returns-in-Ok-new : goal.returns-in-Ok-new
 returns-in-Ok-new g c =
@@ -119,11 +123,12 @@ returns-in-Ok-new g c =
     λ h s.
     rw (c.push_reserved.ensures.items, c.reserve.ensures.items)
     (joins s c.args.registry c.args.gate c.args.configs.items (sym c.has.ensures ∙ c.if-not-has.false) c.index_mut-registry.ensures.value
-    _ _ _ c.in-Ok-new.entry last c.index.ensures c.in-Ok-new.ensures.made c.in-Ok-new.ensures.uncaused)
+    _ _ _ c.in-Ok-new.entry last c.index.ensures c.in-Ok-new.ensures.made c.in-Ok-new.ensures.uncaused
+    c.in-Ok-new.ensures.site c.new.ensures.one_registry)
 
 pub returns-in-Err : goal.returns-in-Err
 returns-in-Err g c =
     rw c.reserve.ensures.items
     (λ h s.
     refused s c.args.registry c.args.gate c.args.configs.items (sym c.has.ensures ∙ c.if-not-has.false) c.index_mut-registry.ensures.value
-    c.in-Err.refusal _ c.in-Err.ensures.refused c.in-Err.ensures.err)
+    c.in-Err.refusal _ c.in-Err.ensures.refused c.in-Err.ensures.err c.new.ensures.one_registry)

@@ -1,7 +1,7 @@
 -- The group with its registry, which the entry's call borrows; its gate stays as it is.
 use Rattle.lb_world.specs.Steps.{select}
 use Rattle.lb_world.proofs.Words.{◌∙◌, ap, arith, at-place, inl, meaning_of, refl, set-same, slice_get_within, sym}
-use Rattle.lb_world.proofs.Tables.{before, no-group, own-kept, world-moves, world-refused}
+use Rattle.lb_world.proofs.Tables.{before, no-group, own-kept, own-registry, world-moves, world-refused}
 use Rattle.lb_world.proofs.world.Tables.select.Goals as goal
 
 pub returns-then-group-len : goal.returns-then-group-len
@@ -11,16 +11,26 @@ pub index-registry-requires : goal.index-registry-requires
 index-registry-requires g c =
     let at = at-place c.args.self.now.groups.items c.args.group _ (omega arith) c.index_mut-entry.ensures.value in
     let on = c.requires.founded.stands.on_site _ _ at in
-    omega (arith, c.registry.ensures, on.registry)
+    omega (arith, c.registry.ensures, slice_get_within c.args.self.now.registries.items _ _ on.registry)
+
+pub select-requires : goal.select-requires
+select-requires g c =
+    let at = at-place c.args.self.now.groups.items c.args.group _ (omega arith) c.index_mut-entry.ensures.value in
+    let on = c.requires.founded.stands.on_site _ _ at in
+    let low = slice_get_within c.args.self.now.registries.items _ _ on.registry in
+    let at_registry =
+    rw c.registry.ensures
+    at (at-place c.args.self.now.registries.items c.registry.result _ (omega (arith, c.registry.ensures, low)) c.index-registry.ensures) in
+    record { registry = own-registry c.requires.founded.stands c.args.group _ _ at at_registry }
 
 pub returns : goal.returns
 returns g c =
     let at = at-place c.args.self.now.groups.items c.args.group _ (omega arith) c.index_mut-entry.ensures.value in
     let on = c.requires.founded.stands.on_site _ _ at in
+    let low = slice_get_within c.args.self.now.registries.items _ _ on.registry in
     let at_registry =
     rw c.registry.ensures
-    at (at-place c.args.self.now.registries.items c.registry.result _ (omega (arith, c.registry.ensures, on.registry))
-    c.index-registry.ensures) in
+    at (at-place c.args.self.now.registries.items c.registry.result _ (omega (arith, c.registry.ensures, low)) c.index-registry.ensures) in
     λ h s.
     let next = c.select.ensures on.view h c.args.group (before s c.args.group _ on.view _ at on.gate at_registry) in
     rw (set-same c.args.self.now.registries.items _ _ at_registry, set-same c.args.self.now.gates.items _ on.view on.gate)
