@@ -34,7 +34,7 @@ use lb_threads_core::backends::{Backends, BackendsParts};
 use lb_threads_core::lanes::Lanes;
 use lb_threads_core::lock::KeyedLock;
 use lb_threads_core::owner::ViewOwner;
-use lb_threads_core::registry::HealthRegistry;
+use lb_threads_core::registry::{HealthRegistry, put_registry, take_registry};
 use log::Log;
 use std::alloc::Global;
 use std::collections::BTreeSet;
@@ -280,10 +280,10 @@ impl<
             return Some((members, settings));
         }
         let registries: &HealthRegistry<R, C> = &*self.registry;
-        let mut cells = registries.take(rt);
+        let mut cells = take_registry(registries, rt);
         held.value.keep(alloc, &mut cells.value, members, settings);
         let gone = self.exchange(rt, alloc, &held.value, &cells.value);
-        registries.put(cells);
+        put_registry(registries, cells);
         self.serving.put(held);
         drop(gone);
         None
@@ -306,9 +306,9 @@ impl<
             Err(Refusal::OutOfMemory) => {
                 let registries: &HealthRegistry<R, C> = &*self.registry;
                 let held = self.serving.take(rt);
-                let cells = registries.take(rt);
+                let cells = take_registry(registries, rt);
                 let cause = held.value.cause(&cells.value, members);
-                registries.put(cells);
+                put_registry(registries, cells);
                 self.serving.put(held);
                 Err(cause)
             }
@@ -335,7 +335,7 @@ impl<
         let mut held = self.serving.take(rt);
         held.value.founded();
         let registries: &HealthRegistry<R, C> = &*self.registry;
-        let mut cells = registries.take(rt);
+        let mut cells = take_registry(registries, rt);
         let (unserved, answer) = held
             .value
             .renew(alloc, &mut cells.value, members, settings, built);
@@ -343,7 +343,7 @@ impl<
             Ok(()) => self.exchange(rt, alloc, &held.value, &cells.value),
             Err(_) => None,
         };
-        registries.put(cells);
+        put_registry(registries, cells);
         self.serving.put(held);
         drop((unserved, unshown));
         answer
@@ -442,9 +442,9 @@ impl<
         let _key = &self.origin;
         let registries: &HealthRegistry<R, C> = &*self.registry;
         let held = self.serving.take(rt);
-        let cells = registries.take(rt);
+        let cells = take_registry(registries, rt);
         let ready = held.value.ready(&cells.value, backend);
-        registries.put(cells);
+        put_registry(registries, cells);
         self.serving.put(held);
         ready
     }
@@ -457,9 +457,9 @@ impl<
         let mut held = self.serving.take(rt);
         held.value.set_enable(backend, enabled);
         let registries: &HealthRegistry<R, C> = &*self.registry;
-        let cells = registries.take(rt);
+        let cells = take_registry(registries, rt);
         let gone = self.exchange(rt, alloc, &held.value, &cells.value);
-        registries.put(cells);
+        put_registry(registries, cells);
         self.serving.put(held);
         drop(gone);
         self.spread(rt);
@@ -490,9 +490,9 @@ impl<
         let registries: &HealthRegistry<R, C> = &*self.registry;
         let held = self.serving.take(rt);
         held.value.founded();
-        let mut cells = registries.take(rt);
+        let mut cells = take_registry(registries, rt);
         held.value.leave(&mut cells.value);
-        registries.put(cells);
+        put_registry(registries, cells);
         self.serving.put(held);
     }
 
@@ -541,7 +541,7 @@ impl<
             return Ok((again, latest));
         }
         let registries: &HealthRegistry<R, C> = &*self.registry;
-        let cells = registries.take(rt);
+        let cells = take_registry(registries, rt);
         let told = shown_of(
             alloc,
             serving,
@@ -550,7 +550,7 @@ impl<
             version,
             &self.origin,
         );
-        registries.put(cells);
+        put_registry(registries, cells);
         let shown = told?;
         let again = Arc::try_clone(&shown)?;
         Ok((again, self.swap(rt, shown)))
@@ -604,9 +604,9 @@ fn is_full<R: KeyRule + Drop, C: HealthCheck + Drop, W: Wait>(
     rt: &W,
     registry: &HealthRegistry<R, C>,
 ) -> bool {
-    let cells = registry.take(rt);
+    let cells = take_registry(registry, rt);
     let full = cells.value.is_full();
-    registry.put(cells);
+    put_registry(registry, cells);
     full
 }
 
@@ -619,9 +619,9 @@ fn register<R: KeyRule + Drop, C: HealthCheck + Drop, W: Wait>(
     ensures made { IfOk result (λ v. IsViewAfter [] v) }
     ensures refused { OnErr result (IsGrowthRefusal result) }
 {
-    let mut cells = registry.take(rt);
+    let mut cells = take_registry(registry, rt);
     let told = ViewCore::register(alloc, &mut cells.value);
-    registry.put(cells);
+    put_registry(registry, cells);
     told
 }
 
@@ -680,9 +680,9 @@ fn places_over<S: BackendSelection, D, R: KeyRule + Drop, C: HealthCheck + Drop,
     };
     let loads = Arc::new(alloc, Mutex::new(Loads::new()))?;
     let lanes = Lanes::new(alloc, LANES, origin)?;
-    let cells = registry.take(rt);
+    let cells = take_registry(registry, rt);
     let told = shown_of(alloc, &serving, &cells.value, &loads, version, origin);
-    registry.put(cells);
+    put_registry(registry, cells);
     let shown = told?;
     let key = Snapshot::of(origin);
     Ok(Places {
