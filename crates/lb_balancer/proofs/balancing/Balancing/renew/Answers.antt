@@ -8,7 +8,7 @@ use Rattle.lb_balancer.proofs.Served.{known, renewed}
 use Rattle.lb_balancer.proofs.balancing.Balancing.renew.Goals as goal
 use Rattle.lb_balancer.proofs.balancing.Balancing.renew.Goals.{in-Ok, in-Err}
 
-pub put_registry-requires-clause-registry : goal.put-requires-clause-registry
+pub put_registry-requires-clause-registry : goal.put_registry-requires-clause-registry
 put_registry-requires-clause-registry g c =
     let is = c.renew-unserved.ensures in
     let now =
@@ -23,7 +23,7 @@ exchange-unshown-requires g c =
     renewed c.args.self.now c.renew-unserved.result.1 (known (c.self.invariant.0 ∙ c.self.view_is) c.take-held.ensures.fact) is.config
     c.args.members.keys (settings_of c.args.settings.entries) c.requires.discovered is.took is.view_err
 
-pub put-requires-clause-fact : goal.put-requires-2-clause-fact
+pub put-requires-clause-fact : goal.put-requires-clause-fact
 put-requires-clause-fact g c =
     let is = c.renew-unserved.ensures in
     let key = c.self.invariant.0 ∙ c.self.view_is in
