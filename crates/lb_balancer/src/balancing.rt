@@ -2,7 +2,7 @@
 //! taken in the order update, served, registry, shown; the last is held for a copy of a pointer. The lock of the loads is held for one
 //! load, while no other is taken. A selection takes the first four only where its lane doesn't have what is served (`kept`).
 ghost use Rattle.std.specs.Prelude.{◌≡◌, ◌⊎◌, ◌∷◌, [], ℕ, List, IfOk, IfErr, OnOk, OnErr, Ok, Err};
-ghost use Rattle.std.specs.Prelude.{All, Some, None, unwrap_or, false, IfSome, MatchOption};
+ghost use Rattle.std.specs.Prelude.{All, Some, None, unwrap_or, false, MatchOption};
 ghost use Rattle.std.specs.Arc.{arc_value};
 ghost use Rattle.lb_select_base.specs.Backends.{Member, same_member};
 ghost use Rattle.lb_select_base.specs.Refusals.{Refuses, memory_apart};
@@ -12,9 +12,9 @@ ghost use Rattle.lb_health_view.specs.RegistrySide.{settings_of};
 ghost use Rattle.lb_health_view.specs.Views.{IsViewAfter, IsViewRefusal};
 ghost use Rattle.lb_health_core.specs.Registry.{IsGrowthRefusal};
 ghost use Rattle.lb_balancer_core.specs.Timings.{Reads};
-ghost use Rattle.lb_balancer.specs.History.{IsServedBy, IsServedGeneration, IsShownBy, MayGive};
+ghost use Rattle.lb_balancer.specs.History.{IsServedBy, IsServedGeneration, IsShownBy, MayGive, TakesIn, UnderServing};
 ghost use Rattle.lb_balancer.specs.Shown.{ShownValue};
-ghost use Rattle.lb_balancer.specs.SharedUpdates.{IsBuildRefusal, IsSharedRefusal, ReadsUpdate};
+ghost use Rattle.lb_balancer.specs.SharedUpdates.{IsBuildRefusal, IsSharedRefusal, IsSharedUpdated, ReadsUpdate};
 
 use crate::origin::{KeptShown, OfServing, OfShown, Origin};
 use crate::serving::{BuiltSelector, Serving, built_of};
@@ -220,6 +220,7 @@ impl<
         alloc: Global,
         clock: &mut K,
     ) -> Result<(), Refusal>
+        ensures updated { OnOk result (IsSharedUpdated D.finds self.now) }
         ensures reads { OnOk result (ReadsUpdate K.reads clock.old clock.new) }
         ensures refused { IfErr result (IsSharedRefusal D.finds S.refusal self.now) }
     {
@@ -244,6 +245,7 @@ impl<
         clock: &mut K,
     ) -> Result<u128, Refusal>
         requires { MayGive self.now.discovery members.keys (settings_of settings.entries) }
+        ensures taken { OnOk result (UnderServing self.now (TakesIn members.keys (settings_of settings.entries))) }
         ensures reads { OnOk result ((clock.new ≡ clock.old)
             ⊎ ((before : ℕ) × (after : ℕ) × Reads K.reads clock.old (before ∷ after ∷ []) clock.new)) }
         ensures refused { IfErr result (IsBuildRefusal (S.refusal members.keys self.now.config)) }
@@ -267,7 +269,8 @@ impl<
         settings: Settings,
     ) -> Option<(BTreeSet<Backend>, Settings)>
         requires { MayGive self.now.discovery members.keys (settings_of settings.entries) }
-        ensures { IfSome result (λ found. found ≡ (members, settings)) }
+        ensures { MatchOption result (UnderServing self.now (TakesIn members.keys (settings_of settings.entries)))
+            (λ found. found ≡ (members, settings)) }
     {
         // `_key` and `founded()` are for the prover alone: they show it the value's invariant, and do nothing at run time.
         let _key = &self.origin;
@@ -325,7 +328,8 @@ impl<
         requires members { S.members (arc_value built.selector) ≡ members.keys }
         requires config { S.built_with (arc_value built.selector) ≡ self.now.config }
         requires discovered { MayGive self.now.discovery members.keys (settings_of settings.entries) }
-        ensures { OnErr result (IsViewRefusal result) }
+        ensures taken { OnOk result (UnderServing self.now (TakesIn members.keys (settings_of settings.entries))) }
+        ensures refused { OnErr result (IsViewRefusal result) }
     {
         let _key = &self.origin;
         let mut held = self.serving.take(rt);

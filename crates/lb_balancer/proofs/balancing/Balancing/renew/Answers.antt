@@ -2,6 +2,7 @@
 use Rattle.std.proofs.Common.{◌≡◌, ◌∙◌, sym}
 use Rattle.lb_health_view.specs.RegistrySide.{settings_of}
 use Rattle.lb_threads_core.proofs.Histories.{later}
+use Rattle.lb_balancer.proofs.Memberships.{on-ok-more}
 use Rattle.lb_balancer.proofs.Renewals.{renewed_later}
 use Rattle.lb_balancer.proofs.Served.{known, renewed}
 use Rattle.lb_balancer.proofs.balancing.Balancing.renew.Goals as goal
@@ -31,3 +32,13 @@ put-requires-clause-fact g c =
     c.args.members.keys (settings_of c.args.settings.entries) c.requires.discovered is.took is.view_err)
     in
     elim c.match-answer.branch [ in-Ok w ↦ rw w.held-is now | in-Err w ↦ rw w.held-is now ]
+
+pub returns-clause-taken : goal.returns-clause-taken
+returns-clause-taken g c =
+    let is = c.renew-unserved.ensures in
+    let was = known (c.self.invariant.0 ∙ c.self.view_is) c.take-held.ensures.fact in
+    let now =
+    renewed c.args.self.now c.renew-unserved.result.1 was is.config c.args.members.keys (settings_of c.args.settings.entries)
+    c.requires.discovered is.took is.view_err
+    in
+    on-ok-more c.renew-unserved.result.1 _ _ is.taken (λ taken. (c.take-held.result.value, (c.renew-unserved.new.self, (was, (now, taken)))))
