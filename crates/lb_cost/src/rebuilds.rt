@@ -144,6 +144,8 @@ pub fn run<R: Log + Threads + Wait + Clock + Print + Copy + Send + Sync + 'stati
     }
     let (greatest, sum) = told?;
     let mean = sum.checked_div(u64::from(updates)).unwrap_or(0);
-    println!(rt; "{slots} slots with readers, {updates} updates: at most {greatest} microseconds, {mean} in the mean")?;
+    println!(rt;
+        "{slots} slots with readers, {updates} updates: at most {greatest} microseconds, {mean} in the mean"
+    )?;
     Ok(())
 }
