@@ -62,7 +62,8 @@ pub record StandsBy {C : Type 0} (views : List ViewEvent) (s : ServingValue C) :
   pub view : IsViewAfter views s.view
   pub selector : s.members ≡ membership_after views
 
--- Members and settings were taken in: other members became the newest membership, whose selector is served, and then the settings reached it.
+-- Members and settings were taken in: other members became the newest membership, whose selector is served, and then the settings reached
+-- it.
 pub record TakesIn {C : Type 0} (members : List Member) (settings : List (Member × Bool)) (s t : ServingValue C) : Type 0 where
   pub views : List ViewEvent
   pub cells : List (Member × ℕ)

@@ -50,8 +50,8 @@ fn is_at<W: Abort>(
     answer.expect(rt, "refused").as_ref() == Some(&expected)
 }
 
-/// A slot that serves by turns begins with the first backend of each selector that is built for it, while a reader of the one before goes on
-/// where that one was.
+/// A slot that serves by turns begins with the first backend of each selector that is built for it, while a reader of the one before goes
+/// on where that one was.
 pub fn tickets_of_each<
     S: BackendSelection,
     R: KeyRule + Drop,

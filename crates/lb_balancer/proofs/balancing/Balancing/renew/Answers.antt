@@ -41,4 +41,5 @@ returns-clause-taken g c =
     renewed c.args.self.now c.renew-unserved.result.1 was is.config c.args.members.keys (settings_of c.args.settings.entries)
     c.requires.discovered is.took is.view_err
     in
-    on-ok-more c.renew-unserved.result.1 _ _ is.taken (λ taken. (c.take-held.result.value, (c.renew-unserved.new.self, (was, (now, taken)))))
+    on-ok-more c.renew-unserved.result.1 _ _ is.taken
+    (λ taken. (c.take-held.result.value, (c.renew-unserved.new.self, (was, (now, taken)))))
