@@ -47,8 +47,25 @@ module _ {D C : Type 0} (b : BalancerValue D C) where
     pub first : b.first ≤ s.generation
     pub discovered : AreDiscovered b.discovery s.generation s.members
 
+  -- a call that was made at some state of what the balancer serves, and left one
+  abbrev pub UnderServing : (ServingValue C → ServingValue C → Type 0) → Type 0
+  UnderServing Call = (s : ServingValue C) × ((t : ServingValue C) × (IsServedBy s × (IsServedBy t × Call s t)))
+
 -- a view took members and settings
 abbrev pub Takes : {C : Type 0} → List Member → List (Member × Bool) → ServingValue C → ServingValue C → Type 0
 Takes members settings s t =
     (cells : List (Member × ℕ)) × ((views : List ViewEvent) → IsViewAfter views s.view
     → IsViewAfter (after_settings settings (with_membership members cells views)) t.view)
+
+-- view and selector are as this history left them: the selector is that of the newest membership
+pub record StandsBy {C : Type 0} (views : List ViewEvent) (s : ServingValue C) : Type 0 where
+  pub view : IsViewAfter views s.view
+  pub selector : s.members ≡ membership_after views
+
+-- Members and settings were taken in: other members became the newest membership, whose selector is served, and then the settings reached
+-- it.
+pub record TakesIn {C : Type 0} (members : List Member) (settings : List (Member × Bool)) (s t : ServingValue C) : Type 0 where
+  pub views : List ViewEvent
+  pub cells : List (Member × ℕ)
+  pub before : StandsBy views s
+  pub after : StandsBy (after_settings settings (with_membership members cells views)) t

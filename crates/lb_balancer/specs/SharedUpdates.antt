@@ -8,13 +8,20 @@ use Rattle.lb_select_base.specs.declared.refusal.Refusal.TheVariants.{Discovery,
 use Rattle.lb_select_base.specs.declared.refusal.Refusal.TheVariants.{NumbersExhausted}
 use Rattle.lb_health_view.specs.Discoveries.{Discovers, Found, MayFault, MayLackMemory}
 use Rattle.lb_balancer_core.specs.Timings.{Reads}
-use Rattle.lb_balancer.specs.History.{BalancerValue}
+use Rattle.lb_balancer.specs.History.{BalancerValue, TakesIn, UnderServing}
 use Rattle.lb_background.specs.declared.event.Event.{Event}
 use Rattle.lb_background.specs.declared.event.Event.TheVariants as on
 
 -- the clock was read at the start and at the end, and around the build where there was one
 abbrev pub ReadsUpdate : {K : Type 0} → (K → ℕ → K → Type 0) → K → K → Type 0
 ReadsUpdate reads clock after = (times : List ℕ) × Reads reads clock times after × ((length times ≡ 2) ⊎ (length times ≡ 4))
+
+-- The discovery gave members and settings, and at some state of the balancer they were taken in.
+pub record IsSharedUpdated {D C : Type 0} (finds : D → Found → Type 0) (b : BalancerValue D C) : Type 0 where
+  pub members : List Member
+  pub settings : List (Member × Bool)
+  pub discovered : Discovers finds b.discovery members settings
+  pub taken : UnderServing b (TakesIn members settings)
 
 -- view or registry have no room for a membership, or memory was refused
 abbrev pub IsRoomRefusal : Refusal → Type 0

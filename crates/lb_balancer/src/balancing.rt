@@ -2,7 +2,7 @@
 //! taken in the order update, served, registry, shown; the last is held for a copy of a pointer. The lock of the loads is held for one
 //! load, while no other is taken. A selection takes the first four only where its lane doesn't have what is served (`kept`).
 ghost use Rattle.std.specs.Prelude.{◌≡◌, ◌⊎◌, ◌∷◌, [], ℕ, List, IfOk, IfErr, OnOk, OnErr, Ok, Err};
-ghost use Rattle.std.specs.Prelude.{All, Some, None, unwrap_or, false, IfSome, MatchOption};
+ghost use Rattle.std.specs.Prelude.{All, Some, None, unwrap_or, false, MatchOption};
 ghost use Rattle.std.specs.Arc.{arc_value};
 ghost use Rattle.lb_select_base.specs.Backends.{Member, same_member};
 ghost use Rattle.lb_select_base.specs.Refusals.{Refuses, memory_apart};
@@ -12,9 +12,9 @@ ghost use Rattle.lb_health_view.specs.RegistrySide.{settings_of};
 ghost use Rattle.lb_health_view.specs.Views.{IsViewAfter, IsViewRefusal};
 ghost use Rattle.lb_health_core.specs.Registry.{IsGrowthRefusal};
 ghost use Rattle.lb_balancer_core.specs.Timings.{Reads};
-ghost use Rattle.lb_balancer.specs.History.{IsServedBy, IsServedGeneration, IsShownBy, MayGive};
+ghost use Rattle.lb_balancer.specs.History.{IsServedBy, IsServedGeneration, IsShownBy, MayGive, TakesIn, UnderServing};
 ghost use Rattle.lb_balancer.specs.Shown.{ShownValue};
-ghost use Rattle.lb_balancer.specs.SharedUpdates.{IsBuildRefusal, IsSharedRefusal, ReadsUpdate};
+ghost use Rattle.lb_balancer.specs.SharedUpdates.{IsBuildRefusal, IsSharedRefusal, IsSharedUpdated, ReadsUpdate};
 
 use crate::origin::{KeptShown, OfServing, OfShown, Origin};
 use crate::serving::{BuiltSelector, Serving, built_of};
@@ -34,7 +34,7 @@ use lb_threads_core::backends::{Backends, BackendsParts};
 use lb_threads_core::lanes::Lanes;
 use lb_threads_core::lock::KeyedLock;
 use lb_threads_core::owner::ViewOwner;
-use lb_threads_core::registry::HealthRegistry;
+use lb_threads_core::registry::{HealthRegistry, put_registry, take_registry};
 use log::Log;
 use std::alloc::Global;
 use std::collections::BTreeSet;
@@ -220,6 +220,7 @@ impl<
         alloc: Global,
         clock: &mut K,
     ) -> Result<(), Refusal>
+        ensures updated { OnOk result (IsSharedUpdated D.finds self.now) }
         ensures reads { OnOk result (ReadsUpdate K.reads clock.old clock.new) }
         ensures refused { IfErr result (IsSharedRefusal D.finds S.refusal self.now) }
     {
@@ -244,6 +245,7 @@ impl<
         clock: &mut K,
     ) -> Result<u128, Refusal>
         requires { MayGive self.now.discovery members.keys (settings_of settings.entries) }
+        ensures taken { OnOk result (UnderServing self.now (TakesIn members.keys (settings_of settings.entries))) }
         ensures reads { OnOk result ((clock.new ≡ clock.old)
             ⊎ ((before : ℕ) × (after : ℕ) × Reads K.reads clock.old (before ∷ after ∷ []) clock.new)) }
         ensures refused { IfErr result (IsBuildRefusal (S.refusal members.keys self.now.config)) }
@@ -267,7 +269,8 @@ impl<
         settings: Settings,
     ) -> Option<(BTreeSet<Backend>, Settings)>
         requires { MayGive self.now.discovery members.keys (settings_of settings.entries) }
-        ensures { IfSome result (λ found. found ≡ (members, settings)) }
+        ensures { MatchOption result (UnderServing self.now (TakesIn members.keys (settings_of settings.entries)))
+            (λ found. found ≡ (members, settings)) }
     {
         // `_key` and `founded()` are for the prover alone: they show it the value's invariant, and do nothing at run time.
         let _key = &self.origin;
@@ -277,10 +280,10 @@ impl<
             return Some((members, settings));
         }
         let registries: &HealthRegistry<R, C> = &*self.registry;
-        let mut cells = registries.take(rt);
+        let mut cells = take_registry(registries, rt);
         held.value.keep(alloc, &mut cells.value, members, settings);
         let gone = self.exchange(rt, alloc, &held.value, &cells.value);
-        registries.put(cells);
+        put_registry(registries, cells);
         self.serving.put(held);
         drop(gone);
         None
@@ -303,9 +306,9 @@ impl<
             Err(Refusal::OutOfMemory) => {
                 let registries: &HealthRegistry<R, C> = &*self.registry;
                 let held = self.serving.take(rt);
-                let cells = registries.take(rt);
+                let cells = take_registry(registries, rt);
                 let cause = held.value.cause(&cells.value, members);
-                registries.put(cells);
+                put_registry(registries, cells);
                 self.serving.put(held);
                 Err(cause)
             }
@@ -325,13 +328,14 @@ impl<
         requires members { S.members (arc_value built.selector) ≡ members.keys }
         requires config { S.built_with (arc_value built.selector) ≡ self.now.config }
         requires discovered { MayGive self.now.discovery members.keys (settings_of settings.entries) }
-        ensures { OnErr result (IsViewRefusal result) }
+        ensures taken { OnOk result (UnderServing self.now (TakesIn members.keys (settings_of settings.entries))) }
+        ensures refused { OnErr result (IsViewRefusal result) }
     {
         let _key = &self.origin;
         let mut held = self.serving.take(rt);
         held.value.founded();
         let registries: &HealthRegistry<R, C> = &*self.registry;
-        let mut cells = registries.take(rt);
+        let mut cells = take_registry(registries, rt);
         let (unserved, answer) = held
             .value
             .renew(alloc, &mut cells.value, members, settings, built);
@@ -339,7 +343,7 @@ impl<
             Ok(()) => self.exchange(rt, alloc, &held.value, &cells.value),
             Err(_) => None,
         };
-        registries.put(cells);
+        put_registry(registries, cells);
         self.serving.put(held);
         drop((unserved, unshown));
         answer
@@ -438,9 +442,9 @@ impl<
         let _key = &self.origin;
         let registries: &HealthRegistry<R, C> = &*self.registry;
         let held = self.serving.take(rt);
-        let cells = registries.take(rt);
+        let cells = take_registry(registries, rt);
         let ready = held.value.ready(&cells.value, backend);
-        registries.put(cells);
+        put_registry(registries, cells);
         self.serving.put(held);
         ready
     }
@@ -453,9 +457,9 @@ impl<
         let mut held = self.serving.take(rt);
         held.value.set_enable(backend, enabled);
         let registries: &HealthRegistry<R, C> = &*self.registry;
-        let cells = registries.take(rt);
+        let cells = take_registry(registries, rt);
         let gone = self.exchange(rt, alloc, &held.value, &cells.value);
-        registries.put(cells);
+        put_registry(registries, cells);
         self.serving.put(held);
         drop(gone);
         self.spread(rt);
@@ -486,9 +490,9 @@ impl<
         let registries: &HealthRegistry<R, C> = &*self.registry;
         let held = self.serving.take(rt);
         held.value.founded();
-        let mut cells = registries.take(rt);
+        let mut cells = take_registry(registries, rt);
         held.value.leave(&mut cells.value);
-        registries.put(cells);
+        put_registry(registries, cells);
         self.serving.put(held);
     }
 
@@ -537,7 +541,7 @@ impl<
             return Ok((again, latest));
         }
         let registries: &HealthRegistry<R, C> = &*self.registry;
-        let cells = registries.take(rt);
+        let cells = take_registry(registries, rt);
         let told = shown_of(
             alloc,
             serving,
@@ -546,7 +550,7 @@ impl<
             version,
             &self.origin,
         );
-        registries.put(cells);
+        put_registry(registries, cells);
         let shown = told?;
         let again = Arc::try_clone(&shown)?;
         Ok((again, self.swap(rt, shown)))
@@ -600,9 +604,9 @@ fn is_full<R: KeyRule + Drop, C: HealthCheck + Drop, W: Wait>(
     rt: &W,
     registry: &HealthRegistry<R, C>,
 ) -> bool {
-    let cells = registry.take(rt);
+    let cells = take_registry(registry, rt);
     let full = cells.value.is_full();
-    registry.put(cells);
+    put_registry(registry, cells);
     full
 }
 
@@ -615,9 +619,9 @@ fn register<R: KeyRule + Drop, C: HealthCheck + Drop, W: Wait>(
     ensures made { IfOk result (λ v. IsViewAfter [] v) }
     ensures refused { OnErr result (IsGrowthRefusal result) }
 {
-    let mut cells = registry.take(rt);
+    let mut cells = take_registry(registry, rt);
     let told = ViewCore::register(alloc, &mut cells.value);
-    registry.put(cells);
+    put_registry(registry, cells);
     told
 }
 
@@ -676,9 +680,9 @@ fn places_over<S: BackendSelection, D, R: KeyRule + Drop, C: HealthCheck + Drop,
     };
     let loads = Arc::new(alloc, Mutex::new(Loads::new()))?;
     let lanes = Lanes::new(alloc, LANES, origin)?;
-    let cells = registry.take(rt);
+    let cells = take_registry(registry, rt);
     let told = shown_of(alloc, &serving, &cells.value, &loads, version, origin);
-    registry.put(cells);
+    put_registry(registry, cells);
     let shown = told?;
     let key = Snapshot::of(origin);
     Ok(Places {

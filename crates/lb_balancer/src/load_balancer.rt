@@ -7,7 +7,7 @@ ghost use Rattle.lb_health_core.specs.Registry.{IsGrowthRefusal};
 ghost use Rattle.lb_balancer.specs.History.{IsServedGeneration, IsShownBy};
 ghost use Rattle.lb_balancer.specs.Selections.{SelectsFrom};
 ghost use Rattle.lb_balancer.specs.Shown.{ShownValue};
-ghost use Rattle.lb_balancer.specs.SharedUpdates.{IsSharedRefusal, ReadsUpdate};
+ghost use Rattle.lb_balancer.specs.SharedUpdates.{IsSharedRefusal, IsSharedUpdated, ReadsUpdate};
 
 use crate::balancing::Balancing;
 use crate::kept::hint_of;
@@ -124,6 +124,7 @@ impl<
         alloc: Global,
         clock: &mut K,
     ) -> Result<(), Refusal>
+        ensures updated { OnOk result (IsSharedUpdated D.finds self.now.shared) }
         ensures reads { OnOk result (ReadsUpdate K.reads clock.old clock.new) }
         ensures refused { IfErr result (IsSharedRefusal D.finds S.refusal self.now.shared) }
     {

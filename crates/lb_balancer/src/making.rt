@@ -125,6 +125,7 @@ fn first_served<S: BackendSelection, R: KeyRule + Drop>(
         registry.new) }
     ensures refused { IfErr result (λ r. (r ≡ Refusal.OutOfMemory)
         ⊎ (update_cause None by_identity 1 members.keys one_view (Took [] ∷ []) ≡ Some r)) }
+    ensures one_registry { registry.new.id ≡ registry.old.id }
 {
     let mut view = ViewCore::register(alloc, registry)?;
     let settings = Settings::new(alloc);

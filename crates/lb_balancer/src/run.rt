@@ -116,8 +116,9 @@ impl<
     W: Log + Wait,
     K: MomentSource,
 > BalancerPort for SharedPort<'b, 'p, 'r, 'c, 'w, F, S, D, R, C, W, K> {
-    ghost use Rattle.std.specs.Prelude.{◌≡◌, None, IfErr, OnOk};
-    ghost use Rattle.lb_balancer.specs.SharedUpdates.{EndsSleep, IsSharedRefusal, ReadsUpdate};
+    ghost use Rattle.std.specs.Prelude.{◌≡◌, None, IfErr, IfOk, OnOk};
+    ghost use Rattle.lb_balancer.specs.History.{IsServedGeneration};
+    ghost use Rattle.lb_balancer.specs.SharedUpdates.{EndsSleep, IsSharedRefusal, IsSharedUpdated, ReadsUpdate};
 
     ghost moments = { λ p moment q. K.reads p.clock.now moment q.clock.now };
 
@@ -125,7 +126,8 @@ impl<
 
     ghost can_check = { (pass : F) → F.IsAlwaysCallable pass };
 
-    ghost updates = { λ p r q. OnOk r (ReadsUpdate K.reads p.clock.now q.clock.now)
+    ghost updates = { λ p r q. OnOk r (IsSharedUpdated D.finds p.balancing.now × ReadsUpdate K.reads p.clock.now q.clock.now)
+        × IfOk r (λ n. IsServedGeneration p.balancing.now n)
         × IfErr r (λ e. IsSharedRefusal D.finds S.refusal p.balancing.now e) };
 
     ghost checks = { λ p q. q.clock.now ≡ p.clock.now };

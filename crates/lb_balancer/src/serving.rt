@@ -11,7 +11,7 @@ ghost use Rattle.lb_health_view.specs.Views.{IsFounded, IsViewAfter, IsViewRefus
 ghost use Rattle.lb_health_view.specs.RegistrySide.{registry_updated, settings_of, view_updated};
 ghost use Rattle.lb_health_view.specs.ViewEvents.{ViewEvent, Set, generation_after, membership_after};
 ghost use Rattle.lb_balancer_core.specs.Balancer.{IsJudged};
-ghost use Rattle.lb_balancer.specs.History.{Takes};
+ghost use Rattle.lb_balancer.specs.History.{Takes, TakesIn};
 ghost use Rattle.lb_balancer.specs.SharedUpdates.{IsRoomRefusal};
 ghost use Rattle.lb_balancer.specs.Shown.{AreUnready, ShowsView};
 
@@ -128,8 +128,10 @@ impl<S: BackendSelection> Serving<S> {
         ensures registry { (key_of : Member → Member) (events : List Event) → IsRegistryAfter R.gives key_of events registry.old
             → IsRegistryAfter R.gives key_of events registry.new }
         ensures took { Takes members.keys (settings_of settings.entries) self.old self.new }
+        ensures taken { TakesIn members.keys (settings_of settings.entries) self.old self.new }
         ensures members { self.new.members ≡ self.old.members }
         ensures config { self.new.config ≡ self.old.config }
+        ensures one_registry { registry.new.id ≡ registry.old.id }
     {
         let _ = self
             .view
@@ -160,12 +162,14 @@ impl<S: BackendSelection> Serving<S> {
             → IsViewAfter views self.old.view → IsRegistryAfter R.gives key_of events registry.old
             → IsRegistryAfter R.gives key_of (registry_updated key_of self.old.view.id members.keys views events) registry.new) }
         ensures took { OnOk result.1 (Takes members.keys (settings_of settings.entries) self.old self.new) }
+        ensures taken { OnOk result.1 (TakesIn members.keys (settings_of settings.entries) self.old self.new) }
         ensures view_err { OnErr result.1 ((views : List ViewEvent) → IsViewAfter views self.old.view → IsViewAfter views self.new.view) }
         ensures registry_err { OnErr result.1 ((key_of : Member → Member) (events : List Event)
             → IsRegistryAfter R.gives key_of events registry.old → IsRegistryAfter R.gives key_of events registry.new) }
         ensures members_err { OnErr result.1 (self.new.members ≡ self.old.members) }
         ensures refused { OnErr result.1 (IsViewRefusal result.1) }
         ensures config { self.new.config ≡ self.old.config }
+        ensures one_registry { registry.new.id ≡ registry.old.id }
     {
         match self
             .view
@@ -220,10 +224,11 @@ impl<S: BackendSelection> Serving<S> {
     ///
     /// It takes no memory.
     pub fn leave<R: KeyRule + Drop>(&self, registry: &mut Registry<R>)
-        ensures { (key_of : Member → Member) (views : List ViewEvent) (events : List Event) → IsViewAfter views self.now.view
+        ensures after { (key_of : Member → Member) (views : List ViewEvent) (events : List Event) → IsViewAfter views self.now.view
             → IsRegistryAfter R.gives key_of events registry.old
             → IsRegistryAfter R.gives key_of (Released self.now.view.id (generation_after views) ∷ Marked self.now.view.id ∷ events)
             registry.new }
+        ensures one_registry { registry.new.id ≡ registry.old.id }
     {
         registry.remove_view(self.view.id());
         registry.release(self.view.id(), self.view.generation());

@@ -62,6 +62,7 @@ impl<S: BackendSelection, G: Rng + Drop, D: ServiceDiscovery + Drop> LoadBalance
             → memory_apart (S.refusal [] S.default_config) ≡ None
             → (IsErrOf result Refusal.NumbersExhausted ↔ (2 ^ 64 ≤ registered_after events + 1)) }
         ensures refused { IsMakingRefusal (S.refusal [] S.default_config) result }
+        ensures one_registry { registry.new.id ≡ registry.old.id }
     {
         LoadBalancerCore::from_backends_with_config(alloc, registry, discovery, None, generator)
     }
@@ -92,6 +93,7 @@ impl<S: BackendSelection, G: Rng + Drop, D: ServiceDiscovery + Drop> LoadBalance
             → memory_apart (S.refusal [] (unwrap_or config S.default_config)) ≡ None
             → (IsErrOf result Refusal.NumbersExhausted ↔ (2 ^ 64 ≤ registered_after events + 1)) }
         ensures refused { IsMakingRefusal (S.refusal [] (unwrap_or config S.default_config)) result }
+        ensures one_registry { registry.new.id ≡ registry.old.id }
     {
         match Served::new(alloc, registry, config, generator) {
             Ok(served) => Ok(LoadBalancerCore {
@@ -130,6 +132,7 @@ impl<S: BackendSelection, G: Rng + Drop, D: ServiceDiscovery + Drop> LoadBalance
             × (self.new.served.words.loads ≡ self.old.served.words.loads) }
         ensures config { self.new.served.config ≡ self.old.served.config }
         ensures id { self.new.served.view.id ≡ self.old.served.view.id }
+        ensures one_registry { registry.new.id ≡ registry.old.id }
     {
         let start = clock.now();
         let (members, settings) = self.discovery.discover(alloc)?;

@@ -270,6 +270,7 @@ impl<S: BackendSelection, D: ServiceDiscovery + Drop> LoadBalancerGroupCore<S, D
         &'a mut self,
         registry: &'x mut HealthRegistry<R, C>,
     ) -> LentGroupBackends<'a, 'x, S, D, R, C>
+        requires registry { registry.old.registry.id ≡ self.old.group.registry }
         ensures same_references { (result.balancer.ghost_name ≡ self.entry.ghost_name)
             × (result.health.ghost_name ≡ registry.entry.ghost_name) }
         ensures same { (result.balancer.now ≡ self.old) × (result.health.now ≡ registry.old) }

@@ -125,6 +125,7 @@ impl<'a, S: BackendSelection, D, R: KeyRule + Drop, C: HealthCheck + Drop> LentB
 pub struct LentGroupBackends<'a, 'x, S: BackendSelection, D, R, C> {
     pub(crate) balancer: &'a mut LoadBalancerGroupCore<S, D>,
     pub(crate) health: &'x mut HealthRegistry<R, C>,
+    ghost tied: { health.now.registry.id ≡ balancer.now.group.registry },
 }
 
 impl<'a, 'x, S: BackendSelection, D, R: KeyRule + Drop, C: HealthCheck + Drop> LentGroupBackends<
@@ -206,6 +207,7 @@ impl<'a, 'x, S: BackendSelection, D, R: KeyRule + Drop, C: HealthCheck + Drop> L
         ensures refused { OnErr result (IsGrowthRefusal result) }
         ensures kept { self.new.health.now ≡ record self.old.health.now { registry = self.new.health.now.registry } }
         ensures balancer { self.new.balancer.now ≡ self.old.balancer.now }
+        ensures one { self.new.health.now.registry.id ≡ self.old.health.now.registry.id }
     {
         let health = &mut *self.health;
         health.run_health_check(rt, alloc)

@@ -105,6 +105,7 @@ impl<S: BackendSelection, G: Rng + Drop> Served<S, G> {
             → memory_apart (S.refusal [] (unwrap_or config S.default_config)) ≡ None
             → (IsErrOf result Refusal.NumbersExhausted ↔ (2 ^ 64 ≤ registered_after events + 1)) }
         ensures refused { IsMakingRefusal (S.refusal [] (unwrap_or config S.default_config)) result }
+        ensures one_registry { registry.new.id ≡ registry.old.id }
     {
         let selector = match selector_of::<S>(alloc, &BTreeSet::new(alloc), &config) {
             Ok(selector) => selector,
@@ -182,6 +183,7 @@ impl<S: BackendSelection, G: Rng + Drop> Served<S, G> {
         ensures words { (self.new.words.generator ≡ self.old.words.generator) × (self.new.words.loads ≡ self.old.words.loads) }
         ensures id { self.new.view.id ≡ self.old.view.id }
         ensures config { self.new.config ≡ self.old.config }
+        ensures one_registry { registry.new.id ≡ registry.old.id }
     {
         if self.view.is_membership(&members) {
             self.view

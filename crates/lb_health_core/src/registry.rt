@@ -30,10 +30,10 @@ use std::snapshot::Snapshot;
 
 /// Which registry it is. Only contracts see it: a call that borrows a registry can require the one that it was made with.
 ///
-/// Nothing is known of it but that no call changes it, so no two registries can be shown to be the same one. It has no bytes.
+/// Nothing is known of it but that no call changes it, so no two registries can be shown to be the same one. Nothing reads the number.
 #[derive(Drop)]
 pub struct RegistryId {
-    number: Snapshot<u64>,
+    number: u64,
 }
 
 impl Model for RegistryId {
@@ -41,7 +41,7 @@ impl Model for RegistryId {
 
     ghost Value = { ℕ };
 
-    ghost view = { λ i. i.number.value };
+    ghost view = { λ i. i.number };
 }
 
 /// A registry whose backends share cells by a rule: its views with their memberships, and the cells of their targets.
@@ -106,9 +106,7 @@ impl<R: KeyRule + Drop> Registry<R> {
         ensures { (key_of : Member → Member) → IsRuleOf R.gives rule key_of → IsRegistryAfter R.gives key_of [] result }
     {
         Registry {
-            id: RegistryId {
-                number: Snapshot::of(&0),
-            },
+            id: RegistryId { number: 0 },
             rule,
             views: Vec::new(alloc),
             registered: 0,
@@ -116,7 +114,7 @@ impl<R: KeyRule + Drop> Registry<R> {
         }
     }
 
-    /// Returns which registry this is, for contracts alone. It has no bytes.
+    /// Returns which registry this is, for contracts alone: what is returned has no bytes.
     pub fn id(&self) -> Snapshot<RegistryId>
         ensures { result.value ≡ self.now.id }
     {

@@ -21,6 +21,7 @@ use Rattle.lb_rebuild_core.specs.contracts.slot.Slot as slot
 use Rattle.lb_rebuild_core.specs.contracts.slots.Slots as slots
 use Rattle.lb_rebuild_core.specs.contracts.slots.Slots.TheInside as group_inside
 use Rattle.lb_rebuild_core.specs.contracts.group.GroupCore as group
+use Rattle.lb_rebuild_core.specs.contracts.group.GroupCore.TheInside as joined_inside
 use Rattle.lb_rebuild.proofs.board.Board.TheSendSync as board
 use Rattle.lb_rebuild.proofs.board.WritingPass.TheSendSync as writer
 use Rattle.lb_rebuild.specs.contracts.watched.Watched as watched
@@ -92,8 +93,15 @@ module _ (T I C W : RattleType) (g : Selection T.Denot I.Denot C.Denot W.Denot) 
   group_send : IsSend (slots.the_row T I C W g h)
   group_send = view_send _ _ _ _ _ group_fields
 
+  joined_fields : IsSend (joined_inside.the_row T I C W g h)
+  joined_fields = recorded_send (joined_inside.the_field T I C W g h).row _ _ (joined_inside.the_type T I C W g h).to_one
+      (struct_send (shape (joined_inside.the_type T I C W g h)) (
+        search (sendable, group_send) depth 10,
+        (search (sendable, view.the_send) depth 20, (search (sendable, crosses) depth 10, tt)),
+      ))
+
   joined_send : IsSend (group.the_row T I C W g h)
-  joined_send = search (sendable, group_send, view.the_send) depth 20
+  joined_send = view_send _ _ _ _ _ joined_fields
 
   watched_fields : IsSend (watched_inside.the_row T I C W g h)
   watched_fields = recorded_send (watched_inside.the_field T I C W g h).row _ _ (watched_inside.the_type T I C W g h).to_one

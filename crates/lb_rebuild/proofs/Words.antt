@@ -12,7 +12,7 @@ use Rattle.lb_rebuild_core.specs.SlotsHistory as slots
 use Rattle.lb_rebuild_core.specs.SlotsHistory.{SlotEvent, SlotsEvent, past_of, newest, served, granted, extra, is_under_way, reaches}
 use Rattle.lb_rebuild_core.specs.SlotsHistory.{Extra}
 use Rattle.lb_rebuild_core.specs.SlotsCalls.{Schedules, schedule_events, is_change, ask_events, asked_events, fail_events, publish_events}
-use Rattle.lb_rebuild_core.specs.SlotsCalls.{abandon_events, done_at, ticket_events, serves, is_awaited}
+use Rattle.lb_rebuild_core.specs.SlotsCalls.{abandon_events, done_at, ticket_events, serves, has_retired, is_awaited}
 use Rattle.lb_rebuild_core.specs.SlotCalls.{ask_told}
 use Rattle.lb_rebuild_core.specs.Stands as core
 use Rattle.lb_rebuild_core.specs.Stands.{Made, StandsFor, slots_after, slot_after, group_after}
@@ -258,9 +258,14 @@ quiet_abandon b (Ok u) = (record { newest = λ h. refl; served = λ h. refl }, t
 quiet_abandon b (Err k) = tt
 
 pub quiet_ticket : {C : Type 0} (made : Made C) (slot n t : ℕ) (h : slots.History) → AreQuiet (ticket_events made slot n t h)
-quiet_ticket made slot n t h =
-    elim (serves made slot n h) as (λ b. AreQuiet (cond b (slots.At slot (slots.Drew ((t + 1) % 2 ^ 64)) ∷ []) []))
-    [ true ↦ (record { newest = λ h. refl; served = λ h. refl }, tt) | false ↦ tt ]
+quiet_ticket made slot n t h = by_selector (serves made slot n h) (has_retired made slot n h)
+  where
+    by_selector : (b d : Bool)
+        → AreQuiet (cond b (slots.At slot (slots.Drew ((t + 1) % 2 ^ 64)) ∷ [])
+        (cond d (slots.At slot (slots.DrewRetired ((t + 1) % 2 ^ 64)) ∷ []) []))
+    by_selector true d = (record { newest = λ h. refl; served = λ h. refl }, tt)
+    by_selector false true = (record { newest = λ h. refl; served = λ h. refl }, tt)
+    by_selector false false = tt
 
 pub quiet_cancel : AreQuiet (slots.Cancelled ∷ [])
 quiet_cancel = (record { newest = λ h. refl; served = λ h. refl }, tt)

@@ -9,18 +9,19 @@ use Rattle.lb_select_base.specs.declared.refusal.Refusal.{Refusal}
 use Rattle.lb_select_base.specs.declared.refusal.Refusal.TheVariants as refusal
 use Rattle.lb_rebuild_core.specs.Gate.{GateId, GateValue, GroupId}
 use Rattle.lb_rebuild_core.specs.SlotsHistory.{Granted, Failed, Published, Abandoned, WorkerLost, TakenOut, Destroyed, Entered, Left, Drew}
+use Rattle.lb_rebuild_core.specs.SlotsHistory.{DrewRetired, drawn_retired}
 use Rattle.lb_rebuild_core.specs.SlotsHistory.{At, History, past_of, newest, scheduled_at, is_cancelled, granted, served, order_members}
 use Rattle.lb_rebuild_core.specs.SlotsHistory.{Extra, nothing, flight, lost, retired, taken_out, is_flight, is_extra, is_under_way}
 use Rattle.lb_rebuild_core.specs.SlotsHistory.{is_retired_of, is_taken_out, generation_of, extra, waits, readers, due_moment, AskAnswer}
 use Rattle.lb_rebuild_core.specs.SlotsHistory.{cancelled, building, up_to_date, not_due, busy, job, ask_answer, MayHappen, drawn}
 use Rattle.lb_rebuild_core.specs.Values.{OrderValue, PlaceValue, Task, BuiltValue, RetiredValue, ReaderValue, SlotValue, SlotsValue}
 use Rattle.lb_rebuild_core.specs.Values.{order_of, configs_of}
-use Rattle.lb_rebuild_core.specs.Stands.{Made, order_due, left_readers, permit_in, slot_after, StandsFor}
+use Rattle.lb_rebuild_core.specs.Stands.{Made, order_due, left_readers, left_tickets, permit_in, slot_after, StandsFor}
 use Rattle.lb_rebuild_core.specs.SlotSeen.{extra_of, permit_of, slot_value}
 use Rattle.lb_rebuild_core.specs.SlotCalls.{slot_answer, ask_told, asked_slot, asked_gate, IsJobOf, failed_slot, published_slot}
 use Rattle.lb_rebuild_core.specs.SlotCalls.{abandoned_slot, lost_slot, entered_slot, reader_of, readers_at, left_slot, take_refusal}
 use Rattle.lb_rebuild_core.specs.SlotCalls.{taken_slot, TakesAt, destroyed_slot, drawn_slot, TicketAt, SelectsFrom, PublishesAt}
-use Rattle.lb_rebuild_core.specs.SlotCalls.{AbandonsAt, LosesAt, LeavesAt}
+use Rattle.lb_rebuild_core.specs.SlotCalls.{left_drawn_slot, AbandonsAt, LosesAt, LeavesAt}
 use Rattle.lb_rebuild_core.specs.SlotsCalls.{JobIs, IsOwnJob, Asks, asked_events, is_awaited, is_served, Publishes, publish_events}
 use Rattle.lb_rebuild_core.specs.SlotsCalls.{Abandons, abandon_events, lose_refusal, Unless, done_at, enter_refusal, Enters, is_read}
 use Rattle.lb_rebuild_core.specs.SlotsCalls.{Leaves, Takes, is_owed, SelectsIn, select_events, IsTicket, ticket_events}
@@ -32,7 +33,7 @@ use Rattle.lb_rebuild_core.specs.declared.answers.Selection.{Selection}
 use Rattle.lb_rebuild_core.specs.declared.slot.Slot.{Slot}
 use Rattle.lb_rebuild_core.proofs.Pasts.{UnderWayFits, under-way-fits, newest-past}
 use Rattle.lb_rebuild_core.proofs.SlotSteps.{answered, granted-step, failed-step, published-step, abandoned-step, lost-step, taken-step}
-use Rattle.lb_rebuild_core.proofs.SlotSteps.{destroyed-step, entered-step, left-step, drew-step, readers-shown}
+use Rattle.lb_rebuild_core.proofs.SlotSteps.{destroyed-step, entered-step, left-step, drew-step, drew-retired-step, readers-shown}
 use Rattle.lb_rebuild_core.proofs.SlotsSteps.{slots_of, Facing, configs-after, id-made, gate-made}
 
 cong2 : {A B D : Type 0} (f : A → B → D) (a c : A) (b d : B) → a ≡ c → b ≡ d → f a b ≡ f c d
@@ -77,6 +78,21 @@ job-tells h out now e =
 
 job-may : (h : History) (out : Bool) (now : ℕ) → ask_answer h out now ≡ job → MayHappen h (Granted now)
 job-may h out now e = let tells = job-tells h out now e in (none-there (extra h) tells.2, tells.0, tells.1)
+
+-- a retired selector is there, of some generation
+retired-some : (g : ℕ) (e : Extra) → is_retired_of g e ≡ true → is_retired_of (generation_of e) e ≡ true
+retired-some g nothing r = absurd (cc)
+retired-some g (flight m) r = absurd (cc)
+retired-some g (lost m) r = absurd (cc)
+retired-some g (retired m) r = eq-eqb m m refl
+retired-some g (taken_out m) r = absurd (cc)
+
+left-tickets-are : (g : ℕ) (e : Extra) (h : History) → is_retired_of g e ≡ true → left_tickets e h ≡ drawn_retired h
+left-tickets-are g nothing h r = absurd (cc)
+left-tickets-are g (flight m) h r = absurd (cc)
+left-tickets-are g (lost m) h r = absurd (cc)
+left-tickets-are g (retired m) h r = refl
+left-tickets-are g (taken_out m) h r = absurd (cc)
 
 under_way-is : (s g k : ℕ) (e : Extra) → is_under_way k e ≡ true → UnderWayFits s g e → k ≡ g
 under_way-is s g k nothing up fits = absurd (cc)
@@ -476,25 +492,31 @@ module _ {S I C W : Type 0} {made : Made C} {h : History} {own : GroupId} {id : 
       (f.step (Drew s.tickets) tt (to ∙ ap (λ (z : SlotValue C). drawn_slot s.tickets z) f.slot
       ∙ drew-step made.gate f.config i s.tickets Past))
 
-  -- a ticket that was drawn
-  ticket-by : (b : Bool) (t : ℕ)
+  -- a ticket that was drawn: of what the slot serves, of its retired selector, or none
+  ticket-by : (b d : Bool) (g t : ℕ) → (d ≡ true → is_retired_of g (extra Past) ≡ true)
       → MatchBool b ((t ≡ drawn Past) × (slot_value y ≡ drawn_slot ((t + 1) % 2 ^ 64) (slot_after made.gate f.config Past)))
-      (slot_value y ≡ slot_after made.gate f.config Past)
-      → (b ≡ true → t ≡ drawn Past) × StandsFor made (cond b (At i (Drew ((t + 1) % 2 ^ 64)) ∷ []) [] ++ h)
+      (MatchBool d ((t ≡ left_tickets (extra Past) Past)
+      × (slot_value y ≡ left_drawn_slot ((t + 1) % 2 ^ 64) (slot_after made.gate f.config Past)))
+      ((t ≡ 0) × (slot_value y ≡ slot_after made.gate f.config Past)))
+      → (t ≡ cond b (drawn Past) (cond d (drawn_retired Past) 0))
+      × StandsFor made (cond b (At i (Drew ((t + 1) % 2 ^ 64)) ∷ []) (cond d (At i (DrewRetired ((t + 1) % 2 ^ 64)) ∷ []) []) ++ h)
       (slots_of own id n ms at st (set xs i y))
-  ticket-by true t is = (λ yes. is.0, f.step (Drew ((t + 1) % 2 ^ 64)) tt (is.1 ∙ drew-step made.gate f.config i ((t + 1) % 2 ^ 64) Past))
-  ticket-by false t is = (λ no. absurd (cc), f.same (is ∙ sym f.slot))
+  ticket-by true d g t there is =
+      (is.0, f.step (Drew ((t + 1) % 2 ^ 64)) tt (is.1 ∙ drew-step made.gate f.config i ((t + 1) % 2 ^ 64) Past))
+  ticket-by false true g t there is =
+      let may : MayHappen Past (DrewRetired ((t + 1) % 2 ^ 64)) = retired-some g (extra Past) (there refl) in (
+        is.0 ∙ left-tickets-are g (extra Past) Past (there refl),
+        f.step (DrewRetired ((t + 1) % 2 ^ 64)) may (is.1 ∙ drew-retired-step made.gate f.config i ((t + 1) % 2 ^ 64) Past may),
+      )
+  ticket-by false false g t there is = (is.0, f.same (is.1 ∙ sym f.slot))
 
   pub tickets : (k m g t : ℕ) → i ≡ k → m ≡ g → TicketAt m (slot_value x) t (slot_value y)
       → IsTicket made h k g t × StandsFor made (ticket_events made k g t h ++ h) (slots_of own id n ms at st (set xs i y))
   tickets k m g t place number was =
       let is : TicketAt g (slot_value x) t (slot_value y) = subst (λ (o : ℕ). TicketAt o (slot_value x) t (slot_value y)) number was in
-      let here : MatchBool (served Past == g) ((t ≡ drawn Past)
-      × (slot_value y ≡ drawn_slot ((t + 1) % 2 ^ 64) (slot_after made.gate f.config Past)))
-      (slot_value y ≡ slot_after made.gate f.config Past) =
-      subst (λ (z : SlotValue C). MatchBool (z.serving.generation == g) ((t ≡ z.serving.tickets)
-      × (slot_value y ≡ drawn_slot ((t + 1) % 2 ^ 64) z)) (slot_value y ≡ z)) f.slot is in
-      let told = ticket-by (served Past == g) t here in
+      let here : TicketAt g (slot_after made.gate f.config Past) t (slot_value y) =
+      subst (λ (z : SlotValue C). TicketAt g z t (slot_value y)) f.slot is in
+      let told = ticket-by (served Past == g) (is_retired_of g (extra Past)) g t (λ e. e) here in
       subst (λ (o : ℕ). IsTicket made h o g t × StandsFor made (ticket_events made o g t h ++ h) (slots_of own id n ms at st (set xs i y)))
       place
       (rw (lt-ltb i (length made.configs) f.inside) told)

@@ -47,6 +47,7 @@ events-keep f held released there slots.TakenOut p v = refl
 events-keep f held released there slots.Entered p v = refl
 events-keep f held released there (slots.Left n) p v = refl
 events-keep f held released there (slots.Drew t) p v = refl
+events-keep f held released there (slots.DrewRetired t) p v = refl
 
 first-generation : (k : ℕ) → generation_after (replicate k (view.Held 0)) ≡ 0
 first-generation zero = refl

@@ -259,6 +259,7 @@ slot-counted k i slots.TakenOut e all may ih = still k i (slot_events e) (view_e
 slot-counted k i slots.Entered e all may ih = still k i (slot_events e) (view_events k e) ih slots.Entered (λ n. refl)
 slot-counted k i (slots.Left m) e all may ih = still k i (slot_events e) (view_events k e) ih (slots.Left m) (λ n. refl)
 slot-counted k i (slots.Drew t) e all may ih = still k i (slot_events e) (view_events k e) ih (slots.Drew t) (λ n. refl)
+slot-counted k i (slots.DrewRetired t) e all may ih = still k i (slot_events e) (view_events k e) ih (slots.DrewRetired t) (λ n. refl)
 
 -- the law: after each history, the view holds each generation as often as the slots have it
 pub counted : (k : ℕ) (e : History) → IsSlotsHistory (slot_events e) → Counts (newest (slot_events e)) (λ n. holders n k (slot_events e))

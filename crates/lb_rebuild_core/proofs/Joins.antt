@@ -12,7 +12,7 @@ use Rattle.lb_rebuild_core.specs.SlotsHistory as slots
 use Rattle.lb_rebuild_core.specs.SlotsHistory.{past_of, newest, granted, served, Extra, nothing, flight, lost, retired, taken_out, extra}
 use Rattle.lb_rebuild_core.specs.SlotsHistory.{is_under_way, is_taken_out, taken_out_number, generation_of, IsSlotsHistory}
 use Rattle.lb_rebuild_core.specs.SlotsCalls.{is_change, Prepares, FitsIfThere, is_awaited, is_owed, taken_out_at, asked_events, done_at}
-use Rattle.lb_rebuild_core.specs.SlotsCalls.{publish_events, abandon_events, select_events, serves, ticket_events}
+use Rattle.lb_rebuild_core.specs.SlotsCalls.{publish_events, abandon_events, select_events, serves, has_retired, ticket_events}
 use Rattle.lb_rebuild_core.specs.Stands as core
 use Rattle.lb_rebuild_core.specs.Stands.{Made}
 use Rattle.lb_rebuild_core.specs.Values.{Task, BuiltValue, PreparedValue, SlotsValue, configs_of}
@@ -192,7 +192,7 @@ module _ {C : Type 0} where
         | false ↦ refl
       ]
 
-  -- a ticket of a reader, whose events rest on what the slot serves
+  -- a ticket of a reader, whose events rest on what the slot serves and has retired
   pub joined-ticket : {r : ℕ} (made : Made C) (e : History) (slot n t : ℕ) (w z : SlotsValue C) (u : ViewValue) (v : GroupValue C)
       → (let parts : GroupValue C = record { group = w; view = u; registry = r } in parts ≡ v) → Stands made e v
       → ((h : slots.History) → core.StandsFor made h w → core.StandsFor made (ticket_events made slot n t h ++ h) z)
@@ -203,14 +203,20 @@ module _ {C : Type 0} where
       subst (λ (x : GroupValue C). Stands made e x) (sym is) s in
       let es : slots.History = ticket_events made slot n t (slot_events e) in
       let still : views_of made (in_group es ++ e) ≡ views_of made e =
-      elim (serves made slot n (slot_events e)) as
-      (λ b. views_of made (in_group (cond b (slots.At slot (slots.Drew ((t + 1) % 2 ^ 64)) ∷ []) []) ++ e) ≡ views_of made e)
-      [ true ↦ refl | false ↦ refl ] in
+      by-selector (serves made slot n (slot_events e)) (has_retired made slot n (slot_events e)) in
       record {
         few = before.few;
         group = subst (λ (h : slots.History). core.StandsFor made h z) (sym (group-joined es e)) (group_ (slot_events e) before.group);
         view = subst (λ (l : List ViewEvent). IsViewAfter l u) (sym still) before.view;
       }
+    where
+      by-selector : (b d : Bool)
+          → views_of made (in_group (cond b (slots.At slot (slots.Drew ((t + 1) % 2 ^ 64)) ∷ [])
+          (cond d (slots.At slot (slots.DrewRetired ((t + 1) % 2 ^ 64)) ∷ []) [])) ++ e)
+          ≡ views_of made e
+      by-selector true d = refl
+      by-selector false true = refl
+      by-selector false false = refl
 
   -- gate, configurations and the number of the view stay
   pub site-joined : {n : ℕ} (w z : SlotsValue C) (u t : ViewValue) (v : GroupValue C)

@@ -6,9 +6,9 @@ use Rattle.std.proofs.lemmas.Bool.Decides.{nat_tests}
 use mathlib.Core.Logic.{dite}
 use native.Mathlib.Decide.{ℕ_discrete}
 use Rattle.lb_rebuild_core.specs.SlotsHistory.{SlotEvent, Granted, Failed, Published, Abandoned, WorkerLost, TakenOut, Destroyed, Entered}
-use Rattle.lb_rebuild_core.specs.SlotsHistory.{Left, Drew, SlotsEvent, Scheduled, Cancelled, At, History, past_of, newest, members_of}
-use Rattle.lb_rebuild_core.specs.SlotsHistory.{scheduled_at, is_cancelled, granted, served, Extra, nothing, flight, lost, retired}
-use Rattle.lb_rebuild_core.specs.SlotsHistory.{taken_out, is_flight, is_under_way, is_retired_of, is_taken_out, flight_number}
+use Rattle.lb_rebuild_core.specs.SlotsHistory.{Left, Drew, DrewRetired, SlotsEvent, Scheduled, Cancelled, At, History, past_of, newest}
+use Rattle.lb_rebuild_core.specs.SlotsHistory.{members_of, scheduled_at, is_cancelled, granted, served, Extra, nothing, flight, lost}
+use Rattle.lb_rebuild_core.specs.SlotsHistory.{retired, taken_out, is_flight, is_under_way, is_retired_of, is_taken_out, flight_number}
 use Rattle.lb_rebuild_core.specs.SlotsHistory.{generation_of, extra, readers, failures, failed_at, IsPast}
 
 -- what an event does not change is the same whether or not the event is there
@@ -182,6 +182,7 @@ read_nowhere n (At i Destroyed ∷ h) p apart out = read_nowhere n h p.0 apart (
 read_nowhere n (At i Entered ∷ h) p apart out = rw (ne_eqb (served h) n apart) (read_nowhere n h p.0 apart out)
 read_nowhere n (At i (Left m) ∷ h) p apart out = less-none (n == m) (readers n h) (read_nowhere n h p.0 apart out)
 read_nowhere n (At i (Drew t) ∷ h) p apart out = read_nowhere n h p.0 apart out
+read_nowhere n (At i (DrewRetired t) ∷ h) p apart out = read_nowhere n h p.0 apart out
 
 -- no generation that is still to come has failed, or has a moment
 pub unfailed : (n : ℕ) (h : History) → newest h < n → (failures n h ≡ 0) × (failed_at n h ≡ 0)

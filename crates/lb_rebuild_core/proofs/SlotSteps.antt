@@ -8,6 +8,7 @@ use Rattle.lb_rebuild_core.specs.Gate.{GateId, GroupId}
 use Rattle.lb_rebuild_core.specs.declared.answers.Counts.{Counts}
 use Rattle.lb_rebuild_core.specs.declared.answers.Timing.{Timing}
 use Rattle.lb_rebuild_core.specs.SlotsHistory.{Granted, Failed, Published, Abandoned, WorkerLost, TakenOut, Destroyed, Entered, Left, Drew}
+use Rattle.lb_rebuild_core.specs.SlotsHistory.{DrewRetired, drawn_retired}
 use Rattle.lb_rebuild_core.specs.SlotsHistory.{SlotsEvent, Scheduled, Cancelled, At, History, newest, scheduled_at, is_cancelled, granted}
 use Rattle.lb_rebuild_core.specs.SlotsHistory.{served, order_members, Extra, nothing, flight, lost, retired, taken_out, is_flight}
 use Rattle.lb_rebuild_core.specs.SlotsHistory.{is_extra, is_under_way, is_retired_of, is_lost_of, is_taken_out, flight_number}
@@ -15,9 +16,10 @@ use Rattle.lb_rebuild_core.specs.SlotsHistory.{generation_of, extra, waits, read
 use Rattle.lb_rebuild_core.specs.SlotsHistory.{all_failures, failures, failed_at, later, due_after, AskAnswer, cancelled, building}
 use Rattle.lb_rebuild_core.specs.SlotsHistory.{up_to_date, not_due, busy, job, ask_answer, IsPast}
 use Rattle.lb_rebuild_core.specs.Values.{OrderValue, ServingValue, SlotValue}
-use Rattle.lb_rebuild_core.specs.Stands.{left_readers, permit_in, slot_after}
+use Rattle.lb_rebuild_core.specs.Stands.{left_readers, left_tickets, permit_in, slot_after}
 use Rattle.lb_rebuild_core.specs.SlotCalls.{more, ordered_slot, slot_answer, asked_slot, failed_slot, published_slot, abandoned_slot}
 use Rattle.lb_rebuild_core.specs.SlotCalls.{lost_slot, entered_slot, readers_at, left_slot, taken_slot, destroyed_slot, drawn_slot}
+use Rattle.lb_rebuild_core.specs.SlotCalls.{left_drawn_slot}
 use Rattle.lb_rebuild_core.specs.Laws.{Balanced}
 use Rattle.lb_rebuild_core.proofs.Delays.{capped_delay}
 use Rattle.lb_rebuild_core.proofs.Pasts.{UnderWayFits, under-way-fits, flies, is_up, granted-newest, served-granted, unread, unfailed}
@@ -25,9 +27,9 @@ use Rattle.lb_rebuild_core.proofs.Pasts.{read_nowhere, lt-false, not-below}
 use Rattle.lb_rebuild_core.proofs.Ledger.{balanced}
 
 -- slots of equal parts are equal
-same-parts : {C : Type 0} (c : C) {s t : ServingValue C} {r q : ℕ} {w v : Option (OrderValue C)} {e f : Extra} {l k : ℕ}
+same-parts : {C : Type 0} (c : C) {s t : ServingValue C} {r q : ℕ} {w v : Option (OrderValue C)} {e f : Extra} {l k lt kt : ℕ}
     {p o : Option GateId} {a b d g m n u z : ℕ} {x y : Counts} {i j : Option Timing}
-    → s ≡ t → r ≡ q → w ≡ v → e ≡ f → l ≡ k → p ≡ o → a ≡ b → d ≡ g → m ≡ n → u ≡ z → x ≡ y → i ≡ j
+    → s ≡ t → r ≡ q → w ≡ v → e ≡ f → l ≡ k → lt ≡ kt → p ≡ o → a ≡ b → d ≡ g → m ≡ n → u ≡ z → x ≡ y → i ≡ j
     → (let left : SlotValue C = record {
       serving = s;
       readers = r;
@@ -35,6 +37,7 @@ same-parts : {C : Type 0} (c : C) {s t : ServingValue C} {r q : ℕ} {w v : Opti
       waiting = w;
       extra = e;
       left_in = l;
+      left_tickets = lt;
       permit = p;
       asked = a;
       scheduled = d;
@@ -50,6 +53,7 @@ same-parts : {C : Type 0} (c : C) {s t : ServingValue C} {r q : ℕ} {w v : Opti
       waiting = v;
       extra = f;
       left_in = k;
+      left_tickets = kt;
       permit = o;
       asked = b;
       scheduled = g;
@@ -59,7 +63,7 @@ same-parts : {C : Type 0} (c : C) {s t : ServingValue C} {r q : ℕ} {w v : Opti
       timing = j;
     } in
     left ≡ right)
-same-parts c h1 h2 h3 h4 h5 h6 h7 h8 h9 h10 h11 h12 = cc
+same-parts c h1 h2 h3 h4 h5 h6 h7 h8 h9 h10 h11 h12 h13 = cc
 
 same-counts : (p q c d u v f g : ℕ) → p ≡ q → c ≡ d → u ≡ v → f ≡ g
     → (let left : Counts = record { published = p; coalesced = c; superseded = u; failed = f } in
@@ -92,6 +96,23 @@ left-same (flight n) v h same = refl
 left-same (lost n) v h same = refl
 left-same (retired n) v h same = sym (same n)
 left-same (taken_out n) v h same = refl
+
+tickets-same : (e : Extra) (v : SlotsEvent) (h : History) → drawn_retired (v ∷ h) ≡ drawn_retired h
+    → left_tickets e h ≡ left_tickets e (v ∷ h)
+tickets-same nothing v h same = refl
+tickets-same (flight n) v h same = refl
+tickets-same (lost n) v h same = refl
+tickets-same (retired n) v h same = sym same
+tickets-same (taken_out n) v h same = refl
+
+-- a ticket of the retired selector
+tickets-drawn : (e : Extra) (i t : ℕ) (h : History) → is_retired_of (generation_of e) e ≡ true
+    → t ≡ left_tickets e (At i (DrewRetired t) ∷ h)
+tickets-drawn nothing i t h r = absurd (cc)
+tickets-drawn (flight n) i t h r = absurd (cc)
+tickets-drawn (lost n) i t h r = absurd (cc)
+tickets-drawn (retired n) i t h r = refl
+tickets-drawn (taken_out n) i t h r = absurd (cc)
 
 left-under_way : (g : ℕ) (e : Extra) (h : History) → is_under_way g e ≡ true → left_readers e h ≡ 0
 left-under_way g nothing h up = refl
@@ -291,7 +312,7 @@ module _ {C : Type 0} where
       same-parts c refl refl
       (ordered-waits (served h) (granted h) (newest h) (extra h) (record { generation = newest h + 1; members = ms; config = c })
       (served-granted h) early (under-way-fits h p.0))
-      refl (left-same (extra h) (Scheduled ms now) h (λ n. refl)) refl refl
+      refl (left-same (extra h) (Scheduled ms now) h (λ n. refl)) (tickets-same (extra h) (Scheduled ms now) h refl) refl refl
       (sym (rw (ne_eqb (newest h + 1) (granted h) (λ e. omega arith)) refl))
       (sym (ap (λ (k : ℕ). min k 18446744073709551615) none.0)) (sym none.1)
       (same-counts _ _ _ _ _ _ _ _ refl (more-at (waits h) (coalesced h) (omega (arith, all))) refl refl) refl
@@ -301,7 +322,7 @@ module _ {C : Type 0} where
   granted-step gate c i now h p =
       same-parts c refl refl
       (granted-waits (served h) (newest h) (record { generation = newest h; members = order_members h; config = c }))
-      refl (ap (λ (e : Extra). left_readers e h) p.1.0) refl refl refl refl refl refl refl
+      refl (ap (λ (e : Extra). left_readers e h) p.1.0) refl refl refl refl refl refl refl refl
 
   pub failed-step : (gate : GateId) (c : C) (i now : ℕ) (ms : List Member) (h : History) → IsPast (At i (Failed now ms) ∷ h)
       → newest h < 2 ^ 64
@@ -311,7 +332,7 @@ module _ {C : Type 0} where
       let all : Balanced (At i (Failed now ms) ∷ h) = balanced (At i (Failed now ms) ∷ h) p in
       same-parts c refl refl
       (back-waits c (served h) (granted h) (newest h) (extra h) ms (order_members h) p.1 (under-way-fits h p.0) (granted-newest h))
-      refl (left-under_way (granted h) (extra h) h p.1) refl refl refl
+      refl (left-under_way (granted h) (extra h) h p.1) refl refl refl refl
       (more-ends-at (granted h == newest h) (failures (newest h) h)) refl
       (same-counts _ _ _ _ _ _ _ _ refl refl (more-at (is_outdated h) (superseded h) (omega (arith, all))) (more-ends (all_failures h)))
       refl
@@ -336,7 +357,7 @@ module _ {C : Type 0} where
       same-parts c refl (sym (unread (granted h) h above))
       (published-waits (served h) (granted h) (newest h) (extra h) (record { generation = newest h; members = order_members h; config = c })
       p.1.0 (under-way-fits h p.0))
-      refl refl (permit-flight gate (extra h) p.1.0) refl refl refl refl
+      refl refl refl (permit-flight gate (extra h) p.1.0) refl refl refl refl
       (same-counts _ _ _ _ _ _ _ _ (more-of (published h) (omega (arith, all))) refl refl refl) refl
 
   pub abandoned-step : (gate : GateId) (c : C) (group : GroupId) (slot i ended : ℕ) (ms : List Member) (h : History)
@@ -352,7 +373,7 @@ module _ {C : Type 0} where
       let above : served h < granted h = is_up (served h) (granted h) (extra h) p.1 (under-way-fits h p.0) in
       same-parts c refl refl
       (back-waits c (served h) (granted h) (newest h) (extra h) ms (order_members h) p.1 (under-way-fits h p.0) (granted-newest h))
-      refl (sym (unread (granted h) h above)) (permit-under_way gate (granted h) (extra h) p.1) refl refl refl refl
+      refl (sym (unread (granted h) h above)) refl (permit-under_way gate (granted h) (extra h) p.1) refl refl refl refl
       (same-counts _ _ _ _ _ _ _ _ refl refl (more-at (is_outdated h) (superseded h) (omega (arith, all))) refl) refl
 
   pub lost-step : (gate : GateId) (c : C) (i : ℕ) (h : History) → IsPast (At i WorkerLost ∷ h) → newest h < 2 ^ 64
@@ -363,7 +384,7 @@ module _ {C : Type 0} where
       (lost-waits (served h) (granted h) (newest h) (extra h) (record { generation = newest h; members = order_members h; config = c }) p.1
       (under-way-fits h p.0) (granted-newest h))
       (ap lost (flown-number (served h) (granted h) (extra h) p.1 (under-way-fits h p.0)))
-      (left-flight (extra h) h p.1) (permit-flight gate (extra h) p.1) refl refl refl refl
+      (left-flight (extra h) h p.1) refl (permit-flight gate (extra h) p.1) refl refl refl refl
       (same-counts _ _ _ _ _ _ _ _ refl refl (more-at (is_outdated h) (superseded h) (omega (arith, all))) refl) refl
 
   pub taken-step : (gate : GateId) (c : C) (i : ℕ) (h : History) → IsPast (At i TakenOut ∷ h)
@@ -371,35 +392,44 @@ module _ {C : Type 0} where
   taken-step gate c i h p =
       same-parts c refl refl
       (taken-waits (served h) (newest h) (extra h) (record { generation = newest h; members = order_members h; config = c }) p.1.0)
-      refl refl (permit-retired gate (generation_of (extra h)) (extra h) p.1.0) refl refl refl refl refl refl
+      refl refl refl (permit-retired gate (generation_of (extra h)) (extra h) p.1.0) refl refl refl refl refl refl
 
   pub destroyed-step : (gate : GateId) (c : C) (i : ℕ) (h : History) → IsPast (At i Destroyed ∷ h)
       → destroyed_slot (slot_after gate c h) ≡ slot_after gate c (At i Destroyed ∷ h)
   destroyed-step gate c i h p =
       same-parts c refl refl
       (destroyed-waits (served h) (newest h) (extra h) (record { generation = newest h; members = order_members h; config = c }) p.1)
-      refl (out-left (extra h) h p.1) refl refl refl refl refl refl refl
+      refl (out-left (extra h) h p.1) refl refl refl refl refl refl refl refl
 
   pub entered-step : (gate : GateId) (c : C) (i : ℕ) (h : History) → IsPast h
       → entered_slot (slot_after gate c h) ≡ slot_after gate c (At i Entered ∷ h)
   entered-step gate c i h p =
       same-parts c refl (sym (rw (eq-eqb (served h) (served h) refl) refl)) refl
-      refl (entered-left (served h) (granted h) (extra h) i h refl (under-way-fits h p)) refl refl refl refl refl refl refl
+      refl (entered-left (served h) (granted h) (extra h) i h refl (under-way-fits h p)) (tickets-same (extra h) (At i Entered) h refl)
+      refl refl refl refl refl refl refl
 
   pub left-step : (gate : GateId) (c : C) (i n : ℕ) (h : History) → IsPast h
       → left_slot n (slot_after gate c h) ≡ slot_after gate c (At i (Left n) ∷ h)
   left-step gate c i n h p =
-      same-parts c refl refl refl refl (left-left (served h) (granted h) n (extra h) i h (under-way-fits h p)) refl refl refl refl refl refl
-      refl
+      same-parts c refl refl refl refl (left-left (served h) (granted h) n (extra h) i h (under-way-fits h p))
+      (tickets-same (extra h) (At i (Left n)) h refl) refl refl refl refl refl refl refl
 
   pub drew-step : (gate : GateId) (c : C) (i t : ℕ) (h : History)
       → drawn_slot t (slot_after gate c h) ≡ slot_after gate c (At i (Drew t) ∷ h)
-  drew-step gate c i t h = same-parts c refl refl refl refl (left-same (extra h) (At i (Drew t)) h (λ n. refl)) refl refl refl refl refl
-      refl refl
+  drew-step gate c i t h =
+      same-parts c refl refl refl refl (left-same (extra h) (At i (Drew t)) h (λ n. refl)) (tickets-same (extra h) (At i (Drew t)) h refl)
+      refl refl refl refl refl refl refl
+
+  pub drew-retired-step : (gate : GateId) (c : C) (i t : ℕ) (h : History) → is_retired_of (generation_of (extra h)) (extra h) ≡ true
+      → left_drawn_slot t (slot_after gate c h) ≡ slot_after gate c (At i (DrewRetired t) ∷ h)
+  drew-retired-step gate c i t h there =
+      same-parts c refl refl refl refl (left-same (extra h) (At i (DrewRetired t)) h (λ n. refl)) (tickets-drawn (extra h) i t h there)
+      refl refl refl refl refl refl refl
 
   pub cancelled-step : (gate : GateId) (c : C) (h : History) → slot_after gate c h ≡ slot_after gate c (Cancelled ∷ h)
-  cancelled-step gate c h = same-parts c refl refl refl refl (left-same (extra h) Cancelled h (λ n. refl)) refl refl refl refl refl refl
-      refl
+  cancelled-step gate c h =
+      same-parts c refl refl refl refl (left-same (extra h) Cancelled h (λ n. refl)) (tickets-same (extra h) Cancelled h refl)
+      refl refl refl refl refl refl refl
 
   -- how many readers of a generation the slot shows
   pub readers-shown : (gate : GateId) (c : C) (n : ℕ) (h : History) → IsPast h → readers_at n (slot_after gate c h) ≡ readers n h

@@ -4,9 +4,9 @@ use Rattle.std.proofs.lemmas.Bool.{eqb-true, eq-eqb}
 use mathlib.Core.Logic.{dite}
 use native.Mathlib.Decide.{ℕ_discrete}
 use Rattle.lb_rebuild_core.specs.SlotsHistory.{SlotEvent, Granted, Failed, Published, Abandoned, WorkerLost, TakenOut, Destroyed, Entered}
-use Rattle.lb_rebuild_core.specs.SlotsHistory.{Left, Drew, SlotsEvent, Scheduled, Cancelled, At, History, past_of, newest, granted}
-use Rattle.lb_rebuild_core.specs.SlotsHistory.{granted_members, served, Extra, nothing, flight, lost, retired, taken_out, is_under_way}
-use Rattle.lb_rebuild_core.specs.SlotsHistory.{is_retired_of, is_taken_out, generation_of, extra, IsPast, IsSlotsHistory}
+use Rattle.lb_rebuild_core.specs.SlotsHistory.{Left, Drew, DrewRetired, SlotsEvent, Scheduled, Cancelled, At, History, past_of, newest}
+use Rattle.lb_rebuild_core.specs.SlotsHistory.{granted, granted_members, served, Extra, nothing, flight, lost, retired, taken_out}
+use Rattle.lb_rebuild_core.specs.SlotsHistory.{is_under_way, is_retired_of, is_taken_out, generation_of, extra, IsPast, IsSlotsHistory}
 use Rattle.lb_rebuild_core.specs.Values.{Task}
 use Rattle.lb_rebuild_core.specs.Stands.{Made}
 use Rattle.lb_rebuild_core.specs.Laws.{FlightFits}
@@ -66,6 +66,7 @@ stays-there k i Destroyed p q back up = absurd (not-out k (extra p) up q.1)
 stays-there k i Entered p q back up = (up, refl)
 stays-there k i (Left n) p q back up = (up, refl)
 stays-there k i (Drew t) p q back up = (up, refl)
+stays-there k i (DrewRetired t) p q back up = (up, refl)
 
 module _ {C : Type 0} where
   -- a job is its slot's flight from its grant on

@@ -71,7 +71,7 @@ asked_slot up_to_date id newest at now x = x
 asked_slot (not_due m) id newest at now x = x
 asked_slot busy id newest at now x = x
 asked_slot job id newest at now x =
-    record x { waiting = None; extra = flight newest; permit = Some id; asked = now; scheduled = at }
+    record x { waiting = None; extra = flight newest; left_tickets = 0; permit = Some id; asked = now; scheduled = at }
 
 -- a job takes the gate's permit
 abbrev pub asked_gate : AskAnswer → GateValue → GateValue
@@ -101,6 +101,7 @@ failed_slot newest now o x =
     record x {
       waiting = put_back newest o x;
       extra = nothing;
+      left_tickets = 0;
       permit = None;
       failures = if o.generation == newest then more x.failures else x.failures;
       failed_at = if o.generation == newest then now else x.failed_at;
@@ -115,6 +116,7 @@ published_slot b x =
       readers = 0;
       extra = retired x.serving.generation;
       left_in = x.readers;
+      left_tickets = x.serving.tickets;
       counts = record x.counts { published = more x.counts.published };
       timing = Some (record { generation = b.task.generation; queue = x.asked - x.scheduled; build = b.ended - x.asked });
     }
@@ -126,12 +128,18 @@ abandoned_slot newest b x =
       waiting = put_back newest (order_of b.task) x;
       extra = retired b.task.generation;
       left_in = 0;
+      left_tickets = 0;
       counts = record x.counts { superseded = superseded_more newest x };
     }
 
 -- the slot whose flight is lost
 abbrev pub lost_slot : {C : Type 0} → ℕ → SlotValue C → SlotValue C
-lost_slot newest x = record x { extra = lost (flight_number x.extra); counts = record x.counts { superseded = superseded_more newest x } }
+lost_slot newest x =
+    record x {
+      extra = lost (flight_number x.extra);
+      left_tickets = 0;
+      counts = record x.counts { superseded = superseded_more newest x };
+    }
 
 abbrev pub entered_slot : {C : Type 0} → SlotValue C → SlotValue C
 entered_slot x = record x { readers = x.readers + 1 }
@@ -196,7 +204,7 @@ LeavesAt r x (Err q) y = (nat_lt 0 (readers_at r.generation x) ≡ false) × (q 
 
 -- the slot without its retired selector
 abbrev pub taken_slot : {C : Type 0} → SlotValue C → SlotValue C
-taken_slot x = record x { extra = taken_out (generation_of x.extra); left_in = 0 }
+taken_slot x = record x { extra = taken_out (generation_of x.extra); left_in = 0; left_tickets = 0 }
 
 abbrev pub TakesAt : {C : Type 0} → PlaceValue → SlotValue C → Result RetiredValue Refusal → SlotValue C → Type 0
 TakesAt p x (Ok r) y =
@@ -206,7 +214,7 @@ TakesAt p x (Err e) y = (take_refusal x.extra x.left_in ≡ Some e) × (y ≡ x)
 
 -- the slot once what was taken out of it is destroyed
 abbrev pub destroyed_slot : {C : Type 0} → SlotValue C → SlotValue C
-destroyed_slot x = record x { extra = nothing; permit = None }
+destroyed_slot x = record x { extra = nothing; left_tickets = 0; permit = None }
 
 -- a report gives the permit that the slot had, where a selector was taken out of it
 abbrev pub ReportsAt : {C : Type 0} → SlotValue C → Option GateId → SlotValue C → Type 0
@@ -217,10 +225,15 @@ ReportsAt x None y = (is_taken_out x.extra ≡ false) × (y ≡ x)
 abbrev pub drawn_slot : {C : Type 0} → ℕ → SlotValue C → SlotValue C
 drawn_slot n x = record x { serving = record x.serving { tickets = n } }
 
--- a ticket of the selector that it serves is the next of its counter; one of another selector leaves the slot as it is seen
+-- the slot with the counter of tickets of its retired selector elsewhere
+abbrev pub left_drawn_slot : {C : Type 0} → ℕ → SlotValue C → SlotValue C
+left_drawn_slot n x = record x { left_tickets = n }
+
+-- a ticket is the next of the counter of the selector of that generation, which it serves or has retired; there is none of another
 abbrev pub TicketAt : {C : Type 0} → ℕ → SlotValue C → ℕ → SlotValue C → Type 0
 TicketAt n x t y =
-    MatchBool (x.serving.generation == n) ((t ≡ x.serving.tickets) × (y ≡ drawn_slot ((t + 1) % 2 ^ 64) x)) (y ≡ x)
+    MatchBool (x.serving.generation == n) ((t ≡ x.serving.tickets) × (y ≡ drawn_slot ((t + 1) % 2 ^ 64) x))
+    (MatchBool (is_retired_of n x.extra) ((t ≡ x.left_tickets) × (y ≡ left_drawn_slot ((t + 1) % 2 ^ 64) x)) ((t ≡ 0) × (y ≡ x)))
 
 -- The first accepted of the candidates from a selector of these members and this configuration whose counter is at `tickets`,
 -- with these loads. Where walks over it may draw random words, there must be more of them than the limit.

@@ -1,5 +1,5 @@
 -- How a slot of the program is seen by contracts.
-use Rattle.std.specs.Prelude.{Option, Some, None}
+use Rattle.std.specs.Prelude.{ℕ, Option, Some, None}
 use Rattle.std.specs.Arc.{arc_value}
 use Rattle.lb_rebuild_core.specs.Gate.{GateId}
 use Rattle.lb_rebuild_core.specs.SlotsHistory.{Extra, nothing, flight, lost, retired, taken_out}
@@ -23,6 +23,14 @@ permit_of (stage.Lost n p) = Some p
 permit_of (stage.Retired s p) = Some p
 permit_of (stage.TakenOut n p) = Some p
 
+-- the counter of tickets of the retired selector that stands there
+abbrev pub left_tickets_of : {S I C W : Type 0} → SlotStage S I C W → ℕ
+left_tickets_of stage.Free = 0
+left_tickets_of (stage.Flight n p) = 0
+left_tickets_of (stage.Lost n p) = 0
+left_tickets_of (stage.Retired s p) = s.tickets
+left_tickets_of (stage.TakenOut n p) = 0
+
 abbrev pub slot_value : {S I C W : Type 0} → Slot S I C W → SlotValue C
 slot_value x =
     record {
@@ -32,6 +40,7 @@ slot_value x =
       waiting = x.waiting;
       extra = extra_of x.stage;
       left_in = x.left_in;
+      left_tickets = left_tickets_of x.stage;
       permit = permit_of x.stage;
       asked = x.asked;
       scheduled = x.scheduled;

@@ -8,8 +8,8 @@ use Rattle.lb_select_base.specs.Memberships.{same_members}
 use Rattle.lb_select_base.specs.declared.refusal.Refusal.{Refusal}
 use Rattle.lb_select_base.specs.declared.refusal.Refusal.TheVariants as refusal
 use Rattle.lb_rebuild_core.specs.Gate.{GateValue, gate}
-use Rattle.lb_rebuild_core.specs.SlotsHistory.{SlotEvent, Granted, Failed, Published, Abandoned, Drew, Scheduled, At, History, past_of}
-use Rattle.lb_rebuild_core.specs.SlotsHistory.{newest}
+use Rattle.lb_rebuild_core.specs.SlotsHistory.{SlotEvent, Granted, Failed, Published, Abandoned, Drew, DrewRetired, Scheduled, At}
+use Rattle.lb_rebuild_core.specs.SlotsHistory.{History, past_of, newest, is_retired_of, drawn_retired}
 use Rattle.lb_rebuild_core.specs.SlotsHistory.{members_of, is_cancelled, order_members, served, served_members, is_flight, is_under_way}
 use Rattle.lb_rebuild_core.specs.SlotsHistory.{is_taken_out, taken_out_number, generation_of, extra, waits, readers, drawn, AskAnswer}
 use Rattle.lb_rebuild_core.specs.SlotsHistory.{cancelled}
@@ -245,12 +245,24 @@ Reports made h slot permit (Err p) = (is_owed made slot h ≡ false) × (p ≡ p
 abbrev pub serves : {C : Type 0} → Made C → ℕ → ℕ → History → Bool
 serves made slot n h = nat_lt slot (length made.configs) && (served (past_of slot h) == n)
 
--- A ticket of the selector that a slot serves is the next of its counter. Of a ticket of a retired selector nothing is said.
+-- whether the slot has a retired selector of that generation
+abbrev pub has_retired : {C : Type 0} → Made C → ℕ → ℕ → History → Bool
+has_retired made slot n h = nat_lt slot (length made.configs) && is_retired_of n (extra (past_of slot h))
+
+-- A ticket of the selector of a generation is the next of that selector's own counter, while the slot serves it and while it is
+-- retired there. Where the slot has no such selector it is 0.
 abbrev pub IsTicket : {C : Type 0} → Made C → History → ℕ → ℕ → ℕ → Type 0
-IsTicket made h slot n t = serves made slot n h ≡ true → t ≡ drawn (past_of slot h)
+IsTicket made h slot n t =
+    t
+    ≡ (if serves made slot n h then drawn (past_of slot h)
+    else if has_retired made slot n h then drawn_retired (past_of slot h)
+    else 0)
 
 abbrev pub ticket_events : {C : Type 0} → Made C → ℕ → ℕ → ℕ → History → History
-ticket_events made slot n t h = if serves made slot n h then At slot (Drew ((t + 1) % 2 ^ 64)) ∷ [] else []
+ticket_events made slot n t h =
+    if serves made slot n h then At slot (Drew ((t + 1) % 2 ^ 64)) ∷ []
+    else if has_retired made slot n h then At slot (DrewRetired ((t + 1) % 2 ^ 64)) ∷ []
+    else []
 
 -- what a reading call answers: a number of the slot, or none where no such slot is there
 abbrev pub at_slot : {A C : Type 0} → Made C → ℕ → A → Option A

@@ -24,8 +24,10 @@ pub data SlotEvent : Type 0 where
   Entered : SlotEvent
   -- a reader of that generation left
   Left : ℕ → SlotEvent
-  -- a selection left the counter of tickets there
+  -- a selection or a reader of what is served left its counter of tickets there
   Drew : ℕ → SlotEvent
+  -- a reader of the retired selector left that one's counter of tickets there
+  DrewRetired : ℕ → SlotEvent
 
 -- what happens to a group: a changed membership at a moment, its cancellation, or something at one slot
 pub data SlotsEvent : Type 0 where
@@ -211,6 +213,15 @@ drawn (At i (Published ended ms) ∷ h) = 0
 drawn (At i (Drew t) ∷ h) = t
 drawn (e ∷ h) = drawn h
 
+-- The counter of tickets of the retired selector goes on from where it was while that one was served; a selector that is retired
+-- unserved begins at 0.
+abbrev pub drawn_retired : History → ℕ
+drawn_retired [] = 0
+drawn_retired (At i (Published ended ms) ∷ h) = drawn h
+drawn_retired (At i (Abandoned ms) ∷ h) = 0
+drawn_retired (At i (DrewRetired t) ∷ h) = t
+drawn_retired (e ∷ h) = drawn_retired h
+
 -- The four counts: publications; memberships that found the slot waiting; flights that ended unpublished when they were not of
 -- the newest generation any more; failed builds, up to 18446744073709551615.
 abbrev pub published : History → ℕ
@@ -305,6 +316,7 @@ MayHappen h Destroyed = is_taken_out (extra h) ≡ true
 MayHappen h Entered = Unit {0}
 MayHappen h (Left n) = 0 < readers n h
 MayHappen h (Drew t) = Unit {0}
+MayHappen h (DrewRetired t) = is_retired_of (generation_of (extra h)) (extra h) ≡ true
 
 -- a slot's past that can be
 abbrev pub IsPast : History → Type 0

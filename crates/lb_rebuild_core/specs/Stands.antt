@@ -3,9 +3,8 @@ use Rattle.std.specs.Prelude.{◌≡◌, ◌+◌, ◌^◌, ◌<◌, ◌&&◌, �
 use Rattle.lb_rebuild_core.specs.Gate.{GateId, GroupId}
 use Rattle.lb_rebuild_core.specs.SlotsHistory.{History, Extra, nothing, flight, lost, retired, taken_out, past_of, newest, members_of}
 use Rattle.lb_rebuild_core.specs.SlotsHistory.{scheduled_at, is_cancelled, granted, asked_at, served, served_members, order_members, extra}
-use Rattle.lb_rebuild_core.specs.SlotsHistory.{is_lost_of, waits, readers, drawn, published, coalesced, superseded, failed, failures}
-use Rattle.lb_rebuild_core.specs.SlotsHistory.{failed_at}
-use Rattle.lb_rebuild_core.specs.SlotsHistory.{timing, IsSlotsHistory}
+use Rattle.lb_rebuild_core.specs.SlotsHistory.{is_lost_of, waits, readers, drawn, drawn_retired, published, coalesced, superseded, failed}
+use Rattle.lb_rebuild_core.specs.SlotsHistory.{failures, failed_at, timing, IsSlotsHistory}
 use Rattle.lb_rebuild_core.specs.Values.{OrderValue, SlotValue, SlotsValue, configs_of}
 use Rattle.lb_rebuild_core.specs.declared.answers.Counts.{Counts}
 
@@ -31,6 +30,14 @@ left_readers (lost n) h = 0
 left_readers (retired n) h = readers n h
 left_readers (taken_out n) h = 0
 
+-- the counter of tickets of a retired selector
+abbrev pub left_tickets : Extra → History → ℕ
+left_tickets nothing h = 0
+left_tickets (flight n) h = 0
+left_tickets (lost n) h = 0
+left_tickets (retired n) h = drawn_retired h
+left_tickets (taken_out n) h = 0
+
 -- what stands in a slot beside what it serves has the permit of the group's gate
 abbrev pub permit_in : GateId → Extra → Option GateId
 permit_in gate nothing = None
@@ -53,6 +60,7 @@ slot_after gate c h =
       waiting = order_due c h;
       extra = extra h;
       left_in = left_readers (extra h) h;
+      left_tickets = left_tickets (extra h) h;
       permit = permit_in gate (extra h);
       asked = asked_at h;
       scheduled = scheduled_at (granted h) h;

@@ -68,7 +68,8 @@ pub record ReaderValue (C : Type 0) : Type 0 where
   pub config : C
 
 -- A slot: what it serves and to how many readers, what it is configured with, the order that waits, its extra,
--- with the readers left in it where it is retired and the gate of its permit, and what retries, counts and timing need.
+-- with the readers left in it and its counter of tickets where it is retired, and with the gate of its permit, and what retries,
+-- counts and timing need.
 pub record SlotValue (C : Type 0) : Type 0 where
   pub serving : ServingValue C
   pub readers : ℕ
@@ -76,6 +77,7 @@ pub record SlotValue (C : Type 0) : Type 0 where
   pub waiting : Option (OrderValue C)
   pub extra : Extra
   pub left_in : ℕ
+  pub left_tickets : ℕ
   pub permit : Option GateId
   pub asked : ℕ
   pub scheduled : ℕ

@@ -382,9 +382,8 @@ impl<S: BackendSelection> GroupCore<S> {
         self.view.ready_in(registry, reader.generation(), backend)
     }
 
-    /// Returns the next ticket of the selector that a reader is in, as a group without a view does.
-    ///
-    /// It takes no memory.
+    /// Returns the next ticket of the selector that a reader is in, as a group without a view does: each selector has a counter of its
+    /// own, which its readers go on in while it is retired. It takes no memory.
     pub fn ticket(&mut self, reader: &Reader<S>) -> u64
         ensures answers { After self.old (λ made e. IsTicket made (slot_events e) reader.now.slot reader.now.generation result) }
         ensures stands { After self.old (λ made e. Stands made

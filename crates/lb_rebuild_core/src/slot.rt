@@ -430,7 +430,7 @@ impl<S: BackendSelection> Slot<S> {
         }
     }
 
-    // The next ticket of the selector of that generation, served or retired; 0 where there is none.
+    // The next ticket of the selector of that generation, served or retired, from its own counter; 0 where there is none.
     pub(crate) fn ticket(&mut self, generation: u64) -> u64
         ensures { TicketAt generation (slot_value self.old) result (slot_value self.new) }
     {

@@ -388,7 +388,8 @@ impl<S: BackendSelection> Slots<S> {
 
     /// Returns the next ticket of the selector that a reader is in, in its slot and of its generation.
     ///
-    /// Contracts say which while that selector is served. It takes no memory.
+    /// Each selector has a counter of its own: a reader of a retired one goes on in that one's, whatever is drawn of its successor. A slot
+    /// that neither serves nor has retired a selector of that generation gives 0. It takes no memory.
     pub fn ticket(&mut self, reader: &Reader<S>) -> u64
         ensures answers { After self.old (λ made h. IsTicket made h reader.now.slot reader.now.generation result) }
         ensures stands { After self.old (λ made h. StandsFor made

@@ -6,6 +6,7 @@ mod moments;
 mod passes;
 mod runs;
 mod staying;
+mod tickets;
 mod turns;
 mod waking;
 
@@ -43,6 +44,7 @@ enum Row {
     ReaderStays,
     CancelledWhileRead,
     SelectsWhileTheRegistryIsHeld,
+    TicketsOfEach,
 }
 
 // Plays a case. No worker of the groups was started before.
@@ -77,6 +79,7 @@ fn play<W: Abort + Log + Threads + Wait + Clock + Copy + Send + Sync + Drop + 's
         Row::CancelledWhileRead => {
             staying::cancelled_while_read(rt, alloc, first, &*crowd.site.registry)
         }
+        Row::TicketsOfEach => tickets::tickets_of_each(rt, alloc, first),
         Row::SelectsWhileTheRegistryIsHeld => {
             staying::selects_while_the_registry_is_held(rt, alloc, first, &*crowd.site.registry)
         }
@@ -129,6 +132,7 @@ fn rows_of_groups(rt: HostRuntime) {
         Row::ReaderStays,
         Row::CancelledWhileRead,
         Row::SelectsWhileTheRegistryIsHeld,
+        Row::TicketsOfEach,
     ] {
         played(&rt, alloc, &registry, row);
     }

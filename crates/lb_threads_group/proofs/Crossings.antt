@@ -20,6 +20,7 @@ use Rattle.lb_rebuild_core.specs.contracts.place.SlotPlace as place
 use Rattle.lb_rebuild_core.specs.contracts.retired.Reader as reader
 use Rattle.lb_threads_group.proofs.group.SlotCounters.TheSendSync as line
 use Rattle.lb_threads_group.proofs.group.LaneWords.TheSendSync as lane_words
+use Rattle.lb_threads_group.proofs.found.Tickets.TheSendSync as tickets
 use Rattle.lb_words.proofs.keyed.KeyedWords.TheSendSync as keyed
 use Rattle.lb_threads_group.specs.contracts.found.Found as found
 use Rattle.lb_threads_group.specs.contracts.found.Found.TheInside as found_inside
@@ -65,7 +66,10 @@ module _ (T R H I C W : RattleType) (g : Selection T.Denot I.Denot C.Denot W.Den
         search (sendable, crosses) depth 20,
         (
           search (sendable, crosses, maps.crosses, backend.the_send, backend.the_sync) depth 30,
-          (search (sendable, crosses, keyed.the_field_send, keyed.the_send, subject_send, subject_sync) depth 30, tt),
+          (
+            search (sendable, crosses, keyed.the_field_send, keyed.the_send, subject_send, subject_sync) depth 30,
+            (search (sendable, crosses, tickets.the_send) depth 20, tt),
+          ),
         ),
       ))
 
@@ -75,7 +79,10 @@ module _ (T R H I C W : RattleType) (g : Selection T.Denot I.Denot C.Denot W.Den
         search (sendable, crosses) depth 20,
         (
           search (sendable, crosses, maps.crosses, backend.the_send, backend.the_sync) depth 30,
-          (search (sendable, crosses, keyed.the_field_sync, keyed.the_sync, subject_send, subject_sync) depth 30, tt),
+          (
+            search (sendable, crosses, keyed.the_field_sync, keyed.the_sync, subject_send, subject_sync) depth 30,
+            (search (sendable, crosses, tickets.the_sync) depth 20, tt),
+          ),
         ),
       ))
 

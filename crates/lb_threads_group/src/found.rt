@@ -26,6 +26,7 @@ use std::collections::BTreeSet;
 use std::marker::Model;
 use std::mem::replace;
 use std::snapshot::Snapshot;
+use std::sync::atomic::AtomicU64;
 use std::sync::atomic::Ordering::SeqCst;
 use std::sync::{Arc, Wait};
 
@@ -55,12 +56,22 @@ impl<S: BackendSelection, R: KeyRule + Drop, C> WordRule<Subject<S, R, C>> for O
     ghost holds = { λ of i w. SaysAt (ReadyAt R.gives of.site.value of.generation) of.marks.value.items i w };
 }
 
-/// Which backends are ready for the readers of a generation. Contracts see of which group, registry and generation.
+// How many tickets were drawn from a selector, wrapping, with so much room that no other word shares its line of memory.
+#[derive(Drop)]
+struct Tickets {
+    before: [u64; 7],
+    drawn: AtomicU64,
+    after: [u64; 7],
+}
+
+/// Which backends are ready for the readers of a generation, and how many tickets they drew. Contracts see of which group, registry and
+/// generation.
 #[derive(Drop)]
 pub struct Found<S: BackendSelection, R: KeyRule + Drop, C> {
     generation: u64,
     marks: Marks,
     words: KeyedWords<Subject<S, R, C>, OfFound>,
+    tickets: Tickets,
 }
 
 impl<S: BackendSelection, R: KeyRule + Drop, C> Model for Found<S, R, C> {
@@ -158,7 +169,18 @@ impl<S: BackendSelection, R: KeyRule + Drop, C> Found<S, R, C> {
             generation,
             marks,
             words,
+            tickets: Tickets {
+                before: [0; 7],
+                drawn: AtomicU64::new(0),
+                after: [0; 7],
+            },
         })
+    }
+
+    // Returns the next ticket of the generation's selector, whose counter began at 0.
+    pub(crate) fn ticket(&self) -> u64 {
+        let tickets = &self.tickets;
+        tickets.drawn.fetch_add(1, SeqCst)
     }
 
     // The generation of its readers.

@@ -50,7 +50,7 @@ impl<S: BackendSelection> LockRule<Watched<S>, Snapshot<Watched<S>>> for OfGroup
 // What threads share of a slot, outside the group's lock.
 #[derive(Drop)]
 struct SlotCounters {
-    // How many tickets were drawn for the slot's readers, wrapping.
+    // How many tickets were drawn for those of the slot's readers for whose generation there are no words, wrapping.
     tickets: AtomicU64,
     has_worker: AtomicBool,
     // How many readers must leave the retired selector before the worker that found it read can take it out; 0 where none waits. It is
@@ -252,7 +252,8 @@ impl<S: BackendSelection, R: KeyRule + Drop, C: HealthCheck + Drop> SharedGroup<
         count
     }
 
-    // Returns the next ticket for the readers of a slot. No lock is taken, so the counter goes on where the slot serves another selector.
+    // Returns the next ticket for readers of a slot for whose generation memory for words was refused. It goes on where the slot serves
+    // another selector; else each selector has a counter of its own, with its words.
     pub(crate) fn ticket(&self, slot: usize) -> u64 {
         match self.lines.get(slot) {
             Some(line) => line.tickets.fetch_add(1, SeqCst),

@@ -9,6 +9,7 @@ ghost use Rattle.lb_balancer_core.specs.Plain.{IsEntered};
 ghost use Rattle.lb_threads_group.specs.Group.{EnteredUnder, LeftUnder, UpdatedUnder};
 ghost use Rattle.lb_threads_group.specs.Shared.{IsSame, IsEntryRefusal, SelectsByAny};
 
+use crate::found::Found;
 use crate::group::SharedGroup;
 use crate::port::LockedPort;
 use lb_balancer_core::port::TakesBack;
@@ -24,7 +25,7 @@ use lb_select_base::refusal::Refusal;
 use lb_select_base::walk::BackendSelection;
 use lb_select_base::words::WordSource;
 use std::alloc::Global;
-use std::sync::Wait;
+use std::sync::{Arc, Wait};
 
 impl<S: BackendSelection, R: KeyRule + Drop, C: HealthCheck + Drop> SharedGroup<S, R, C> {
     /// Returns a new pass over the group's generations, without a lock or memory.
@@ -185,6 +186,7 @@ impl<S: BackendSelection, R: KeyRule + Drop, C: HealthCheck + Drop> SharedGroup<
             group: self,
             rt,
             slot: reader.slot(),
+            found: self.found_for(rt, reader.slot(), reader.generation()),
         };
         reader.select(alloc, key, &mut words, max_iterations, accept)
     }
@@ -210,6 +212,7 @@ struct ReaderDraws<'g, 'r, S: BackendSelection, R: KeyRule + Drop, C, W> {
     group: &'g SharedGroup<S, R, C>,
     rt: &'r W,
     slot: usize,
+    found: Option<Arc<Found<S, R, C>>>,
 }
 
 impl<'g, 'r, S: BackendSelection, R: KeyRule + Drop, C: HealthCheck + Drop, W: Wait> WordSource
@@ -217,8 +220,10 @@ impl<'g, 'r, S: BackendSelection, R: KeyRule + Drop, C: HealthCheck + Drop, W: W
     ghost gives = { λ _ _ _. ⊤ };
 
     fn ticket(&mut self) -> u64 {
-        let group = self.group;
-        group.ticket(self.slot)
+        match &self.found {
+            Some(found) => found.ticket(),
+            None => self.group.ticket(self.slot),
+        }
     }
 
     fn random(&mut self) -> u64 {

@@ -214,8 +214,10 @@ impl<'g, 'r, 'f, S: BackendSelection, R: KeyRule + Drop, C: HealthCheck + Drop, 
     }
 
     fn ticket(&mut self, reader: &Reader<S>) -> u64 {
-        let group = self.group;
-        group.ticket(reader.slot())
+        match self.found {
+            Some(found) if found.generation() == reader.generation() => found.ticket(),
+            _ => self.group.ticket(reader.slot()),
+        }
     }
 
     fn random(&mut self, _reader: &Reader<S>) -> u64 {

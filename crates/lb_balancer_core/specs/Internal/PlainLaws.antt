@@ -5,9 +5,9 @@ use Rattle.rand_core.specs.Stream.{Stream}
 use Rattle.lb_select_base.specs.Backends.{Member}
 use Rattle.lb_select_base.specs.Draws as draws
 use Rattle.lb_select_base.specs.Draws.{Draw}
-use Rattle.lb_rebuild_core.specs.SlotsCalls.{is_read, serves, ticket_events}
+use Rattle.lb_rebuild_core.specs.SlotsCalls.{has_retired, is_read, serves, ticket_events}
 use Rattle.lb_rebuild_core.specs.SlotsHistory as core
-use Rattle.lb_rebuild_core.specs.SlotsHistory.{At, Drew}
+use Rattle.lb_rebuild_core.specs.SlotsHistory.{At, Drew, DrewRetired}
 use Rattle.lb_rebuild_core.specs.Stands.{Made}
 use Rattle.lb_rebuild_core.specs.Values.{ReaderValue}
 use Rattle.lb_rebuild_core.proofs.Pasts.{past-same}
@@ -17,10 +17,11 @@ use Rattle.lb_rebuild_core.proofs.Histories.{group-joined}
 use Rattle.lb_balancer_core.specs.Plain.{OwnsReader, IsDrawn}
 
 module _ {C : Type 0} where
-  read-drawn : (made : Made C) (h : core.History) (slot n t : ℕ) (b : Bool)
-      → is_read made slot n (cond b (At slot (Drew t) ∷ []) [] ++ h) ≡ is_read made slot n h
-  read-drawn made h slot n t true = rw (past-same slot (Drew t) h) refl
-  read-drawn made h slot n t false = refl
+  read-drawn : (made : Made C) (h : core.History) (slot n t : ℕ) (b d : Bool)
+      → is_read made slot n (cond b (At slot (Drew t) ∷ []) (cond d (At slot (DrewRetired t) ∷ []) []) ++ h) ≡ is_read made slot n h
+  read-drawn made h slot n t true d = rw (past-same slot (Drew t) h) refl
+  read-drawn made h slot n t false true = rw (past-same slot (DrewRetired t) h) refl
+  read-drawn made h slot n t false false = refl
 
   -- a reader stays counted while words are drawn for it
   pub drawn_keeps : (v w : GroupValue C) (s u : Stream) (load_by : Member → ℕ) (r : ReaderValue C) (d : Draw)
@@ -38,7 +39,9 @@ module _ {C : Type 0} where
             (
               is.1 made e own.1.1.1.0,
               ap (λ h. is_read made r.slot r.generation h) same
-                  ∙ read-drawn made (slot_events e) r.slot r.generation _ (serves made r.slot r.generation (slot_events e)) ∙ own.1.1.1.1,
+                  ∙ read-drawn made (slot_events e) r.slot r.generation _ (serves made r.slot r.generation (slot_events e))
+                  (has_retired made r.slot r.generation (slot_events e))
+                  ∙ own.1.1.1.1,
             ),
           ),
         ),

@@ -16,6 +16,7 @@ fresh_slot c =
       waiting = None;
       extra = nothing;
       left_in = 0;
+      left_tickets = 0;
       permit = None;
       asked = 0;
       scheduled = 0;

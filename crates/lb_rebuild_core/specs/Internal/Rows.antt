@@ -2,7 +2,7 @@
 use Rattle.std.specs.Prelude.{◌≡◌, true, false, List, [], ◌∷◌, map, Some, None, refl}
 use Rattle.lb_select_base.specs.Backends.{Member}
 use Rattle.lb_rebuild_core.specs.SlotsHistory.{Granted, Failed, Published, Abandoned, WorkerLost, TakenOut, Destroyed, Entered, Left}
-use Rattle.lb_rebuild_core.specs.SlotsHistory.{Scheduled}
+use Rattle.lb_rebuild_core.specs.SlotsHistory.{Drew, DrewRetired, Scheduled, drawn, drawn_retired}
 use Rattle.lb_rebuild_core.specs.SlotsHistory.{Cancelled, At, History, past_of, served, extra, flight, waits, readers, retry_delay, timing}
 use Rattle.lb_rebuild_core.specs.SlotsHistory.{cancelled, building, not_due, busy, job, ask_answer}
 use Rattle.lb_rebuild_core.specs.Stands.{counts_after}
@@ -25,6 +25,19 @@ module _ (a b d : List Member) where
 
   left-empty : readers 0 (At 0 (Left 0) ∷ At 0 (Published 5 a) ∷ At 0 Entered ∷ At 0 (Granted 0) ∷ Scheduled a 0 ∷ []) ≡ 0
   left-empty = refl
+
+  -- a retired selector keeps the counter that it had while it was served, and what its successor draws leaves it there
+  abbrev drawn-twice : History
+  drawn-twice = At 0 (Published 5 a) ∷ At 0 (Drew 2) ∷ At 0 (Granted 0) ∷ Scheduled a 0 ∷ []
+
+  starts-again : drawn drawn-twice ≡ 0
+  starts-again = refl
+
+  goes-on : drawn_retired (At 0 (Drew 1) ∷ drawn-twice) ≡ 2
+  goes-on = refl
+
+  each-its-own : drawn (At 0 (DrewRetired 3) ∷ At 0 (Drew 1) ∷ drawn-twice) ≡ 1
+  each-its-own = refl
 
   took-five :
       timing (At 0 (Published 5 a) ∷ At 0 Entered ∷ At 0 (Granted 0) ∷ Scheduled a 0 ∷ [])

@@ -9,6 +9,7 @@ use lb_health_core::keys::KeyRule;
 use lb_rebuild_core::answers::Counts;
 use lb_select_base::refusal::Refusal;
 use lb_select_base::walk::BackendSelection;
+use lb_threads_core::registry::{put_registry, take_registry};
 use lb_threads_group::group::SharedGroup;
 use lb_threads_group::port::LockedPort;
 use std::alloc::Global;

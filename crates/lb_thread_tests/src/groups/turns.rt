@@ -20,7 +20,7 @@ use std::sync::Wait;
 
 // A clock that always reads the same.
 #[derive(Drop)]
-struct Still {}
+pub(super) struct Still {}
 
 impl MomentSource for Still {
     ghost use Rattle.std.specs.Prelude.{◌≡◌};

@@ -5,16 +5,34 @@ use Rattle.lb_threads_core.proofs.Histories.{later, stays}
 use Rattle.lb_balancer.proofs.Served.{known, updated}
 use Rattle.lb_balancer.proofs.balancing.Balancing.keep.Goals as goal
 
-pub put-requires-2-clause-registry : goal.put-requires-2-clause-registry
-put-requires-2-clause-registry g c = later c.take-cells.ensures.registry (stays c.keep.ensures.registry)
+pub put_registry-requires-clause-registry : goal.put_registry-requires-clause-registry
+put_registry-requires-clause-registry g c = later c.take_registry-cells.ensures.registry (stays c.keep.ensures.registry)
 
 pub exchange-gone-requires : goal.exchange-gone-requires
 exchange-gone-requires g c =
     updated c.args.self.now (known (c.self.invariant.0 ∙ c.self.view_is) c.take-held.ensures.fact) c.keep.ensures.config
     c.args.members.keys (settings_of c.args.settings.entries) c.requires c.keep.ensures.took
 
-pub put-requires-3-clause-fact : goal.put-requires-3-clause-fact
-put-requires-3-clause-fact g c =
+pub put-requires-2-clause-fact : goal.put-requires-2-clause-fact
+put-requires-2-clause-fact g c =
     let is = c.self.invariant.0 ∙ c.self.view_is in
     known (sym is) (updated c.args.self.now (known is c.take-held.ensures.fact) c.keep.ensures.config
     c.args.members.keys (settings_of c.args.settings.entries) c.requires c.keep.ensures.took)
+
+pub returns : goal.returns
+returns g c =
+    let is = c.self.invariant.0 ∙ c.self.view_is in
+    let was = known is c.take-held.ensures.fact in (
+      c.take-held.result.value,
+      (
+        c.keep.new.self,
+        (
+          was,
+          (
+            updated c.args.self.now was c.keep.ensures.config c.args.members.keys (settings_of c.args.settings.entries) c.requires
+                c.keep.ensures.took,
+            c.keep.ensures.taken,
+          ),
+        ),
+      ),
+    )

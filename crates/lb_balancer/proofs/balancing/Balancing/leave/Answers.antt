@@ -3,6 +3,6 @@ use Rattle.lb_threads_core.proofs.Histories.{later}
 use Rattle.lb_balancer.proofs.Renewals.{left_later}
 use Rattle.lb_balancer.proofs.balancing.Balancing.leave.Goals as goal
 
-pub put-requires-clause-registry : goal.put-requires-clause-registry
-put-requires-clause-registry g c =
-    later c.take-cells.ensures.registry (left_later c.take-held.result.value.view c.founded.ensures c.leave.ensures)
+pub put_registry-requires-clause-registry : goal.put_registry-requires-clause-registry
+put_registry-requires-clause-registry g c =
+    later c.take_registry-cells.ensures.registry (left_later c.take-held.result.value.view c.founded.ensures c.leave.ensures.after)

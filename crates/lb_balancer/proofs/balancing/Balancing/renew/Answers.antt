@@ -2,16 +2,17 @@
 use Rattle.std.proofs.Common.{◌≡◌, ◌∙◌, sym}
 use Rattle.lb_health_view.specs.RegistrySide.{settings_of}
 use Rattle.lb_threads_core.proofs.Histories.{later}
+use Rattle.lb_balancer.proofs.Memberships.{on-ok-more}
 use Rattle.lb_balancer.proofs.Renewals.{renewed_later}
 use Rattle.lb_balancer.proofs.Served.{known, renewed}
 use Rattle.lb_balancer.proofs.balancing.Balancing.renew.Goals as goal
 use Rattle.lb_balancer.proofs.balancing.Balancing.renew.Goals.{in-Ok, in-Err}
 
-pub put-requires-clause-registry : goal.put-requires-clause-registry
-put-requires-clause-registry g c =
+pub put_registry-requires-clause-registry : goal.put_registry-requires-clause-registry
+put_registry-requires-clause-registry g c =
     let is = c.renew-unserved.ensures in
     let now =
-    later c.take-cells.ensures.registry (renewed_later c.renew-unserved.result.1 c.take-held.result.value.view c.args.members.keys
+    later c.take_registry-cells.ensures.registry (renewed_later c.renew-unserved.result.1 c.take-held.result.value.view c.args.members.keys
     c.founded.ensures is.registry is.registry_err)
     in
     elim c.match-answer.branch [ in-Ok w ↦ rw w.cells-is now | in-Err w ↦ rw w.cells-is now ]
@@ -22,8 +23,8 @@ exchange-unshown-requires g c =
     renewed c.args.self.now c.renew-unserved.result.1 (known (c.self.invariant.0 ∙ c.self.view_is) c.take-held.ensures.fact) is.config
     c.args.members.keys (settings_of c.args.settings.entries) c.requires.discovered is.took is.view_err
 
-pub put-requires-2-clause-fact : goal.put-requires-2-clause-fact
-put-requires-2-clause-fact g c =
+pub put-requires-clause-fact : goal.put-requires-clause-fact
+put-requires-clause-fact g c =
     let is = c.renew-unserved.ensures in
     let key = c.self.invariant.0 ∙ c.self.view_is in
     let now =
@@ -31,3 +32,14 @@ put-requires-2-clause-fact g c =
     c.args.members.keys (settings_of c.args.settings.entries) c.requires.discovered is.took is.view_err)
     in
     elim c.match-answer.branch [ in-Ok w ↦ rw w.held-is now | in-Err w ↦ rw w.held-is now ]
+
+pub returns-clause-taken : goal.returns-clause-taken
+returns-clause-taken g c =
+    let is = c.renew-unserved.ensures in
+    let was = known (c.self.invariant.0 ∙ c.self.view_is) c.take-held.ensures.fact in
+    let now =
+    renewed c.args.self.now c.renew-unserved.result.1 was is.config c.args.members.keys (settings_of c.args.settings.entries)
+    c.requires.discovered is.took is.view_err
+    in
+    on-ok-more c.renew-unserved.result.1 _ _ is.taken
+    (λ taken. (c.take-held.result.value, (c.renew-unserved.new.self, (was, (now, taken)))))

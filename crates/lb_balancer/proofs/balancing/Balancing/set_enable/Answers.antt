@@ -8,8 +8,8 @@ exchange-gone-requires g c =
     flagged c.args.self.now (known (c.self.invariant.0 ∙ c.self.view_is) c.take-held.ensures.fact) c.set_enable.ensures.config
     c.args.backend.now c.args.enabled c.set_enable.ensures.view
 
-pub put-requires-2-clause-fact : goal.put-requires-2-clause-fact
-put-requires-2-clause-fact g c =
+pub put-requires-clause-fact : goal.put-requires-clause-fact
+put-requires-clause-fact g c =
     let is = c.self.invariant.0 ∙ c.self.view_is in
     known (sym is) (flagged c.args.self.now (known is c.take-held.ensures.fact) c.set_enable.ensures.config
     c.args.backend.now c.args.enabled c.set_enable.ensures.view)

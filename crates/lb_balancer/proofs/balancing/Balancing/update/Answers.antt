@@ -1,6 +1,9 @@
 -- The clock is read twice, and twice more around a build.
-use Rattle.std.proofs.Common.{◌≡◌, ◌⊎◌, inl, inr, ℕ, [], ◌∷◌, refl, sym, subst}
+use Rattle.std.proofs.Common.{◌≡◌, ◌⊎◌, ◌∙◌, inl, inr, ℕ, [], ◌∷◌, ap, refl, sym, subst}
+use Rattle.lb_health_view.specs.Discoveries.{Discovers}
+use Rattle.lb_health_view.specs.RegistrySide.{settings_of}
 use Rattle.lb_balancer_core.specs.Timings.{Reads}
+use Rattle.lb_balancer.specs.History.{BalancerValue}
 use Rattle.lb_balancer.specs.SharedUpdates.{ReadsUpdate}
 use Rattle.lb_balancer.proofs.balancing.Balancing.update.Goals as goal
 
@@ -15,3 +18,15 @@ module _ {K : Type 0} (reads : K → ℕ → K → Type 0) (k l m n : K) (start 
 pub returns-clause-reads : goal.returns-clause-reads
 returns-clause-reads g c =
     reads-update g.K.MomentSource.reads _ _ _ _ _ _ c.now-start.ensures c.in_ok-build_duration.ensures.reads c.now-end.ensures
+
+-- what the discovery gave is what was taken in
+pub returns-clause-updated : goal.returns-clause-updated
+returns-clause-updated g c = record {
+  members = c.in_ok-members.members.keys;
+  settings = settings_of c.in_ok-members.settings.entries;
+  discovered =
+      subst (λ d. Discovers g.D.ServiceDiscovery.finds d c.in_ok-members.members.keys (settings_of c.in_ok-members.settings.entries))
+      (c.discovery.ensures ∙ ap (λ (b : BalancerValue g.row.D.Denot g.row.S-Config.Denot). b.discovery) c.self.view_is)
+      c.in_ok-members.ensures.ok;
+  taken = c.in_ok-build_duration.ensures.taken;
+}

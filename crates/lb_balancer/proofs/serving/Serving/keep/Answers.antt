@@ -5,6 +5,7 @@ use Rattle.lb_health_core.specs.Registry.{IsRegistryAfter}
 use Rattle.lb_health_view.specs.RegistrySide.{after_settings, registry_updated, settings_of, with_membership}
 use Rattle.lb_health_view.specs.ViewEvents.{membership_after}
 use Rattle.lb_health_view.specs.Views.{IsViewAfter}
+use Rattle.lb_balancer.specs.History.{StandsBy}
 use Rattle.lb_balancer.specs.Shown.{ServingValue}
 use Rattle.lb_balancer.proofs.Memberships.{kept-members, on-ok}
 use Rattle.lb_balancer.proofs.serving.Serving.keep.Goals as goal
@@ -43,3 +44,18 @@ returns-clause-took g c =
       (λ views after.
           shown.1 views (subst (λ (v : ServingValue g.row.S-Config.Denot). IsViewAfter views v.view) (sym c.self.view_is) after)),
     )
+
+pub returns-clause-taken : goal.returns-clause-taken
+returns-clause-taken g c =
+    let p = c.self.invariant in
+    let members = c.args.members.keys in
+    let settings = settings_of c.args.settings.entries in
+    let here = sym (ap (λ (v : ServingValue g.row.S-Config.Denot). v.members) c.self.view_is) ∙ p.2 in
+    let same : same_members members (membership_after p.0) ≡ true = ap (same_members members) (sym here) ∙ c.requires in
+    let shown = on-ok c.update.result _ (c.update.ensures.same p.0 p.1 same) c.update.ensures.some in
+    record {
+      views = p.0;
+      cells = shown.0;
+      before = subst (λ (v : ServingValue g.row.S-Config.Denot). StandsBy p.0 v) c.self.view_is (record { view = p.1; selector = p.2 });
+      after = record { view = shown.1 p.0 p.1; selector = p.2 ∙ sym (kept-members settings members shown.0 p.0 same) };
+    }

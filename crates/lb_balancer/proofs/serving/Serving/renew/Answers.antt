@@ -4,6 +4,7 @@ use Rattle.std.specs.Prelude.{is_ok}
 use Rattle.lb_health_core.specs.Registry.{IsRegistryAfter}
 use Rattle.lb_health_view.specs.RegistrySide.{after_settings, registry_updated, settings_of, view_updated, with_membership}
 use Rattle.lb_health_view.specs.Views.{IsViewAfter}
+use Rattle.lb_balancer.specs.History.{StandsBy}
 use Rattle.lb_balancer.specs.Shown.{ServingValue}
 use Rattle.lb_balancer.proofs.Memberships.{if-ok, kept-members, new-members, on-ok}
 use Rattle.lb_balancer.proofs.serving.Serving.renew.Goals as goal
@@ -63,3 +64,34 @@ returns-in-Ok-None-clause-took g c =
       (λ views after.
           shown.1 views (subst (λ (v : ServingValue g.row.S-Config.Denot). IsViewAfter views v.view) (sym c.self.view_is) after)),
     )
+
+pub returns-in-Ok-Some-clause-taken : goal.returns-in-Ok-Some-clause-taken
+returns-in-Ok-Some-clause-taken g c =
+    let p = c.self.invariant in
+    let members = c.args.members.keys in
+    let settings = settings_of c.args.settings.entries in
+    let told = rw c.in-Ok-Some.field-0-is at (if-ok c.update.result _ _ c.in-Ok-Some.is c.update.ensures.called p.0 p.1) in
+    let shown = on-ok c.update.result _ (ap is_ok c.in-Ok-Some.is) c.update.ensures.some in
+    record {
+      views = p.0;
+      cells = shown.0;
+      before = subst (λ (v : ServingValue g.row.S-Config.Denot). StandsBy p.0 v) c.self.view_is (record { view = p.1; selector = p.2 });
+      after = record {
+        view = shown.1 p.0 p.1;
+        selector = rw c.replace.ensures.after (c.requires.members ∙ sym (new-members settings members shown.0 p.0 told.0));
+      };
+    }
+
+pub returns-in-Ok-None-clause-taken : goal.returns-in-Ok-None-clause-taken
+returns-in-Ok-None-clause-taken g c =
+    let p = c.self.invariant in
+    let members = c.args.members.keys in
+    let settings = settings_of c.args.settings.entries in
+    let same = rw c.in-Ok-None.field-0-is at (if-ok c.update.result _ _ c.in-Ok-None.is c.update.ensures.called p.0 p.1) in
+    let shown = on-ok c.update.result _ (ap is_ok c.in-Ok-None.is) c.update.ensures.some in
+    record {
+      views = p.0;
+      cells = shown.0;
+      before = subst (λ (v : ServingValue g.row.S-Config.Denot). StandsBy p.0 v) c.self.view_is (record { view = p.1; selector = p.2 });
+      after = record { view = shown.1 p.0 p.1; selector = p.2 ∙ sym (kept-members settings members shown.0 p.0 same) };
+    }

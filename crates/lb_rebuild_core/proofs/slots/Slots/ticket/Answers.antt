@@ -1,12 +1,12 @@
 -- The reader's slot is put back in its place.
-use Rattle.std.proofs.Common.{arith}
+use Rattle.std.proofs.Common.{arith, refl}
 use Rattle.lb_rebuild_core.proofs.SlotsSteps.{facing, beyond, stays, site-of}
 use Rattle.lb_rebuild_core.proofs.CallSteps.{tickets}
 use Rattle.lb_rebuild_core.proofs.slots.Slots.ticket.Goals as goal
 
 pub returns-then-slot-len-clause-answers : goal.returns-then-slot-len-clause-answers
 returns-then-slot-len-clause-answers g c made h s =
-    rw (beyond _ c.args.reader.now.slot c.self.view_is (omega (arith, c.slot-slot.ensures)) s) (λ no. absurd (cc))
+    rw (beyond _ c.args.reader.now.slot c.self.view_is (omega (arith, c.slot-slot.ensures)) s) refl
 
 pub returns-then-slot-len-clause-stands : goal.returns-then-slot-len-clause-stands
 returns-then-slot-len-clause-stands g c made h s =

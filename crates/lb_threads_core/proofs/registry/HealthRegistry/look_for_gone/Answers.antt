@@ -7,3 +7,6 @@ returns-clause-registry g c =
     λ key_of events after.
     let left = c.remove_gone.ensures (λ _. true) (λ k d below. refl) in
     (left.events, left.becomes key_of events after)
+
+pub returns-clause-one : goal.returns-clause-one
+returns-clause-one g c = (c.remove_gone.ensures (λ _. true) (λ k d below. refl)).one

@@ -1,0 +1,87 @@
+//! Each built selector has a counter of tickets of its own, which begins at 0; a reader of a retired selector goes on in that one's.
+use crate::groups::turns::{Still, turn};
+use lb_balancer_core::turn::Turn;
+use lb_crowd::crowd::select_one;
+use lb_health_core::health_check::HealthCheck;
+use lb_health_core::keys::KeyRule;
+use lb_health_view::discovery::{DiscoverySource, Static};
+use lb_select_base::backend::Backend;
+use lb_select_base::refusal::Refusal;
+use lb_select_base::walk::BackendSelection;
+use lb_threads_group::group::SharedGroup;
+use std::alloc::Global;
+use std::collections::BTreeSet;
+use std::process::Abort;
+use std::sync::Wait;
+
+// A discovery of the first so many of these three.
+fn first_ones(alloc: Global, count: usize) -> Result<DiscoverySource<Static>, Refusal> {
+    let mut backends = BTreeSet::new(alloc);
+    for address in ["1.0.0.1:80", "1.0.0.2:80", "1.0.0.3:80"]
+        .iter()
+        .take(count)
+    {
+        backends.insert(Backend::new(alloc, *address)?)?;
+    }
+    Ok(DiscoverySource::Static(Static::new(backends)))
+}
+
+// Updates a group to so many backends, and builds slot 0; whether that is published.
+fn published<S: BackendSelection, R: KeyRule + Drop, C: HealthCheck + Drop, W: Wait + Abort>(
+    rt: &W,
+    alloc: Global,
+    group: &SharedGroup<S, R, C>,
+    backends: usize,
+) -> bool {
+    let discovery = first_ones(alloc, backends).expect(rt, "refused");
+    let updated = group.update(rt, alloc, &discovery, &mut Still {});
+    let generation = updated.expect(rt, "refused");
+    turn(rt, alloc, group, 0) == Turn::Published(generation)
+}
+
+// Whether an answer is the backend at this address.
+fn is_at<W: Abort>(
+    rt: &W,
+    alloc: Global,
+    answer: Result<Option<Backend>, Refusal>,
+    address: &str,
+) -> bool {
+    let expected = Backend::new(alloc, address).expect(rt, "refused");
+    answer.expect(rt, "refused").as_ref() == Some(&expected)
+}
+
+/// A slot that serves by turns begins with the first backend of each selector that is built for it, while a reader of the one before goes
+/// on where that one was.
+pub fn tickets_of_each<
+    S: BackendSelection,
+    R: KeyRule + Drop,
+    C: HealthCheck + Drop,
+    W: Wait + Abort,
+>(rt: &W, alloc: Global, group: &SharedGroup<S, R, C>) {
+    let first = published(rt, alloc, group, 3);
+    let before = [
+        is_at(rt, alloc, select_one(rt, alloc, group, 0), "1.0.0.1:80"),
+        is_at(rt, alloc, select_one(rt, alloc, group, 0), "1.0.0.2:80"),
+    ];
+    let reader = group
+        .enter_as(rt, 0, &mut group.pass())
+        .expect(rt, "refused");
+    let second = published(rt, alloc, group, 2);
+    let any = |_backend: &Backend| true;
+    let after = [
+        is_at(rt, alloc, select_one(rt, alloc, group, 0), "1.0.0.1:80"),
+        is_at(
+            rt,
+            alloc,
+            group.select_in(rt, alloc, &reader, b"k", 1, &any),
+            "1.0.0.3:80",
+        ),
+        is_at(rt, alloc, select_one(rt, alloc, group, 0), "1.0.0.2:80"),
+    ];
+    group.leave(rt, reader);
+    let last = turn(rt, alloc, group, 0);
+    assert_eq!(rt;
+        (first, before, second, after, last),
+        (true, [true; 2], true, [true; 3], Turn::Nothing)
+    );
+}
