@@ -15,7 +15,7 @@ use Rattle.lb_world.specs.Steps as step
 use Rattle.lb_world.specs.declared.answer.Answer.{Answer}
 use Rattle.lb_world.specs.declared.answer.Answer.TheVariants as answer
 use Rattle.lb_world.specs.Meanings.{Meaning}
-use Rattle.lb_world.specs.History.{History, Made, is_at, config_in, drew, made_at, gate_of, slot_events, past, is_grant, is_failure}
+use Rattle.lb_world.specs.History.{History, Made, is_at, config, config_in, drew, made_at, gate_of, slot_events, past, is_grant, is_failure}
 use Rattle.lb_world.specs.History.{is_destruction, is_out, load_of}
 use Rattle.lb_world.specs.Shared.{registry_at, registry_events}
 use Rattle.lb_world.specs.GroupEvents.{group_events, views_in}

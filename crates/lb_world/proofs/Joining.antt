@@ -63,16 +63,17 @@ module _ {C : Type 0} where
 
   cells-are : (n g : ℕ) (h : History C) → cells_in n (group_events g h) ≡ cells_of g n h
   cells-are n g [] = refl
-  cells-are n g ((st, a) ∷ h) = by-place (is_at g (group_at h st)) refl
+  cells-are n g ((st, a) ∷ h) = by-place (cells-are n g h) (is_at g (group_at h st)) refl
     where
       new : group.History
       new = group_after_step h (slot_events g h) (group_events g h) st a
 
-      by-place : (b : Bool) → is_at g (group_at h st) ≡ b → cells_in n (group_events g ((st, a) ∷ h)) ≡ cells_of g n ((st, a) ∷ h)
-      by-place true t =
-          ap (λ (b : Bool). cells_in n (cond b new (group_events g h))) t ∙ cells-step n g h st a t (cells-are n g h)
-      by-place false off =
-          ap (λ (b : Bool). cells_in n (cond b new (group_events g h))) off ∙ cells-are n g h ∙ sym (cells-else n g h st a off)
+      by-place : cells_in n (group_events g h) ≡ cells_of g n h → (b : Bool) → is_at g (group_at h st) ≡ b
+          → cells_in n (group_events g ((st, a) ∷ h)) ≡ cells_of g n ((st, a) ∷ h)
+      by-place before true t =
+          ap (λ (b : Bool). cells_in n (cond b new (group_events g h))) t ∙ cells-step n g h st a t before
+      by-place before false off =
+          ap (λ (b : Bool). cells_in n (cond b new (group_events g h))) off ∙ before ∙ sym (cells-else n g h st a off)
 
 module _ {C : Type 0} (M : Meaning C) where
   pub follows : (h : History C) → IsRun M h → (g : ℕ) → Here g h

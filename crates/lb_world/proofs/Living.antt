@@ -21,7 +21,7 @@ use Rattle.lb_world.specs.Meanings.{Meaning}
 use Rattle.lb_world.specs.History.{History, Made, made_at, slot_events}
 use Rattle.lb_world.specs.Shared.{is_live}
 use Rattle.lb_world.specs.Answers.{IsRun}
-use Rattle.lb_world.specs.GroupEvents.{group_events}
+use Rattle.lb_world.specs.GroupEvents.{group_events, view_events}
 use Rattle.lb_world.proofs.Runs.{slots-fit}
 use Rattle.lb_world.proofs.Together.{group-of, views-of}
 use Rattle.lb_world.proofs.Viewing.{each-at}
