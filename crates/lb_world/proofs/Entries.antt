@@ -28,6 +28,7 @@ use Rattle.lb_rebuild_core.specs.SlotsHistory as slots
 use Rattle.lb_rebuild_core.specs.GroupHistory as group
 use Rattle.lb_health_core.specs.RegistryEvents as registry
 use Rattle.lb_rebuild_core.specs.Stands as group-made
+use Rattle.lb_world.proofs.Refusing.{groups-alike}
 use Rattle.lb_world.proofs.Words.{◌∙◌, ◌⊎◌, ◌++◌, ◌≡◌, ◌&&◌, ◌∷◌, ◌==◌, [], ◌<◌, ◌≤◌, and_parts, Answer, right_answer, Answers, ap, ap2}
 use Rattle.lb_world.proofs.Words.{arith, ask_told, At, at_one, at_slot, Before, Bool, changed, cond, config, config_in, configs_of, EntryIs}
 use Rattle.lb_world.proofs.Words.{EntryNext, EntryValue, eq-eqb, false, false≢true, gate, GateId, gates, GateValue, granted}
@@ -254,7 +255,7 @@ module _ {C : Type 0} {M : Meaning C} {h : History C} {g : ℕ} {e : EntryValue 
       refl
       (λ s c k cs ks.
       b.is.works_are s c k cs ks
-      ∙ ap2 (held_of (origin e.core) s c) (ap (past_of s) (sym (told.groups g))) (sym (told.rest.works g s)))
+      ∙ ap2 (held_of (origin e.core) s c) (ap (past_of s) (sym (groups-alike ((st, Answer.Refused r) ∷ h) h told g))) (sym (told.rest.works g s)))
       (λ m. b.is.loads_are m ∙ sym (told.rest.loads g m)) (ap (gate z.id) (sym (unmoved st r z.out)))
       (subst (λ es. IsRegistryAfter key_gives (key_of g h) es v) (sym (told.rest.shared e.registry)) b.kept, b.own)
 

@@ -23,6 +23,7 @@ use Rattle.lb_world.specs.GroupEvents.{cells_for, group_after_step, group_events
 use Rattle.lb_world.specs.History.{count_on}
 use Rattle.lb_world.specs.Refused.{TellsAlike}
 use Rattle.lb_world.proofs.Placing.{same-either}
+use Rattle.lb_world.proofs.Together.{group-of}
 
 pub ap2 {ℓ} : {A B : Type 0} {D : Type ℓ} (f : A → B → D) {a c : A} {b d : B} → a ≡ c → b ≡ d → f a b ≡ f c d
 ap2 f {a = a} {d = d} e u = ap (f a) u ∙ ap (λ x. f x d) e
@@ -138,11 +139,6 @@ module _ {C : Type 0} where
               destructions = λ a. count-kept is_destruction h st r a (no-destruction st r);
               loads = λ g b. loads-kept h st r g b;
             };
-        groups =
-            λ g.
-            ap (λ (es : slots.History). cond (is_at g (group_at h st)) (es ++ slot_events g h) (slot_events g h))
-            (happened-kept h (slot_events g h) st r)
-            ∙ same-either (is_at g (group_at h st)) (slot_events g h);
         joined = λ g. joins-kept h st r g;
       }
 
@@ -165,7 +161,6 @@ module _ {C : Type 0} where
               destructions = λ a. sym (e.rest.destructions a);
               loads = λ g b. sym (e.rest.loads g b);
             };
-        groups = λ g. sym (e.groups g);
         joined = λ g. sym (e.joined g);
       }
 
@@ -188,12 +183,15 @@ module _ {C : Type 0} where
               destructions = λ a. e.rest.destructions a ∙ u.rest.destructions a;
               loads = λ g b. e.rest.loads g b ∙ u.rest.loads g b;
             };
-        groups = λ g. e.groups g ∙ u.groups g;
         joined = λ g. e.joined g ∙ u.joined g;
       }
 
 -- What a history tells of a group's registry and key, and of where a step is, by what it tells alike.
 module _ {C : Type 0} (k h : History C) (e : TellsAlike k h) where
+  -- the group's own events are among the joined ones
+  pub groups-alike : (g : ℕ) → slot_events g k ≡ slot_events g h
+  groups-alike g = sym (group-of g k) ∙ ap group.slot_events (e.joined g) ∙ group-of g h
+
   pub at-alike : (g : ℕ) → made_at g k ≡ made_at g h
   at-alike g = ap (λ (ms : List (Made C)). slice_get ms g) e.rest.groups_made
 
@@ -218,7 +216,7 @@ module _ {C : Type 0} (k h : History C) (e : TellsAlike k h) where
   events-alike g = events-in (registry_of g k) ∙ ap (λ (o : Option ℕ). events_in o h) (registry-of-alike g)
 
   pub past-alike : (g s : ℕ) → past g s k ≡ past g s h
-  past-alike g s = ap (slots.past_of s) (e.groups g)
+  past-alike g s = ap (slots.past_of s) (groups-alike g)
 
   extra-alike : (g s : ℕ) → extra_at g s k ≡ extra_at g s h
   extra-alike g s = ap (λ (p : slots.History). slots.generation_of (slots.extra p)) (past-alike g s)
@@ -258,7 +256,7 @@ module _ {C : Type 0} (k h : History C) (e : TellsAlike k h) where
   groups-step : (st : Step C) (a : Answer) (g : ℕ) → slot_events g ((st, a) ∷ k) ≡ slot_events g ((st, a) ∷ h)
   groups-step st a g =
       ap3 (λ (o : Option ℕ) (es x : slots.History). cond (is_at g o) (es ++ x) x) (group-at-alike st)
-      (happened-alike st a (slot_events g k) ∙ ap (λ (x : slots.History). happened h x st a) (e.groups g)) (e.groups g)
+      (happened-alike st a (slot_events g k) ∙ ap (λ (x : slots.History). happened h x st a) (groups-alike g)) (groups-alike g)
 
   made-step : (st : Step C) (a : Answer) → made ((st, a) ∷ k) ≡ made ((st, a) ∷ h)
   made-step (step.group r b configs) (answer.Group n) =
@@ -301,7 +299,7 @@ module _ {C : Type 0} (k h : History C) (e : TellsAlike k h) where
   joined-step st a g =
       ap3 (λ (o : Option ℕ) (v x : group.History). cond (is_at g o) v x) (group-at-alike st)
       (joined-alike st a (slot_events g k) (group_events g k)
-      ∙ ap2 (λ (x : slots.History) (j : group.History). group_after_step h x j st a) (e.groups g) (e.joined g))
+      ∙ ap2 (λ (x : slots.History) (j : group.History). group_after_step h x j st a) (groups-alike g) (e.joined g))
       (e.joined g)
 
   views-step : (st : Step C) (a : Answer) (g : ℕ) → view_events g ((st, a) ∷ k) ≡ view_events g ((st, a) ∷ h)
@@ -318,7 +316,7 @@ module _ {C : Type 0} (k h : History C) (e : TellsAlike k h) where
   changed-alike : (st : Step C) (a : Answer) (x : List registry.Event)
       → changed k ((st, a) ∷ k) st a x ≡ changed h ((st, a) ∷ h) st a x
   changed-alike (step.update g now ls) (answer.Generation n) x =
-      let newest : slots.newest (slot_events g k) ≡ slots.newest (slot_events g h) = ap slots.newest (e.groups g) in
+      let newest : slots.newest (slot_events g k) ≡ slots.newest (slot_events g h) = ap slots.newest (groups-alike g) in
       let-go-alike (step.update g now ls) (answer.Generation n) g _ _ _ _ newest
       (ap2 (λ (v i : ℕ). registry.after_show v (i + 1) (members_in ls) x) (ap view_in (at-alike g)) newest)
   changed-alike (step.build g s now) (answer.BuildFailed n r) x =
@@ -337,7 +335,7 @@ module _ {C : Type 0} (k h : History C) (e : TellsAlike k h) where
   cells-step : (st : Step C) (a : Answer) (g n : ℕ) → cells_of g n ((st, a) ∷ k) ≡ cells_of g n ((st, a) ∷ h)
   cells-step (step.update i now ls) (answer.Generation m) g n =
       ap3 (λ (es : slots.History) (shown cells : List (Member × ℕ)). cond (i == g) (cond (slots.newest es + 1 == n) shown cells) cells)
-      (e.groups g) (cells-for-alike g ls) (e.rest.cells g n)
+      (groups-alike g) (cells-for-alike g ls) (e.rest.cells g n)
   cells-step st a g n = e.rest.cells g n
 
   outs-step : (st : Step C) (b : Answer) (a : ℕ) → is_out a ((st, b) ∷ k) ≡ is_out a ((st, b) ∷ h)
@@ -375,6 +373,5 @@ module _ {C : Type 0} (k h : History C) (e : TellsAlike k h) where
               destructions = λ i. count-step is_destruction st a i (e.rest.destructions i);
               loads = loads-step st a;
             };
-        groups = groups-step st a;
         joined = joined-step st a;
       }

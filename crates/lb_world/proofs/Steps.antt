@@ -95,23 +95,9 @@ module _ {C : Type 0} (M : Meaning C) where
   destroys h st a run = tt
 
 module _ {C : Type 0} where
-  made-stays : (h : History C) (st : Step C) (a : Answer) (g : ℕ) (m : Made C) → made_at g h ≡ Some m
-      → made_at g ((st, a) ∷ h) ≡ Some m
-  made-stays h (step.group r b cs) (answer.Group n) g m there = get-kept (made h) _ m g there
-  made-stays h st a g m there = there
-
-  views-stay : (h : History C) (st : Step C) (a : Answer) (g : ℕ) (m : Made C) → made_at g h ≡ Some m → is_at g (group_at h st) ≡ false
-      → view_events g ((st, a) ∷ h) ≡ view_events g h
-  views-stay h st a g m there off =
-      ap (λ o. views_in o (group_events g ((st, a) ∷ h))) (made-stays h st a g m there ∙ sym there)
-      ∙ ap (λ (t : Bool). views_in (made_at g h) (cond t (group_after_step h (slot_events g h) (group_events g h) st a) (group_events g h)))
-      off
-
   pub others-stay : (h : History C) (st : Step C) (a : Answer) → OthersStay h st a
   others-stay h st a =
       record {
-        groups = λ g off. ap (λ (t : Bool). cond t (happened h (slot_events g h) st a ++ slot_events g h) (slot_events g h)) off;
-        views = λ g m there off. views-stay h st a g m there off;
         joined = λ g off. ap (λ (t : Bool). cond t (group_after_step h (slot_events g h) (group_events g h) st a) (group_events g h)) off;
         registries = λ r off. ap (λ (t : Bool). cond t (changed h ((st, a) ∷ h) st a (registry_events r h)) (registry_events r h)) off;
       }

@@ -5,7 +5,8 @@ use Rattle.lb_rebuild_core.specs.Values.{ReaderValue}
 use Rattle.lb_world.proofs.Absent.{config-made}
 use Rattle.lb_world.proofs.Causes.{number-left}
 use Rattle.lb_world.proofs.Makings.{entered-there, gate-unmade, get_last, still-there}
-use Rattle.lb_world.proofs.Refusing.{alike-sym}
+use Rattle.lb_world.proofs.Refusing.{alike-sym, groups-alike}
+use Rattle.lb_world.proofs.Together.{group-of}
 use Rattle.lb_world.proofs.Runs.{reading}
 use Rattle.lb_world.proofs.Unrefused.{run-unrefused, told-unrefused}
 use Rattle.lb_world.specs.Answers.{enter_answer, leave_answer}
@@ -109,7 +110,8 @@ module _ {C : Type 0} where
   entry-else h st a g i e at off is =
       let stays = others-stay h st a in
       let away : is_at i (group_at h st) ≡ false = ap (is_at i) at ∙ ne_eqb g i (λ p. off (sym p)) in
-      entry-moves (ap (λ ms. slice_get ms i) (at-group h st a g at).made_are ∙ is.made_is) (stays.joined i away) (stays.groups i away)
+      entry-moves (ap (λ ms. slice_get ms i) (at-group h st a g at).made_are ∙ is.made_is) (stays.joined i away)
+      (sym (group-of i ((st, a) ∷ h)) ∙ ap group.slot_events (stays.joined i away) ∙ group-of i h)
       (λ s. ap (λ t. cond t (worked st a (work i s h)) (work i s h)) (works-else h st g i s at off))
       (λ b. loads-else h st a g i b at off) is
 
@@ -196,7 +198,7 @@ module _ {C : Type 0} {M : Meaning C} {w : WorldValue C} {h : History C} (s : St
       (λ r v there.
       rw (← e.rest.shared r) (subst (λ rs. IsRegistryAfter key_gives (key_in (slice_get rs r)) (registry_events r h) v)
       e.rest.registries_made (s.kept r v there)))
-      (λ g. sym (e.joined g)) (λ g. sym (e.groups g)) (λ g i. sym (e.rest.works g i)) (λ g b. sym (e.rest.loads g b))
+      (λ g. sym (e.joined g)) (λ g. sym (groups-alike h k e g)) (λ g i. sym (e.rest.works g i)) (λ g b. sym (e.rest.loads g b))
       (λ x. sym (e.rest.outs x))
 
 pub stands-unrefused : {C : Type 0} (M : Meaning C) (w : WorldValue C) (h : History C) → Stands M w h → Stands M w (unrefused h)

@@ -30,7 +30,7 @@ use Rattle.lb_world.specs.Answers.{built_or_failed, of_job, of_built, flight_of,
 use Rattle.lb_world.specs.Answers.{numbers_of, selected}
 use Rattle.lb_world.specs.Refused.{TellsAlike, AnswersAlike, IsAsBefore, unrefused}
 use Rattle.lb_world.proofs.Refusing.{ap2, ap3, refused-alike, alike-sym, alike-then, at-alike, config-alike, key-alike, events-alike}
-use Rattle.lb_world.proofs.Refusing.{past-alike, alike-step}
+use Rattle.lb_world.proofs.Refusing.{past-alike, alike-step, groups-alike}
 
 -- at what is there, alike
 at-one-alike : {A : Type 0} (o p : Option A) (f d : A → Answer) → o ≡ p → ((x : A) → f x ≡ d x) → at_one o f ≡ at_one p d
@@ -74,14 +74,14 @@ module _ {C : Type 0} (M : Meaning C) (k h : History C) (e : TellsAlike k h) whe
       (no_number (registry.cells_given key (registry.Updated m.view (members_in listings) ∷ registry.Applied ∷ es)))
       None))
       (update_answer (slots.newest x) (is_change (members_in listings) x)))
-      (e.groups g) (key-alike k h e g) (e.rest.shared m.registry)))
+      (groups-alike k h e g) (key-alike k h e g) (e.rest.shared m.registry)))
   answer-alike (step.ask g s now) =
       at-one-alike (made_at g k) (made_at g h) _ _ (at-alike k h e g)
       (λ m.
       ap2
       (λ (x : slots.History) (free : Bool).
       at_one (slice_get m.configs s) (λ c. asked (slots.newest x) (slots.ask_answer (slots.past_of s x) (not free) now)))
-      (e.groups g) (free-alike m.gate))
+      (groups-alike k h e g) (free-alike m.gate))
   answer-alike (step.build g s now) =
       at-one-alike (config g s k) (config g s h) _ _ (config-alike k h e g s)
       (λ c.
@@ -89,7 +89,7 @@ module _ {C : Type 0} (M : Meaning C) (k h : History C) (e : TellsAlike k h) whe
       (λ (w : Work) (x : slots.History).
       of_job w
       (built_or_failed (slots.granted (slots.past_of s x)) (M.refusal (slots.members_of (slots.granted (slots.past_of s x)) x) c)))
-      (e.rest.works g s) (e.groups g))
+      (e.rest.works g s) (groups-alike k h e g))
   answer-alike (step.failbuild g s now) =
       at-one-alike (config g s k) (config g s h) _ _ (config-alike k h e g s)
       (λ c. ap2 (λ (w : Work) (p : slots.History). of_job w (answer.Failed (slots.granted p))) (e.rest.works g s) (past-alike k h e g s))
@@ -103,7 +103,7 @@ module _ {C : Type 0} (M : Meaning C) (k h : History C) (e : TellsAlike k h) whe
       (λ (w : Work) (x : slots.History).
       of_built w
       (cond (is_served s x) (answer.Published (slots.granted (slots.past_of s x))) (answer.Abandoned (slots.granted (slots.past_of s x)))))
-      (e.rest.works g s) (e.groups g))
+      (e.rest.works g s) (groups-alike k h e g))
   answer-alike (step.abandon g s) =
       at-one-alike (config g s k) (config g s h) _ _ (config-alike k h e g s)
       (λ c. ap2 (λ (w : Work) (p : slots.History). of_built w (answer.Abandoned (slots.granted p))) (e.rest.works g s)
@@ -195,7 +195,7 @@ module _ {C : Type 0} (M : Meaning C) (k h : History C) (e : TellsAlike k h) whe
       (M.walks (slots.members_of n x) c key)
       (record { tickets = slots.drawn (slots.past_of s x); words = words }) r t
       × (a ≡ selected t.tickets r)))
-      (e.groups g) right))
+      (groups-alike k h e g) right))
 
   select-follows : (g s : ℕ) (key : List ℕ) (limit : ℕ) (words : List ℕ) (a : Answer)
       → SelectAnswers M k g s key limit words a → SelectAnswers M h g s key limit words a
@@ -286,7 +286,6 @@ module _ {C : Type 0} (M : Meaning C) where
               destructions = λ a. refl;
               loads = λ g b. refl;
             };
-        groups = λ g. refl;
         joined = λ g. refl;
       }
   told-unrefused ((st, answer.Refused r) ∷ h) =

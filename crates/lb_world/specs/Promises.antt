@@ -99,11 +99,8 @@ module _ {C : Type 0} where
       (n : ℕ) × (slots.extra (past g s h) ≡ slots.retired n) × (count_by (reads g s n) (entries h) ≡ m) × (0 < m)
   DestroysExactly h st a = Unit {0}
 
-  -- what a step does at one group changes no other's events, those of the views included, and those of no other registry
+  -- what a step does at one group changes no other's events, which are those of its view too, and those of no other registry
   pub record OthersStay (h : History C) (st : Step C) (a : Answer) : Type 0 where
-    pub groups : (g : ℕ) → is_at g (group_at h st) ≡ false → slot_events g ((st, a) ∷ h) ≡ slot_events g h
-    pub views : (g : ℕ) (m : Made C) → made_at g h ≡ Some m → is_at g (group_at h st) ≡ false
-        → view_events g ((st, a) ∷ h) ≡ view_events g h
     pub joined : (g : ℕ) → is_at g (group_at h st) ≡ false → group_events g ((st, a) ∷ h) ≡ group_events g h
     pub registries : (r : ℕ) → is_at r (registry_at h st) ≡ false → registry_events r ((st, a) ∷ h) ≡ registry_events r h
 

@@ -32,10 +32,9 @@ module _ {C : Type 0} where
     pub destructions : (a : ℕ) → count_on is_destruction a h ≡ count_on is_destruction a k
     pub loads : (g : ℕ) (b : Member) → load_of g b h ≡ load_of g b k
 
-  -- They give the same of everything: of what happened to each group too, alone and joined with its view.
+  -- They give the same of everything: of what happened to each group too, joined with its view.
   pub record TellsAlike (h k : History C) : Type 0 where
     pub rest : RestAlike h k
-    pub groups : (g : ℕ) → slot_events g h ≡ slot_events g k
     pub joined : (g : ℕ) → group_events g h ≡ group_events g k
 
   -- the history without the steps that were refused

@@ -10,7 +10,7 @@ use Rattle.lb_world.proofs.Words.{◌&&◌, ◌++◌, ◌+◌, ◌<◌, ◌∙�
 use Rattle.lb_world.proofs.Words.{configs_of, each-push, each-set, earlier, EntryIs, EntryValue, eq-eqb, false, GateId, gates}
 use Rattle.lb_world.proofs.Words.{GateValue, get-kept, get_replicate, held_of, History, in_tables, inl, inr, IsRegistryAfter, IsRun}
 use Rattle.lb_world.proofs.Words.{key_gives, least, length, length-set, length_push, List, made, map, Meaning}
-use Rattle.lb_world.proofs.Words.{and_parts, ltb-true, nat_lt, ne_eqb, None, Option, origin, past, refl, Refusal, registries}
+use Rattle.lb_world.proofs.Words.{and_parts, ltb-true, nat_lt, ne_eqb, None, origin, past, refl, Refusal, registries}
 use Rattle.lb_world.proofs.Words.{registry_events}
 use Rattle.lb_world.proofs.Words.{RegistryValue, set_found, slice_get, slice_set, Some, Stands, Step, sym, true, WorldRule, WorldValue, ℕ}
 use Rattle.lb_world.proofs.Tables.{lent-refused, remain-set, tables-set, Tells, world-refused}
