@@ -255,7 +255,8 @@ module _ {C : Type 0} {M : Meaning C} {h : History C} {g : ℕ} {e : EntryValue 
       refl
       (λ s c k cs ks.
       b.is.works_are s c k cs ks
-      ∙ ap2 (held_of (origin e.core) s c) (ap (past_of s) (sym (groups-alike ((st, Answer.Refused r) ∷ h) h told g))) (sym (told.rest.works g s)))
+      ∙ ap2 (held_of (origin e.core) s c) (ap (past_of s) (sym (groups-alike ((st, Answer.Refused r) ∷ h) h told g)))
+      (sym (told.rest.works g s)))
       (λ m. b.is.loads_are m ∙ sym (told.rest.loads g m)) (ap (gate z.id) (sym (unmoved st r z.out)))
       (subst (λ es. IsRegistryAfter key_gives (key_of g h) es v) (sym (told.rest.shared e.registry)) b.kept, b.own)
 
