@@ -12,7 +12,7 @@ use Rattle.std.specs.List.Sorted.{IsStrictlySortedBy}
 use borrow.Author.Tests.{eqb-true}
 use Rattle.lb_select_base.specs.Backends.{Member, member_cmp, same_member}
 use Rattle.lb_select_base.specs.Unique.{firsts, distinct}
-use Rattle.lb_health_core.specs.Fresh.{has_key, is_fresh, fresh, fresh_past}
+use Rattle.lb_health_core.specs.Fresh.{has_key, is_fresh, fresh}
 use Rattle.lb_health_core.specs.RegistryEvents.{Event, Registered, Applied, Updated, Marked, Observed, Held, Released, Configured}
 use Rattle.lb_health_core.specs.RegistryEvents.{AreSets, is_view, has_view, at_view, with_members, with_mark, new_view}
 use Rattle.lb_health_core.specs.RegistryEvents.{registered_after, views_after, changes_after, cells_given}
@@ -274,6 +274,11 @@ updated_given key_of events id ms s sorted has =
       counted,
       marks_start_none key_of events s,
     )
+
+-- the backends of the rest whose keys none of these views has and none of those in front, one for each key
+abbrev pub fresh_past : (Member → Member) → List ViewValue → ℕ → List Member → List Member → List Candidate
+fresh_past key_of views id front rest =
+    filter (is_fresh key_of views) (firsts same_key (candidates_of key_of id front) (candidates_of key_of id rest))
 
 -- one more backend of a membership: its key was there, or it is one more that starts
 pub fresh-step :

@@ -1,5 +1,6 @@
 pub mod CellLemmas
 pub mod ChangeLemmas
+pub mod CountLemmas
 pub mod FreshLemmas
 pub mod KeptLemmas
 pub mod LawLemmas

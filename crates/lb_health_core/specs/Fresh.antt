@@ -2,7 +2,7 @@
 use Rattle.std.specs.Prelude.{ℕ, Bool, not, List, filter}
 use Rattle.std.specs.List.{list_any}
 use Rattle.lb_select_base.specs.Backends.{Member, same_member}
-use Rattle.lb_select_base.specs.Unique.{distinct, firsts}
+use Rattle.lb_select_base.specs.Unique.{distinct}
 use Rattle.lb_health_core.specs.Targets.{ViewValue, Candidate, same_key, candidates_of, candidates}
 
 module _ (key_of : Member → Member) where
@@ -17,8 +17,3 @@ module _ (key_of : Member → Member) where
   -- the backends of a membership whose keys none of these views has, one for each key
   abbrev pub fresh : List ViewValue → ℕ → List Member → List Candidate
   fresh views id members = filter (is_fresh views) (distinct same_key (candidates_of key_of id members))
-
--- the backends of the rest whose keys none of these views has and none of those in front, one for each key
-abbrev pub fresh_past : (Member → Member) → List ViewValue → ℕ → List Member → List Member → List Candidate
-fresh_past key_of views id front rest =
-    filter (is_fresh key_of views) (firsts same_key (candidates_of key_of id front) (candidates_of key_of id rest))

@@ -55,7 +55,7 @@ pub(crate) fn is_same(members: &BTreeSet<Backend>, others: &BTreeSet<Backend>) -
     is_among(members, others) && is_among(others, members)
 }
 
-// Applies the marks that wait.
+// Applies the marks that wait. Where none does, it takes no memory.
 pub(crate) fn apply<R: KeyRule>(
     alloc: Global,
     rule: &R,
@@ -74,6 +74,9 @@ pub(crate) fn apply<R: KeyRule>(
     ensures refused { OnErr result (IsGrowthRefusal result) }
     ensures views_err { OnErr result (views.new ≡ views.old) }
 {
+    if !has_marks(views) {
+        return Ok(());
+    }
     let keys = live_keys(alloc, rule, views)?;
     table.change(alloc, &keys)?;
     views.retain(|view| !view.marked);

@@ -399,6 +399,8 @@ impl<R: KeyRule + Drop> Registry<R> {
 
     /// Returns how many targets there are, after the marks that wait are applied.
     ///
+    /// Where none waits, it takes no memory, and its time does not grow with the targets.
+    ///
     /// # Errors
     ///
     /// `OutOfMemory` where memory is refused. Marks that are applied start no cell, so a number is always left.
@@ -415,9 +417,8 @@ impl<R: KeyRule + Drop> Registry<R> {
         ensures refused { OnErr result (IsGrowthRefusal result) }
         ensures one { self.new.id ≡ self.old.id }
     {
-        let count = live_order(alloc, &self.rule, &self.views)?.len();
         apply(alloc, &self.rule, &mut self.views, &mut self.table)?;
-        Ok(count)
+        Ok(self.table.numbering.by_key.len())
     }
 
     /// Returns the targets with their cells, by identity and then by view, after the marks that wait are applied.

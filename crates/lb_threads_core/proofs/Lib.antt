@@ -3,3 +3,4 @@ pub mod Histories
 mod Memberships
 mod Registrations
 mod Updates
+mod WordSteps

@@ -3,3 +3,4 @@ pub mod Internal
 pub mod Keyed
 pub mod Registry
 pub mod View
+pub mod Words

@@ -1,6 +1,7 @@
 //! What threads share: a lock whose value keeps a fact about a key that is fixed when the lock is made, so that what a thread finds under
-//! the lock is known to be the lock's own; the gate, the registry and the view of backends behind such locks; and lanes, from which threads
-//! read a value all the time without a lock. Of the value of std's `Mutex` only the invariant of its type is known.
+//! the lock is known to be the lock's own; the gate, the registry and the view of backends behind such locks; lanes, from which threads
+//! read a value all the time without a lock; and words, each with a fact, that threads read and write by single steps. Of the value of
+//! std's `Mutex` only the invariant of its type is known.
 #![tactic(auto)]
 
 pub mod backends;
@@ -15,3 +16,5 @@ pub mod owner;
 pub mod registry;
 pub mod rule;
 pub mod wakes;
+pub mod word_rule;
+pub mod words;

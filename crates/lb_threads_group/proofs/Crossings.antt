@@ -21,7 +21,7 @@ use Rattle.lb_rebuild_core.specs.contracts.retired.Reader as reader
 use Rattle.lb_threads_group.proofs.group.SlotCounters.TheSendSync as line
 use Rattle.lb_threads_group.proofs.group.LaneWords.TheSendSync as lane_words
 use Rattle.lb_threads_group.proofs.found.Tickets.TheSendSync as tickets
-use Rattle.lb_words.proofs.keyed.KeyedWords.TheSendSync as keyed
+use Rattle.lb_threads_core.proofs.words.KeyedWords.TheSendSync as keyed
 use Rattle.lb_threads_group.specs.contracts.found.Found as found
 use Rattle.lb_threads_group.specs.contracts.found.Found.TheInside as found_inside
 use Rattle.lb_threads_group.specs.contracts.found.Subject as subject

@@ -87,10 +87,6 @@ module _ {C : Type 0} where
   abbrev pub over : ℕ → List (Made C) → ℕ
   over r groups = length (filter (λ m. m.registry == r) groups)
 
-  abbrev pub slots_in : Option (Made C) → ℕ
-  slots_in None = 0
-  slots_in (Some m) = length m.configs
-
   abbrev pub config_in : ℕ → Option (Made C) → Option C
   config_in s None = None
   config_in s (Some m) = slice_get m.configs s

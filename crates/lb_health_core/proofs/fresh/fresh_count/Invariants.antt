@@ -1,8 +1,9 @@
 use Rattle.std.proofs.Common.{◌≡◌, ◌+◌, ◌≤◌, ◌<◌, ◌^◌, ℕ, List, ◌++◌, length, map}
 use Rattle.lb_select_base.specs.Backends.{Member}
-use Rattle.lb_health_core.specs.Fresh.{fresh, fresh_past}
+use Rattle.lb_health_core.specs.Fresh.{fresh}
 use Rattle.lb_health_core.specs.Keys.{IsRuleOf}
 use Rattle.lb_health_core.specs.Targets.{view_value, live}
+use Rattle.lb_health_core.proofs.FreshLemmas.{fresh_past}
 use Rattle.lb_health_core.proofs.fresh.fresh_count.Given as goal
 
 abbrev pub invariant-loop-backend : goal.invariant-loop-backend

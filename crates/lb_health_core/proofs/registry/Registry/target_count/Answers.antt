@@ -1,10 +1,11 @@
-use Rattle.std.proofs.Common.{◌≡◌, Err, List, map, ap, rules}
+use Rattle.std.proofs.Common.{◌≡◌, Err, List, map, ap, ◌∙◌, rules}
 use Rattle.lb_select_base.specs.Backends.{Member}
-use Rattle.lb_select_base.specs.declared.refusal.Refusal.TheVariants.{OutOfMemory, NumbersExhausted}
+use Rattle.lb_select_base.specs.declared.refusal.Refusal.TheVariants.{NumbersExhausted}
 use Rattle.lb_health_core.specs.Registry.{IsRegistryAfter}
 use Rattle.lb_health_core.specs.RegistryEvents.{Event}
 use Rattle.lb_health_core.specs.Table.{table_value}
 use Rattle.lb_health_core.specs.Targets.{view_value}
+use Rattle.lb_health_core.proofs.CountLemmas.{counted}
 use Rattle.lb_health_core.proofs.StateLemmas.{seen, not_refused, never_lacks}
 use Rattle.lb_health_core.proofs.TableLemmas.{refused_for}
 use Rattle.lb_health_core.proofs.registry.Registry.target_count.Goals as goal
@@ -39,7 +40,7 @@ returns-in_err-apply-clause-err g c =
       registered = now.registered;
       state = c.in_err-apply.ensures.err key_of events now.rule now.state;
     } in
-    refused_for c.from_residual-in_err-apply.result stays
+    refused_for c.from_residual.result stays
 
 pub returns-clause-exhausted : goal.returns-clause-exhausted
 returns-clause-exhausted g c =
@@ -56,10 +57,8 @@ returns-in_err-apply-clause-exhausted g c =
       λ l. absurd (never_lacks key_of events _ _ now.state l),
     )
 
-pub returns-in_err-live_order-clause-exhausted : goal.returns-in_err-live_order-clause-exhausted
-returns-in_err-live_order-clause-exhausted g c =
+pub returns-clause-count : goal.returns-clause-count
+returns-clause-count g c =
     λ key_of events r.
-    let now = seen g.R.KeyRule.gives key_of events _ _ c.self.view_is r in (
-      λ e. let no : OutOfMemory ≡ NumbersExhausted = search rules in absurd (cc),
-      λ l. absurd (never_lacks key_of events _ _ now.state l),
-    )
+    let now = seen g.R.KeyRule.gives key_of events _ _ c.self.view_is r in
+    c.len.ensures.len ∙ counted key_of events _ _ (c.in_ok-apply.ensures.ok key_of events now.rule now.state) c.len.ensures.ordered

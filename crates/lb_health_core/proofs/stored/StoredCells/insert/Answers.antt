@@ -1,4 +1,4 @@
-use Rattle.std.proofs.Common.{◌≡◌, ◌∙◌, ℕ, Some, sym, ap}
+use Rattle.std.proofs.Common.{◌∙◌, Some, sym, ap}
 use Rattle.lb_health_core.specs.Internal.Row.{stored_health}
 use Rattle.lb_health_core.proofs.RowLemmas.{others_stay, one_changed}
 use Rattle.lb_health_core.proofs.stored.StoredCells.insert.Goals as goal

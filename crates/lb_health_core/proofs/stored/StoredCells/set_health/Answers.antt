@@ -1,4 +1,4 @@
-use Rattle.std.proofs.Common.{◌≡◌, ◌∙◌, ℕ, Some, sym, ap}
+use Rattle.std.proofs.Common.{◌∙◌, Some, sym, ap}
 use Rattle.std.specs.Option.{is_some}
 use Rattle.lb_health_core.specs.declared.table.Cell.{Cell}
 use Rattle.lb_health_core.specs.Internal.Row.{stored_health}

@@ -1,4 +1,4 @@
-use Rattle.std.proofs.Common.{◌≡◌, Some, refl}
+use Rattle.std.proofs.Common.{refl}
 use Rattle.std.specs.Ordering.{eq_by_cmp}
 use Rattle.lb_health_core.specs.declared.table.Cell.{Cell}
 use Rattle.lb_health_core.specs.CellEvents.{verdicts_of, start_of}

@@ -1,7 +1,7 @@
 -- The word that is written has its fact.
 use Rattle.std.proofs.Common.{arith}
-use Rattle.lb_words.proofs.Steps.{writes}
-use Rattle.lb_words.proofs.keyed.KeyedWords.store.Goals as goal
+use Rattle.lb_threads_core.proofs.WordSteps.{writes}
+use Rattle.lb_threads_core.proofs.words.KeyedWords.store.Goals as goal
 
 pub swap_new_seat-requires : goal.swap_new_seat-requires
 swap_new_seat-requires g c = (

@@ -1,8 +1,8 @@
-//! Words with a key.
+//! Words that threads read and write by single steps, without a lock. Each keeps a fact by its place and by a key that stays.
 ghost use Rattle.std.specs.Prelude.{◌≡◌, ◌<◌, IfOk, IfSome, length};
-ghost use Rattle.lb_words.specs.Words.{AreKept};
+ghost use Rattle.lb_threads_core.specs.Words.{AreKept};
 
-use crate::rule::{Finds, Ruled, WordRule, Writes};
+use crate::word_rule::{Finds, Ruled, WordRule, Writes};
 use atomic_table::Table;
 use std::alloc::{AllocError, Global};
 

@@ -6,7 +6,7 @@ use Rattle.std.specs.List.{slice_index}
 use mathlib.Core.Logic.{dite}
 use native.Mathlib.Decide.{ℕ_discrete, dec_le}
 use Rattle.atomic_table.specs.Table.{Arrives, keeps}
-use Rattle.lb_words.specs.Words.{AreKept}
+use Rattle.lb_threads_core.specs.Words.{AreKept}
 
 -- what is found at a place, after one place was written
 at_write : (l : List ℕ) (i j n : ℕ) (P : ℕ → Type 0) → (j ≡ i → P n) → P (slice_index l j) → P (slice_index (set l i n) j)

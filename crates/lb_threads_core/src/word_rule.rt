@@ -1,6 +1,6 @@
 //! What words keep true between any two steps, and the steps that there are: one that finds a word, and one that writes it.
 ghost use Rattle.std.specs.Prelude.{◌≡◌, ℕ};
-ghost use Rattle.lb_words.specs.Words.{AreKept};
+ghost use Rattle.lb_threads_core.specs.Words.{AreKept};
 
 use atomic_table::{Play, TableRule};
 use std::marker::PhantomData;
