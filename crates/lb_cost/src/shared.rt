@@ -63,7 +63,7 @@ impl ServiceDiscovery for Halves {
 
 // A check that is never set.
 #[derive(Drop)]
-struct Unchecked {}
+pub(crate) struct Unchecked {}
 
 impl HealthCheck for Unchecked {
     ghost threshold = { λ _ _. 1 };
